@@ -12,6 +12,7 @@ use Rattle.cdb_files.specs.Replacing.{AtEach, AtEachMoment}
 use Rattle.cdb_files.specs.declared.answer.Answer.TheVariants as looks
 use Rattle.cdb_files.specs.declared.answer.Answer.{Answer}
 use Rattle.cdb_files.specs.declared.name_fault.NameFault.{NameFault}
+use Rattle.cdb_files.specs.declared.refusal.Cause.{Cause}
 use Rattle.cdb_files.specs.declared.name_fault.NameFault.TheVariants as why
 use Rattle.cdb_files.specs.declared.name_trace.NameCall.TheVariants as name_call
 use Rattle.cdb_form.specs.Views.KnownBytes.{AppendsPrefix}
@@ -220,12 +221,12 @@ no_base w g disk input name base inputs temporary o e =
     ap (λ x. if_opened disk (both f x (inputs_of disk inputs))) e
 
 -- its last call was answered as the disk is
-head_answered : {F I M Y : Type 0} (s : Ghosts F) (remaining : I → Option (List ℕ)) (y : Systems Y F I M) (disk : Disk) (read : Option F) (old mid new calls : OpenCalls) (cause : NameFault) (name : List ℕ) → new ≡ calls ++ old → ((c : OpenCalls) × (mid ≡ c ++ old)) → new ≡ (Unopened cause, name) ∷ mid
+head_answered : {F I M Y : Type 0} (s : Ghosts F) (remaining : I → Option (List ℕ)) (y : Systems Y F I M) (disk : Disk) (read : Option F) (old mid new calls : OpenCalls) (cause : NameFault) (found : Cause) (name : List ℕ) → new ≡ calls ++ old → ((c : OpenCalls) × (mid ≡ c ++ old)) → new ≡ (Unopened cause found, name) ∷ mid
     → AllByRecursion (λ c. IsAnswered s remaining y disk (if_some read) c.0 c.1) calls → cause ≡ why.Failed → disk name ≡ None
-head_answered s remaining y disk read old mid new calls cause name e before is all failed =
-    let split : calls ≡ (Unopened cause, name) ∷ before.0 = append_cancel_right calls ((Unopened cause, name) ∷ before.0) old (sym e ∙ is ∙ ap (λ c. (Unopened cause, name) ∷ c) before.1) in
+head_answered s remaining y disk read old mid new calls cause found name e before is all failed =
+    let split : calls ≡ (Unopened cause found, name) ∷ before.0 = append_cancel_right calls ((Unopened cause found, name) ∷ before.0) old (sym e ∙ is ∙ ap (λ c. (Unopened cause found, name) ∷ c) before.1) in
     let answered = (subst (AllByRecursion (λ c. IsAnswered s remaining y disk (if_some read) c.0 c.1)) split all).0 in
-    subst (λ v. IsAnswered s remaining y disk (if_some read) (Unopened v) name) failed answered
+    subst (λ v. IsAnswered s remaining y disk (if_some read) (Unopened v found) name) failed answered
 
 pub input_missing : (disk : Disk) (name : List ℕ) → (IsStandard name → ⊥) → disk name ≡ None → input_of disk name ≡ None
 input_missing disk name other e = cond-false (is_standard name) _ _ (standard_not name other) ∙ ap (option_map (λ b. Some b)) e
@@ -236,7 +237,7 @@ base_missed : {F I M Y : Type 0} (s : Ghosts F) (remaining : I → Option (List 
 base_missed s remaining y w g disk input name None inputs temporary o old new calls read start end told said fault e all h k = absurd h
 base_missed s remaining y w g disk input name (Some base) inputs temporary o old new calls read start end told said fault e all h k =
     missed_why _ disk start end told said fault h.why h.is (λ failed. no_base w g disk input name (Some base) inputs temporary o
-    (ap (option_map (λ b. Some b)) (head_answered s remaining y disk read old old new calls h.why base e ([], refl) h.calls all failed))) k
+    (ap (option_map (λ b. Some b)) (head_answered s remaining y disk read old old new calls h.why h.found base e ([], refl) h.calls all failed))) k
 
 pub not_opened_so : {F I M Y : Type 0} (s : Ghosts F) (remaining : I → Option (List ℕ)) (y : Systems Y F I M) (w g : ℕ) (disk : Disk) (input name : List ℕ) (base : Option (List ℕ)) (inputs : List (List ℕ)) (temporary : Option (List ℕ)) (o : MakeOptions) (old new calls : OpenCalls) (read : Option F) (start end told said : Option (List ℕ)) (fault : Fault)
     → new ≡ calls ++ old → AllByRecursion (λ c. IsAnswered s remaining y disk (if_some read) c.0 c.1) calls → NotOpened y base inputs old new read fault → Keeps start end × Keeps told said
@@ -252,7 +253,7 @@ not_opened_so s remaining y w g disk input name base inputs temporary o old new 
         let since : stops.mid ≡ (opened.0 ++ before.0) ++ old = opened.1 ∙ ap (λ c. opened.0 ++ c) before.1 ∙ sym (append_assoc opened.0 before.0 old) in
         missed_why _ disk start end told said fault m.why m.is (λ failed. no_inputs w g disk input name base inputs temporary o
         (missing_inputs disk inputs stops.opened missed.0 missed.1 (stops.are ∙ ap (λ l. stops.opened ++ l) missed.2)
-        (input_missing disk missed.0 missed.3.0 (head_answered s remaining y disk read old stops.mid new calls m.why missed.0 e (opened.0 ++ before.0, since) m.calls all failed)))) k)
+        (input_missing disk missed.0 missed.3.0 (head_answered s remaining y disk read old stops.mid new calls m.why m.found missed.0 e (opened.0 ++ before.0, since) m.calls all failed)))) k)
   ]
 ]
 

@@ -4,6 +4,7 @@ use Rattle.std.specs.List.{AllByRecursion}
 use Rattle.std.specs.Io.KnownBytes.{Keeps}
 use Rattle.cdb_command.specs.declared.style.Style.{Style}
 use Rattle.cdb_files.specs.declared.name_fault.NameFault.{NameFault}
+use Rattle.cdb_files.specs.declared.refusal.Cause.{Cause}
 use Rattle.cdb_files.specs.declared.name_fault.NameFault.TheVariants as why
 use Rattle.cdb_form.specs.Format.Pair.{head_size}
 use Rattle.cdb_form.specs.Views.KnownBytes.{AppendsPrefix}
@@ -74,11 +75,11 @@ not_there : (file : Option (List ℕ)) → of_file file (λ bytes. ended plain_s
 not_there None = refl
 not_there (Some bytes) = refl
 
-inputs_missed : {F I M Y : Type 0} (s : Ghosts F) (remaining : I → Option (List ℕ)) (y : Systems Y F I M) (disk : Disk) (stores : List F) (file : Option (List ℕ)) (files : Option (List (Option (List ℕ)))) (outcome : List ℕ → List (Option (List ℕ)) → Outcome) (name : List ℕ) (cause : NameFault) (start end : Option (List ℕ))
-    → IsAnswered s remaining y disk stores (Unopened cause) name → (disk name ≡ None → files ≡ None) → Keeps start end → Comes true Texts plain_status (of_file file (λ bytes. of_inputs files (outcome bytes))) start end (Err (unopened cause))
-inputs_missed s remaining y disk stores file files outcome name why.Failed start end none missing k =
+inputs_missed : {F I M Y : Type 0} (s : Ghosts F) (remaining : I → Option (List ℕ)) (y : Systems Y F I M) (disk : Disk) (stores : List F) (file : Option (List ℕ)) (files : Option (List (Option (List ℕ)))) (outcome : List ℕ → List (Option (List ℕ)) → Outcome) (name : List ℕ) (cause : NameFault) (found : Cause) (start end : Option (List ℕ))
+    → IsAnswered s remaining y disk stores (Unopened cause found) name → (disk name ≡ None → files ≡ None) → Keeps start end → Comes true Texts plain_status (of_file file (λ bytes. of_inputs files (outcome bytes))) start end (Err (unopened cause))
+inputs_missed s remaining y disk stores file files outcome name why.Failed found start end none missing k =
     comes_so true Texts plain_status _ [] start end (Err Open) (ap (λ f. of_file file (λ bytes. of_inputs f (outcome bytes))) (missing none) ∙ not_there file) (nothing_written start end k)
-inputs_missed s remaining y disk stores file files outcome name why.NoMemory start end none missing k = gives_none true Texts plain_status _ start end NoMemory tt k
+inputs_missed s remaining y disk stores file files outcome name why.NoMemory found start end none missing k = gives_none true Texts plain_status _ start end NoMemory tt k
 
 inputs_refused : {F I M Y : Type 0} (w g : ℕ) (s : Ghosts F) (remaining : I → Option (List ℕ)) (y : Systems Y F I M) (name : List ℕ) (inputs : List (List ℕ)) (disk : Disk) (stores : List F) (outcome : List ℕ → List (Option (List ℕ)) → Outcome) (old new : OpenCalls) (left : Left F M) (start end : Option (List ℕ)) (result : Result Unit Fault)
     → EachAnswered s remaining y disk stores old new → RefusesInputs y name inputs old new left start end result → Comes true Texts plain_status (of_file (disk name) (λ bytes. of_inputs (inputs_of disk inputs) (outcome bytes))) start end result
@@ -87,11 +88,11 @@ inputs_refused w g s remaining y name inputs disk stores outcome old new left st
   | inr missed ↦ (let stops = h.stops in
       let m = missed.3.1 in
       let opened = grows y stops.opened stops.turns ((AtPlaces, name) ∷ old) stops.mid stops.opens in
-      let calls : new ≡ ((Unopened m.why, missed.0) ∷ (opened.0 ++ (AtPlaces, name) ∷ [])) ++ old =
-      m.calls ∙ ap (λ c. (Unopened m.why, missed.0) ∷ c) (opened.1 ∙ sym (append_assoc opened.0 ((AtPlaces, name) ∷ []) old)) in
-      let answered = (answers ((Unopened m.why, missed.0) ∷ (opened.0 ++ (AtPlaces, name) ∷ [])) calls).0 in
+      let calls : new ≡ ((Unopened m.why m.found, missed.0) ∷ (opened.0 ++ (AtPlaces, name) ∷ [])) ++ old =
+      m.calls ∙ ap (λ c. (Unopened m.why m.found, missed.0) ∷ c) (opened.1 ∙ sym (append_assoc opened.0 ((AtPlaces, name) ∷ []) old)) in
+      let answered = (answers ((Unopened m.why m.found, missed.0) ∷ (opened.0 ++ (AtPlaces, name) ∷ [])) calls).0 in
       subst (Comes true Texts plain_status _ start end) (sym (h.is ∙ ap (λ (f : Fault). Err f) m.is))
-      (inputs_missed s remaining y disk stores (disk name) (inputs_of disk inputs) outcome missed.0 m.why start end answered
+      (inputs_missed s remaining y disk stores (disk name) (inputs_of disk inputs) outcome missed.0 m.why m.found start end answered
       (λ none. missing_inputs disk inputs stops.opened missed.0 missed.1 (stops.are ∙ ap (λ l. stops.opened ++ l) missed.2) (input_missing disk missed.0 missed.3.0 none)) h.kept))
 ]
 

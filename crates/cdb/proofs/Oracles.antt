@@ -302,7 +302,7 @@ on_named writes s remaining y status most name given disk outcome old new left s
     | inr h ↦ elim h [
       | inl none ↦
           (let m = none.1.misses in
-          absurd (yes_is_no (answers ((Unopened m.why, name) ∷ (Stream looks.Yes, name) ∷ []) m.calls).1.0))
+          absurd (yes_is_no (answers ((Unopened m.why m.found, name) ∷ (Stream looks.Yes, name) ∷ []) m.calls).1.0))
       | inr h ↦ elim h [
         | inl some ↦ absurd (yes_is_no (answers ((InTurn, name) ∷ (Stream looks.Yes, name) ∷ []) some.0).1.0)
         | inr unsaid ↦ absurd (unknown_is_no (answers ((Stream looks.Unknown, name) ∷ []) unsaid.0).0)
@@ -432,7 +432,7 @@ difference_foretold remaining w s y first second disk old new left start end res
     refused_so true Nothing s remaining y plain_status first disk (stores_in left) _ (y.calls old) (y.calls new) [] start end result refl answers none.1
 difference_foretold remaining w s y first second disk old new left start end result sized answers one two (inr (inl half)) =
     let m = half.refuses.misses in
-    let calls = subst (λ l. EachAnswered s remaining y disk (stores_in l) (y.calls old) (y.calls new)) half.is_left answers ((Unopened m.why, second) ∷ (AtPlaces, first) ∷ []) m.calls in
+    let calls = subst (λ l. EachAnswered s remaining y disk (stores_in l) (y.calls old) (y.calls new)) half.is_left answers ((Unopened m.why m.found, second) ∷ (AtPlaces, first) ∷ []) m.calls in
     of_shown true Nothing s plain_status (disk first) half.file [] _ start end result calls.1.0
     (λ b is works. refused_so true Nothing s remaining y plain_status second disk (stores_in left) (difference_outcome w b) (y.calls old) (y.calls new) ((AtPlaces, first) ∷ []) start end result refl answers half.refuses)
 difference_foretold remaining w s y first second disk old new left start end result sized answers one two (inr (inr both)) =

@@ -1,12 +1,18 @@
--- Which file a fault is of, and the line that names it.
-use Rattle.std.specs.Prelude.{ℕ, ◌≡◌, ◌⊎◌, ◌++◌, List, [], Option, None, Some, codes}
-use Rattle.std.specs.Prelude.{◌-◌, if◌then◌else◌}
+-- Which file a fault is of, what is said of it, and the line that says it.
+use Rattle.std.specs.Prelude.{ℕ, ℤ, ◌≡◌, ◌⊎◌, List, [], ◌∷◌, ◌&&◌, not, Option, None, Some, codes}
+use Rattle.std.specs.Prelude.{bytes_eq, if◌then◌else◌}
 use Rattle.std.specs.Prelude.{Bool, true, false, Result, Ok, Err}
 use Rattle.cdb_command.specs.Asked.{Asked}
 use Rattle.cdb_command.specs.Asked as asked
-use Rattle.cdb_command.specs.Shown.{shown}
-pub use Rattle.cdb_tool.specs.Message.{said_input, input_at}
+use Rattle.cdb_form.specs.declared.text.fault.TextFault.{TextFault}
+use Rattle.cdb_form.specs.declared.text.fault.TextFault.TheVariants as text
+use Rattle.cdb_form.specs.declared.walk.fault.WalkFault.{WalkFault}
+use Rattle.cdb_form.specs.declared.walk.fault.WalkFault.TheVariants as walk
+use Rattle.cdb_read.specs.declared.fault.ReadFault.{ReadFault}
+use Rattle.cdb_read.specs.declared.fault.ReadFault.TheVariants as read
+use Rattle.cdb_tool.specs.Message.{input_at}
 use Rattle.cdb_files.specs.declared.refusal.Cause.{Cause}
+use Rattle.cdb_files.specs.declared.refusal.Cause.TheVariants as cause
 use Rattle.cdb_files.specs.Folder.{NameCalls}
 use Rattle.cdb_files.specs.Refusals.{refused_for}
 use Rattle.cdb_files.specs.Replacing.{IsNoName}
@@ -14,26 +20,87 @@ use Rattle.cdb_tool.specs.declared.fault.Fault.{Fault}
 use Rattle.cdb_tool.specs.declared.fault.Fault.TheVariants.{Text, Make, Read, Walk, Output, Open}
 use Rattle.cdb_tool.specs.declared.fault.Fault.TheVariants.{Rename, NoMemory, Old, New}
 use Rattle.cdb_tool.specs.declared.fault.Fault.TheVariants.{NoOldTables, NoNewTables}
+use Rattle.cdb.specs.CauseLine.{cause_line, error_words, line_words}
 use Rattle.cdb.specs.Creating.{IsInPlace, temporary_of}
 use Rattle.cdb.specs.Opening.{OpenCalls, refused_open}
-use Rattle.cdb.specs.declared.causes.Reason.{Reason}
 
--- ---- which file a fault is of
+-- ---- what is said of a name that was refused
 
-abbrev pub reason_name : Reason → List ℕ
-reason_name reason = if reason.is_temporary then (reason.name.now ++ codes ".tmp") else reason.name.now
+-- the other name is that of the base
+abbrev pub is_base : Option (List ℕ) → (other : List ℕ) → Bool
+is_base None other = false
+is_base (Some base) other = bytes_eq base other
 
--- a name that was refused last: of the files that are opened, or of those that are replaced
-abbrev pub IsRefused : (opened : OpenCalls) → (named : NameCalls) → (name : List ℕ) → Type 0
-IsRefused opened named name =
-    (refused_open opened ≡ Some name)
-    ⊎ ((why : Cause) × (other : List ℕ) × (refused_for why named ≡ Some (name, other)))
+-- its file is that of another name too: of the database, of the base, or of an input
+abbrev pub same_words : Asked → (name other : List ℕ) → Option (List ℕ)
+same_words (asked.Create database base inputs temporary options wide) name other = Some
+    (if bytes_eq database other && not (bytes_eq database name) then codes "is the database"
+    else (if is_base base other then codes "is the base" else codes "is an input"))
+same_words command name other = None
+
+-- what is said for a cause
+abbrev pub cause_words : Asked → Cause → (name other : List ℕ) → Option (List ℕ)
+cause_words command (cause.System number) name other = Some (error_words number)
+cause_words command cause.Failed name other = None
+cause_words command cause.Held name other = Some (codes "another create is at work on it")
+cause_words command cause.Link name other = Some (codes "is a link")
+cause_words command cause.Special name other = Some (codes "is no regular file")
+cause_words command cause.NoPlaces name other = Some (codes "a pipe or a device has no places")
+cause_words command cause.Same name other = same_words command name other
+cause_words command cause.Input name other = Some (codes "is an input")
+cause_words command cause.Replaced name other = Some (codes "its temporary file was replaced")
+cause_words command cause.Bits name other = Some (codes "does not get its permissions")
+cause_words command cause.Closed name other = Some (codes "a standard stream is closed")
+
+-- a name was refused last, for a cause: of the files that are opened, or of those that are replaced
+abbrev pub IsRefusedFor : (opened : OpenCalls) → (named : NameCalls) → Cause
+    → (name other : List ℕ) → Type 0
+IsRefusedFor opened named why name other =
+    (refused_open why opened ≡ Some (name, other, why)) ⊎ (refused_for why named ≡ Some (name, other))
+
+abbrev pub IsRefused : Asked → (opened : OpenCalls) → (named : NameCalls) → (name : List ℕ)
+    → (said : Option (List ℕ)) → Type 0
+IsRefused command opened named name said = (why : Cause) × (other : List ℕ)
+    × IsRefusedFor opened named why name other × (said ≡ cause_words command why name other)
 
 -- the name of a database, on which no call was made: it is empty or ends in a slash
-abbrev pub IsNoNameOf : Asked → (name : List ℕ) → Type 0
-IsNoNameOf (asked.Create database base inputs temporary options wide) name =
-    (name ≡ database) × IsNoName name
-IsNoNameOf command name = ⊥
+abbrev pub no_name_words : (name : List ℕ) → List ℕ
+no_name_words [] = codes "the name is empty"
+no_name_words (c ∷ name) = codes "the name ends in a slash"
+
+abbrev pub IsNoNameOf : Asked → (name : List ℕ) → (said : Option (List ℕ)) → Type 0
+IsNoNameOf (asked.Create database base inputs temporary options wide) name said =
+    (name ≡ database) × IsNoName name × (said ≡ Some (no_name_words name))
+IsNoNameOf command name said = ⊥
+
+-- ---- what is said of a file that failed
+
+-- the words of a number of the system, or nothing
+abbrev pub IsOfSystem : (said : Option (List ℕ)) → Type 0
+IsOfSystem said = (said ≡ None) ⊎ ((number : ℤ) × (said ≡ Some (error_words number)))
+
+-- a line, or nothing
+abbrev pub IsOfLine : (said : Option (List ℕ)) → Type 0
+IsOfLine said = (said ≡ None) ⊎ ((line : ℕ) × (said ≡ Some (line_words line)))
+
+-- of an input: the line of the fault's place, or why it was not read
+abbrev pub IsOfText : TextFault → (said : Option (List ℕ)) → Type 0
+IsOfText (text.Syntax at) said = IsOfLine said
+IsOfText (text.Ended at) said = IsOfLine said
+IsOfText (text.Large at) said = IsOfLine said
+IsOfText text.Input said = IsOfSystem said
+IsOfText fault said = said ≡ None
+
+-- of a database: why it was not read, and of damage nothing
+abbrev pub IsOfRead : ReadFault → (said : Option (List ℕ)) → Type 0
+IsOfRead read.Device said = IsOfSystem said
+IsOfRead fault said = said ≡ None
+
+abbrev pub IsOfWalk : WalkFault → (said : Option (List ℕ)) → Type 0
+IsOfWalk walk.Input said = IsOfSystem said
+IsOfWalk fault said = said ≡ None
+
+-- ---- which file a fault is of
 
 abbrev pub or_standard : Option (List ℕ) → List ℕ
 or_standard None = codes "standard input"
@@ -74,45 +141,38 @@ input_name (asked.Create database base inputs temporary options wide) number =
 input_name (asked.Lookups database inputs number style wide) n = input_at inputs n
 input_name command number = []
 
--- the file of a fault that is of a database which is read
-abbrev pub IsOfDatabase : Asked → Fault → (name : List ℕ) → Type 0
-IsOfDatabase command (Read fault) name = name ≡ read_name command
-IsOfDatabase command (Old fault) name = name ≡ read_name command
-IsOfDatabase command (New fault) name = name ≡ new_name command
-IsOfDatabase command (Walk fault) name = name ≡ read_name command
-IsOfDatabase command NoOldTables name = name ≡ read_name command
-IsOfDatabase command NoNewTables name = name ≡ new_name command
-IsOfDatabase command fault name = ⊥
+-- a fault that is of a database which is read
+abbrev pub IsOfDatabase : Asked → Fault → (name : List ℕ) → (said : Option (List ℕ)) → Type 0
+IsOfDatabase command (Read fault) name said = (name ≡ read_name command) × IsOfRead fault said
+IsOfDatabase command (Old fault) name said = (name ≡ read_name command) × IsOfRead fault said
+IsOfDatabase command (New fault) name said = (name ≡ new_name command) × IsOfRead fault said
+IsOfDatabase command (Walk fault) name said = (name ≡ read_name command) × IsOfWalk fault said
+IsOfDatabase command NoOldTables name said = (name ≡ read_name command) × (said ≡ None)
+IsOfDatabase command NoNewTables name said = (name ≡ new_name command) × (said ≡ None)
+IsOfDatabase command fault name said = ⊥
 
--- the file of a fault
+-- the file of a fault, and what is said of it
 abbrev pub IsCause : Asked → Fault → (opened : OpenCalls) → (named : NameCalls) → (name : List ℕ)
-    → Type 0
-IsCause command Open opened named name = IsRefused opened named name ⊎ IsNoNameOf command name
-IsCause command Rename opened named name = IsRefused opened named name
-IsCause command NoMemory opened named name = IsRefused opened named name
-IsCause command (Text input fault) opened named name = name ≡ input_name command input
-IsCause command (Make fault) opened named name = IsMadeName command name
-IsCause command Output opened named name =
-    (name ≡ codes "standard output") ⊎ (name ≡ codes "standard error")
-IsCause command fault opened named name = IsOfDatabase command fault name
+    → (said : Option (List ℕ)) → Type 0
+IsCause command Open opened named name said =
+    IsRefused command opened named name said ⊎ IsNoNameOf command name said
+IsCause command Rename opened named name said = IsRefused command opened named name said
+IsCause command NoMemory opened named name said = IsRefused command opened named name said
+IsCause command (Text input fault) opened named name said =
+    (name ≡ input_name command input) × IsOfText fault said
+IsCause command (Make fault) opened named name said = IsMadeName command name × IsOfSystem said
+IsCause command Output opened named name said =
+    ((name ≡ codes "standard output") ⊎ (name ≡ codes "standard error")) × IsOfSystem said
+IsCause command fault opened named name said = IsOfDatabase command fault name said
 
--- ---- the line that names it
+-- ---- the line that says it
 
--- words were added
-abbrev pub IsAddedTo : (old new : List ℕ) → Type 0
-IsAddedTo old new = (words : List ℕ) × (new ≡ old ++ words)
-
-abbrev pub IsCauseLine : (name more : List ℕ) → Type 0
-IsCauseLine name more = (words : List ℕ)
-    × (more ≡ (codes "cdb: " ++ shown name) ++ (words ++ codes "\n"))
-
--- what is said of a fault after its line: nothing, unless it is to be explained; and then nothing, or a line
--- with the name of its file
+-- after the line of a fault: nothing, unless it is to be explained; and then nothing, or the line of its cause
 abbrev pub SaysCause : Asked → Result Unit Fault → (opened : OpenCalls) → (named : NameCalls)
     → (more : List ℕ) → Type 0
 SaysCause command (Ok done) opened named more = ⊥
-SaysCause command (Err fault) opened named more =
-    (name : List ℕ) × IsCause command fault opened named name × IsCauseLine name more
+SaysCause command (Err fault) opened named more = (name : List ℕ) × (said : Option (List ℕ))
+    × IsCause command fault opened named name said × (more ≡ cause_line name said)
 
 abbrev pub Explains : (explained : Bool) → Asked → Result Unit Fault → (opened : OpenCalls)
     → (named : NameCalls) → (more : List ℕ) → Type 0

@@ -53,8 +53,8 @@ IsAnswered s remaining y disk stores (Stream answer) name = answer ≡ No
 IsAnswered s remaining y disk stores ToEmpty name = ⊤
 IsAnswered s remaining y disk stores (Locked lock) name = ⊤
 IsAnswered s remaining y disk stores Emptied name = ⊤
-IsAnswered s remaining y disk stores (Unopened why.Failed) name = disk name ≡ None
-IsAnswered s remaining y disk stores (Unopened why.NoMemory) name = ⊤
+IsAnswered s remaining y disk stores (Unopened why.Failed found) name = disk name ≡ None
+IsAnswered s remaining y disk stores (Unopened why.NoMemory found) name = ⊤
 
 -- the stores without the one of a call
 abbrev pub stores_before : {F : Type 0} → OpenCall → List F → List F

@@ -1,10 +1,15 @@
 -- The calls on files, and why one is not opened. The newest call comes first.
-use Rattle.std.specs.Prelude.{ℕ, ◌≡◌, ◌≢◌, ◌⊎◌, List, [], ◌∷◌, Option, None, Some, string_bytes}
+use Rattle.std.specs.Prelude.{ℕ, ◌≡◌, ◌≢◌, ◌⊎◌, Bool, true, false, List, [], ◌∷◌}
+use Rattle.std.specs.Prelude.{Option, None, Some, string_bytes}
+use Rattle.cdb_files.specs.Refusals.{is_of_system, may_be_for}
 use Rattle.cdb_files.specs.declared.answer.Answer.TheVariants.{Unknown}
 use Rattle.cdb_files.specs.declared.answer.Lock.{Lock}
 use Rattle.cdb_files.specs.declared.answer.Lock.TheVariants.{Held}
 use Rattle.cdb_files.specs.declared.name_fault.NameFault.{NameFault}
 use Rattle.cdb_files.specs.declared.name_fault.NameFault.TheVariants as why
+use Rattle.cdb_files.specs.declared.name_trace.NameCall.TheVariants as call
+use Rattle.cdb_files.specs.declared.refusal.Cause.{Cause}
+use Rattle.cdb_files.specs.declared.refusal.Cause.TheVariants.{Failed}
 use Rattle.cdb_files.specs.declared.refusal.Refusal.{Refusal}
 use Rattle.cdb.specs.declared.left.Left.{Left}
 use Rattle.cdb.specs.declared.open_trace.OpenCall.{OpenCall}
@@ -21,11 +26,12 @@ abbrev pub unopened : NameFault → Fault
 unopened why.Failed = Open
 unopened why.NoMemory = NoMemory
 
--- the file of a name was not opened, which is this fault
+-- the file of a name was not opened, which is this fault, for this cause
 pub record Misses (name : List ℕ) (old new : OpenCalls) (fault : Fault) : Type 0 where
   pub why : NameFault
+  pub found : Cause
   pub is : fault ≡ unopened why
-  pub calls : new ≡ (Unopened why, name) ∷ old
+  pub calls : new ≡ (Unopened why found, name) ∷ old
 
 -- the file of a name was opened to be emptied, and no other process holds its lock
 pub record TakesToEmpty (name : List ℕ) (old new : OpenCalls) : Type 0 where
@@ -63,22 +69,30 @@ base_left base = record { read = base; other = None; made = None }
 abbrev pub both_left : {F M : Type 0} → (old new : F) → Left F M
 both_left old new = record { read = Some old; other = Some new; made = None }
 
--- the name that a call refused, if it did
-abbrev pub refused_by : OpenCall → (name : List ℕ) → Option (List ℕ)
-refused_by (Unopened why) name = Some name
-refused_by (Locked Held) name = Some name
-refused_by (Stream Unknown) name = Some name
-refused_by call name = None
+-- a cause, if it may be
+abbrev pub if_fits : (fits : Bool) → Cause → Cause
+if_fits true why = why
+if_fits false why = Failed
+
+-- the name that a call refused, if it did, no other name, and for which cause: that of a file which was not opened,
+-- or this one if it may be that of a look or of a lock
+abbrev pub refused_by : Cause → OpenCall → (name : List ℕ) → Option (List ℕ × List ℕ × Cause)
+refused_by why (Unopened fault found) name = Some (name, [], found)
+refused_by why (Locked Held) name = Some (name, [], if_fits (may_be_for (call.Locked Held) why) why)
+refused_by why (Stream Unknown) name = Some (name, [], if_fits (is_of_system why) why)
+refused_by why call name = None
 
 -- the newest of these names
-abbrev pub if_none : Option (List ℕ) → Option (List ℕ) → Option (List ℕ)
+abbrev pub if_none : {A : Type 0} → Option A → Option A → Option A
 if_none None before = before
-if_none (Some name) before = Some name
+if_none (Some refused) before = Some refused
 
-abbrev pub refused_open : OpenCalls → Option (List ℕ)
-refused_open [] = None
-refused_open ((call, name) ∷ calls) = if_none (refused_by call name) (refused_open calls)
+abbrev pub refused_open : Cause → OpenCalls → Option (List ℕ × List ℕ × Cause)
+refused_open why [] = None
+refused_open why ((call, name) ∷ calls) =
+    if_none (refused_by why call name) (refused_open why calls)
 
 -- a refusal is that of the newest call that refused a name
 abbrev pub IsOpenRefusal : Refusal → OpenCalls → Type 0
-IsOpenRefusal refusal calls = refused_open calls ≡ Some (string_bytes refusal.name)
+IsOpenRefusal refusal calls = refused_open refusal.cause calls
+    ≡ Some (string_bytes refusal.name, string_bytes refusal.other, refusal.cause)

@@ -1,7 +1,7 @@
 // The line that says which file a fault is of, and why.
-ghost use Rattle.std.specs.Prelude.{◌≡◌, ◌++◌, IfOk, OnOk, codes, true};
+ghost use Rattle.std.specs.Prelude.{◌≡◌, ◌++◌, [], IfOk, OnOk, length, nat_lt, unwrap_or};
 ghost use Rattle.cdb_command.specs.Shown.{shown, shown_byte};
-ghost use Rattle.cdb.specs.Causes.{IsAddedTo, IsCauseLine, reason_name};
+ghost use Rattle.cdb.specs.CauseLine.{between, cause_line, reason_name, said_of};
 
 use crate::causes::{Reason, Told};
 use crate::system_words::system_words;
@@ -40,12 +40,11 @@ fn push_whole(line: &mut Vec<u8>, reason: &Reason<'_>) -> Result<(), AllocError>
     Ok(())
 }
 
-/// Adds what is said of a file.
-fn push_told(line: &mut Vec<u8>, told: Told) -> Result<(), AllocError>
-    ensures { OnOk result (IsAddedTo line.old.items line.new.items) }
+/// What is said of a file, in two parts.
+fn said_parts(told: Told, digits: &mut Buffer) -> (&'static str, &str)
+    ensures { result.0.now ++ result.1.now ≡ unwrap_or (said_of told) [] }
 {
-    let mut digits = Buffer::new();
-    let (what, words) = match told {
+    match told {
         Told::Name => ("", ""),
         Told::Words(words) => ("", words),
         Told::Error(number) => match system_words(number) {
@@ -53,25 +52,47 @@ fn push_told(line: &mut Vec<u8>, told: Told) -> Result<(), AllocError>
             None => ("error ", digits.format(number)),
         },
         Told::Line(number) => ("line ", digits.format(number)),
-    };
+    }
+}
+
+/// Adds what is said of a file.
+fn push_told(line: &mut Vec<u8>, told: Told) -> Result<(), AllocError>
+    ensures { OnOk result (line.new.items ≡ line.old.items ++ unwrap_or (said_of told) []) }
+{
+    let mut digits = Buffer::new();
+    let (what, words) = said_parts(told, &mut digits);
     line.extend_from_slice(what.as_bytes())?;
     line.extend_from_slice(words.as_bytes())
 }
 
-/// Whether a name and what is said of it are apart.
-fn is_between(reason: &Reason<'_>) -> bool {
-    !reason.name.is_empty() && !matches!(reason.told, Told::Name)
+/// Whether a reason's file has a name that is not empty.
+fn is_named(reason: &Reason<'_>) -> bool
+    ensures { result ≡ nat_lt 0 (length (reason_name reason.now)) }
+{
+    reason.is_temporary || !reason.name.is_empty()
+}
+
+/// What is between the name of a reason's file and what is said of it.
+fn between(reason: &Reason<'_>) -> &'static [u8]
+    ensures { result.now ≡ between (reason_name reason.now) (said_of reason.now.told) }
+{
+    match reason.told {
+        Told::Name => b"",
+        Told::Words(_) | Told::Error(_) | Told::Line(_) => {
+            if is_named(reason) { b": " } else { b"" }
+        }
+    }
 }
 
 /// The line of a reason, with its newline.
 pub(crate) fn cause_line(alloc: Global, reason: &Reason<'_>) -> Result<Vec<u8>, AllocError>
-    ensures { IfOk result (λ line. IsCauseLine (reason_name reason.now) line.items) }
+    ensures { IfOk result (λ line.
+        line.items ≡ cause_line (reason_name reason.now) (said_of reason.now.told)) }
 {
     let mut line = Vec::new(alloc);
     line.extend_from_slice(b"cdb: ")?;
     push_whole(&mut line, reason)?;
-    let between: &[u8] = if is_between(reason) { b": " } else { b"" };
-    line.extend_from_slice(between)?;
+    line.extend_from_slice(between(reason))?;
     push_told(&mut line, reason.told)?;
     line.push(b'\n')?;
     Ok(line)

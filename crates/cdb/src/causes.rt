@@ -1,8 +1,10 @@
 // The cause of a fault: which file, and why.
-ghost use Rattle.std.specs.Prelude.{◌≡◌, ◌⊎◌, IfSome, codes, map, string_bytes};
+ghost use Rattle.std.specs.Prelude.{◌≡◌, IfSome, None, string_bytes};
 ghost use Rattle.cdb_tool.specs.Command.{asked_in};
-ghost use Rattle.cdb.specs.Causes.{IsCause, IsMadeName, IsNoNameOf, IsOfDatabase, IsRefused};
-ghost use Rattle.cdb.specs.Causes.{input_at, input_name, new_name, read_name, reason_name, said_input};
+ghost use Rattle.cdb.specs.CauseLine.{reason_name, said_of};
+ghost use Rattle.cdb.specs.Causes.{IsCause, IsMadeName, IsNoNameOf, IsOfDatabase, IsOfRead};
+ghost use Rattle.cdb.specs.Causes.{IsOfLine, IsOfSystem, IsOfText, IsRefused};
+ghost use Rattle.cdb.specs.Causes.{cause_words, input_name, new_name, read_name, same_words};
 
 use crate::creating::is_in_place;
 use crate::inputs::is_standard;
@@ -12,7 +14,7 @@ use cdb_files::{Cause, Names, Refusal};
 use cdb_form::{TextFault, WalkFault};
 use cdb_make::MakeFault;
 use cdb_read::ReadFault;
-use cdb_tool::{Command, Fault};
+use cdb_tool::{Command, Fault, STANDARD_INPUT, input_at};
 
 /// What is said of a file.
 #[derive(Clone, Copy)]
@@ -38,9 +40,6 @@ pub(crate) struct Reason<'a> {
     pub(crate) told: Told,
 }
 
-/// The name of standard input in what is said of it.
-const STANDARD_INPUT: &str = "standard input";
-
 /// The name of standard output.
 const STANDARD_OUTPUT: &str = "standard output";
 
@@ -49,7 +48,8 @@ const STANDARD_ERROR: &str = "standard error";
 
 /// The reason of a file of a whole name.
 fn of_name(name: &str, told: Told) -> Reason<'_>
-    ensures { reason_name result ≡ name.now }
+    ensures name { reason_name result ≡ name.now }
+    ensures told { result.told ≡ told }
 {
     Reason {
         name,
@@ -59,7 +59,9 @@ fn of_name(name: &str, told: Told) -> Reason<'_>
 }
 
 /// What is said of a call that failed with an error of this number, if the system gave one.
-fn of_number(number: Option<i32>) -> Told {
+fn of_number(number: Option<i32>) -> Told
+    ensures { IsOfSystem (said_of result) }
+{
     match number {
         Some(number) => Told::Error(number),
         None => Told::Name,
@@ -68,7 +70,9 @@ fn of_number(number: Option<i32>) -> Told {
 
 /// What is said of a name that was refused since its file is that of another name too: of the database, of
 /// the base, or of an input.
-fn of_same(command: &Command, refused: &str, other: &str) -> Told {
+fn of_same(command: &Command, refused: &str, other: &str) -> Told
+    ensures { said_of result ≡ same_words (asked_in command.now) refused.now other.now }
+{
     let Command::Create { name, base, .. } = command else {
         return Told::Name;
     };
@@ -82,10 +86,11 @@ fn of_same(command: &Command, refused: &str, other: &str) -> Told {
 }
 
 /// What is said of a name that was refused.
-fn of_refusal<'a>(command: &Command, refusal: &'a Refusal) -> Reason<'a>
-    ensures { reason_name result ≡ string_bytes refusal.now.name }
+fn of_cause(command: &Command, refusal: &Refusal) -> Told
+    ensures { said_of result ≡ cause_words (asked_in command.now) refusal.now.cause
+        (string_bytes refusal.now.name) (string_bytes refusal.now.other) }
 {
-    let told = match refusal.cause {
+    match refusal.cause {
         Cause::System(number) => Told::Error(number),
         Cause::Failed => Told::Name,
         Cause::Held => Told::Words("another create is at work on it"),
@@ -97,13 +102,22 @@ fn of_refusal<'a>(command: &Command, refusal: &'a Refusal) -> Reason<'a>
         Cause::Replaced => Told::Words("its temporary file was replaced"),
         Cause::Bits => Told::Words("does not get its permissions"),
         Cause::Closed => Told::Words("a standard stream is closed"),
-    };
-    of_name(refusal.name.as_str(), told)
+    }
+}
+
+/// Which name was refused, and what is said of it.
+fn of_refusal<'a>(command: &Command, refusal: &'a Refusal) -> Reason<'a>
+    ensures name { reason_name result ≡ string_bytes refusal.now.name }
+    ensures told { said_of result.told ≡ cause_words (asked_in command.now) refusal.now.cause
+        (string_bytes refusal.now.name) (string_bytes refusal.now.other) }
+{
+    of_name(refusal.name.as_str(), of_cause(command, refusal))
 }
 
 /// What is said of the name of a create on which no call was made.
 fn of_no_name(command: &Command) -> Option<Reason<'_>>
-    ensures { IfSome result (λ r. IsNoNameOf (asked_in command.now) (reason_name r)) }
+    ensures { IfSome result (λ r.
+        IsNoNameOf (asked_in command.now) (reason_name r) (said_of r.told)) }
 {
     let Command::Create { name, .. } = command else {
         return None;
@@ -121,7 +135,8 @@ fn of_refusals<'a, Y, N>(command: &'a Command, system: &'a Y, names: &'a N) -> O
 where
     Y: System,
     N: Names,
-    ensures { IfSome result (λ r. IsRefused (Y.calls system.now) (N.calls names.now) (reason_name r)) }
+    ensures { IfSome result (λ r. IsRefused (asked_in command.now) (Y.calls system.now)
+        (N.calls names.now) (reason_name r) (said_of r.told)) }
 {
     if let Some(refusal) = system.refusal() {
         return Some(of_refusal(command, refusal));
@@ -166,7 +181,8 @@ fn new_name(command: &Command) -> &str
 
 /// What is said of a database that was not read: that its file failed, or its name.
 fn of_unread(name: &str, fault: ReadFault, number: Option<i32>) -> Option<Reason<'_>>
-    ensures { IfSome result (λ r. reason_name r ≡ name.now) }
+    ensures name { IfSome result (λ r. reason_name r ≡ name.now) }
+    ensures told { IfSome result (λ r. IsOfRead fault (said_of r.told)) }
 {
     match fault {
         ReadFault::Device => Some(of_name(name, of_number(number))),
@@ -196,17 +212,6 @@ fn is_first_standard(inputs: &[String], at: usize) -> bool {
     inputs.is_empty()
 }
 
-/// The name of an input, counted from 1. No input is standard input, as each `-` is.
-fn input_at(inputs: &[String], number: u64) -> &str
-    ensures { result.now ≡ input_at (map string_bytes inputs.now) number }
-{
-    let at = number.saturating_sub(1) as usize;
-    if at >= inputs.len() {
-        return STANDARD_INPUT;
-    }
-    said_input(inputs[at].as_str())
-}
-
 /// The name of an input of a command.
 fn input_name(command: &Command, number: u64) -> &str
     ensures { result.now ≡ input_name (asked_in command.now) number }
@@ -216,17 +221,6 @@ fn input_name(command: &Command, number: u64) -> &str
             input_at(inputs.as_slice(), number)
         }
         _ => "",
-    }
-}
-
-/// What an input of a name is called.
-fn said_input(name: &str) -> &str
-    ensures { result.now ≡ said_input name.now }
-{
-    if is_standard(name) {
-        STANDARD_INPUT
-    } else {
-        name
     }
 }
 
@@ -244,19 +238,45 @@ fn is_from_first(command: &Command, number: u64) -> bool {
     is_first_standard(inputs.as_slice(), at)
 }
 
+/// What is said of a place of an input: its line, if lines are counted from the first byte of its file.
+fn of_place<Y>(command: &Command, number: u64, at: u64, system: &Y) -> Told
+where
+    Y: System,
+    ensures { IsOfLine (said_of result) }
+{
+    if is_from_first(command, number) {
+        Told::Line(system.line_at(at))
+    } else {
+        Told::Name
+    }
+}
+
+/// What is said of an input of which this is the fault.
+fn of_fault<Y>(command: &Command, number: u64, fault: TextFault, system: &Y) -> Told
+where
+    Y: System,
+    ensures { IsOfText fault (said_of result) }
+{
+    match fault {
+        TextFault::Syntax(at) | TextFault::Ended(at) | TextFault::Large(at) => {
+            of_place(command, number, at, system)
+        }
+        TextFault::Input => of_number(system.read_error()),
+        TextFault::Endless | TextFault::NoMemory => Told::Name,
+    }
+}
+
 /// What is said of an input whose text was not read.
 fn of_text<'a, Y>(command: &'a Command, number: u64, fault: TextFault, system: &Y) -> Reason<'a>
 where
     Y: System,
-    ensures { reason_name result ≡ input_name (asked_in command.now) number }
+    ensures name { reason_name result ≡ input_name (asked_in command.now) number }
+    ensures told { IsOfText fault (said_of result.told) }
 {
-    let told = match fault.place() {
-        Some(at) if is_from_first(command, number) => Told::Line(system.line_at(at)),
-        Some(_) => Told::Name,
-        None if fault == TextFault::Input => of_number(system.read_error()),
-        None => Told::Name,
-    };
-    of_name(input_name(command, number), told)
+    of_name(
+        input_name(command, number),
+        of_fault(command, number, fault, system),
+    )
 }
 
 /// The number of the error of the last call that failed on a file that was made in place.
@@ -280,7 +300,8 @@ fn of_made<'a, Y, N>(
 where
     Y: System,
     N: Names,
-    ensures { IfSome result (λ r. IsMadeName (asked_in command.now) (reason_name r)) }
+    ensures name { IfSome result (λ r. IsMadeName (asked_in command.now) (reason_name r)) }
+    ensures told { IfSome result (λ r. IsOfSystem (said_of r.told)) }
 {
     let Command::Create {
         name,
@@ -316,7 +337,7 @@ where
     Y: System,
     N: Names,
     ensures { IfSome result (λ r. IsCause (asked_in command.now) fault.now (Y.calls system.now)
-        (N.calls names.now) (reason_name r)) }
+        (N.calls names.now) (reason_name r) (said_of r.told)) }
 {
     match *fault {
         Fault::Open => match of_refusals::<Y, N>(command, system, names) {
@@ -354,7 +375,8 @@ fn of_database<'a, Y>(
 ) -> Option<Reason<'a>>
 where
     Y: System,
-    ensures { IfSome result (λ r. IsOfDatabase (asked_in command.now) fault.now (reason_name r)) }
+    ensures { IfSome result (λ r.
+        IsOfDatabase (asked_in command.now) fault.now (reason_name r) (said_of r.told)) }
 {
     match *fault {
         Fault::Read(fault) | Fault::Old(fault) => {

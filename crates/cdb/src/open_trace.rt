@@ -3,7 +3,7 @@ ghost use Rattle.std.specs.Prelude.{◌≡◌, List, ℕ, [], ◌∷◌};
 ghost use Rattle.std.specs.Borrow.{ftrue};
 ghost use Rattle.cdb.specs.declared.open_trace.OpenCall.{OpenCall};
 
-use cdb_files::{Answer, Lock, NameFault};
+use cdb_files::{Answer, Cause, Lock, NameFault};
 use std::marker::{Model, PhantomData};
 
 /// A call on the file of a name.
@@ -21,8 +21,8 @@ pub(crate) enum OpenCall {
     Locked(Lock),
     /// It was emptied, to be written.
     Emptied,
-    /// It was not opened.
-    Unopened(NameFault),
+    /// It was not opened: the fault, and its cause.
+    Unopened(NameFault, Cause),
 }
 
 /// A list of calls, the newest first, each with its name. It takes no memory, and its methods do

@@ -1,6 +1,7 @@
 // The system's files: the lines that open them, and note it.
-ghost use Rattle.std.specs.Prelude.{◌≡◌, [], ◌∷◌, IfOk, None, Some, string_bytes};
+ghost use Rattle.std.specs.Prelude.{◌≡◌, [], ◌∷◌, IfErr, IfOk, None, Some, string_bytes, true};
 ghost use Rattle.std.specs.Option.{ForSome};
+ghost use Rattle.cdb_files.specs.Refusals.{is_of_system};
 ghost use Rattle.cdb_store.specs.RealFile.{events_of};
 ghost use Rattle.cdb_store.specs.declared.trace.Call.TheVariants.{Made};
 ghost use Rattle.cdb.specs.Opening.{refused_by, refused_open, unopened};
@@ -26,8 +27,8 @@ pub(crate) struct RealSystem<'a, R> {
     trace: OpenTrace,
     /// The name that was refused last, if there was memory for it.
     last: Option<Refusal>,
-    ghost newest: { ForSome last (λ refusal.
-        refused_open trace.events ≡ Some (string_bytes refusal.name)) },
+    ghost newest: { ForSome last (λ refusal. refused_open refusal.cause trace.events
+        ≡ Some (string_bytes refusal.name, string_bytes refusal.other, refusal.cause)) },
 }
 
 /// Why a file was not opened: the fault, and its cause.
@@ -52,7 +53,7 @@ impl<'a, R: Files<File = File> + AllocGlobal> RealSystem<'a, R> {
 
     /// Notes a call that refused no name.
     fn note(&mut self, call: &OpenCall, name: &str)
-        requires { refused_by call.now name.now ≡ None }
+        requires { (why : Cause) → refused_by why call.now name.now ≡ None }
         ensures trace { self.new.trace.events ≡ (call.now, name.now) ∷ self.old.trace.events }
     {
         self.trace.note(call, name.as_bytes());
@@ -60,7 +61,7 @@ impl<'a, R: Files<File = File> + AllocGlobal> RealSystem<'a, R> {
 
     /// Notes a call that refused its name.
     fn refuse(&mut self, call: &OpenCall, name: &str, cause: Cause)
-        requires { refused_by call.now name.now ≡ Some name.now }
+        requires { refused_by cause call.now name.now ≡ Some (name.now, [], cause) }
         ensures trace { self.new.trace.events ≡ (call.now, name.now) ∷ self.old.trace.events }
     {
         self.last = Refusal::new(self.rt.alloc(), name, "", cause).ok();
@@ -70,9 +71,10 @@ impl<'a, R: Files<File = File> + AllocGlobal> RealSystem<'a, R> {
     /// Notes that the file of a name was not opened, and answers which fault that is.
     fn refused(&mut self, why: Why, name: &str) -> Fault
         ensures fault { result ≡ unopened why.fault }
-        ensures trace { self.new.trace.events ≡ (Unopened why.fault, name.now) ∷ self.old.trace.events }
+        ensures trace { self.new.trace.events
+            ≡ (Unopened why.fault why.cause, name.now) ∷ self.old.trace.events }
     {
-        self.refuse(&OpenCall::Unopened(why.fault), name, why.cause);
+        self.refuse(&OpenCall::Unopened(why.fault, why.cause), name, why.cause);
         match why.fault {
             NameFault::Failed => Fault::Open,
             NameFault::NoMemory => Fault::NoMemory,
@@ -289,7 +291,9 @@ fn of_emptying(error: &io::Error) -> Why {
 
 /// Whether a name is that of a pipe or a device, which is read from its start to its end alone. A name
 /// that nothing has is not.
-fn is_stream<R: Files<File = File>>(rt: &R, name: &str) -> Result<bool, Cause> {
+fn is_stream<R: Files<File = File>>(rt: &R, name: &str) -> Result<bool, Cause>
+    ensures { IfErr result (λ cause. is_of_system cause ≡ true) }
+{
     match fs::metadata(rt, name) {
         Ok(found) => Ok(!found.is_file() && !found.is_dir()),
         Err(error) if error.kind() == ErrorKind::NotFound => Ok(false),

@@ -1,7 +1,11 @@
 // What the system's errors are called.
+ghost use Rattle.std.specs.Prelude.{◌≡◌, option_map};
+ghost use Rattle.cdb.specs.SystemWords.{high_errors, system_words, words_at};
 
 /// What the error of this number is called. The words are the same in each locale.
-pub(crate) fn system_words(number: i32) -> Option<&'static str> {
+pub(crate) fn system_words(number: i32) -> Option<&'static str>
+    ensures { option_map (λ words. words.now) result ≡ system_words number }
+{
     match number {
         1 => Some("Operation not permitted"),
         2 => Some("No such file or directory"),
@@ -31,7 +35,9 @@ pub(crate) fn system_words(number: i32) -> Option<&'static str> {
 }
 
 /// What the error of a greater number is called.
-fn late_words(number: i32) -> Option<&'static str> {
+fn late_words(number: i32) -> Option<&'static str>
+    ensures { option_map (λ words. words.now) result ≡ words_at high_errors number }
+{
     match number {
         30 => Some("Read-only file system"),
         31 => Some("Too many links"),

@@ -1,17 +1,15 @@
 // The lines of a duplicate.
-ghost use Rattle.std.specs.Prelude.{◌≡◌, ◌++◌, [], ◌∷◌, codes, flat_map, map, string_bytes, take};
+ghost use Rattle.std.specs.Prelude.{◌≡◌, ◌++◌, [], ◌∷◌, codes, flat_map, map, take};
 ghost use Rattle.cdb_command.specs.Refused.{parts_line};
 ghost use Rattle.cdb_command.specs.Shown.{shown, shown_byte};
 ghost use Rattle.cdb_form.specs.Views.KnownBytes.{Writes};
-ghost use Rattle.cdb_tool.specs.Message.{after_key, duplicate_lines, input_at, key_line, said_input};
+ghost use Rattle.cdb_tool.specs.Message.{after_key, duplicate_lines, key_line};
 
+use crate::input_name::input_at;
 use crate::message::write_duplicate;
 use cdb_command::escaped;
 use cdb_form::{OutFault, write_whole};
 use std::io::Write;
-
-/// The name of standard input in what is said of it.
-const STANDARD_INPUT: &str = "standard input";
 
 /// How many bytes of a key are shown.
 const SHOWN: usize = 256;
@@ -110,24 +108,6 @@ fn write_key<E: Write>(name: &str, key: &[u8], errors: &mut E) -> Result<(), Out
         after_key(key),
         errors,
     )
-}
-
-/// What an input of a name is called.
-fn said_input(name: &str) -> &str
-    ensures { result.now ≡ said_input name.now }
-{
-    if name == "-" { STANDARD_INPUT } else { name }
-}
-
-/// The name of an input, counted from 1. No input is standard input, as each `-` is.
-fn input_at(names: &[String], number: u64) -> &str
-    ensures { result.now ≡ input_at (map string_bytes names.now) number }
-{
-    let at = number.saturating_sub(1) as usize;
-    if at >= names.len() {
-        return STANDARD_INPUT;
-    }
-    said_input(names[at].as_str())
 }
 
 /// Writes the line of a record whose key was there already, and the one that explains it if the names of

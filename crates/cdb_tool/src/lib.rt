@@ -4,6 +4,7 @@
 
 mod fault;
 mod input;
+mod input_name;
 mod inputs;
 mod key_line;
 pub mod laws;
@@ -20,6 +21,7 @@ pub use cdb_command::{
 };
 pub use fault::Fault;
 pub use input::{InWindow, Input};
+pub use input_name::{STANDARD_INPUT, input_at};
 pub use inputs::{Inputs, Turn};
 pub use message::write_fault;
 pub use noted::Noted;
