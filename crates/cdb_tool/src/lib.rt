@@ -7,6 +7,7 @@ mod input;
 mod inputs;
 mod key_line;
 pub mod laws;
+mod lines;
 mod message;
 mod noted;
 mod output;
