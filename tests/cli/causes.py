@@ -160,58 +160,136 @@ WORDS = {
 }
 CAUSES.update({f"bad words: {name}": row for name, row in WORDS.items()})
 
-# Duplicates, each explained by the name of its input and its key.
+# Duplicates, each explained by the name of its input, the line at which it begins, and its key.
 LONG = b"k" * 256
+# Records of which a window holds no whole number.
+MANY = [(b"%d" % n, b"value of %d" % n) for n in range(3000)]
 EXPLAINED = {
     "a duplicate of standard input": creates(
-        ["-vcw", "x"], of_a(b"1", b"2"), pairs(b"1", b"2"), [again(2), "standard input: key a"]
+        ["-vcw", "x"], of_a(b"1", b"2"), pairs(b"1", b"2"), [again(2), "standard input: line 2: key a"]
     ),
     "a duplicate that is not warned of": creates(["-vc", "x"], of_a(b"1", b"2"), pairs(b"1", b"2")),
     "a duplicate that ends the run": keeps(
-        ["-vce", "x"], [again(2), "standard input: key a", STOPPED], pairs(b"1", b"2")
+        ["-vce", "x"], [again(2), "standard input: line 2: key a", STOPPED], pairs(b"1", b"2")
     ),
     "duplicates of several inputs": creates(
         ["-vcwm", "x", "m", "-", "n"],
         file_of([(b"one", b"1"), (b"one", b"2"), (b"two", b"3"), (b"one", b"4"), (b"two", b"5")]),
         b"two 3\n",
-        [again(2), "m: key one", again(1, 3), "n: key one", again(2, 3), "n: key two"],
+        [again(2), "m: line 4: key one", again(1, 3), "n: line 1: key one", again(2, 3), "n: line 2: key two"],
         {"m": b"# a\none 1\n\none 2\n", "n": b"one 4\ntwo 5\n"},
     ),
     "a name and a key with other bytes": creates(
         ["-vcw", "x", "a\n\u00e9"],
         file_of([(b"\\\n\xff ~", b"1"), (b"\\\n\xff ~", b"2")]),
         b"",
-        [again(2), "a\\x0a\\xc3\\xa9: key \\x5c\\x0a\\xff ~"],
+        [again(2), "a\\x0a\\xc3\\xa9: line 3: key \\x5c\\x0a\\xff ~"],
         {"a\n\u00e9": text_of([(b"\\\n\xff ~", b"1"), (b"\\\n\xff ~", b"2")])},
     ),
     "a key that is empty": creates(
-        ["-vcw", "x"], file_of([(b"", b"1"), (b"", b"2")]), text_of([(b"", b"1"), (b"", b"2")]), [again(2), "standard input: key "]
+        ["-vcw", "x"], file_of([(b"", b"1"), (b"", b"2")]), text_of([(b"", b"1"), (b"", b"2")]), [again(2), "standard input: line 2: key "]
     ),
     "a key of as many bytes as are shown": creates(
         ["-vcwr", "x"],
         file_of([(LONG, b"2")]),
         text_of([(LONG, b"1"), (LONG, b"2")]),
-        [again(2), f"standard input: key {LONG.decode()}"],
+        [again(2), f"standard input: line 2: key {LONG.decode()}"],
     ),
     "a longer key": creates(
         ["-vcwu", "x"],
         file_of([(LONG + b"\0", b"1")]),
         text_of([(LONG + b"\0", b"1"), (LONG + b"\0", b"2")]),
-        [again(2), f"standard input: key {LONG.decode()}..."],
+        [again(2), f"standard input: line 2: key {LONG.decode()}..."],
     ),
     "a duplicate of a base": creates(
         ["-vcw", "-b", "y", "x", "n"],
         file_of([(b"one", b"Hello"), (b"one", b"1")]),
         b"",
-        [again(1), "n: key one"],
+        [again(1), "n: line 1: key one"],
         {"y": ONE_FILE, "n": b"+3,1:one->1\n\n"},
     ),
     "a duplicate after a removal": creates(
         ["-vcw", "-b", "y", "x", "n"],
         file_of([(b"one", b"1"), (b"one", b"2")]),
         b"",
-        [again(3), "n: key one"],
+        [again(3), "n: line 3: key one"],
         {"y": ONE_FILE, "n": b"-3:one\n+3,1:one->1\n+3,1:one->2\n\n"},
+    ),
+    "a duplicate after values of several lines": creates(
+        ["-vcw", "x"],
+        file_of([(b"one", b"a\nb\n"), (b"two", b""), (b"one", b"3")]),
+        b"+3,4:one->a\nb\n\n+3,0:two->\n+3,1:one->3\n\n",
+        [again(3), "standard input: line 5: key one"],
+    ),
+    "a duplicate after a removal of several lines": creates(
+        ["-vcw", "-b", "y", "x", "n"],
+        file_of([(b"one", b"Hello"), (b"one", b"1")]),
+        b"",
+        [again(2), "n: line 3: key one"],
+        {"y": ONE_FILE, "n": b"-3:a\nb\n+3,1:one->1\n\n"},
+    ),
+    "a duplicate whose lengths begin with zeros": creates(
+        ["-vcw", "x"],
+        file_of([(b"a", b"1"), (b"a", b"2")]),
+        b"+001,0001:a->1\n+01,01:a->2\n\n",
+        [again(2), "standard input: line 2: key a"],
+    ),
+    "duplicates between lines that hold no record": creates(
+        ["-vcwm", "x", "m"],
+        file_of([(b"one", b"1"), (b"one", b"2"), (b"two", b"3"), (b"one", b"4")]),
+        b"",
+        [again(2), "m: line 7: key one", again(4), "m: line 10: key one"],
+        {"m": b"\n# a\n  one 1\n\n\t# b\n \none 2\ntwo 3\n#\none 4"},
+    ),
+    "duplicates of standard input that is read twice": creates(
+        ["-vcw", "x", "-", "m", "-"],
+        file_of([(b"a", b"1"), (b"a", b"2"), (b"a", b"3"), (b"b", b"4"), (b"a", b"5")]),
+        pairs(b"1", b"2") + b"+1,1:b->4\n+1,1:a->5\n\n",
+        [
+            again(2),
+            "standard input: line 2: key a",
+            again(1, 2),
+            "m: line 1: key a",
+            again(2, 3),
+            "standard input: line 5: key a",
+        ],
+        {"m": b"+1,1:a->3\n\n"},
+    ),
+    "a duplicate after a record longer than a window": creates(
+        ["-vcw", "x"],
+        file_of([(b"a", b"1\n" * 40000), (b"a", b"2")]),
+        text_of([(b"a", b"1\n" * 40000), (b"a", b"2")]),
+        [again(2), "standard input: line 40002: key a"],
+    ),
+    "a duplicate longer than a window": creates(
+        ["-vcw", "x"],
+        file_of([(b"a", b"1"), (b"a", b"\n" * 70000), (b"a", b"3")]),
+        text_of([(b"a", b"1"), (b"a", b"\n" * 70000), (b"a", b"3")]),
+        [again(2), "standard input: line 2: key a", again(3), "standard input: line 70003: key a"],
+    ),
+    "duplicates among lines longer than a window": creates(
+        ["-vcwm", "x"],
+        file_of([(b"a", b"1" * 70000), (b"a", b"2" * 70000), (b"a", b"3")]),
+        b"a " + b"1" * 70000 + b"\n#" + b"#" * 70000 + b"\n\na " + b"2" * 70000 + b"\n\na 3",
+        [again(2), "standard input: line 4: key a", again(3), "standard input: line 6: key a"],
+    ),
+    "duplicates in several windows": creates(
+        ["-vcw", "x", "n"],
+        file_of([*MANY, *MANY]),
+        b"",
+        [it for n, (key, _) in enumerate(MANY, 1 + len(MANY)) for it in (again(n), f"n: line {n}: key {key.decode()}")],
+        {"n": text_of([*MANY, *MANY])},
+    ),
+    "duplicates in several windows of a map": creates(
+        ["-vcwm", "x", "m"],
+        file_of([*MANY, *MANY]),
+        b"",
+        [
+            it
+            for n, (key, _) in enumerate(MANY, 1 + len(MANY))
+            for it in (again(n), f"m: line {2 * n}: key {key.decode()}")
+        ],
+        {"m": b"".join(b"#\n%s %s\n" % record for record in [*MANY, *MANY])},
     ),
 }
 CAUSES.update({f"duplicates: {name}": row for name, row in EXPLAINED.items()})

@@ -22,7 +22,7 @@ def left_by(letters):
         if is_there and letters & set("we"):
             lines.append(again(number))
             if "v" in letters:
-                lines.append(f"standard input: key {key.decode()}")
+                lines.append(f"standard input: line {number}: key {key.decode()}")
         if is_there and "e" in letters:
             return None, [*lines, STOPPED]
         if is_there and "r" in letters:

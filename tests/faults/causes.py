@@ -32,7 +32,7 @@ WORDS = {
 STANDARD = {"0": b"standard input", "1": b"standard output", "2": b"standard error"}
 # Faults of words and of memory are of no file.
 BARE = {b"cdb: bad command line, see cdb -h\n", b"cdb: no memory\n"}
-DUPLICATE = re.compile(rb"(cdb: input \d+: record \d+: duplicate key\n)cdb: [^\n]*: key [^\n]*\n")
+DUPLICATE = re.compile(rb"(cdb: input \d+: record \d+: duplicate key\n)cdb: [^\n]*: line \d+: key [^\n]*\n")
 LINES = ("write", "2")
 RUNS = {name: Command(run.words, run.stdin, run.files) for name, run in COMMANDS.items()}
 RUNS |= {f"create: {name}": Command(["-c", *it.words], b"", it.files) for name, it in names.CREATES.items()}

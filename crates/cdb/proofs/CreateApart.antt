@@ -20,7 +20,7 @@ use Rattle.cdb_store.specs.declared.store.Store.{Ghosts}
 use Rattle.cdb_tool.specs.Runs.Inputs.{InputsLeft}
 use Rattle.cdb_tool.specs.declared.fault.Fault.{Fault}
 use Rattle.cdb_tool.specs.declared.fault.Fault.TheVariants.{Open}
-use Rattle.cdb_tool.specs.Runs.Made.{Made, made_file, made_of}
+use Rattle.cdb_tool.specs.Runs.Made.{Made, made_file, made_lines, made_of}
 use Rattle.cdb.specs.Created.{Created, base_of, create_of, in_temporary, is_in_place, is_no_name, in_place, is_read, placed, unopened}
 use Rattle.cdb.specs.Creating.{IsBufferedRun, AsksAll, Making, OpensAll, Replaces, answer_of, temporary_of}
 use Rattle.cdb.specs.ForetoldCreate.{HadBytes, HoldsAll, HonestCreate, IsNoFailedRemoval, IsNoFailedRename, KeepsAll, LeavesAll, passing, place_of}
@@ -58,14 +58,14 @@ each_then : (P : NameCalls → Type 0) (later since old : NameCalls) → AtEach 
 each_then P [] since old a b = b
 each_then P (call ∷ later) since old a b = (subst (λ c. P (call ∷ c)) (sym (append_assoc later since old)) a.0, each_then P later since old a.1 b)
 
-moment_so : (w : ℕ) (disk : Disk) (temporary name : List ℕ) (made : Made) (c : Created) (was asked at : NameCalls) → temporary ≢ name → c ≡ in_temporary disk temporary name made.lines (made_file w made) made.result → was ≡ [] → Asking was asked → LeavesOldOrMade w name made asked at
+moment_so : (w : ℕ) (disk : Disk) (temporary name : List ℕ) (made : Made) (c : Created) (was asked at : NameCalls) → temporary ≢ name → c ≡ in_temporary disk temporary name (made_lines made) (made_file w made) made.result → was ≡ [] → Asking was asked → LeavesOldOrMade w name made asked at
     → (held : Option (List ℕ)) → MayHave (place_of name) (disk name) at held → (held ≡ disk name) ⊎ (held ≡ c.disk name)
 moment_so w disk temporary name made c was asked at apart is first a h held may = elim (h (disk name) held may) [
   | inl old ↦ inl (first_is (place_of name) (disk name) held was first (asked_kept was asked a (place_of name) (disk name) held old))
-  | inr new ↦ inr (new.0 ∙ sym (ap (λ (v : Created). v.disk name) is ∙ name_holds disk temporary name made.lines (made_file w made) made.result apart new.1))
+  | inr new ↦ inr (new.0 ∙ sym (ap (λ (v : Created). v.disk name) is ∙ name_holds disk temporary name (made_lines made) (made_file w made) made.result apart new.1))
 ]
 
-moment_all : (w : ℕ) (disk : Disk) (temporary name : List ℕ) (made : Made) (c : Created) (was asked at : NameCalls) → temporary ≢ name → c ≡ in_temporary disk temporary name made.lines (made_file w made) made.result → was ≡ [] → Asking was asked → LeavesOldOrMade w name made asked at → KeepsOthers temporary name asked at
+moment_all : (w : ℕ) (disk : Disk) (temporary name : List ℕ) (made : Made) (c : Created) (was asked at : NameCalls) → temporary ≢ name → c ≡ in_temporary disk temporary name (made_lines made) (made_file w made) made.result → was ≡ [] → Asking was asked → LeavesOldOrMade w name made asked at → KeepsOthers temporary name asked at
     → LeavesAll disk (Some temporary) c.disk at
 moment_all w disk t name made c was asked at apart is first a h others = λ other held out may. elim (cases_Bool (bytes_eq name other)) [
   | inl e ↦ subst (λ (x : List ℕ). MayHave (place_of x) (disk x) at held → (held ≡ disk x) ⊎ (held ≡ c.disk x)) (same_name name other e) (moment_so w disk t name made c was asked at apart is first a h held) may
@@ -73,9 +73,9 @@ moment_all w disk t name made c was asked at apart is first a h others = λ othe
       (others other (λ same. out (ap (λ (x : List ℕ). Some x) same)) (other_name name other e) (disk other) held may)))
 ]
 
-moments_so : (w : ℕ) (disk : Disk) (temporary name : List ℕ) (made : Made) (c : Created) (was asked now : NameCalls) (told said : Option (List ℕ)) (result : Result Unit Fault) → temporary ≢ name → c ≡ in_temporary disk temporary name made.lines (made_file w made) made.result → was ≡ [] → Asking was asked → ReplacesSo w temporary name made asked now told said result
+moments_so : (w : ℕ) (disk : Disk) (temporary name : List ℕ) (o : MakeOptions) (made : Made) (c : Created) (was asked now : NameCalls) (told said : Option (List ℕ)) (result : Result Unit Fault) → temporary ≢ name → c ≡ in_temporary disk temporary name (made_lines made) (made_file w made) made.result → was ≡ [] → Asking was asked → ReplacesSo w o temporary name made asked now told said result
     → AtEachMoment (LeavesAll disk (Some temporary) c.disk) was now
-moments_so w disk t name made c was asked now told said result apart is first a so =
+moments_so w disk t name o made c was asked now told said result apart is first a so =
     let P : NameCalls → Type 0 = LeavesAll disk (Some t) c.disk in
     let later : AtEach P so.since asked = each_both (LeavesOldOrMade w name made asked) (KeepsOthers t name asked) P so.since asked (λ at h others. moment_all w disk t name made c was asked at apart is first a h others) so.moments so.others in
     let before = moments_first disk c.disk (Some t) was asked first a in
@@ -123,50 +123,50 @@ gone_err t now first held (before, (file, (gone, inl e, are))) removed h =
 gone_err t now first held (before, (file, (gone, inr e, are))) removed h =
     absurd (subst (AllByRecursion IsNoFailedRemoval) (are ∙ ap (λ (g : NameCall). (g, t, [], file) ∷ before) e) removed).0
 
-replaced_holds : {M : Type 0} (m : Ghosts M) (w : ℕ) (disk : Disk) (temporary name : List ℕ) (made : Made) (c : Created) (asked now : NameCalls) (told said : Option (List ℕ)) (result : Result Unit Fault) → temporary ≢ name → c ≡ in_temporary disk temporary name made.lines (made_file w made) made.result → LeavesAll disk (Some temporary) c.disk now → ReplacesSo w temporary name made asked now told said result
+replaced_holds : {M : Type 0} (m : Ghosts M) (w : ℕ) (disk : Disk) (temporary name : List ℕ) (o : MakeOptions) (made : Made) (c : Created) (asked now : NameCalls) (told said : Option (List ℕ)) (result : Result Unit Fault) → temporary ≢ name → c ≡ in_temporary disk temporary name (made_lines made) (made_file w made) made.result → LeavesAll disk (Some temporary) c.disk now → ReplacesSo w o temporary name made asked now told said result
     → OnOk result (HoldsAll m disk name None now c)
-replaced_holds m w disk t name made c asked now told said (Err f) apart is all so = tt
-replaced_holds m w disk t name made c asked now told said (Ok done) apart is all so =
-    holds_so m disk t name c now all (λ other tn nn. ap (λ (v : Created). v.disk other) is ∙ disk_off disk t name made.lines (made_file w made) made.result other tn nn)
-    (λ held has. (let h = so.ok (disk name) held has in h.file ∙ sym (ap (λ (v : Created). v.disk name) is ∙ name_holds disk t name made.lines (made_file w made) made.result apart h.result)))
-    (λ held has. gone_ok t name now (disk t) held apart so.renamed has ∙ sym (ap (λ (v : Created). v.disk t) is ∙ disk_gone disk t name made.lines (made_file w made) made.result))
+replaced_holds m w disk t name o made c asked now told said (Err f) apart is all so = tt
+replaced_holds m w disk t name o made c asked now told said (Ok done) apart is all so =
+    holds_so m disk t name c now all (λ other tn nn. ap (λ (v : Created). v.disk other) is ∙ disk_off disk t name (made_lines made) (made_file w made) made.result other tn nn)
+    (λ held has. (let h = so.ok (disk name) held has in h.file ∙ sym (ap (λ (v : Created). v.disk name) is ∙ name_holds disk t name (made_lines made) (made_file w made) made.result apart h.result)))
+    (λ held has. gone_ok t name now (disk t) held apart so.renamed has ∙ sym (ap (λ (v : Created). v.disk t) is ∙ disk_gone disk t name (made_lines made) (made_file w made) made.result))
 
-failed_holds : {M : Type 0} (m : Ghosts M) (w : ℕ) (disk : Disk) (temporary name : List ℕ) (made : Made) (c : Created) (now : NameCalls) (f : Fault) → temporary ≢ name → c ≡ in_temporary disk temporary name made.lines (made_file w made) made.result → made.result ≡ Err f → LeavesAll disk (Some temporary) c.disk now → IsGone temporary now → AllByRecursion IsNoFailedRemoval now
+failed_holds : {M : Type 0} (m : Ghosts M) (w : ℕ) (disk : Disk) (temporary name : List ℕ) (made : Made) (c : Created) (now : NameCalls) (f : Fault) → temporary ≢ name → c ≡ in_temporary disk temporary name (made_lines made) (made_file w made) made.result → made.result ≡ Err f → LeavesAll disk (Some temporary) c.disk now → IsGone temporary now → AllByRecursion IsNoFailedRemoval now
     → HoldsAll m disk name None now c
 failed_holds m w disk t name made c now f apart is fails all gone removed =
-    let at_its : c.disk name ≡ disk name = ap (λ (v : Created). v.disk name) is ∙ disk_old disk t name made.lines (made_file w made) made.result f apart fails in
-    holds_so m disk t name c now all (λ other tn nn. ap (λ (v : Created). v.disk other) is ∙ disk_off disk t name made.lines (made_file w made) made.result other tn nn)
+    let at_its : c.disk name ≡ disk name = ap (λ (v : Created). v.disk name) is ∙ disk_old disk t name (made_lines made) (made_file w made) made.result f apart fails in
+    holds_so m disk t name c now all (λ other tn nn. ap (λ (v : Created). v.disk other) is ∙ disk_off disk t name (made_lines made) (made_file w made) made.result other tn nn)
     (λ held has. elim (all name held (λ p. apart (same_some t name p)) (has_may (place_of name) (disk name) now held has)) [ inl was ↦ was ∙ sym at_its | inr new ↦ new ])
-    (λ held has. gone_err t now (disk t) held gone removed has ∙ sym (ap (λ (v : Created). v.disk t) is ∙ disk_gone disk t name made.lines (made_file w made) made.result))
+    (λ held has. gone_err t now (disk t) held gone removed has ∙ sym (ap (λ (v : Created). v.disk t) is ∙ disk_gone disk t name (made_lines made) (made_file w made) made.result))
 
-finished_so : {M : Type 0} (m : Ghosts M) (w : ℕ) (disk : Disk) (temporary name : List ℕ) (made : Made) (c : Created) (asked now : NameCalls) (start end told said held : Option (List ℕ)) (result : Result Unit Fault) → temporary ≢ name → c ≡ in_temporary disk temporary name made.lines (made_file w made) made.result → c.lines ≡ made.lines → c.result ≡ made.result → Appends start end c.output → AppendsPrefix start end c.output
-    → LeavesAll disk (Some temporary) c.disk now → Has (place_of name) (disk name) now held → ReplacesSo w temporary name made asked now told said result → HadBytes temporary now → Came m disk name c now None start end told said result
-finished_so m w disk t name made c asked now start end told said held (Ok done) apart is lines ends whole part all has so had =
+finished_so : {M : Type 0} (m : Ghosts M) (w : ℕ) (disk : Disk) (temporary name : List ℕ) (o : MakeOptions) (made : Made) (c : Created) (asked now : NameCalls) (start end told said held : Option (List ℕ)) (result : Result Unit Fault) → temporary ≢ name → c ≡ in_temporary disk temporary name (made_lines made) (made_file w made) made.result → c.lines ≡ (made_lines made) → c.result ≡ made.result → Appends start end c.output → AppendsPrefix start end c.output
+    → LeavesAll disk (Some temporary) c.disk now → Has (place_of name) (disk name) now held → ReplacesSo w o temporary name made asked now told said result → HadBytes temporary now → Came m disk name o c now None start end told said result
+finished_so m w disk t name o made c asked now start end told said held (Ok done) apart is lines ends whole part all has so had =
     let h = so.ok (disk name) held has in
-    inl (record { is = sym (ends ∙ h.result); output = whole; lines = subst (Appends told said) (sym lines) h.lines }, λ removed. replaced_holds m w disk t name made c asked now told said (Ok tt) apart is all so)
-finished_so m w disk t name made c asked now start end told said held (Err f) apart is lines ends whole part all has so had = elim (so.err had) [
+    inl (record { is = sym (ends ∙ h.result); output = whole; lines = λ plain. subst (Appends told said) (sym lines) (h.lines plain) }, λ removed. replaced_holds m w disk t name o made c asked now told said (Ok tt) apart is all so)
+finished_so m w disk t name o made c asked now start end told said held (Err f) apart is lines ends whole part all has so had = elim (so.err had) [
   | inl e ↦ inl (
-    record { is = e.0.is ∙ sym ends; output = whole; lines = subst (Appends told said) (sym lines) e.0.lines },
+    record { is = e.0.is ∙ sym ends; output = whole; lines = λ plain. subst (Appends told said) (sym lines) (e.0.lines plain) },
     λ removed. failed_holds m w disk t name made c now f apart is (sym e.0.is) all e.1 removed,
   )
-  | inr r ↦ inr (record { fault = f; is = refl; refusal = r.refusal; output = part; lines = subst (AppendsPrefix told said) (sym lines) r.lines })
+  | inr r ↦ inr (record { fault = f; is = refl; refusal = r.refusal; output = part; lines = λ plain. subst (AppendsPrefix told said) (sym lines) (r.lines plain) })
 ]
 
-finished : {M : Type 0} (m : Ghosts M) (w : ℕ) (disk : Disk) (temporary name : List ℕ) (made : Made) (c : Created) (asked now : NameCalls) (start end told said held : Option (List ℕ)) (result : Result Unit Fault) → temporary ≢ name → c ≡ in_temporary disk temporary name made.lines (made_file w made) made.result → Keeps start end → LeavesAll disk (Some temporary) c.disk now → Has (place_of name) (disk name) now held
-    → ReplacesSo w temporary name made asked now told said result → HadBytes temporary now → Came m disk name c now None start end told said result
-finished m w disk t name made c asked now start end told said held result apart is kept all has so had =
-    let lines : c.lines ≡ made.lines = ap (λ (v : Created). v.lines) is ∙ lines_of disk t name made.lines (made_file w made) made.result in
-    let ends : c.result ≡ made.result = ap (λ (v : Created). v.result) is ∙ result_of disk t name made.lines (made_file w made) made.result in
-    let written : c.output ≡ [] = ap (λ (v : Created). v.output) is ∙ output_of disk t name made.lines (made_file w made) made.result in
-    finished_so m w disk t name made c asked now start end told said held result apart is lines ends (subst (Appends start end) (sym written) (none_appended start end kept)) (said_nothing start end c.output kept) all has so had
+finished : {M : Type 0} (m : Ghosts M) (w : ℕ) (disk : Disk) (temporary name : List ℕ) (o : MakeOptions) (made : Made) (c : Created) (asked now : NameCalls) (start end told said held : Option (List ℕ)) (result : Result Unit Fault) → temporary ≢ name → c ≡ in_temporary disk temporary name (made_lines made) (made_file w made) made.result → Keeps start end → LeavesAll disk (Some temporary) c.disk now → Has (place_of name) (disk name) now held
+    → ReplacesSo w o temporary name made asked now told said result → HadBytes temporary now → Came m disk name o c now None start end told said result
+finished m w disk t name o made c asked now start end told said held result apart is kept all has so had =
+    let lines : c.lines ≡ (made_lines made) = ap (λ (v : Created). v.lines) is ∙ lines_of disk t name (made_lines made) (made_file w made) made.result in
+    let ends : c.result ≡ made.result = ap (λ (v : Created). v.result) is ∙ result_of disk t name (made_lines made) (made_file w made) made.result in
+    let written : c.output ≡ [] = ap (λ (v : Created). v.output) is ∙ output_of disk t name (made_lines made) (made_file w made) made.result in
+    finished_so m w disk t name o made c asked now start end told said held result apart is lines ends (subst (Appends start end) (sym written) (none_appended start end kept)) (said_nothing start end c.output kept) all has so had
 
 others_at : (since asked now : NameCalls) (temporary name : List ℕ) → now ≡ since ++ asked → AtEach (KeepsOthers temporary name asked) since asked → KeepsOthers temporary name asked now
 others_at since asked now t name e h = last_moment (KeepsOthers t name asked) since asked now e h
 
 -- after a fault, with no rename done or tried, each other name has what it had
-failed_so : (w : ℕ) (disk : Disk) (temporary name : List ℕ) (made : Made) (was asked now : NameCalls) (told said : Option (List ℕ)) (result : Result Unit Fault) → was ≡ [] → Asking was asked → ReplacesSo w temporary name made asked now told said result → OnErr result (AllByRecursion IsNoFailedRename now → KeepsAll disk (Some temporary) now)
-failed_so w disk t name made was asked now told said (Ok done) first a so = tt
-failed_so w disk t name made was asked now told said (Err f) first a so = λ tried other held out h.
+failed_so : (w : ℕ) (disk : Disk) (temporary name : List ℕ) (o : MakeOptions) (made : Made) (was asked now : NameCalls) (told said : Option (List ℕ)) (result : Result Unit Fault) → was ≡ [] → Asking was asked → ReplacesSo w o temporary name made asked now told said result → OnErr result (AllByRecursion IsNoFailedRename now → KeepsAll disk (Some temporary) now)
+failed_so w disk t name o made was asked now told said (Ok done) first a so = tt
+failed_so w disk t name o made was asked now told said (Err f) first a so = λ tried other held out h.
     (let may = has_may (place_of other) (disk other) now held h in
     let before : MayHave (place_of other) (disk other) asked held = elim (cases_Bool (bytes_eq name other)) [
       | inl e ↦ (let same = same_name name other e in
@@ -181,7 +181,7 @@ passing_temporary name temporary standard in_place = cond-false (is_standard nam
 named_so : {F I M R Y : Type 0} (s : Ghosts F) (m : Ghosts M) (remaining : I → Option (List ℕ)) (y : Systems Y F I M) (r : Raw R) (w g : ℕ) (disk : Disk) (input name : List ℕ) (base : Option (List ℕ)) (inputs : List (List ℕ)) (temporary : Option (List ℕ)) (o : MakeOptions) (given : Option (List ℕ)) (old mid new : OpenCalls) (file read : Option F) (left : InputsLeft) (was asked now : NameCalls) (start end told said : Option (List ℕ)) (result : Result Unit Fault)
     → is_standard name ≡ false → is_in_place name temporary ≡ false → is_no_name name ≡ false → (file ≡ None → read ≡ None) → HonestCreate s remaining y disk input inputs given old new read name was now → OpensAll y remaining base inputs given old mid file left → new ≡ mid → Keeps start end → AsksAll (temporary_of name temporary) base inputs was asked
     → Replaces s r (record { word = w; greatest = g; options = o; base = file; inputs = left }) (temporary_of name temporary) name asked now read told said result
-    → CreateSo m disk name temporary (create_of w g disk input name base inputs temporary o) was now None start end told said result
+    → CreateSo m disk name temporary o (create_of w g disk input name base inputs temporary o) was now None start end told said result
 named_so s m remaining y r w g disk input name base inputs temporary o given old mid new file read left was asked now start end told said result standard in_place named none honest opens same kept asks replaces =
     let t = temporary_of name temporary in
     let known = all_known_by s remaining y disk input base inputs given read file left old mid new honest.calls honest.bytes none honest.reads opens ([], same) honest.are honest.answered in
@@ -193,12 +193,12 @@ named_so s m remaining y r w g disk input name base inputs temporary o given old
     let zero : renames asked ≡ 0 = question.renamed ∙ ap renames honest.first in
     let mk : Making _ = record { word = w; greatest = g; options = o; base = file; inputs = left } in
     let so = replaces_so s r mk known.old known.files input t name asked now read told said result apart zero known.has known.known replaces in
-    let moments = moments_so w disk t name made _ was asked now told said result apart is honest.first (asking_all t base inputs was asked asks) so in
+    let moments = moments_so w disk t name o made _ was asked now told said result apart is honest.first (asking_all t base inputs was asked asks) so in
     let all = last_leaves disk _ (Some t) was now moments in
     record {
-      answer = λ had has. finished m w disk t name made _ asked now start end told said honest.held result apart is kept all honest.has so had;
-      done = replaced_holds m w disk t name made _ asked now told said result apart is all so;
-      failed = subst (λ out. OnErr result (AllByRecursion IsNoFailedRename now → KeepsAll disk out now)) (sym (passing_temporary name temporary standard in_place)) (failed_so w disk t name made was asked now told said result honest.first (asking_all t base inputs was asked asks) so);
+      answer = λ had has. finished m w disk t name o made _ asked now start end told said honest.held result apart is kept all honest.has so had;
+      done = replaced_holds m w disk t name o made _ asked now told said result apart is all so;
+      failed = subst (λ out. OnErr result (AllByRecursion IsNoFailedRename now → KeepsAll disk out now)) (sym (passing_temporary name temporary standard in_place)) (failed_so w disk t name o made was asked now told said result honest.first (asking_all t base inputs was asked asks) so);
       moments = subst (λ out. AtEachMoment (LeavesAll disk out (create_of w g disk input name base inputs temporary o).disk) was now) (sym (passing_temporary name temporary standard in_place)) moments;
     }
 
@@ -241,22 +241,22 @@ silent_so s r mk t name asked now back told said answer a same is (inr some) =
 -- nothing is done for it
 no_name_so : {F M R : Type 0} (s : Ghosts F) (m : Ghosts M) (r : Raw R) (w g : ℕ) (disk : Disk) (input name : List ℕ) (base : Option (List ℕ)) (inputs : List (List ℕ)) (temporary : Option (List ℕ)) (o : MakeOptions) (mk : Making F) (read : Option F) (was asked now : NameCalls) (start end told said : Option (List ℕ)) (result : Result Unit Fault)
     → is_standard name ≡ false → is_in_place name temporary ≡ false → is_no_name name ≡ true → was ≡ [] → Keeps start end → AsksAll (temporary_of name temporary) base inputs was asked → Replaces s r mk (temporary_of name temporary) name asked now read told said result
-    → CreateSo m disk name temporary (create_of w g disk input name base inputs temporary o) was now None start end told said result
+    → CreateSo m disk name temporary o (create_of w g disk input name base inputs temporary o) was now None start end told said result
 no_name_so s m r w g disk input name base inputs temporary o mk read was asked now start end told said result standard in_place is first kept asks replaces =
     let c = create_of w g disk input name base inputs temporary o in
     let a = asking_all (temporary_of name temporary) base inputs was asked asks in
     elim replaces.no_name [
       | inl named ↦ absurd (named (no_name_is name is))
       | inr ended ↦ (let silent = silent_so s r mk (temporary_of name temporary) name asked now read told said replaces.answer (subst (λ v. Asking v asked) first a) ended.1 ended.0 replaces.lines in
-          subst (CreateSo m disk name temporary c was now None start end told said) (sym (replaces.answered ∙ ap answer_of ended.0))
-          (ends_early m c disk name temporary was now start end told said Open first (subst (λ v. Asking was v) (sym ended.1) a)
-          (open_so c disk start end told said (no_name_unopened w g disk input name base inputs temporary o standard in_place is) (kept, silent))))
+          subst (CreateSo m disk name temporary o c was now None start end told said) (sym (replaces.answered ∙ ap answer_of ended.0))
+          (ends_early m o c disk name temporary was now start end told said Open first (subst (λ v. Asking was v) (sym ended.1) a)
+          (open_so o c disk start end told said (no_name_unopened w g disk input name base inputs temporary o standard in_place is) (kept, silent))))
     ]
 
 pub replacing_so : {F I M R Y : Type 0} (s : Ghosts F) (m : Ghosts M) (remaining : I → Option (List ℕ)) (y : Systems Y F I M) (r : Raw R) (w g : ℕ) (disk : Disk) (input name : List ℕ) (base : Option (List ℕ)) (inputs : List (List ℕ)) (temporary : Option (List ℕ)) (o : MakeOptions) (given : Option (List ℕ)) (old mid new : OpenCalls) (file read : Option F) (left : InputsLeft) (was asked now : NameCalls) (start end told said : Option (List ℕ)) (result : Result Unit Fault)
     → is_standard name ≡ false → is_in_place name temporary ≡ false → (file ≡ None → read ≡ None) → HonestCreate s remaining y disk input inputs given old new read name was now → OpensAll y remaining base inputs given old mid file left → new ≡ mid → Keeps start end → AsksAll (temporary_of name temporary) base inputs was asked
     → Replaces s r (record { word = w; greatest = g; options = o; base = file; inputs = left }) (temporary_of name temporary) name asked now read told said result
-    → CreateSo m disk name temporary (create_of w g disk input name base inputs temporary o) was now None start end told said result
+    → CreateSo m disk name temporary o (create_of w g disk input name base inputs temporary o) was now None start end told said result
 replacing_so s m remaining y r w g disk input name base inputs temporary o given old mid new file read left was asked now start end told said result standard in_place none honest opens same kept asks replaces = elim (cases_Bool (is_no_name name)) [
   | inl is ↦ no_name_so s m r w g disk input name base inputs temporary o (record { word = w; greatest = g; options = o; base = file; inputs = left }) read was asked now start end told said result standard in_place is honest.first kept asks replaces
   | inr named ↦ named_so s m remaining y r w g disk input name base inputs temporary o given old mid new file read left was asked now start end told said result standard in_place named none honest opens same kept asks replaces

@@ -22,7 +22,7 @@ use Rattle.cdb_tool.specs.Runs.Inputs.{InputsLeft}
 use Rattle.cdb_tool.specs.Runs.Make.{HandsBack}
 use Rattle.cdb_tool.specs.declared.fault.Fault.{Fault}
 use Rattle.cdb_tool.specs.declared.fault.Fault.TheVariants.{NoMemory, Open}
-use Rattle.cdb_tool.specs.Runs.Made.{Made, made_file, made_of}
+use Rattle.cdb_tool.specs.Runs.Made.{Made, made_file, made_lines, made_of}
 use Rattle.cdb.specs.Created.{Created, base_of, create_of, if_opened, in_temporary, is_base, is_in_place, is_input, is_no_name, in_place, is_read, placed, unopened}
 use Rattle.cdb.specs.Creating.{AsksBase, AsksOne, FindsBase, FindsInput, FindsOne, Making, MayBeOne, NotOpened, Replaces, temporary_of}
 use Rattle.cdb.specs.Foretold.{IsAnswered, if_some}
@@ -32,14 +32,14 @@ use Rattle.cdb.specs.Opening.{OpenCalls, unopened as unopened_fault}
 use Rattle.cdb.specs.Oracle.{Disk, both, each_of, input_of, inputs_of, is_standard}
 use Rattle.cdb.specs.declared.open_trace.OpenCall.TheVariants.{Unopened}
 use Rattle.cdb.specs.declared.system.System.{Ghosts as Systems}
-use Rattle.cdb.proofs.Replaced.{none_appended, said_nothing}
+use Rattle.cdb.proofs.Replaced.{IsPlain, none_appended, said_nothing}
 use Rattle.cdb.proofs.CreateReads.{AllKnown, Asking, all_back, asked_kept, base_grows, grows, moments_first, read_input, standard_not}
 
 -- ---- the oracle
 
 -- it is made in its temporary file of all that is read
 pub oracle_is : {F : Type 0} (s : Ghosts F) (w g : ℕ) (disk : Disk) (input name : List ℕ) (base : Option (List ℕ)) (inputs : List (List ℕ)) (temporary : Option (List ℕ)) (o : MakeOptions) (read : Option F) (left : InputsLeft) → (k : AllKnown s disk base inputs input read left) → is_standard name ≡ false → is_in_place name temporary ≡ false → is_read (temporary_of name temporary) base inputs ≡ false → is_no_name name ≡ false
-    → (made : Made) → made ≡ made_of w g o k.old k.files input → create_of w g disk input name base inputs temporary o ≡ in_temporary disk (temporary_of name temporary) name made.lines (made_file w made) made.result
+    → (made : Made) → made ≡ made_of w g o k.old k.files input → create_of w g disk input name base inputs temporary o ≡ in_temporary disk (temporary_of name temporary) name (made_lines made) (made_file w made) made.result
 oracle_is s w g disk input name base inputs temporary o read left k standard placed_in other named made is =
     let f : Option (List ℕ) → List (Option (List ℕ)) → Created = λ old files. placed w disk name base inputs temporary (made_of w g o old files input) in
     let m = made_of w g o k.old k.files input in
@@ -48,7 +48,7 @@ oracle_is s w g disk input name base inputs temporary o read left k standard pla
     ∙ cond-false (is_standard name) _ _ standard
     ∙ cond-false (is_in_place name temporary) _ _ placed_in
     ∙ cond-false (is_read (temporary_of name temporary) base inputs || is_no_name name) _ _ (or_from _ _ other named)
-    ∙ ap (λ v. in_temporary disk (temporary_of name temporary) name v.lines (made_file w v) v.result) (sym is)
+    ∙ ap (λ v. in_temporary disk (temporary_of name temporary) name (made_lines v) (made_file w v) v.result) (sym is)
 
 -- what it says of the name
 pub name_holds : (disk : Disk) (temporary name lines file : List ℕ) (result : Result Unit Fault) → temporary ≢ name → result ≡ Ok tt → (in_temporary disk temporary name lines file result).disk name ≡ Some file
@@ -68,25 +68,25 @@ result_of disk temporary name lines file (Err f) = refl
 -- ---- what comes of a create
 
 -- it came to what was said, or a refusal was reported
-pub record CameTrue (c : Created) (start end told said : Option (List ℕ)) (result : Result Unit Fault) : Type 0 where
+pub record CameTrue (o : MakeOptions) (c : Created) (start end told said : Option (List ℕ)) (result : Result Unit Fault) : Type 0 where
   pub is : result ≡ c.result
   pub output : Appends start end c.output
-  pub lines : Appends told said c.lines
+  pub lines : IsPlain o → Appends told said c.lines
 
-pub record GaveUp (c : Created) (start end told said : Option (List ℕ)) (result : Result Unit Fault) : Type 0 where
+pub record GaveUp (o : MakeOptions) (c : Created) (start end told said : Option (List ℕ)) (result : Result Unit Fault) : Type 0 where
   pub fault : Fault
   pub is : result ≡ Err fault
   pub refusal : IsCreateRefusal fault
   pub output : AppendsPrefix start end c.output
-  pub lines : AppendsPrefix told said c.lines
+  pub lines : IsPlain o → AppendsPrefix told said c.lines
 
 -- and so did the disk
-abbrev pub Came : {M : Type 0} → Ghosts M → Disk → (name : List ℕ) → Created → NameCalls → Option M → (start end told said : Option (List ℕ)) → Result Unit Fault → Type 0
-Came m disk name c now made start end told said result =
-    (CameTrue c start end told said result × (AllByRecursion IsNoFailedRemoval now → HoldsAll m disk name made now c)) ⊎ GaveUp c start end told said result
+abbrev pub Came : {M : Type 0} → Ghosts M → Disk → (name : List ℕ) → MakeOptions → Created → NameCalls → Option M → (start end told said : Option (List ℕ)) → Result Unit Fault → Type 0
+Came m disk name o c now made start end told said result =
+    (CameTrue o c start end told said result × (AllByRecursion IsNoFailedRemoval now → HoldsAll m disk name made now c)) ⊎ GaveUp o c start end told said result
 
-pub record CreateSo {M : Type 0} (m : Ghosts M) (disk : Disk) (name : List ℕ) (temporary : Option (List ℕ)) (c : Created) (was now : NameCalls) (made : Option M) (start end told said : Option (List ℕ)) (result : Result Unit Fault) : Type 0 where
-  pub answer : HadBytes (temporary_of name temporary) now → HasBytes m made → Came m disk name c now made start end told said result
+pub record CreateSo {M : Type 0} (m : Ghosts M) (disk : Disk) (name : List ℕ) (temporary : Option (List ℕ)) (o : MakeOptions) (c : Created) (was now : NameCalls) (made : Option M) (start end told said : Option (List ℕ)) (result : Result Unit Fault) : Type 0 where
+  pub answer : HadBytes (temporary_of name temporary) now → HasBytes m made → Came m disk name o c now made start end told said result
   pub done : OnOk result (HoldsAll m disk name made now c)
   pub failed : OnErr result (AllByRecursion IsNoFailedRename now → KeepsAll disk (passing name temporary) now)
   pub moments : AtEachMoment (LeavesAll disk (passing name temporary) c.disk) was now
@@ -159,12 +159,12 @@ holds_first m disk name c was now first a same = λ other held sure h. has_first
 -- ---- nothing was made
 
 -- a file cannot be opened, as was said; or a refusal
-abbrev EndsEarly : Created → Disk → (start end told said : Option (List ℕ)) → Fault → Type 0
-EndsEarly c disk start end told said fault = (CameTrue c start end told said (Err fault) × (c ≡ unopened disk)) ⊎ GaveUp c start end told said (Err fault)
+abbrev EndsEarly : MakeOptions → Created → Disk → (start end told said : Option (List ℕ)) → Fault → Type 0
+EndsEarly o c disk start end told said fault = (CameTrue o c start end told said (Err fault) × (c ≡ unopened disk)) ⊎ GaveUp o c start end told said (Err fault)
 
-pub ends_early : {M : Type 0} (m : Ghosts M) (c : Created) (disk : Disk) (name : List ℕ) (temporary : Option (List ℕ)) (was now : NameCalls) (start end told said : Option (List ℕ)) (fault : Fault) → was ≡ [] → Asking was now → EndsEarly c disk start end told said fault
-    → CreateSo m disk name temporary c was now None start end told said (Err fault)
-ends_early m c disk name temporary was now start end told said fault first a h = record {
+pub ends_early : {M : Type 0} (m : Ghosts M) (o : MakeOptions) (c : Created) (disk : Disk) (name : List ℕ) (temporary : Option (List ℕ)) (was now : NameCalls) (start end told said : Option (List ℕ)) (fault : Fault) → was ≡ [] → Asking was now → EndsEarly o c disk start end told said fault
+    → CreateSo m disk name temporary o c was now None start end told said (Err fault)
+ends_early m o c disk name temporary was now start end told said fault first a h = record {
   answer = λ had has. elim h [
     | inl so ↦ inl (so.0, λ removed. holds_first m disk name c was now first a (λ other. ap (λ (v : Created). v.disk other) so.1))
     | inr gave ↦ inr gave
@@ -174,25 +174,25 @@ ends_early m c disk name temporary was now start end told said fault first a h =
   moments = moments_first disk c.disk (passing name temporary) was now first a;
 }
 
-pub open_so : (c : Created) (disk : Disk) (start end told said : Option (List ℕ)) → c ≡ unopened disk → Keeps start end × Keeps told said → EndsEarly c disk start end told said Open
-open_so c disk start end told said e k = inl (
+pub open_so : (o : MakeOptions) (c : Created) (disk : Disk) (start end told said : Option (List ℕ)) → c ≡ unopened disk → Keeps start end × Keeps told said → EndsEarly o c disk start end told said Open
+open_so o c disk start end told said e k = inl (
   record {
     is = sym (ap (λ (v : Created). v.result) e);
     output = subst (Appends start end) (sym (ap (λ (v : Created). v.output) e)) (none_appended start end k.0);
-    lines = subst (Appends told said) (sym (ap (λ (v : Created). v.lines) e)) (none_appended told said k.1);
+    lines = λ plain. subst (Appends told said) (sym (ap (λ (v : Created). v.lines) e)) (none_appended told said k.1);
   },
   e,
 )
 
-pub refused_early : (c : Created) (disk : Disk) (start end told said : Option (List ℕ)) (fault : Fault) → IsCreateRefusal fault → Keeps start end × Keeps told said → EndsEarly c disk start end told said fault
-refused_early c disk start end told said fault is k = inr (record { fault = fault; is = refl; refusal = is; output = said_nothing start end c.output k.0; lines = said_nothing told said c.lines k.1 })
+pub refused_early : (o : MakeOptions) (c : Created) (disk : Disk) (start end told said : Option (List ℕ)) (fault : Fault) → IsCreateRefusal fault → Keeps start end × Keeps told said → EndsEarly o c disk start end told said fault
+refused_early o c disk start end told said fault is k = inr (record { fault = fault; is = refl; refusal = is; output = said_nothing start end c.output k.0; lines = λ plain. said_nothing told said c.lines k.1 })
 
-pub memory_so : (c : Created) (disk : Disk) (start end told said : Option (List ℕ)) (fault : Fault) → fault ≡ NoMemory → Keeps start end × Keeps told said → EndsEarly c disk start end told said fault
-memory_so c disk start end told said fault e k = refused_early c disk start end told said fault (subst IsCreateRefusal (sym e) tt) k
+pub memory_so : (o : MakeOptions) (c : Created) (disk : Disk) (start end told said : Option (List ℕ)) (fault : Fault) → fault ≡ NoMemory → Keeps start end × Keeps told said → EndsEarly o c disk start end told said fault
+memory_so o c disk start end told said fault e k = refused_early o c disk start end told said fault (subst IsCreateRefusal (sym e) tt) k
 
-missed_why : (c : Created) (disk : Disk) (start end told said : Option (List ℕ)) (fault : Fault) (cause : NameFault) → fault ≡ unopened_fault cause → (cause ≡ why.Failed → c ≡ unopened disk) → Keeps start end × Keeps told said → EndsEarly c disk start end told said fault
-missed_why c disk start end told said fault why.Failed e h k = subst (λ f. EndsEarly c disk start end told said f) (sym e) (open_so c disk start end told said (h refl) k)
-missed_why c disk start end told said fault why.NoMemory e h k = memory_so c disk start end told said fault e k
+missed_why : (o : MakeOptions) (c : Created) (disk : Disk) (start end told said : Option (List ℕ)) (fault : Fault) (cause : NameFault) → fault ≡ unopened_fault cause → (cause ≡ why.Failed → c ≡ unopened disk) → Keeps start end × Keeps told said → EndsEarly o c disk start end told said fault
+missed_why o c disk start end told said fault why.Failed e h k = subst (λ f. EndsEarly o c disk start end told said f) (sym e) (open_so o c disk start end told said (h refl) k)
+missed_why o c disk start end told said fault why.NoMemory e h k = memory_so o c disk start end told said fault e k
 
 -- ---- what was not opened
 
@@ -233,25 +233,25 @@ input_missing disk name other e = cond-false (is_standard name) _ _ (standard_no
 
 base_missed : {F I M Y : Type 0} (s : Ghosts F) (remaining : I → Option (List ℕ)) (y : Systems Y F I M) (w g : ℕ) (disk : Disk) (input name : List ℕ) (base : Option (List ℕ)) (inputs : List (List ℕ)) (temporary : Option (List ℕ)) (o : MakeOptions) (old new calls : OpenCalls) (read : Option F) (start end told said : Option (List ℕ)) (fault : Fault)
     → new ≡ calls ++ old → AllByRecursion (λ c. IsAnswered s remaining y disk (if_some read) c.0 c.1) calls → MissesBase base old new fault → Keeps start end × Keeps told said
-    → EndsEarly (create_of w g disk input name base inputs temporary o) disk start end told said fault
+    → EndsEarly o (create_of w g disk input name base inputs temporary o) disk start end told said fault
 base_missed s remaining y w g disk input name None inputs temporary o old new calls read start end told said fault e all h k = absurd h
 base_missed s remaining y w g disk input name (Some base) inputs temporary o old new calls read start end told said fault e all h k =
-    missed_why _ disk start end told said fault h.why h.is (λ failed. no_base w g disk input name (Some base) inputs temporary o
+    missed_why o _ disk start end told said fault h.why h.is (λ failed. no_base w g disk input name (Some base) inputs temporary o
     (ap (option_map (λ b. Some b)) (head_answered s remaining y disk read old old new calls h.why h.found base e ([], refl) h.calls all failed))) k
 
 pub not_opened_so : {F I M Y : Type 0} (s : Ghosts F) (remaining : I → Option (List ℕ)) (y : Systems Y F I M) (w g : ℕ) (disk : Disk) (input name : List ℕ) (base : Option (List ℕ)) (inputs : List (List ℕ)) (temporary : Option (List ℕ)) (o : MakeOptions) (old new calls : OpenCalls) (read : Option F) (start end told said : Option (List ℕ)) (fault : Fault)
     → new ≡ calls ++ old → AllByRecursion (λ c. IsAnswered s remaining y disk (if_some read) c.0 c.1) calls → NotOpened y base inputs old new read fault → Keeps start end × Keeps told said
-    → EndsEarly (create_of w g disk input name base inputs temporary o) disk start end told said fault
+    → EndsEarly o (create_of w g disk input name base inputs temporary o) disk start end told said fault
 not_opened_so s remaining y w g disk input name base inputs temporary o old new calls read start end told said fault e all h k = elim h.calls [
   | inl missed ↦ base_missed s remaining y w g disk input name base inputs temporary o old new calls read start end told said fault e all missed.0 k
   | inr stopped ↦ elim stopped.2.last [
-    | inl memory ↦ memory_so _ disk start end told said fault memory.1 k
+    | inl memory ↦ memory_so o _ disk start end told said fault memory.1 k
     | inr missed ↦ (let stops = stopped.2 in
         let m = missed.3.1 in
         let before = base_grows y base read old stopped.0 stopped.1 in
         let opened = grows y stops.opened stops.turns stopped.0 stops.mid stops.opens in
         let since : stops.mid ≡ (opened.0 ++ before.0) ++ old = opened.1 ∙ ap (λ c. opened.0 ++ c) before.1 ∙ sym (append_assoc opened.0 before.0 old) in
-        missed_why _ disk start end told said fault m.why m.is (λ failed. no_inputs w g disk input name base inputs temporary o
+        missed_why o _ disk start end told said fault m.why m.is (λ failed. no_inputs w g disk input name base inputs temporary o
         (missing_inputs disk inputs stops.opened missed.0 missed.1 (stops.are ∙ ap (λ l. stops.opened ++ l) missed.2)
         (input_missing disk missed.0 missed.3.0 (head_answered s remaining y disk read old stops.mid new calls m.why m.found missed.0 e (opened.0 ++ before.0, since) m.calls all failed)))) k)
   ]

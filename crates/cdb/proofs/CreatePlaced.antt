@@ -18,7 +18,7 @@ use Rattle.cdb_store.specs.declared.store.Store.{Ghosts}
 use Rattle.cdb_tool.specs.Runs.Inputs.{InputsLeft}
 use Rattle.cdb_tool.specs.declared.fault.Fault.{Fault}
 use Rattle.cdb_tool.specs.declared.fault.Fault.TheVariants.{Make}
-use Rattle.cdb_tool.specs.Runs.Made.{Made, made_file, made_of}
+use Rattle.cdb_tool.specs.Runs.Made.{Made, made_file, made_lines, made_of}
 use Rattle.cdb_tool.specs.Runs.MakesSo.{Known}
 use Rattle.cdb.specs.Created.{Created, base_of, create_of, if_opened, is_in_place, in_place, is_read, on_output, placed, unopened}
 use Rattle.cdb.specs.Creating.{HasDatabase, IsBufferedRun, IsRun, MakesEmptied, MakesOnOutput, Syncs, WritesAll, AsksAll, Making, OpensAll}
@@ -28,14 +28,14 @@ use Rattle.cdb.specs.Oracle.{Disk, both, inputs_of, is_standard}
 use Rattle.cdb.specs.declared.open_trace.OpenCall.TheVariants.{Emptied, Locked, ToEmpty}
 use Rattle.cdb.specs.declared.system.System.{Ghosts as Systems}
 use Rattle.cdb.specs.declared.left.Left.{Left}
-use Rattle.cdb.proofs.Replaced.{BaseHas, EndsSo, WasRefused, database_is, made_here, ran_err, ran_ok, whole_lines, none_appended, said_nothing}
+use Rattle.cdb.proofs.Replaced.{BaseHas, EndsSo, IsPlain, WasRefused, database_is, made_here, ran_err, ran_ok, whole_lines, none_appended, said_nothing}
 use Rattle.cdb.proofs.CreateReads.{AllKnown, Asking, all_known_by, asked_all, asking_all, asking_none, moments_first}
 use Rattle.cdb.proofs.CreateEnds.{Came, CameTrue, CreateSo, GaveUp, constant, hands_none, has_first, holds_first, keeps_first, same_name}
 
 -- ---- in place
 
 in_place_is : {F : Type 0} (s : Ghosts F) (w g : ℕ) (disk : Disk) (input name : List ℕ) (base : Option (List ℕ)) (inputs : List (List ℕ)) (temporary : Option (List ℕ)) (o : MakeOptions) (read : Option F) (left : InputsLeft) → (k : AllKnown s disk base inputs input read left) → is_standard name ≡ false → is_in_place name temporary ≡ true → is_read name base inputs ≡ false
-    → (made : Made) → made ≡ made_of w g o k.old k.files input → create_of w g disk input name base inputs temporary o ≡ in_place disk name made.lines (made_file w made) made.result
+    → (made : Made) → made ≡ made_of w g o k.old k.files input → create_of w g disk input name base inputs temporary o ≡ in_place disk name (made_lines made) (made_file w made) made.result
 in_place_is s w g disk input name base inputs temporary o read left k standard placed_in other made is =
     let f : Option (List ℕ) → List (Option (List ℕ)) → Created = λ old files. placed w disk name base inputs temporary (made_of w g o old files input) in
     ap (λ x. if_opened disk (both f x (inputs_of disk inputs))) k.base_is
@@ -43,7 +43,7 @@ in_place_is s w g disk input name base inputs temporary o read left k standard p
     ∙ cond-false (is_standard name) _ _ standard
     ∙ cond-true (is_in_place name temporary) _ _ placed_in
     ∙ cond-false (is_read name base inputs) _ _ other
-    ∙ ap (λ v. in_place disk name v.lines (made_file w v) v.result) (sym is)
+    ∙ ap (λ v. in_place disk name (made_lines v) (made_file w v) v.result) (sym is)
 
 pub in_place_unopened : (w g : ℕ) (disk : Disk) (input name : List ℕ) (base : Option (List ℕ)) (inputs : List (List ℕ)) (temporary : Option (List ℕ)) (o : MakeOptions) → is_standard name ≡ false → is_in_place name temporary ≡ true → is_read name base inputs ≡ true
     → create_of w g disk input name base inputs temporary o ≡ unopened disk
@@ -80,13 +80,13 @@ store_new images file ok None each h = absurd h
 store_new images file ok (Some b) each h = (ap (λ (z : List ℕ). Some z) (each b h).0, (each b h).1)
 
 place_holds : {F M : Type 0} (s : Ghosts F) (m : Ghosts M) (disk : Disk) (name : List ℕ) (mk : Making F) (x : Option (List ℕ)) (files : List (Option (List ℕ))) (input : List ℕ) (back : Option F) (last : M) (c : Created) (was now : NameCalls) → was ≡ [] → Asking was now → BaseHas s back x → Known files input mk.inputs
-    → c ≡ in_place disk name (made_here mk x files input).lines (made_file mk.word (made_here mk x files input)) (made_here mk x files input).result → HasDatabase s mk back (m.image last) → HoldsAll m disk name (Some last) now c
+    → c ≡ in_place disk name (made_lines (made_here mk x files input)) (made_file mk.word (made_here mk x files input)) (made_here mk x files input).result → HasDatabase s mk back (m.image last) → HoldsAll m disk name (Some last) now c
 place_holds s m disk name mk x files input back last c was now first a has known is database = λ other held sure h. elim h [
   | inl here ↦ (let v = made_here mk x files input in
       let new = store_new (m.image last) (made_file mk.word v) (v.result ≡ Ok tt) held (λ b k. database_is s mk back x files input b has known (database b k)) here.1 in
-      new.0 ∙ sym (ap (λ (v : Created). v.disk other) is ∙ place_its disk name v.lines (made_file mk.word v) other v.result new.1 here.0))
+      new.0 ∙ sym (ap (λ (v : Created). v.disk other) is ∙ place_its disk name (made_lines v) (made_file mk.word v) other v.result new.1 here.0))
   | inr there ↦ (let v = made_here mk x files input in
-      has_first disk was now first a other held there.1 ∙ sym (ap (λ (v : Created). v.disk other) is ∙ place_off disk name v.lines (made_file mk.word v) other v.result there.0))
+      has_first disk was now first a other held there.1 ∙ sym (ap (λ (v : Created). v.disk other) is ∙ place_off disk name (made_lines v) (made_file mk.word v) other v.result there.0))
 ]
 
 place_fails : {M : Type 0} (m : Ghosts M) (disk : Disk) (name lines file : List ℕ) (result : Result Unit Fault) (f : Fault) (last : M) (c : Created) (was now : NameCalls) → was ≡ [] → Asking was now → result ≡ Err f → c ≡ in_place disk name lines file result → HoldsAll m disk name (Some last) now c
@@ -97,37 +97,37 @@ place_fails m disk name lines file result f last c was now first a fails is = λ
 
 -- what came of the run, and of its sync
 synced_so : {F M : Type 0} (s : Ghosts F) (m : Ghosts M) (disk : Disk) (name : List ℕ) (mk : Making F) (x : Option (List ℕ)) (files : List (Option (List ℕ))) (input : List ℕ) (back : Option F) (built last : M) (c : Created) (was now : NameCalls) (start end told said : Option (List ℕ)) (made result : Result Unit Fault) (b : List ℕ)
-    → was ≡ [] → Asking was now → BaseHas s back x → Known files input mk.inputs → c ≡ in_place disk name (made_here mk x files input).lines (made_file mk.word (made_here mk x files input)) (made_here mk x files input).result → Keeps start end
-    → IsBufferedRun s mk back (m.image built) told said made → Syncs m built last made result → OnOk result (HasDatabase s mk back (m.image last)) → m.image last b → Came m disk name c now (Some last) start end told said result
+    → was ≡ [] → Asking was now → BaseHas s back x → Known files input mk.inputs → c ≡ in_place disk name (made_lines (made_here mk x files input)) (made_file mk.word (made_here mk x files input)) (made_here mk x files input).result → Keeps start end
+    → IsBufferedRun s mk back (m.image built) told said made → Syncs m built last made result → OnOk result (HasDatabase s mk back (m.image last)) → m.image last b → Came m disk name mk.options c now (Some last) start end told said result
 synced_so s m disk name mk x files input back built last c was now start end told said (Ok done) result b first a has known is kept run syncs database image =
     let v = made_here mk x files input in
     let ran = ran_ok s mk back x files input (m.image built) b (Some b) told said has known (syncs.same.no_other b image) refl run in
-    let lines = subst (Appends told said) (sym (ap (λ (v : Created). v.lines) is ∙ place_lines disk name v.lines (made_file mk.word v) v.result)) ran.lines in
+    let lines : IsPlain mk.options → Appends told said c.lines = λ plain. subst (Appends told said) (sym (ap (λ (v : Created). v.lines) is ∙ place_lines disk name (made_lines v) (made_file mk.word v) v.result)) (ran.lines plain) in
     elim syncs.answered [
       | inl same ↦ inl (
         record {
-          is = same ∙ sym (ap (λ (v : Created). v.result) is ∙ place_result disk name v.lines (made_file mk.word v) v.result ∙ ran.result);
-          output = subst (Appends start end) (sym (ap (λ (v : Created). v.output) is ∙ place_output disk name v.lines (made_file mk.word v) v.result)) (none_appended start end kept);
+          is = same ∙ sym (ap (λ (v : Created). v.result) is ∙ place_result disk name (made_lines v) (made_file mk.word v) v.result ∙ ran.result);
+          output = subst (Appends start end) (sym (ap (λ (v : Created). v.output) is ∙ place_output disk name (made_lines v) (made_file mk.word v) v.result)) (none_appended start end kept);
           lines = lines;
         },
         λ removed. place_holds s m disk name mk x files input back last c was now first a has known is (subst (λ r. OnOk r (HasDatabase s mk back (m.image last))) same database),
       )
-      | inr failed ↦ inr (record { fault = Make Writing; is = failed.1; refusal = tt; output = said_nothing start end c.output kept; lines = whole_lines told said c.lines lines })
+      | inr failed ↦ inr (record { fault = Make Writing; is = failed.1; refusal = tt; output = said_nothing start end c.output kept; lines = λ plain. whole_lines told said c.lines (lines plain) })
     ]
 synced_so s m disk name mk x files input back built last c was now start end told said (Err f) result b first a has known is kept run syncs database image =
     let v = made_here mk x files input in
     let same : result ≡ Err f = elim syncs.answered [ inl same ↦ same | inr failed ↦ absurd (let no : false ≡ true = failed.0 in cc) ] in
-    let lines : c.lines ≡ v.lines = ap (λ (v : Created). v.lines) is ∙ place_lines disk name v.lines (made_file mk.word v) v.result in
+    let lines : c.lines ≡ made_lines v = ap (λ (v : Created). v.lines) is ∙ place_lines disk name (made_lines v) (made_file mk.word v) v.result in
     elim (ran_err s mk back x files input (m.image built) b told said f has known (syncs.same.no_other b image) run) [
       | inl e ↦ inl (
         record {
-          is = same ∙ e.is ∙ sym (ap (λ (v : Created). v.result) is ∙ place_result disk name v.lines (made_file mk.word v) v.result);
-          output = subst (Appends start end) (sym (ap (λ (v : Created). v.output) is ∙ place_output disk name v.lines (made_file mk.word v) v.result)) (none_appended start end kept);
-          lines = subst (Appends told said) (sym lines) e.lines;
+          is = same ∙ e.is ∙ sym (ap (λ (v : Created). v.result) is ∙ place_result disk name (made_lines v) (made_file mk.word v) v.result);
+          output = subst (Appends start end) (sym (ap (λ (v : Created). v.output) is ∙ place_output disk name (made_lines v) (made_file mk.word v) v.result)) (none_appended start end kept);
+          lines = λ plain. subst (Appends told said) (sym lines) (e.lines plain);
         },
-        λ removed. place_fails m disk name v.lines (made_file mk.word v) v.result f last c was now first a (sym e.is) is,
+        λ removed. place_fails m disk name (made_lines v) (made_file mk.word v) v.result f last c was now first a (sym e.is) is,
       )
-      | inr r ↦ inr (record { fault = f; is = same; refusal = r.refusal; output = said_nothing start end c.output kept; lines = subst (AppendsPrefix told said) (sym lines) r.lines })
+      | inr r ↦ inr (record { fault = f; is = same; refusal = r.refusal; output = said_nothing start end c.output kept; lines = λ plain. subst (AppendsPrefix told said) (sym lines) (r.lines plain) })
     ]
 
 -- the file was not emptied
@@ -149,7 +149,7 @@ back_of s mk back images told said made (inl ran) e = hands_none s mk.base back 
 back_of s mk back images told said made (inr lacks) e = lacks.0 ∙ e
 
 place_done : {F M : Type 0} (s : Ghosts F) (m : Ghosts M) (disk : Disk) (name : List ℕ) (mk : Making F) (x : Option (List ℕ)) (files : List (Option (List ℕ))) (input : List ℕ) (back : Option F) (last : M) (c : Created) (was now : NameCalls) (result : Result Unit Fault) → was ≡ [] → Asking was now → BaseHas s back x → Known files input mk.inputs
-    → c ≡ in_place disk name (made_here mk x files input).lines (made_file mk.word (made_here mk x files input)) (made_here mk x files input).result → OnOk result (HasDatabase s mk back (m.image last)) → OnOk result (HoldsAll m disk name (Some last) now c)
+    → c ≡ in_place disk name (made_lines (made_here mk x files input)) (made_file mk.word (made_here mk x files input)) (made_here mk x files input).result → OnOk result (HasDatabase s mk back (m.image last)) → OnOk result (HoldsAll m disk name (Some last) now c)
 place_done s m disk name mk x files input back last c was now (Ok done) first a has known is database = place_holds s m disk name mk x files input back last c was now first a has known is database
 place_done s m disk name mk x files input back last c was now (Err f) first a has known is database = tt
 
@@ -159,7 +159,7 @@ if_err P (Err f) p = p
 
 pub emptied_so : {F I M Y : Type 0} (s : Ghosts F) (m : Ghosts M) (remaining : I → Option (List ℕ)) (y : Systems Y F I M) (w g : ℕ) (disk : Disk) (input name : List ℕ) (base : Option (List ℕ)) (inputs : List (List ℕ)) (temporary : Option (List ℕ)) (o : MakeOptions) (given : Option (List ℕ)) (old mid new : OpenCalls) (file : Option F) (items : InputsLeft) (left : Left F M) (was now : NameCalls) (start end told said : Option (List ℕ)) (result : Result Unit Fault)
     → is_standard name ≡ false → is_in_place name temporary ≡ true → HonestCreate s remaining y disk input inputs given old new left.read name was now → OpensAll y remaining base inputs given old mid file items → Keeps start end → AsksAll name base inputs was now → Empties name mid new
-    → MakesEmptied y s m (record { word = w; greatest = g; options = o; base = file; inputs = items }) name left told said result → CreateSo m disk name temporary (create_of w g disk input name base inputs temporary o) was now left.made start end told said result
+    → MakesEmptied y s m (record { word = w; greatest = g; options = o; base = file; inputs = items }) name left told said result → CreateSo m disk name temporary o (create_of w g disk input name base inputs temporary o) was now left.made start end told said result
 emptied_so s m remaining y w g disk input name base inputs temporary o given old mid new file items left was now start end told said result standard placed_in honest opens kept asks empties h =
     let mk : Making _ = record { word = w; greatest = g; options = o; base = file; inputs = items } in
     let none : file ≡ None → left.read ≡ None = back_of s mk left.read (m.image h.built) told said h.made h.run in
@@ -168,24 +168,24 @@ emptied_so s m remaining y w g disk input name base inputs temporary o given old
     let a = asking_all name base inputs was now asks in
     let c = create_of w g disk input name base inputs temporary o in
     let is = in_place_is s w g disk input name base inputs temporary o left.read items known standard placed_in question.other (made_here mk known.old known.files input) refl in
-    let so : CreateSo m disk name temporary c was now (Some h.last) start end told said result = record {
+    let so : CreateSo m disk name temporary o c was now (Some h.last) start end told said result = record {
       answer = λ had has. synced_so s m disk name mk known.old known.files input left.read h.built h.last c was now start end told said h.made result has.0 honest.first a known.has known.known is kept h.run h.syncs h.has has.1;
       done = place_done s m disk name mk known.old known.files input left.read h.last c was now result honest.first a known.has known.known is h.has;
       failed = if_err (AllByRecursion IsNoFailedRename now → KeepsAll disk (passing name temporary) now) result (λ tried. keeps_first disk (passing name temporary) was now honest.first a);
       moments = moments_first disk c.disk (passing name temporary) was now honest.first a;
     } in
-    subst (λ v. CreateSo m disk name temporary c was now v start end told said result) (sym h.is_last) so
+    subst (λ v. CreateSo m disk name temporary o c was now v start end told said result) (sym h.is_last) so
 
 -- ---- on standard output
 
 output_is : {F : Type 0} (s : Ghosts F) (w g : ℕ) (disk : Disk) (input name : List ℕ) (base : Option (List ℕ)) (inputs : List (List ℕ)) (temporary : Option (List ℕ)) (o : MakeOptions) (read : Option F) (left : InputsLeft) → (k : AllKnown s disk base inputs input read left) → is_standard name ≡ true
-    → (made : Made) → made ≡ made_of w g o k.old k.files input → create_of w g disk input name base inputs temporary o ≡ on_output disk made.lines (made_file w made) made.result
+    → (made : Made) → made ≡ made_of w g o k.old k.files input → create_of w g disk input name base inputs temporary o ≡ on_output disk (made_lines made) (made_file w made) made.result
 output_is s w g disk input name base inputs temporary o read left k standard made is =
     let f : Option (List ℕ) → List (Option (List ℕ)) → Created = λ old files. placed w disk name base inputs temporary (made_of w g o old files input) in
     ap (λ x. if_opened disk (both f x (inputs_of disk inputs))) k.base_is
     ∙ ap (λ x. if_opened disk (both f (Some k.old) x)) k.are
     ∙ cond-true (is_standard name) _ _ standard
-    ∙ ap (λ v. on_output disk v.lines (made_file w v) v.result) (sym is)
+    ∙ ap (λ v. on_output disk (made_lines v) (made_file w v) v.result) (sym is)
 
 output_lines : (disk : Disk) (lines file : List ℕ) (result : Result Unit Fault) → (on_output disk lines file result).lines ≡ lines
 output_lines disk lines file (Ok done) = refl
@@ -206,48 +206,48 @@ output_none : (disk : Disk) (lines file : List ℕ) (result : Result Unit Fault)
 output_none disk lines file result f e = ap (λ r. (on_output disk lines file r).output) e
 
 -- what is said, without the disk
-abbrev Wrote : Created → (start end told said : Option (List ℕ)) → Result Unit Fault → Type 0
-Wrote c start end told said result = CameTrue c start end told said result ⊎ GaveUp c start end told said result
+abbrev Wrote : MakeOptions → Created → (start end told said : Option (List ℕ)) → Result Unit Fault → Type 0
+Wrote o c start end told said result = CameTrue o c start end told said result ⊎ GaveUp o c start end told said result
 
-written_so : (w : ℕ) (disk : Disk) (v : Made) (c : Created) (bytes : List ℕ) (start end told said : Option (List ℕ)) (result : Result Unit Fault) → c ≡ on_output disk v.lines (made_file w v) v.result → bytes ≡ made_file w v → v.result ≡ Ok tt → Appends told said v.lines → WritesAll start end bytes result → Wrote c start end told said result
-written_so w disk v c bytes start end told said (Ok done) is file ok lines h = inl (record {
-  is = sym (ap (λ (v : Created). v.result) is ∙ output_result disk v.lines (made_file w v) v.result ∙ ok);
-  output = subst (Appends start end) (file ∙ sym (ap (λ (v : Created). v.output) is ∙ output_file disk v.lines (made_file w v) v.result ok)) h.ok;
-  lines = subst (Appends told said) (sym (ap (λ (v : Created). v.lines) is ∙ output_lines disk v.lines (made_file w v) v.result)) lines;
+written_so : (w : ℕ) (disk : Disk) (o : MakeOptions) (v : Made) (c : Created) (bytes : List ℕ) (start end told said : Option (List ℕ)) (result : Result Unit Fault) → c ≡ on_output disk (made_lines v) (made_file w v) v.result → bytes ≡ made_file w v → v.result ≡ Ok tt → (IsPlain o → Appends told said (made_lines v)) → WritesAll start end bytes result → Wrote o c start end told said result
+written_so w disk o v c bytes start end told said (Ok done) is file ok lines h = inl (record {
+  is = sym (ap (λ (v : Created). v.result) is ∙ output_result disk (made_lines v) (made_file w v) v.result ∙ ok);
+  output = subst (Appends start end) (file ∙ sym (ap (λ (v : Created). v.output) is ∙ output_file disk (made_lines v) (made_file w v) v.result ok)) h.ok;
+  lines = λ plain. subst (Appends told said) (sym (ap (λ (v : Created). v.lines) is ∙ output_lines disk (made_lines v) (made_file w v) v.result)) (lines plain);
 })
-written_so w disk v c bytes start end told said (Err f) is file ok lines h = inr (record {
+written_so w disk o v c bytes start end told said (Err f) is file ok lines h = inr (record {
   fault = f;
   is = refl;
   refusal = subst IsCreateRefusal (sym h.err.0) tt;
-  output = subst (AppendsPrefix start end) (file ∙ sym (ap (λ (v : Created). v.output) is ∙ output_file disk v.lines (made_file w v) v.result ok)) h.err.1;
-  lines = whole_lines told said c.lines (subst (Appends told said) (sym (ap (λ (v : Created). v.lines) is ∙ output_lines disk v.lines (made_file w v) v.result)) lines);
+  output = subst (AppendsPrefix start end) (file ∙ sym (ap (λ (v : Created). v.output) is ∙ output_file disk (made_lines v) (made_file w v) v.result ok)) h.err.1;
+  lines = λ plain. whole_lines told said c.lines (subst (Appends told said) (sym (ap (λ (v : Created). v.lines) is ∙ output_lines disk (made_lines v) (made_file w v) v.result)) (lines plain));
 })
 
-unwritten_so : (w : ℕ) (disk : Disk) (v : Made) (c : Created) (start end told said : Option (List ℕ)) (f : Fault) (result : Result Unit Fault) → c ≡ on_output disk v.lines (made_file w v) v.result → result ≡ Err f → Keeps start end → EndsSo v told said (Err f) ⊎ WasRefused v told said f → Wrote c start end told said result
-unwritten_so w disk v c start end told said f result is same kept (inl e) = inl (record {
-  is = same ∙ e.is ∙ sym (ap (λ (v : Created). v.result) is ∙ output_result disk v.lines (made_file w v) v.result);
-  output = subst (Appends start end) (sym (ap (λ (v : Created). v.output) is ∙ output_none disk v.lines (made_file w v) v.result f (sym e.is))) (none_appended start end kept);
-  lines = subst (Appends told said) (sym (ap (λ (v : Created). v.lines) is ∙ output_lines disk v.lines (made_file w v) v.result)) e.lines;
+unwritten_so : (w : ℕ) (disk : Disk) (o : MakeOptions) (v : Made) (c : Created) (start end told said : Option (List ℕ)) (f : Fault) (result : Result Unit Fault) → c ≡ on_output disk (made_lines v) (made_file w v) v.result → result ≡ Err f → Keeps start end → EndsSo o v told said (Err f) ⊎ WasRefused o v told said f → Wrote o c start end told said result
+unwritten_so w disk o v c start end told said f result is same kept (inl e) = inl (record {
+  is = same ∙ e.is ∙ sym (ap (λ (v : Created). v.result) is ∙ output_result disk (made_lines v) (made_file w v) v.result);
+  output = subst (Appends start end) (sym (ap (λ (v : Created). v.output) is ∙ output_none disk (made_lines v) (made_file w v) v.result f (sym e.is))) (none_appended start end kept);
+  lines = λ plain. subst (Appends told said) (sym (ap (λ (v : Created). v.lines) is ∙ output_lines disk (made_lines v) (made_file w v) v.result)) (e.lines plain);
 })
-unwritten_so w disk v c start end told said f result is same kept (inr r) = inr (record {
+unwritten_so w disk o v c start end told said f result is same kept (inr r) = inr (record {
   fault = f;
   is = same;
   refusal = r.refusal;
   output = said_nothing start end c.output kept;
-  lines = subst (AppendsPrefix told said) (sym (ap (λ (v : Created). v.lines) is ∙ output_lines disk v.lines (made_file w v) v.result)) r.lines;
+  lines = λ plain. subst (AppendsPrefix told said) (sym (ap (λ (v : Created). v.lines) is ∙ output_lines disk (made_lines v) (made_file w v) v.result)) (r.lines plain);
 })
 
 some_bytes : (a b : List ℕ) → ◌≡◌ {A = Option (List ℕ)} (Some a) (Some b) → a ≡ b
 some_bytes a b e = cc
 
 made_written : {F : Type 0} (s : Ghosts F) (mk : Making F) (x : Option (List ℕ)) (files : List (Option (List ℕ))) (input : List ℕ) (back : Option F) (disk : Disk) (c : Created) (store : MemStore) (start end told said : Option (List ℕ)) (made result : Result Unit Fault) → BaseHas s back x → Known files input mk.inputs
-    → c ≡ on_output disk (made_here mk x files input).lines (made_file mk.word (made_here mk x files input)) (made_here mk x files input).result → IsRun s mk back (in_memory.image store) told said made → OnOk made (WritesAll start end (contents store) result) → IfErr made (λ fault. (result ≡ Err fault) × Keeps start end)
-    → Wrote c start end told said result
+    → c ≡ on_output disk (made_lines (made_here mk x files input)) (made_file mk.word (made_here mk x files input)) (made_here mk x files input).result → IsRun s mk back (in_memory.image store) told said made → OnOk made (WritesAll start end (contents store) result) → IfErr made (λ fault. (result ≡ Err fault) × Keeps start end)
+    → Wrote mk.options c start end told said result
 made_written s mk x files input back disk c store start end told said (Ok done) result has known is run written failed =
     let h = ran_ok s mk back x files input (in_memory.image store) (contents store) (Some (contents store)) told said has known refl refl (inl run) in
-    written_so mk.word disk (made_here mk x files input) c (contents store) start end told said result is (some_bytes (contents store) _ h.file) h.result h.lines written
+    written_so mk.word disk mk.options (made_here mk x files input) c (contents store) start end told said result is (some_bytes (contents store) _ h.file) h.result h.lines written
 made_written s mk x files input back disk c store start end told said (Err f) result has known is run written failed =
-    unwritten_so mk.word disk (made_here mk x files input) c start end told said f result is failed.0 failed.1
+    unwritten_so mk.word disk mk.options (made_here mk x files input) c start end told said f result is failed.0 failed.1
     (ran_err s mk back x files input (in_memory.image store) (contents store) told said f has known refl (inl run))
 
 if_ok : (P : Type 0) (result : Result Unit Fault) → P → OnOk result P
@@ -256,7 +256,7 @@ if_ok P (Err f) p = tt
 
 pub output_so : {F I M Y : Type 0} (s : Ghosts F) (m : Ghosts M) (remaining : I → Option (List ℕ)) (y : Systems Y F I M) (w g : ℕ) (disk : Disk) (input name : List ℕ) (base : Option (List ℕ)) (inputs : List (List ℕ)) (temporary : Option (List ℕ)) (o : MakeOptions) (given : Option (List ℕ)) (old mid new : OpenCalls) (file read : Option F) (items : InputsLeft) (was now : NameCalls) (start end told said : Option (List ℕ)) (result : Result Unit Fault)
     → is_standard name ≡ true → HonestCreate s remaining y disk input inputs given old new read name was now → OpensAll y remaining base inputs given old mid file items → new ≡ mid → now ≡ was
-    → MakesOnOutput s (record { word = w; greatest = g; options = o; base = file; inputs = items }) read start end told said result → CreateSo m disk name temporary (create_of w g disk input name base inputs temporary o) was now None start end told said result
+    → MakesOnOutput s (record { word = w; greatest = g; options = o; base = file; inputs = items }) read start end told said result → CreateSo m disk name temporary o (create_of w g disk input name base inputs temporary o) was now None start end told said result
 output_so s m remaining y w g disk input name base inputs temporary o given old mid new file read items was now start end told said result standard honest opens same calls h =
     let mk : Making _ = record { word = w; greatest = g; options = o; base = file; inputs = items } in
     let none : file ≡ None → read ≡ None = hands_none s file read h.makes.run.hands in
@@ -265,7 +265,7 @@ output_so s m remaining y w g disk input name base inputs temporary o given old 
     let v = made_here mk known.old known.files input in
     let is = output_is s w g disk input name base inputs temporary o read items known standard v refl in
     let a = asking_none was now calls in
-    let holds : HoldsAll m disk name None now c = holds_first m disk name c was now honest.first a (λ other. ap (λ (v : Created). v.disk other) is ∙ output_disk disk v.lines (made_file w v) other v.result) in
+    let holds : HoldsAll m disk name None now c = holds_first m disk name c was now honest.first a (λ other. ap (λ (v : Created). v.disk other) is ∙ output_disk disk (made_lines v) (made_file w v) other v.result) in
     record {
       answer = λ had has. elim (made_written s mk known.old known.files input read disk c h.store start end told said h.made result known.has known.known is h.makes.run h.written h.failed) [
         | inl so ↦ inl (so, λ removed. holds)

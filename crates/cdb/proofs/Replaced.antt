@@ -7,6 +7,7 @@ use Rattle.std.proofs.lemmas.List.{append_cancel_right}
 use Rattle.std.proofs.lemmas.Slice.Eq.{bytes_eq-Decides}
 use Rattle.std.specs.Io.KnownBytes.{Appends, Keeps}
 use Rattle.std.proofs.KnownBytes.{Keeps-refl}
+use Rattle.cdb_command.specs.declared.options.MakeOptions.{MakeOptions}
 use Rattle.cdb_files.specs.Folder.{Has, LeavesFile, MayHave, NameCalls}
 use Rattle.cdb_files.specs.Replacing.{Answers, AreOfReplacing, AtEach, ClearsFile, HasCleared, IsNew, IsOfReplacing, IsReady, IsRenamed, LeavesOldOrNew, NameEvent, Tells, TellsOfFile, StopsUnbuilt, renames}
 use Rattle.cdb_files.specs.declared.name_trace.NameCall.{NameCall}
@@ -24,9 +25,10 @@ use Rattle.cdb_tool.specs.Runs.Make.{OfBase}
 use Rattle.cdb_tool.specs.Runs.Make as run
 use Rattle.cdb_tool.specs.declared.fault.Fault.{Fault}
 use Rattle.cdb_tool.specs.declared.fault.Fault.TheVariants.{Text, Make, Duplicate, Missing, Read, Walk, Output, Long, Open, Rename, NoMemory, Old, New, NoOldTables, NoNewTables}
-use Rattle.cdb_tool.specs.Runs.Made.{Made, made_file, made_of}
+use Rattle.cdb_tool.specs.Runs.Made.{Made, made_file, made_lines, made_of}
 use Rattle.cdb_tool.specs.Runs.MakesSo.{ComesOf, IsMakeRefusal, Known}
 use Rattle.cdb_tool.proofs.MadeOf.{made_so, run_comes}
+use Rattle.cdb_tool.proofs.ToldLines.{part_plain, tells_plain}
 use Rattle.cdb.specs.Creating.{IsBufferedRun, IsDatabase, IsRun, Making, Replaces, answer_of, fault_of}
 use Rattle.cdb.specs.ForetoldCreate.{HadBytes, IsCreateRefusal, IsNoFailedRename, place_of}
 
@@ -51,20 +53,24 @@ KeepsOthers temporary name old now = (other : List ℕ) → temporary ≢ other 
     → (first held : Option (List ℕ)) → MayHave (place_of other) first now held
     → MayHave (place_of other) first old held
 
+-- no duplicate is explained
+abbrev pub IsPlain : MakeOptions → Type 0
+IsPlain o = o.names ≡ None
+
 -- now the name has the database, and all its lines were said
-pub record HasMade (w : ℕ) (made : Made) (told said : Option (List ℕ)) (held : Option (List ℕ)) : Type 0 where
+pub record HasMade (w : ℕ) (o : MakeOptions) (made : Made) (told said : Option (List ℕ)) (held : Option (List ℕ)) : Type 0 where
   pub file : held ≡ Some (made_file w made)
   pub result : made.result ≡ Ok tt
-  pub lines : Appends told said made.lines
+  pub lines : IsPlain o → Appends told said (made_lines made)
 
 -- it ended in the fault that was said, or was refused
-pub record EndsSo (made : Made) (told said : Option (List ℕ)) (result : Result Unit Fault) : Type 0 where
+pub record EndsSo (o : MakeOptions) (made : Made) (told said : Option (List ℕ)) (result : Result Unit Fault) : Type 0 where
   pub is : result ≡ made.result
-  pub lines : Appends told said made.lines
+  pub lines : IsPlain o → Appends told said (made_lines made)
 
-pub record WasRefused (made : Made) (told said : Option (List ℕ)) (fault : Fault) : Type 0 where
+pub record WasRefused (o : MakeOptions) (made : Made) (told said : Option (List ℕ)) (fault : Fault) : Type 0 where
   pub refusal : IsCreateRefusal fault
-  pub lines : AppendsPrefix told said made.lines
+  pub lines : IsPlain o → AppendsPrefix told said (made_lines made)
 
 -- the last call was to take the name from its file
 abbrev pub IsGone : (temporary : List ℕ) → NameCalls → Type 0
@@ -75,15 +81,15 @@ abbrev pub KeepsName : (name : List ℕ) → (old now : NameCalls) → Type 0
 KeepsName name old now = AllByRecursion IsNoFailedRename now → (first held : Option (List ℕ)) → MayHave (place_of name) first now held → MayHave (place_of name) first old held
 
 -- what a replacement comes to
-pub record ReplacesSo (w : ℕ) (temporary name : List ℕ) (made : Made) (old new : NameCalls) (told said : Option (List ℕ)) (result : Result Unit Fault) : Type 0 where
+pub record ReplacesSo (w : ℕ) (o : MakeOptions) (temporary name : List ℕ) (made : Made) (old new : NameCalls) (told said : Option (List ℕ)) (result : Result Unit Fault) : Type 0 where
   pub since : NameCalls
   pub calls : new ≡ since ++ old
   pub moments : AtEach (LeavesOldOrMade w name made old) since old
   pub others : AtEach (KeepsOthers temporary name old) since old
-  pub ok : OnOk result ((first held : Option (List ℕ)) → Has (place_of name) first new held → HasMade w made told said held)
+  pub ok : OnOk result ((first held : Option (List ℕ)) → Has (place_of name) first new held → HasMade w o made told said held)
   pub renamed : OnOk result (IsRenamed temporary name new)
   pub unrenamed : OnErr result (KeepsName name old new)
-  pub err : IfErr result (λ fault. HadBytes temporary new → (EndsSo made told said result × IsGone temporary new) ⊎ WasRefused made told said fault)
+  pub err : IfErr result (λ fault. HadBytes temporary new → (EndsSo o made told said result × IsGone temporary new) ⊎ WasRefused o made told said fault)
 
 -- ---- the database of some bytes
 
@@ -218,13 +224,13 @@ renamed_has t n sync len file before first held passes synced h = elim (passes h
 
 -- its bytes, its answer and its lines
 run_is : {F : Type 0} (f : Ghosts F) (m : Making F) (back : Option F) (x : Option (List ℕ)) (files : List (Option (List ℕ))) (input : List ℕ) (images : List ℕ → Type 0) (b : List ℕ) (told said : Option (List ℕ)) (built : Result Unit Fault) → BaseHas f back x → Known files input m.inputs → images b → IsRun f m back images told said built
-    → ComesOf m.word (made_here m x files input) images told said built
+    → ComesOf m.word m.options (made_here m x files input) images told said built
 run_is f m back x files input images b told said built has known is h =
     run_comes m.word m.greatest m.options x files input m.inputs images told said built known (of_known f back x (λ y. run.Runs m.word m.greatest m.options y m.inputs images told said built) has (h.runs.each b is))
 
-made_ok : (w : ℕ) (made : Made) (images : List ℕ → Type 0) (b : List ℕ) (held told said : Option (List ℕ)) → images b → held ≡ Some b → ComesOf w made images told said (Ok tt) → HasMade w made told said held
-made_ok w made images b held told said is e (inl so) = record { file = e ∙ ap (λ (z : List ℕ). Some z) (so.file.each b is); result = sym so.is; lines = so.lines }
-made_ok w made images b held told said is e (inr refused) = absurd (let no : ◌≡◌ {A = Result Unit Fault} (Ok tt) (Err refused.fault) = refused.is in cc)
+made_ok : (w : ℕ) (o : MakeOptions) (made : Made) (images : List ℕ → Type 0) (b : List ℕ) (held told said : Option (List ℕ)) → images b → held ≡ Some b → ComesOf w o made images told said (Ok tt) → HasMade w o made told said held
+made_ok w o made images b held told said is e (inl so) = record { file = e ∙ ap (λ (z : List ℕ). Some z) (so.file.each b is); result = sym so.is; lines = λ plain. tells_plain o.names made.told told said plain so.lines }
+made_ok w o made images b held told said is e (inr refused) = absurd (let no : ◌≡◌ {A = Result Unit Fault} (Ok tt) (Err refused.fault) = refused.is in cc)
 
 -- ---- it ended well
 
@@ -233,8 +239,8 @@ built_ok (Ok done) h = refl
 built_ok (Err fault) h = absurd (let no : ◌≡◌ {A = Result Unit (ReplaceFault Fault)} (Ok tt) (Err (replace.Build fault)) = h in cc)
 
 pub ran_ok : {F : Type 0} (f : Ghosts F) (m : Making F) (back : Option F) (x : Option (List ℕ)) (files : List (Option (List ℕ))) (input : List ℕ) (images : List ℕ → Type 0) (b : List ℕ) (held told said : Option (List ℕ)) → BaseHas f back x → Known files input m.inputs → images b → held ≡ Some b → IsBufferedRun f m back images told said (Ok tt)
-    → HasMade m.word (made_here m x files input) told said held
-ran_ok f m back x files input images b held told said has known is e (inl ran) = made_ok m.word (made_here m x files input) images b held told said is e (run_is f m back x files input images b told said (Ok tt) has known is ran)
+    → HasMade m.word m.options (made_here m x files input) told said held
+ran_ok f m back x files input images b held told said has known is e (inl ran) = made_ok m.word m.options (made_here m x files input) images b held told said is e (run_is f m back x files input images b told said (Ok tt) has known is ran)
 ran_ok f m back x files input images b held told said has known is e (inr none) = absurd (let no : ◌≡◌ {A = Result Unit Fault} (Ok tt) (Err NoMemory) = none.1 in cc)
 
 abbrev FileTold : {F R : Type 0} → Ghosts F → Raw R → Making F → (temporary name : List ℕ) → NameCalls → Option F → (told said : Option (List ℕ)) → Result Unit (ReplaceFault Fault) → Type 0
@@ -243,7 +249,7 @@ FileTold f r m temporary name new back told said answer = TellsOfFile r (λ base
 with_sync : {F R : Type 0} (f : Ghosts F) (r : Raw R) (m : Making F) (back : Option F) (x : Option (List ℕ)) (files : List (Option (List ℕ))) (input temporary name : List ℕ) (old new before : NameCalls) (first held told said : Option (List ℕ)) (sync : NameCall) → renames old ≡ 0 → BaseHas f back x → Known files input m.inputs
     → AreOfReplacing temporary name (IsDatabase f m back) old new → (t : FileTold f r m temporary name new back told said (Ok tt))
     → new ≡ (sync, name, [], []) ∷ (Renamed t.sealed.len, temporary, name, calls_of t.sealed) ∷ before → ((calls : NameCalls) → renames ((sync, name, [], []) ∷ calls) ≡ renames calls)
-    → ((calls : NameCalls) → Has (place_of name) first ((sync, name, [], []) ∷ calls) held → Has (place_of name) first calls held) → Has (place_of name) first new held → HasMade m.word (made_here m x files input) told said held
+    → ((calls : NameCalls) → Has (place_of name) first ((sync, name, [], []) ∷ calls) held → Has (place_of name) first calls held) → Has (place_of name) first new held → HasMade m.word m.options (made_here m x files input) told said held
 with_sync f r m back x files input temporary name old new before first held told said sync none has known calls t e plain passes h =
     let file = calls_of t.sealed in
     let len = t.sealed.len in
@@ -254,13 +260,13 @@ with_sync f r m back x files input temporary name old new before first held told
 
 replaced_ok : {F R : Type 0} (f : Ghosts F) (r : Raw R) (m : Making F) (back : Option F) (x : Option (List ℕ)) (files : List (Option (List ℕ))) (input temporary name : List ℕ) (old new : NameCalls) (told said : Option (List ℕ)) → renames old ≡ 0 → BaseHas f back x → Known files input m.inputs
     → AreOfReplacing temporary name (IsDatabase f m back) old new → IsRenamed temporary name new → FileTold f r m temporary name new back told said (Ok tt)
-    → (first held : Option (List ℕ)) → Has (place_of name) first new held → HasMade m.word (made_here m x files input) told said held
+    → (first held : Option (List ℕ)) → Has (place_of name) first new held → HasMade m.word m.options (made_here m x files input) told said held
 replaced_ok f r m back x files input temporary name old new told said none has known calls renamed t first held h =
     let is = t.renamed in
     let one : NameEvent = (is.sync, name, [], []) in
     let two : NameEvent = (renamed.sync, name, [], []) in
     let same : is.sync ≡ renamed.sync = ap (λ (z : NameEvent). z.0) (heads one two _ _ (sym is.are ∙ renamed.are)) in
-    elim renamed.is_sync as (λ _. HasMade m.word (made_here m x files input) told said held) [
+    elim renamed.is_sync as (λ _. HasMade m.word m.options (made_here m x files input) told said held) [
       | inl e ↦ with_sync f r m back x files input temporary name old new is.before first held told said Synced none has known calls t (is.are ∙ ap (λ (s : NameCall). (s, name, [], []) ∷ (Renamed t.sealed.len, temporary, name, calls_of t.sealed) ∷ is.before) (same ∙ e)) (λ c. refl) (λ c k. k) h
       | inr e ↦ with_sync f r m back x files input temporary name old new is.before first held told said NotSynced none has known calls t (is.are ∙ ap (λ (s : NameCall). (s, name, [], []) ∷ (Renamed t.sealed.len, temporary, name, calls_of t.sealed) ∷ is.before) (same ∙ e)) (λ c. refl) (λ c k. k) h
     ]
@@ -298,23 +304,23 @@ whole_lines old new xs a = record { front = xs; more = []; split = sym (append-n
 pub said_nothing : (told said : Option (List ℕ)) (lines : List ℕ) → Keeps told said → AppendsPrefix told said lines
 said_nothing told said lines k = record { front = []; more = lines; split = refl; appended = none_appended told said k }
 
-ended_so : (w : ℕ) (made : Made) (images : List ℕ → Type 0) (told said : Option (List ℕ)) (f : Fault) → ComesOf w made images told said (Err f) → EndsSo made told said (Err f) ⊎ WasRefused made told said f
-ended_so w made images told said f (inl so) = inl (record { is = so.is; lines = so.lines })
-ended_so w made images told said f (inr refused) =
+ended_so : (w : ℕ) (o : MakeOptions) (made : Made) (images : List ℕ → Type 0) (told said : Option (List ℕ)) (f : Fault) → ComesOf w o made images told said (Err f) → EndsSo o made told said (Err f) ⊎ WasRefused o made told said f
+ended_so w o made images told said f (inl so) = inl (record { is = so.is; lines = λ plain. tells_plain o.names made.told told said plain so.lines })
+ended_so w o made images told said f (inr refused) =
     let same : f ≡ refused.fault = same_fault f refused.fault refused.is in
-    inr (record { refusal = may_be f (subst IsMakeRefusal (sym same) refused.refusal); lines = refused.lines })
+    inr (record { refusal = may_be f (subst IsMakeRefusal (sym same) refused.refusal); lines = λ plain. part_plain o.names made.told told said plain refused.lines })
 
 pub ran_err : {F : Type 0} (f : Ghosts F) (m : Making F) (back : Option F) (x : Option (List ℕ)) (files : List (Option (List ℕ))) (input : List ℕ) (images : List ℕ → Type 0) (b : List ℕ) (told said : Option (List ℕ)) (fault : Fault) → BaseHas f back x → Known files input m.inputs → images b → IsBufferedRun f m back images told said (Err fault)
-    → EndsSo (made_here m x files input) told said (Err fault) ⊎ WasRefused (made_here m x files input) told said fault
-ran_err f m back x files input images b told said fault has known is (inl ran) = ended_so m.word (made_here m x files input) images told said fault (run_is f m back x files input images b told said (Err fault) has known is ran)
+    → EndsSo m.options (made_here m x files input) told said (Err fault) ⊎ WasRefused m.options (made_here m x files input) told said fault
+ran_err f m back x files input images b told said fault has known is (inl ran) = ended_so m.word m.options (made_here m x files input) images told said fault (run_is f m back x files input images b told said (Err fault) has known is ran)
 ran_err f m back x files input images b told said fault has known is (inr none) =
-    inr (record { refusal = subst IsCreateRefusal (sym (same_fault fault NoMemory none.1)) tt; lines = said_nothing told said _ none.2 })
+    inr (record { refusal = subst IsCreateRefusal (sym (same_fault fault NoMemory none.1)) tt; lines = λ plain. said_nothing told said _ none.2 })
 
 -- all lines of what was built
 ran_lines : {F : Type 0} (f : Ghosts F) (m : Making F) (back : Option F) (x : Option (List ℕ)) (files : List (Option (List ℕ))) (input : List ℕ) (images : List ℕ → Type 0) (b : List ℕ) (told said : Option (List ℕ)) → BaseHas f back x → Known files input m.inputs → images b → IsBufferedRun f m back images told said (Ok tt)
-    → AppendsPrefix told said (made_here m x files input).lines
-ran_lines f m back x files input images b told said has known is ran =
-    whole_lines told said _ (ran_ok f m back x files input images b (Some b) told said has known is refl ran).lines
+    → IsPlain m.options → AppendsPrefix told said (made_lines (made_here m x files input))
+ran_lines f m back x files input images b told said has known is ran plain =
+    whole_lines told said _ ((ran_ok f m back x files input images b (Some b) told said has known is refl ran).lines plain)
 
 refusal_of : (e : ReplaceFault Fault) → Answers (Ok tt) (Err e) → IsCreateRefusal (fault_of e)
 refusal_of replace.Open h = tt
@@ -341,22 +347,22 @@ some_image r store temporary new had cleared =
     (take store.len h.1.0, (h.1.0, h.1.1, long, refl))
 
 built_err : {F R : Type 0} (f : Ghosts F) (r : Raw R) (m : Making F) (back : Option F) (x : Option (List ℕ)) (files : List (Option (List ℕ))) (input temporary name : List ℕ) (new : NameCalls) (told said : Option (List ℕ)) (e : ReplaceFault Fault) (built : Result Unit Fault) (images : List ℕ → Type 0) (b : List ℕ) → BaseHas f back x → Known files input m.inputs → images b
-    → Answers built (Err e) → IsBufferedRun f m back images told said built → EndsSo (made_here m x files input) told said (Err (fault_of e)) ⊎ WasRefused (made_here m x files input) told said (fault_of e)
+    → Answers built (Err e) → IsBufferedRun f m back images told said built → EndsSo m.options (made_here m x files input) told said (Err (fault_of e)) ⊎ WasRefused m.options (made_here m x files input) told said (fault_of e)
 built_err f r m back x files input temporary name new told said e (Ok done) images b has known is answers ran =
     inr (record { refusal = refusal_of e answers; lines = ran_lines f m back x files input images b told said has known is ran })
 built_err f r m back x files input temporary name new told said e (Err fault) images b has known is answers ran =
     let same : e ≡ replace.Build fault = same_replace e (replace.Build fault) answers in
-    subst (λ (g : ReplaceFault Fault). EndsSo (made_here m x files input) told said (Err (fault_of g)) ⊎ WasRefused (made_here m x files input) told said (fault_of g)) (sym same)
+    subst (λ (g : ReplaceFault Fault). EndsSo m.options (made_here m x files input) told said (Err (fault_of g)) ⊎ WasRefused m.options (made_here m x files input) told said (fault_of g)) (sym same)
     (ran_err f m back x files input images b told said fault has known is ran)
 
 replaced_err : {F R : Type 0} (f : Ghosts F) (r : Raw R) (m : Making F) (back : Option F) (x : Option (List ℕ)) (files : List (Option (List ℕ))) (input temporary name : List ℕ) (old new : NameCalls) (told said : Option (List ℕ)) (e : ReplaceFault Fault) → BaseHas f back x → Known files input m.inputs → HadBytes temporary new
     → Tells r (λ base. base ≡ m.base) (λ base before after images made. IsBufferedRun f m base images before after made) temporary name old new back told said (Err e)
-    → (EndsSo (made_here m x files input) told said (Err (fault_of e)) × IsGone temporary new) ⊎ WasRefused (made_here m x files input) told said (fault_of e)
+    → (EndsSo m.options (made_here m x files input) told said (Err (fault_of e)) × IsGone temporary new) ⊎ WasRefused m.options (made_here m x files input) told said (fault_of e)
 replaced_err f r m back x files input temporary name old new told said e has known had (inl none) =
     let same : e ≡ none.fault = same_replace e none.fault none.is in
     inr (record {
       refusal = subst (λ (g : ReplaceFault Fault). IsCreateRefusal (fault_of g)) (sym same) (unbuilt_refusal temporary name old new none.fault none.stops);
-      lines = said_nothing told said _ (subst (λ s. Keeps told s) (sym none.same) (Keeps-refl told));
+      lines = λ plain. said_nothing told said _ (subst (λ s. Keeps told s) (sym none.same) (Keeps-refl told));
     })
 replaced_err f r m back x files input temporary name old new told said e has known had (inr t) =
     let image = some_image r t.sealed temporary new had t.cleared in
@@ -390,7 +396,7 @@ record Moments (w : ℕ) (temporary name : List ℕ) (made : Made) (old new : Na
 answered : {F R : Type 0} (f : Ghosts F) (r : Raw R) (m : Making F) (x : Option (List ℕ)) (files : List (Option (List ℕ))) (input temporary name : List ℕ) (old new : NameCalls) (back : Option F) (told said : Option (List ℕ)) (answer : Result Unit (ReplaceFault Fault)) → renames old ≡ 0 → BaseHas f back x → Known files input m.inputs
     → Moments m.word temporary name (made_here m x files input) old new → AreOfReplacing temporary name (IsDatabase f m back) old new → OnOk answer (IsRenamed temporary name new) → OnErr answer (KeepsName name old new)
     → Tells r (λ base. base ≡ m.base) (λ base before after images made. IsBufferedRun f m base images before after made) temporary name old new back told said answer
-    → ReplacesSo m.word temporary name (made_here m x files input) old new told said (answer_of answer)
+    → ReplacesSo m.word m.options temporary name (made_here m x files input) old new told said (answer_of answer)
 answered f r m x files input temporary name old new back told said (Ok done) none has known k calls renamed keeps lines = record {
   since = k.since;
   calls = k.calls;
@@ -413,11 +419,11 @@ answered f r m x files input temporary name old new back told said (Err e) none 
 }
 
 pub replaces_so : {F R : Type 0} (f : Ghosts F) (r : Raw R) (m : Making F) (x : Option (List ℕ)) (files : List (Option (List ℕ))) (input temporary name : List ℕ) (old new : NameCalls) (back : Option F) (told said : Option (List ℕ)) (result : Result Unit Fault) → temporary ≢ name → renames old ≡ 0 → BaseHas f back x → Known files input m.inputs
-    → Replaces f r m temporary name old new back told said result → ReplacesSo m.word temporary name (made_here m x files input) old new told said result
+    → Replaces f r m temporary name old new back told said result → ReplacesSo m.word m.options temporary name (made_here m x files input) old new told said result
 replaces_so f r m x files input temporary name old new back told said result apart none has known h =
     let moments = h.moments in
     let same = append_cancel_right h.calls.since moments.since old (sym h.calls.calls ∙ moments.calls) in
-    subst (ReplacesSo m.word temporary name (made_here m x files input) old new told said) (sym h.answered)
+    subst (ReplacesSo m.word m.options temporary name (made_here m x files input) old new told said) (sym h.answered)
     (answered f r m x files input temporary name old new back told said h.answer none has known
     (record {
       since = moments.since;

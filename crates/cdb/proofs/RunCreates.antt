@@ -28,7 +28,8 @@ use Rattle.cdb.specs.declared.system.System.{Ghosts as Systems}
 use Rattle.cdb_tool.specs.Views.Output.{HasHandedOn, OutputFailed, held_by, output_bytes}
 use Rattle.cdb_tool.specs.declared.output.Output.{Output as Writer}
 use Rattle.cdb_tool.proofs.WholeRuns.{prefix_kept}
-use Rattle.cdb.proofs.NamedCreates.{named_holds}
+use Rattle.cdb.proofs.NamedCreates.{named_holds, shown_plain}
+use Rattle.cdb.proofs.Replaced.{IsPlain}
 use Rattle.cdb.proofs.Explained.{SaysOnly, says_only}
 use Rattle.cdb.proofs.CreateEnds.{Came, keeps_first}
 use Rattle.cdb.proofs.CreateReads.{asking_none, moments_first}
@@ -107,24 +108,24 @@ if_not_done : (P : Type 0) (answer : Result Unit Fault) → OnErr answer P → (
 if_not_done P (Ok done) h some = absurd (some refl)
 if_not_done P (Err fault) h some = h
 
-comes_so : {M : Type 0} (m : Ghosts M) (disk : Disk) (c : Created) (explained : Bool) (now : NameCalls) (made : Option M) (command : Command) (name : List ℕ) (base : Option (List ℕ)) (inputs : List (List ℕ)) (temporary : Option (List ℕ)) (o : MakeOptions) (wide : Bool) (start end final told before said : Option (List ℕ)) (unsaid : Type 0) (answer result : Result Unit Fault) (status : ℕ) → asked_in command ≡ asked.Create name base inputs temporary o wide → Keeps end final → result ≡ answer → (unsaid → ⊥)
-    → (explained ≡ false → SaysOnly result before said unsaid) → status ≡ status_of command result → Came m disk name c now made start end told before answer → IsCreated m disk name c explained now made start final told said status ⊎ IsGivenUp c explained start final told said status
-comes_so m disk c explained now made command name base inputs temporary o wide start end final told before said unsaid answer result status a kept same speaks says is (inl h) =
+comes_so : {M : Type 0} (m : Ghosts M) (disk : Disk) (shown : MakeOptions) (c : Created) (explained : Bool) (now : NameCalls) (made : Option M) (command : Command) (name : List ℕ) (base : Option (List ℕ)) (inputs : List (List ℕ)) (temporary : Option (List ℕ)) (o : MakeOptions) (wide : Bool) (start end final told before said : Option (List ℕ)) (unsaid : Type 0) (answer result : Result Unit Fault) (status : ℕ) → asked_in command ≡ asked.Create name base inputs temporary o wide → Keeps end final → result ≡ answer → (unsaid → ⊥)
+    → (explained ≡ false → SaysOnly result before said unsaid) → status ≡ status_of command result → (explained ≡ false → IsPlain shown) → Came m disk name shown c now made start end told before answer → IsCreated m disk name c explained now made start final told said status ⊎ IsGivenUp c explained start final told said status
+comes_so m disk shown c explained now made command name base inputs temporary o wide start end final told before said unsaid answer result status a kept same speaks says is unnamed (inl h) =
     let whole : result ≡ c.result = same ∙ h.0.is in
     inl (record {
       is_status = is ∙ status_create command name base inputs temporary o wide result a ∙ ap plain whole ∙ sym (status_plain c.output c.result);
       output = subst (Appends start final) (sym (output_plain c.output c.result)) (Appends-kept start end final c.output h.0.output kept);
-      lines = λ unexplained. subst (λ l. Appends told said (c.lines ++ l)) (ap line_of whole ∙ sym (line_plain c.output c.result)) (said_end result told before said unsaid c.lines speaks h.0.lines (says unexplained));
+      lines = λ unexplained. subst (λ l. Appends told said (c.lines ++ l)) (ap line_of whole ∙ sym (line_plain c.output c.result)) (said_end result told before said unsaid c.lines speaks (h.0.lines (unnamed unexplained)) (says unexplained));
       disk_is = h.1;
     })
-comes_so m disk c explained now made command name base inputs temporary o wide start end final told before said unsaid answer result status a kept same speaks says is (inr h) =
+comes_so m disk shown c explained now made command name base inputs temporary o wide start end final told before said unsaid answer result status a kept same speaks says is unnamed (inr h) =
     let whole : result ≡ Err h.fault = same ∙ h.is in
     inr (record {
       fault = h.fault;
       refusal = h.refusal;
       is_status = is ∙ status_create command name base inputs temporary o wide result a ∙ ap plain whole ∙ refused_plain h.fault h.refusal;
       output = prefix_kept start end final c.output h.output kept;
-      lines = λ unexplained. (h.lines.front, h.lines.more, h.lines.split, subst (λ l. Appends told said (h.lines.front ++ l)) (ap line_of whole) (said_end result told before said unsaid h.lines.front speaks h.lines.appended (says unexplained)));
+      lines = λ unexplained. (let part = h.lines (unnamed unexplained) in (part.front, part.more, part.split, subst (λ l. Appends told said (part.front ++ l)) (ap line_of whole) (said_end result told before said unsaid part.front speaks part.appended (says unexplained))));
     })
 
 run_holds : {F I M R Y : Type 0} (s : Ghosts F) (m : Ghosts M) (r : Raw R) (remaining : I → Option (List ℕ)) (y : Systems Y F I M) (planned : Result Asked Refused) (explained : Bool) (given : Option (List ℕ)) (old new : Y) (was now : NameCalls) (left : Left F M) (start end final told said : Option (List ℕ)) (unwritten unsaid : Type 0) (status : ℕ) (disk : Disk) (input name : List ℕ) (base : Option (List ℕ)) (inputs : List (List ℕ)) (temporary : Option (List ℕ)) (o : MakeOptions) (wide : Bool)
@@ -161,7 +162,7 @@ run_holds s m r remaining y planned explained given old new was now left start e
     let some_is : status ≡ plain does.answer = some.is_status ∙ status_create command name base inputs temporary o wide some.result a ∙ ap plain handed.1 in
     named_holds m (word_size wide) (greatest_size wide) disk input name base inputs temporary o shown explained was now left.made start final told said status shows.1
     (record {
-      comes = λ had has. comes_so m disk c explained now left.made command name base inputs temporary o wide start does.end final told some.before said unsaid does.answer some.result status a handed.0 handed.1 speaks (λ unexplained. says_only explained (asked_in command) some.result (y.calls new) now some.more some.before said unsaid unexplained some.explains some.says) some.is_status (so.answer had has);
+      comes = λ had has. comes_so m disk shown c explained now left.made command name base inputs temporary o wide start does.end final told some.before said unsaid does.answer some.result status a handed.0 handed.1 speaks (λ unexplained. says_only explained (asked_in command) some.result (y.calls new) now some.more some.before said unsaid unexplained some.explains some.says) some.is_status (λ unexplained. shown_plain explained inputs o shown shows.1 unexplained) (so.answer had has);
       done = λ zero. if_done _ does.answer so.done (sym some_is ∙ zero);
       failed = λ other. if_not_done _ does.answer so.failed (λ zero. other (some_is ∙ zero));
       moments = so.moments;

@@ -6,7 +6,7 @@ use Rattle.cdb_command.specs.Asked.{Asked}
 use Rattle.cdb_command.specs.Asked as asked
 use Rattle.cdb_command.specs.declared.options.MakeOptions.{MakeOptions}
 use Rattle.cdb_command.specs.Refused.{Refused}
-use Rattle.cdb_tool.specs.Runs.Made.{Made, made_of, made_file}
+use Rattle.cdb_tool.specs.Runs.Made.{Made, made_file, made_lines, made_of}
 use Rattle.cdb_tool.specs.Status.{plain_status}
 use Rattle.cdb_tool.specs.declared.fault.Fault.{Fault}
 use Rattle.cdb_tool.specs.declared.fault.Fault.TheVariants.{Open}
@@ -110,13 +110,13 @@ abbrev pub placed : ℕ → Disk → (name : List ℕ) → (base : Option (List 
     → (temporary : Option (List ℕ)) → Made → Created
 placed w disk name base inputs temporary made =
     let file = made_file w made in
-    if is_standard name then on_output disk made.lines file made.result
+    let lines = made_lines made in
+    if is_standard name then on_output disk lines file made.result
     else if is_in_place name temporary then (
-    if is_read name base inputs then unopened disk
-    else in_place disk name made.lines file made.result
+    if is_read name base inputs then unopened disk else in_place disk name lines file made.result
     )
     else if is_read (temporary_of name temporary) base inputs || is_no_name name then unopened disk
-    else in_temporary disk (temporary_of name temporary) name made.lines file made.result
+    else in_temporary disk (temporary_of name temporary) name lines file made.result
 
 -- if all that it reads is there
 abbrev pub if_opened : Disk → Option Created → Created

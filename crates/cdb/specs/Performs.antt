@@ -264,7 +264,7 @@ pub record Tells (text : List ℕ) (start end : Option (List ℕ)) (result : Res
 -- ---- the options of a create, with the names of its inputs if duplicates are explained
 abbrev pub IsShown : (explained : Bool) → (inputs : List (List ℕ)) → (options shown : MakeOptions)
     → Type 0
-IsShown false inputs options shown = shown ≡ options
+IsShown false inputs options shown = shown ≡ record options { names = None }
 IsShown true inputs options shown =
     (option_map (λ names. map string_bytes names.now) shown.names ≡ Some inputs)
     × (shown ≡ record options { names = shown.names })

@@ -42,13 +42,9 @@ fn shown_options<'a>(
     ensures shown { IsShown explains (map string_bytes inputs.entry.now) options.entry result }
     ensures limit { result.limit ≡ options.entry.limit }
 {
-    if explains {
-        MakeOptions {
-            names: Some(inputs),
-            ..options
-        }
-    } else {
-        options
+    MakeOptions {
+        names: if explains { Some(inputs) } else { None },
+        ..options
     }
 }
 

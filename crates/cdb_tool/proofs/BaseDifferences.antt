@@ -117,7 +117,7 @@ difference_room w limit rs ss room =
 -- the law
 pub holds_all : (w : ℕ) (o : MakeOptions) (rs ss : List KeyValue) → mode_of o ≡ Add → file_size w (brought_up rs ss) ≤ o.limit → HoldsAll w o rs ss
 holds_all w o rs ss mode room =
-    let start : Course = record { records = rs; lines = []; ended = None } in
+    let start : Course = record { records = rs; told = []; ended = None } in
     let h : Holds (fold (with_next w o) start (from_input 1 1 (difference rs ss))) (brought_up rs ss) = does_all w o start 1 1 rs (difference rs ss) mode (difference_room w o.limit rs ss room) (record { records = refl; going = refl }) in
     let same = append-nil (from_input 1 1 (difference rs ss)) in
     record {

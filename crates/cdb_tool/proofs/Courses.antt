@@ -4,15 +4,11 @@ use Rattle.std.specs.Prelude.{OnOk, IfErr}
 use Rattle.std.proofs.lemmas.Bool.{le-leb, lt-leb}
 use Rattle.std.proofs.lemmas.List.{append-nil}
 use Rattle.std.proofs.lemmas.List.Sums.{fold-append}
-use Rattle.std.specs.Io.KnownBytes.{Appends}
 use Rattle.cdb_store.specs.declared.store.Store.{Ghosts}
 use Rattle.cdb_form.specs.declared.width.Width.{Ghosts as Widths}
 use Rattle.cdb_form.specs.Format.Record.{KeyValue}
 use Rattle.cdb_form.specs.Format.File.{file_size}
 use Rattle.cdb_form.specs.Text.Amending.{Change, Putting, Removing}
-use Rattle.cdb_form.specs.Views.KnownBytes.{AppendsPrefix}
-use Rattle.cdb_form.proofs.Bytes.WritingLemmas.{appends_none}
-use Rattle.cdb_form.proofs.Bytes.WritingLemmas.{appends_then, prefix_then}
 use Rattle.cdb_make.specs.Survivors.{put_list, put_answer, fits}
 use Rattle.cdb_make.specs.Views.Batch.{Holds, Held, StaysWhole, Puts, WouldPut, FailsPutting, Removes, FailsRemoving, limit_of, count_in, IsUsable}
 use Rattle.cdb_make.specs.Views.Maker.{WhereHonest, ComesFrom}
@@ -24,12 +20,14 @@ use Rattle.cdb_make.specs.declared.records.put.Put.{Put}
 use Rattle.cdb_make.specs.declared.records.put.Put.TheVariants.{Added, AddedAgain, Present, Replaced}
 use Rattle.cdb_make.proofs.Making.Batches.{holds_count}
 use Rattle.cdb_make.proofs.Making.BatchPuts.{holds_fits}
+use Rattle.cdb_tool.specs.Message.{TellsEach, TellsPart}
 use Rattle.cdb_tool.specs.Views.Fault.{make_fault}
-use Rattle.cdb_tool.specs.Runs.Course.{Task, Incoming, Course, from_input, from_inputs, mode_of, said, ends, is_going, with_put, with_change, with_next, at_start, course_of, TellFails, Goes, StopsSo}
+use Rattle.cdb_tool.specs.Runs.Course.{Task, Incoming, Course, from_input, from_inputs, mode_of, told, ends, is_going, with_put, with_change, with_next, at_start, course_of, TellFails, Goes, StopsSo}
 use Rattle.cdb_tool.specs.Runs.Make.{InCourse, PutStops, IsOfStore, StandsAt, IsHalt, TakesNext}
 use Rattle.cdb_tool.specs.declared.fault.Fault.{Fault}
 use Rattle.cdb_tool.specs.declared.fault.Fault.TheVariants.{Text, Make, Duplicate, Missing, Read, Walk, Output, Long, Open, Rename, NoMemory, Old, New, NoOldTables, NoNewTables}
 use Rattle.cdb_command.specs.declared.options.MakeOptions.{MakeOptions}
+use Rattle.cdb_tool.proofs.ToldLines.{part_then, tells_none, tells_then}
 
 -- ---- the course over one item more
 
@@ -45,21 +43,21 @@ putting i n r = record { input = i; number = n; it = Putting r }
 abbrev pub course_put : ℕ → Task → List Incoming → ℕ → ℕ → KeyValue → Put → Course
 course_put w t cs i n r put =
     let s = course_of w t cs in
-    record { records = put_list (mode_of t.options) r s.records; lines = s.lines ++ said t.options i n r.key (Ok put); ended = ends t.options (Ok put) }
+    record { records = put_list (mode_of t.options) r s.records; told = s.told ++ told t.options i n r.key (Ok put); ended = ends t.options (Ok put) }
 
 put_fits : (w : ℕ) (o : MakeOptions) (s : Course) (i n : ℕ) (r : KeyValue) (put : Put) → fits w o.limit (mode_of o) r s.records ≡ true → put ≡ put_answer (mode_of o) r s.records
-    → with_put w o s i n r ≡ record { records = put_list (mode_of o) r s.records; lines = s.lines ++ said o i n r.key (Ok put); ended = ends o (Ok put) }
+    → with_put w o s i n r ≡ record { records = put_list (mode_of o) r s.records; told = s.told ++ told o i n r.key (Ok put); ended = ends o (Ok put) }
 put_fits w o s i n r put fit answer =
     let rs = put_list (mode_of o) r s.records in
     let p = put_answer (mode_of o) r s.records in
-    ap (λ b. let a : Result Put MakeFault = (if b then Ok p else Err make.TooBig) in record { records = if b then rs else s.records; lines = s.lines ++ said o i n r.key a; ended = ends o a }) fit
-    ∙ ap (λ q. record { records = rs; lines = s.lines ++ said o i n r.key (Ok q); ended = ends o (Ok q) }) (sym answer)
+    ap (λ b. let a : Result Put MakeFault = (if b then Ok p else Err make.TooBig) in record { records = if b then rs else s.records; told = s.told ++ told o i n r.key a; ended = ends o a }) fit
+    ∙ ap (λ q. record { records = rs; told = s.told ++ told o i n r.key (Ok q); ended = ends o (Ok q) }) (sym answer)
 
-put_full : (w : ℕ) (o : MakeOptions) (s : Course) (i n : ℕ) (r : KeyValue) → fits w o.limit (mode_of o) r s.records ≡ false → with_put w o s i n r ≡ record { records = s.records; lines = s.lines ++ []; ended = Some (Make make.TooBig) }
+put_full : (w : ℕ) (o : MakeOptions) (s : Course) (i n : ℕ) (r : KeyValue) → fits w o.limit (mode_of o) r s.records ≡ false → with_put w o s i n r ≡ record { records = s.records; told = s.told ++ []; ended = Some (Make make.TooBig) }
 put_full w o s i n r full =
     let rs = put_list (mode_of o) r s.records in
     let p = put_answer (mode_of o) r s.records in
-    ap (λ b. let a : Result Put MakeFault = (if b then Ok p else Err make.TooBig) in record { records = if b then rs else s.records; lines = s.lines ++ said o i n r.key a; ended = ends o a }) full
+    ap (λ b. let a : Result Put MakeFault = (if b then Ok p else Err make.TooBig) in record { records = if b then rs else s.records; told = s.told ++ told o i n r.key a; ended = ends o a }) full
 
 -- ---- a put
 
@@ -87,8 +85,8 @@ is_put {l = l} t cs i n r start mid old new put h wide puts comes limit b is =
 
 -- the run goes on
 put_goes : {S L : Type 0} {s : Ghosts S} {l : Widths L} (t : Task) (cs : List Incoming) (i n : ℕ) (r : KeyValue) (start mid end : Option (List ℕ)) (old new : Batch S L s l) (put : Put) → InCourse t cs start mid old → (l.WORD ≡ 4) ⊎ (l.WORD ≡ 8) → Puts old new (mode_of t.options) r put
-    → ComesFrom (s.image old.maker.store) (s.image new.maker.store) → limit_of new ≡ limit_of old → Appends mid end (said t.options i n r.key (Ok put)) → ends t.options (Ok put) ≡ None → InCourse t (cs ++ putting i n r ∷ []) start end new
-put_goes {l = l} t cs i n r start mid end old new put h wide puts comes limit told going = record {
+    → ComesFrom (s.image old.maker.store) (s.image new.maker.store) → limit_of new ≡ limit_of old → TellsEach t.options.names (told t.options i n r.key (Ok put)) mid end → ends t.options (Ok put) ≡ None → InCourse t (cs ++ putting i n r ∷ []) start end new
+put_goes {l = l} t cs i n r start mid end old new put h wide puts comes limit tells going = record {
   holds = record {
     whole = puts.whole;
     held = record { each = λ b is. let p = is_put t cs i n r start mid old new put h wide puts comes limit b is in subst (λ s. Held new s.records) (sym p.is) p.held };
@@ -99,7 +97,7 @@ put_goes {l = l} t cs i n r start mid end old new put h wide puts comes limit to
         let p = is_put t cs i n r start mid old new put h wide puts comes limit b is in
         record {
           going = ap (λ s. s.ended) p.is ∙ going;
-          lines = subst (λ s. Appends start end s.lines) (sym p.is) (appends_then start mid end _ _ p.goes.lines told);
+          lines = subst (λ s. TellsEach t.options.names s.told start end) (sym p.is) (tells_then t.options.names _ _ start mid end p.goes.lines tells);
         };
   };
 }
@@ -121,14 +119,14 @@ told_so t cs i n r start mid end m put (Old side) b p x = absurd x
 told_so t cs i n r start mid end m put (New side) b p x = absurd x
 told_so t cs i n r start mid end m put NoMemory b p x = absurd x
 told_so {l = l} t cs i n r start mid end m put Output b p x =
-    subst (λ s. AppendsPrefix start end s.lines) (sym p.is) (prefix_then start mid end (course_of l.WORD t cs).lines (said t.options i n r.key (Ok put)) [] _ p.goes.lines x (ap (λ u. (course_of l.WORD t cs).lines ++ u) (sym (append-nil _))))
+    subst (λ s. TellsPart t.options.names s.told start end) (sym p.is) (part_then t.options.names _ _ start mid end p.goes.lines x)
 told_so t cs i n r start mid end m put Duplicate b p x = record {
   before = cs;
   last = putting i n r;
   are = refl;
   going = p.goes.going;
   ended = ap (λ s. s.ended) p.is ∙ x.1;
-  lines = subst (λ s. Appends start end s.lines) (sym p.is) (appends_then start mid end _ _ p.goes.lines x.0);
+  lines = subst (λ s. TellsEach t.options.names s.told start end) (sym p.is) (tells_then t.options.names _ _ start mid end p.goes.lines x.0);
 }
 
 put_told : {S L : Type 0} {s : Ghosts S} {l : Widths L} (t : Task) (cs : List Incoming) (i n : ℕ) (r : KeyValue) (start mid end : Option (List ℕ)) (old new : Batch S L s l) (put : Put) (f : Fault) → InCourse t cs start mid old → (l.WORD ≡ 4) ⊎ (l.WORD ≡ 8) → Puts old new (mode_of t.options) r put
@@ -168,7 +166,7 @@ full_so {l = l} t cs i n r start mid old goes limit large =
       are = refl;
       going = goes.going;
       ended = ap (λ v. v.ended) is;
-      lines = subst (λ v. Appends start mid v.lines) (sym is) (subst (Appends start mid) (sym (append-nil s.lines)) goes.lines);
+      lines = subst (λ v. TellsEach o.names v.told start mid) (sym is) (subst (λ ds. TellsEach o.names ds start mid) (sym (append-nil s.told)) goes.lines);
     }
 
 refused_so : {S L : Type 0} {s : Ghosts S} {l : Widths L} (t : Task) (cs : List Incoming) (i n : ℕ) (r : KeyValue) (start mid : Option (List ℕ)) (old new : Batch S L s l) (f : MakeFault) → InCourse t cs start mid old → FailsPutting old new (mode_of t.options) r f
@@ -295,10 +293,10 @@ told_memory o i j key put old new f x e = told_halts o i j key put old new f x (
 -- ---- the same of a run that has these options
 
 pub put_goes_so : {S L : Type 0} {s : Ghosts S} {l : Widths L} (t : Task) (o : MakeOptions) (cs : List Incoming) (i n : ℕ) (r : KeyValue) (start mid end : Option (List ℕ)) (old new : Batch S L s l) (put : Put) → t.options ≡ o → InCourse t cs start mid old → (l.WORD ≡ 4) ⊎ (l.WORD ≡ 8) → Puts old new (mode_of o) r put
-    → ComesFrom (s.image old.maker.store) (s.image new.maker.store) → limit_of new ≡ limit_of old → Appends mid end (said o i n r.key (Ok put)) → ends o (Ok put) ≡ None → InCourse t (cs ++ putting i n r ∷ []) start end new
-put_goes_so t o cs i n r start mid end old new put same h wide puts comes limit told going =
+    → ComesFrom (s.image old.maker.store) (s.image new.maker.store) → limit_of new ≡ limit_of old → TellsEach o.names (told o i n r.key (Ok put)) mid end → ends o (Ok put) ≡ None → InCourse t (cs ++ putting i n r ∷ []) start end new
+put_goes_so t o cs i n r start mid end old new put same h wide puts comes limit tells going =
     put_goes t cs i n r start mid end old new put h wide (subst (λ v. Puts old new (mode_of v) r put) (sym same) puts) comes limit
-    (subst (λ v. Appends mid end (said v i n r.key (Ok put))) (sym same) told) (subst (λ v. ends v (Ok put) ≡ None) (sym same) going)
+    (subst (λ v. TellsEach v.names (told v i n r.key (Ok put)) mid end) (sym same) tells) (subst (λ v. ends v (Ok put) ≡ None) (sym same) going)
 
 pub put_told_so : {S L : Type 0} {s : Ghosts S} {l : Widths L} (t : Task) (o : MakeOptions) (cs : List Incoming) (i n : ℕ) (r : KeyValue) (start mid end : Option (List ℕ)) (old new : Batch S L s l) (put : Put) (f : Fault) → t.options ≡ o → InCourse t cs start mid old → (l.WORD ≡ 4) ⊎ (l.WORD ≡ 8) → Puts old new (mode_of o) r put
     → ComesFrom (s.image old.maker.store) (s.image new.maker.store) → limit_of new ≡ limit_of old → TellFails o i n r.key put mid end f → WhereHonest (s.image new.maker.store) (PutStops l.WORD t cs (putting i n r) start end f)
@@ -337,7 +335,7 @@ removed_goes {l = l} t cs i n key count start now old new h removes comes limit 
             let next = course_next l.WORD t cs (removing i n key) goes.going in
             record {
               going = ap (λ s. s.ended) next ∙ goes.going;
-              lines = subst (λ s. Appends start now s.lines) (sym next) goes.lines;
+              lines = subst (λ s. TellsEach t.options.names s.told start now) (sym next) goes.lines;
             };
       };
     }
@@ -364,7 +362,7 @@ unremoved_store old new key make.NoMemory x is = absurd is
 -- ---- the start
 
 pub course_starts : {S L : Type 0} {s : Ghosts S} {l : Widths L} (t : Task) (start : Option (List ℕ)) (m : Batch S L s l) → Holds m (at_start t).records → limit_of m ≡ t.options.limit → InCourse t [] start start m
-course_starts t start m h limit = record { holds = h; limit = limit; goes = record { each = λ b is. record { going = refl; lines = appends_none start } } }
+course_starts t start m h limit = record { holds = h; limit = limit; goes = record { each = λ b is. record { going = refl; lines = tells_none t.options.names start } } }
 
 -- ---- the items of inputs, one more
 

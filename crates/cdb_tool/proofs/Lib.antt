@@ -23,3 +23,4 @@ pub mod MadeOf
 pub mod NamedInputs
 pub mod LookedUp
 pub mod ShownParts
+pub mod ToldLines

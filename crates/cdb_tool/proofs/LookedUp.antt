@@ -30,8 +30,8 @@ use Rattle.cdb_tool.specs.declared.fault.Fault.{Fault}
 use Rattle.cdb_tool.specs.declared.fault.Fault.TheVariants.{Text, Make, Duplicate, Missing, Read, Walk, Output, Long, Open, Rename, NoMemory, Old, New, NoOldTables, NoNewTables}
 use Rattle.cdb_tool.proofs.GivenInputs.{after, all_given, begins_given, first_fails, left_known}
 use Rattle.cdb_tool.proofs.LookupRuns.{each_more}
-use Rattle.cdb_tool.proofs.MadeOf.{longer_prefix, whole_lines}
-use Rattle.cdb_tool.proofs.WholeRuns.{prefix_kept}
+use Rattle.cdb_form.proofs.Bytes.WritingLemmas.{prefix_in}
+use Rattle.cdb_tool.proofs.WholeRuns.{prefix_kept, whole_prefix}
 
 -- ---- what comes of it
 
@@ -148,8 +148,8 @@ part_asked w g number style inputs shared bytes keys more start end e p =
     let same : all ≡ fold (with_key w bytes number style) (looked_up w bytes number style keys) more = ap (looked_up w bytes number style) e ∙ looked_more w bytes number style keys more in
     let grow = keys_grow w bytes number style (looked_up w bytes number style keys) more in
     let last = given_grows (has_ended all.answer) style all given.fault in
-    longer_prefix start end (looked_up w bytes number style keys).text _ (grow.0 ++ last.0)
-    (last.1 ∙ ap (λ t. t ++ last.0) (ap (λ (l : Looked). l.text) same ∙ grow.1) ∙ append_assoc (looked_up w bytes number style keys).text grow.0 last.0) p
+    prefix_in start end (looked_up w bytes number style keys).text (grow.0 ++ last.0) _ p
+    (last.1 ∙ ap (λ t. t ++ last.0) (ap (λ (l : Looked). l.text) same ∙ grow.1) ∙ append_assoc (looked_up w bytes number style keys).text grow.0 last.0)
 
 -- the last of these keys met a damage
 damage_asked : (w g : ℕ) (number : Option ℕ) (style : Style) (inputs : List (Option (List ℕ))) (shared bytes : List ℕ) (keys more : List (List ℕ)) (start end : Option (List ℕ)) (f : Fault) → keys_of_each (given_from (keys_form style) g 1 inputs shared).items ≡ keys ++ more
@@ -197,7 +197,7 @@ stops_asked w g s number style inputs shared left old new bytes start end (Read 
 stops_asked w g s number style inputs shared left old new bytes start end Output more known is works h keys =
     record { long = h.stops.0; comes = refused _ start end Output tt (part_asked w g number style inputs shared bytes _ more start end keys (h.stops.1 bytes is)) }
 stops_asked w g s number style inputs shared left old new bytes start end NoMemory more known is works h keys =
-    record { long = h.stops.1.long; comes = refused _ start end NoMemory tt (part_asked w g number style inputs shared bytes _ more start end keys (whole_lines start end _ (h.stops.1.written bytes is))) }
+    record { long = h.stops.1.long; comes = refused _ start end NoMemory tt (part_asked w g number style inputs shared bytes _ more start end keys (whole_prefix start end _ (h.stops.1.written bytes is))) }
 stops_asked w g s number style inputs shared left old new bytes start end (Text n (text.Syntax at)) more known is works h keys =
     record { long = h.stops.1.long; comes = text_asked w g s number style inputs shared left old new bytes start end n _ known is tt h h.stops.0 h.stops.1 }
 stops_asked w g s number style inputs shared left old new bytes start end (Text n (text.Ended at)) more known is works h keys =
@@ -205,9 +205,9 @@ stops_asked w g s number style inputs shared left old new bytes start end (Text 
 stops_asked w g s number style inputs shared left old new bytes start end (Text n (text.Large at)) more known is works h keys =
     record { long = h.stops.1.long; comes = text_asked w g s number style inputs shared left old new bytes start end n _ known is tt h h.stops.0 h.stops.1 }
 stops_asked w g s number style inputs shared left old new bytes start end (Text n text.Input) more known is works h keys =
-    record { long = h.stops.1.long; comes = refused _ start end _ tt (part_asked w g number style inputs shared bytes _ more start end keys (whole_lines start end _ (h.stops.1.written bytes is))) }
+    record { long = h.stops.1.long; comes = refused _ start end _ tt (part_asked w g number style inputs shared bytes _ more start end keys (whole_prefix start end _ (h.stops.1.written bytes is))) }
 stops_asked w g s number style inputs shared left old new bytes start end (Text n text.Endless) more known is works h keys =
-    record { long = h.stops.1.long; comes = refused _ start end _ tt (part_asked w g number style inputs shared bytes _ more start end keys (whole_lines start end _ (h.stops.1.written bytes is))) }
+    record { long = h.stops.1.long; comes = refused _ start end _ tt (part_asked w g number style inputs shared bytes _ more start end keys (whole_prefix start end _ (h.stops.1.written bytes is))) }
 stops_asked w g s number style inputs shared left old new bytes start end (Text n text.NoMemory) more known is works h keys = absurd ((h.of_text n text.NoMemory refl).1.has.memory refl)
 stops_asked w g s number style inputs shared left old new bytes start end (Read read.Short) more known is works h keys = absurd h.stops
 stops_asked w g s number style inputs shared left old new bytes start end (Read (read.Slot n i)) more known is works h keys = absurd h.stops
@@ -294,7 +294,7 @@ not_whole Missing refusal whole = refusal
 not_whole f refusal whole = whole
 
 flush_failed : (l : Looked) (start mid end : Option (List ℕ)) (answer : Result Unit Fault) → Keeps mid end → IsWhole answer → ComesOf l start mid answer → ComesOf l start end (Err Output)
-flush_failed l start mid end answer k whole (inl so) = refused l start end Output tt (whole_lines start end l.text (Appends-kept start mid end l.text so.written k))
+flush_failed l start mid end answer k whole (inl so) = refused l start end Output tt (whole_prefix start end l.text (Appends-kept start mid end l.text so.written k))
 flush_failed l start mid end answer k whole (inr not) = absurd (not_whole not.fault not.refusal (subst IsWhole not.is whole))
 
 flushed_or : {S : Type 0} (w : ℕ) (s : Ghosts S) (l : Looked) (old new : S) (start mid end : Option (List ℕ)) (answer result : Result Unit Fault) → FlushedWhole mid end answer result → LooksOrShort w s l old new start mid answer → LooksOrShort w s l old new start end result

@@ -13,7 +13,6 @@ use Rattle.cdb_form.specs.Text.Amending.{Change, Putting, Removing, SpellsChange
 use Rattle.cdb_form.specs.Text.List.{SpellsKey}
 use Rattle.cdb_form.specs.Text.Map.{map_lines}
 use Rattle.cdb_form.specs.Text.Native.{Spells}
-use Rattle.cdb_form.specs.Views.KnownBytes.{AppendsPrefix}
 use Rattle.cdb_form.specs.Text.Form.{Spelled}
 use Rattle.cdb_form.specs.Text.Map.{Lacks, is_newline, line_records, with_newlines}
 use Rattle.std.specs.List.{AllByRecursion}
@@ -28,9 +27,11 @@ use Rattle.cdb_make.specs.declared.fault.MakeFault.TheVariants as make
 use Rattle.cdb_read.specs.Views.ReadFault.{damage_fault}
 use Rattle.cdb_read.specs.declared.fault.ReadFault.{ReadFault}
 use Rattle.cdb_read.specs.declared.fault.ReadFault.TheVariants as read
+use Rattle.cdb_tool.specs.Message.{TellsEach, TellsPart, Told}
 use Rattle.cdb_tool.specs.Runs.Base.{NotAdded}
-use Rattle.cdb_tool.specs.Runs.Course.{Course, Task, Incoming, task_of, from_inputs, with_change, with_next, is_going, at_start, course_of, said, mode_of, StopsSo}
+use Rattle.cdb_tool.specs.Runs.Course.{Course, Task, Incoming, task_of, from_inputs, with_change, with_next, is_going, at_start, course_of, told, mode_of, StopsSo}
 use Rattle.cdb_make.specs.Survivors.{put_result}
+use Rattle.cdb_tool.proofs.ToldLines.{part_more, part_none, part_whole}
 use Rattle.cdb_tool.proofs.GivenInputs.{after, all_given, begins_given, first_fails, left_known}
 use Rattle.cdb_tool.specs.Runs.Inputs.{InputForm, HasFaults, Puts, Changes, Lists, input_form, InputsLeft, BeginsWithItems, HasItemFault, OneBegins, FirstBegins, FirstHas}
 use Rattle.cdb_tool.specs.Runs.Make.{records_of, IsSomeBase, Makes, MakesDatabase, MeetsInput, Stops, BaseStops, InputsStop, RunFails, Runs, came}
@@ -52,35 +53,26 @@ stays_ended w o s (c ∷ more) f e =
     let one : with_next w o s c ≡ s = ap (λ x. if is_going x then with_change w o s c.input c.number c.it else s) e in
     ap (λ v. fold (with_next w o) v more) one ∙ stays_ended w o s more f e
 
--- its lines grow
-lines_changed : (w : ℕ) (o : MakeOptions) (s : Course) (i n : ℕ) (it : Change) → (x : List ℕ) × ((with_change w o s i n it).lines ≡ s.lines ++ x)
-lines_changed w o s i n (Putting r) = (said o i n r.key (put_result w o.limit (mode_of o) r s.records), refl)
-lines_changed w o s i n (Removing key) = ([], sym (append-nil s.lines))
+-- what it told grows
+told_changed : (w : ℕ) (o : MakeOptions) (s : Course) (i n : ℕ) (it : Change) → (x : List Told) × ((with_change w o s i n it).told ≡ s.told ++ x)
+told_changed w o s i n (Putting r) = (told o i n r.key (put_result w o.limit (mode_of o) r s.records), refl)
+told_changed w o s i n (Removing key) = ([], sym (append-nil s.told))
 
-lines_next : (w : ℕ) (o : MakeOptions) (s : Course) (c : Incoming) (e : Option Fault) → (x : List ℕ) × ((if is_going e then with_change w o s c.input c.number c.it else s).lines ≡ s.lines ++ x)
-lines_next w o s c None = lines_changed w o s c.input c.number c.it
-lines_next w o s c (Some fault) = ([], sym (append-nil s.lines))
+told_next : (w : ℕ) (o : MakeOptions) (s : Course) (c : Incoming) (e : Option Fault) → (x : List Told) × ((if is_going e then with_change w o s c.input c.number c.it else s).told ≡ s.told ++ x)
+told_next w o s c None = told_changed w o s c.input c.number c.it
+told_next w o s c (Some fault) = ([], sym (append-nil s.told))
 
-lines_grow : (w : ℕ) (o : MakeOptions) (s : Course) (more : List Incoming) → (x : List ℕ) × ((fold (with_next w o) s more).lines ≡ s.lines ++ x)
-lines_grow w o s [] = ([], sym (append-nil s.lines))
-lines_grow w o s (c ∷ more) =
-    let one = lines_next w o s c s.ended in
-    let rest = lines_grow w o (with_next w o s c) more in
-    (one.0 ++ rest.0, rest.1 ∙ ap (λ l. l ++ rest.0) one.1 ∙ append_assoc s.lines one.0 rest.0)
+told_grow : (w : ℕ) (o : MakeOptions) (s : Course) (more : List Incoming) → (x : List Told) × ((fold (with_next w o) s more).told ≡ s.told ++ x)
+told_grow w o s [] = ([], sym (append-nil s.told))
+told_grow w o s (c ∷ more) =
+    let one = told_next w o s c s.ended in
+    let rest = told_grow w o (with_next w o s c) more in
+    (one.0 ++ rest.0, rest.1 ∙ ap (λ l. l ++ rest.0) one.1 ∙ append_assoc s.told one.0 rest.0)
 
 -- ---- what comes of a run
 
-pub longer_prefix : (old new : Option (List ℕ)) (xs ys more : List ℕ) → ys ≡ xs ++ more → AppendsPrefix old new xs → AppendsPrefix old new ys
-longer_prefix old new xs ys more e p = record { front = p.front; more = p.more ++ more; split = e ∙ ap (λ t. t ++ more) p.split ∙ append_assoc p.front p.more more; appended = p.appended }
-
-pub whole_lines : (old new : Option (List ℕ)) (xs : List ℕ) → Appends old new xs → AppendsPrefix old new xs
-whole_lines old new xs a = record { front = xs; more = []; split = sym (append-nil xs); appended = a }
-
-no_lines : (old new : Option (List ℕ)) (xs : List ℕ) → Appends old new [] → AppendsPrefix old new xs
-no_lines old new xs a = record { front = []; more = xs; split = refl; appended = a }
-
-refused : (w : ℕ) (m : Made) (images : List ℕ → Type 0) (old new : Option (List ℕ)) (f : Fault) → IsMakeRefusal f → AppendsPrefix old new m.lines → ComesOf w m images old new (Err f)
-refused w m images old new f is p = inr (record { fault = f; is = refl; refusal = is; lines = p })
+refused : (w : ℕ) (o : MakeOptions) (m : Made) (images : List ℕ → Type 0) (old new : Option (List ℕ)) (f : Fault) → IsMakeRefusal f → TellsPart o.names m.told old new → ComesOf w o m images old new (Err f)
+refused w o m images old new f is p = inr (record { fault = f; is = refl; refusal = is; lines = p })
 
 -- ---- the base
 
@@ -97,47 +89,47 @@ damaged_base : (w limit : ℕ) (walk : Walked) (damage : Damage) → walk.damage
 damaged_base w limit walk damage e fits =
     cond-false (nat_lt limit (file_size w walk.records)) _ _ (le-ltb limit (file_size w walk.records) fits) ∙ ap (option_map (λ d. Read (damage_fault d))) e
 
-stopped_base : (w : ℕ) (images : List ℕ → Type 0) (old new : Option (List ℕ)) (fault f : Fault) (why : Option Fault) (made : Made) → why ≡ Some fault → f ≡ fault → Appends old new [] → ComesOf w (unless_stopped why made) images old new (Err f)
-stopped_base w images old new fault f why made e same lines =
-    subst (λ y. ComesOf w (unless_stopped y made) images old new (Err f)) (sym e) (inl (record { is = ap (λ (x : Fault). Err x) same; lines = lines; file = tt }))
+stopped_base : (w : ℕ) (o : MakeOptions) (images : List ℕ → Type 0) (old new : Option (List ℕ)) (fault f : Fault) (why : Option Fault) (made : Made) → why ≡ Some fault → f ≡ fault → Appends old new [] → ComesOf w o (unless_stopped why made) images old new (Err f)
+stopped_base w o images old new fault f why made e same lines =
+    subst (λ y. ComesOf w o (unless_stopped y made) images old new (Err f)) (sym e) (inl (record { is = ap (λ (x : Fault). Err x) same; lines = record { text = []; are = refl; written = lines }; file = tt }))
 
-damaged_read : (w limit : ℕ) (images : List ℕ → Type 0) (old new : Option (List ℕ)) (walk : Walked) (made : Made) (fault : ReadFault) → (damage : Damage) × (fault ≡ damage_fault damage) × (walk.damage ≡ Some damage) × (file_size w walk.records ≤ limit) → Appends old new []
-    → ComesOf w (unless_stopped (walk_fault w limit walk) made) images old new (Err (Read fault))
-damaged_read w limit images old new walk made fault (damage, is, has, fits) lines =
-    stopped_base w images old new (Read (damage_fault damage)) (Read fault) (walk_fault w limit walk) made (damaged_base w limit walk damage has fits) (ap (λ (x : ReadFault). Read x) is) lines
+damaged_read : (w limit : ℕ) (o : MakeOptions) (images : List ℕ → Type 0) (old new : Option (List ℕ)) (walk : Walked) (made : Made) (fault : ReadFault) → (damage : Damage) × (fault ≡ damage_fault damage) × (walk.damage ≡ Some damage) × (file_size w walk.records ≤ limit) → Appends old new []
+    → ComesOf w o (unless_stopped (walk_fault w limit walk) made) images old new (Err (Read fault))
+damaged_read w limit o images old new walk made fault (damage, is, has, fits) lines =
+    stopped_base w o images old new (Read (damage_fault damage)) (Read fault) (walk_fault w limit walk) made (damaged_base w limit walk damage has fits) (ap (λ (x : ReadFault). Read x) is) lines
 
-base_stops : (w limit : ℕ) (images : List ℕ → Type 0) (old new : Option (List ℕ)) (walk : Walked) (made : Made) (f : Fault) → NotAdded w limit walk f → Appends old new [] → ComesOf w (unless_stopped (walk_fault w limit walk) made) images old new (Err f)
-base_stops w limit images old new walk made (Make make.TooBig) h lines = stopped_base w images old new (Make make.TooBig) _ (walk_fault w limit walk) made (large_base w limit walk h) refl lines
-base_stops w limit images old new walk made (Make make.Writing) h lines = refused w _ images old new _ tt (no_lines old new _ lines)
-base_stops w limit images old new walk made (Make make.Lookup) h lines = absurd h
-base_stops w limit images old new walk made (Make make.NoMemory) h lines = absurd h
-base_stops w limit images old new walk made (Make make.Broken) h lines = absurd h
-base_stops w limit images old new walk made (Read read.Device) h lines = refused w _ images old new _ tt (no_lines old new _ lines)
-base_stops w limit images old new walk made (Read read.Short) h lines = damaged_read w limit images old new walk made read.Short h lines
-base_stops w limit images old new walk made (Read (read.Table n)) h lines = damaged_read w limit images old new walk made (read.Table n) h lines
-base_stops w limit images old new walk made (Read (read.Record place)) h lines = damaged_read w limit images old new walk made (read.Record place) h lines
-base_stops w limit images old new walk made (Read (read.Slot n i)) h lines = damaged_read w limit images old new walk made (read.Slot n i) h lines
-base_stops w limit images old new walk made (Read (read.Twice place)) h lines = damaged_read w limit images old new walk made (read.Twice place) h lines
-base_stops w limit images old new walk made (Read (read.Unindexed place)) h lines = damaged_read w limit images old new walk made (read.Unindexed place) h lines
-base_stops w limit images old new walk made (Read read.NoMemory) h lines = damaged_read w limit images old new walk made read.NoMemory h lines
-base_stops w limit images old new walk made (Read read.Output) h lines = damaged_read w limit images old new walk made read.Output h lines
-base_stops w limit images old new walk made NoMemory h lines = refused w _ images old new _ tt (no_lines old new _ lines)
-base_stops w limit images old new walk made (Text n f) h lines = absurd h
-base_stops w limit images old new walk made Duplicate h lines = absurd h
-base_stops w limit images old new walk made Missing h lines = absurd h
-base_stops w limit images old new walk made (Walk f) h lines = absurd h
-base_stops w limit images old new walk made Output h lines = absurd h
-base_stops w limit images old new walk made Long h lines = absurd h
-base_stops w limit images old new walk made Open h lines = absurd h
-base_stops w limit images old new walk made Rename h lines = absurd h
-base_stops w limit images old new walk made (Old f) h lines = absurd h
-base_stops w limit images old new walk made (New f) h lines = absurd h
-base_stops w limit images old new walk made NoOldTables h lines = absurd h
-base_stops w limit images old new walk made NoNewTables h lines = absurd h
+base_stops : (w limit : ℕ) (o : MakeOptions) (images : List ℕ → Type 0) (old new : Option (List ℕ)) (walk : Walked) (made : Made) (f : Fault) → NotAdded w limit walk f → Appends old new [] → ComesOf w o (unless_stopped (walk_fault w limit walk) made) images old new (Err f)
+base_stops w limit o images old new walk made (Make make.TooBig) h lines = stopped_base w o images old new (Make make.TooBig) _ (walk_fault w limit walk) made (large_base w limit walk h) refl lines
+base_stops w limit o images old new walk made (Make make.Writing) h lines = refused w o _ images old new _ tt (part_none o.names _ old new lines)
+base_stops w limit o images old new walk made (Make make.Lookup) h lines = absurd h
+base_stops w limit o images old new walk made (Make make.NoMemory) h lines = absurd h
+base_stops w limit o images old new walk made (Make make.Broken) h lines = absurd h
+base_stops w limit o images old new walk made (Read read.Device) h lines = refused w o _ images old new _ tt (part_none o.names _ old new lines)
+base_stops w limit o images old new walk made (Read read.Short) h lines = damaged_read w limit o images old new walk made read.Short h lines
+base_stops w limit o images old new walk made (Read (read.Table n)) h lines = damaged_read w limit o images old new walk made (read.Table n) h lines
+base_stops w limit o images old new walk made (Read (read.Record place)) h lines = damaged_read w limit o images old new walk made (read.Record place) h lines
+base_stops w limit o images old new walk made (Read (read.Slot n i)) h lines = damaged_read w limit o images old new walk made (read.Slot n i) h lines
+base_stops w limit o images old new walk made (Read (read.Twice place)) h lines = damaged_read w limit o images old new walk made (read.Twice place) h lines
+base_stops w limit o images old new walk made (Read (read.Unindexed place)) h lines = damaged_read w limit o images old new walk made (read.Unindexed place) h lines
+base_stops w limit o images old new walk made (Read read.NoMemory) h lines = damaged_read w limit o images old new walk made read.NoMemory h lines
+base_stops w limit o images old new walk made (Read read.Output) h lines = damaged_read w limit o images old new walk made read.Output h lines
+base_stops w limit o images old new walk made NoMemory h lines = refused w o _ images old new _ tt (part_none o.names _ old new lines)
+base_stops w limit o images old new walk made (Text n f) h lines = absurd h
+base_stops w limit o images old new walk made Duplicate h lines = absurd h
+base_stops w limit o images old new walk made Missing h lines = absurd h
+base_stops w limit o images old new walk made (Walk f) h lines = absurd h
+base_stops w limit o images old new walk made Output h lines = absurd h
+base_stops w limit o images old new walk made Long h lines = absurd h
+base_stops w limit o images old new walk made Open h lines = absurd h
+base_stops w limit o images old new walk made Rename h lines = absurd h
+base_stops w limit o images old new walk made (Old f) h lines = absurd h
+base_stops w limit o images old new walk made (New f) h lines = absurd h
+base_stops w limit o images old new walk made NoOldTables h lines = absurd h
+base_stops w limit o images old new walk made NoNewTables h lines = absurd h
 
-some_base_stops : (w g : ℕ) (o : MakeOptions) (base : Option (List ℕ)) (images : List ℕ → Type 0) (old new : Option (List ℕ)) (made : Made) (f : Fault) → BaseStops w o.limit base old new f → ComesOf w (unless_stopped (base_fault w o.limit base) made) images old new (Err f)
+some_base_stops : (w g : ℕ) (o : MakeOptions) (base : Option (List ℕ)) (images : List ℕ → Type 0) (old new : Option (List ℕ)) (made : Made) (f : Fault) → BaseStops w o.limit base old new f → ComesOf w o (unless_stopped (base_fault w o.limit base) made) images old new (Err f)
 some_base_stops w g o None images old new made f h = absurd h.fails
-some_base_stops w g o (Some b) images old new made f h = base_stops w o.limit images old new (walk_of w b) made f h.fails h.lines
+some_base_stops w g o (Some b) images old new made f h = base_stops w o.limit o images old new (walk_of w b) made f h.fails h.lines
 
 -- ---- the inputs
 
@@ -148,38 +140,38 @@ native_form o false e = subst (λ s. HasFaults (input_form s false)) (sym e) tt
 
 -- they were read to a fault of a text
 text_met : (w g : ℕ) (t : Task) (inputs : List (Option (List ℕ))) (shared : List ℕ) (left : InputsLeft) (images : List ℕ → Type 0) (old new : Option (List ℕ)) (n : ℕ) (f : TextFault) → Known inputs shared left → IsOfText f → MeetsInput w g t left old new n f
-    → ComesOf w (made_from w t (given_from (make_run.form_of t) g 1 inputs shared)) images old new (Err (Text n f))
+    → ComesOf w t.options (made_from w t (given_from (make_run.form_of t) g 1 inputs shared)) images old new (Err (Text n f))
 text_met w g t inputs shared left images old new n f k is h =
     let form = make_run.form_of t in
     let rest = left_known form g 1 h.read inputs shared left h.rest k h.are in
     let fails = first_fails form g (1 + length h.read) h.last rest.more rest.left h.rest h.input f (native_form t.options (is_some t.base) (h.native is)) is rest.is_known h.first h.has in
     let given : given_from form g 1 inputs shared ≡ record { items = h.read ++ h.last ∷ []; fault = Some (Text n f) } =
     rest.given ∙ ap (after h.read) fails ∙ ap (λ (m : ℕ). let v : Given = record { items = h.read ++ h.last ∷ []; fault = Some (Text m f) } in v) (omega (arith, h.numbered)) in
-    subst (λ v. ComesOf w (made_from w t v) images old new (Err (Text n f))) (sym given)
+    subst (λ v. ComesOf w t.options (made_from w t v) images old new (Err (Text n f))) (sym given)
     (inl (record { is = sym (ap (λ e. ended_by e (Some (Text n f))) h.goes.going); lines = h.goes.lines; file = tt }))
 
 -- or stopped, having read all or a part of what they say
-stops_ended : (w : ℕ) (t : Task) (given : Given) (cs more : List Incoming) (images : List ℕ → Type 0) (old new : Option (List ℕ)) (f : Fault) → from_inputs 1 given.items ≡ cs ++ more → (course_of w t cs).ended ≡ Some f → Appends old new (course_of w t cs).lines → ComesOf w (made_from w t given) images old new (Err f)
+stops_ended : (w : ℕ) (t : Task) (given : Given) (cs more : List Incoming) (images : List ℕ → Type 0) (old new : Option (List ℕ)) (f : Fault) → from_inputs 1 given.items ≡ cs ++ more → (course_of w t cs).ended ≡ Some f → TellsEach t.options.names (course_of w t cs).told old new → ComesOf w t.options (made_from w t given) images old new (Err f)
 stops_ended w t given cs more images old new f e ended lines =
     let same : course_of w t (from_inputs 1 given.items) ≡ course_of w t cs = ap (course_of w t) e ∙ course_more w t cs more ∙ stays_ended w t.options (course_of w t cs) more f ended in
     inl (record {
       is = sym (ap (λ c. ended_by c.ended given.fault) same ∙ ap (λ x. ended_by x given.fault) ended);
-      lines = subst (λ c. Appends old new c.lines) (sym same) lines;
+      lines = subst (λ c. TellsEach t.options.names c.told old new) (sym same) lines;
       file = tt;
     })
 
-refused_in : (w : ℕ) (t : Task) (given : Given) (cs more : List Incoming) (images : List ℕ → Type 0) (old new : Option (List ℕ)) (f : Fault) → from_inputs 1 given.items ≡ cs ++ more → IsMakeRefusal f → AppendsPrefix old new (course_of w t cs).lines → ComesOf w (made_from w t given) images old new (Err f)
+refused_in : (w : ℕ) (t : Task) (given : Given) (cs more : List Incoming) (images : List ℕ → Type 0) (old new : Option (List ℕ)) (f : Fault) → from_inputs 1 given.items ≡ cs ++ more → IsMakeRefusal f → TellsPart t.options.names (course_of w t cs).told old new → ComesOf w t.options (made_from w t given) images old new (Err f)
 refused_in w t given cs more images old new f e is p =
-    let grow = lines_grow w t.options (course_of w t cs) more in
-    refused w _ images old new f is
-    (longer_prefix old new (course_of w t cs).lines (course_of w t (from_inputs 1 given.items)).lines grow.0 (ap (λ c. (course_of w t c).lines) e ∙ ap (λ c. c.lines) (course_more w t cs more) ∙ grow.1) p)
+    let grow = told_grow w t.options (course_of w t cs) more in
+    refused w t.options _ images old new f is
+    (part_more t.options.names (course_of w t cs).told grow.0 (course_of w t (from_inputs 1 given.items)).told old new (ap (λ c. (course_of w t c).told) e ∙ ap (λ c. c.told) (course_more w t cs more) ∙ grow.1) p)
 
-stops_in : (w g : ℕ) (t : Task) (given : Given) (cs more : List Incoming) (images : List ℕ → Type 0) (old new : Option (List ℕ)) (f : Fault) → from_inputs 1 given.items ≡ cs ++ more → StopsSo w t cs old new f → ComesOf w (made_from w t given) images old new (Err f)
+stops_in : (w g : ℕ) (t : Task) (given : Given) (cs more : List Incoming) (images : List ℕ → Type 0) (old new : Option (List ℕ)) (f : Fault) → from_inputs 1 given.items ≡ cs ++ more → StopsSo w t cs old new f → ComesOf w t.options (made_from w t given) images old new (Err f)
 stops_in w g t given cs more images old new (Make make.TooBig) e h = stops_ended w t given cs more images old new _ e h.ended h.lines
 stops_in w g t given cs more images old new Duplicate e h = stops_ended w t given cs more images old new _ e h.ended h.lines
-stops_in w g t given cs more images old new (Make make.Lookup) e h = refused_in w t given cs more images old new _ e tt (whole_lines old new _ h.lines)
-stops_in w g t given cs more images old new (Make make.Writing) e h = refused_in w t given cs more images old new _ e tt (whole_lines old new _ h.lines)
-stops_in w g t given cs more images old new NoMemory e h = refused_in w t given cs more images old new _ e tt (whole_lines old new _ h.lines)
+stops_in w g t given cs more images old new (Make make.Lookup) e h = refused_in w t given cs more images old new _ e tt (part_whole t.options.names _ old new h.lines)
+stops_in w g t given cs more images old new (Make make.Writing) e h = refused_in w t given cs more images old new _ e tt (part_whole t.options.names _ old new h.lines)
+stops_in w g t given cs more images old new NoMemory e h = refused_in w t given cs more images old new _ e tt (part_whole t.options.names _ old new h.lines)
 stops_in w g t given cs more images old new Output e h = refused_in w t given cs more images old new _ e tt h
 stops_in w g t given cs more images old new (Make make.NoMemory) e h = absurd h
 stops_in w g t given cs more images old new (Make make.Broken) e h = absurd h
@@ -196,7 +188,7 @@ stops_in w g t given cs more images old new NoOldTables e h = absurd h
 stops_in w g t given cs more images old new NoNewTables e h = absurd h
 
 stopped_in : (w g : ℕ) (t : Task) (inputs : List (Option (List ℕ))) (shared : List ℕ) (left : InputsLeft) (images : List ℕ → Type 0) (old new : Option (List ℕ)) (f : Fault) → Known inputs shared left → Stops w g t left old new f
-    → ComesOf w (made_from w t (given_from (make_run.form_of t) g 1 inputs shared)) images old new (Err f)
+    → ComesOf w t.options (made_from w t (given_from (make_run.form_of t) g 1 inputs shared)) images old new (Err f)
 stopped_in w g t inputs shared left images old new f k h =
     let form = make_run.form_of t in
     let begins = begins_given form g h.read h.last inputs shared left h.rest k h.are h.begins in
@@ -251,15 +243,15 @@ part_begins Lists g items input fault is (listing, same, has) =
     (listing, same, (_, spelled_behind SpellsKey g listing stops.part stops.amid.rest stops.more input stops.split stops.amid.whole.spelled))
 
 reader_failed : (w g : ℕ) (t : Task) (inputs : List (Option (List ℕ))) (shared : List ℕ) (left : InputsLeft) (images : List ℕ → Type 0) (old new : Option (List ℕ)) (n : ℕ) (f : TextFault) → Known inputs shared left → IsReadFault f → IsMakeRefusal (Text n f) → MeetsInput w g t left old new n f
-    → ComesOf w (made_from w t (given_from (make_run.form_of t) g 1 inputs shared)) images old new (Err (Text n f))
+    → ComesOf w t.options (made_from w t (given_from (make_run.form_of t) g 1 inputs shared)) images old new (Err (Text n f))
 reader_failed w g t inputs shared left images old new n f k is may h =
     let form = make_run.form_of t in
     let first = first_begins_so form g h.last h.rest h.input h.first (λ input has. part_begins form g h.last input f is has) h.has in
     let begins = begins_given form g h.read h.last inputs shared left h.rest k h.are first in
-    refused_in w t (given_from form g 1 inputs shared) (came h.read h.last) begins.0 images old new (Text n f) begins.1 may (whole_lines old new _ h.goes.lines)
+    refused_in w t (given_from form g 1 inputs shared) (came h.read h.last) begins.0 images old new (Text n f) begins.1 may (part_whole t.options.names _ old new h.goes.lines)
 
 inputs_stop : (w g : ℕ) (t : Task) (inputs : List (Option (List ℕ))) (shared : List ℕ) (left : InputsLeft) (images : List ℕ → Type 0) (old new : Option (List ℕ)) (f : Fault) → Known inputs shared left → make_run.InputsFail w g t left old new f
-    → ComesOf w (made_from w t (given_from (make_run.form_of t) g 1 inputs shared)) images old new (Err f)
+    → ComesOf w t.options (made_from w t (given_from (make_run.form_of t) g 1 inputs shared)) images old new (Err f)
 inputs_stop w g t inputs shared left images old new (Text n (text.Syntax at)) k h = text_met w g t inputs shared left images old new n _ k tt h
 inputs_stop w g t inputs shared left images old new (Text n (text.Ended at)) k h = text_met w g t inputs shared left images old new n _ k tt h
 inputs_stop w g t inputs shared left images old new (Text n (text.Large at)) k h = text_met w g t inputs shared left images old new n _ k tt h
@@ -285,27 +277,27 @@ inputs_stop w g t inputs shared left images old new NoNewTables k h = stopped_in
 
 -- behind a base
 with_base : (w g : ℕ) (o : MakeOptions) (base : Option (List ℕ)) (inputs : List (Option (List ℕ))) (shared : List ℕ) (images : List ℕ → Type 0) (old new : Option (List ℕ)) (result : Result Unit Fault) → IsSomeBase w o.limit base
-    → ComesOf w (made_from w (task_of o (records_of w base)) (given_from (input_form o.style (is_some (records_of w base))) g 1 inputs shared)) images old new result → ComesOf w (made_of w g o base inputs shared) images old new result
+    → ComesOf w o (made_from w (task_of o (records_of w base)) (given_from (input_form o.style (is_some (records_of w base))) g 1 inputs shared)) images old new result → ComesOf w o (made_of w g o base inputs shared) images old new result
 with_base w g o base inputs shared images old new result is h =
-    subst (λ why. ComesOf w (unless_stopped why (made_from w (task_of o (records_of w base)) (given_from (input_form o.style (is_some (records_of w base))) g 1 inputs shared))) images old new result) (sym (some_base w o.limit base is)) h
+    subst (λ why. ComesOf w o (unless_stopped why (made_from w (task_of o (records_of w base)) (given_from (input_form o.style (is_some (records_of w base))) g 1 inputs shared))) images old new result) (sym (some_base w o.limit base is)) h
 
 pub made_so : (w g : ℕ) (o : MakeOptions) (base : Option (List ℕ)) (inputs : List (Option (List ℕ))) (shared : List ℕ) (left : InputsLeft) (images : List ℕ → Type 0) (old new : Option (List ℕ)) → Known inputs shared left → Makes w g o base left images old new
-    → MakesSo w (made_of w g o base inputs shared) images old new (Ok tt)
+    → MakesSo w o (made_of w g o base inputs shared) images old new (Ok tt)
 made_so w g o base inputs shared left images old new k h =
     let t = task_of o (records_of w base) in
     let m = h.made in
     let given = all_given (make_run.form_of t) g m.read inputs shared left k m.are in
-    subst (λ why. MakesSo w (unless_stopped why (made_from w t (given_from (make_run.form_of t) g 1 inputs shared))) images old new (Ok tt)) (sym (some_base w o.limit base h.based))
-    (subst (λ v. MakesSo w (made_from w t v) images old new (Ok tt)) (sym given)
+    subst (λ why. MakesSo w o (unless_stopped why (made_from w t (given_from (make_run.form_of t) g 1 inputs shared))) images old new (Ok tt)) (sym (some_base w o.limit base h.based))
+    (subst (λ v. MakesSo w o (made_from w t v) images old new (Ok tt)) (sym given)
     (record { is = sym (ap (λ e. ended_by e None) m.goes.going); lines = m.goes.lines; file = m.file }))
 
 run_fails : (w g : ℕ) (o : MakeOptions) (base : Option (List ℕ)) (inputs : List (Option (List ℕ))) (shared : List ℕ) (left : InputsLeft) (images : List ℕ → Type 0) (old new : Option (List ℕ)) (f : Fault) → Known inputs shared left → RunFails w g o base left old new f
-    → ComesOf w (made_of w g o base inputs shared) images old new (Err f)
+    → ComesOf w o (made_of w g o base inputs shared) images old new (Err f)
 run_fails w g o base inputs shared left images old new f k (inl stops) = some_base_stops w g o base images old new _ f stops
 run_fails w g o base inputs shared left images old new f k (inr stops) =
     with_base w g o base inputs shared images old new (Err f) stops.based (inputs_stop w g (task_of o (records_of w base)) inputs shared left images old new f k stops.fails)
 
 pub run_comes : (w g : ℕ) (o : MakeOptions) (base : Option (List ℕ)) (inputs : List (Option (List ℕ))) (shared : List ℕ) (left : InputsLeft) (images : List ℕ → Type 0) (old new : Option (List ℕ)) (result : Result Unit Fault) → Known inputs shared left → Runs w g o base left images old new result
-    → ComesOf w (made_of w g o base inputs shared) images old new result
+    → ComesOf w o (made_of w g o base inputs shared) images old new result
 run_comes w g o base inputs shared left images old new (Ok done) k h = inl (made_so w g o base inputs shared left images old new k h.ok)
 run_comes w g o base inputs shared left images old new (Err f) k h = run_fails w g o base inputs shared left images old new f k h.err

@@ -9,7 +9,6 @@ use Rattle.cdb_form.specs.Format.Record.{KeyValue}
 use Rattle.cdb_form.specs.Format.File.{file_size}
 use Rattle.cdb_form.specs.Format.Walk.{walk_of}
 use Rattle.cdb_form.specs.Text.Amending.{Change}
-use Rattle.cdb_form.specs.Views.KnownBytes.{AppendsPrefix}
 use Rattle.cdb_form.proofs.Bytes.WritingLemmas.{appends_kept}
 use Rattle.cdb_make.specs.Views.Batch as batch
 use Rattle.cdb_make.specs.Views.Maker.{Holds, WhereHonest, ComesFrom, IsFile, limit_of}
@@ -19,6 +18,7 @@ use Rattle.cdb_make.specs.declared.fault.MakeFault.TheVariants as make
 use Rattle.cdb_make.specs.declared.batch.Batch.{Batch}
 use Rattle.cdb_make.specs.declared.maker.Maker.{Maker}
 use Rattle.cdb_make.proofs.Making.Makers.{held_size}
+use Rattle.cdb_tool.specs.Message.{TellsPart}
 use Rattle.cdb_tool.specs.Views.Fault.{make_fault}
 use Rattle.cdb_tool.specs.Runs.Flushed.{Flushed}
 use Rattle.cdb_tool.specs.Runs.Course.{Task, task_of, Incoming, from_inputs, course_of, Goes, EndsSo, StopsSo}
@@ -28,7 +28,8 @@ use Rattle.cdb_tool.specs.Runs.Make.{InCourse, Stops, InputsFail, RunFails, Runs
 use Rattle.cdb_tool.specs.declared.fault.Fault.{Fault}
 use Rattle.cdb_tool.specs.declared.fault.Fault.TheVariants.{Text, Make, Duplicate, Missing, Read, Walk, Output, Long, Open, Rename, NoMemory, Old, New, NoOldTables, NoNewTables}
 use Rattle.cdb_command.specs.declared.options.MakeOptions.{MakeOptions}
-use Rattle.cdb_tool.proofs.WholeRuns.{prefix_kept, whole_prefix, not_ok}
+use Rattle.cdb_tool.proofs.ToldLines.{part_kept, part_whole, tells_kept, tells_none}
+use Rattle.cdb_tool.proofs.WholeRuns.{not_ok}
 use Rattle.cdb_tool.proofs.InputRuns.{begins_none}
 use Rattle.cdb_form.proofs.Bytes.WritingLemmas.{appends_none}
 use Rattle.cdb_tool.proofs.Courses.{came_none, course_starts}
@@ -47,7 +48,7 @@ stops_none : (w g : ℕ) (t : Task) (inputs : InputsLeft) (start : Option (List 
 stops_none w g t inputs start f h = record { read = []; last = []; rest = inputs; are = refl; begins = first_none (form_of t) g inputs; stops = h }
 
 goes_none : (w : ℕ) (t : Task) (start : Option (List ℕ)) → Goes w t [] start start
-goes_none w t start = record { going = refl; lines = appends_none start }
+goes_none w t start = record { going = refl; lines = tells_none t.options.names start }
 
 not_made : {S : Type 0} (image : S → List ℕ → Type 0) (size written failures : S → ℕ) (w g : ℕ) (o : MakeOptions) (x : Option (List ℕ)) (inputs : InputsLeft) (start : Option (List ℕ)) (old new : S) (f : MakeFault) → MakingFault image size written failures old new f
     → RunFails w g o x inputs start start (make_fault f)
@@ -196,10 +197,10 @@ runs_unfinished {l = l} t base g o inputs read start now first begun old new f h
 -- ---- the flush
 
 goes_kept : (w : ℕ) (o : Task) (cs : List Incoming) (old mid new : Option (List ℕ)) → Goes w o cs old mid → Keeps mid new → Goes w o cs old new
-goes_kept w o cs old mid new h k = record { going = h.going; lines = appends_kept old mid new _ h.lines k }
+goes_kept w o cs old mid new h k = record { going = h.going; lines = tells_kept o.options.names _ old mid new h.lines k }
 
 ends_kept : (w : ℕ) (o : Task) (cs : List Incoming) (f : Fault) (old mid new : Option (List ℕ)) → EndsSo w o cs f old mid → Keeps mid new → EndsSo w o cs f old new
-ends_kept w o cs f old mid new h k = record { before = h.before; last = h.last; are = h.are; going = h.going; ended = h.ended; lines = appends_kept old mid new _ h.lines k }
+ends_kept w o cs f old mid new h k = record { before = h.before; last = h.last; are = h.are; going = h.going; ended = h.ended; lines = tells_kept o.options.names _ old mid new h.lines k }
 
 stops_kept : (w : ℕ) (o : Task) (cs : List Incoming) (old mid new : Option (List ℕ)) (f : Fault) → StopsSo w o cs old mid f → Keeps mid new → StopsSo w o cs old new f
 stops_kept w o cs old mid new (Make make.TooBig) h k = ends_kept w o cs _ old mid new h k
@@ -209,7 +210,7 @@ stops_kept w o cs old mid new (Make make.Broken) h k = absurd h
 stops_kept w o cs old mid new (Make make.NoMemory) h k = absurd h
 stops_kept w o cs old mid new Duplicate h k = ends_kept w o cs _ old mid new h k
 stops_kept w o cs old mid new NoMemory h k = goes_kept w o cs old mid new h k
-stops_kept w o cs old mid new Output h k = prefix_kept old mid new _ h k
+stops_kept w o cs old mid new Output h k = part_kept o.options.names _ old mid new h k
 stops_kept w o cs old mid new (Text n f) h k = absurd h
 stops_kept w o cs old mid new (Walk f) h k = absurd h
 stops_kept w o cs old mid new Missing h k = absurd h
@@ -265,12 +266,12 @@ flush_fails : (w g : ℕ) (o : MakeOptions) (x : Option (List ℕ)) (inputs : In
 flush_fails w g o x inputs images old mid new (Ok u) h k is =
     let t : Task = task_of o (records_of w x) in
     let made = h.ok.made in
-    let lines = appends_kept old mid new _ made.goes.lines k in
+    let lines = tells_kept o.names _ old mid new made.goes.lines k in
     record {
       ok = tt;
       err = inr (record {
         based = h.ok.based;
-        fails = record { read = made.read; last = []; rest = made.are.rest; are = made.are.are; begins = first_none (form_of t) g made.are.rest; stops = subst (λ cs. AppendsPrefix old new (course_of w t cs).lines) (sym (came_none made.read)) (whole_prefix old new _ lines) };
+        fails = record { read = made.read; last = []; rest = made.are.rest; are = made.are.are; begins = first_none (form_of t) g made.are.rest; stops = subst (λ cs. TellsPart o.names (course_of w t cs).told old new) (sym (came_none made.read)) (part_whole o.names _ old new lines) };
       });
     }
 flush_fails w g o x inputs images old mid new (Err f) h k is = absurd (not_ok is)

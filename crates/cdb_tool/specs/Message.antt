@@ -1,9 +1,11 @@
 -- What is said of a fault: where it is, what it is, and the line on standard error.
 use Rattle.std.specs.Prelude.{ℕ, ◌-◌, nat_lt, if◌then◌else◌, List, [], ◌∷◌, ◌++◌, decimal, codes}
 use Rattle.std.specs.Prelude.{Option, None, Some, map, take, length, get_or, bytes_eq, string_bytes}
-use Rattle.std.specs.Prelude.{String}
+use Rattle.std.specs.Prelude.{String, flat_map, ◌≡◌}
+use Rattle.std.specs.Io.KnownBytes.{Appends}
 use denote.Bor.{Bor}
 use Rattle.cdb_command.specs.Refused.{parts_line}
+use Rattle.cdb_form.specs.Views.KnownBytes.{AppendsPrefix}
 use Rattle.cdb_form.specs.declared.text.fault.TextFault.{TextFault}
 use Rattle.cdb_form.specs.declared.text.fault.TextFault.TheVariants as text
 use Rattle.cdb_form.specs.declared.walk.fault.WalkFault.{WalkFault}
@@ -121,19 +123,54 @@ input_at inputs number = said_input (get_or inputs (number - 1) (codes "-"))
 abbrev pub after_key : (key : List ℕ) → List ℕ
 after_key key = if nat_lt 256 (length key) then codes "..." else []
 
--- the line that explains a duplicate: the name of its input, and its key
-abbrev pub key_line : (name key : List ℕ) → List ℕ
-key_line name key =
-    parts_line (([], name) ∷ (codes ": key ", take 256 key) ∷ (after_key key, []) ∷ [])
+-- the line at which a record begins, if it is known
+abbrev pub line_part : Option ℕ → List ℕ × List ℕ
+line_part None = ([], [])
+line_part (Some line) = (codes ": line ", decimal line)
 
--- the line of a record whose key was there already: its input and its number there
+-- the line that explains a duplicate: the name of its input, its line there, and its key
+abbrev pub key_line : (name : List ℕ) → (line : Option ℕ) → (key : List ℕ) → List ℕ
+key_line name line key = parts_line (([], name) ∷ line_part line ∷ (codes ": key ", take 256 key)
+    ∷ (after_key key, []) ∷ [])
+
+-- a record whose key was there already: its input, its number there, and its key
+pub record Told : Type 0 where
+  pub input : ℕ
+  pub number : ℕ
+  pub key : List ℕ
+
+-- the line of a duplicate: its input and its number there
 abbrev pub duplicate_line : ℕ → ℕ → List ℕ
 duplicate_line input number = codes "cdb: " ++ numbered (codes "input ") input
     ++ numbered (codes "record ") number ++ codes "duplicate key\n"
 
 -- and the one that explains it, if the names of the inputs are given for that
-abbrev pub duplicate_lines : {Z : Type 0} → Option (Bor (List (String Z))) → (input number : ℕ)
-    → (key : List ℕ) → List ℕ
-duplicate_lines None input number key = duplicate_line input number
-duplicate_lines (Some names) input number key =
-    duplicate_line input number ++ key_line (input_at (map string_bytes names.now) input) key
+abbrev pub duplicate_lines : {Z : Type 0} → Option (Bor (List (String Z))) → Told
+    → (line : Option ℕ) → List ℕ
+duplicate_lines None d line = duplicate_line d.input d.number
+duplicate_lines (Some names) d line = duplicate_line d.input d.number
+    ++ key_line (input_at (map string_bytes names.now) d.input) line d.key
+
+-- the lines of some duplicates, each of which begins at some line of its input
+abbrev pub AreLines : {Z : Type 0} → Option (Bor (List (String Z))) → List Told
+    → (text : List ℕ) → Type 0
+AreLines names [] text = text ≡ []
+AreLines names (d ∷ duplicates) text = (line : Option ℕ) × (rest : List ℕ)
+    × (text ≡ duplicate_lines names d line ++ rest) × AreLines names duplicates rest
+
+-- these lines where none is explained
+abbrev pub plain_lines : List Told → List ℕ
+plain_lines duplicates = flat_map (λ d. duplicate_line d.input d.number) duplicates
+
+-- they were written, or a prefix of them
+pub record TellsEach {Z : Type 0} (names : Option (Bor (List (String Z)))) (duplicates : List Told)
+    (old new : Option (List ℕ)) : Type 0 where
+  pub text : List ℕ
+  pub are : AreLines names duplicates text
+  pub written : Appends old new text
+
+pub record TellsPart {Z : Type 0} (names : Option (Bor (List (String Z))))
+    (duplicates : List Told) (old new : Option (List ℕ)) : Type 0 where
+  pub text : List ℕ
+  pub are : AreLines names duplicates text
+  pub written : AppendsPrefix old new text

@@ -8,6 +8,7 @@ mod input_name;
 mod inputs;
 mod key_line;
 pub mod laws;
+mod lines;
 mod message;
 mod noted;
 mod output;

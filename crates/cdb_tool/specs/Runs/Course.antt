@@ -2,10 +2,8 @@
 -- what its inputs say is done, one item after the other, up to the one that ends it.
 use Rattle.std.specs.Prelude.{ℕ, ◌≡◌, ◌+◌, Bool, true, false, ◌&&◌, ◌||◌, if◌then◌else◌}
 use Rattle.std.specs.Prelude.{List, [], ◌∷◌, ◌++◌, fold, Option, None, Some, unwrap_or, Result, Ok, Err}
-use Rattle.std.specs.Io.KnownBytes.{Appends}
 use Rattle.cdb_form.specs.Format.Record.{KeyValue}
 use Rattle.cdb_form.specs.Text.Amending.{Change, Putting, Removing}
-use Rattle.cdb_form.specs.Views.KnownBytes.{AppendsPrefix}
 use Rattle.cdb_make.specs.Survivors.{put_step, put_result, without}
 use Rattle.cdb_make.specs.declared.fault.MakeFault.{MakeFault}
 use Rattle.cdb_make.specs.declared.fault.MakeFault.TheVariants.{TooBig, Lookup, Writing}
@@ -13,7 +11,7 @@ use Rattle.cdb_form.specs.declared.mode.Mode.{Mode}
 use Rattle.cdb_form.specs.declared.mode.Mode.TheVariants.{Insert}
 use Rattle.cdb_make.specs.declared.records.put.Put.{Put}
 use Rattle.cdb_make.specs.declared.records.put.Put.TheVariants.{Added, AddedAgain, Present, Replaced}
-use Rattle.cdb_tool.specs.Message.{duplicate_lines}
+use Rattle.cdb_tool.specs.Message.{TellsEach, TellsPart, Told}
 use Rattle.cdb_tool.specs.declared.fault.Fault.{Fault}
 use Rattle.cdb_tool.specs.declared.fault.Fault.TheVariants.{Make, Duplicate, Output, NoMemory}
 use Rattle.cdb_command.specs.declared.options.MakeOptions.{MakeOptions}
@@ -54,11 +52,12 @@ meets_key AddedAgain = true
 meets_key Present = true
 meets_key (Replaced n) = true
 
--- what is said of a put
-abbrev pub said : MakeOptions → ℕ → ℕ → (key : List ℕ) → Result Put MakeFault → List ℕ
-said o input number key (Ok put) =
-    if (o.warn || o.stop) && meets_key put then duplicate_lines o.names input number key else []
-said o input number key (Err fault) = []
+-- what is told of a put
+abbrev pub told : MakeOptions → ℕ → ℕ → (key : List ℕ) → Result Put MakeFault → List Told
+told o input number key (Ok put) =
+    if (o.warn || o.stop) && meets_key put
+    then record { input = input; number = number; key = key } ∷ [] else []
+told o input number key (Err fault) = []
 
 -- why it ends the run, or not
 abbrev pub ends : MakeOptions → Result Put MakeFault → Option Fault
@@ -66,15 +65,15 @@ ends o (Ok Present) = if o.stop then Some Duplicate else None
 ends o (Ok put) = None
 ends o (Err fault) = Some (Make fault)
 
--- the records that are held, what was said, and why the run has ended, or not
+-- the records that are held, the duplicates that were told, and why the run has ended, or not
 pub record Course : Type 0 where
   pub records : List KeyValue
-  pub lines : List ℕ
+  pub told : List Told
   pub ended : Option Fault
 
 -- before the inputs the records of the base are held, which were added one after the other
 abbrev pub at_start : Task → Course
-at_start t = record { records = unwrap_or t.base []; lines = []; ended = None }
+at_start t = record { records = unwrap_or t.base []; told = []; ended = None }
 
 abbrev pub is_going : Option Fault → Bool
 is_going None = true
@@ -86,7 +85,7 @@ with_put w o s input number r =
     let answer = put_result w o.limit (mode_of o) r s.records in
     record {
       records = put_step w o.limit (mode_of o) r s.records;
-      lines = s.lines ++ said o input number r.key answer;
+      told = s.told ++ told o input number r.key answer;
       ended = ends o answer;
     }
 
@@ -94,7 +93,7 @@ with_put w o s input number r =
 abbrev pub with_change : ℕ → MakeOptions → Course → ℕ → ℕ → Change → Course
 with_change w o s input number (Putting r) = with_put w o s input number r
 with_change w o s input number (Removing key) =
-    record { records = without key s.records; lines = s.lines; ended = s.ended }
+    record { records = without key s.records; told = s.told; ended = s.ended }
 
 -- one item more comes, which is done unless the run has ended
 abbrev pub with_next : ℕ → MakeOptions → Course → Incoming → Course
@@ -109,16 +108,16 @@ course_of w t cs = fold (with_next w t.options) (at_start t) cs
 abbrev pub TellFails : MakeOptions → ℕ → ℕ → (key : List ℕ) → Put → Option (List ℕ)
     → Option (List ℕ) → Fault → Type 0
 TellFails o input number key put old new Duplicate =
-    Appends old new (said o input number key (Ok put)) × (ends o (Ok put) ≡ Some Duplicate)
+    TellsEach o.names (told o input number key (Ok put)) old new × (ends o (Ok put) ≡ Some Duplicate)
 TellFails o input number key put old new Output =
-    AppendsPrefix old new (said o input number key (Ok put))
+    TellsPart o.names (told o input number key (Ok put)) old new
 TellFails o input number key put old new fault = ⊥
 
 -- the run has not ended, and its lines were appended
 pub record Goes (w : ℕ) (t : Task) (cs : List Incoming) (old new : Option (List ℕ)) : Type 0
   where
     pub going : (course_of w t cs).ended ≡ None
-    pub lines : Appends old new (course_of w t cs).lines
+    pub lines : TellsEach t.options.names (course_of w t cs).told old new
 
 -- the last of these items ended it, and its lines were appended
 pub record EndsSo (w : ℕ) (t : Task) (cs : List Incoming) (fault : Fault)
@@ -128,7 +127,7 @@ pub record EndsSo (w : ℕ) (t : Task) (cs : List Incoming) (fault : Fault)
   pub are : cs ≡ before ++ last ∷ []
   pub going : (course_of w t before).ended ≡ None
   pub ended : (course_of w t cs).ended ≡ Some fault
-  pub lines : Appends old new (course_of w t cs).lines
+  pub lines : TellsEach t.options.names (course_of w t cs).told old new
 
 -- how a run stopped after these items: by the last one; before it by a fault of the store or of
 -- memory; or by one of the writer of its lines
@@ -139,5 +138,5 @@ StopsSo w t cs old new Duplicate = EndsSo w t cs Duplicate old new
 StopsSo w t cs old new (Make Lookup) = Goes w t cs old new
 StopsSo w t cs old new (Make Writing) = Goes w t cs old new
 StopsSo w t cs old new NoMemory = Goes w t cs old new
-StopsSo w t cs old new Output = AppendsPrefix old new (course_of w t cs).lines
+StopsSo w t cs old new Output = TellsPart t.options.names (course_of w t cs).told old new
 StopsSo w t cs old new fault = ⊥

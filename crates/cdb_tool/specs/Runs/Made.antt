@@ -12,6 +12,7 @@ use Rattle.cdb_form.specs.Text.Parse.{Parsed, parse, parse_list, parse_map}
 use Rattle.cdb_form.specs.declared.text.fault.TextFault.{TextFault}
 use Rattle.cdb_make.specs.declared.fault.MakeFault.TheVariants.{TooBig}
 use Rattle.cdb_read.specs.Views.ReadFault.{damage_fault}
+use Rattle.cdb_tool.specs.Message.{Told, plain_lines}
 use Rattle.cdb_tool.specs.Runs.Course.{Task, task_of, from_inputs, course_of}
 use Rattle.cdb_tool.specs.Runs.Inputs.{InputForm, Puts, Changes, Lists, input_form}
 use Rattle.cdb_tool.specs.Runs.Make.{records_of}
@@ -53,11 +54,11 @@ given_from form g number (None ∷ inputs) shared =
 
 -- ---- the run
 
--- the records that are left, the lines of duplicates, and whether they are a database, or the first
--- fault
+-- the records that are left, the duplicates that are told, and whether they are a database, or the
+-- first fault
 pub record Made : Type 0 where
   pub records : List KeyValue
-  pub lines : List ℕ
+  pub told : List Told
   pub result : Result Unit Fault
 
 abbrev pub ended_by : (first last : Option Fault) → Result Unit Fault
@@ -71,7 +72,7 @@ made_from w t given =
     let course = course_of w t (from_inputs 1 given.items) in
     record {
       records = course.records;
-      lines = course.lines;
+      told = course.told;
       result = ended_by course.ended given.fault;
     }
 
@@ -87,7 +88,7 @@ base_fault w limit (Some b) = walk_fault w limit (walk_of w b)
 
 abbrev pub unless_stopped : Option Fault → Made → Made
 unless_stopped None made = made
-unless_stopped (Some fault) made = record { records = []; lines = []; result = Err fault }
+unless_stopped (Some fault) made = record { records = []; told = []; result = Err fault }
 
 -- in words of w bytes, with lengths in texts of at most g
 abbrev pub made_of : (w g : ℕ) → MakeOptions → (base : Option (List ℕ))
@@ -95,6 +96,10 @@ abbrev pub made_of : (w g : ℕ) → MakeOptions → (base : Option (List ℕ))
 made_of w g o base inputs shared =
     unless_stopped (base_fault w o.limit base) (made_from w (task_of o (records_of w base))
     (given_from (input_form o.style (is_some (records_of w base))) g 1 inputs shared))
+
+-- the lines of its duplicates, where none is explained
+abbrev pub made_lines : Made → List ℕ
+made_lines made = plain_lines made.told
 
 -- the database
 abbrev pub made_file : ℕ → Made → List ℕ

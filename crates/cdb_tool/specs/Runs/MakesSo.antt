@@ -1,14 +1,13 @@
 -- When a run that makes a database comes to what the function of its bytes says.
 use Rattle.std.specs.Prelude.{ℕ, ◌≡◌, ◌⊎◌, ⊤, map, OnOk, List, [], ◌∷◌, Option, None, Some, Result}
 use Rattle.std.specs.Prelude.{Err}
-use Rattle.std.specs.Io.KnownBytes.{Appends}
 use Rattle.cdb_command.specs.declared.options.MakeOptions.{MakeOptions}
 use Rattle.cdb_form.specs.Format.Record.{AreBytes}
-use Rattle.cdb_form.specs.Views.KnownBytes.{AppendsPrefix}
 use Rattle.cdb_form.specs.declared.text.fault.TextFault.TheVariants as text
 use Rattle.cdb_make.specs.Views.Maker.{IsFile}
 use Rattle.cdb_make.specs.declared.fault.MakeFault.TheVariants as make
 use Rattle.cdb_read.specs.declared.fault.ReadFault.TheVariants as read
+use Rattle.cdb_tool.specs.Message.{TellsEach, TellsPart}
 use Rattle.cdb_tool.specs.Runs.Inputs.{OneInput, InputsLeft}
 use Rattle.cdb_tool.specs.Runs.Inputs as form
 use Rattle.cdb_tool.specs.Runs.Made.{Made, made_of}
@@ -39,10 +38,10 @@ pub record Known (inputs : List (Option (List ℕ))) (shared : List ℕ) (left :
   pub own : EachOfBytes inputs
   pub bytes : AreBytes shared
 
--- it came to what was said
-pub record MakesSo (w : ℕ) (m : Made) (images : List ℕ → Type 0) (old new : Option (List ℕ)) (result : Result Unit Fault) : Type 0 where
+-- it came to what was said, and its duplicates were told
+pub record MakesSo (w : ℕ) (o : MakeOptions) (m : Made) (images : List ℕ → Type 0) (old new : Option (List ℕ)) (result : Result Unit Fault) : Type 0 where
   pub is : result ≡ m.result
-  pub lines : Appends old new m.lines
+  pub lines : TellsEach o.names m.told old new
   pub file : OnOk result (IsFile w m.records images)
 
 -- an allocation failed; the lines, a store, or the reader of an input
@@ -57,18 +56,18 @@ IsMakeRefusal NoMemory = ⊤
 IsMakeRefusal fault = ⊥
 
 -- or that was refused, and the lines are a prefix
-pub record MakeRefused (m : Made) (old new : Option (List ℕ)) (result : Result Unit Fault) : Type 0 where
+pub record MakeRefused (o : MakeOptions) (m : Made) (old new : Option (List ℕ)) (result : Result Unit Fault) : Type 0 where
   pub fault : Fault
   pub is : result ≡ Err fault
   pub refusal : IsMakeRefusal fault
-  pub lines : AppendsPrefix old new m.lines
+  pub lines : TellsPart o.names m.told old new
 
-abbrev pub ComesOf : ℕ → Made → (images : List ℕ → Type 0) → (old new : Option (List ℕ)) → Result Unit Fault → Type 0
-ComesOf w m images old new result = MakesSo w m images old new result ⊎ MakeRefused m old new result
+abbrev pub ComesOf : ℕ → MakeOptions → Made → (images : List ℕ → Type 0) → (old new : Option (List ℕ)) → Result Unit Fault → Type 0
+ComesOf w o m images old new result = MakesSo w o m images old new result ⊎ MakeRefused o m old new result
 
 -- what a run leaves whose store has this image is what the function says, or a refusal
 abbrev pub RunsComeOf : (w g : ℕ) → MakeOptions → Type 0
 RunsComeOf w g o = (base : Option (List ℕ)) (inputs : List (Option (List ℕ))) (shared : List ℕ)
     (left : InputsLeft) (image : List ℕ) (old new : Option (List ℕ)) (result : Result Unit Fault)
     → Known inputs shared left → Runs w g o base left (λ b. b ≡ image) old new result
-    → ComesOf w (made_of w g o base inputs shared) (λ b. b ≡ image) old new result
+    → ComesOf w o (made_of w g o base inputs shared) (λ b. b ≡ image) old new result

@@ -14,8 +14,9 @@ ghost use Rattle.cdb_tool.specs.Views.Inputs.{inputs_left, one_of, shared_bytes}
 ghost use Rattle.cdb_tool.specs.declared.fault.Fault.TheVariants.{NoMemory};
 
 use crate::fault::Fault;
-use crate::input::{InWindow, Input};
+use crate::input::Input;
 use crate::inputs::{Inputs, SharedInput, Turn};
+use crate::lines::{InLined, LinedInput, Lines};
 use crate::runs::flushed::flushed;
 use crate::runs::item_reader::ItemReader;
 use crate::runs::make_base::add_base;
@@ -27,7 +28,17 @@ use cdb_store::Store;
 use std::alloc::Global;
 use std::io::{Read, Write};
 
-/// Does what an input says, whose number is counted from 1, and answers what the inputs share.
+/// What counts the lines of an input, if duplicates are explained.
+fn counted<'a>(options: &MakeOptions<'_>, lines: &'a Lines) -> Option<&'a Lines> {
+    if options.names.is_some() {
+        Some(lines)
+    } else {
+        None
+    }
+}
+
+/// Does what an input says, whose number is counted from 1, and answers what the inputs share, whose lines
+/// are counted too.
 fn put_turn<L: Width, S: Store, J: Read + Drop, I: Read + Drop, E: Write>(
     alloc: Global,
     maker: &mut Batch<S, L>,
@@ -36,6 +47,7 @@ fn put_turn<L: Width, S: Store, J: Read + Drop, I: Read + Drop, E: Write>(
     number: u64,
     turn: Turn<J>,
     shared: SharedInput<I>,
+    shared_lines: &Lines,
     errors: &mut E,
 ) -> Result<SharedInput<I>, Fault>
     ensures ok { IfOk result (λ left. (last : List Change)
@@ -67,18 +79,23 @@ fn put_turn<L: Width, S: Store, J: Read + Drop, I: Read + Drop, E: Write>(
 {
     match turn {
         Turn::Own(reader) => {
+            let own_lines = Lines::new();
+            let lines = counted(options, &own_lines);
             let input = Input::growing(alloc, reader)?;
-            let items = ItemReader::new(alloc, options.style, amends, input);
-            put_input::<L, S, _, E, InWindow>(alloc, maker, options, number, items, errors)?;
+            let lined = LinedInput::new(input, lines);
+            let items = ItemReader::new(alloc, options.style, amends, lined);
+            put_input::<L, S, _, E, InLined>(alloc, maker, options, number, items, lines, errors)?;
             Ok(shared)
         }
         Turn::Shared => {
+            let lines = counted(options, shared_lines);
             let input = shared.in_hand(alloc)?;
-            let items = ItemReader::new(alloc, options.style, amends, input);
-            let left = put_input::<L, S, _, E, InWindow>(
-                alloc, maker, options, number, items, errors,
+            let lined = LinedInput::new(input, lines);
+            let items = ItemReader::new(alloc, options.style, amends, lined);
+            let left = put_input::<L, S, _, E, InLined>(
+                alloc, maker, options, number, items, lines, errors,
             )?;
-            Ok(SharedInput::InHand(left))
+            Ok(SharedInput::InHand(left.into_input()))
         }
     }
 }
@@ -123,11 +140,20 @@ pub fn put_inputs<L: Width, S: Store, J: Read + Drop, I: Read + Drop, E: Write>(
 {
     let Inputs { turns, shared } = inputs;
     let mut shared = SharedInput::Unread(shared);
+    let shared_lines = Lines::new();
     let mut number = 0;
     for turn in turns {
         number += 1;
         shared = put_turn::<L, S, J, I, E>(
-            alloc, maker, options, amends, number, turn, shared, errors,
+            alloc,
+            maker,
+            options,
+            amends,
+            number,
+            turn,
+            shared,
+            &shared_lines,
+            errors,
         )?;
     }
     Ok(())

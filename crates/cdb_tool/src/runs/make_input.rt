@@ -1,7 +1,6 @@
 // The items of an input, one after the other: records are put, and keys removed.
 ghost use Rattle.std.specs.Prelude.{◌≡◌, ◌+◌, ◌<◌, ◌≤◌, ℕ, List, [], ◌∷◌, ◌++◌, length, Option};
-ghost use Rattle.std.specs.Prelude.{◌||◌, None, OnOk, IfOk, IfErr};
-ghost use Rattle.std.specs.Io.KnownBytes.{Appends};
+ghost use Rattle.std.specs.Prelude.{◌||◌, None, OnOk, OnErr, IfOk, IfErr};
 ghost use Rattle.cdb_form.specs.Format.Record.{KeyValue};
 ghost use Rattle.cdb_form.specs.Text.Amending.{Change, Putting, Removing};
 ghost use Rattle.cdb_form.specs.Views.KnownBytes.{FromTo};
@@ -9,7 +8,8 @@ ghost use Rattle.cdb_form.specs.Views.Pairs.{change_in};
 ghost use Rattle.cdb_make.specs.Views.Batch.{Follows, store_of};
 ghost use Rattle.cdb_make.specs.Views.Maker.{WhereHonest};
 ghost use Rattle.cdb_tool.specs.Views.ItemReader.{form_of, unread, IsNew};
-ghost use Rattle.cdb_tool.specs.Runs.Course.{Incoming, from_inputs, mode_of, meets_key, said};
+ghost use Rattle.cdb_tool.specs.Message.{TellsEach, TellsPart};
+ghost use Rattle.cdb_tool.specs.Runs.Course.{Incoming, from_inputs, mode_of, meets_key, told};
 ghost use Rattle.cdb_tool.specs.Runs.Course.{Task, ends, TellFails};
 ghost use Rattle.cdb_tool.specs.Runs.Inputs.{IsInputOf};
 ghost use Rattle.cdb_tool.specs.Runs.Make.{InCourse, PutStops, InputFails, IsOfStore, IsOfBase};
@@ -20,9 +20,10 @@ ghost use Rattle.cdb_tool.specs.Runs.Make.{form_of as task_form};
 
 use crate::fault::Fault;
 use crate::key_line::write_duplicates;
+use crate::lines::Lines;
 use crate::runs::item_reader::ItemReader;
-use cdb_command::MakeOptions;
-use cdb_form::{AtHand, ChangeKind, Record, Width};
+use cdb_command::{MakeOptions, Style};
+use cdb_form::{AtHand, ChangeKind, OutFault, Record, Width};
 use cdb_make::{Batch, Mode, Put};
 use cdb_store::Store;
 use std::alloc::Global;
@@ -56,25 +57,48 @@ fn meets_key(put: Put) -> bool
     }
 }
 
-/// Reports a put that met its key, if the options say so, and stops the run if they do.
+/// Reports a put that met its key, if the options say so. Its record begins at this line of its input, if
+/// that is known.
+#[inline(always)]
+fn write_put<E: Write>(
+    options: &MakeOptions<'_>,
+    input: u64,
+    number: u64,
+    line: Option<u64>,
+    key: &[u8],
+    put: Put,
+    errors: &mut E,
+) -> Result<(), OutFault>
+    ensures ok { OnOk result (TellsEach options.now.names (told options.now input number key.now (Ok put))
+        (E.contents errors.old) (E.contents errors.new)) }
+    ensures err { OnErr result (TellsPart options.now.names (told options.now input number key.now (Ok put))
+        (E.contents errors.old) (E.contents errors.new)) }
+{
+    if tells(options) && meets_key(put) {
+        write_duplicates(options.names, input, number, line, key, errors)
+    } else {
+        Ok(())
+    }
+}
+
+/// Reports such a put, and stops the run if the options say so.
 #[inline(always)]
 fn tell_put<E: Write>(
     options: &MakeOptions<'_>,
     input: u64,
     number: u64,
+    line: Option<u64>,
     key: &[u8],
     put: Put,
     errors: &mut E,
 ) -> Result<(), Fault>
-    ensures ok { OnOk result (Appends (E.contents errors.old) (E.contents errors.new)
-        (said options.now input number key.now (Ok put))) }
+    ensures ok { OnOk result (TellsEach options.now.names (told options.now input number key.now (Ok put))
+        (E.contents errors.old) (E.contents errors.new)) }
     ensures goes { OnOk result (ends options.now (Ok put) ≡ None) }
     ensures fails { IfErr result (TellFails options.now input number key.now put
         (E.contents errors.old) (E.contents errors.new)) }
 {
-    if tells(options) && meets_key(put) {
-        write_duplicates(options.names, input, number, key, errors)?;
-    }
+    write_put(options, input, number, line, key, put, errors)?;
     if options.stop && put == Put::Present {
         return Err(Fault::Duplicate);
     }
@@ -89,6 +113,7 @@ fn put_record<L: Width, S: Store, E: Write>(
     mode: Mode,
     input: u64,
     number: u64,
+    line: Option<u64>,
     key: &[u8],
     value: &[u8],
     errors: &mut E,
@@ -126,7 +151,7 @@ fn put_record<L: Width, S: Store, E: Write>(
     ensures own { IfErr result (λ f. IsOfBase f → ⊥) }
 {
     let put = maker.put(mode, key, value)?;
-    tell_put(options, input, number, key, put, errors)
+    tell_put(options, input, number, line, key, put, errors)
 }
 
 /// Removes the records of a key. Nothing is told of it.
@@ -163,6 +188,7 @@ fn do_item<L: Width, S: Store, E: Write>(
     mode: Mode,
     input: u64,
     number: u64,
+    line: Option<u64>,
     kind: ChangeKind,
     item: &Record,
     errors: &mut E,
@@ -200,6 +226,7 @@ fn do_item<L: Width, S: Store, E: Write>(
             mode,
             input,
             number,
+            line,
             &item.key,
             &item.value,
             errors,
@@ -208,14 +235,32 @@ fn do_item<L: Width, S: Store, E: Write>(
     }
 }
 
+/// The line at which the next item begins, where each begins behind the one before.
+fn line_of_next(lines: Option<&Lines>) -> Option<u64> {
+    match lines {
+        Some(lines) => Some(lines.next()),
+        None => None,
+    }
+}
+
+/// The line of the item that was read last, before which the input was at this line: in a map text lines
+/// may stand between that hold none.
+fn line_of_last(style: Style, next: Option<u64>, lines: Option<&Lines>) -> Option<u64> {
+    match (style, lines) {
+        (Style::Map, Some(lines)) => Some(lines.last()),
+        _ => next,
+    }
+}
+
 /// Does what the items of an input say, whose number is counted from 1, up to its end, and answers
-/// its reader, which goes on after its text.
+/// its reader, which goes on after its text. Its lines are told if they are counted.
 pub(crate) fn put_input<L: Width, S: Store, R: Read + Drop, E: Write, A: AtHand<R>>(
     alloc: Global,
     maker: &mut Batch<S, L>,
     options: &MakeOptions<'_>,
     input: u64,
     mut items: ItemReader<R, L>,
+    lines: Option<&Lines>,
     errors: &mut E,
 ) -> Result<R, Fault>
     requires fresh { IsNew items }
@@ -252,6 +297,7 @@ pub(crate) fn put_input<L: Width, S: Store, R: Read + Drop, E: Write, A: AtHand<
     let mut number = 0;
     loop {
         number += 1;
+        let next = line_of_next(lines);
         if let Some(peeked) = items.peek::<A>() {
             let len = peeked.len;
             let put = put_record(
@@ -260,6 +306,7 @@ pub(crate) fn put_input<L: Width, S: Store, R: Read + Drop, E: Write, A: AtHand<
                 mode,
                 input,
                 number,
+                next,
                 peeked.key,
                 peeked.value,
                 errors,
@@ -272,7 +319,10 @@ pub(crate) fn put_input<L: Width, S: Store, R: Read + Drop, E: Write, A: AtHand<
                 Ok(None) => return Ok(items.into_reader()),
                 Ok(Some(kind)) => kind,
             };
-            do_item(maker, options, mode, input, number, kind, &item, errors)?;
+            let line = line_of_last(options.style, next, lines);
+            do_item(
+                maker, options, mode, input, number, line, kind, &item, errors,
+            )?;
         }
     }
 }

@@ -7,9 +7,9 @@ use Rattle.cdb_tool.proofs.key_line.write_duplicates.Goals as goal
 pub returns-in_err-write_duplicate-in-Some : goal.returns-in_err-write_duplicate-in-Some
 returns-in_err-write_duplicate-in-Some g c =
     let p = err_from_is_err_and c.from_residual.result c.from_residual.ensures.1 in
-    rw c.in-Some.is (writes_prefix _ _ _ _ _ p.1 (prefix_in _ _ (duplicate_line c.args.input c.args.number) (key_line (input_at (map string_bytes c.in-Some.names.now) c.args.input) c.args.key.now) _ c.in_err-write_duplicate-in-Some.ensures.err refl))
+    rw c.in-Some.is (writes_prefix _ _ _ _ _ p.1 (prefix_in _ _ (duplicate_line c.args.input c.args.number) (key_line (input_at (map string_bytes c.in-Some.names.now) c.args.input) c.args.line c.args.key.now) _ c.in_err-write_duplicate-in-Some.ensures.err refl))
 
 pub returns-in_ok-write_duplicate-in-Some : goal.returns-in_ok-write_duplicate-in-Some
 returns-in_ok-write_duplicate-in-Some g c =
-    let named = same_writes c.write_key.result _ _ _ _ (ap (λ name. key_line name c.args.key.now) c.input_at.ensures) c.write_key.ensures in
+    let named = same_writes c.write_key.result _ _ _ _ (ap (λ name. key_line name c.args.line c.args.key.now) c.input_at.ensures) c.write_key.ensures in
     rw c.in-Some.is (writes_last c.write_key.result _ _ _ (duplicate_line c.args.input c.args.number) _ _ c.in_ok-write_duplicate-in-Some.ensures.ok named refl)

@@ -1,5 +1,6 @@
 use Rattle.std.proofs.lemmas.Grind.{common_steps}
-use Rattle.std.proofs.Common.{arith}
+use Rattle.std.proofs.Common.{arith, inl}
+use Rattle.cdb_tool.proofs.Courses.{err_each}
 use Rattle.cdb_tool.proofs.runs.make_input.do_item.Goals as goal
 
 pub returns-in-Remove-clause-ok : goal.returns-in-Remove-clause-ok
@@ -9,7 +10,7 @@ pub returns-in-Put-clause-ok : goal.returns-in-Put-clause-ok
 returns-in-Put-clause-ok g c = grind (arith, common_steps)
 
 pub returns-in-Remove-clause-fails : goal.returns-in-Remove-clause-fails
-returns-in-Remove-clause-fails g c = grind (arith, common_steps)
+returns-in-Remove-clause-fails g c = λ t cs start same h. err_each c.remove_key.result (λ f stops. record { each = λ b is. inl (stops.each b is) }) (c.remove_key.ensures.fails t cs start _ h)
 
 pub returns-in-Remove-clause-stands : goal.returns-in-Remove-clause-stands
 returns-in-Remove-clause-stands g c = grind (arith, common_steps)
