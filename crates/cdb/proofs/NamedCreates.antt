@@ -3,7 +3,6 @@ use Rattle.std.proofs.Common.{ℕ, Bool, true, false, List, Option, None, Some, 
 use Rattle.cdb_command.specs.declared.options.MakeOptions.{MakeOptions}
 use Rattle.cdb_files.specs.Folder.{NameCalls}
 use Rattle.cdb_store.specs.declared.store.Store.{Ghosts}
-use Rattle.cdb_tool.specs.Runs.Made.{made_of}
 use Rattle.cdb_tool.proofs.NamedInputs.{IsNamed, named_made}
 use Rattle.cdb.specs.Created.{Created, base_of, create_of, if_opened, placed}
 use Rattle.cdb.specs.ForetoldCreate.{CreateHolds}
