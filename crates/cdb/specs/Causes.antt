@@ -56,7 +56,8 @@ cause_words command cause.Closed name other = Some (codes "a standard stream is 
 abbrev pub IsRefusedFor : (opened : OpenCalls) → (named : NameCalls) → Cause
     → (name other : List ℕ) → Type 0
 IsRefusedFor opened named why name other =
-    (refused_open why opened ≡ Some (name, other, why)) ⊎ (refused_for why named ≡ Some (name, other))
+    (refused_open why opened ≡ Some (name, other, why))
+    ⊎ (refused_for why named ≡ Some (name, other))
 
 abbrev pub IsRefused : Asked → (opened : OpenCalls) → (named : NameCalls) → (name : List ℕ)
     → (said : Option (List ℕ)) → Type 0
@@ -167,7 +168,8 @@ IsCause command fault opened named name said = IsOfDatabase command fault name s
 
 -- ---- the line that says it
 
--- after the line of a fault: nothing, unless it is to be explained; and then nothing, or the line of its cause
+-- after the line of a fault that is to be explained comes the line of its cause, or nothing; after
+-- that of another, nothing
 abbrev pub SaysCause : Asked → Result Unit Fault → (opened : OpenCalls) → (named : NameCalls)
     → (more : List ℕ) → Type 0
 SaysCause command (Ok done) opened named more = ⊥

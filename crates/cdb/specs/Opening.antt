@@ -69,20 +69,20 @@ base_left base = record { read = base; other = None; made = None }
 abbrev pub both_left : {F M : Type 0} → (old new : F) → Left F M
 both_left old new = record { read = Some old; other = Some new; made = None }
 
--- a cause, if it may be
+-- this cause, if it fits
 abbrev pub if_fits : (fits : Bool) → Cause → Cause
 if_fits true why = why
 if_fits false why = Failed
 
--- the name that a call refused, if it did, no other name, and for which cause: that of a file which was not opened,
--- or this one if it may be that of a look or of a lock
+-- the name that a call refused, if it did, without another name, and the cause. A file that was not
+-- opened has its own; a lock and a look have this one, if they may
 abbrev pub refused_by : Cause → OpenCall → (name : List ℕ) → Option (List ℕ × List ℕ × Cause)
 refused_by why (Unopened fault found) name = Some (name, [], found)
 refused_by why (Locked Held) name = Some (name, [], if_fits (may_be_for (call.Locked Held) why) why)
 refused_by why (Stream Unknown) name = Some (name, [], if_fits (is_of_system why) why)
 refused_by why call name = None
 
--- the newest of these names
+-- the newest of these
 abbrev pub if_none : {A : Type 0} → Option A → Option A → Option A
 if_none None before = before
 if_none (Some refused) before = Some refused
