@@ -1,6 +1,6 @@
 -- Which file a fault is of, what is said of it, and the line that says it.
 use Rattle.std.specs.Prelude.{ℕ, ℤ, ◌≡◌, ◌⊎◌, List, [], ◌∷◌, ◌&&◌, not, Option, None, Some, codes}
-use Rattle.std.specs.Prelude.{bytes_eq, if◌then◌else◌}
+use Rattle.std.specs.Prelude.{bytes_eq, if◌then◌else◌, option_map}
 use Rattle.std.specs.Prelude.{Bool, true, false, Result, Ok, Err}
 use Rattle.cdb_command.specs.Asked.{Asked}
 use Rattle.cdb_command.specs.Asked as asked
@@ -76,13 +76,13 @@ IsNoNameOf command name said = ⊥
 
 -- ---- what is said of a file that failed
 
--- the words of a number of the system, or nothing
+-- the words of a number, if the system gave one
 abbrev pub IsOfSystem : (said : Option (List ℕ)) → Type 0
-IsOfSystem said = (said ≡ None) ⊎ ((number : ℤ) × (said ≡ Some (error_words number)))
+IsOfSystem said = (number : Option ℤ) × (said ≡ option_map error_words number)
 
--- a line, or nothing
+-- a line, if it is known
 abbrev pub IsOfLine : (said : Option (List ℕ)) → Type 0
-IsOfLine said = (said ≡ None) ⊎ ((line : ℕ) × (said ≡ Some (line_words line)))
+IsOfLine said = (line : Option ℕ) × (said ≡ option_map line_words line)
 
 -- of an input: the line of the fault's place, or why it was not read
 abbrev pub IsOfText : TextFault → (said : Option (List ℕ)) → Type 0

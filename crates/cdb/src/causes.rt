@@ -1,7 +1,7 @@
 // The cause of a fault: which file, and why.
-ghost use Rattle.std.specs.Prelude.{◌≡◌, IfSome, None, string_bytes};
+ghost use Rattle.std.specs.Prelude.{◌≡◌, IfSome, option_map, string_bytes};
 ghost use Rattle.cdb_tool.specs.Command.{asked_in};
-ghost use Rattle.cdb.specs.CauseLine.{reason_name, said_of};
+ghost use Rattle.cdb.specs.CauseLine.{error_words, reason_name, said_of};
 ghost use Rattle.cdb.specs.Causes.{IsCause, IsMadeName, IsNoNameOf, IsOfDatabase, IsOfRead};
 ghost use Rattle.cdb.specs.Causes.{IsOfLine, IsOfSystem, IsOfText, IsRefused};
 ghost use Rattle.cdb.specs.Causes.{cause_words, input_name, new_name, read_name, same_words};
@@ -60,7 +60,7 @@ fn of_name(name: &str, told: Told) -> Reason<'_>
 
 /// What is said of a call that failed with an error of this number, if the system gave one.
 fn of_number(number: Option<i32>) -> Told
-    ensures { IsOfSystem (said_of result) }
+    ensures { said_of result ≡ option_map error_words number }
 {
     match number {
         Some(number) => Told::Error(number),
