@@ -162,8 +162,8 @@ CAUSES.update({f"bad words: {name}": row for name, row in WORDS.items()})
 
 # Duplicates, each explained by the name of its input, the line at which it begins, and its key.
 LONG = b"k" * 256
-# Records of which a window holds no whole number.
-MANY = [(b"%d" % n, b"value of %d" % n) for n in range(3000)]
+# Records of several windows.
+MANY = [(b"%d" % n, b"%d " % n * 150) for n in range(200)]
 EXPLAINED = {
     "a duplicate of standard input": creates(
         ["-vcw", "x"], of_a(b"1", b"2"), pairs(b"1", b"2"), [again(2), "standard input: line 2: key a"]

@@ -17,6 +17,6 @@ pub struct MakeOptions<'a> {
     /// How many bytes the database may have at most.
     pub limit: u64,
     /// The names of the inputs, if such a record is to be explained: after its line one more has the name of
-    /// its input and its key.
+    /// its input, the line at which it begins there, and its key.
     pub names: Option<&'a [String]>,
 }
