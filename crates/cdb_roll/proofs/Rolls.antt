@@ -30,7 +30,7 @@ use Rattle.cdb_store.specs.declared.store.StoreFault.TheVariants.{NoMemory as Re
 use Rattle.cdb_roll.specs.declared.fault.MakeFault.{MakeFault}
 use Rattle.cdb_roll.specs.declared.fault.MakeFault.TheVariants.{Broken, Lookup, TooBig, NoMemory, Writing}
 use Rattle.cdb_roll.specs.Views.MakeFault.{fault_of}
-use Rattle.cdb_roll.specs.Views.Maker.{Goes, ComesFrom, AddFails, Follows, Stays, FailsExchanging, FailsClosing, FailsLooking, HasStoreFailed, IsBroken, gone_in, found_in, is_foreign, look_fault}
+use Rattle.cdb_roll.specs.Views.Maker.{Goes, ComesFrom, AddFails, Follows, Stays, FailsExchanging, FailsClosing, FailsLooking, HasStoreFailed, gone_in, found_in, is_foreign, look_fault}
 use Rattle.cdb_roll.specs.Views.Places.{places_in}
 use Rattle.cdb_roll.proofs.Spans.{left-map, joined_more, joined_end, kept_then}
 use Rattle.cdb_roll.proofs.Looking.{sizes_of, sees_long, sees_same}
@@ -43,7 +43,7 @@ left_every P (true ∷ ms) (r ∷ rs) all = left_every P ms rs (All-tail P r rs 
 left_every P (false ∷ ms) (r ∷ rs) all = All-cons P r (left ms rs) (All-head P r rs all) (left_every P ms rs (All-tail P r rs all))
 
 -- where the records end
-end_joined : {L : Type 0} {l : Widths L} (m : Roll L l) (all : List KeyValue) (b : List ℕ) → Sees m all b → m.end ≡ head_size l.WORD + length (joined (map (record_bytes l.WORD) all))
+pub end_joined : {L : Type 0} {l : Widths L} (m : Roll L l) (all : List KeyValue) (b : List ℕ) → Sees m all b → m.end ≡ head_size l.WORD + length (joined (map (record_bytes l.WORD) all))
 end_joined {l = l} m all b h = h.of.ends ∙ ap (end_from (head_size l.WORD)) (sym (sizes_of l.WORD all)) ∙ joined_end (head_size l.WORD) (map (record_bytes l.WORD) all)
 
 -- the same records with the same bytes

@@ -4,7 +4,7 @@ ghost use Rattle.cdb_form.specs.Format.File.{whole_size};
 ghost use Rattle.cdb_form.specs.Format.Hash.{key_hash};
 ghost use Rattle.cdb_form.specs.Format.Record.{record_of, record_size};
 ghost use Rattle.cdb_roll.specs.Marks.{gone_of, found_of, AreNone, HaveHash};
-ghost use Rattle.cdb_roll.specs.Views.Roll.{HasRoom};
+ghost use Rattle.cdb_roll.specs.Views.Roll.{HasRoom, SameRecords};
 ghost use Rattle.cdb_roll.specs.declared.fault.MakeFault.TheVariants.{Writing};
 
 use crate::close::close_bytes;
@@ -77,7 +77,11 @@ impl<S: Store, L: Width> Maker<S, L> {
             (self.new.roll.end + self.old.roll.gone.size ≡ self.old.roll.end) }
         ensures count { OnOk result (length self.new.roll.hashes.items + self.old.roll.gone.count
             ≡ length self.old.roll.hashes.items) }
+        ensures clear { OnOk result (self.new.roll.gone.count ≡ 0) }
+        ensures clear_size { OnOk result (self.new.roll.gone.size ≡ 0) }
         ensures room { OnOk result (0 < self.old.roll.gone.count → HasRoom self.new.roll) }
+        ensures kept { OnErr result (SameRecords self.old.roll self.new.roll) }
+        ensures kept_gone { OnErr result (self.new.roll.gone ≡ self.old.roll.gone) }
         ensures broken { OnErr result (self.new.broken ≡ true) }
         ensures fails { IfErr result (λ f. f ≡ Writing) }
         ensures cause { OnErr result (HasStoreFailed self.old self.new) }

@@ -12,7 +12,7 @@ const LEAST: u64 = 4_194_304;
 
 impl<S: Store, L: Width> Maker<S, L> {
     ghost use Rattle.cdb_roll.specs.Views.Maker.{Removes, FailsRemoving, Follows, TakesOut, Tears};
-    ghost use Rattle.cdb_roll.specs.Views.Maker.{Closes, FailsClosingAll};
+    ghost use Rattle.cdb_roll.specs.Views.Maker.{ClosesAll, FailsClosingAll, HasNotFailed, SameCounts};
 
     /// Whether a pass frees more bytes than it moves: those of the records that go and that were
     /// found are more than the others, and 4 MiB.
@@ -81,13 +81,17 @@ impl<S: Store, L: Width> Maker<S, L> {
     /// `Writing`: the store failed amid the pass, and the maker is broken. `Broken`: an earlier call
     /// broke it.
     pub fn close_all(&mut self) -> Result<(), MakeFault>
-        ensures was { OnOk result (self.old.broken ≡ false) }
-        ensures closes { OnOk result (Closes self.old self.new) }
+        ensures closes_all { OnOk result (ClosesAll self.old self.new) }
         ensures fails { IfErr result (FailsClosingAll self.old self.new) }
         ensures follows { Follows self.old self.new }
+        ensures counts { SameCounts self.old self.new }
+        ensures fine { OnOk result (HasNotFailed self.old self.new) }
     {
         if self.broken {
             return Err(MakeFault::Broken);
+        }
+        if self.roll.gone.count == 0 {
+            return Ok(());
         }
         self.pass()
     }

@@ -5,7 +5,7 @@ use Rattle.cdb_store.specs.Images.{KeepsPart}
 use Rattle.cdb_store.specs.Laws.{HasNoImage}
 use Rattle.cdb_store.specs.Reads.{OnlyReads}
 use Rattle.cdb_form.specs.declared.width.Width.{Ghosts as Widths}
-use Rattle.cdb_form.specs.Format.File.{file_size, whole_size}
+use Rattle.cdb_form.specs.Format.File.{file_bytes, file_size, whole_size}
 use Rattle.cdb_form.specs.Format.Pair.{head_size}
 use Rattle.cdb_form.specs.Format.Record.{KeyValue, record_size}
 use Rattle.cdb_roll.specs.declared.fault.MakeFault.{MakeFault}
@@ -13,6 +13,8 @@ use Rattle.cdb_roll.specs.declared.fault.MakeFault.TheVariants.{Broken, Lookup, 
 use Rattle.cdb_roll.specs.declared.key_at.LookFault.{LookFault}
 use Rattle.cdb_roll.specs.declared.key_at.LookFault.TheVariants.{Failed, Foreign}
 use Rattle.cdb_roll.specs.declared.maker.Maker.{Maker}
+use Rattle.cdb_roll.specs.Finished.{HeadIsLast}
+use Rattle.cdb_roll.specs.Tables.{roll_tables}
 use Rattle.cdb_roll.specs.Marks.{gone_of, found_of, AreNone, HaveHash}
 use Rattle.cdb_roll.specs.Rolls.{Sees, LooksAll}
 use Rattle.cdb_roll.specs.Spans.{left, behind, or_each}
@@ -420,9 +422,74 @@ FailsPutting old new mode r Writing = HasStoreFailed old new × WouldFit old new
     × ((new.broken ≡ true)
     ⊎ ((new.broken ≡ false) × ((rs : List KeyValue) → Holds old rs → Holds new rs)))
 
--- why no pass was made to its end
+-- some of its records go with a later pass
+abbrev pub HasGone : {S L : Type 0} {s : Ghosts S} {l : Widths L} → Maker S L s l → Type 0
+HasGone m = 0 < m.roll.gone.count
+
+-- its counts are what they were
+pub record SameCounts {S L : Type 0} {s : Ghosts S} {l : Widths L} (old new : Maker S L s l)
+    : Type 0 where
+  pub count : count_in new ≡ count_in old
+  pub size : made_size new ≡ made_size old
+  pub limit : new.limit ≡ old.limit
+
+-- it stays whole, and holds what it held
+pub record StaysWhole {S L : Type 0} {s : Ghosts S} {l : Widths L} (old new : Maker S L s l)
+    : Type 0 where
+  pub was : old.broken ≡ false
+  pub whole : new.broken ≡ false
+  pub holds : (rs : List KeyValue) → Holds old rs → Holds new rs
+
+-- a pass was made if records go: none goes then, and its store has the others alone
+pub record ClosesAll {S L : Type 0} {s : Ghosts S} {l : Widths L} (old new : Maker S L s l)
+    : Type 0 where
+  pub stays : StaysWhole old new
+  pub none : new.roll.gone.count ≡ 0
+  pub end : new.roll.end ≡ old.roll.end - old.roll.gone.size
+  pub goes : Goes old new (λ all rest.
+      (rest ≡ left (gone_in old) all) × Passes old new (gone_in old) 0 all)
+  pub lone : (HasGone old → ⊥) → s.written new.store ≡ s.written old.store
+
+-- why no pass was made to its end: where one was made, the store failed amid it
 abbrev pub FailsClosingAll : {S L : Type 0} {s : Ghosts S} {l : Widths L} → Maker S L s l
     → Maker S L s l → MakeFault → Type 0
 FailsClosingAll old new Broken = (old.broken ≡ true) × (new ≡ old)
-FailsClosingAll old new Writing = (old.broken ≡ false) × (new.broken ≡ true) × HasStoreFailed old new
+FailsClosingAll old new Writing =
+    HasGone old × (old.broken ≡ false) × (new.broken ≡ true) × HasStoreFailed old new
 FailsClosingAll old new fault = ⊥
+
+-- it takes calls, and where its records would end without those that go
+abbrev pub IsUsable : {S L : Type 0} {s : Ghosts S} {l : Widths L} → Maker S L s l → Type 0
+IsUsable m = m.broken ≡ false
+
+abbrev pub end_of : {S L : Type 0} {s : Ghosts S} {l : Widths L} → Maker S L s l → ℕ
+end_of m = m.roll.end - m.roll.gone.size
+
+-- every image is the file of these records
+pub record IsFile (w : ℕ) (rs : List KeyValue) (images : List ℕ → Type 0) : Type 0 where
+  pub each : (b : List ℕ) → images b → b ≡ file_bytes w rs
+
+-- in each image the head is an old one, or all tables of the records that the maker has noted stand
+abbrev pub PutsHeadLast : {S L : Type 0} {s : Ghosts S} {l : Widths L} → Maker S L s l
+    → (old new : List ℕ → Type 0) → Type 0
+PutsHeadLast {l = l} m old new = HeadIsLast l.WORD m.roll.end (roll_tables m.roll) old new
+
+-- a finish that wrote so many bytes: those of a pass if records go, of the tables, and of the head
+pub record FinishWrites {S L : Type 0} {s : Ghosts S} {l : Widths L} (m : Maker S L s l) (store : S)
+    : Type 0 where
+  pub each : (b : List ℕ) → s.image store b → (a : List ℕ) × s.image m.store a
+      × ((all : List KeyValue) → Sees m.roll all a → s.written store + end_of m
+      ≡ s.written m.store + (sum (behind (gone_in m) (map (record_size l.WORD) all))
+      + (head_size l.WORD + made_size m)))
+  pub lone : (HasGone m → ⊥)
+      → s.written store + end_of m ≡ s.written m.store + (head_size l.WORD + made_size m)
+
+-- why a file was not finished, and what the maker is then. No pass was made if no record goes
+abbrev pub FailsFinishing : {S L : Type 0} {s : Ghosts S} {l : Widths L} → Maker S L s l
+    → Maker S L s l → MakeFault → Type 0
+FailsFinishing old new Broken = (old.broken ≡ true) × (new ≡ old)
+FailsFinishing old new NoMemory = ClosesAll old new × HasNotFailed old new
+FailsFinishing old new Writing =
+    (StaysWhole old new × HasStoreFailed old new)
+    ⊎ (HasGone old × (old.broken ≡ false) × (new.broken ≡ true) × HasStoreFailed old new)
+FailsFinishing old new fault = ⊥
