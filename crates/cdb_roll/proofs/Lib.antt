@@ -2,6 +2,7 @@ pub mod Bytes
 pub mod Slots
 pub mod FinishedFile
 pub mod Finishing
+pub mod Appends
 pub mod Tables
 pub mod Gathered
 pub mod Halves

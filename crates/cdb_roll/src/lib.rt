@@ -2,6 +2,7 @@
 #![tactic(auto)]
 
 pub mod answer;
+mod append;
 mod chains;
 mod close;
 mod fault;

@@ -40,7 +40,7 @@ impl<S: Store, L: Width> Maker<S, L> {
     }
 
     /// The size of the file of all records, those that go too.
-    fn full_size(&self) -> u64
+    pub(crate) fn full_size(&self) -> u64
         ensures is { result ≡ self.now.roll.end + 4 * L.WORD * length self.now.roll.hashes.items }
         ensures within { result ≤ self.now.limit }
     {
