@@ -22,7 +22,8 @@ use Rattle.cdb_roll.specs.Spans.{left, AreOf}
 use Rattle.cdb_roll.specs.Views.Places.{places_in}
 use Rattle.cdb_roll.specs.Views.Roll.{SameRecords}
 use Rattle.cdb_roll.specs.Views.Maker.{gone_in, count_in, made_size, ComesFrom, Holds, HasGone, HasNotFailed, ClosesAll, SameCounts, StaysWhole}
-use Rattle.cdb_roll.proofs.Looking.{sees_long, sees_same}
+use Rattle.cdb_roll.proofs.Finishing.{left_same}
+use Rattle.cdb_roll.proofs.Looking.{sees_long}
 use Rattle.cdb_roll.proofs.Picking.{both_few, both_within}
 use Rattle.cdb_roll.proofs.Rolls.{left_file, sees_entered}
 use Rattle.cdb_roll.proofs.Spans.{left-append}
@@ -34,13 +35,6 @@ stored_written {end = end} {ys = ys} size sized inside written = record {
       let o = written.no_other b is in
       let l : length o.0 ≡ size = sized.each o.0 o.1 in
       ap (part end (length ys)) o.2 ∙ part-overwrite end o.0 ys (omega arith);
-}
-
--- where the same records are noted, the same are held
-pub holds_same : {S L : Type 0} {s : Ghosts S} {l : Widths L} (i j : Maker S L s l) (rs : List KeyValue) → j.broken ≡ false → SameRecords i.roll j.roll → gone_in j ≡ gone_in i → ((b : List ℕ) → s.image j.store b → s.image i.store b) → Holds i rs → Holds j rs
-holds_same i j rs whole same gone images h = record {
-  whole = whole;
-  each = λ b is. (let held = h.each b (images b is) in record { all = held.all; sees = sees_same i.roll j.roll held.all b same held.sees; left = held.left ∙ ap (λ v. left v held.all) (sym gone) });
 }
 
 -- a record whose bytes are behind the others is held once it is noted
@@ -69,10 +63,6 @@ entered {s = s} {l = l} old new r is_record was whole hashes of marks end gone s
   gone_size = size;
   limit = limit;
 }
-
--- no record was noted
-pub entered_none : {S L : Type 0} {s : Ghosts S} {l : Widths L} (m : Maker S L s l) → m.broken ≡ false → Enters m m []
-entered_none m whole = record { whole = whole; holds = λ before h. subst (λ (v : List KeyValue). Holds m v) (sym (append-nil before)) h; end = omega arith; count = omega arith; gone = refl; gone_size = refl; limit = refl }
 
 -- one more
 pub enters_more : {S L : Type 0} {s : Ghosts S} {l : Widths L} (old mid new : Maker S L s l) (rs : List KeyValue) (r : KeyValue) → Enters old mid rs → Enters mid new (r ∷ []) → Enters old new (rs ++ r ∷ [])
@@ -158,23 +148,6 @@ appends_all {s = s} old mid new rs n stays kept gone comes entered size written 
       each = λ b is. (let a = comes.each b (subst (λ (v : _). s.image v b) same is) in (a.0, a.1, λ all sees. inl wrote));
       count = omega (arith, few, entered.count, entered.gone, ap (λ q. q.count) gone, ap length kept.hashes);
       failures = ap s.failures same ∙ fine;
-    }
-
--- nothing was to be appended
-pub appends_none : {S L : Type 0} {s : Ghosts S} {l : Widths L} (m : Maker S L s l) (rs : List KeyValue) (n : ℕ) → m.broken ≡ false → rs ≡ [] → n ≡ sum_by (record_size l.WORD) rs → AppendsAll m m rs n
-appends_none {s = s} {l = l} m rs n whole none size =
-    let zero : sum_by (record_size l.WORD) rs ≡ 0 = ap (sum_by (record_size l.WORD)) none in
-    let few : length rs ≡ 0 = ap length none in
-    let wrote : s.written m.store ≡ s.written m.store + n = omega (arith, size, zero) in
-    record {
-      was = whole;
-      whole = whole;
-      size = size;
-      holds = λ before h. subst (λ (v : List KeyValue). Holds m (before ++ v)) (sym none) (subst (λ (v : List KeyValue). Holds m v) (sym (append-nil before)) h);
-      written = λ lone. wrote;
-      each = λ b is. (b, is, λ all sees. inl wrote);
-      count = omega arith;
-      failures = refl;
     }
 
 -- or memory for an entry was refused
@@ -282,7 +255,7 @@ passes_after {l = l} old mid new stays limit v k = λ before h. record { each = 
 
 pub appends_after : {S L : Type 0} {s : Ghosts S} {l : Widths L} (old mid new : Maker S L s l) (rs : List KeyValue) (n : ℕ) → ClosesAll old mid → SameCounts old mid → HasNotFailed old mid → ComesFrom (s.image mid.store) (s.image new.store) → AppendsAll mid new rs n → AppendsAll old new rs n
 appends_after {s = s} old mid new rs n closes counts fine comes appends =
-    let none : HasGone mid → ⊥ = λ some. omega (arith, some, closes.none) in
+    let none : HasGone mid → ⊥ = λ some. omega (arith, some.1, closes.none) in
     let wrote : s.written new.store ≡ s.written mid.store + n = appends.written none in
     record {
       was = closes.stays.was;
@@ -294,7 +267,7 @@ appends_after {s = s} old mid new rs n closes counts fine comes appends =
           let c = comes.each b is in
           let g = closes.goes.each c.0 c.1 in
           (g.0, g.1, λ all sees. (let q = g.2 all sees in inr (omega (arith, wrote, q.2.1))));
-      count = appends.count ∙ ap (λ (k : ℕ). k + length rs) counts.count;
+      count = appends.count ∙ ap (λ (k : ℕ). k + length rs) (left_same old mid closes.stays.was closes.stays.whole counts).0;
       failures = appends.failures ∙ fine;
     }
 
@@ -309,7 +282,7 @@ fails_after old mid new rs Writing closes counts fine fails = elim fails [
     omega (arith, f.1, fine),
     record { was = closes.stays.was; whole = f.2.whole; holds = λ before h. f.2.holds before (closes.stays.holds before h) },
   )
-  | inr t ↦ absurd (omega (arith, t.0, closes.none))
+  | inr t ↦ absurd (omega (arith, t.0.1, closes.none))
 ]
 
 pub if_ok_weaker : {T E : Type 0} {P Q : T → Type 0} (r : Result T E) → ((x : T) → P x → Q x) → IfOk r P → IfOk r Q

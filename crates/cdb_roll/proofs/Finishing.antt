@@ -1,6 +1,6 @@
 -- A file finished: its records without those that go, and what is left where that failed.
-use Rattle.std.proofs.Common.{◌≡◌, ℕ, ◌+◌, ◌-◌, ◌*◌, ◌<◌, ◌≤◌, ◌⊎◌, inl, inr, false, List, ◌++◌, length, map, flat_map, refl, sym, ap, subst, ◌∙◌, arith}
-use Rattle.std.specs.Prelude.{sum, Result, Ok, Err, IfErr}
+use Rattle.std.proofs.Common.{◌≡◌, ℕ, ◌+◌, ◌-◌, ◌*◌, ◌<◌, ◌≤◌, ◌⊎◌, inl, inr, false, List, ◌++◌, length, map, flat_map, refl, sym, ap, subst, ◌∙◌, arith, Bool, true, cond}
+use Rattle.std.specs.Prelude.{sum, Result, Ok, Err, IfErr, OnOk, OnErr}
 use Rattle.std.proofs.lemmas.List.{length-map}
 use Rattle.std.proofs.lemmas.List.Sums.{sum-map}
 use Rattle.cdb_store.specs.declared.store.Store.{Ghosts}
@@ -14,17 +14,18 @@ use Rattle.cdb_roll.specs.declared.fault.MakeFault.TheVariants.{Broken, Lookup, 
 use Rattle.cdb_roll.specs.declared.maker.Maker.{Maker}
 use Rattle.cdb_roll.specs.declared.roll.Roll.{Roll}
 use Rattle.cdb_roll.specs.Finished.{IsFinished, HeadIsLast}
-use Rattle.cdb_roll.specs.Marks.{is_gone, gone_of, AreNone}
+use Rattle.cdb_roll.specs.Marks.{is_gone, gone_of, found_of, AreNone}
 use Rattle.cdb_roll.specs.Parts.{head_bytes, table_bytes}
 use Rattle.cdb_roll.specs.Rolls.{Sees}
 use Rattle.cdb_roll.specs.Spans.{left, behind, joined}
 use Rattle.cdb_roll.specs.Tables.{roll_tables}
 use Rattle.cdb_roll.specs.Views.Places.{places_in}
-use Rattle.cdb_roll.specs.Views.Maker.{gone_in, count_in, made_size, Holds, Goes, Passes, HasGone, HasNotFailed, Closes, ClosesAll, FailsClosingAll, FailsFinishing, FinishWrites, IsFile, SameCounts, StaysWhole}
+use Rattle.cdb_roll.specs.Views.Roll.{SameRecords}
+use Rattle.cdb_roll.specs.Views.Maker.{gone_in, count_in, made_size, Holds, Goes, Passes, HasNotFailed, Closes, ClosesAll, FailsClosingAll, FailsFinishing, FinishWrites, IsFile, SameCounts, StaysWhole, told_count, told_size, HasStoreFailed, Rests, Stays, TellsCounts}
 use Rattle.cdb_roll.proofs.Bytes.Written.{flat_map-map}
 use Rattle.cdb_roll.proofs.FinishedFile.{file_of_parts}
 use Rattle.cdb_roll.proofs.Looking.{sees_long}
-use Rattle.cdb_roll.proofs.Picking.{left_all_stay, end_sum, picked_none}
+use Rattle.cdb_roll.proofs.Picking.{left_all_stay, end_sum, picked_none, number_none}
 use Rattle.cdb_roll.proofs.Rolls.{end_joined}
 use Rattle.cdb_roll.proofs.Settling.{behind_nothing}
 use Rattle.cdb_roll.proofs.Spans.{spans_of, place_low, place_high}
@@ -41,6 +42,11 @@ pub none_size : {L : Type 0} {l : Widths L} (m : Roll L l) → m.gone.count ≡ 
 none_size {l = l} m e =
     let spans = spans_of (head_size l.WORD) m.end (places_in m.places) m.spans in
     m.picked.size spans.sizes spans.of ∙ ap sum (picked_none (gone_of m.marks.items) spans.sizes (number_zero (gone_of m.marks.items) (sym m.picked.count ∙ e)))
+
+found_size : {L : Type 0} {l : Widths L} (m : Roll L l) → m.found.count ≡ 0 → m.found.size ≡ 0
+found_size {l = l} m e =
+    let spans = spans_of (head_size l.WORD) m.end (places_in m.places) m.spans in
+    m.sought.size spans.sizes spans.of ∙ ap sum (picked_none (found_of m.marks.items) spans.sizes (number_zero (found_of m.marks.items) (sym m.sought.count ∙ e)))
 
 pub made_none : {S L : Type 0} {s : Ghosts S} {l : Widths L} (m : Maker S L s l) → m.roll.gone.count ≡ 0 → made_size m ≡ m.roll.end + 4 * l.WORD * length m.roll.hashes.items
 made_none {l = l} m e =
@@ -69,14 +75,23 @@ closed_holds i j rs whole none goes h = record {
       record { all = q.0; sees = q.1; left = held.left ∙ sym q.2.0 ∙ sym (all_in j q.0 b none q.1) };
 }
 
+-- those of an eager maker do not go
+pub gone_lazy : {S L : Type 0} {s : Ghosts S} {l : Widths L} (m : Maker S L s l) → m.broken ≡ false → 0 < m.roll.gone.count → m.lazy ≡ true
+gone_lazy m whole some =
+    let f : (v : Bool) → m.lazy ≡ v → m.lazy ≡ true = λ v. elim v as (λ v. m.lazy ≡ v → m.lazy ≡ true) [
+      | true ↦ λ e. e
+      | false ↦ λ e. absurd (omega (arith, some, m.roll.picked.count, number_none (gone_in m) (m.eager e whole)))
+    ] in
+    f m.lazy refl
+
 -- a pass was made
-pub closes_all_by : {S L : Type 0} {s : Ghosts S} {l : Widths L} (i j : Maker S L s l) → i.broken ≡ false → HasGone i → Closes i j → j.roll.gone.count ≡ 0 → j.roll.end + i.roll.gone.size ≡ i.roll.end → ClosesAll i j
+pub closes_all_by : {S L : Type 0} {s : Ghosts S} {l : Widths L} (i j : Maker S L s l) → i.broken ≡ false → 0 < i.roll.gone.count → Closes i j → j.roll.gone.count ≡ 0 → j.roll.end + i.roll.gone.size ≡ i.roll.end → ClosesAll i j
 closes_all_by i j was some h none end = record {
   stays = record { was = was; whole = h.whole; holds = λ rs held. closed_holds i j rs h.whole none h.goes held };
   none = none;
   end = omega arith;
   goes = h.goes;
-  lone = λ lone. absurd (lone some);
+  lone = λ lone. absurd (lone (gone_lazy i was some, some));
 }
 
 -- or none
@@ -102,25 +117,71 @@ closes_all_none {l = l} i was none = record {
   lone = λ lone. refl;
 }
 
-pub same_counts : {S L : Type 0} {s : Ghosts S} {l : Widths L} (i j : Maker S L s l) → j.roll.gone.count ≡ 0 → j.roll.gone.size ≡ 0 → j.roll.end + i.roll.gone.size ≡ i.roll.end → length j.roll.hashes.items + i.roll.gone.count ≡ length i.roll.hashes.items → j.limit ≡ i.limit → SameCounts i j
-same_counts {l = l} i j none size end count limit =
+-- or failed
+pub closing_torn : {S L T : Type 0} {s : Ghosts S} {l : Widths L} (i j : Maker S L s l) (r : Result T MakeFault) → i.broken ≡ false → 0 < i.roll.gone.count → IfErr r (λ f. f ≡ Writing) → OnErr r (j.broken ≡ true) → OnErr r (HasStoreFailed i j) → IfErr r (FailsClosingAll i j)
+closing_torn i j (Ok x) was some fault torn failed = tt
+closing_torn i j (Err f) was some fault torn failed = subst (FailsClosingAll i j) (sym fault) ((gone_lazy i was some, some), was, torn, failed)
+
+-- ---- what it counts
+
+pub told_whole : {S L : Type 0} {s : Ghosts S} {l : Widths L} (m : Maker S L s l) → m.broken ≡ false → (told_count m ≡ count_in m) × (told_size m ≡ made_size m)
+told_whole m whole = (ap (λ (v : Bool). cond v m.counted.count (count_in m)) whole, ap (λ (v : Bool). cond v m.counted.size (made_size m)) whole)
+
+pub told_broken : {S L : Type 0} {s : Ghosts S} {l : Widths L} (m : Maker S L s l) → m.broken ≡ true → (told_count m ≡ m.counted.count) × (told_size m ≡ m.counted.size)
+told_broken m torn = (ap (λ (v : Bool). cond v m.counted.count (count_in m)) torn, ap (λ (v : Bool). cond v m.counted.size (made_size m)) torn)
+
+-- of the records without those that go
+pub left_counts : {S L : Type 0} {s : Ghosts S} {l : Widths L} (i j : Maker S L s l) → j.roll.gone.count ≡ 0 → j.roll.gone.size ≡ 0 → j.roll.end + i.roll.gone.size ≡ i.roll.end → length j.roll.hashes.items + i.roll.gone.count ≡ length i.roll.hashes.items → (count_in j ≡ count_in i) × (made_size j ≡ made_size i)
+left_counts {l = l} i j none size end count =
     let e : count_in j ≡ count_in i = omega arith in
     let f : j.roll.end - j.roll.gone.size ≡ i.roll.end - i.roll.gone.size = omega arith in
-    record {
-      count = e;
-      size = ap (λ (n : ℕ). (j.roll.end - j.roll.gone.size) + 4 * l.WORD * n) e ∙ ap (λ (n : ℕ). n + 4 * l.WORD * count_in i) f;
-      limit = limit;
-    }
+    (e, ap (λ (n : ℕ). (j.roll.end - j.roll.gone.size) + 4 * l.WORD * n) e ∙ ap (λ (n : ℕ). n + 4 * l.WORD * count_in i) f)
 
-pub counts_kept : {S L : Type 0} {s : Ghosts S} {l : Widths L} (i j : Maker S L s l) → j.roll ≡ i.roll → j.limit ≡ i.limit → SameCounts i j
-counts_kept {l = l} i j roll limit = record {
-  count = ap (λ m. length m.hashes.items - m.gone.count) roll;
-  size = ap (λ m. (m.end - m.gone.size) + 4 * l.WORD * (length m.hashes.items - m.gone.count)) roll;
+pub same_left : {S L : Type 0} {s : Ghosts S} {l : Widths L} (i j : Maker S L s l) → SameRecords i.roll j.roll → j.roll.gone ≡ i.roll.gone → (count_in j ≡ count_in i) × (made_size j ≡ made_size i)
+same_left {l = l} i j same gone =
+    let e : count_in j ≡ count_in i = ap (λ (v : List ℕ). length v - j.roll.gone.count) same.hashes ∙ ap (λ q. length i.roll.hashes.items - q.count) gone in
+    let f : j.roll.end - j.roll.gone.size ≡ i.roll.end - i.roll.gone.size = ap (λ (v : ℕ). v - j.roll.gone.size) same.end ∙ ap (λ q. i.roll.end - q.size) gone in
+    (e, ap (λ (n : ℕ). (j.roll.end - j.roll.gone.size) + 4 * l.WORD * n) e ∙ ap (λ (n : ℕ). n + 4 * l.WORD * count_in i) f)
+
+pub whole_counts : {S L : Type 0} {s : Ghosts S} {l : Widths L} (i j : Maker S L s l) → i.broken ≡ false → j.broken ≡ false → (count_in j ≡ count_in i) × (made_size j ≡ made_size i) → j.limit ≡ i.limit → SameCounts i j
+whole_counts i j was whole same limit = record {
+  count = (told_whole j whole).0 ∙ same.0 ∙ sym (told_whole i was).0;
+  size = (told_whole j whole).1 ∙ same.1 ∙ sym (told_whole i was).1;
   limit = limit;
 }
 
 pub counts_then : {S L : Type 0} {s : Ghosts S} {l : Widths L} (i j k : Maker S L s l) → SameCounts i j → SameCounts j k → SameCounts i k
 counts_then i j k f h = record { count = h.count ∙ f.count; size = h.size ∙ f.size; limit = h.limit ∙ f.limit }
+
+-- after a pass
+pub closed_counts : {S L T E : Type 0} {s : Ghosts S} {l : Widths L} (i j : Maker S L s l) (r : Result T E) → i.broken ≡ false → OnOk r (Closes i j) → OnOk r (j.roll.gone.count ≡ 0) → OnOk r (j.roll.gone.size ≡ 0) → OnOk r (j.roll.end + i.roll.gone.size ≡ i.roll.end)
+    → OnOk r (length j.roll.hashes.items + i.roll.gone.count ≡ length i.roll.hashes.items) → j.limit ≡ i.limit → OnErr r (SameCounts i j) → SameCounts i j
+closed_counts i j (Ok x) was closes none size end count limit torn = whole_counts i j was closes.whole (left_counts i j none size end count) limit
+closed_counts i j (Err e) was closes none size end count limit torn = torn
+
+-- where a look was made
+pub rests_counts : {S L : Type 0} {s : Ghosts S} {l : Widths L} (i j : Maker S L s l) → Rests i j → SameCounts i j
+rests_counts i j rests = whole_counts i j rests.was rests.whole (same_left i j rests.same rests.picked) rests.limit
+
+-- after a pass, where no record could be added
+pub exchange_counts : {S L : Type 0} {s : Ghosts S} {l : Widths L} (i j k : Maker S L s l) → j.counted.count ≡ told_count i → j.counted.size ≡ told_size i → k.counted ≡ j.counted → j.roll.gone.count ≡ 0 → j.roll.gone.size ≡ 0 → j.roll.end + (i.roll.gone.size + i.roll.found.size) ≡ i.roll.end
+    → length j.roll.hashes.items + (i.roll.gone.count + i.roll.found.count) ≡ length i.roll.hashes.items → k.limit ≡ i.limit → Stays j k → TellsCounts i k
+exchange_counts i j k count size same none zero end many limit stays =
+    let left : i.roll.found.count ≡ 0 → (count_in k ≡ count_in i) × (made_size k ≡ made_size i) = λ none_found.
+    let a = same_left j k stays.same stays.gone in
+    let b = left_counts i j none zero (omega (arith, end, found_size i.roll none_found)) (omega (arith, many, none_found)) in
+    (a.0 ∙ b.0, a.1 ∙ b.1) in
+    record {
+      count = ap (λ c. c.count) same ∙ count;
+      size = ap (λ c. c.size) same ∙ size;
+      left = λ whole none_found. (left none_found).0;
+      left_size = λ whole none_found. (left none_found).1;
+      limit = limit;
+    }
+
+-- the counts of makers that are whole
+pub left_same : {S L : Type 0} {s : Ghosts S} {l : Widths L} (i j : Maker S L s l) → i.broken ≡ false → j.broken ≡ false → SameCounts i j → (count_in j ≡ count_in i) × (made_size j ≡ made_size i)
+left_same i j was whole same = (sym (told_whole j whole).0 ∙ same.count ∙ (told_whole i was).0, sym (told_whole j whole).1 ∙ same.size ∙ (told_whole i was).1)
 
 -- ---- the file
 
@@ -148,13 +209,15 @@ is_file {l = l} i j rs c h finished = record {
 
 pub finish_writes : {S L : Type 0} {s : Ghosts S} {l : Widths L} (i j : Maker S L s l) (store : S) → ClosesAll i j → SameCounts i j → IsFinished l.WORD j.roll.end (roll_tables j.roll) (s.image j.store) (s.image store)
     → s.written store + j.roll.end ≡ s.written j.store + (head_size l.WORD + (j.roll.end + 4 * l.WORD * length j.roll.hashes.items)) → FinishWrites i store
-finish_writes i j store c counts finished written = record {
-  each = λ b is.
-      let f = finished.each b is in
-      let g = c.goes.each f.0 f.1 in
-      (g.0, g.1, λ all sees. (let q = g.2 all sees in omega (arith, written, q.2.1, c.end, counts.size, made_none j c.none)));
-  lone = λ lone. omega (arith, written, c.lone lone, c.end, counts.size, made_none j c.none);
-}
+finish_writes i j store c counts finished written =
+    let size : made_size j ≡ made_size i = (left_same i j c.stays.was c.stays.whole counts).1 in
+    record {
+      each = λ b is.
+          let f = finished.each b is in
+          let g = c.goes.each f.0 f.1 in
+          (g.0, g.1, λ all sees. (let q = g.2 all sees in omega (arith, written, q.2.1, c.end, size, made_none j c.none)));
+      lone = λ lone. omega (arith, written, c.lone lone, c.end, size, made_none j c.none);
+    }
 
 -- ---- where that failed
 
@@ -189,8 +252,8 @@ stays_kept j k was whole roll keeps = record {
   };
 }
 
-stays_then : {S L : Type 0} {s : Ghosts S} {l : Widths L} (i j k : Maker S L s l) → StaysWhole i j → StaysWhole j k → StaysWhole i k
-stays_then i j k f h = record { was = f.was; whole = h.whole; holds = λ rs held. h.holds rs (f.holds rs held) }
+whole_then : {S L : Type 0} {s : Ghosts S} {l : Widths L} (i j k : Maker S L s l) → StaysWhole i j → StaysWhole j k → StaysWhole i k
+whole_then i j k f h = record { was = f.was; whole = h.whole; holds = λ rs held. h.holds rs (f.holds rs held) }
 
 closed_unchanged : {S L : Type 0} {s : Ghosts S} {l : Widths L} (i j k : Maker S L s l) → ClosesAll i j → k.broken ≡ false → k.roll ≡ j.roll → SameImages (s.image j.store) (s.image k.store) → s.written k.store ≡ s.written j.store → ClosesAll i k
 closed_unchanged {s = s} {l = l} i j k c whole roll images written =
@@ -215,7 +278,7 @@ finishing_fails i j k fault c fine whole roll keeps memory failed which =
       | inl e ↦
           let m = memory e in
           subst (λ (f : MakeFault). FailsFinishing i k f) (sym e) (closed_unchanged i j k c whole roll m.0 m.1, m.2 ∙ fine)
-      | inr e ↦ subst (λ (f : MakeFault). FailsFinishing i k f) (sym e) (inl (stays_then i j k c.stays (stays_kept j k c.stays.whole whole roll keeps), omega (arith, failed e, fine)))
+      | inr e ↦ subst (λ (f : MakeFault). FailsFinishing i k f) (sym e) (inl (whole_then i j k c.stays (stays_kept j k c.stays.whole whole roll keeps), omega (arith, failed e, fine)))
     ]
 
 pub closing_fails : {S L : Type 0} {s : Ghosts S} {l : Widths L} (i j : Maker S L s l) (fault : MakeFault) → FailsClosingAll i j fault → FailsFinishing i j fault

@@ -7,7 +7,7 @@ ghost use Rattle.cdb_roll.specs.Views.Making.{MakingFault};
 
 use crate::fault::MakeFault;
 use crate::finish::file::finish;
-use crate::maker::Maker;
+use crate::maker::{Counts, Maker};
 use crate::roll::Roll;
 use cdb_form::{GREATEST_HEAD, Width, head_size};
 use cdb_store::Store;
@@ -59,6 +59,7 @@ fn emptied<S: Store, L: Width>(store: &mut S) -> Result<(), MakeFault>
     ensures written { OnOk result (S.written store.new ≡ S.written store.old + head_size L.WORD) }
     ensures room { S.room store.old ≤ S.room store.new }
     ensures failures { S.failures store.old ≤ S.failures store.new }
+    ensures fine { OnOk result (S.failures store.new ≡ S.failures store.old) }
     ensures fails { IfErr result
         (MakingFault S.image S.size S.written S.failures store.old store.new) }
 {
@@ -97,6 +98,7 @@ impl<S: Store, L: Width> Maker<S, L> {
             S.written m.store ≡ S.written store + head_size L.WORD) }
         ensures room { IfOk result (λ m. S.room store ≤ S.room m.store) }
         ensures failures { IfOk result (λ m. S.failures store ≤ S.failures m.store) }
+        ensures fine { IfOk result (λ m. S.failures m.store ≡ S.failures store) }
         ensures fails { IfErr result (λ r.
             MakingFault S.image S.size S.written S.failures store r.store r.fault) }
     {
@@ -109,6 +111,7 @@ impl<S: Store, L: Width> Maker<S, L> {
                 limit,
                 lazy,
                 broken: false,
+                counted: Counts { count: 0, size: 0 },
             }),
             Err(fault) => Err(Refused { store, fault }),
         }
@@ -125,6 +128,7 @@ impl<S: Store, L: Width> Maker<S, L> {
             limit: _,
             lazy: _,
             broken: _,
+            counted: _,
         } = self;
         drop(roll);
         store

@@ -1,5 +1,5 @@
 // The records of a key, removed.
-ghost use Rattle.std.specs.Prelude.{◌≡◌, ◌+◌, ◌*◌, ◌<◌, ◌≤◌, true, false, IfOk, IfErr, OnOk};
+ghost use Rattle.std.specs.Prelude.{◌≡◌, ◌+◌, ◌*◌, ◌<◌, ◌≤◌, true, false, IfOk, IfErr, OnOk, OnErr};
 ghost use Rattle.cdb_roll.specs.Marks.{HaveHash};
 
 use crate::fault::MakeFault;
@@ -45,12 +45,15 @@ impl<S: Store, L: Width> Maker<S, L> {
         requires have { HaveHash hash self.old.roll.hashes.items self.old.roll.marks.items }
         ensures takes { OnOk result (TakesOut self.old self.new) }
         ensures fails { IfErr result (Tears self.old self.new) }
+        ensures fine { OnOk result (HasNotFailed self.old self.new) }
+        ensures counts { OnErr result (SameCounts self.old self.new) }
         ensures follows { Follows self.old self.new }
     {
         if self.waits() {
             self.roll.take(hash);
             return Ok(());
         }
+        self.counted = self.counts();
         self.broken = true;
         self.roll.take(hash);
         self.pass()
@@ -63,7 +66,9 @@ impl<S: Store, L: Width> Maker<S, L> {
     /// or the store gave back other bytes than were written.
     pub fn remove(&mut self, key: &[u8]) -> Result<u64, MakeFault>
         ensures removes { IfOk result (Removes self.old self.new key.now) }
+        ensures fine { OnOk result (HasNotFailed self.old self.new) }
         ensures fails { IfErr result (FailsRemoving self.old self.new key.now) }
+        ensures counts { OnErr result (SameCounts self.old self.new) }
         ensures follows { Follows self.old self.new }
     {
         let hash = hash(key);
