@@ -1,5 +1,8 @@
 // Scripts that are drawn, beside the maker with lists: the same answers and the same file, over a store
 // of which each call fails in turn, too.
+ghost use Rattle.std.specs.Prelude.{◌≤◌};
+ghost use Rattle.cdb_form.specs.Format.Pair.{head_size};
+
 use cdb_form::{Narrow, Wide, Width};
 use cdb_store::{FuseStore, MemStore};
 use std::alloc::Global;
@@ -194,10 +197,21 @@ struct Way {
     passed: u64,
 }
 
+/// The greatest size that a file may have: one of a few records if it is scarce.
+fn limit_of<L: Width>(scarce: bool) -> u64
+    ensures head { head_size L.WORD ≤ result }
+    ensures words { result ≤ L.GREATEST }
+{
+    if !scarce {
+        return L::GREATEST;
+    }
+    let few = if L::WORD == 8 { 5000 } else { 2600 };
+    L::GREATEST.min(few)
+}
+
 /// Two makers without records.
 fn begun<L: Width>(alloc: Global, way: Way) -> Result<Pair<L>, Fail> {
-    let few = if L::WORD == 8 { 5000 } else { 2600 };
-    let limit = if way.scarce { few } else { L::GREATEST };
+    let limit = limit_of::<L>(way.scarce);
     let fuse = FuseStore::new(MemStore::new(alloc), way.passed, 3);
     let Ok(roll) = cdb_roll::Maker::new(alloc, fuse, limit, way.lazy) else {
         return Err(Fail::new("no maker on a roll"));
