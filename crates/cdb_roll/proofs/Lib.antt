@@ -1,4 +1,10 @@
 pub mod Bytes
+pub mod Slots
+pub mod FinishedFile
+pub mod Finishing
+pub mod Appends
+pub mod Tables
+pub mod Gathered
 pub mod Halves
 pub mod Spans
 pub mod Marking

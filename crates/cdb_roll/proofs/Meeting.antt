@@ -1,16 +1,17 @@
 -- What a put will answer, and that it does so.
-use Rattle.std.proofs.Common.{◌≡◌, ℕ, ◌+◌, ◌*◌, ◌-◌, ◌<◌, ◌⊎◌, Bool, true, false, cond, List, [], ◌∷◌, ◌++◌, length, map, refl, sym, ap, subst, ◌∙◌, arith, inl, inr, sum_by}
+use Rattle.std.proofs.Common.{◌≡◌, ℕ, ◌+◌, ◌*◌, ◌-◌, ◌<◌, ◌≢◌, ◌⊎◌, Bool, true, false, cond, List, [], ◌∷◌, ◌++◌, length, map, refl, sym, ap, subst, ◌∙◌, arith, inl, inr, sum_by}
 use Rattle.std.specs.Prelude.{sum, ◌||◌, Result, Ok, Err, IfErr}
 use Rattle.std.specs.Result.{IsErrAnd}
-use Rattle.std.proofs.lemmas.Bool.{false_from_ne_true}
+use Rattle.std.proofs.lemmas.Bool.{false_from_ne_true, cases_lt}
 use Rattle.std.proofs.lemmas.List.{length-map}
-use Rattle.std.proofs.lemmas.List.Sums.{sum_by-cons}
+use Rattle.std.proofs.lemmas.List.Sums.{sum_by-cons, sum_by_push}
 use Rattle.cdb_store.specs.declared.store.Store.{Ghosts}
 use Rattle.cdb_form.specs.declared.width.Width.{Ghosts as Widths}
 use Rattle.cdb_form.specs.declared.mode.Mode.{Mode}
 use Rattle.cdb_form.specs.declared.mode.Mode.TheVariants.{Add, Warn, Insert, Replace}
 use Rattle.cdb_form.specs.Format.File.{file_size, whole_size}
-use Rattle.cdb_form.specs.Format.Record.{KeyValue, record_size}
+use Rattle.cdb_form.specs.Format.Pair.{head_size}
+use Rattle.cdb_form.specs.Format.Record.{KeyValue, record_size, records_end}
 use Rattle.cdb_roll.specs.declared.answer.Put.{Put}
 use Rattle.cdb_roll.specs.declared.answer.Put.TheVariants.{Added, AddedAgain, Present, Replaced}
 use Rattle.cdb_roll.specs.declared.fault.MakeFault.{MakeFault}
@@ -22,12 +23,13 @@ use Rattle.cdb_roll.specs.Marks.{is_gone, gone_of, found_of, taken, AreNone, Hav
 use Rattle.cdb_roll.specs.Rolls.{Sees}
 use Rattle.cdb_roll.specs.Spans.{left, picked, number, behind, or_each}
 use Rattle.cdb_roll.specs.Survivors.{has_key, is_there, count_of, behind_first, put_list, put_answer}
-use Rattle.cdb_roll.specs.Views.Maker.{gone_in, found_in, Holds, Rests, Stays, Seeks, Meets, Settles, Puts, Follows, IsOver, IsWithin, IsTooBig, WouldFit, FailsSettling, FailsPutting, put_bytes, is_present}
+use Rattle.cdb_roll.specs.Views.Maker.{gone_in, found_in, Holds, Rests, Stays, Seeks, Meets, Settles, Puts, Follows, IsOver, IsWithin, IsTooBig, WouldPut, WantsRoom, OnlyAdds, PassesRoom, DoesNothing, WritesNothing, HasFailedToWrite, HasNotFailed, HasStoreFailed, HasGone, HasGoneOr, IsTorn, FailsSettling, FailsPutting, put_bytes, is_present}
+use Rattle.cdb_roll.proofs.Finishing.{gone_lazy}
 use Rattle.cdb_roll.proofs.Looking.{sees_long, sees_same}
-use Rattle.cdb_roll.proofs.Picking.{left_all_stay, gone_taken, picked_taken, number_taken, both_within, both_few}
+use Rattle.cdb_roll.proofs.Picking.{left_all_stay, left_sum, end_sum, number_none, gone_taken, picked_taken, number_taken, both_within, both_few}
 use Rattle.cdb_roll.proofs.Rolls.{left_file, slots_add, whole_push}
-use Rattle.cdb_roll.proofs.Removing.{one_of, rest_of, sought, behind-sum_by, moved_first}
-use Rattle.cdb_roll.proofs.Settling.{same_marks, or_clear, behind_nothing}
+use Rattle.cdb_roll.proofs.Removing.{one_of, rest_of, sought, left-sum_by, behind-sum_by, moved_first}
+use Rattle.cdb_roll.proofs.Settling.{same_marks, or_clear, behind_nothing, length-or}
 use Rattle.cdb_roll.proofs.Survive.{or_none, number_zero, some_there}
 
 pub have_none : (hash : ℕ) (hs : List ℕ) (ms : List Mark) → AreNone (found_of ms) → HaveHash hash hs ms
@@ -68,9 +70,10 @@ plain_insert w r rs there = record {
   bytes = λ e. sym (ap (λ (v : Bool). cond v 0 (record_size w r)) there);
 }
 
-pub meets_by : {S L : Type 0} {s : Ghosts S} {l : Widths L} (i j : Maker S L s l) (hash : ℕ) (mode : Mode) (r : KeyValue) (put : Put) → Rests i j → AreNone (found_in j) → ((rs : List KeyValue) → Holds i rs → (b : List ℕ) → s.image j.store b → Plain l.WORD mode r put rs) → Meets i j hash mode r put
-meets_by {s = s} {l = l} i j hash mode r put rests none plain = record {
+pub meets_by : {S L : Type 0} {s : Ghosts S} {l : Widths L} (i j : Maker S L s l) (hash : ℕ) (mode : Mode) (r : KeyValue) (put : Put) → (mode ≡ Replace → ⊥) → Rests i j → AreNone (found_in j) → ((rs : List KeyValue) → Holds i rs → (b : List ℕ) → s.image j.store b → Plain l.WORD mode r put rs) → Meets i j hash mode r put
+meets_by {s = s} {l = l} i j hash mode r put other rests none plain = record {
   rests = rests;
+  replaces = λ some. absurd (omega (arith, some, j.roll.sought.count, number_none (found_in j) none));
   have = have_none hash j.roll.hashes.items j.roll.marks.items none;
   each = λ rs h b is.
       let p = plain rs h b is in
@@ -85,6 +88,8 @@ meets_by {s = s} {l = l} i j hash mode r put rests none plain = record {
         held = is_held;
         adds = λ np. p.adds np ∙ ap (λ (v : List KeyValue). v ++ r ∷ []) (is_held ∙ ap (λ (v : List Bool). left v all) (sym marks));
         none = p.none;
+        there = λ some. absurd (omega (arith, some, j.roll.sought.count, number_none (found_in j) none));
+        found = λ replaces there. absurd (other replaces);
         bytes = λ np clear.
             let z : sum (behind (or_each (gone_in j) (found_in j)) (map (record_size l.WORD) all)) ≡ 0 = ap sum (behind_nothing (or_each (gone_in j) (found_in j)) (map (record_size l.WORD) all) (or_clear (gone_in j) (found_in j) (same_marks j.roll) clear none)) in
             omega (arith, p.bytes np, z);
@@ -108,6 +113,7 @@ pub meets_found : {S L : Type 0} {s : Ghosts S} {l : Widths L} (i j : Maker S L 
 meets_found {s = s} {l = l} i j hash n r put h np answers = record {
   rests = h.rests;
   have = h.have;
+  replaces = λ some. refl;
   each = λ rs holds b is.
       let q = sought i j hash n r.key rs b h holds is in
       record {
@@ -117,6 +123,8 @@ meets_found {s = s} {l = l} i j hash n r put h np answers = record {
         held = q.held;
         adds = λ e. ap (λ (v : List KeyValue). v ++ r ∷ []) (sym q.rest);
         none = λ e. never (sym np ∙ e);
+        there = λ some. some_there r.key rs (omega (arith, some, h.count, q.count));
+        found = λ replaces there. elim (cases_lt 0 j.roll.found.count) [ inl some ↦ some | inr le ↦ absurd (there_some r.key rs there (omega (arith, le, h.count, q.count))) ];
         bytes = λ e clear.
             let same : rs ≡ q.all = q.held ∙ left_all_stay (gone_in j) q.all q.many clear in
             let moved : sum (behind (or_each (gone_in j) (found_in j)) (map (record_size l.WORD) q.all)) ≡ sum_by (record_size l.WORD) (behind_first (has_key r.key) rs) =
@@ -183,25 +191,40 @@ held_still i j k rests stays rs h = record {
       };
 }
 
--- the file once those that go and those that were found are gone
-kept_file : {L : Type 0} {l : Widths L} (m : Roll L l) (all : List KeyValue) (b : List ℕ) → (l.WORD ≡ 4) ⊎ (l.WORD ≡ 8) → Sees m all b
-    → file_size l.WORD (left (or_each (gone_of m.marks.items) (found_of m.marks.items)) all) + (m.gone.size + m.found.size) + 4 * l.WORD * (m.gone.count + m.found.count) ≡ m.end + 4 * l.WORD * length m.hashes.items
-kept_file {l = l} m all b w sees =
+-- how many bytes those have that go and those that were found
+kept_picked : {L : Type 0} {l : Widths L} (m : Roll L l) (all : List KeyValue) (b : List ℕ) → Sees m all b → m.gone.size + m.found.size ≡ sum (picked (or_each (gone_of m.marks.items) (found_of m.marks.items)) (map (record_size l.WORD) all))
+kept_picked {l = l} m all b sees =
     let ms : List Mark = m.marks.items in
     let ns : List ℕ = map (record_size l.WORD) all in
     let marks : gone_of (map taken ms) ≡ or_each (gone_of ms) (found_of ms) = gone_taken ms in
     let long : length ms ≡ length all = m.marked ∙ sees_long m all b sees in
-    let many : length (or_each (gone_of ms) (found_of ms)) ≡ length all = ap length (sym marks) ∙ length-map (map taken ms) is_gone ∙ length-map ms taken ∙ long in
     let sums : sum (picked (gone_of (map taken ms)) ns) ≡ sum (picked (gone_of ms) ns) + sum (picked (found_of ms) ns) = picked_taken ms ns (long ∙ sym (length-map all (record_size l.WORD))) in
-    let size : m.gone.size + m.found.size ≡ sum (picked (or_each (gone_of ms) (found_of ms)) ns) = omega (arith, m.picked.size ns sees.of, m.sought.size ns sees.of, sums, ap (λ (v : List Bool). sum (picked v ns)) marks) in
+    omega (arith, m.picked.size ns sees.of, m.sought.size ns sees.of, sums, ap (λ (v : List Bool). sum (picked v ns)) marks)
+
+-- the file once they are gone
+kept_file : {L : Type 0} {l : Widths L} (m : Roll L l) (all : List KeyValue) (b : List ℕ) → (l.WORD ≡ 4) ⊎ (l.WORD ≡ 8) → Sees m all b
+    → file_size l.WORD (left (or_each (gone_of m.marks.items) (found_of m.marks.items)) all) + (m.gone.size + m.found.size) + 4 * l.WORD * (m.gone.count + m.found.count) ≡ m.end + 4 * l.WORD * length m.hashes.items
+kept_file {l = l} m all b w sees =
+    let ms : List Mark = m.marks.items in
+    let marks : gone_of (map taken ms) ≡ or_each (gone_of ms) (found_of ms) = gone_taken ms in
+    let long : length ms ≡ length all = m.marked ∙ sees_long m all b sees in
+    let many : length (or_each (gone_of ms) (found_of ms)) ≡ length all = ap length (sym marks) ∙ length-map (map taken ms) is_gone ∙ length-map ms taken ∙ long in
     let number_is : m.gone.count + m.found.count ≡ number (or_each (gone_of ms) (found_of ms)) = omega (arith, m.picked.count, m.sought.count, number_taken ms, ap number marks) in
     let end : ℕ = m.end - (m.gone.size + m.found.size) in
     let count : ℕ = length m.hashes.items - (m.gone.count + m.found.count) in
-    let file = (left_file m all b (or_each (gone_of ms) (found_of ms)) end count (m.gone.size + m.found.size) (m.gone.count + m.found.count) w many sees (omega (arith, both_within m)) (omega (arith, both_few m)) size number_is).0 in
+    let file = (left_file m all b (or_each (gone_of ms) (found_of ms)) end count (m.gone.size + m.found.size) (m.gone.count + m.found.count) w many sees (omega (arith, both_within m)) (omega (arith, both_few m)) (kept_picked m all b sees) number_is).0 in
     let slots : 4 * l.WORD * (count + (m.gone.count + m.found.count)) ≡ 4 * l.WORD * count + 4 * l.WORD * (m.gone.count + m.found.count) = slots_add l.WORD count (m.gone.count + m.found.count) w in
     let all_is : count + (m.gone.count + m.found.count) ≡ length m.hashes.items = omega (arith, both_few m) in
     let whole : 4 * l.WORD * (count + (m.gone.count + m.found.count)) ≡ 4 * l.WORD * length m.hashes.items = ap (λ (v : ℕ). 4 * l.WORD * v) all_is in
     omega (arith, file, slots, whole, both_within m)
+
+-- where their records end
+kept_end : {L : Type 0} {l : Widths L} (m : Roll L l) (all : List KeyValue) (b : List ℕ) → Sees m all b → records_end l.WORD (left (or_each (gone_of m.marks.items) (found_of m.marks.items)) all) + (m.gone.size + m.found.size) ≡ m.end
+kept_end {l = l} m all b sees =
+    let ms : List Bool = or_each (gone_of m.marks.items) (found_of m.marks.items) in
+    let ns : List ℕ = map (record_size l.WORD) all in
+    let many : length ms ≡ length ns = length-or (gone_of m.marks.items) (found_of m.marks.items) (same_marks m) ∙ length-map m.marks.items is_gone ∙ m.marked ∙ sees_long m all b sees ∙ sym (length-map all (record_size l.WORD)) in
+    omega (arith, left_sum ms ns many, left-sum_by (record_size l.WORD) ms all, kept_picked m all b sees, sees.of.ends, end_sum (head_size l.WORD) ns)
 
 put_size : {S L : Type 0} {s : Ghosts S} {l : Widths L} (i j k : Maker S L s l) (hash : ℕ) (mode : Mode) (r : KeyValue) (put : Put) → (l.WORD ≡ 4) ⊎ (l.WORD ≡ 8) → is_present put ≡ false → Meets i j hash mode r put → Follows j k → (rs : List KeyValue) → Holds i rs → (b : List ℕ) → s.image k.store b
     → file_size l.WORD (put_list mode r rs) + (j.roll.gone.size + j.roll.found.size) + 4 * l.WORD * (j.roll.gone.count + j.roll.found.count) ≡ j.roll.end + whole_size l.WORD r + 4 * l.WORD * length j.roll.hashes.items
@@ -214,45 +237,108 @@ put_size {l = l} i j k hash mode r put w np m follows rs h b is =
 too_big : {S L : Type 0} {s : Ghosts S} {l : Widths L} (i j k : Maker S L s l) (hash : ℕ) (mode : Mode) (r : KeyValue) (put : Put) → (l.WORD ≡ 4) ⊎ (l.WORD ≡ 8) → is_present put ≡ false → Meets i j hash mode r put → Follows j k → IsOver j r → IsTooBig i k mode r
 too_big i j k hash mode r put w np m follows over = λ rs h. record { each = λ b is. omega (arith, put_size i j k hash mode r put w np m follows rs h b is, over, m.rests.limit) }
 
-would_fit : {S L : Type 0} {s : Ghosts S} {l : Widths L} (i j k : Maker S L s l) (hash : ℕ) (mode : Mode) (r : KeyValue) (put : Put) → (l.WORD ≡ 4) ⊎ (l.WORD ≡ 8) → is_present put ≡ false → Meets i j hash mode r put → Follows j k → IsWithin j r → WouldFit i k mode r
-would_fit i j k hash mode r put w np m follows within = λ rs h. record { each = λ b is. omega (arith, put_size i j k hash mode r put w np m follows rs h b is, within, m.rests.limit) }
+not_present : (put answer : Put) → is_present put ≡ false → put ≡ answer → answer ≢ Present
+not_present put answer np e is = never (sym np ∙ ap is_present (e ∙ is))
 
-pub put_fails : {S L : Type 0} {s : Ghosts S} {l : Widths L} (i j k : Maker S L s l) (hash : ℕ) (mode : Mode) (r : KeyValue) (put : Put) (fault : MakeFault) → (l.WORD ≡ 4) ⊎ (l.WORD ≡ 8) → is_present put ≡ false → Meets i j hash mode r put → Follows j k → FailsSettling j k r fault → FailsPutting i k mode r fault
-put_fails i j k hash mode r put Broken w np m follows h = absurd h
-put_fails i j k hash mode r put Lookup w np m follows h = absurd h
-put_fails i j k hash mode r put TooBig w np m follows h = (record { was = m.rests.was; whole = h.0.stays.broken ∙ m.rests.whole; holds = held_still i j k m.rests h.0.stays; written = h.0.written ∙ m.rests.reads.written }, too_big i j k hash mode r put w np m follows h.1)
-put_fails i j k hash mode r put NoMemory w np m follows h = (record { was = m.rests.was; whole = h.0.stays.broken ∙ m.rests.whole; holds = held_still i j k m.rests h.0.stays; written = h.0.written ∙ m.rests.reads.written }, would_fit i j k hash mode r put w np m follows h.1)
-put_fails i j k hash mode r put Writing w np m follows h = elim h.1 [
-  | inl t ↦ (omega (arith, t.1.failed, m.rests.reads.failures), would_fit i j k hash mode r put w np m follows h.0, inr (t.0.broken ∙ m.rests.whole, held_still i j k m.rests t.0))
-  | inr t ↦ elim t [
-    | inl u ↦ (omega (arith, u.1, m.rests.reads.failures), would_fit i j k hash mode r put w np m follows h.0, inl u.0)
-    | inr u ↦ (
-      omega (arith, u.2.failed, m.rests.reads.failures),
-      would_fit i j k hash mode r put w np m follows h.0,
-      inr (
-        u.0,
-        λ rs holds. record {
-          whole = u.0;
-          each = λ b is.
-              let g = u.4.each b is in
-              let held = holds.each g.0 (m.rests.reads.images g.0 g.1) in
-              let q = g.2 held.all (sees_same i.roll j.roll held.all g.0 m.rests.same held.sees) in
-              let none : AreNone (found_in j) = number_zero (found_in j) (sym j.roll.sought.count ∙ u.3) in
-              let many : length (gone_in k) ≡ length q.0 = omega (arith, length-map k.roll.marks.items is_gone, k.roll.marked, sees_long k.roll q.0 b q.1) in
-              record {
-                all = q.0;
-                sees = q.1;
-                left = held.left ∙ ap (λ (v : List Bool). left v held.all) (sym m.rests.gone ∙ sym (or_none (gone_in j) (found_in j) (same_marks j.roll) none)) ∙ sym q.2 ∙ sym (left_all_stay (gone_in k) q.0 many u.1);
-              };
+would_put : {S L : Type 0} {s : Ghosts S} {l : Widths L} (i j k : Maker S L s l) (hash : ℕ) (mode : Mode) (r : KeyValue) (put : Put) → (l.WORD ≡ 4) ⊎ (l.WORD ≡ 8) → is_present put ≡ false → Meets i j hash mode r put → Follows j k → IsWithin j r → WouldPut i k mode r
+would_put i j k hash mode r put w np m follows within = λ rs h. record {
+  each = λ b is.
+      let a = follows.comes.each b is in
+      (not_present put (put_answer mode r rs) np (m.each rs h a.0 a.1).answers, omega (arith, put_size i j k hash mode r put w np m follows rs h b is, within, m.rests.limit));
+}
+
+wants_room : {S L : Type 0} {s : Ghosts S} {l : Widths L} (i j k : Maker S L s l) (hash : ℕ) (mode : Mode) (r : KeyValue) (put : Put) → is_present put ≡ false → Meets i j hash mode r put → Follows j k → (0 < j.roll.found.count → PassesRoom j r) → WantsRoom i k mode r
+wants_room {l = l} i j k hash mode r put np m follows passes = λ rs h replaces. record {
+  each = λ b is there.
+      let a = follows.comes.each b is in
+      let e = m.each rs h a.0 a.1 in
+      let x : records_end l.WORD (put_list mode r rs) ≡ records_end l.WORD (left (or_each (gone_in j) (found_in j)) e.all) + record_size l.WORD r = ap (records_end l.WORD) (e.adds np) ∙ omega (arith, sum_by_push (record_size l.WORD) (left (or_each (gone_in j) (found_in j)) e.all) r) in
+      omega (arith, x, kept_end j.roll e.all a.0 e.sees, passes (e.found replaces there), m.rests.reads.room);
+}
+
+only_adds : {S L : Type 0} {s : Ghosts S} {l : Widths L} (i j k : Maker S L s l) (hash : ℕ) (mode : Mode) (r : KeyValue) (put : Put) → is_present put ≡ false → Meets i j hash mode r put → Follows j k → j.roll.found.count ≡ 0 → OnlyAdds i k mode r
+only_adds i j k hash mode r put np m follows zero = λ rs h. record {
+  each = λ b is.
+      let a = follows.comes.each b is in
+      let e = m.each rs h a.0 a.1 in
+      let none : AreNone (found_in j) = number_zero (found_in j) (sym j.roll.sought.count ∙ zero) in
+      e.adds np ∙ ap (λ (v : List Bool). left v e.all ++ r ∷ []) (or_none (gone_in j) (found_in j) (same_marks j.roll) none) ∙ ap (λ (v : List KeyValue). v ++ r ∷ []) (sym e.held);
+}
+
+torn_put : {S L : Type 0} {s : Ghosts S} {l : Widths L} (i j k : Maker S L s l) (hash : ℕ) (mode : Mode) (r : KeyValue) (put : Put) → Meets i j hash mode r put → Follows j k → k.broken ≡ true → HasStoreFailed j k → 0 < j.roll.gone.count + j.roll.found.count → IsTorn i k (HasGoneOr i r.key) × (HasGone i ⊎ (mode ≡ Replace))
+torn_put {s = s} i j k hash mode r put m follows torn failed some =
+    let fails : HasStoreFailed i k = omega (arith, failed, m.rests.reads.failures) in
+    elim (cases_lt 0 j.roll.found.count) [
+      | inl found ↦ (
+        record {
+          was = m.rests.was;
+          broken = torn;
+          failed = fails;
+          found = λ rs h. record { each = λ b is. inr (let a = follows.comes.each b is in (m.each rs h a.0 a.1).there found) };
         },
-      ),
-    )
-  ]
-]
+        inr (m.replaces found),
+      )
+      | inr le ↦
+          let goes : 0 < i.roll.gone.count = omega (arith, some, le, ap (λ q. q.count) m.rests.picked) in
+          let gone : HasGone i = (gone_lazy i m.rests.was goes, goes) in
+          (record { was = m.rests.was; broken = torn; failed = fails; found = λ rs h. record { each = λ b is. inl gone } }, inl gone)
+    ]
 
-pub put_failed : {S L : Type 0} {s : Ghosts S} {l : Widths L} (i j k : Maker S L s l) (hash : ℕ) (mode : Mode) (r : KeyValue) (put : Put) (result : Result Put MakeFault) (f : MakeFault) → (l.WORD ≡ 4) ⊎ (l.WORD ≡ 8) → is_present put ≡ false → Meets i j hash mode r put → Follows j k → FailsSettling j k r f → IsErrAnd result (λ v. v ≡ f) → IfErr result (FailsPutting i k mode r)
-put_failed i j k hash mode r put (Ok x) f w np m follows h e = tt
-put_failed i j k hash mode r put (Err v) f w np m follows h e = subst (FailsPutting i k mode r) (sym e) (put_fails i j k hash mode r put f w np m follows h)
+nothing_put : {S L : Type 0} {s : Ghosts S} {l : Widths L} (i j k : Maker S L s l) (hash : ℕ) (mode : Mode) (r : KeyValue) (put : Put) → Meets i j hash mode r put → DoesNothing j k → WritesNothing i k
+nothing_put i j k hash mode r put m h = record { stays = record { was = m.rests.was; whole = h.stays.broken ∙ m.rests.whole; holds = held_still i j k m.rests h.stays }; written = h.written ∙ m.rests.reads.written }
+
+failed_later : {S L : Type 0} {s : Ghosts S} {l : Widths L} (i j k : Maker S L s l) → Rests i j → HasFailedToWrite j k → HasFailedToWrite i k
+failed_later i j k rests h = record { failed = omega (arith, h.failed, rests.reads.failures); unwritten = omega (arith, h.unwritten, rests.reads.unwritten) }
+
+pub put_fails : {S L : Type 0} {s : Ghosts S} {l : Widths L} (i j k : Maker S L s l) (hash : ℕ) (mode : Mode) (r : KeyValue) (put : Put) (fault : MakeFault) → (l.WORD ≡ 4) ⊎ (l.WORD ≡ 8) → is_present put ≡ false → Meets i j hash mode r put → HasNotFailed i j → Follows j k → FailsSettling j k r fault → FailsPutting i k mode r fault
+put_fails i j k hash mode r put Broken w np m fine follows h = absurd h
+put_fails i j k hash mode r put Lookup w np m fine follows h = absurd h
+put_fails i j k hash mode r put TooBig w np m fine follows h = (nothing_put i j k hash mode r put m h.0, too_big i j k hash mode r put w np m follows h.1, h.0.fine ∙ fine)
+put_fails i j k hash mode r put NoMemory w np m fine follows h = (nothing_put i j k hash mode r put m h.0, wants_room i j k hash mode r put np m follows h.2, would_put i j k hash mode r put w np m follows h.1, h.0.fine ∙ fine)
+put_fails i j k hash mode r put Writing w np m fine follows h =
+    let would = would_put i j k hash mode r put w np m follows h.0 in
+    elim h.1 [
+      | inl t ↦ (
+        inl (
+          record { was = m.rests.was; whole = t.0.broken ∙ m.rests.whole; holds = held_still i j k m.rests t.0 },
+          failed_later i j k m.rests t.1,
+          λ eager. only_adds i j k hash mode r put np m follows (t.2 (m.rests.lazy ∙ eager)),
+        ),
+        would,
+      )
+      | inr t ↦ elim t [
+        | inl u ↦ (inr (torn_put i j k hash mode r put m follows u.0 u.1 u.2), would)
+        | inr u ↦ (
+          inl (
+            record {
+              was = m.rests.was;
+              whole = u.0;
+              holds = λ rs holds. record {
+                whole = u.0;
+                each = λ b is.
+                    let g = u.4.each b is in
+                    let held = holds.each g.0 (m.rests.reads.images g.0 g.1) in
+                    let q = g.2 held.all (sees_same i.roll j.roll held.all g.0 m.rests.same held.sees) in
+                    let none : AreNone (found_in j) = number_zero (found_in j) (sym j.roll.sought.count ∙ u.3) in
+                    let many : length (gone_in k) ≡ length q.0 = omega (arith, length-map k.roll.marks.items is_gone, k.roll.marked, sees_long k.roll q.0 b q.1) in
+                    record {
+                      all = q.0;
+                      sees = q.1;
+                      left = held.left ∙ ap (λ (v : List Bool). left v held.all) (sym m.rests.gone ∙ sym (or_none (gone_in j) (found_in j) (same_marks j.roll) none)) ∙ sym q.2 ∙ sym (left_all_stay (gone_in k) q.0 many u.1);
+                    };
+              };
+            },
+            failed_later i j k m.rests u.2,
+            λ eager. only_adds i j k hash mode r put np m follows u.3,
+          ),
+          would,
+        )
+      ]
+    ]
+
+pub put_failed : {S L : Type 0} {s : Ghosts S} {l : Widths L} (i j k : Maker S L s l) (hash : ℕ) (mode : Mode) (r : KeyValue) (put : Put) (result : Result Put MakeFault) (f : MakeFault) → (l.WORD ≡ 4) ⊎ (l.WORD ≡ 8) → is_present put ≡ false → Meets i j hash mode r put → HasNotFailed i j → Follows j k → FailsSettling j k r f → IsErrAnd result (λ v. v ≡ f) → IfErr result (FailsPutting i k mode r)
+put_failed i j k hash mode r put (Ok x) f w np m fine follows h e = tt
+put_failed i j k hash mode r put (Err v) f w np m fine follows h e = subst (FailsPutting i k mode r) (sym e) (put_fails i j k hash mode r put f w np m fine follows h)
 
 pub meets_add : {S L : Type 0} {s : Ghosts S} {l : Widths L} (i j : Maker S L s l) (hash : ℕ) (mode : Mode) (r : KeyValue) → mode ≡ Add → Rests i j → AreNone (found_in j) → Meets i j hash mode r Added
-meets_add {l = l} i j hash mode r is rests none = subst (λ v. Meets i j hash v r Added) (sym is) (meets_by i j hash Add r Added rests none (λ rs h b at. plain_add l.WORD r rs))
+meets_add {l = l} i j hash mode r is rests none = subst (λ v. Meets i j hash v r Added) (sym is) (meets_by i j hash Add r Added (λ e. (let t : Add ≡ Replace = e in cc)) rests none (λ rs h b at. plain_add l.WORD r rs))

@@ -26,7 +26,7 @@ behind_most (m ∷ ms) [] = omega arith
 behind_most (true ∷ ms) (x ∷ xs) = (let e : left (true ∷ ms) (x ∷ xs) ≡ left ms xs = refl in omega (arith, ap sum e))
 behind_most (false ∷ ms) (x ∷ xs) = (let h : sum (behind ms xs) ≤ sum (left ms xs) = behind_most ms xs in let e : behind (false ∷ ms) (x ∷ xs) ≡ behind ms xs = refl in omega (arith, h, ap sum e, sum-cons x (left ms xs)))
 
-left-sum_by : {A : Type 0} (f : A → ℕ) (ms : List Bool) (xs : List A) → sum (left ms (map f xs)) ≡ sum_by f (left ms xs)
+pub left-sum_by : {A : Type 0} (f : A → ℕ) (ms : List Bool) (xs : List A) → sum (left ms (map f xs)) ≡ sum_by f (left ms xs)
 left-sum_by f [] [] = refl
 left-sum_by f [] (x ∷ xs) = omega (arith, left-sum_by f [] xs, sum-cons (f x) (map f xs), sum_by-cons f x xs)
 left-sum_by f (m ∷ ms) [] = refl

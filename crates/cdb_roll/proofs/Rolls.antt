@@ -30,7 +30,7 @@ use Rattle.cdb_store.specs.declared.store.StoreFault.TheVariants.{NoMemory as Re
 use Rattle.cdb_roll.specs.declared.fault.MakeFault.{MakeFault}
 use Rattle.cdb_roll.specs.declared.fault.MakeFault.TheVariants.{Broken, Lookup, TooBig, NoMemory, Writing}
 use Rattle.cdb_roll.specs.Views.MakeFault.{fault_of}
-use Rattle.cdb_roll.specs.Views.Maker.{Goes, ComesFrom, AddFails, Follows, Stays, FailsExchanging, FailsClosing, FailsLooking, HasStoreFailed, IsBroken, gone_in, found_in, is_foreign, look_fault}
+use Rattle.cdb_roll.specs.Views.Maker.{Goes, ComesFrom, AddFails, Follows, Stays, FailsExchanging, FailsClosing, FailsLooking, HasStoreFailed, gone_in, found_in, is_foreign, look_fault}
 use Rattle.cdb_roll.specs.Views.Places.{places_in}
 use Rattle.cdb_roll.proofs.Spans.{left-map, joined_more, joined_end, kept_then}
 use Rattle.cdb_roll.proofs.Looking.{sizes_of, sees_long, sees_same}
@@ -43,7 +43,7 @@ left_every P (true ∷ ms) (r ∷ rs) all = left_every P ms rs (All-tail P r rs 
 left_every P (false ∷ ms) (r ∷ rs) all = All-cons P r (left ms rs) (All-head P r rs all) (left_every P ms rs (All-tail P r rs all))
 
 -- where the records end
-end_joined : {L : Type 0} {l : Widths L} (m : Roll L l) (all : List KeyValue) (b : List ℕ) → Sees m all b → m.end ≡ head_size l.WORD + length (joined (map (record_bytes l.WORD) all))
+pub end_joined : {L : Type 0} {l : Widths L} (m : Roll L l) (all : List KeyValue) (b : List ℕ) → Sees m all b → m.end ≡ head_size l.WORD + length (joined (map (record_bytes l.WORD) all))
 end_joined {l = l} m all b h = h.of.ends ∙ ap (end_from (head_size l.WORD)) (sym (sizes_of l.WORD all)) ∙ joined_end (head_size l.WORD) (map (record_bytes l.WORD) all)
 
 -- the same records with the same bytes
@@ -58,31 +58,36 @@ sees_kept {l = l} old new all a b hashes places end kept h =
       of = record { are = places ∙ h.of.are; ends = end ∙ h.of.ends };
     }
 
--- one record more
-pub sees_added : {L : Type 0} {l : Widths L} (old new : Roll L l) (r : KeyValue) (all : List KeyValue) (a b : List ℕ) → IsRecord r → old.end ≤ length a → new.hashes.items ≡ old.hashes.items ++ key_hash r.key ∷ []
-    → ((sizes : List ℕ) → AreOf (head_size l.WORD) (places_in old.places) old.end sizes → AreOf (head_size l.WORD) (places_in new.places) new.end (sizes ++ record_size l.WORD r ∷ [])) → b ≡ overwrite a old.end (record_bytes l.WORD r) → Sees old all a → Sees new (all ++ r ∷ []) b
-sees_added {l = l} old new r all a b is_record inside hashes of written h =
+-- one record more, whose bytes stand behind them
+pub sees_entered : {L : Type 0} {l : Widths L} (old new : Roll L l) (r : KeyValue) (all : List KeyValue) (b : List ℕ) → IsRecord r → new.hashes.items ≡ old.hashes.items ++ key_hash r.key ∷ []
+    → ((sizes : List ℕ) → AreOf (head_size l.WORD) (places_in old.places) old.end sizes → AreOf (head_size l.WORD) (places_in new.places) new.end (sizes ++ record_size l.WORD r ∷ [])) → part old.end (length (record_bytes l.WORD r)) b ≡ record_bytes l.WORD r → Sees old all b → Sees new (all ++ r ∷ []) b
+sees_entered {l = l} old new r all b is_record hashes of behind h =
     let w : ℕ = l.WORD in
     let x : List ℕ = record_bytes w r in
     let js : List ℕ = joined (map (record_bytes w) all) in
-    let at : head_size w + length js ≡ old.end = sym (end_joined old all a h) in
-    let z : List ℕ = overwrite a old.end x in
-    let front : part (head_size w) (length js) z ≡ js = part_from_take (head_size w) (length js) old.end a z at (take-overwrite old.end old.end a x (omega arith) inside) ∙ h.stand in
-    let back : part (head_size w + length js) (length x) z ≡ x = ap (λ (v : ℕ). part v (length x) z) at ∙ part-overwrite old.end a x inside in
+    let at : head_size w + length js ≡ old.end = sym (end_joined old all b h) in
+    let back : part (head_size w + length js) (length x) b ≡ x = ap (λ (v : ℕ). part v (length x) b) at ∙ behind in
     let all_is : joined (map (record_bytes w) (all ++ r ∷ [])) ≡ js ++ x = ap joined (map-append (record_bytes w) all (r ∷ [])) ∙ joined_more (map (record_bytes w) all) x in
     record {
       are = All-append IsRecord all (r ∷ []) h.are (All-cons IsRecord r [] is_record (All-nil IsRecord));
       stand =
           ap (λ (v : List ℕ). part (head_size w) (length v) b) all_is
           ∙ ap (λ (v : ℕ). part (head_size w) v b) (length-append js x)
-          ∙ ap (part (head_size w) (length js + length x)) written
-          ∙ part_add (head_size w) (length js) (length x) z
-          ∙ ap (λ (v : List ℕ). v ++ part (head_size w + length js) (length x) z) front
+          ∙ part_add (head_size w) (length js) (length x) b
+          ∙ ap (λ (v : List ℕ). v ++ part (head_size w + length js) (length x) b) h.stand
           ∙ ap (λ (v : List ℕ). js ++ v) back
           ∙ sym all_is;
       hashes = hashes ∙ ap (λ (v : List ℕ). v ++ key_hash r.key ∷ []) h.hashes ∙ sym (map-append (λ q. key_hash q.key) all (r ∷ []));
       of = subst (AreOf (head_size w) (places_in new.places) new.end) (sym (map-append (record_size w) all (r ∷ []))) (of (map (record_size w) all) h.of);
     }
+
+-- or are written there
+pub sees_added : {L : Type 0} {l : Widths L} (old new : Roll L l) (r : KeyValue) (all : List KeyValue) (a b : List ℕ) → IsRecord r → old.end ≤ length a → new.hashes.items ≡ old.hashes.items ++ key_hash r.key ∷ []
+    → ((sizes : List ℕ) → AreOf (head_size l.WORD) (places_in old.places) old.end sizes → AreOf (head_size l.WORD) (places_in new.places) new.end (sizes ++ record_size l.WORD r ∷ [])) → b ≡ overwrite a old.end (record_bytes l.WORD r) → Sees old all a → Sees new (all ++ r ∷ []) b
+sees_added {l = l} old new r all a b is_record inside hashes of written h =
+    let x : List ℕ = record_bytes l.WORD r in
+    let same : take old.end b ≡ take old.end a = ap (take old.end) written ∙ take-overwrite old.end old.end a x (omega arith) inside in
+    sees_entered old new r all b is_record hashes of (ap (part old.end (length x)) written ∙ part-overwrite old.end a x inside) (sees_kept old old all a b refl refl refl same h)
 
 -- those without a mark
 pub sees_closed : {L : Type 0} {l : Widths L} (old new : Roll L l) (all : List KeyValue) (a b : List ℕ) → new.hashes.items ≡ left (gone_of old.marks.items) old.hashes.items

@@ -1,5 +1,5 @@
 -- A record added, and those that it replaces taken out.
-use Rattle.std.proofs.Common.{◌≡◌, ℕ, suc, ◌+◌, ◌≤◌, ◌⊎◌, Bool, true, false, List, [], ◌∷◌, ◌++◌, length, map, get_or, refl, sym, ap, subst, ◌∙◌, arith, inl, inr}
+use Rattle.std.proofs.Common.{◌≡◌, ℕ, suc, ◌+◌, ◌<◌, ◌≤◌, ◌⊎◌, Bool, true, false, List, [], ◌∷◌, ◌++◌, length, map, get_or, refl, sym, ap, subst, ◌∙◌, arith, inl, inr}
 use Rattle.std.specs.Prelude.{sum, slice_index}
 use Rattle.std.proofs.lemmas.Bool.{cases_eq, cases_lt}
 use Rattle.std.proofs.lemmas.List.{length-map, length_push, get_or_append_left, get_or_push, get_or_past}
@@ -56,7 +56,7 @@ taken_clear i j hash r first whole a eager =
     let none = clear_by i first eager whole in
     or_clear (gone_in j) (found_in j) (same_marks j.roll) (none_more (gone_in i) (gone_in j) a.gone none.0) (none_more (found_in i) (found_in j) a.found none.1)
 
-length-or : (ms ns : List Bool) → length ms ≡ length ns → length (or_each ms ns) ≡ length ms
+pub length-or : (ms ns : List Bool) → length ms ≡ length ns → length (or_each ms ns) ≡ length ms
 length-or [] ns e = refl
 length-or (m ∷ ms) [] e = refl
 length-or (m ∷ ms) (n ∷ ns) e = ap suc (length-or ms ns (omega arith))
@@ -130,19 +130,19 @@ stays_then i j k f h = record {
   goes = goes_then i j k (λ all mid rest p q. q ∙ p) f.goes h.goes;
 }
 
-pub fails_after : {S L : Type 0} {s : Ghosts S} {l : Widths L} (i j k : Maker S L s l) (r : KeyValue) (fault : MakeFault) → Waits i j r → s.room i.store ≤ s.room j.store → s.unwritten i.store ≤ s.unwritten j.store → IsWithin i r → FailsClosing j k r fault → FailsSettling i k r fault
-fails_after i j k r Broken w room unwritten fits h = h
-fails_after i j k r Lookup w room unwritten fits h = h
-fails_after i j k r TooBig w room unwritten fits h = absurd h
-fails_after i j k r NoMemory w room unwritten fits h = (
+pub fails_after : {S L : Type 0} {s : Ghosts S} {l : Widths L} (i j k : Maker S L s l) (r : KeyValue) (fault : MakeFault) → Waits i j r → s.room i.store ≤ s.room j.store → s.unwritten i.store ≤ s.unwritten j.store → IsWithin i r → 0 < j.roll.gone.count + j.roll.found.count → FailsClosing j k r fault → FailsSettling i k r fault
+fails_after i j k r Broken w room unwritten fits some h = h
+fails_after i j k r Lookup w room unwritten fits some h = h
+fails_after i j k r TooBig w room unwritten fits some h = absurd h
+fails_after i j k r NoMemory w room unwritten fits some h = (
   record { stays = stays_then i j k w.stays h.0.stays; written = h.0.written ∙ w.written; fine = h.0.fine ∙ w.fine },
   fits,
-  λ some. (let p = h.1 in omega (arith, p, room, w.stays.same.end, ap (λ q. q.size) w.stays.gone, ap (λ q. q.size) w.stays.found)),
+  λ found. (let p = h.1 in omega (arith, p, room, w.stays.same.end, ap (λ q. q.size) w.stays.gone, ap (λ q. q.size) w.stays.found)),
 )
-fails_after {s = s} i j k r Writing w room unwritten fits h = (
+fails_after {s = s} i j k r Writing w room unwritten fits some h = (
   fits,
   inr (elim h [
-    | inl t ↦ inl (t.0, omega (arith, t.1, w.fine))
+    | inl t ↦ inl (t.0, omega (arith, t.1, w.fine), omega (arith, some, ap (λ q. q.count) w.stays.gone, ap (λ q. q.count) w.stays.found))
     | inr t ↦ inr (
       t.0,
       t.1,

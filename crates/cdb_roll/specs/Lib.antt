@@ -3,6 +3,9 @@ pub mod Views
 pub mod Survivors
 pub mod Looks
 pub mod Unfinished
+pub mod Parts
+pub mod Finished
+pub mod Tables
 pub mod Marks
 pub mod Spans
 pub mod Chains

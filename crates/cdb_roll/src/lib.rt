@@ -2,9 +2,11 @@
 #![tactic(auto)]
 
 pub mod answer;
+mod append;
 mod chains;
 mod close;
 mod fault;
+mod finish;
 mod growth;
 mod key_at;
 mod lifetime;
@@ -23,5 +25,5 @@ mod write;
 pub use answer::Put;
 pub use cdb_form::Mode;
 pub use fault::MakeFault;
-pub use lifetime::Refused;
+pub use lifetime::{Refused, Unfinished};
 pub use maker::Maker;

@@ -1,11 +1,13 @@
-// A maker is made, and gives its store back.
+// A maker is made, finishes its file, and gives its store back.
 ghost use Rattle.std.specs.Prelude.{◌≡◌, ℕ, ◌+◌, ◌≤◌, ◌<◌, false, [], List, IfOk, IfErr, OnOk};
 ghost use Rattle.cdb_form.specs.Format.Pair.{head_size};
+ghost use Rattle.cdb_form.specs.Format.Record.{KeyValue};
 ghost use Rattle.cdb_roll.specs.Unfinished.{IsUnfinished};
 ghost use Rattle.cdb_roll.specs.Views.Making.{MakingFault};
 
 use crate::fault::MakeFault;
-use crate::maker::Maker;
+use crate::finish::file::finish;
+use crate::maker::{Counts, Maker};
 use crate::roll::Roll;
 use cdb_form::{GREATEST_HEAD, Width, head_size};
 use cdb_store::Store;
@@ -20,12 +22,30 @@ pub struct Refused<S> {
     pub fault: MakeFault,
 }
 
+/// A maker whose file was not finished, and why.
+#[derive(Drop)]
+pub struct Unfinished<S: Store, L: Width> {
+    /// The maker, which takes more calls unless it is broken.
+    pub maker: Maker<S, L>,
+    /// `Broken`, `NoMemory` or `Writing`.
+    pub fault: MakeFault,
+}
+
 impl<S: Drop> From<Refused<S>> for MakeFault {
     ghost from_gives = { λ r f. f ≡ r.fault };
 
     /// Lets the store go.
     fn from(refused: Refused<S>) -> MakeFault {
         refused.fault
+    }
+}
+
+impl<S: Store + Drop, L: Width> From<Unfinished<S, L>> for MakeFault {
+    ghost from_gives = { λ u f. f ≡ u.fault };
+
+    /// Lets the maker go.
+    fn from(unfinished: Unfinished<S, L>) -> MakeFault {
+        unfinished.fault
     }
 }
 
@@ -39,6 +59,7 @@ fn emptied<S: Store, L: Width>(store: &mut S) -> Result<(), MakeFault>
     ensures written { OnOk result (S.written store.new ≡ S.written store.old + head_size L.WORD) }
     ensures room { S.room store.old ≤ S.room store.new }
     ensures failures { S.failures store.old ≤ S.failures store.new }
+    ensures fine { OnOk result (S.failures store.new ≡ S.failures store.old) }
     ensures fails { IfErr result
         (MakingFault S.image S.size S.written S.failures store.old store.new) }
 {
@@ -52,7 +73,8 @@ fn emptied<S: Store, L: Width>(store: &mut S) -> Result<(), MakeFault>
 }
 
 impl<S: Store, L: Width> Maker<S, L> {
-    ghost use Rattle.cdb_roll.specs.Views.Maker.{Holds};
+    ghost use Rattle.cdb_roll.specs.Views.Maker.{Holds, IsUsable, IsFile, made_size, FinishWrites};
+    ghost use Rattle.cdb_roll.specs.Views.Maker.{PutsHeadLast, ComesFrom, SameCounts, FailsFinishing};
 
     /// A maker of a file of at most `limit` bytes in a store, which is emptied. A lazy one takes
     /// records out later, many by one pass.
@@ -76,6 +98,7 @@ impl<S: Store, L: Width> Maker<S, L> {
             S.written m.store ≡ S.written store + head_size L.WORD) }
         ensures room { IfOk result (λ m. S.room store ≤ S.room m.store) }
         ensures failures { IfOk result (λ m. S.failures store ≤ S.failures m.store) }
+        ensures fine { IfOk result (λ m. S.failures m.store ≡ S.failures store) }
         ensures fails { IfErr result (λ r.
             MakingFault S.image S.size S.written S.failures store r.store r.fault) }
     {
@@ -88,6 +111,7 @@ impl<S: Store, L: Width> Maker<S, L> {
                 limit,
                 lazy,
                 broken: false,
+                counted: Counts { count: 0, size: 0 },
             }),
             Err(fault) => Err(Refused { store, fault }),
         }
@@ -104,8 +128,60 @@ impl<S: Store, L: Width> Maker<S, L> {
             limit: _,
             lazy: _,
             broken: _,
+            counted: _,
         } = self;
         drop(roll);
         store
+    }
+
+    /// Takes the records that go out, and writes the tables and the head of the others, and hands all
+    /// on.
+    fn finish_store(&mut self) -> Result<(), MakeFault>
+        ensures whole { OnOk result (IsUsable self.old) }
+        ensures file { (rs : List KeyValue) → Holds self.old rs
+            → OnOk result (IsFile L.WORD rs (S.image self.new.store)) }
+        ensures size { OnOk result (S.size self.new.store ≡ made_size self.old) }
+        ensures written { OnOk result (FinishWrites self.old self.new.store) }
+        ensures settled { OnOk result (S.settled self.new.store) }
+        ensures head_last { PutsHeadLast self.new (S.image self.old.store) (S.image self.new.store) }
+        ensures comes { ComesFrom (S.image self.old.store) (S.image self.new.store) }
+        ensures failures { S.failures self.old.store ≤ S.failures self.new.store }
+        ensures counts { SameCounts self.old self.new }
+        ensures fails { IfErr result (FailsFinishing self.old self.new) }
+    {
+        self.close_all()?;
+        finish::<S, L>(self.alloc, &mut self.store, &self.roll)
+    }
+
+    /// Finishes the file of its records, and hands the store over, which holds that file alone and
+    /// has handed it on to what holds its bytes. Records that go are taken out first, by one pass.
+    ///
+    /// All memory is taken before a byte of the tables is written, and the head is written last. The
+    /// maker is handed back if that failed. `NoMemory`: a pass was made if records were to go, and no
+    /// more. `Writing`: the store failed; amid the pass that breaks the maker, else it holds what it
+    /// held. `Broken`: an earlier call broke the maker.
+    pub fn finish(mut self) -> Result<S, Unfinished<S, L>>
+        ensures whole { IfOk result (λ _. IsUsable self) }
+        ensures file { (rs : List KeyValue) → Holds self rs
+            → IfOk result (λ s. IsFile L.WORD rs (S.image s)) }
+        ensures size { IfOk result (λ s. S.size s ≡ made_size self) }
+        ensures written { IfOk result (λ s. FinishWrites self s) }
+        ensures settled { IfOk result S.settled }
+        ensures comes { IfOk result (λ s. ComesFrom (S.image self.store) (S.image s)) }
+        ensures failures { IfOk result (λ s. S.failures self.store ≤ S.failures s) }
+        ensures fails { IfErr result (λ u. FailsFinishing self u.maker u.fault) }
+        ensures counts { IfErr result (λ u. SameCounts self u.maker) }
+        // In each image the head is an old one, or all tables stand.
+        ensures head_last { IfErr result (λ u.
+            PutsHeadLast u.maker (S.image self.store) (S.image u.maker.store)) }
+        ensures fails_comes { IfErr result (λ u.
+            ComesFrom (S.image self.store) (S.image u.maker.store)) }
+        ensures fails_failures { IfErr result (λ u.
+            S.failures self.store ≤ S.failures u.maker.store) }
+    {
+        match self.finish_store() {
+            Ok(()) => Ok(self.into_store()),
+            Err(fault) => Err(Unfinished { maker: self, fault }),
+        }
     }
 }

@@ -4,7 +4,7 @@ ghost use Rattle.cdb_form.specs.Format.File.{whole_size};
 ghost use Rattle.cdb_form.specs.Format.Hash.{key_hash};
 ghost use Rattle.cdb_form.specs.Format.Record.{record_of, record_size};
 ghost use Rattle.cdb_roll.specs.Marks.{gone_of, found_of, AreNone, HaveHash};
-ghost use Rattle.cdb_roll.specs.Views.Roll.{HasRoom};
+ghost use Rattle.cdb_roll.specs.Views.Roll.{HasRoom, SameRecords};
 ghost use Rattle.cdb_roll.specs.declared.fault.MakeFault.TheVariants.{Writing};
 
 use crate::close::close_bytes;
@@ -14,6 +14,15 @@ use crate::write::append_record;
 use cdb_form::{Width, head_size, pair_size};
 use cdb_store::Store;
 use std::alloc::Global;
+
+/// What a maker counts.
+#[derive(Clone, Copy)]
+pub(crate) struct Counts {
+    /// How many records it holds.
+    pub(crate) count: u64,
+    /// How many bytes their file would have.
+    pub(crate) size: u64,
+}
 
 /// Makes a database in a store: each record is written as it is put.
 ///
@@ -31,15 +40,18 @@ pub struct Maker<S: Store, L: Width> {
     /// A fault amid a move left the records torn, or the store gave back other bytes than were
     /// written.
     pub(crate) broken: bool,
+    /// What it counted before the call that broke it.
+    pub(crate) counted: Counts,
     ghost inside: { roll.end ≤ S.size store },
     ghost within: { roll.end + 4 * L.WORD * length roll.hashes.items ≤ limit },
     ghost limited: { limit ≤ L.GREATEST },
+    ghost told: { counted.size ≤ limit },
     ghost eager: { lazy ≡ false → broken ≡ false → AreNone (gone_of roll.marks.items) },
 }
 
 impl<S: Store, L: Width> Maker<S, L> {
-    ghost use Rattle.cdb_roll.specs.Views.Maker.{Adds, AddFails, Stays, Closes, Exchanges, Follows};
-    ghost use Rattle.cdb_roll.specs.Views.Maker.{FailsExchanging, HasStoreFailed};
+    ghost use Rattle.cdb_roll.specs.Views.Maker.{Adds, AddFails, Stays, Closes, Exchanges, Follows, HasNotFailed};
+    ghost use Rattle.cdb_roll.specs.Views.Maker.{FailsExchanging, HasStoreFailed, SameCounts, TellsCounts, told_count, told_size};
 
     /// One more record, behind the others.
     ///
@@ -50,7 +62,10 @@ impl<S: Store, L: Width> Maker<S, L> {
         requires fits { self.old.roll.end + whole_size L.WORD (record_of key.now value.now)
             + 4 * L.WORD * length self.old.roll.hashes.items ≤ self.old.limit }
         ensures adds { OnOk result (Adds self.old self.new hash (record_of key.now value.now)) }
+        ensures fine { OnOk result (HasNotFailed self.old self.new) }
         ensures stays { OnErr result (Stays self.old self.new) }
+        ensures counts { OnErr result (SameCounts self.old self.new) }
+        ensures counted { self.new.counted ≡ self.old.counted }
         ensures fails { IfErr result (AddFails
             (S.written self.old.store) (S.written self.new.store)
             (S.failures self.old.store) (S.failures self.new.store)
@@ -77,12 +92,20 @@ impl<S: Store, L: Width> Maker<S, L> {
             (self.new.roll.end + self.old.roll.gone.size ≡ self.old.roll.end) }
         ensures count { OnOk result (length self.new.roll.hashes.items + self.old.roll.gone.count
             ≡ length self.old.roll.hashes.items) }
+        ensures clear { OnOk result (self.new.roll.gone.count ≡ 0) }
+        ensures clear_size { OnOk result (self.new.roll.gone.size ≡ 0) }
         ensures room { OnOk result (0 < self.old.roll.gone.count → HasRoom self.new.roll) }
+        ensures kept { OnErr result (SameRecords self.old.roll self.new.roll) }
+        ensures kept_gone { OnErr result (self.new.roll.gone ≡ self.old.roll.gone) }
+        ensures counts { OnErr result (SameCounts self.old self.new) }
+        ensures told { self.new.counted.count ≡ told_count self.old }
+        ensures told_size { self.new.counted.size ≡ told_size self.old }
         ensures broken { OnErr result (self.new.broken ≡ true) }
         ensures fails { IfErr result (λ f. f ≡ Writing) }
         ensures cause { OnErr result (HasStoreFailed self.old self.new) }
         ensures follows { Follows self.old self.new }
     {
+        self.counted = self.counts();
         self.broken = true;
         let (places, marks) = (&self.roll.places, &self.roll.marks);
         let (start, first) = (head_size::<L>() as u64, self.roll.gone.first);
@@ -110,8 +133,11 @@ impl<S: Store, L: Width> Maker<S, L> {
         ensures exchanges { OnOk result
             (Exchanges self.old self.new (record_of key.now value.now)) }
         ensures fails { IfErr result (FailsExchanging self.old self.new) }
+        ensures fine { OnOk result (HasNotFailed self.old self.new) }
+        ensures counts { OnErr result (TellsCounts self.old self.new) }
         ensures follows { Follows self.old self.new }
     {
+        self.counted = self.counts();
         self.broken = true;
         self.roll.take(hash);
         self.pass()?;

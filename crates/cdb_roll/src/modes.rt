@@ -1,5 +1,7 @@
 // A record, put by one of four modes.
-ghost use Rattle.std.specs.Prelude.{◌≡◌, ℕ, List, IfOk, IfErr};
+ghost use Rattle.std.specs.Prelude.{◌≡◌, ◌≢◌, ℕ, List, IfOk, IfErr, OnOk, OnErr};
+ghost use Rattle.cdb_form.specs.declared.mode.Mode.TheVariants.{Add};
+ghost use Rattle.cdb_roll.specs.declared.fault.MakeFault.TheVariants.{Lookup};
 ghost use Rattle.cdb_form.specs.Format.Hash.{key_hash};
 ghost use Rattle.cdb_form.specs.Format.Record.{record_of};
 
@@ -10,7 +12,7 @@ use cdb_form::{Mode, Width, hash};
 use cdb_store::Store;
 
 impl<S: Store, L: Width> Maker<S, L> {
-    ghost use Rattle.cdb_roll.specs.Views.Maker.{Meets, FailsLooking, Puts, FailsPutting, Follows};
+    ghost use Rattle.cdb_roll.specs.Views.Maker.{Meets, FailsLooking, Puts, FailsPutting, Follows, HasNotFailed, SameCounts};
 
     /// Looks at the key of a record that is to be put, and answers what the put will answer unless
     /// it fails. The records that are to be taken out are noted as found, and no others.
@@ -20,7 +22,10 @@ impl<S: Store, L: Width> Maker<S, L> {
         ensures meets { (value : List ℕ) → IfOk result (λ put.
             Meets self.old self.new hash mode (record { key = key.now; value = value }) put) }
         ensures fails { IfErr result (FailsLooking self.old self.new) }
+        ensures looks { IfErr result (λ f. f ≡ Lookup → mode ≢ Add) }
         ensures follows { Follows self.old self.new }
+        ensures fine { OnOk result (HasNotFailed self.old self.new) }
+        ensures counts { OnErr result (SameCounts self.old self.new) }
     {
         match mode {
             Mode::Add => {
@@ -65,6 +70,8 @@ impl<S: Store, L: Width> Maker<S, L> {
         ensures fails { IfErr result
             (FailsPutting self.old self.new mode (record_of key.now value.now)) }
         ensures follows { Follows self.old self.new }
+        ensures fine { OnOk result (HasNotFailed self.old self.new) }
+        ensures counts { OnErr result (SameCounts self.old self.new) }
     {
         let hash = hash(key);
         let put = self.meet(mode, hash, key)?;

@@ -1,5 +1,5 @@
 // A record, put by a maker.
-ghost use Rattle.std.specs.Prelude.{◌≡◌, ℕ, ◌+◌, ◌*◌, ◌<◌, ◌≤◌, ◌⊎◌, true, false, length, IfOk, IfErr, OnOk};
+ghost use Rattle.std.specs.Prelude.{◌≡◌, ℕ, ◌+◌, ◌*◌, ◌<◌, ◌≤◌, ◌⊎◌, true, false, length, IfOk, IfErr, OnOk, OnErr};
 ghost use Rattle.cdb_form.specs.Format.File.{whole_size};
 ghost use Rattle.cdb_form.specs.Format.Hash.{key_hash};
 ghost use Rattle.cdb_form.specs.Format.Record.{record_of};
@@ -21,7 +21,7 @@ fn is_lost(torn: bool, found: u64) -> bool
 
 impl<S: Store, L: Width> Maker<S, L> {
     ghost use Rattle.cdb_roll.specs.Views.Maker.{Adds, Waits, FailsToWrite, Follows, Settles};
-    ghost use Rattle.cdb_roll.specs.Views.Maker.{FailsClosing, FailsSettling, IsWithin};
+    ghost use Rattle.cdb_roll.specs.Views.Maker.{FailsClosing, FailsSettling, IsWithin, HasNotFailed, SameCounts};
 
     /// Whether a file of so many bytes, within the limit, has room for a record more.
     fn has_room(&self, size: u64, key: &[u8], value: &[u8]) -> bool
@@ -40,7 +40,7 @@ impl<S: Store, L: Width> Maker<S, L> {
     }
 
     /// The size of the file of all records, those that go too.
-    fn full_size(&self) -> u64
+    pub(crate) fn full_size(&self) -> u64
         ensures is { result ≡ self.now.roll.end + 4 * L.WORD * length self.now.roll.hashes.items }
         ensures within { result ≤ self.now.limit }
     {
@@ -68,6 +68,9 @@ impl<S: Store, L: Width> Maker<S, L> {
         ensures waits { IfOk result (λ done. done ≡ false
             → Waits self.old self.new (record_of key.now value.now)) }
         ensures fails { IfErr result (FailsToWrite self.old self.new) }
+        ensures fine { OnOk result (HasNotFailed self.old self.new) }
+        ensures counts { OnErr result (SameCounts self.old self.new) }
+        ensures counted { self.new.counted ≡ self.old.counted }
         ensures follows { Follows self.old self.new }
     {
         if !self.has_room(self.full_size(), key, value) {
@@ -95,6 +98,8 @@ impl<S: Store, L: Width> Maker<S, L> {
         ensures settles { OnOk result (Settles self.old self.new (record_of key.now value.now)) }
         ensures fails { IfErr result
             (FailsClosing self.old self.new (record_of key.now value.now)) }
+        ensures fine { OnOk result (HasNotFailed self.old self.new) }
+        ensures counts { OnErr result (SameCounts self.old self.new) }
         ensures follows { Follows self.old self.new }
     {
         let size = pair_size::<L>() as u64 + key.len() as u64 + value.len() as u64;
@@ -134,6 +139,8 @@ impl<S: Store, L: Width> Maker<S, L> {
         ensures settles { OnOk result (Settles self.old self.new (record_of key.now value.now)) }
         ensures fails { IfErr result
             (FailsSettling self.old self.new (record_of key.now value.now)) }
+        ensures fine { OnOk result (HasNotFailed self.old self.new) }
+        ensures counts { OnErr result (SameCounts self.old self.new) }
         ensures follows { Follows self.old self.new }
     {
         if self.add_before(hash, key, value)? {
@@ -161,6 +168,8 @@ impl<S: Store, L: Width> Maker<S, L> {
         ensures settles { OnOk result (Settles self.old self.new (record_of key.now value.now)) }
         ensures fails { IfErr result
             (FailsSettling self.old self.new (record_of key.now value.now)) }
+        ensures fine { OnOk result (HasNotFailed self.old self.new) }
+        ensures counts { OnErr result (SameCounts self.old self.new) }
         ensures follows { Follows self.old self.new }
     {
         if !self.has_room(self.kept_size(), key, value) {

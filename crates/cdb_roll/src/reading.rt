@@ -3,39 +3,47 @@ ghost use Rattle.std.specs.Prelude.{◌≡◌, ℕ, ◌+◌, ◌≤◌, false, L
 ghost use Rattle.cdb_form.specs.Format.File.{file_size};
 ghost use Rattle.cdb_form.specs.Format.Hash.{key_hash};
 ghost use Rattle.cdb_form.specs.Format.Record.{KeyValue};
+ghost use Rattle.cdb_roll.specs.Looks.{NoNewImage};
 ghost use Rattle.cdb_roll.specs.Views.Maker.{look_fault, is_foreign, WhereHonest, IsThere};
 
 use crate::fault::MakeFault;
 use crate::key_at::LookFault;
 use crate::look::{find, last_with_key};
-use crate::maker::Maker;
+use crate::maker::{Counts, Maker};
 use cdb_form::{Width, hash, pair_size};
 use cdb_store::Store;
 
 impl<S: Store, L: Width> Maker<S, L> {
     ghost use Rattle.cdb_roll.specs.Views.Maker.{Holds, Rests, FailsLooking, Seeks, HasNotFailed};
-    ghost use Rattle.cdb_roll.specs.Views.Maker.{count_in, made_size, Looks, Follows};
+    ghost use Rattle.cdb_roll.specs.Views.Maker.{told_count, told_size, Looks, Follows, SameCounts};
 
     /// How many records it holds.
     ///
-    /// In a broken maker it says nothing.
+    /// In a broken maker it is what it was before the call that broke it.
     pub fn count(&self) -> u64
         ensures holds { (rs : List KeyValue) → Holds self.now rs
             → WhereHonest (S.image self.now.store) (result ≡ length rs) }
-        ensures is { result ≡ count_in self.now }
+        ensures is { result ≡ told_count self.now }
     {
-        self.roll.left_count()
+        if self.broken {
+            self.counted.count
+        } else {
+            self.roll.left_count()
+        }
     }
 
     /// How many bytes the file of its records would have.
     ///
-    /// In a broken maker it says nothing.
+    /// In a broken maker it is what it was before the call that broke it.
     pub fn size(&self) -> u64
         ensures holds { (rs : List KeyValue) → Holds self.now rs
             → WhereHonest (S.image self.now.store) (result ≡ file_size L.WORD rs) }
-        ensures is { result ≡ made_size self.now }
+        ensures is { result ≡ told_size self.now }
         ensures within { result ≤ self.now.limit }
     {
+        if self.broken {
+            return self.counted.size;
+        }
         self.roll.left_end() + 2 * pair_size::<L>() as u64 * self.roll.left_count()
     }
 
@@ -54,6 +62,18 @@ impl<S: Store, L: Width> Maker<S, L> {
         &self.store
     }
 
+    /// What it counts.
+    pub(crate) fn counts(&self) -> Counts
+        ensures count { result.count ≡ told_count self.now }
+        ensures size { result.size ≡ told_size self.now }
+        ensures within { result.size ≤ self.now.limit }
+    {
+        Counts {
+            count: self.count(),
+            size: self.size(),
+        }
+    }
+
     /// Why a look failed. If the store gave back other bytes than were written, the maker is
     /// broken from then on.
     fn failed_look(&mut self, fault: LookFault) -> MakeFault
@@ -64,10 +84,12 @@ impl<S: Store, L: Width> Maker<S, L> {
         ensures roll { self.new.roll ≡ self.old.roll }
         ensures limit { self.new.limit ≡ self.old.limit }
         ensures lazy { self.new.lazy ≡ self.old.lazy }
+        ensures counts { SameCounts self.old self.new }
     {
         match fault {
             LookFault::Failed => MakeFault::Lookup,
             LookFault::Foreign => {
+                self.counted = self.counts();
                 self.broken = true;
                 MakeFault::Broken
             }
@@ -86,6 +108,8 @@ impl<S: Store, L: Width> Maker<S, L> {
         ensures fine { OnOk result (HasNotFailed self.old self.new) }
         ensures fails { IfErr result (FailsLooking self.old self.new) }
         ensures follows { Follows self.old self.new }
+        ensures images { NoNewImage (S.image self.old.store) (S.image self.new.store) }
+        ensures counts { SameCounts self.old self.new }
     {
         if self.broken {
             return Err(MakeFault::Broken);
@@ -105,6 +129,7 @@ impl<S: Store, L: Width> Maker<S, L> {
         ensures seeks { IfOk result (λ n. Seeks self.old self.new hash key.now n) }
         ensures fails { IfErr result (FailsLooking self.old self.new) }
         ensures follows { Follows self.old self.new }
+        ensures counts { SameCounts self.old self.new }
     {
         if self.broken {
             return Err(MakeFault::Broken);
@@ -122,8 +147,10 @@ impl<S: Store, L: Width> Maker<S, L> {
     pub(crate) fn look(&mut self, hash: u32, key: &[u8]) -> Result<bool, MakeFault>
         requires { hash ≡ key_hash key.now }
         ensures looks { IfOk result (λ there. Looks self.old self.new key.now there) }
+        ensures fine { OnOk result (HasNotFailed self.old self.new) }
         ensures fails { IfErr result (FailsLooking self.old self.new) }
         ensures follows { Follows self.old self.new }
+        ensures counts { SameCounts self.old self.new }
     {
         if self.broken {
             return Err(MakeFault::Broken);

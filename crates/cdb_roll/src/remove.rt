@@ -1,5 +1,5 @@
 // The records of a key, removed.
-ghost use Rattle.std.specs.Prelude.{◌≡◌, ◌+◌, ◌*◌, ◌<◌, ◌≤◌, true, false, IfOk, IfErr, OnOk};
+ghost use Rattle.std.specs.Prelude.{◌≡◌, ◌+◌, ◌*◌, ◌<◌, ◌≤◌, true, false, IfOk, IfErr, OnOk, OnErr};
 ghost use Rattle.cdb_roll.specs.Marks.{HaveHash};
 
 use crate::fault::MakeFault;
@@ -12,7 +12,7 @@ const LEAST: u64 = 4_194_304;
 
 impl<S: Store, L: Width> Maker<S, L> {
     ghost use Rattle.cdb_roll.specs.Views.Maker.{Removes, FailsRemoving, Follows, TakesOut, Tears};
-    ghost use Rattle.cdb_roll.specs.Views.Maker.{Closes, FailsClosingAll};
+    ghost use Rattle.cdb_roll.specs.Views.Maker.{ClosesAll, FailsClosingAll, HasNotFailed, SameCounts};
 
     /// Whether a pass frees more bytes than it moves: those of the records that go and that were
     /// found are more than the others, and 4 MiB.
@@ -45,12 +45,15 @@ impl<S: Store, L: Width> Maker<S, L> {
         requires have { HaveHash hash self.old.roll.hashes.items self.old.roll.marks.items }
         ensures takes { OnOk result (TakesOut self.old self.new) }
         ensures fails { IfErr result (Tears self.old self.new) }
+        ensures fine { OnOk result (HasNotFailed self.old self.new) }
+        ensures counts { OnErr result (SameCounts self.old self.new) }
         ensures follows { Follows self.old self.new }
     {
         if self.waits() {
             self.roll.take(hash);
             return Ok(());
         }
+        self.counted = self.counts();
         self.broken = true;
         self.roll.take(hash);
         self.pass()
@@ -63,7 +66,9 @@ impl<S: Store, L: Width> Maker<S, L> {
     /// or the store gave back other bytes than were written.
     pub fn remove(&mut self, key: &[u8]) -> Result<u64, MakeFault>
         ensures removes { IfOk result (Removes self.old self.new key.now) }
+        ensures fine { OnOk result (HasNotFailed self.old self.new) }
         ensures fails { IfErr result (FailsRemoving self.old self.new key.now) }
+        ensures counts { OnErr result (SameCounts self.old self.new) }
         ensures follows { Follows self.old self.new }
     {
         let hash = hash(key);
@@ -81,13 +86,17 @@ impl<S: Store, L: Width> Maker<S, L> {
     /// `Writing`: the store failed amid the pass, and the maker is broken. `Broken`: an earlier call
     /// broke it.
     pub fn close_all(&mut self) -> Result<(), MakeFault>
-        ensures was { OnOk result (self.old.broken ≡ false) }
-        ensures closes { OnOk result (Closes self.old self.new) }
+        ensures closes_all { OnOk result (ClosesAll self.old self.new) }
         ensures fails { IfErr result (FailsClosingAll self.old self.new) }
         ensures follows { Follows self.old self.new }
+        ensures counts { SameCounts self.old self.new }
+        ensures fine { OnOk result (HasNotFailed self.old self.new) }
     {
         if self.broken {
             return Err(MakeFault::Broken);
+        }
+        if self.roll.gone.count == 0 {
+            return Ok(());
         }
         self.pass()
     }

@@ -234,6 +234,8 @@ impl<L: Width> Roll<L> {
         ensures end { self.new.end + self.old.gone.size ≡ self.old.end }
         ensures count { length self.new.hashes.items + self.old.gone.count
             ≡ length self.old.hashes.items }
+        ensures clear { self.new.gone.count ≡ 0 }
+        ensures clear_size { self.new.gone.size ≡ 0 }
         ensures room { 0 < self.old.gone.count → HasRoom self.new }
     {
         self.put_back();

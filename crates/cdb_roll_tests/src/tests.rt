@@ -1,6 +1,10 @@
-// Scripts that are drawn, beside the maker with lists: the same answers and the same bytes.
-use cdb_form::{Narrow, Width};
-use cdb_store::MemStore;
+// Scripts that are drawn, beside the maker with lists: the same answers and the same file, over a store
+// of which each call fails in turn, too.
+ghost use Rattle.std.specs.Prelude.{◌≤◌};
+ghost use Rattle.cdb_form.specs.Format.Pair.{head_size};
+
+use cdb_form::{Narrow, Wide, Width};
+use cdb_store::{FuseStore, MemStore};
 use std::alloc::Global;
 use std::prelude::*;
 use std::test::Fail;
@@ -44,85 +48,267 @@ fn is_same(
     }
 }
 
-/// The bytes of the records of a store.
-fn records(bytes: &[u8], size: u64, count: u64) -> &[u8] {
-    let end = size.saturating_sub(count.saturating_mul(16)) as usize;
-    bytes.get(2048..end).unwrap_or(b"none")
+/// Two records as a narrow file has them, and as a wide one, with a byte more.
+const NARROW_RUN: &[u8] = b"\x03\0\0\0\x01\0\0\0one!\x01\0\0\0\0\0\0\0a?";
+
+const WIDE_RUN: &[u8] =
+    b"\x03\0\0\0\0\0\0\0\x01\0\0\0\0\0\0\0one!\x01\0\0\0\0\0\0\0\0\0\0\0\0\0\0\0a?";
+
+/// A maker on a roll, over a store that fails a call.
+type Roll<L> = cdb_roll::Maker<FuseStore<MemStore>, L>;
+
+/// A maker with lists.
+type Lists<L> = cdb_make::Maker<MemStore, L>;
+
+/// The two makers.
+#[derive(Drop)]
+struct Pair<L: Width> {
+    roll: Roll<L>,
+    lists: Lists<L>,
 }
 
-/// Plays a script on both makers, within a limit of a few records if it is scarce.
-fn play(alloc: Global, state: &mut u64, len: u32, scarce: bool, lazy: bool) -> Result<(), Fail> {
-    let limit = if scarce { 2600 } else { Narrow::GREATEST };
-    let store = MemStore::new(alloc);
-    let Ok(mut roll) = cdb_roll::Maker::<MemStore, Narrow>::new(alloc, store, limit, lazy) else {
+/// What is drawn for a call.
+#[derive(Clone, Copy)]
+struct Drawn {
+    number: u64,
+    key: &'static [u8],
+    value: &'static [u8],
+}
+
+/// A call that is drawn.
+fn drawn_call(state: &mut u64) -> Drawn {
+    let number = draw(state);
+    let key = ((number >> 16) % 6) as usize;
+    let start = ((number >> 32) % 37) as usize;
+    Drawn {
+        number,
+        key: KEYS.get(key).copied().unwrap_or(b""),
+        value: VALUES.get(start..).unwrap_or(b""),
+    }
+}
+
+/// Whether a fault is one of the store.
+fn is_met(fault: cdb_roll::MakeFault) -> bool {
+    match fault {
+        cdb_roll::MakeFault::Lookup | cdb_roll::MakeFault::Writing => true,
+        _ => false,
+    }
+}
+
+/// Whether a maker that met a fault of its store can be called again. It counts what it counted.
+fn may_try<L: Width>(roll: &Roll<L>, fault: cdb_roll::MakeFault, count: u64) -> bool {
+    is_met(fault) && !roll.is_broken() && roll.count() == count
+}
+
+impl<L: Width> Pair<L> {
+    /// Puts a record into both.
+    fn put(&mut self, drawn: Drawn) -> bool {
+        let mode = mode_of(drawn.number >> 8);
+        let count = self.roll.count();
+        let first = self.roll.put(mode, drawn.key, drawn.value);
+        let one = match first {
+            Err(fault) if may_try(&self.roll, fault, count) => {
+                self.roll.put(mode, drawn.key, drawn.value)
+            }
+            _ => first,
+        };
+        let two = self.lists.put(mode, drawn.key, drawn.value);
+        self.roll.is_broken() || is_same(one, two)
+    }
+
+    /// Removes a key from both.
+    fn remove(&mut self, drawn: Drawn) -> bool {
+        let count = self.roll.count();
+        let first = self.roll.remove(drawn.key);
+        let one = match first {
+            Err(fault) if may_try(&self.roll, fault, count) => self.roll.remove(drawn.key),
+            _ => first,
+        };
+        let two = self.lists.remove(drawn.key);
+        self.roll.is_broken() || one.ok() == two.ok()
+    }
+
+    /// Looks for a key in both.
+    fn exists(&mut self, drawn: Drawn) -> bool {
+        let count = self.roll.count();
+        let first = self.roll.exists(drawn.key);
+        let one = match first {
+            Err(fault) if may_try(&self.roll, fault, count) => self.roll.exists(drawn.key),
+            _ => first,
+        };
+        let two = self.lists.exists(drawn.key);
+        self.roll.is_broken() || one.ok() == two.ok()
+    }
+
+    /// Appends two records to both.
+    fn append(&mut self) -> bool {
+        let run = if L::WORD == 8 { WIDE_RUN } else { NARROW_RUN };
+        let count = self.roll.count();
+        let first = self.roll.append(run);
+        let one = match first {
+            Err(fault) if may_try(&self.roll, fault, count) => self.roll.append(run),
+            _ => first,
+        };
+        let two = self.lists.append(run);
+        self.roll.is_broken() || one.ok() == two.ok()
+    }
+
+    /// Makes a call of both, which answer the same unless the first one is broken.
+    fn call(&mut self, drawn: Drawn) -> bool {
+        let same = match drawn.number % 10 {
+            0 => self.remove(drawn),
+            1 => self.exists(drawn),
+            2 => self.append(),
+            _ => self.put(drawn),
+        };
+        let counts = self.roll.count() == self.lists.count()
+            && self.roll.size() == self.lists.size();
+        same && (self.roll.is_broken() || counts)
+    }
+}
+
+/// The store with the finished file. If the finish failed, it is made again. `None`: it broke the maker.
+fn finished<L: Width>(roll: Roll<L>) -> Result<Option<FuseStore<MemStore>>, Fail> {
+    let unfinished = match roll.finish() {
+        Ok(store) => return Ok(Some(store)),
+        Err(unfinished) => unfinished,
+    };
+    if !is_met(unfinished.fault) {
+        return Err(Fail::new("another fault of the finish"));
+    }
+    if unfinished.maker.is_broken() {
+        return Ok(None);
+    }
+    match unfinished.maker.finish() {
+        Ok(store) => Ok(Some(store)),
+        Err(_) => Err(Fail::new("no finish after one that failed")),
+    }
+}
+
+/// How a script is played.
+#[derive(Clone, Copy)]
+struct Way {
+    /// How many calls it has.
+    len: u32,
+    /// The limit is that of a few records.
+    scarce: bool,
+    lazy: bool,
+    /// How many calls of the store are passed before the one that fails.
+    passed: u64,
+}
+
+/// The greatest size that a file may have: one of a few records if it is scarce.
+fn limit_of<L: Width>(scarce: bool) -> u64
+    ensures head { head_size L.WORD ≤ result }
+    ensures words { result ≤ L.GREATEST }
+{
+    if !scarce {
+        return L::GREATEST;
+    }
+    let few = if L::WORD == 8 { 5000 } else { 2600 };
+    L::GREATEST.min(few)
+}
+
+/// Two makers without records.
+fn begun<L: Width>(alloc: Global, way: Way) -> Result<Pair<L>, Fail> {
+    let limit = limit_of::<L>(way.scarce);
+    let fuse = FuseStore::new(MemStore::new(alloc), way.passed, 3);
+    let Ok(roll) = cdb_roll::Maker::new(alloc, fuse, limit, way.lazy) else {
         return Err(Fail::new("no maker on a roll"));
     };
-    let store = MemStore::new(alloc);
-    let Ok(mut lists) = cdb_make::Maker::<MemStore, Narrow>::new(alloc, store, limit) else {
+    let Ok(lists) = cdb_make::Maker::new(alloc, MemStore::new(alloc), limit) else {
         return Err(Fail::new("no maker with lists"));
     };
-    for _ in 0..len {
-        let drawn = draw(state);
-        let key = KEYS
-            .get(((drawn >> 16) % 6) as usize)
-            .copied()
-            .unwrap_or(b"");
-        let value = VALUES.get(((drawn >> 32) % 37) as usize..).unwrap_or(b"");
-        match drawn % 9 {
-            0 => {
-                let one = roll.remove(key).ok();
-                let two = lists.remove(key).ok();
-                if one != two {
-                    return Err(Fail::new("another count of removed records"));
-                }
-            }
-            1 => {
-                let one = roll.exists(key).ok();
-                let two = lists.exists(key).ok();
-                if one != two {
-                    return Err(Fail::new("another look"));
-                }
-            }
-            _ => {
-                let mode = mode_of(drawn >> 8);
-                let one = roll.put(mode, key, value);
-                let two = lists.put(mode, key, value);
-                if !is_same(one, two) {
-                    return Err(Fail::new("another answer of a put"));
-                }
-            }
+    Ok(Pair { roll, lists })
+}
+
+/// Plays a script that is drawn on both makers, and finishes both files. Answers whether a call of the
+/// store failed.
+fn play<L: Width>(alloc: Global, state: &mut u64, way: Way) -> Result<bool, Fail> {
+    let mut both = begun::<L>(alloc, way)?;
+    for _ in 0..way.len {
+        if !both.call(drawn_call(state)) {
+            return Err(Fail::new("another answer, count or size"));
         }
-        if roll.count() != lists.count() || roll.size() != lists.size() {
-            return Err(Fail::new("another count or size"));
+        if both.roll.is_broken() {
+            return Ok(true);
         }
     }
-    let (size, count) = (lists.size(), lists.count());
-    if roll.close_all().is_err() {
-        return Err(Fail::new("no pass"));
+    let Pair { roll, lists } = both;
+    let Ok(two) = lists.finish() else {
+        return Err(Fail::new("no file of the maker with lists"));
+    };
+    let Some(one) = finished(roll)? else {
+        return Ok(true);
+    };
+    let met = one.calls() > way.passed;
+    if one.into_inner().into_vec() != two.into_vec() {
+        return Err(Fail::new("another file"));
     }
-    let one = roll.into_store().into_vec();
-    let two = lists.into_store().into_vec();
-    if records(&one, size, count) != records(&two, size, count) {
-        return Err(Fail::new("other bytes"));
+    Ok(met)
+}
+
+/// Plays many scripts, short ones and some of 2000 calls.
+fn all_same<L: Width>(alloc: Global, state: &mut u64) -> Result<(), Fail> {
+    for number in 0..1200u32 {
+        let len = if number % 200 == 0 { 2000 } else { number % 40 };
+        let way = Way {
+            len,
+            scarce: number % 3 == 1,
+            lazy: number % 2 == 0,
+            passed: u64::MAX,
+        };
+        if play::<L>(alloc, state, way)? {
+            return Err(Fail::new("a fault without a cause"));
+        }
+    }
+    Ok(())
+}
+
+/// Each call of the store fails once, while a script is played. Answers how many there are.
+fn each_fails<L: Width>(alloc: Global, seed: u64, lazy: bool) -> Result<u64, Fail> {
+    // A maker is made by three calls.
+    for passed in 3..2000u64 {
+        let mut state = seed;
+        let way = Way {
+            len: 30,
+            scarce: seed % 3 == 1,
+            lazy,
+            passed,
+        };
+        if !play::<L>(alloc, &mut state, way)? {
+            return Ok(passed);
+        }
+    }
+    Err(Fail::new("a script has no end"))
+}
+
+/// The same for some scripts.
+fn all_fail<L: Width>(alloc: Global, state: &mut u64) -> Result<(), Fail> {
+    for number in 0..6u32 {
+        if each_fails::<L>(alloc, draw(state), number % 2 == 0)? < 20 {
+            return Err(Fail::new("few calls of the store"));
+        }
     }
     Ok(())
 }
 
 #[test]
-fn short_scripts(rt: HostRuntime) -> Result<(), Fail> {
-    let mut state = 0x9e3779b97f4a7c15;
-    for number in 0..3000u32 {
-        let (scarce, lazy) = (number % 3 == 0, number % 2 == 0);
-        play(rt.alloc(), &mut state, number % 40, scarce, lazy)?;
-    }
-    Ok(())
+fn scripts(rt: HostRuntime) -> Result<(), Fail> {
+    all_same::<Narrow>(rt.alloc(), &mut 0x9e3779b97f4a7c15)
 }
 
 #[test]
-fn long_scripts(rt: HostRuntime) -> Result<(), Fail> {
-    let mut state = 0x2545f4914f6cdd1d;
-    for number in 0..20u32 {
-        play(rt.alloc(), &mut state, 2000, false, number % 2 == 0)?;
-    }
-    Ok(())
+fn wide_scripts(rt: HostRuntime) -> Result<(), Fail> {
+    all_same::<Wide>(rt.alloc(), &mut 0x2545f4914f6cdd1d)
+}
+
+#[test]
+fn faults(rt: HostRuntime) -> Result<(), Fail> {
+    all_fail::<Narrow>(rt.alloc(), &mut 0xd1342543de82ef95)
+}
+
+#[test]
+fn wide_faults(rt: HostRuntime) -> Result<(), Fail> {
+    all_fail::<Wide>(rt.alloc(), &mut 0xaf251af3b0f025b5)
 }

@@ -1,18 +1,20 @@
 -- What a maker holds, and what its calls leave.
-use Rattle.std.specs.Prelude.{ℕ, ◌≡◌, ◌+◌, ◌-◌, ◌*◌, ◌<◌, ◌≤◌, ◌⊎◌, Bool, true, false, cond, List, [], ◌∷◌, ◌++◌, length, map, sum, sum_by}
+use Rattle.std.specs.Prelude.{ℕ, ◌≡◌, ◌≢◌, ◌+◌, ◌-◌, ◌*◌, ◌<◌, ◌≤◌, ◌⊎◌, Bool, true, false, cond, List, [], ◌∷◌, ◌++◌, length, map, sum, sum_by}
 use Rattle.cdb_store.specs.declared.store.Store.{Ghosts}
 use Rattle.cdb_store.specs.Images.{KeepsPart}
 use Rattle.cdb_store.specs.Laws.{HasNoImage}
 use Rattle.cdb_store.specs.Reads.{OnlyReads}
 use Rattle.cdb_form.specs.declared.width.Width.{Ghosts as Widths}
-use Rattle.cdb_form.specs.Format.File.{file_size, whole_size}
+use Rattle.cdb_form.specs.Format.File.{file_bytes, file_size, whole_size}
 use Rattle.cdb_form.specs.Format.Pair.{head_size}
-use Rattle.cdb_form.specs.Format.Record.{KeyValue, record_size}
+use Rattle.cdb_form.specs.Format.Record.{KeyValue, record_size, records_end}
 use Rattle.cdb_roll.specs.declared.fault.MakeFault.{MakeFault}
 use Rattle.cdb_roll.specs.declared.fault.MakeFault.TheVariants.{Broken, Lookup, TooBig, NoMemory, Writing}
 use Rattle.cdb_roll.specs.declared.key_at.LookFault.{LookFault}
 use Rattle.cdb_roll.specs.declared.key_at.LookFault.TheVariants.{Failed, Foreign}
 use Rattle.cdb_roll.specs.declared.maker.Maker.{Maker}
+use Rattle.cdb_roll.specs.Finished.{HeadIsLast}
+use Rattle.cdb_roll.specs.Tables.{roll_tables}
 use Rattle.cdb_roll.specs.Marks.{gone_of, found_of, AreNone, HaveHash}
 use Rattle.cdb_roll.specs.Rolls.{Sees, LooksAll}
 use Rattle.cdb_roll.specs.Spans.{left, behind, or_each}
@@ -202,6 +204,29 @@ count_in m = length m.roll.hashes.items - m.roll.gone.count
 abbrev pub made_size : {S L : Type 0} {s : Ghosts S} {l : Widths L} → Maker S L s l → ℕ
 made_size {l = l} m = (m.roll.end - m.roll.gone.size) + 4 * l.WORD * count_in m
 
+-- what it tells of them: in a broken maker, what it told before the call that broke it
+abbrev pub told_count : {S L : Type 0} {s : Ghosts S} {l : Widths L} → Maker S L s l → ℕ
+told_count m = cond m.broken m.counted.count (count_in m)
+
+abbrev pub told_size : {S L : Type 0} {s : Ghosts S} {l : Widths L} → Maker S L s l → ℕ
+told_size m = cond m.broken m.counted.size (made_size m)
+
+-- its counts are what they were
+pub record SameCounts {S L : Type 0} {s : Ghosts S} {l : Widths L} (old new : Maker S L s l)
+    : Type 0 where
+  pub count : told_count new ≡ told_count old
+  pub size : told_size new ≡ told_size old
+  pub limit : new.limit ≡ old.limit
+
+-- they are, if it is broken or no record was found
+pub record TellsCounts {S L : Type 0} {s : Ghosts S} {l : Widths L} (old new : Maker S L s l)
+    : Type 0 where
+  pub count : new.counted.count ≡ told_count old
+  pub size : new.counted.size ≡ told_size old
+  pub left : new.broken ≡ false → old.roll.found.count ≡ 0 → count_in new ≡ count_in old
+  pub left_size : new.broken ≡ false → old.roll.found.count ≡ 0 → made_size new ≡ made_size old
+  pub limit : new.limit ≡ old.limit
+
 -- those that go and those that were found go: now, or with a later pass if it is lazy. A pass that a
 -- lazy maker makes moves no more bytes than it frees
 pub record TakesOut {S L : Type 0} {s : Ghosts S} {l : Widths L} (old new : Maker S L s l)
@@ -219,14 +244,33 @@ pub record Tears {S L : Type 0} {s : Ghosts S} {l : Widths L} (old new : Maker S
   pub broken : new.broken ≡ true
   pub failed : HasStoreFailed old new
 
--- it is broken, since its store failed amid a move that takes out the records of a key
+-- it stays whole, and holds what it held
+pub record StaysWhole {S L : Type 0} {s : Ghosts S} {l : Widths L} (old new : Maker S L s l)
+    : Type 0 where
+  pub was : old.broken ≡ false
+  pub whole : new.broken ≡ false
+  pub holds : (rs : List KeyValue) → Holds old rs → Holds new rs
+
+-- it is lazy, and some of its records go with a later pass
+abbrev pub HasGone : {S L : Type 0} {s : Ghosts S} {l : Widths L} → Maker S L s l → Type 0
+HasGone m = (m.lazy ≡ true) × (0 < m.roll.gone.count)
+
+-- it is broken, since its store failed amid a pass, in such a case
 pub record IsTorn {S L : Type 0} {s : Ghosts S} {l : Widths L} (old new : Maker S L s l)
-    (key : List ℕ) : Type 0 where
+    (some : List KeyValue → Type 0) : Type 0 where
   pub was : old.broken ≡ false
   pub broken : new.broken ≡ true
   pub failed : HasStoreFailed old new
   pub found : (rs : List KeyValue) → Holds old rs
-      → WhereHonest (s.image new.store) (is_there key rs ≡ true)
+      → WhereHonest (s.image new.store) (some rs)
+
+-- some have the key, or go with a later pass
+abbrev pub HasKey : List ℕ → List KeyValue → Type 0
+HasKey key rs = is_there key rs ≡ true
+
+abbrev pub HasGoneOr : {S L : Type 0} {s : Ghosts S} {l : Widths L} → Maker S L s l → List ℕ
+    → List KeyValue → Type 0
+HasGoneOr m key rs = HasGone m ⊎ HasKey key rs
 
 -- a removal of the records of a key that answered so many. An eager maker moves each byte behind the
 -- first of them once. With what a lazy one writes, its records end no later than before: so all its
@@ -250,7 +294,7 @@ abbrev pub FailsRemoving : {S L : Type 0} {s : Ghosts S} {l : Widths L} → Make
     → Maker S L s l → List ℕ → MakeFault → Type 0
 FailsRemoving old new key Broken = IsBroken old new
 FailsRemoving old new key Lookup = Rests old new × HasStoreFailed old new
-FailsRemoving old new key Writing = IsTorn old new key
+FailsRemoving old new key Writing = IsTorn old new (HasKey key)
 FailsRemoving old new key fault = ⊥
 
 -- one record more is noted behind the others, or none, since memory is wanted or the file with those
@@ -326,8 +370,10 @@ FailsSettling old new r TooBig = DoesNothing old new × IsOver old r
 FailsSettling old new r NoMemory =
     DoesNothing old new × IsWithin old r × (0 < old.roll.found.count → PassesRoom old r)
 FailsSettling old new r Writing = IsWithin old r
-    × ((Stays old new × HasFailedToWrite old new)
-    ⊎ (((new.broken ≡ true) × HasStoreFailed old new)
+    × ((Stays old new × HasFailedToWrite old new
+    × (old.lazy ≡ false → old.roll.found.count ≡ 0))
+    ⊎ (((new.broken ≡ true) × HasStoreFailed old new
+    × (0 < old.roll.gone.count + old.roll.found.count))
     ⊎ ((new.broken ≡ false) × AreNone (gone_in new) × HasFailedToWrite old new
     × (old.roll.found.count ≡ 0)
     × Goes old new (λ all rest. rest ≡ left (or_each (gone_in old) (found_in old)) all))))
@@ -365,6 +411,8 @@ pub record MeetsIn {S L : Type 0} {s : Ghosts S} {l : Widths L} (m : Maker S L s
   pub adds : is_present put ≡ false
       → put_list mode r rs ≡ left (or_each (gone_in m) (found_in m)) all ++ r ∷ []
   pub none : is_present put ≡ true → (put_list mode r rs ≡ rs) × (put_bytes l.WORD mode r rs ≡ 0)
+  pub there : 0 < m.roll.found.count → is_there r.key rs ≡ true
+  pub found : mode ≡ Replace → is_there r.key rs ≡ true → 0 < m.roll.found.count
   pub bytes : is_present put ≡ false → AreNone (gone_in m) → put_bytes l.WORD mode r rs
       ≡ sum (behind (or_each (gone_in m) (found_in m)) (map (record_size l.WORD) all))
       + record_size l.WORD r
@@ -374,6 +422,7 @@ pub record Meets {S L : Type 0} {s : Ghosts S} {l : Widths L} (old new : Maker S
     (hash : ℕ) (mode : Mode) (r : KeyValue) (put : Put) : Type 0 where
   pub rests : Rests old new
   pub have : HaveHash hash new.roll.hashes.items new.roll.marks.items
+  pub replaces : 0 < new.roll.found.count → mode ≡ Replace
   pub each : (rs : List KeyValue) → Holds old rs → (b : List ℕ) → s.image new.store b
       → MeetsIn new mode r put rs b
 
@@ -389,12 +438,10 @@ pub record Puts {S L : Type 0} {s : Ghosts S} {l : Widths L} (old new : Maker S 
       → WhereHonest (s.image new.store)
       (s.written new.store ≡ s.written old.store + put_bytes l.WORD mode r rs)
 
--- it stays whole and holds what it held, and nothing was written
+-- and nothing was written
 pub record WritesNothing {S L : Type 0} {s : Ghosts S} {l : Widths L} (old new : Maker S L s l)
     : Type 0 where
-  pub was : old.broken ≡ false
-  pub whole : new.broken ≡ false
-  pub holds : (rs : List KeyValue) → Holds old rs → Holds new rs
+  pub stays : StaysWhole old new
   pub written : s.written new.store ≡ s.written old.store
 
 -- the file with the record would pass the limit
@@ -403,26 +450,92 @@ abbrev pub IsTooBig : {S L : Type 0} {s : Ghosts S} {l : Widths L} → Maker S L
 IsTooBig {s = s} {l = l} old new mode r = (rs : List KeyValue) → Holds old rs
     → WhereHonest (s.image new.store) (old.limit < file_size l.WORD (put_list mode r rs))
 
--- the file with it would keep the limit
-abbrev pub WouldFit : {S L : Type 0} {s : Ghosts S} {l : Widths L} → Maker S L s l → Maker S L s l
+-- the key of the record is not in its way, and the file with it would keep the limit
+abbrev pub WouldPut : {S L : Type 0} {s : Ghosts S} {l : Widths L} → Maker S L s l → Maker S L s l
     → Mode → KeyValue → Type 0
-WouldFit {s = s} {l = l} old new mode r = (rs : List KeyValue) → Holds old rs
-    → WhereHonest (s.image new.store) (file_size l.WORD (put_list mode r rs) ≤ old.limit)
+WouldPut {s = s} {l = l} old new mode r = (rs : List KeyValue) → Holds old rs
+    → WhereHonest (s.image new.store)
+    ((put_answer mode r rs ≢ Present) × (file_size l.WORD (put_list mode r rs) ≤ old.limit))
+
+-- a replacement that takes records out wants no memory but the store's
+abbrev pub WantsRoom : {S L : Type 0} {s : Ghosts S} {l : Widths L} → Maker S L s l → Maker S L s l
+    → Mode → KeyValue → Type 0
+WantsRoom {s = s} {l = l} old new mode r = (rs : List KeyValue) → Holds old rs → mode ≡ Replace
+    → WhereHonest (s.image new.store) (is_there r.key rs ≡ true
+    → s.room old.store < records_end l.WORD (put_list mode r rs))
+
+-- the put was to add its record behind the others, and to take none out
+abbrev pub OnlyAdds : {S L : Type 0} {s : Ghosts S} {l : Widths L} → Maker S L s l → Maker S L s l
+    → Mode → KeyValue → Type 0
+OnlyAdds {s = s} old new mode r = (rs : List KeyValue) → Holds old rs
+    → WhereHonest (s.image new.store) (put_list mode r rs ≡ rs ++ r ∷ [])
 
 -- what a put that failed leaves
 abbrev pub FailsPutting : {S L : Type 0} {s : Ghosts S} {l : Widths L} → Maker S L s l
     → Maker S L s l → Mode → KeyValue → MakeFault → Type 0
 FailsPutting old new mode r Broken = IsBroken old new
-FailsPutting old new mode r Lookup = Rests old new × HasStoreFailed old new
-FailsPutting old new mode r TooBig = WritesNothing old new × IsTooBig old new mode r
-FailsPutting old new mode r NoMemory = WritesNothing old new × WouldFit old new mode r
-FailsPutting old new mode r Writing = HasStoreFailed old new × WouldFit old new mode r
-    × ((new.broken ≡ true)
-    ⊎ ((new.broken ≡ false) × ((rs : List KeyValue) → Holds old rs → Holds new rs)))
+FailsPutting old new mode r Lookup = Rests old new × HasStoreFailed old new × (mode ≢ Add)
+FailsPutting old new mode r TooBig =
+    WritesNothing old new × IsTooBig old new mode r × HasNotFailed old new
+FailsPutting old new mode r NoMemory =
+    WritesNothing old new × WantsRoom old new mode r × WouldPut old new mode r
+    × HasNotFailed old new
+FailsPutting old new mode r Writing =
+    ((StaysWhole old new × HasFailedToWrite old new
+    × (old.lazy ≡ false → OnlyAdds old new mode r))
+    ⊎ (IsTorn old new (HasGoneOr old r.key) × (HasGone old ⊎ (mode ≡ Replace))))
+    × WouldPut old new mode r
 
--- why no pass was made to its end
+-- a pass was made if records go: none goes then, and its store has the others alone
+pub record ClosesAll {S L : Type 0} {s : Ghosts S} {l : Widths L} (old new : Maker S L s l)
+    : Type 0 where
+  pub stays : StaysWhole old new
+  pub none : new.roll.gone.count ≡ 0
+  pub end : new.roll.end ≡ old.roll.end - old.roll.gone.size
+  pub goes : Goes old new (λ all rest.
+      (rest ≡ left (gone_in old) all) × Passes old new (gone_in old) 0 all)
+  pub lone : (HasGone old → ⊥) → s.written new.store ≡ s.written old.store
+
+-- why no pass was made to its end: where one was made, the store failed amid it
 abbrev pub FailsClosingAll : {S L : Type 0} {s : Ghosts S} {l : Widths L} → Maker S L s l
     → Maker S L s l → MakeFault → Type 0
 FailsClosingAll old new Broken = (old.broken ≡ true) × (new ≡ old)
-FailsClosingAll old new Writing = (old.broken ≡ false) × (new.broken ≡ true) × HasStoreFailed old new
+FailsClosingAll old new Writing =
+    HasGone old × (old.broken ≡ false) × (new.broken ≡ true) × HasStoreFailed old new
 FailsClosingAll old new fault = ⊥
+
+-- it takes calls, and where its records would end without those that go
+abbrev pub IsUsable : {S L : Type 0} {s : Ghosts S} {l : Widths L} → Maker S L s l → Type 0
+IsUsable m = m.broken ≡ false
+
+abbrev pub end_of : {S L : Type 0} {s : Ghosts S} {l : Widths L} → Maker S L s l → ℕ
+end_of m = m.roll.end - m.roll.gone.size
+
+-- every image is the file of these records
+pub record IsFile (w : ℕ) (rs : List KeyValue) (images : List ℕ → Type 0) : Type 0 where
+  pub each : (b : List ℕ) → images b → b ≡ file_bytes w rs
+
+-- in each image the head is an old one, or all tables of the records that the maker has noted stand
+abbrev pub PutsHeadLast : {S L : Type 0} {s : Ghosts S} {l : Widths L} → Maker S L s l
+    → (old new : List ℕ → Type 0) → Type 0
+PutsHeadLast {l = l} m old new = HeadIsLast l.WORD m.roll.end (roll_tables m.roll) old new
+
+-- a finish that wrote so many bytes: those of a pass if records go, of the tables, and of the head
+pub record FinishWrites {S L : Type 0} {s : Ghosts S} {l : Widths L} (m : Maker S L s l) (store : S)
+    : Type 0 where
+  pub each : (b : List ℕ) → s.image store b → (a : List ℕ) × s.image m.store a
+      × ((all : List KeyValue) → Sees m.roll all a → s.written store + end_of m
+      ≡ s.written m.store + (sum (behind (gone_in m) (map (record_size l.WORD) all))
+      + (head_size l.WORD + made_size m)))
+  pub lone : (HasGone m → ⊥)
+      → s.written store + end_of m ≡ s.written m.store + (head_size l.WORD + made_size m)
+
+-- why a file was not finished, and what the maker is then. No pass was made if no record goes
+abbrev pub FailsFinishing : {S L : Type 0} {s : Ghosts S} {l : Widths L} → Maker S L s l
+    → Maker S L s l → MakeFault → Type 0
+FailsFinishing old new Broken = (old.broken ≡ true) × (new ≡ old)
+FailsFinishing old new NoMemory = ClosesAll old new × HasNotFailed old new
+FailsFinishing old new Writing =
+    (StaysWhole old new × HasStoreFailed old new)
+    ⊎ (HasGone old × (old.broken ≡ false) × (new.broken ≡ true) × HasStoreFailed old new)
+FailsFinishing old new fault = ⊥

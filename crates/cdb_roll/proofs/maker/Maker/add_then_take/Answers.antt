@@ -31,7 +31,7 @@ returns-clause-settles g c =
 pub returns-clause-fails : goal.returns-clause-fails
 returns-clause-fails g c =
     let r : KeyValue = record { key = c.args.key.now; value = c.args.value.now } in
-    if_err_weaker c.close_and_add.result (λ fault. fails_after c.args.self.now c.add_before.new.self c.close_and_add.new.self r fault (c.in_ok-add_before.ensures.waits c.if-branch.false) c.add_before.ensures.follows.room c.add_before.ensures.follows.unwritten c.requires.fits) c.close_and_add.ensures.fails
+    if_err_weaker c.close_and_add.result (λ fault. fails_after c.args.self.now c.add_before.new.self c.close_and_add.new.self r fault (c.in_ok-add_before.ensures.waits c.if-branch.false) c.add_before.ensures.follows.room c.add_before.ensures.follows.unwritten c.requires.fits (c.takes_none.ensures.some c.if-takes_none.false)) c.close_and_add.ensures.fails
 
 pub returns-clause-follows : goal.returns-clause-follows
 returns-clause-follows g c = follows_then c.args.self.now c.add_before.new.self c.close_and_add.new.self c.add_before.ensures.follows c.close_and_add.ensures.follows

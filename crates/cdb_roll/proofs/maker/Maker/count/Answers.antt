@@ -6,8 +6,8 @@ use Rattle.cdb_roll.proofs.Looking.{sees_long}
 use Rattle.cdb_roll.proofs.Picking.{left_number}
 use Rattle.cdb_roll.proofs.maker.Maker.count.Goals as goal
 
-pub returns-clause-holds : goal.returns-clause-holds
-returns-clause-holds g c = λ rs h. record {
+pub returns-else-self-clause-holds : goal.returns-else-self-clause-holds
+returns-else-self-clause-holds g c = λ rs h. record {
   each = λ b is.
       let m = c.args.self.now.roll in
       let held = h.each b is in

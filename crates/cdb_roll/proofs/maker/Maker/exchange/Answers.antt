@@ -1,9 +1,10 @@
 use Rattle.std.proofs.Common.{◌≡◌, ◌+◌, ◌*◌, ◌∷◌, ◌++◌, [], ℕ, Bool, List, length, map, inl, inr, ap, sym, ◌∙◌, arith}
 use Rattle.std.specs.Prelude.{sum}
-use Rattle.std.proofs.lemmas.Result.{on_ok_weaker}
+use Rattle.std.proofs.lemmas.Result.{on_ok_weaker, on_err_weaker}
 use Rattle.cdb_form.specs.Format.Record.{KeyValue, record_size}
 use Rattle.cdb_roll.specs.Spans.{left, behind, or_each}
 use Rattle.cdb_roll.specs.Views.Maker.{gone_in, found_in}
+use Rattle.cdb_roll.proofs.Finishing.{exchange_counts}
 use Rattle.cdb_roll.proofs.Looking.{sees_same}
 use Rattle.cdb_roll.proofs.Rolls.{none_more, slots_add, follows_then, exchange_fails, torn_fails}
 use Rattle.cdb_roll.proofs.maker.Maker.exchange.Goals as goal
@@ -82,3 +83,12 @@ returns-in_err-pass-clause-fails g c =
 
 pub returns-in_err-pass-clause-follows : goal.returns-in_err-pass-clause-follows
 returns-in_err-pass-clause-follows g c = (let f = c.pass.ensures.follows in record { comes = f.comes; head = f.head; limit = f.limit; lazy = f.lazy; room = f.room; failures = f.failures; unwritten = f.unwritten })
+
+pub returns-clause-counts : goal.returns-clause-counts
+returns-clause-counts g c =
+    let p = c.in_ok-pass.ensures in
+    let t = c.take.ensures in
+    on_err_weaker c.add.result
+    (λ stays. exchange_counts c.args.self.now c.pass.new.self c.add.new.self (c.pass.ensures.told ∙ c.counts-self.ensures.count) (c.pass.ensures.told_size ∙ c.counts-self.ensures.size) c.add.ensures.counted p.clear p.clear_size (omega (arith, p.end, t.size, t.same.end))
+    (omega (arith, p.count, t.count, ap length t.same.hashes)) (c.add.ensures.follows.limit ∙ c.pass.ensures.follows.limit) stays)
+    c.add.ensures.stays

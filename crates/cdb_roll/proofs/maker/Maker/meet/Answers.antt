@@ -1,6 +1,6 @@
-use Rattle.std.proofs.Common.{◌<◌, ℕ, refl, sym, subst, ◌∙◌, arith}
+use Rattle.std.proofs.Common.{◌≡◌, ◌<◌, ℕ, refl, sym, subst, ◌∙◌, arith}
 use Rattle.cdb_store.proofs.Reading.{reads_nothing}
-use Rattle.cdb_form.specs.declared.mode.Mode.TheVariants.{Warn, Insert}
+use Rattle.cdb_form.specs.declared.mode.Mode.TheVariants.{Warn, Insert, Replace}
 use Rattle.cdb_form.specs.Format.Record.{KeyValue}
 use Rattle.cdb_roll.specs.declared.answer.Put.TheVariants.{Added, AddedAgain, Present, Replaced}
 use Rattle.cdb_roll.specs.Views.Maker.{Meets}
@@ -18,28 +18,28 @@ returns-then-branch-clause-meets g c = λ value.
     let r : KeyValue = record { key = c.args.key.now; value = value } in
     let k = c.in_ok-look-in-Warn.ensures.looks in
     subst (λ v. Meets c.args.self.now c.look.new.self c.args.hash v r AddedAgain) (sym c.in-Warn.is)
-    (meets_by c.args.self.now c.look.new.self c.args.hash Warn r AddedAgain k.rests k.none (λ rs h i is. plain_again g.L.Width.WORD r rs (sym c.if-branch.true ∙ (k.is rs h).each i is)))
+    (meets_by c.args.self.now c.look.new.self c.args.hash Warn r AddedAgain (λ e. (let t : Warn ≡ Replace = e in cc)) k.rests k.none (λ rs h i is. plain_again g.L.Width.WORD r rs (sym c.if-branch.true ∙ (k.is rs h).each i is)))
 
 pub returns-else-branch-clause-meets : goal.returns-else-branch-clause-meets
 returns-else-branch-clause-meets g c = λ value.
     let r : KeyValue = record { key = c.args.key.now; value = value } in
     let k = c.in_ok-look-in-Warn.ensures.looks in
     subst (λ v. Meets c.args.self.now c.look.new.self c.args.hash v r Added) (sym c.in-Warn.is)
-    (meets_by c.args.self.now c.look.new.self c.args.hash Warn r Added k.rests k.none (λ rs h i is. plain_warn g.L.Width.WORD r rs (sym c.if-branch.false ∙ (k.is rs h).each i is)))
+    (meets_by c.args.self.now c.look.new.self c.args.hash Warn r Added (λ e. (let t : Warn ≡ Replace = e in cc)) k.rests k.none (λ rs h i is. plain_warn g.L.Width.WORD r rs (sym c.if-branch.false ∙ (k.is rs h).each i is)))
 
 pub returns-then-branch-2-clause-meets : goal.returns-then-branch-2-clause-meets
 returns-then-branch-2-clause-meets g c = λ value.
     let r : KeyValue = record { key = c.args.key.now; value = value } in
     let k = c.in_ok-look-in-Insert.ensures.looks in
     subst (λ v. Meets c.args.self.now c.look-in-Insert.new.self c.args.hash v r Present) (sym c.in-Insert.is)
-    (meets_by c.args.self.now c.look-in-Insert.new.self c.args.hash Insert r Present k.rests k.none (λ rs h i is. plain_present g.L.Width.WORD r rs (sym c.if-branch-2.true ∙ (k.is rs h).each i is)))
+    (meets_by c.args.self.now c.look-in-Insert.new.self c.args.hash Insert r Present (λ e. (let t : Insert ≡ Replace = e in cc)) k.rests k.none (λ rs h i is. plain_present g.L.Width.WORD r rs (sym c.if-branch-2.true ∙ (k.is rs h).each i is)))
 
 pub returns-else-branch-2-clause-meets : goal.returns-else-branch-2-clause-meets
 returns-else-branch-2-clause-meets g c = λ value.
     let r : KeyValue = record { key = c.args.key.now; value = value } in
     let k = c.in_ok-look-in-Insert.ensures.looks in
     subst (λ v. Meets c.args.self.now c.look-in-Insert.new.self c.args.hash v r Added) (sym c.in-Insert.is)
-    (meets_by c.args.self.now c.look-in-Insert.new.self c.args.hash Insert r Added k.rests k.none (λ rs h i is. plain_insert g.L.Width.WORD r rs (sym c.if-branch-2.false ∙ (k.is rs h).each i is)))
+    (meets_by c.args.self.now c.look-in-Insert.new.self c.args.hash Insert r Added (λ e. (let t : Insert ≡ Replace = e in cc)) k.rests k.none (λ rs h i is. plain_insert g.L.Width.WORD r rs (sym c.if-branch-2.false ∙ (k.is rs h).each i is)))
 
 pub returns-then-taken-eq0-clause-meets : goal.returns-then-taken-eq0-clause-meets
 returns-then-taken-eq0-clause-meets g c = λ value.

@@ -1,0 +1,22 @@
+use Rattle.cdb_form.specs.Format.Walk.{whole_records}
+use Rattle.std.proofs.Common.{length}
+use Rattle.cdb_roll.proofs.Appends.{appends_after, fails_after, if_ok_weaker}
+use Rattle.cdb_roll.proofs.Rolls.{follows_then, if_err_weaker}
+use Rattle.cdb_roll.proofs.maker.Maker.append.Goals as goal
+
+pub returns-clause-ok : goal.returns-clause-ok
+returns-clause-ok g c =
+    let k = c.in_ok-close_all.ensures in
+    if_ok_weaker c.append_beside-2.result
+    (λ n appends. appends_after c.args.self.now c.close_all.new.self c.append_beside-2.new.self (whole_records g.L.Width.WORD (length c.args.bytes.now) c.args.bytes.now) n k.closes_all k.counts k.fine c.append_beside-2.ensures.follows.comes appends)
+    c.append_beside-2.ensures.ok
+
+pub returns-clause-fails : goal.returns-clause-fails
+returns-clause-fails g c =
+    let k = c.in_ok-close_all.ensures in
+    if_err_weaker c.append_beside-2.result
+    (λ fault fails. fails_after c.args.self.now c.close_all.new.self c.append_beside-2.new.self (whole_records g.L.Width.WORD (length c.args.bytes.now) c.args.bytes.now) fault k.closes_all k.counts k.fine fails)
+    c.append_beside-2.ensures.fails
+
+pub returns-clause-follows : goal.returns-clause-follows
+returns-clause-follows g c = follows_then c.args.self.now c.close_all.new.self c.append_beside-2.new.self c.close_all.ensures.follows c.append_beside-2.ensures.follows

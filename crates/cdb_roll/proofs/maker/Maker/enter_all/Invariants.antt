@@ -1,0 +1,12 @@
+use Rattle.std.proofs.Common.{◌≡◌, take}
+use Rattle.cdb_roll.specs.Views.Appending.{AreFirst, Enters, records_at}
+use Rattle.cdb_roll.proofs.maker.Maker.enter_all.Given as goal
+
+-- the records that have an entry so far
+abbrev pub invariant-loop : goal.invariant-loop
+invariant-loop g l = record {
+  first : AreFirst g.L.Width.WORD l.bytes l.counter l.place;
+  entered : Enters l.fn.self l.self (take l.counter (records_at g.L.Width.WORD l.bytes));
+  store : l.self.store ≡ l.fn.self.store;
+  lazy : l.self.lazy ≡ l.fn.self.lazy;
+}
