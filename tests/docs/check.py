@@ -8,7 +8,7 @@ of a file or a folder, each name is one of the sources, each `make TARGET` a tar
 The page CALLING.md of a crate names each public item and function of its library. Something else than
 a test calls each public item, or public_items.py says why it is there. What tools/pages.py writes of
 the pages is what the sources give, and CONTRIBUTING.md names each part of the tests. docs/audit/ORACLE.md
-shows each definition of the oracle as it reads.
+shows each definition of the oracle as it reads. Each wrong body can be tried.
 """
 
 import glob
@@ -21,6 +21,7 @@ from public_items import wrong_items
 from sources import TOP, sources_of, text_of
 
 PAGES = "tools/pages.py"
+LISTED = "tools/wrong_bodies.txt"
 ORACLE = "docs/audit/ORACLE.md"
 ORACLE_SOURCES = (
     "crates/cdb/specs/Created.antt",
@@ -148,6 +149,24 @@ def edits():
     return {os.path.basename(it).split(".")[-2] for it in paths}
 
 
+def wrong_bodies():
+    """The wrong bodies that the gate cannot try: without a clause, of a text that the source has not or has more than
+    once, or listed and not there."""
+    found = sorted(glob.glob("crates/*/must-fail/*.edit", root_dir=TOP))
+    for path in found:
+        text = text_of(path)
+        if not re.search(r"^clause: \S", text, re.M):
+            yield f"{path}: no line says which clause refuses it"
+        for file, old in re.findall(r"^file: (.*)\nold: (.*)$", text, re.M):
+            source = os.path.join(os.path.dirname(os.path.dirname(path)), file.strip())
+            if not os.path.isfile(os.path.join(TOP, source)) or text_of(source).count(old) != 1:
+                yield f"{path}: its old text does not stand once in {source}"
+    for line in text_of(LISTED).splitlines():
+        crate, _, name = line.partition("/")
+        if name and not line.startswith("#") and f"crates/{crate}/must-fail/{name.split()[0]}.edit" not in found:
+            yield f"{LISTED}: there is no {line}"
+
+
 def wrong_parts():
     """The parts of the tests that CONTRIBUTING.md does not name."""
     page = text_of("CONTRIBUTING.md")
@@ -190,7 +209,7 @@ def main():
         crate = path.split("/")[1]
         wrong += wrong_calling(crate)
         count += 1
-    wrong += [*wrong_parts(), *wrong_pages(), *wrong_oracle(), *wrong_items()]
+    wrong += [*wrong_bodies(), *wrong_parts(), *wrong_pages(), *wrong_oracle(), *wrong_items()]
     for it in wrong:
         print(it)
     failed = len({it.split(":")[0] for it in wrong})
