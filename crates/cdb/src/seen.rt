@@ -1,6 +1,7 @@
 // What was seen of the standard streams and of the inputs: why a call on one failed, and where its lines are.
 ghost use Rattle.std.specs.Prelude.{◌≡◌};
 
+use cdb_tool::newlines;
 use std::alloc::Global;
 use std::cell::Cell;
 use std::io::{self, Read, Write};
@@ -92,17 +93,6 @@ impl Seen {
         self.start.set(start);
         self.lines.set(lines);
     }
-}
-
-/// How many newlines there are.
-fn newlines(bytes: &[u8]) -> u64 {
-    let mut count = 0u64;
-    for byte in bytes {
-        if *byte == b'\n' {
-            count = count.saturating_add(1);
-        }
-    }
-    count
 }
 
 /// A reader whose bytes and faults are seen.

@@ -24,3 +24,4 @@ pub mod NamedInputs
 pub mod LookedUp
 pub mod ShownParts
 pub mod ToldLines
+pub mod LineCounts

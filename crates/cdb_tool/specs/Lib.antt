@@ -4,4 +4,5 @@ pub mod Message
 pub mod Runs
 pub mod Views
 pub mod Laws
+pub mod Lines
 pub mod Status

@@ -2,6 +2,7 @@
 //! one's own may call as well.
 #![tactic(auto)]
 
+mod counting;
 mod fault;
 mod input;
 mod input_name;
@@ -20,6 +21,7 @@ pub use cdb_command::{
     Command, Lacking, MakeOptions, Style, Usage, WordFault, escaped, explains, plan, write_usage,
     write_version,
 };
+pub use counting::newlines;
 pub use fault::Fault;
 pub use input::{InWindow, Input};
 pub use input_name::{STANDARD_INPUT, input_at};

@@ -2,13 +2,11 @@
 ghost use Rattle.std.specs.Prelude.{◌≡◌};
 ghost use Rattle.cdb_tool.specs.Views.Input.{input_bytes, window_of};
 
+use crate::counting::newlines;
 use crate::input::{InWindow, Input};
 use cdb_form::AtHand;
 use std::cell::Cell;
 use std::io::{self, Read};
-
-/// How many bytes are counted at once.
-const FEW: usize = 255;
 
 /// How many lines of an input were taken. They are kept in cells, of which no clause says anything.
 #[derive(Drop)]
@@ -53,24 +51,6 @@ impl Lines {
             self.newlines.get()
         }
     }
-}
-
-/// How many newlines a few bytes have, at most 255 of them. The sum in one byte is quick.
-fn few_newlines(bytes: &[u8]) -> u8 {
-    let mut count = 0u8;
-    for byte in bytes {
-        count = count.wrapping_add(u8::from(*byte == b'\n'));
-    }
-    count
-}
-
-/// How many newlines there are.
-fn newlines(bytes: &[u8]) -> u64 {
-    let mut count = 0u64;
-    for few in bytes.chunks(FEW) {
-        count = count.saturating_add(u64::from(few_newlines(few)));
-    }
-    count
 }
 
 /// An input whose lines are counted, if they are asked for.
