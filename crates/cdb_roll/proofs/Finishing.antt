@@ -21,10 +21,10 @@ use Rattle.cdb_roll.specs.Spans.{left, behind, joined}
 use Rattle.cdb_roll.specs.Tables.{roll_tables}
 use Rattle.cdb_roll.specs.Views.Places.{places_in}
 use Rattle.cdb_roll.specs.Views.Roll.{SameRecords}
-use Rattle.cdb_roll.specs.Views.Maker.{gone_in, count_in, made_size, Holds, Goes, Passes, HasNotFailed, Closes, ClosesAll, FailsClosingAll, FailsFinishing, FinishWrites, IsFile, SameCounts, StaysWhole, told_count, told_size, HasStoreFailed, Rests, Stays, TellsCounts}
+use Rattle.cdb_roll.specs.Views.Maker.{gone_in, count_in, made_size, Holds, Goes, Passes, HasNotFailed, Closes, ClosesAll, FailsClosingAll, FailsFinishing, FinishWrites, IsFile, SameCounts, StaysWhole, told_count, told_size, HasStoreFailed, Rests, Stays, TellsCounts, WritesNothing}
 use Rattle.cdb_roll.proofs.Bytes.Written.{flat_map-map}
 use Rattle.cdb_roll.proofs.FinishedFile.{file_of_parts}
-use Rattle.cdb_roll.proofs.Looking.{sees_long}
+use Rattle.cdb_roll.proofs.Looking.{sees_long, sees_same}
 use Rattle.cdb_roll.proofs.Picking.{left_all_stay, end_sum, picked_none, number_none}
 use Rattle.cdb_roll.proofs.Rolls.{end_joined}
 use Rattle.cdb_roll.proofs.Settling.{behind_nothing}
@@ -160,6 +160,19 @@ closed_counts i j (Ok x) was closes none size end count limit torn = whole_count
 closed_counts i j (Err e) was closes none size end count limit torn = torn
 
 -- where a look was made
+pub rests_nothing : {S L : Type 0} {s : Ghosts S} {l : Widths L} (i j : Maker S L s l) → Rests i j → WritesNothing i j
+rests_nothing i j rests = record {
+  stays = record {
+    was = rests.was;
+    whole = rests.whole;
+    holds = λ rs h. record {
+      whole = rests.whole;
+      each = λ b is. (let held = h.each b (rests.reads.images b is) in record { all = held.all; sees = sees_same i.roll j.roll held.all b rests.same held.sees; left = held.left ∙ ap (λ (v : List Bool). left v held.all) (sym rests.gone) });
+    };
+  };
+  written = rests.reads.written;
+}
+
 pub rests_counts : {S L : Type 0} {s : Ghosts S} {l : Widths L} (i j : Maker S L s l) → Rests i j → SameCounts i j
 rests_counts i j rests = whole_counts i j rests.was rests.whole (same_left i j rests.same rests.picked) rests.limit
 

@@ -23,9 +23,9 @@ use Rattle.cdb_roll.specs.Marks.{is_gone, gone_of, found_of, taken, AreNone, Hav
 use Rattle.cdb_roll.specs.Rolls.{Sees}
 use Rattle.cdb_roll.specs.Spans.{left, picked, number, behind, or_each}
 use Rattle.cdb_roll.specs.Survivors.{has_key, is_there, count_of, behind_first, put_list, put_answer}
-use Rattle.cdb_roll.specs.Views.Maker.{gone_in, found_in, Holds, Rests, Stays, Seeks, Meets, Settles, Puts, Follows, IsOver, IsWithin, IsTooBig, WouldPut, WantsRoom, OnlyAdds, PassesRoom, DoesNothing, WritesNothing, HasFailedToWrite, HasNotFailed, HasStoreFailed, HasGone, HasGoneOr, IsTorn, FailsSettling, FailsPutting, put_bytes, is_present}
+use Rattle.cdb_roll.specs.Views.Maker.{gone_in, found_in, Holds, Rests, Stays, Seeks, Meets, Settles, Puts, Follows, IsOver, IsWithin, IsTooBig, WouldPut, WantsRoom, OnlyAdds, PassesRoom, DoesNothing, WritesNothing, HasFailedToWrite, HasNotFailed, HasStoreFailed, HasGone, HasGoneOr, IsTorn, FailsSettling, FailsPutting, put_bytes, lone_bytes, goes_with, is_present}
 use Rattle.cdb_roll.proofs.Finishing.{gone_lazy}
-use Rattle.cdb_roll.proofs.Looking.{sees_long, sees_same}
+use Rattle.cdb_roll.proofs.Looking.{sees_long, sees_same, same_back}
 use Rattle.cdb_roll.proofs.Picking.{left_all_stay, left_sum, end_sum, number_none, gone_taken, picked_taken, number_taken, both_within, both_few}
 use Rattle.cdb_roll.proofs.Rolls.{left_file, slots_add, whole_push}
 use Rattle.cdb_roll.proofs.Removing.{one_of, rest_of, sought, left-sum_by, behind-sum_by, moved_first}
@@ -70,6 +70,22 @@ plain_insert w r rs there = record {
   bytes = λ e. sym (ap (λ (v : Bool). cond v 0 (record_size w r)) there);
 }
 
+goes_plain : (mode : Mode) (key : List ℕ) (ms : List Bool) (rs : List KeyValue) → (mode ≡ Replace → ⊥) → goes_with mode key ms rs ≡ ms
+goes_plain Add key ms rs other = refl
+goes_plain Warn key ms rs other = refl
+goes_plain Insert key ms rs other = refl
+goes_plain Replace key ms rs other = absurd (other refl)
+
+lone_plain : (w : ℕ) (mode : Mode) (r : KeyValue) (rs : List KeyValue) → (mode ≡ Replace → ⊥) → lone_bytes w mode r rs ≡ put_bytes w mode r rs
+lone_plain w Add r rs other = refl
+lone_plain w Warn r rs other = refl
+lone_plain w Insert r rs other = refl
+lone_plain w Replace r rs other = absurd (other refl)
+
+by_present : (v : Bool) (n size : ℕ) → (v ≡ true → n ≡ 0) → (v ≡ false → n ≡ size) → n ≡ cond v 0 size
+by_present true n size none some = none refl
+by_present false n size none some = some refl
+
 pub meets_by : {S L : Type 0} {s : Ghosts S} {l : Widths L} (i j : Maker S L s l) (hash : ℕ) (mode : Mode) (r : KeyValue) (put : Put) → (mode ≡ Replace → ⊥) → Rests i j → AreNone (found_in j) → ((rs : List KeyValue) → Holds i rs → (b : List ℕ) → s.image j.store b → Plain l.WORD mode r put rs) → Meets i j hash mode r put
 meets_by {s = s} {l = l} i j hash mode r put other rests none plain = record {
   rests = rests;
@@ -89,6 +105,8 @@ meets_by {s = s} {l = l} i j hash mode r put other rests none plain = record {
         adds = λ np. p.adds np ∙ ap (λ (v : List KeyValue). v ++ r ∷ []) (is_held ∙ ap (λ (v : List Bool). left v all) (sym marks));
         none = p.none;
         there = λ some. absurd (omega (arith, some, j.roll.sought.count, number_none (found_in j) none));
+        goes = marks ∙ sym (goes_plain mode r.key (gone_in j) all other);
+        lone = lone_plain l.WORD mode r rs other ∙ by_present (is_present put) (put_bytes l.WORD mode r rs) (record_size l.WORD r) (λ e. (p.none e).1) p.bytes;
         found = λ replaces there. absurd (other replaces);
         bytes = λ np clear.
             let z : sum (behind (or_each (gone_in j) (found_in j)) (map (record_size l.WORD) all)) ≡ 0 = ap sum (behind_nothing (or_each (gone_in j) (found_in j)) (map (record_size l.WORD) all) (or_clear (gone_in j) (found_in j) (same_marks j.roll) clear none)) in
@@ -124,6 +142,8 @@ meets_found {s = s} {l = l} i j hash n r put h np answers = record {
         adds = λ e. ap (λ (v : List KeyValue). v ++ r ∷ []) (sym q.rest);
         none = λ e. never (sym np ∙ e);
         there = λ some. some_there r.key rs (omega (arith, some, h.count, q.count));
+        goes = ap (or_each (gone_in j)) q.found;
+        lone = ap (λ (v : Bool). cond v 0 (record_size l.WORD r)) (sym np);
         found = λ replaces there. elim (cases_lt 0 j.roll.found.count) [ inl some ↦ some | inr le ↦ absurd (there_some r.key rs there (omega (arith, le, h.count, q.count))) ];
         bytes = λ e clear.
             let same : rs ≡ q.all = q.held ∙ left_all_stay (gone_in j) q.all q.many clear in
@@ -163,10 +183,28 @@ puts_by {s = s} {l = l} i j k hash mode r put np m t = record {
         let none : AreNone (gone_in j) = subst AreNone (sym m.rests.gone) (i.eager eager m.rests.was) in
         omega (arith, q.2.1 (m.rests.lazy ∙ eager), e.bytes np none, m.rests.reads.written);
   };
+  writes = λ rs h. record {
+    each = λ b is.
+        let g = t.goes.each b is in
+        let e = m.each rs h g.0 g.1 in
+        let q = g.2 e.all e.sees in
+        let ns : List ℕ = map (record_size l.WORD) e.all in
+        let lone : lone_bytes l.WORD mode r rs ≡ record_size l.WORD r = e.lone ∙ ap (λ (v : Bool). cond v 0 (record_size l.WORD r)) np in
+        let marks : or_each (gone_in j) (found_in j) ≡ goes_with mode r.key (gone_in i) e.all = e.goes ∙ ap (λ (v : List Bool). goes_with mode r.key v e.all) m.rests.gone in
+        let moved : sum (behind (or_each (gone_in j) (found_in j)) ns) ≡ sum (behind (goes_with mode r.key (gone_in i) e.all) ns) = ap (λ (v : List Bool). sum (behind v ns)) marks in
+        record {
+          image = g.0;
+          was = m.rests.reads.images g.0 g.1;
+          all = e.all;
+          sees = sees_same j.roll i.roll e.all g.0 (same_back i.roll j.roll m.rests.same) e.sees;
+          held = e.held ∙ ap (λ (v : List Bool). left v e.all) m.rests.gone;
+          wrote = elim q.2.2 [ inl wrote ↦ inl (omega (arith, wrote, lone, m.rests.reads.written)) | inr pass ↦ inr (omega (arith, pass, moved, m.rests.reads.written)) ];
+        };
+  };
 }
 
 pub puts_none : {S L : Type 0} {s : Ghosts S} {l : Widths L} (i j : Maker S L s l) (hash : ℕ) (mode : Mode) (r : KeyValue) (put : Put) → is_present put ≡ true → Meets i j hash mode r put → Puts i j mode r put
-puts_none i j hash mode r put p m = record {
+puts_none {s = s} {l = l} i j hash mode r put p m = record {
   was = m.rests.was;
   whole = m.rests.whole;
   holds = λ rs h. record {
@@ -175,6 +213,19 @@ puts_none i j hash mode r put p m = record {
   };
   answers = λ rs h. record { each = λ b is. (m.each rs h b is).answers };
   written = λ eager rs h. record { each = λ b is. omega (arith, (m.each rs h b is).none p, m.rests.reads.written) };
+  writes = λ rs h. record {
+    each = λ b is.
+        let e = m.each rs h b is in
+        let lone : lone_bytes l.WORD mode r rs ≡ 0 = e.lone ∙ ap (λ (v : Bool). cond v 0 (record_size l.WORD r)) p in
+        record {
+          image = b;
+          was = m.rests.reads.images b is;
+          all = e.all;
+          sees = sees_same j.roll i.roll e.all b (same_back i.roll j.roll m.rests.same) e.sees;
+          held = e.held ∙ ap (λ (v : List Bool). left v e.all) m.rests.gone;
+          wrote = inl (omega (arith, lone, m.rests.reads.written));
+        };
+  };
 }
 
 held_still : {S L : Type 0} {s : Ghosts S} {l : Widths L} (i j k : Maker S L s l) → Rests i j → Stays j k → (rs : List KeyValue) → Holds i rs → Holds k rs

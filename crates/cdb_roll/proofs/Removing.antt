@@ -1,5 +1,5 @@
 -- Records of a key, found and taken out.
-use Rattle.std.proofs.Common.{◌≡◌, ℕ, suc, ◌+◌, ◌<◌, ◌≤◌, Bool, true, false, cond, List, [], ◌∷◌, length, map, refl, sym, ap, subst, ◌∙◌, arith, sum_by}
+use Rattle.std.proofs.Common.{◌≡◌, ℕ, suc, ◌+◌, ◌<◌, ◌≤◌, Bool, true, false, cond, List, [], ◌∷◌, length, map, refl, sym, ap, subst, ◌∙◌, arith, sum_by, inl, inr}
 use Rattle.std.specs.Prelude.{sum, Result, Ok, Err, IfErr}
 use Rattle.std.specs.Result.{IsErrAnd}
 use Rattle.std.proofs.lemmas.List.{length-map}
@@ -14,7 +14,7 @@ use Rattle.cdb_roll.specs.Rolls.{Sees, fresh}
 use Rattle.cdb_roll.specs.Spans.{left, behind, or_each, number}
 use Rattle.cdb_roll.specs.Survivors.{has_key, count_of, without, behind_first}
 use Rattle.cdb_roll.specs.Views.Maker.{gone_in, found_in, Holds, Seeks, TakesOut, Tears, Removes, FailsRemoving, Follows}
-use Rattle.cdb_roll.proofs.Looking.{sees_long, sees_same}
+use Rattle.cdb_roll.proofs.Looking.{sees_long, sees_same, same_back}
 use Rattle.cdb_roll.proofs.Picking.{left_all_stay, sum-cons}
 use Rattle.cdb_roll.proofs.Rolls.{taken_out}
 use Rattle.cdb_roll.proofs.Survive.{fresh_count, number_zero, or_none, some_there}
@@ -122,6 +122,12 @@ removes_none {s = s} {l = l} i j hash n key nil h = record {
         omega (arith, h.rests.reads.written, z);
   };
   pays = λ lazy rs holds. record { each = λ b is. omega (arith, h.rests.reads.written, h.rests.same.end) };
+  writes = λ rs holds. record {
+    each = λ b is.
+        let a = h.rests.reads.images b is in
+        let held = holds.each b a in
+        record { image = b; was = a; all = held.all; sees = held.sees; held = held.left; wrote = inl (omega (arith, h.rests.reads.written)) };
+  };
 }
 
 -- those that were found were taken out
@@ -157,6 +163,22 @@ removes_some {s = s} {l = l} i j k hash n key h t = record {
         let q = sought i j hash n key rs g.0 h holds g.1 in
         let r = g.2 q.all q.sees in
         omega (arith, r.2.2 (h.rests.lazy ∙ lazy), h.rests.reads.written, h.rests.same.end);
+  };
+  writes = λ rs holds. record {
+    each = λ b is.
+        let g = t.goes.each b is in
+        let q = sought i j hash n key rs g.0 h holds g.1 in
+        let r = g.2 q.all q.sees in
+        let marks : or_each (gone_in j) (found_in j) ≡ or_each (gone_in i) (fresh key (gone_in i) q.all) = ap (or_each (gone_in j)) q.found ∙ ap (λ (v : List Bool). or_each v (fresh key v q.all)) h.rests.gone in
+        let moved : sum (behind (or_each (gone_in j) (found_in j)) (map (record_size l.WORD) q.all)) ≡ sum (behind (or_each (gone_in i) (fresh key (gone_in i) q.all)) (map (record_size l.WORD) q.all)) = ap (λ (v : List Bool). sum (behind v (map (record_size l.WORD) q.all))) marks in
+        record {
+          image = g.0;
+          was = h.rests.reads.images g.0 g.1;
+          all = q.all;
+          sees = sees_same j.roll i.roll q.all g.0 (same_back i.roll j.roll h.rests.same) q.sees;
+          held = q.held ∙ ap (λ (v : List Bool). left v q.all) h.rests.gone;
+          wrote = elim r.2.3 [ inl none ↦ inl (omega (arith, none, h.rests.reads.written)) | inr pass ↦ inr (omega (arith, pass, moved, h.rests.reads.written)) ];
+        };
   };
 }
 

@@ -15,7 +15,7 @@ use cdb_store::Store;
 
 impl<S: Store, L: Width> Maker<S, L> {
     ghost use Rattle.cdb_roll.specs.Views.Maker.{Holds, Rests, FailsLooking, Seeks, HasNotFailed};
-    ghost use Rattle.cdb_roll.specs.Views.Maker.{told_count, told_size, Looks, Follows, SameCounts};
+    ghost use Rattle.cdb_roll.specs.Views.Maker.{told_count, told_size, Looks, Follows, SameCounts, WritesNothing};
 
     /// How many records it holds.
     ///
@@ -104,6 +104,7 @@ impl<S: Store, L: Width> Maker<S, L> {
     pub fn exists(&mut self, key: &[u8]) -> Result<bool, MakeFault>
         ensures there { (rs : List KeyValue) → Holds self.old rs
             → IfOk result (λ there. IsThere there key.now rs (S.image self.new.store)) }
+        ensures ok { OnOk result (WritesNothing self.old self.new) }
         ensures rests { OnOk result (Rests self.old self.new) }
         ensures fine { OnOk result (HasNotFailed self.old self.new) }
         ensures fails { IfErr result (FailsLooking self.old self.new) }

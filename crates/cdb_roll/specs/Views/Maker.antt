@@ -16,7 +16,7 @@ use Rattle.cdb_roll.specs.declared.maker.Maker.{Maker}
 use Rattle.cdb_roll.specs.Finished.{HeadIsLast}
 use Rattle.cdb_roll.specs.Tables.{roll_tables}
 use Rattle.cdb_roll.specs.Marks.{gone_of, found_of, AreNone, HaveHash}
-use Rattle.cdb_roll.specs.Rolls.{Sees, LooksAll}
+use Rattle.cdb_roll.specs.Rolls.{Sees, LooksAll, fresh}
 use Rattle.cdb_roll.specs.Spans.{left, behind, or_each}
 use Rattle.cdb_roll.specs.Survivors.{has_key, is_there, count_of, without, behind_first, put_list, put_answer}
 use Rattle.cdb_form.specs.declared.mode.Mode.{Mode}
@@ -235,7 +235,9 @@ pub record TakesOut {S L : Type 0} {s : Ghosts S} {l : Widths L} (old new : Make
   pub goes : Goes old new (λ all rest.
       (left (gone_in new) rest ≡ left (or_each (gone_in old) (found_in old)) all)
       × (old.lazy ≡ false → Passes old new (or_each (gone_in old) (found_in old)) 0 all)
-      × (old.lazy ≡ true → s.written new.store + new.roll.end ≤ s.written old.store + old.roll.end))
+      × (old.lazy ≡ true → s.written new.store + new.roll.end ≤ s.written old.store + old.roll.end)
+      × ((s.written new.store ≡ s.written old.store)
+      ⊎ Passes old new (or_each (gone_in old) (found_in old)) 0 all))
 
 -- it is broken, since its store failed amid a pass
 pub record Tears {S L : Type 0} {s : Ghosts S} {l : Widths L} (old new : Maker S L s l)
@@ -272,6 +274,25 @@ abbrev pub HasGoneOr : {S L : Type 0} {s : Ghosts S} {l : Widths L} → Maker S 
     → List KeyValue → Type 0
 HasGoneOr m key rs = HasGone m ⊎ HasKey key rs
 
+-- which of these records go after a put of a key, if these go before it
+abbrev pub goes_with : Mode → List ℕ → List Bool → List KeyValue → List Bool
+goes_with Add key ms rs = ms
+goes_with Warn key ms rs = ms
+goes_with Insert key ms rs = ms
+goes_with Replace key ms rs = or_each ms (fresh key ms rs)
+
+-- it wrote so many bytes, or those of a pass and then so many: where it held some records, and those
+-- among all that go then
+pub record WritesIn {S L : Type 0} {s : Ghosts S} {l : Widths L} (old new : Maker S L s l)
+    (goes : List KeyValue → List Bool) (lone more : ℕ) (rs : List KeyValue) : Type 0 where
+  pub image : List ℕ
+  pub was : s.image old.store image
+  pub all : List KeyValue
+  pub sees : Sees old.roll all image
+  pub held : rs ≡ left (gone_in old) all
+  pub wrote : (s.written new.store ≡ s.written old.store + lone)
+      ⊎ Passes old new (goes all) more all
+
 -- a removal of the records of a key that answered so many. An eager maker moves each byte behind the
 -- first of them once. With what a lazy one writes, its records end no later than before: so all its
 -- removals together move no more bytes than were put
@@ -288,6 +309,8 @@ pub record Removes {S L : Type 0} {s : Ghosts S} {l : Widths L} (old new : Maker
   pub pays : old.lazy ≡ true → (rs : List KeyValue) → Holds old rs
       → WhereHonest (s.image new.store)
       (s.written new.store + new.roll.end ≤ s.written old.store + old.roll.end)
+  pub writes : (rs : List KeyValue) → Holds old rs → WhereHonest (s.image new.store)
+      (WritesIn old new (goes_with Replace key (gone_in old)) 0 0 rs)
 
 -- what one that failed leaves
 abbrev pub FailsRemoving : {S L : Type 0} {s : Ghosts S} {l : Widths L} → Maker S L s l
@@ -394,6 +417,13 @@ put_bytes w Insert r rs = cond (is_there r.key rs) 0 (record_size w r)
 put_bytes w Replace r rs =
     sum_by (record_size w) (behind_first (has_key r.key) rs) + record_size w r
 
+-- and if it makes no pass
+abbrev pub lone_bytes : ℕ → Mode → KeyValue → List KeyValue → ℕ
+lone_bytes w Add r rs = record_size w r
+lone_bytes w Warn r rs = record_size w r
+lone_bytes w Insert r rs = cond (is_there r.key rs) 0 (record_size w r)
+lone_bytes w Replace r rs = record_size w r
+
 -- its record was not added
 abbrev pub is_present : Put → Bool
 is_present Present = true
@@ -412,6 +442,8 @@ pub record MeetsIn {S L : Type 0} {s : Ghosts S} {l : Widths L} (m : Maker S L s
       → put_list mode r rs ≡ left (or_each (gone_in m) (found_in m)) all ++ r ∷ []
   pub none : is_present put ≡ true → (put_list mode r rs ≡ rs) × (put_bytes l.WORD mode r rs ≡ 0)
   pub there : 0 < m.roll.found.count → is_there r.key rs ≡ true
+  pub goes : or_each (gone_in m) (found_in m) ≡ goes_with mode r.key (gone_in m) all
+  pub lone : lone_bytes l.WORD mode r rs ≡ cond (is_present put) 0 (record_size l.WORD r)
   pub found : mode ≡ Replace → is_there r.key rs ≡ true → 0 < m.roll.found.count
   pub bytes : is_present put ≡ false → AreNone (gone_in m) → put_bytes l.WORD mode r rs
       ≡ sum (behind (or_each (gone_in m) (found_in m)) (map (record_size l.WORD) all))
@@ -437,6 +469,9 @@ pub record Puts {S L : Type 0} {s : Ghosts S} {l : Widths L} (old new : Maker S 
   pub written : old.lazy ≡ false → (rs : List KeyValue) → Holds old rs
       → WhereHonest (s.image new.store)
       (s.written new.store ≡ s.written old.store + put_bytes l.WORD mode r rs)
+  pub writes : (rs : List KeyValue) → Holds old rs → WhereHonest (s.image new.store)
+      (WritesIn old new (goes_with mode r.key (gone_in old)) (lone_bytes l.WORD mode r rs)
+      (record_size l.WORD r) rs)
 
 -- and nothing was written
 pub record WritesNothing {S L : Type 0} {s : Ghosts S} {l : Widths L} (old new : Maker S L s l)

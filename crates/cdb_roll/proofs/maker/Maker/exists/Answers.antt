@@ -7,6 +7,7 @@ use Rattle.cdb_roll.specs.Rolls.{SeesNone}
 use Rattle.cdb_roll.specs.Views.Roll.{SameRecords}
 use Rattle.cdb_roll.specs.Survivors.{is_there}
 use Rattle.cdb_roll.specs.Views.Maker.{gone_in, FailsLooking}
+use Rattle.cdb_roll.proofs.Finishing.{rests_nothing}
 use Rattle.cdb_roll.proofs.Looking.{sees_long}
 use Rattle.cdb_roll.proofs.Survive.{last_there}
 use Rattle.cdb_roll.proofs.Rolls.{look_fails, follows_read}
@@ -47,3 +48,8 @@ pub returns-in-Err-clause-follows : goal.returns-in-Err-clause-follows
 returns-in-Err-clause-follows g c =
     let f = c.failed_look.ensures in
     follows_read c.args.self.now c.failed_look.new.self f.limit f.lazy (subst (λ v. OnlyReads g.S.Store c.args.self.now.store v) (sym f.store) c.last_with_key.ensures.reads)
+
+pub returns-in-Ok-clause-ok : goal.returns-in-Ok-clause-ok
+returns-in-Ok-clause-ok g c =
+    rests_nothing c.args.self.now _
+    (record { was = c.if-self.false; whole = c.if-self.false; same = record { hashes = refl; places = refl; end = refl }; gone = refl; picked = refl; limit = refl; lazy = refl; reads = c.last_with_key.ensures.reads })
