@@ -1,3 +1,4 @@
+// The names of the system: the lines that call it, and note what it answered.
 ghost use Rattle.std.specs.Prelude.{◌≡◌, [], ◌∷◌, IfErr, None, OnOk, Some, string_bytes, true};
 ghost use Rattle.cdb_files.specs.declared.name_trace.NameCall.TheVariants.{NotOpened, Renamed, NotRenamed};
 ghost use Rattle.std.specs.Option.{ForSome};
