@@ -24,14 +24,14 @@ some_lines : {Z : Type 0} (names : Option (Bor (List (String Z)))) (ds : List To
 some_lines names [] = ([], refl)
 some_lines names (d ∷ ds) =
     let more = some_lines names ds in
-    (duplicate_lines names d None ++ more.0, (None, more.0, refl, more.1))
+    (duplicate_lines names d 1 ++ more.0, (1, more.0, refl, more.1))
 
 -- ---- they were appended
 
 pub tells_none : {Z : Type 0} (names : Option (Bor (List (String Z)))) (start : Option (List ℕ)) → TellsEach names [] start start
 tells_none names start = record { text = []; are = refl; written = appends_none start }
 
-pub tells_one : {Z : Type 0} (names : Option (Bor (List (String Z)))) (d : Told) (line : Option ℕ) (old new : Option (List ℕ)) → Appends old new (duplicate_lines names d line) → TellsEach names (d ∷ []) old new
+pub tells_one : {Z : Type 0} (names : Option (Bor (List (String Z)))) (d : Told) (line : ℕ) (old new : Option (List ℕ)) → Appends old new (duplicate_lines names d line) → TellsEach names (d ∷ []) old new
 tells_one names d line old new h = record { text = duplicate_lines names d line; are = (line, [], sym (append-nil (duplicate_lines names d line)), refl); written = h }
 
 pub tells_then : {Z : Type 0} (names : Option (Bor (List (String Z)))) (ds es : List Told) (old mid new : Option (List ℕ)) → TellsEach names ds old mid → TellsEach names es mid new → TellsEach names (ds ++ es) old new
@@ -46,7 +46,7 @@ tells_kept names ds old mid new h k = record { text = h.text; are = h.are; writt
 
 -- ---- or a prefix of them
 
-pub part_one : {Z : Type 0} (names : Option (Bor (List (String Z)))) (d : Told) (line : Option ℕ) (old new : Option (List ℕ)) → AppendsPrefix old new (duplicate_lines names d line) → TellsPart names (d ∷ []) old new
+pub part_one : {Z : Type 0} (names : Option (Bor (List (String Z)))) (d : Told) (line : ℕ) (old new : Option (List ℕ)) → AppendsPrefix old new (duplicate_lines names d line) → TellsPart names (d ∷ []) old new
 part_one names d line old new h = record { text = duplicate_lines names d line; are = (line, [], sym (append-nil (duplicate_lines names d line)), refl); written = h }
 
 pub part_then : {Z : Type 0} (names : Option (Bor (List (String Z)))) (ds es : List Told) (old mid new : Option (List ℕ)) → TellsEach names ds old mid → TellsPart names es mid new → TellsPart names (ds ++ es) old new
@@ -95,13 +95,13 @@ part_plain names ds old new none h = subst (AppendsPrefix old new) (plain_are na
 is_told : (o : MakeOptions) (input number : ℕ) (key : List ℕ) (put : Put) → (o.warn || o.stop) ≡ true → meets_key put ≡ true → told o input number key (Ok put) ≡ record { input = input; number = number; key = key } ∷ []
 is_told o input number key put tells meets = cond-true ((o.warn || o.stop) && meets_key put) _ _ (ap (λ x. x && meets_key put) tells ∙ meets)
 
-pub put_told : {A E : Type 0} (result : Result A E) (o : MakeOptions) (input number : ℕ) (line : Option ℕ) (key : List ℕ) (put : Put) (old new : Option (List ℕ)) → (o.warn || o.stop) ≡ true → meets_key put ≡ true
+pub put_told : {A E : Type 0} (result : Result A E) (o : MakeOptions) (input number : ℕ) (line : ℕ) (key : List ℕ) (put : Put) (old new : Option (List ℕ)) → (o.warn || o.stop) ≡ true → meets_key put ≡ true
     → Writes result old new (duplicate_lines o.names (record { input = input; number = number; key = key }) line) → OnOk result (TellsEach o.names (told o input number key (Ok put)) old new)
 put_told (Ok done) o input number line key put old new tells meets h =
     subst (λ ds. TellsEach o.names ds old new) (sym (is_told o input number key put tells meets)) (tells_one o.names (record { input = input; number = number; key = key }) line old new h.ok)
 put_told (Err fault) o input number line key put old new tells meets h = tt
 
-pub put_part_told : {A E : Type 0} (result : Result A E) (o : MakeOptions) (input number : ℕ) (line : Option ℕ) (key : List ℕ) (put : Put) (old new : Option (List ℕ)) → (o.warn || o.stop) ≡ true → meets_key put ≡ true
+pub put_part_told : {A E : Type 0} (result : Result A E) (o : MakeOptions) (input number : ℕ) (line : ℕ) (key : List ℕ) (put : Put) (old new : Option (List ℕ)) → (o.warn || o.stop) ≡ true → meets_key put ≡ true
     → Writes result old new (duplicate_lines o.names (record { input = input; number = number; key = key }) line) → OnErr result (TellsPart o.names (told o input number key (Ok put)) old new)
 put_part_told (Ok done) o input number line key put old new tells meets h = tt
 put_part_told (Err fault) o input number line key put old new tells meets h =

@@ -123,15 +123,10 @@ input_at inputs number = said_input (get_or inputs (number - 1) (codes "-"))
 abbrev pub after_key : (key : List ℕ) → List ℕ
 after_key key = if nat_lt 256 (length key) then codes "..." else []
 
--- the line at which a record begins, if it is known
-abbrev pub line_part : Option ℕ → List ℕ × List ℕ
-line_part None = ([], [])
-line_part (Some line) = (codes ": line ", decimal line)
-
 -- the line that explains a duplicate: the name of its input, its line there, and its key
-abbrev pub key_line : (name : List ℕ) → (line : Option ℕ) → (key : List ℕ) → List ℕ
-key_line name line key = parts_line (([], name) ∷ line_part line ∷ (codes ": key ", take 256 key)
-    ∷ (after_key key, []) ∷ [])
+abbrev pub key_line : (name : List ℕ) → (line : ℕ) → (key : List ℕ) → List ℕ
+key_line name line key = parts_line (([], name) ∷ (codes ": line ", decimal line)
+    ∷ (codes ": key ", take 256 key) ∷ (after_key key, []) ∷ [])
 
 -- a record whose key was there already: its input, its number there, and its key
 pub record Told : Type 0 where
@@ -146,7 +141,7 @@ duplicate_line input number = codes "cdb: " ++ numbered (codes "input ") input
 
 -- and the one that explains it, if the names of the inputs are given for that
 abbrev pub duplicate_lines : {Z : Type 0} → Option (Bor (List (String Z))) → Told
-    → (line : Option ℕ) → List ℕ
+    → (line : ℕ) → List ℕ
 duplicate_lines None d line = duplicate_line d.input d.number
 duplicate_lines (Some names) d line = duplicate_line d.input d.number
     ++ key_line (input_at (map string_bytes names.now) d.input) line d.key
@@ -155,7 +150,7 @@ duplicate_lines (Some names) d line = duplicate_line d.input d.number
 abbrev pub AreLines : {Z : Type 0} → Option (Bor (List (String Z))) → List Told
     → (text : List ℕ) → Type 0
 AreLines names [] text = text ≡ []
-AreLines names (d ∷ duplicates) text = (line : Option ℕ) × (rest : List ℕ)
+AreLines names (d ∷ duplicates) text = (line : ℕ) × (rest : List ℕ)
     × (text ≡ duplicate_lines names d line ++ rest) × AreLines names duplicates rest
 
 -- these lines where none is explained

@@ -3,7 +3,7 @@ ghost use Rattle.std.specs.Prelude.{◌≡◌, ◌++◌, [], ◌∷◌, codes, f
 ghost use Rattle.cdb_command.specs.Refused.{parts_line};
 ghost use Rattle.cdb_command.specs.Shown.{shown, shown_byte};
 ghost use Rattle.cdb_form.specs.Views.KnownBytes.{Writes};
-ghost use Rattle.cdb_tool.specs.Message.{after_key, duplicate_lines, key_line, line_part};
+ghost use Rattle.cdb_tool.specs.Message.{after_key, duplicate_lines, key_line};
 
 use crate::input_name::input_at;
 use crate::message::write_duplicate;
@@ -83,60 +83,55 @@ fn after_key(key: &[u8]) -> &'static [u8]
     if SHOWN < key.len() { b"..." } else { b"" }
 }
 
-/// Writes the line of a name and three texts with bytes after them, of which the last has none.
+/// Writes the line of a name, of a line, and of a key with what follows it.
 fn write_four<'x, E: Write>(
     name: &'x [u8],
-    at: &'x [u8],
     line: &'x [u8],
-    text: &'x [u8],
-    bytes: &'x [u8],
+    key: &'x [u8],
     end: &'x [u8],
     errors: &mut E,
 ) -> Result<(), OutFault>
     ensures { Writes result (E.contents errors.old) (E.contents errors.new)
-        (parts_line (([], name.entry.now) ∷ (at.entry.now, line.entry.now) ∷ (text.entry.now, bytes.entry.now)
+        (parts_line (([], name.entry.now) ∷ (codes ": line ", line.entry.now) ∷ (codes ": key ", key.entry.now)
         ∷ (end.entry.now, []) ∷ [])) }
 {
     write_line(
-        &[(b"", name), (at, line), (text, bytes), (end, b"")],
+        &[
+            (b"", name),
+            (b": line ", line),
+            (b": key ", key),
+            (end, b""),
+        ],
         errors,
     )
 }
 
-/// Writes the line that explains a duplicate, whose record begins at this line of its input, if that is
-/// known.
-fn write_key<E: Write>(
-    name: &str,
-    line: Option<u64>,
-    key: &[u8],
-    errors: &mut E,
-) -> Result<(), OutFault>
+/// Writes the line that explains a duplicate, whose record begins at this line of its input.
+fn write_key<E: Write>(name: &str, line: u64, key: &[u8], errors: &mut E) -> Result<(), OutFault>
     ensures { Writes result (E.contents errors.old) (E.contents errors.new)
         (key_line name.now line key.now) }
 {
-    let name = name.as_bytes();
-    let shown = shown_part(key);
-    let end = after_key(key);
-    match line {
-        None => write_four(name, b"", b"", b": key ", shown, end, errors),
-        Some(line) => {
-            let mut digits = Buffer::new();
-            let line = digits.format(line).as_bytes();
-            write_four(name, b": line ", line, b": key ", shown, end, errors)
-        }
-    }
+    let mut digits = Buffer::new();
+    let line = digits.format(line).as_bytes();
+    write_four(
+        name.as_bytes(),
+        line,
+        shown_part(key),
+        after_key(key),
+        errors,
+    )
 }
 
 /// Writes the line of a record whose key was there already, and the one that explains it if the names of
-/// the inputs are given for that: with the line of its input at which it begins, if that is known. After
-/// an `OutFault` the writer holds a prefix of them.
+/// the inputs are given for that: with the line of its input at which it begins. After an `OutFault` the
+/// writer holds a prefix of them.
 #[cold]
 #[inline(never)]
 pub(crate) fn write_duplicates<E: Write>(
     names: Option<&[String]>,
     input: u64,
     number: u64,
-    line: Option<u64>,
+    line: u64,
     key: &[u8],
     errors: &mut E,
 ) -> Result<(), OutFault>

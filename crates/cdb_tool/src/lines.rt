@@ -11,6 +11,8 @@ use std::io::{self, Read};
 /// How many lines of an input were taken. They are kept in cells, of which no clause says anything.
 #[derive(Drop)]
 pub(crate) struct Lines {
+    /// Whether they are counted.
+    counts: bool,
     /// How many newlines were taken.
     newlines: Cell<u64>,
     /// Whether the byte that was taken last is none of them.
@@ -19,8 +21,9 @@ pub(crate) struct Lines {
 
 impl Lines {
     /// Nothing was taken yet.
-    pub(crate) fn new() -> Lines {
+    pub(crate) fn new(counts: bool) -> Lines {
         Lines {
+            counts,
             newlines: Cell::new(0),
             amid: Cell::new(false),
         }
@@ -39,6 +42,7 @@ impl Lines {
     }
 
     /// The line, counted from 1, of the byte that comes next.
+    #[inline(always)]
     pub(crate) fn next(&self) -> u64 {
         self.newlines.get().saturating_add(1)
     }
@@ -57,12 +61,12 @@ impl Lines {
 #[derive(Drop)]
 pub(crate) struct LinedInput<'a, R> {
     input: Input<R>,
-    lines: Option<&'a Lines>,
+    lines: &'a Lines,
 }
 
 impl<'a, R> LinedInput<'a, R> {
     /// An input over which the lines are counted from here on.
-    pub(crate) fn new(input: Input<R>, lines: Option<&'a Lines>) -> LinedInput<'a, R>
+    pub(crate) fn new(input: Input<R>, lines: &'a Lines) -> LinedInput<'a, R>
         ensures { result.input ≡ input }
     {
         LinedInput { input, lines }
@@ -82,8 +86,8 @@ impl<'a, R: Read> Read for LinedInput<'a, R> {
     #[inline(always)]
     fn read(&mut self, buf: &mut [u8]) -> io::Result<usize> {
         let n = self.input.read(buf)?;
-        if let Some(lines) = self.lines {
-            lines.take(&buf[..n]);
+        if self.lines.counts {
+            self.lines.take(&buf[..n]);
         }
         Ok(n)
     }
@@ -103,9 +107,9 @@ impl<'a, R: Read> AtHand<LinedInput<'a, R>> for InLined {
 
     #[inline(always)]
     fn take(reader: &mut LinedInput<'a, R>, n: usize) {
-        if let Some(lines) = reader.lines {
+        if reader.lines.counts {
             let window = InWindow::window(&reader.input);
-            lines.take(&window[..n]);
+            reader.lines.take(&window[..n]);
         }
         InWindow::take(&mut reader.input, n);
     }

@@ -28,15 +28,6 @@ use cdb_store::Store;
 use std::alloc::Global;
 use std::io::{Read, Write};
 
-/// What counts the lines of an input, if duplicates are explained.
-fn counted<'a>(options: &MakeOptions<'_>, lines: &'a Lines) -> Option<&'a Lines> {
-    if options.names.is_some() {
-        Some(lines)
-    } else {
-        None
-    }
-}
-
 /// Does what an input says, whose number is counted from 1, and answers what the inputs share, whose lines
 /// are counted too.
 fn put_turn<L: Width, S: Store, J: Read + Drop, I: Read + Drop, E: Write>(
@@ -47,7 +38,7 @@ fn put_turn<L: Width, S: Store, J: Read + Drop, I: Read + Drop, E: Write>(
     number: u64,
     turn: Turn<J>,
     shared: SharedInput<I>,
-    shared_lines: &Lines,
+    lines: &Lines,
     errors: &mut E,
 ) -> Result<SharedInput<I>, Fault>
     ensures ok { IfOk result (λ left. (last : List Change)
@@ -79,16 +70,14 @@ fn put_turn<L: Width, S: Store, J: Read + Drop, I: Read + Drop, E: Write>(
 {
     match turn {
         Turn::Own(reader) => {
-            let own_lines = Lines::new();
-            let lines = counted(options, &own_lines);
+            let lines = Lines::new(options.names.is_some());
             let input = Input::growing(alloc, reader)?;
-            let lined = LinedInput::new(input, lines);
+            let lined = LinedInput::new(input, &lines);
             let items = ItemReader::new(alloc, options.style, amends, lined);
-            put_input::<L, S, _, E, InLined>(alloc, maker, options, number, items, lines, errors)?;
+            put_input::<L, S, _, E, InLined>(alloc, maker, options, number, items, &lines, errors)?;
             Ok(shared)
         }
         Turn::Shared => {
-            let lines = counted(options, shared_lines);
             let input = shared.in_hand(alloc)?;
             let lined = LinedInput::new(input, lines);
             let items = ItemReader::new(alloc, options.style, amends, lined);
@@ -140,20 +129,12 @@ pub fn put_inputs<L: Width, S: Store, J: Read + Drop, I: Read + Drop, E: Write>(
 {
     let Inputs { turns, shared } = inputs;
     let mut shared = SharedInput::Unread(shared);
-    let shared_lines = Lines::new();
+    let lines = Lines::new(options.names.is_some());
     let mut number = 0;
     for turn in turns {
         number += 1;
         shared = put_turn::<L, S, J, I, E>(
-            alloc,
-            maker,
-            options,
-            amends,
-            number,
-            turn,
-            shared,
-            &shared_lines,
-            errors,
+            alloc, maker, options, amends, number, turn, shared, &lines, errors,
         )?;
     }
     Ok(())

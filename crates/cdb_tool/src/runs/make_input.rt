@@ -57,14 +57,13 @@ fn meets_key(put: Put) -> bool
     }
 }
 
-/// Reports a put that met its key, if the options say so. Its record begins at this line of its input, if
-/// that is known.
+/// Reports a put that met its key, if the options say so. Its record begins at this line of its input.
 #[inline(always)]
 fn write_put<E: Write>(
     options: &MakeOptions<'_>,
     input: u64,
     number: u64,
-    line: Option<u64>,
+    line: u64,
     key: &[u8],
     put: Put,
     errors: &mut E,
@@ -87,7 +86,7 @@ fn tell_put<E: Write>(
     options: &MakeOptions<'_>,
     input: u64,
     number: u64,
-    line: Option<u64>,
+    line: u64,
     key: &[u8],
     put: Put,
     errors: &mut E,
@@ -113,7 +112,7 @@ fn put_record<L: Width, S: Store, E: Write>(
     mode: Mode,
     input: u64,
     number: u64,
-    line: Option<u64>,
+    line: u64,
     key: &[u8],
     value: &[u8],
     errors: &mut E,
@@ -188,7 +187,7 @@ fn do_item<L: Width, S: Store, E: Write>(
     mode: Mode,
     input: u64,
     number: u64,
-    line: Option<u64>,
+    line: u64,
     kind: ChangeKind,
     item: &Record,
     errors: &mut E,
@@ -235,32 +234,24 @@ fn do_item<L: Width, S: Store, E: Write>(
     }
 }
 
-/// The line at which the next item begins, where each begins behind the one before.
-fn line_of_next(lines: Option<&Lines>) -> Option<u64> {
-    match lines {
-        Some(lines) => Some(lines.next()),
-        None => None,
-    }
-}
-
 /// The line of the item that was read last, before which the input was at this line: in a map text lines
 /// may stand between that hold none.
-fn line_of_last(style: Style, next: Option<u64>, lines: Option<&Lines>) -> Option<u64> {
-    match (style, lines) {
-        (Style::Map, Some(lines)) => Some(lines.last()),
-        _ => next,
+fn line_of_last(style: Style, next: u64, lines: &Lines) -> u64 {
+    match style {
+        Style::Map => lines.last(),
+        Style::Native => next,
     }
 }
 
 /// Does what the items of an input say, whose number is counted from 1, up to its end, and answers
-/// its reader, which goes on after its text. Its lines are told if they are counted.
+/// its reader, which goes on after its text. The lines are those of the reader.
 pub(crate) fn put_input<L: Width, S: Store, R: Read + Drop, E: Write, A: AtHand<R>>(
     alloc: Global,
     maker: &mut Batch<S, L>,
     options: &MakeOptions<'_>,
     input: u64,
     mut items: ItemReader<R, L>,
-    lines: Option<&Lines>,
+    lines: &Lines,
     errors: &mut E,
 ) -> Result<R, Fault>
     requires fresh { IsNew items }
@@ -297,7 +288,7 @@ pub(crate) fn put_input<L: Width, S: Store, R: Read + Drop, E: Write, A: AtHand<
     let mut number = 0;
     loop {
         number += 1;
-        let next = line_of_next(lines);
+        let next = lines.next();
         if let Some(peeked) = items.peek::<A>() {
             let len = peeked.len;
             let put = put_record(
