@@ -263,6 +263,7 @@ impl<L: Width> Roll<L> {
         ensures gone { gone_of self.new.marks.items ≡ gone_of self.old.marks.items }
         ensures same { SameRecords self.old self.new }
         ensures kept { self.new.gone ≡ self.old.gone }
+        ensures room { HasRoom self.old → HasRoom self.new }
     {
         let size = place_at(&self.places, n + 1, self.end) - self.places.at(n);
         self.marks[n] = Mark::Found;
@@ -300,6 +301,7 @@ impl<L: Width> Roll<L> {
         ensures room { vec_capacity self.new.hashes ≡ vec_capacity self.old.hashes }
         ensures place_room { self.new.places ≡ self.old.places }
         ensures mark_room { vec_capacity self.new.marks ≡ vec_capacity self.old.marks }
+        ensures has { HasRoom self.old → HasRoom self.new }
     {
         put_each_back(&mut self.marks, self.found.first);
         self.found = none(self.marks.len());
@@ -311,6 +313,7 @@ impl<L: Width> Roll<L> {
         ensures marks { self.new.marks ≡ self.old.marks }
         ensures gone { self.new.gone ≡ self.old.gone }
         ensures found { self.new.found ≡ self.old.found }
+        ensures room { HasRoom self.old → HasRoom self.new }
     {
         self.chains.link_all(&self.hashes, &self.marks);
     }
