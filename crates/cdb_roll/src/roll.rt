@@ -283,6 +283,10 @@ impl<L: Width> Roll<L> {
         ensures count { self.new.gone.count ≡ self.old.gone.count + self.old.found.count }
         ensures size { self.new.gone.size ≡ self.old.gone.size + self.old.found.size }
     {
+        // Else a record that is put would take as long as all those before it that are in no chain.
+        if self.found.count == 0 {
+            return;
+        }
         self.chains.take(&self.hashes, &mut self.marks, hash);
         self.gone = Picked {
             first: self.gone.first.min(self.found.first),
