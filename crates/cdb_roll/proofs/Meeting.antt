@@ -23,12 +23,13 @@ use Rattle.cdb_roll.specs.Marks.{is_gone, gone_of, found_of, taken, AreNone, Hav
 use Rattle.cdb_roll.specs.Rolls.{Sees}
 use Rattle.cdb_roll.specs.Spans.{left, picked, number, behind, or_each}
 use Rattle.cdb_roll.specs.Survivors.{has_key, is_there, count_of, behind_first, put_list, put_answer}
-use Rattle.cdb_roll.specs.Views.Maker.{gone_in, found_in, Holds, Rests, Stays, Seeks, Meets, Settles, Puts, Follows, IsOver, IsWithin, IsTooBig, WouldPut, WantsRoom, OnlyAdds, PassesRoom, DoesNothing, WritesNothing, HasFailedToWrite, HasNotFailed, HasStoreFailed, HasGone, HasGoneOr, IsTorn, FailsSettling, FailsPutting, put_bytes, lone_bytes, goes_with, is_present}
+use Rattle.cdb_roll.specs.Views.Roll.{HasRoom}
+use Rattle.cdb_roll.specs.Views.Maker.{gone_in, found_in, Holds, Rests, Stays, Seeks, Meets, Settles, Puts, Follows, IsOver, IsWithin, IsTooBig, WouldPut, WantsRoom, OnlyAdds, PassesRoom, DoesNothing, WritesNothing, HasFailedToWrite, HasNotFailed, HasStoreFailed, HasGone, HasGoneOr, IsTorn, FailsSettling, FailsPutting, IsAlone, IsShort, put_bytes, lone_bytes, goes_with, is_present}
 use Rattle.cdb_roll.proofs.Finishing.{gone_lazy}
 use Rattle.cdb_roll.proofs.Looking.{sees_long, sees_same, same_back}
-use Rattle.cdb_roll.proofs.Picking.{left_all_stay, left_sum, end_sum, number_none, gone_taken, picked_taken, number_taken, both_within, both_few}
+use Rattle.cdb_roll.proofs.Picking.{left_all_stay, left_sum, end_sum, number_none, gone_taken, number_taken, both_within, both_few}
 use Rattle.cdb_roll.proofs.Rolls.{left_file, slots_add, whole_push}
-use Rattle.cdb_roll.proofs.Removing.{one_of, rest_of, sought, left-sum_by, behind-sum_by, moved_first}
+use Rattle.cdb_roll.proofs.Removing.{one_of, rest_of, sought, kept_picked, left-sum_by, behind-sum_by, moved_first}
 use Rattle.cdb_roll.proofs.Settling.{same_marks, or_clear, behind_nothing, length-or}
 use Rattle.cdb_roll.proofs.Survive.{or_none, number_zero, some_there}
 
@@ -162,8 +163,17 @@ answers_some r rs n some e = ap (λ (v : ℕ). Replaced v) e ∙ sym (ap (λ (v 
 
 -- ---- and done
 
-pub puts_by : {S L : Type 0} {s : Ghosts S} {l : Widths L} (i j k : Maker S L s l) (hash : ℕ) (mode : Mode) (r : KeyValue) (put : Put) → is_present put ≡ false → Meets i j hash mode r put → Settles j k r → Puts i k mode r put
-puts_by {s = s} {l = l} i j k hash mode r put np m t = record {
+-- there was no room for a record before a look, if there is none after it
+short_before : {S L : Type 0} {s : Ghosts S} {l : Widths L} (i j : Maker S L s l) (r : KeyValue) → Rests i j → (HasRoom i.roll → HasRoom j.roll) → IsShort j r → IsShort i r
+short_before {l = l} i j r rests room short =
+    let slots : 4 * l.WORD * length j.roll.hashes.items ≡ 4 * l.WORD * length i.roll.hashes.items = ap (λ (v : List ℕ). 4 * l.WORD * length v) rests.same.hashes in
+    elim short [
+      | inl over ↦ inl (omega (arith, over, slots, rests.limit, rests.same.end))
+      | inr full ↦ inr (elim full [ inl none ↦ inl (λ has. none (room has)) | inr past ↦ inr (omega (arith, past, rests.reads.room, rests.same.end)) ])
+    ]
+
+pub puts_by : {S L : Type 0} {s : Ghosts S} {l : Widths L} (i j k : Maker S L s l) (hash : ℕ) (mode : Mode) (r : KeyValue) (put : Put) → is_present put ≡ false → Meets i j hash mode r put → Settles j k r → IsAlone j k r → (HasRoom i.roll → HasRoom j.roll) → Puts i k mode r put
+puts_by {s = s} {l = l} i j k hash mode r put np m t alone room = record {
   was = m.rests.was;
   whole = t.whole;
   holds = λ rs h. record {
@@ -192,13 +202,23 @@ puts_by {s = s} {l = l} i j k hash mode r put np m t = record {
         let lone : lone_bytes l.WORD mode r rs ≡ record_size l.WORD r = e.lone ∙ ap (λ (v : Bool). cond v 0 (record_size l.WORD r)) np in
         let marks : or_each (gone_in j) (found_in j) ≡ goes_with mode r.key (gone_in i) e.all = e.goes ∙ ap (λ (v : List Bool). goes_with mode r.key v e.all) m.rests.gone in
         let moved : sum (behind (or_each (gone_in j) (found_in j)) ns) ≡ sum (behind (goes_with mode r.key (gone_in i) e.all) ns) = ap (λ (v : List Bool). sum (behind v ns)) marks in
+        let taken : j.roll.gone.size + j.roll.found.size ≡ sum (picked (goes_with mode r.key (gone_in i) e.all) ns) = kept_picked j.roll e.all g.0 e.sees ∙ ap (λ (v : List Bool). sum (picked v ns)) marks in
         record {
           image = g.0;
           was = m.rests.reads.images g.0 g.1;
           all = e.all;
           sees = sees_same j.roll i.roll e.all g.0 (same_back i.roll j.roll m.rests.same) e.sees;
           held = e.held ∙ ap (λ (v : List Bool). left v e.all) m.rests.gone;
-          wrote = elim q.2.2 [ inl wrote ↦ inl (omega (arith, wrote, lone, m.rests.reads.written)) | inr pass ↦ inr (omega (arith, pass, moved, m.rests.reads.written)) ];
+          wrote = elim alone [
+            | inl wrote ↦ inl (omega (arith, wrote, lone, m.rests.reads.written))
+            | inr why ↦ elim q.2.2 [
+              | inl wrote ↦ inl (omega (arith, wrote, lone, m.rests.reads.written))
+              | inr pass ↦ inr (
+                omega (arith, pass, moved, m.rests.reads.written),
+                λ lazy. elim (why (m.rests.lazy ∙ lazy)) [ inl due ↦ inl (omega (arith, due, taken, m.rests.same.end)) | inr short ↦ inr (short_before i j r m.rests room short) ],
+              )
+            ]
+          ];
         };
   };
 }
@@ -241,16 +261,6 @@ held_still i j k rests stays rs h = record {
         left = held.left ∙ ap (λ (v : List Bool). left v held.all) (sym rests.gone) ∙ ap (λ v. left (gone_of v) held.all) (sym stays.marks) ∙ ap (left (gone_in k)) (sym q.2);
       };
 }
-
--- how many bytes those have that go and those that were found
-kept_picked : {L : Type 0} {l : Widths L} (m : Roll L l) (all : List KeyValue) (b : List ℕ) → Sees m all b → m.gone.size + m.found.size ≡ sum (picked (or_each (gone_of m.marks.items) (found_of m.marks.items)) (map (record_size l.WORD) all))
-kept_picked {l = l} m all b sees =
-    let ms : List Mark = m.marks.items in
-    let ns : List ℕ = map (record_size l.WORD) all in
-    let marks : gone_of (map taken ms) ≡ or_each (gone_of ms) (found_of ms) = gone_taken ms in
-    let long : length ms ≡ length all = m.marked ∙ sees_long m all b sees in
-    let sums : sum (picked (gone_of (map taken ms)) ns) ≡ sum (picked (gone_of ms) ns) + sum (picked (found_of ms) ns) = picked_taken ms ns (long ∙ sym (length-map all (record_size l.WORD))) in
-    omega (arith, m.picked.size ns sees.of, m.sought.size ns sees.of, sums, ap (λ (v : List Bool). sum (picked v ns)) marks)
 
 -- the file once they are gone
 kept_file : {L : Type 0} {l : Widths L} (m : Roll L l) (all : List KeyValue) (b : List ℕ) → (l.WORD ≡ 4) ⊎ (l.WORD ≡ 8) → Sees m all b

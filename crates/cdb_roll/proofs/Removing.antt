@@ -9,13 +9,15 @@ use Rattle.cdb_form.specs.declared.width.Width.{Ghosts as Widths}
 use Rattle.cdb_form.specs.Format.Record.{KeyValue, record_size}
 use Rattle.cdb_roll.specs.declared.fault.MakeFault.{MakeFault}
 use Rattle.cdb_roll.specs.declared.maker.Maker.{Maker}
-use Rattle.cdb_roll.specs.Marks.{is_gone, gone_of, AreNone}
+use Rattle.cdb_roll.specs.Marks.{is_gone, gone_of, AreNone, found_of, taken}
+use Rattle.cdb_roll.specs.declared.mark.Mark.{Mark}
+use Rattle.cdb_roll.specs.declared.roll.Roll.{Roll}
 use Rattle.cdb_roll.specs.Rolls.{Sees, fresh}
-use Rattle.cdb_roll.specs.Spans.{left, behind, or_each, number}
+use Rattle.cdb_roll.specs.Spans.{left, behind, or_each, number, picked}
 use Rattle.cdb_roll.specs.Survivors.{has_key, count_of, without, behind_first}
 use Rattle.cdb_roll.specs.Views.Maker.{gone_in, found_in, Holds, Seeks, TakesOut, Tears, Removes, FailsRemoving, Follows}
 use Rattle.cdb_roll.proofs.Looking.{sees_long, sees_same, same_back}
-use Rattle.cdb_roll.proofs.Picking.{left_all_stay, sum-cons}
+use Rattle.cdb_roll.proofs.Picking.{left_all_stay, sum-cons, gone_taken, picked_taken}
 use Rattle.cdb_roll.proofs.Rolls.{taken_out}
 use Rattle.cdb_roll.proofs.Survive.{fresh_count, number_zero, or_none, some_there}
 
@@ -71,6 +73,16 @@ none_behind k (r ∷ rs) e =
       | false ↦ λ q. none_behind k rs (let c = rest_of (has_key k r) (count_of k (r ∷ rs)) (count_of k rs) q s in omega arith)
     ] in
     f (has_key k r) refl
+
+-- how many bytes those have that go and those that were found
+pub kept_picked : {L : Type 0} {l : Widths L} (m : Roll L l) (all : List KeyValue) (b : List ℕ) → Sees m all b → m.gone.size + m.found.size ≡ sum (picked (or_each (gone_of m.marks.items) (found_of m.marks.items)) (map (record_size l.WORD) all))
+kept_picked {l = l} m all b sees =
+    let ms : List Mark = m.marks.items in
+    let ns : List ℕ = map (record_size l.WORD) all in
+    let marks : gone_of (map taken ms) ≡ or_each (gone_of ms) (found_of ms) = gone_taken ms in
+    let long : length ms ≡ length all = m.marked ∙ sees_long m all b sees in
+    let sums : sum (picked (gone_of (map taken ms)) ns) ≡ sum (picked (gone_of ms) ns) + sum (picked (found_of ms) ns) = picked_taken ms ns (long ∙ sym (length-map all (record_size l.WORD))) in
+    omega (arith, m.picked.size ns sees.of, m.sought.size ns sees.of, sums, ap (λ (v : List Bool). sum (picked v ns)) marks)
 
 -- what a look found in an image
 pub record Sought {S L : Type 0} {s : Ghosts S} {l : Widths L} (j : Maker S L s l) (key : List ℕ) (n : ℕ) (rs : List KeyValue) (b : List ℕ) : Type 0 where
@@ -171,13 +183,14 @@ removes_some {s = s} {l = l} i j k hash n key h t = record {
         let r = g.2 q.all q.sees in
         let marks : or_each (gone_in j) (found_in j) ≡ or_each (gone_in i) (fresh key (gone_in i) q.all) = ap (or_each (gone_in j)) q.found ∙ ap (λ (v : List Bool). or_each v (fresh key v q.all)) h.rests.gone in
         let moved : sum (behind (or_each (gone_in j) (found_in j)) (map (record_size l.WORD) q.all)) ≡ sum (behind (or_each (gone_in i) (fresh key (gone_in i) q.all)) (map (record_size l.WORD) q.all)) = ap (λ (v : List Bool). sum (behind v (map (record_size l.WORD) q.all))) marks in
+        let taken : j.roll.gone.size + j.roll.found.size ≡ sum (picked (or_each (gone_in i) (fresh key (gone_in i) q.all)) (map (record_size l.WORD) q.all)) = kept_picked j.roll q.all g.0 q.sees ∙ ap (λ (v : List Bool). sum (picked v (map (record_size l.WORD) q.all))) marks in
         record {
           image = g.0;
           was = h.rests.reads.images g.0 g.1;
           all = q.all;
           sees = sees_same j.roll i.roll q.all g.0 (same_back i.roll j.roll h.rests.same) q.sees;
           held = q.held ∙ ap (λ (v : List Bool). left v q.all) h.rests.gone;
-          wrote = elim r.2.3 [ inl none ↦ inl (omega (arith, none, h.rests.reads.written)) | inr pass ↦ inr (omega (arith, pass, moved, h.rests.reads.written)) ];
+          wrote = elim r.2.3 [ inl none ↦ inl (omega (arith, none, h.rests.reads.written)) | inr pass ↦ inr (omega (arith, pass.0, moved, h.rests.reads.written), λ lazy. inl (let due = pass.1 (h.rests.lazy ∙ lazy) in omega (arith, due, taken, h.rests.same.end))) ];
         };
   };
 }

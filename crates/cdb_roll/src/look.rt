@@ -6,7 +6,7 @@ ghost use Rattle.cdb_roll.specs.declared.key_at.LookFault.TheVariants.{Failed, F
 ghost use Rattle.cdb_roll.specs.Chains.{Has};
 ghost use Rattle.cdb_roll.specs.Marks.{gone_of, HaveHash};
 ghost use Rattle.cdb_roll.specs.Rolls.{LooksLast, LooksAll, SeesNone};
-ghost use Rattle.cdb_roll.specs.Views.Roll.{SameRecords};
+ghost use Rattle.cdb_roll.specs.Views.Roll.{HasRoom, SameRecords};
 
 use crate::close::place_at;
 use crate::key_at::{LookFault, look_at};
@@ -65,6 +65,7 @@ pub(crate) fn find<S: Store, L: Width>(
     ensures same { SameRecords roll.old roll.new }
     ensures gone { gone_of roll.new.marks.items ≡ gone_of roll.old.marks.items }
     ensures kept { roll.new.gone ≡ roll.old.gone }
+    ensures room { HasRoom roll.old → HasRoom roll.new }
     ensures foreign { result ≡ Err Foreign → SeesNone roll.new (S.image store.new) }
     ensures ok_failures { OnOk result (S.failures store.new ≡ S.failures store.old) }
     ensures failed { result ≡ Err Failed → S.failures store.old < S.failures store.new }

@@ -4,6 +4,7 @@ ghost use Rattle.cdb_form.specs.declared.mode.Mode.TheVariants.{Add};
 ghost use Rattle.cdb_roll.specs.declared.fault.MakeFault.TheVariants.{Lookup};
 ghost use Rattle.cdb_form.specs.Format.Hash.{key_hash};
 ghost use Rattle.cdb_form.specs.Format.Record.{record_of};
+ghost use Rattle.cdb_roll.specs.Views.Roll.{HasRoom};
 
 use crate::answer::Put;
 use crate::fault::MakeFault;
@@ -25,6 +26,7 @@ impl<S: Store, L: Width> Maker<S, L> {
         ensures looks { IfErr result (λ f. f ≡ Lookup → mode ≢ Add) }
         ensures follows { Follows self.old self.new }
         ensures fine { OnOk result (HasNotFailed self.old self.new) }
+        ensures room { OnOk result (HasRoom self.old.roll → HasRoom self.new.roll) }
         ensures counts { OnErr result (SameCounts self.old self.new) }
     {
         match mode {

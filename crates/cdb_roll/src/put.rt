@@ -21,7 +21,7 @@ fn is_lost(torn: bool, found: u64) -> bool
 
 impl<S: Store, L: Width> Maker<S, L> {
     ghost use Rattle.cdb_roll.specs.Views.Maker.{Adds, Waits, FailsToWrite, Follows, Settles};
-    ghost use Rattle.cdb_roll.specs.Views.Maker.{FailsClosing, FailsSettling, IsWithin, HasNotFailed, SameCounts};
+    ghost use Rattle.cdb_roll.specs.Views.Maker.{FailsClosing, FailsSettling, IsWithin, HasNotFailed, SameCounts, IsAlone, IsDueFor};
 
     /// Whether a file of so many bytes, within the limit, has room for a record more.
     fn has_room(&self, size: u64, key: &[u8], value: &[u8]) -> bool
@@ -120,6 +120,8 @@ impl<S: Store, L: Width> Maker<S, L> {
             ⊎ (self.now.roll.gone.count + self.now.roll.found.count ≡ 0) }
         ensures takes { result ≡ false
             → 0 < self.now.roll.gone.count + self.now.roll.found.count }
+        ensures due { result ≡ false → self.now.lazy ≡ true
+            → IsDueFor self.now (self.now.roll.gone.size + self.now.roll.found.size) }
     {
         self.roll.takes_none() || self.waits()
     }
@@ -139,6 +141,7 @@ impl<S: Store, L: Width> Maker<S, L> {
         ensures settles { OnOk result (Settles self.old self.new (record_of key.now value.now)) }
         ensures fails { IfErr result
             (FailsSettling self.old self.new (record_of key.now value.now)) }
+        ensures alone { OnOk result (IsAlone self.old self.new (record_of key.now value.now)) }
         ensures fine { OnOk result (HasNotFailed self.old self.new) }
         ensures counts { OnErr result (SameCounts self.old self.new) }
         ensures follows { Follows self.old self.new }
@@ -168,6 +171,7 @@ impl<S: Store, L: Width> Maker<S, L> {
         ensures settles { OnOk result (Settles self.old self.new (record_of key.now value.now)) }
         ensures fails { IfErr result
             (FailsSettling self.old self.new (record_of key.now value.now)) }
+        ensures alone { OnOk result (IsAlone self.old self.new (record_of key.now value.now)) }
         ensures fine { OnOk result (HasNotFailed self.old self.new) }
         ensures counts { OnErr result (SameCounts self.old self.new) }
         ensures follows { Follows self.old self.new }

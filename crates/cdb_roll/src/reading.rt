@@ -5,6 +5,7 @@ ghost use Rattle.cdb_form.specs.Format.Hash.{key_hash};
 ghost use Rattle.cdb_form.specs.Format.Record.{KeyValue};
 ghost use Rattle.cdb_roll.specs.Looks.{NoNewImage};
 ghost use Rattle.cdb_roll.specs.Views.Maker.{look_fault, is_foreign, WhereHonest, IsThere};
+ghost use Rattle.cdb_roll.specs.Views.Roll.{HasRoom};
 
 use crate::fault::MakeFault;
 use crate::key_at::LookFault;
@@ -130,6 +131,7 @@ impl<S: Store, L: Width> Maker<S, L> {
         ensures seeks { IfOk result (λ n. Seeks self.old self.new hash key.now n) }
         ensures fails { IfErr result (FailsLooking self.old self.new) }
         ensures follows { Follows self.old self.new }
+        ensures room { OnOk result (HasRoom self.old.roll → HasRoom self.new.roll) }
         ensures counts { SameCounts self.old self.new }
     {
         if self.broken {
@@ -151,6 +153,7 @@ impl<S: Store, L: Width> Maker<S, L> {
         ensures fine { OnOk result (HasNotFailed self.old self.new) }
         ensures fails { IfErr result (FailsLooking self.old self.new) }
         ensures follows { Follows self.old self.new }
+        ensures room { OnOk result (HasRoom self.old.roll → HasRoom self.new.roll) }
         ensures counts { SameCounts self.old self.new }
     {
         if self.broken {

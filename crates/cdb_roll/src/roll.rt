@@ -263,6 +263,7 @@ impl<L: Width> Roll<L> {
         ensures gone { gone_of self.new.marks.items ≡ gone_of self.old.marks.items }
         ensures same { SameRecords self.old self.new }
         ensures kept { self.new.gone ≡ self.old.gone }
+        ensures room { HasRoom self.old → HasRoom self.new }
     {
         let size = place_at(&self.places, n + 1, self.end) - self.places.at(n);
         self.marks[n] = Mark::Found;
@@ -282,6 +283,10 @@ impl<L: Width> Roll<L> {
         ensures count { self.new.gone.count ≡ self.old.gone.count + self.old.found.count }
         ensures size { self.new.gone.size ≡ self.old.gone.size + self.old.found.size }
     {
+        // Else a record that is put would take as long as all those before it that are in no chain.
+        if self.found.count == 0 {
+            return;
+        }
         self.chains.take(&self.hashes, &mut self.marks, hash);
         self.gone = Picked {
             first: self.gone.first.min(self.found.first),
@@ -300,6 +305,7 @@ impl<L: Width> Roll<L> {
         ensures room { vec_capacity self.new.hashes ≡ vec_capacity self.old.hashes }
         ensures place_room { self.new.places ≡ self.old.places }
         ensures mark_room { vec_capacity self.new.marks ≡ vec_capacity self.old.marks }
+        ensures has { HasRoom self.old → HasRoom self.new }
     {
         put_each_back(&mut self.marks, self.found.first);
         self.found = none(self.marks.len());
@@ -311,6 +317,7 @@ impl<L: Width> Roll<L> {
         ensures marks { self.new.marks ≡ self.old.marks }
         ensures gone { self.new.gone ≡ self.old.gone }
         ensures found { self.new.found ≡ self.old.found }
+        ensures room { HasRoom self.old → HasRoom self.new }
     {
         self.chains.link_all(&self.hashes, &self.marks);
     }

@@ -17,7 +17,7 @@ use Rattle.cdb_roll.specs.Finished.{HeadIsLast}
 use Rattle.cdb_roll.specs.Tables.{roll_tables}
 use Rattle.cdb_roll.specs.Marks.{gone_of, found_of, AreNone, HaveHash}
 use Rattle.cdb_roll.specs.Rolls.{Sees, LooksAll, fresh}
-use Rattle.cdb_roll.specs.Spans.{left, behind, or_each}
+use Rattle.cdb_roll.specs.Spans.{left, picked, behind, or_each}
 use Rattle.cdb_roll.specs.Survivors.{has_key, is_there, count_of, without, behind_first, put_list, put_answer}
 use Rattle.cdb_form.specs.declared.mode.Mode.{Mode}
 use Rattle.cdb_form.specs.declared.mode.Mode.TheVariants.{Add, Warn, Insert, Replace}
@@ -227,6 +227,17 @@ pub record TellsCounts {S L : Type 0} {s : Ghosts S} {l : Widths L} (old new : M
   pub left_size : new.broken ≡ false → old.roll.found.count ≡ 0 → made_size new ≡ made_size old
   pub limit : new.limit ≡ old.limit
 
+-- to take out so many bytes a pass is due: it frees more than it moves, and 4 MiB
+abbrev pub IsDueFor : {S L : Type 0} {s : Ghosts S} {l : Widths L} → Maker S L s l → ℕ → Type 0
+IsDueFor m size = m.roll.end + 4194304 < 2 * size
+
+-- a record more has no room beside those that go: in the file, in the roll or in the store
+abbrev pub IsShort : {S L : Type 0} {s : Ghosts S} {l : Widths L} → Maker S L s l → KeyValue
+    → Type 0
+IsShort {s = s} {l = l} m r = (m.limit < m.roll.end + whole_size l.WORD r
+    + 4 * l.WORD * length m.roll.hashes.items)
+    ⊎ ((HasRoom m.roll → ⊥) ⊎ (s.room m.store < m.roll.end + record_size l.WORD r))
+
 -- those that go and those that were found go: now, or with a later pass if it is lazy. A pass that a
 -- lazy maker makes moves no more bytes than it frees
 pub record TakesOut {S L : Type 0} {s : Ghosts S} {l : Widths L} (old new : Maker S L s l)
@@ -237,7 +248,8 @@ pub record TakesOut {S L : Type 0} {s : Ghosts S} {l : Widths L} (old new : Make
       × (old.lazy ≡ false → Passes old new (or_each (gone_in old) (found_in old)) 0 all)
       × (old.lazy ≡ true → s.written new.store + new.roll.end ≤ s.written old.store + old.roll.end)
       × ((s.written new.store ≡ s.written old.store)
-      ⊎ Passes old new (or_each (gone_in old) (found_in old)) 0 all))
+      ⊎ (Passes old new (or_each (gone_in old) (found_in old)) 0 all
+      × (old.lazy ≡ true → IsDueFor old (old.roll.gone.size + old.roll.found.size)))))
 
 -- it is broken, since its store failed amid a pass
 pub record Tears {S L : Type 0} {s : Ghosts S} {l : Widths L} (old new : Maker S L s l)
@@ -282,16 +294,18 @@ goes_with Insert key ms rs = ms
 goes_with Replace key ms rs = or_each ms (fresh key ms rs)
 
 -- it wrote so many bytes, or those of a pass and then so many: where it held some records, and those
--- among all that go then
+-- among all that go then. If it is lazy the pass was due, or in such a case
 pub record WritesIn {S L : Type 0} {s : Ghosts S} {l : Widths L} (old new : Maker S L s l)
-    (goes : List KeyValue → List Bool) (lone more : ℕ) (rs : List KeyValue) : Type 0 where
+    (goes : List KeyValue → List Bool) (lone more : ℕ) (short : Type 0) (rs : List KeyValue)
+    : Type 0 where
   pub image : List ℕ
   pub was : s.image old.store image
   pub all : List KeyValue
   pub sees : Sees old.roll all image
   pub held : rs ≡ left (gone_in old) all
   pub wrote : (s.written new.store ≡ s.written old.store + lone)
-      ⊎ Passes old new (goes all) more all
+      ⊎ (Passes old new (goes all) more all × (old.lazy ≡ true
+      → IsDueFor old (sum (picked (goes all) (map (record_size l.WORD) all))) ⊎ short))
 
 -- a removal of the records of a key that answered so many. An eager maker moves each byte behind the
 -- first of them once. With what a lazy one writes, its records end no later than before: so all its
@@ -310,7 +324,7 @@ pub record Removes {S L : Type 0} {s : Ghosts S} {l : Widths L} (old new : Maker
       → WhereHonest (s.image new.store)
       (s.written new.store + new.roll.end ≤ s.written old.store + old.roll.end)
   pub writes : (rs : List KeyValue) → Holds old rs → WhereHonest (s.image new.store)
-      (WritesIn old new (goes_with Replace key (gone_in old)) 0 0 rs)
+      (WritesIn old new (goes_with Replace key (gone_in old)) 0 0 ⊥ rs)
 
 -- what one that failed leaves
 abbrev pub FailsRemoving : {S L : Type 0} {s : Ghosts S} {l : Widths L} → Maker S L s l
@@ -327,9 +341,7 @@ pub record Waits {S L : Type 0} {s : Ghosts S} {l : Widths L} (old new : Maker S
   pub stays : Stays old new
   pub written : s.written new.store ≡ s.written old.store
   pub fine : HasNotFailed old new
-  pub short : (old.limit < old.roll.end + whole_size l.WORD r
-      + 4 * l.WORD * length old.roll.hashes.items)
-      ⊎ ((HasRoom old.roll → ⊥) ⊎ (s.room old.store < old.roll.end + record_size l.WORD r))
+  pub short : IsShort old r
 
 -- a write failed, and the same records stand
 pub record FailsToWrite {S L : Type 0} {s : Ghosts S} {l : Widths L} (old new : Maker S L s l)
@@ -348,6 +360,13 @@ pub record Settles {S L : Type 0} {s : Ghosts S} {l : Widths L} (old new : Maker
       → Passes old new (or_each (gone_in old) (found_in old)) (record_size l.WORD r) all)
       × ((s.written new.store ≡ s.written old.store + record_size l.WORD r)
       ⊎ Passes old new (or_each (gone_in old) (found_in old)) (record_size l.WORD r) all))
+
+-- it wrote the record alone, or was to make a pass: if it is lazy, one was due, or there was no room
+abbrev pub IsAlone : {S L : Type 0} {s : Ghosts S} {l : Widths L} → Maker S L s l → Maker S L s l
+    → KeyValue → Type 0
+IsAlone {s = s} {l = l} old new r =
+    (s.written new.store ≡ s.written old.store + record_size l.WORD r)
+    ⊎ (old.lazy ≡ true → IsDueFor old (old.roll.gone.size + old.roll.found.size) ⊎ IsShort old r)
 
 -- with the record, and without those that go and those that were found, the file passes the limit
 abbrev pub IsOver : {S L : Type 0} {s : Ghosts S} {l : Widths L} → Maker S L s l → KeyValue → Type 0
@@ -471,7 +490,7 @@ pub record Puts {S L : Type 0} {s : Ghosts S} {l : Widths L} (old new : Maker S 
       (s.written new.store ≡ s.written old.store + put_bytes l.WORD mode r rs)
   pub writes : (rs : List KeyValue) → Holds old rs → WhereHonest (s.image new.store)
       (WritesIn old new (goes_with mode r.key (gone_in old)) (lone_bytes l.WORD mode r rs)
-      (record_size l.WORD r) rs)
+      (record_size l.WORD r) (IsShort old r) rs)
 
 -- and nothing was written
 pub record WritesNothing {S L : Type 0} {s : Ghosts S} {l : Widths L} (old new : Maker S L s l)

@@ -23,6 +23,7 @@ loop-at-init g c =
       below = λ k lt. c.put_back.ensures.found k;
       hash = record { each = λ k is. absurd (let t : false ≡ true = sym (c.put_back.ensures.found k) ∙ is in cc) };
       same = c.put_back.ensures.same;
+      room = c.put_back.ensures.has;
       gone = c.put_back.ensures.gone;
       kept = c.put_back.ensures.picked;
       failures = h.ok_failures;
@@ -78,6 +79,7 @@ loop-at-preserved g c =
       below = λ k lt. ap (λ (v : List Bool). get_or v k false) f.found ∙ get_or-set_other ms n k true false (λ e. omega (arith, h.within)) ∙ inv.below k (omega (arith, h.within));
       hash = found_hash c.args.hash old.hashes.items m.hashes.items old.marks.items m.marks.items n f.same.hashes f.found here.same inv.hash;
       same = same_then c.args.roll.now old m inv.same f.same;
+      room = λ has. f.room (inv.room has);
       gone = f.gone ∙ inv.gone;
       kept = f.kept ∙ inv.kept;
       failures = h.ok_failures ∙ inv.failures;

@@ -4,7 +4,7 @@ use Rattle.cdb_form.specs.Format.Record.{KeyValue}
 use Rattle.cdb_roll.specs.Chains.{Has}
 use Rattle.cdb_roll.specs.Marks.{gone_of, found_of, HaveHash}
 use Rattle.cdb_roll.specs.Rolls.{Sees, fresh, IsFresh}
-use Rattle.cdb_roll.specs.Views.Roll.{SameRecords}
+use Rattle.cdb_roll.specs.Views.Roll.{HasRoom, SameRecords}
 use Rattle.cdb_roll.proofs.look.find.Given as goal
 
 abbrev pub invariant-loop-at : goal.invariant-loop-at
@@ -17,6 +17,7 @@ invariant-loop-at g l = record {
   below : (k : ℕ) → k < l.at → get_or (found_of l.roll.marks.items) k false ≡ false;
   hash : HaveHash l.hash l.roll.hashes.items l.roll.marks.items;
   same : SameRecords l.fn.roll l.roll;
+  room : HasRoom l.fn.roll → HasRoom l.roll;
   gone : gone_of l.roll.marks.items ≡ gone_of l.fn.roll.marks.items;
   kept : l.roll.gone ≡ l.fn.roll.gone;
   failures : g.S.Store.failures l.store ≡ g.S.Store.failures l.fn.store;

@@ -21,7 +21,7 @@ returns-in_err-settle-clause-fails g c =
 pub returns-in_ok-settle-clause-puts : goal.returns-in_ok-settle-clause-puts
 returns-in_ok-settle-clause-puts g c =
     let r : KeyValue = record { key = c.args.key.now; value = c.args.value.now } in
-    puts_by c.args.self.now c.meet.new.self c.settle.new.self c.hash-hash.result c.args.mode r c.in_ok-put.put (sym c.is_present.ensures ∙ c.if-not-is_present.true) (c.in_ok-put.ensures.meets c.args.value.now) c.in_ok-settle.ensures.settles
+    puts_by c.args.self.now c.meet.new.self c.settle.new.self c.hash-hash.result c.args.mode r c.in_ok-put.put (sym c.is_present.ensures ∙ c.if-not-is_present.true) (c.in_ok-put.ensures.meets c.args.value.now) c.in_ok-settle.ensures.settles c.in_ok-settle.ensures.alone c.in_ok-put.ensures.room
 
 pub returns-else-not-is_present-clause-puts : goal.returns-else-not-is_present-clause-puts
 returns-else-not-is_present-clause-puts g c =

@@ -45,7 +45,7 @@ returns-clause-takes g c =
                       left_all_stay (gone_in c.pass.new.self) mid.0 many closes.none ∙ mid.2.0 ∙ ap (λ (v : List Bool). left v all) t.gone,
                       λ eager. omega (arith, mid.2.1, moved),
                       λ lazy. omega (arith, mid.2.1, last, t.size, t.same.end, c.waits.ensures.due c.if-waits.false lazy, behind_most (gone_of tm.marks.items) ns, sums, tm.picked.size ns now.of, now.of.ends, end_sum (head_size w) ns),
-                      inr (omega (arith, mid.2.1, moved)),
+                      inr (omega (arith, mid.2.1, moved), c.waits.ensures.due c.if-waits.false),
                     ),
                   ),
             );

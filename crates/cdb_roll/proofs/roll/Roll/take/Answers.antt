@@ -8,7 +8,8 @@ use Rattle.cdb_roll.specs.Marks.{gone_of, found_of, is_gone, is_found, taken}
 use Rattle.cdb_roll.specs.Spans.{IsPicked, picked}
 use Rattle.cdb_roll.specs.Views.Places.{places_in}
 use Rattle.cdb_roll.proofs.Spans.{spans_of, long_as}
-use Rattle.cdb_roll.proofs.Picking.{picks_none, picks_taken, gone_taken, found_taken, taken_items, number_taken, number_most, picked_taken, picked_within}
+use Rattle.cdb_roll.proofs.Picking.{picks_none, picks_taken, gone_taken, found_taken, taken_items, number_taken, number_most, picked_taken, picked_within, picked_none}
+use Rattle.cdb_roll.proofs.Survive.{or_none, number_zero}
 use Rattle.cdb_roll.proofs.roll.Roll.take.Goals as goal
 
 pub overflow_add-self : goal.overflow_add-self
@@ -63,3 +64,17 @@ pub invariant_of-self-clause-room : goal.invariant_of-self-clause-room
 invariant_of-self-clause-room g c =
     let m = c.args.self.now in
     subst (λ (n : ℕ). n ≤ vec_capacity m.marks) (sym (ap length (taken_items c.deref_mut.result.now m.marks.items c.take.new.marks _ m.marks.len c.deref_mut.ensures.value m.marks.ok.0 c.take.ensures.marks) ∙ length-map m.marks.items taken)) m.room
+
+pub returns-then-self-eq0-clause-gone : goal.returns-then-self-eq0-clause-gone
+returns-then-self-eq0-clause-gone g c =
+    let m = c.args.self.now in
+    let ms : List Mark = m.marks.items in
+    sym (or_none (gone_of ms) (found_of ms) (length-map ms is_gone ∙ sym (length-map ms is_found)) (number_zero (found_of ms) (sym m.sought.count ∙ c.if-self-eq0.true)))
+
+pub returns-then-self-eq0-clause-size : goal.returns-then-self-eq0-clause-size
+returns-then-self-eq0-clause-size g c =
+    let m = c.args.self.now in
+    let ms : List Mark = m.marks.items in
+    let spans = spans_of (head_size g.L.Width.WORD) m.end (places_in m.places) m.spans in
+    let none : m.found.size ≡ 0 = m.sought.size spans.sizes spans.of ∙ ap sum (picked_none (found_of ms) spans.sizes (number_zero (found_of ms) (sym m.sought.count ∙ c.if-self-eq0.true))) in
+    omega (arith, none)
