@@ -127,9 +127,6 @@ closing_torn i j (Err f) was some fault torn failed = subst (FailsClosingAll i j
 pub told_whole : {S L : Type 0} {s : Ghosts S} {l : Widths L} (m : Maker S L s l) → m.broken ≡ false → (told_count m ≡ count_in m) × (told_size m ≡ made_size m)
 told_whole m whole = (ap (λ (v : Bool). cond v m.counted.count (count_in m)) whole, ap (λ (v : Bool). cond v m.counted.size (made_size m)) whole)
 
-pub told_broken : {S L : Type 0} {s : Ghosts S} {l : Widths L} (m : Maker S L s l) → m.broken ≡ true → (told_count m ≡ m.counted.count) × (told_size m ≡ m.counted.size)
-told_broken m torn = (ap (λ (v : Bool). cond v m.counted.count (count_in m)) torn, ap (λ (v : Bool). cond v m.counted.size (made_size m)) torn)
-
 -- of the records without those that go
 pub left_counts : {S L : Type 0} {s : Ghosts S} {l : Widths L} (i j : Maker S L s l) → j.roll.gone.count ≡ 0 → j.roll.gone.size ≡ 0 → j.roll.end + i.roll.gone.size ≡ i.roll.end → length j.roll.hashes.items + i.roll.gone.count ≡ length i.roll.hashes.items → (count_in j ≡ count_in i) × (made_size j ≡ made_size i)
 left_counts {l = l} i j none size end count =
