@@ -1,5 +1,5 @@
 -- What writers and readers of pieces hold.
 pub mod Written
+pub mod Fitting
 pub mod Compare
 pub mod Headers
-pub mod Fitting

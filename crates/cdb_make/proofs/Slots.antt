@@ -1,3 +1,4 @@
 -- Tables, slot by slot, and their pointers.
 pub mod HeadPointers
 pub mod TableBytes
+pub mod Counts

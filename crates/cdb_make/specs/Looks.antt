@@ -1,13 +1,11 @@
 -- What the bytes of an image say of a record that stands at a place, in words of w bytes.
-use Rattle.std.specs.Prelude.{◌≡◌, ℕ, ◌+◌, ◌*◌, ◌==◌, ◌<◌, ◌≤◌, Bool, true, false, cond, List, []}
-use Rattle.std.specs.Prelude.{◌∷◌, length, drop, bytes_eq, Result, Ok, Err, Option, Some, None}
+use Rattle.std.specs.Prelude.{◌≡◌, ℕ, ◌+◌, ◌*◌, ◌<◌, ◌≤◌, Bool, true, false, List}
+use Rattle.std.specs.Prelude.{length, drop, bytes_eq, Result, Ok, Err, Option, Some, None}
 use Rattle.std.specs.Bool.{Decides}
 use Rattle.cdb_store.specs.Images.{part}
-use Rattle.cdb_form.specs.Format.Pair.{WordPair}
 use Rattle.cdb_form.specs.Format.Walk.{prefix_size, prefix_record}
-use Rattle.cdb_make.specs.declared.removal.gap.Gap.{Gap}
-use Rattle.cdb_make.specs.declared.records.key_at.LookFault.{LookFault}
-use Rattle.cdb_make.specs.declared.records.key_at.LookFault.TheVariants.{Failed, Foreign}
+use Rattle.cdb_make.specs.declared.key_at.LookFault.{LookFault}
+use Rattle.cdb_make.specs.declared.key_at.LookFault.TheVariants.{Failed, Foreign}
 
 -- the key of the record at a place, and how many bytes the record takes
 unfoldable pub key_at : ℕ → ℕ → List ℕ → List ℕ
@@ -19,16 +17,6 @@ size_at w p image = prefix_size w (drop p image)
 -- whether it has this key
 abbrev pub has_key_at : ℕ → List ℕ → List ℕ → ℕ → Bool
 has_key_at w key image p = bytes_eq (key_at w p image) key
-
--- the gaps that the entries with this hash and key would leave
-abbrev pub picked : ℕ → ℕ → List ℕ → List ℕ → List WordPair → List Gap
-picked w h key image [] = []
-picked w h key image (e ∷ es) =
-    cond (e.first == h)
-    (cond (has_key_at w key image e.second)
-    (record { place = e.second; size = size_at w e.second image } ∷ picked w h key image es)
-    (picked w h key image es))
-    (picked w h key image es)
 
 -- no image came
 pub record NoNewImage (old new : List ℕ → Type 0) : Type 0 where
@@ -65,24 +53,3 @@ abbrev pub SizeWithin : ℕ → ℕ → Result (Option ℕ) LookFault → Type 0
 SizeWithin p end (Ok None) = Unit {0}
 SizeWithin p end (Ok (Some n)) = p + n ≤ end
 SizeWithin p end (Err e) = Unit {0}
-
--- the gaps are those of the entries with this hash and key
-pub record Picks (w h : ℕ) (key : List ℕ) (gaps : List Gap) (all : List WordPair)
-    (images : List ℕ → Type 0) : Type 0 where
-  pub each : (b : List ℕ) → images b → gaps ≡ picked w h key b all
-
--- the records at these entries stand one behind another, up to `end`
-abbrev pub AreChained : ℕ → ℕ → List ℕ → List WordPair → ℕ → Type 0
-AreChained w from image [] end = from ≤ end
-AreChained w from image (e ∷ es) end =
-    (from ≤ e.second) × AreChained w (e.second + size_at w e.second image) image es end
-
--- in no image the records at these entries are chained
-pub record NoneChained (w start : ℕ) (all : List WordPair) (end : ℕ) (images : List ℕ → Type 0)
-    : Type 0 where
-  pub each : (b : List ℕ) → images b → AreChained w start b all end → ⊥
-
--- in each image, whether an entry with this hash has the key
-pub record TellsThere (w h : ℕ) (key : List ℕ) (there : Bool) (all : List WordPair)
-    (images : List ℕ → Type 0) : Type 0 where
-  pub each : (b : List ℕ) → images b → Decides there (0 < length (picked w h key b all))

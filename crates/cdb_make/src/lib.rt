@@ -1,21 +1,31 @@
 //! Makes constant databases: a `Maker` puts records into a store and takes them out again, in
-//! place, and finishes their file.
+//! place, and finishes their file. It notes them in one roll, in their order.
 #![tactic(auto)]
 
-mod batch;
+mod answer;
+mod append;
+mod chains;
+mod close;
 mod fault;
 mod finish;
-mod index;
+mod growth;
+mod key_at;
 pub mod laws;
 mod lifetime;
+mod look;
 mod maker;
-mod records;
-mod removal;
+mod mark;
+mod modes;
+mod move_down;
+mod places;
+mod put;
+mod reading;
+mod remove;
+mod roll;
+mod write;
 
-pub use batch::Batch;
+pub use answer::Put;
 pub use cdb_form::Mode;
 pub use fault::MakeFault;
 pub use lifetime::{Refused, Unfinished};
 pub use maker::Maker;
-pub use records::put::Put;
-pub use removal::close_all::UnfinishedBatch;

@@ -1,193 +1,146 @@
-// A maker of a database: records put and taken out in place.
-ghost use Rattle.std.specs.Prelude.{◌≡◌, ℕ, ◌+◌, ◌-◌, ◌*◌, ◌≤◌, ◌<◌, true, false, [], List, Bool, length};
-ghost use Rattle.std.specs.Prelude.{sum_by, vec_capacity, All, IfOk, IfErr, OnOk, OnErr};
-ghost use Rattle.cdb_form.specs.Format.Pair.{head_size};
-ghost use Rattle.cdb_form.specs.Format.Record.{KeyValue};
-ghost use Rattle.cdb_form.specs.Format.File.{file_size};
+// A maker of a database: a store, and the roll of its records.
+ghost use Rattle.std.specs.Prelude.{◌≡◌, ℕ, ◌+◌, ◌*◌, ◌<◌, ◌≤◌, ◌⊎◌, true, false, length, OnOk, OnErr, IfOk, IfErr};
+ghost use Rattle.cdb_form.specs.Format.File.{whole_size};
 ghost use Rattle.cdb_form.specs.Format.Hash.{key_hash};
-ghost use Rattle.cdb_store.specs.Reads.{OnlyReads};
-ghost use Rattle.cdb_make.specs.Gaps.{unmarked};
-ghost use Rattle.cdb_make.specs.Looks.{NoNewImage};
-ghost use Rattle.cdb_make.specs.Stands.{IsThere};
-ghost use Rattle.cdb_make.specs.Views.EntryList.{AreWithin, HasSpareGaps};
-ghost use Rattle.cdb_make.specs.Views.Lists.{all_entries};
+ghost use Rattle.cdb_form.specs.Format.Record.{record_of, record_size};
+ghost use Rattle.cdb_make.specs.Marks.{gone_of, found_of, AreNone, HaveHash};
+ghost use Rattle.cdb_make.specs.Views.Roll.{HasRoom, SameRecords};
+ghost use Rattle.cdb_make.specs.declared.fault.MakeFault.TheVariants.{Writing};
 
+use crate::close::close_bytes;
 use crate::fault::MakeFault;
-use crate::index::list::Indexing;
-use crate::index::lists::Lists;
-use crate::records::key_at::LookFault;
-use crate::records::put::Put;
-use crate::removal::gap::Gap;
-use crate::removal::take_out;
-use cdb_form::{Width, hash, pair_size};
+use crate::roll::Roll;
+use crate::write::append_record;
+use cdb_form::{Width, head_size, pair_size};
 use cdb_store::Store;
 use std::alloc::Global;
-use std::marker::PhantomData;
+
+/// What a maker counts.
+#[derive(Clone, Copy)]
+pub(crate) struct Counts {
+    /// How many records it holds.
+    pub(crate) count: u64,
+    /// How many bytes their file would have.
+    pub(crate) size: u64,
+}
 
 /// Makes a database in a store: each record is written as it is put.
 ///
-/// The store holds the records one after another, from the end of the head on, and the maker keeps
-/// the hash of each key and the record's place: 8 bytes a record, or 12 if words are wide. It indexes
-/// the records that are put by a mode that looks for their keys: 8 to 12 bytes more.
+/// The store holds the records one after another, from the end of the head on. Of each the maker
+/// keeps the hash of its key, its place and its mark: 9 bytes, or 13 if words are wide.
 #[derive(Drop)]
 pub struct Maker<S: Store, L: Width> {
     pub(crate) alloc: Global,
     pub(crate) store: S,
-    /// The entries of each table.
-    pub(crate) lists: Lists<L>,
-    /// Where a removal notes what it takes out. There is room for the longest list.
-    pub(crate) gaps: Vec<Gap>,
-    /// Where the records end.
-    pub(crate) end: u64,
-    /// How many they are.
-    pub(crate) count: u64,
-    /// The greatest size that their file may have.
+    pub(crate) roll: Roll<L>,
+    /// The greatest size that the file of all records may have, those that go too.
     pub(crate) limit: u64,
+    /// Records that are taken out stay on the store until a pass is due.
+    pub(crate) lazy: bool,
     /// A fault amid a move left the records torn, or the store gave back other bytes than were
     /// written.
     pub(crate) broken: bool,
-    pub(crate) width: PhantomData<L>,
-    ghost start: { head_size L.WORD ≤ end },
-    ghost inside: { end ≤ S.size store },
-    ghost within: { end + 4 * L.WORD * count ≤ limit },
+    /// What it counted before the call that broke it.
+    pub(crate) counted: Counts,
+    ghost inside: { roll.end ≤ S.size store },
+    ghost within: { roll.end + 4 * L.WORD * length roll.hashes.items ≤ limit },
     ghost limited: { limit ≤ L.GREATEST },
-    ghost counted: { broken ≡ false → sum_by length (all_entries lists) ≡ count },
-    ghost placed: { AreWithin L.GREATEST (all_entries lists) },
-    ghost spare: { HasSpareGaps (all_entries lists) (vec_capacity gaps) },
+    ghost told: { counted.size ≤ limit },
+    ghost eager: { lazy ≡ false → broken ≡ false → AreNone (gone_of roll.marks.items) },
 }
 
 impl<S: Store, L: Width> Maker<S, L> {
-    ghost use Rattle.cdb_make.specs.Views.Maker.{Holds, WhereHonest, made_size, StaysWhole};
-    ghost use Rattle.cdb_make.specs.Views.Maker.{store_of, count_in, limit_of, is_broken};
-    ghost use Rattle.cdb_make.specs.Views.Maker.{FailsLooking, SameCounts, WritesNothing};
-    ghost use Rattle.cdb_make.specs.Views.Maker.{look_fault, is_foreign, HasNotFailed};
-    ghost use Rattle.cdb_make.specs.Views.Carrying.{Carries, Rests, WantsMemory, FailsSeeking};
+    ghost use Rattle.cdb_make.specs.Views.Maker.{Adds, AddFails, Stays, Closes, Exchanges, Follows, HasNotFailed};
+    ghost use Rattle.cdb_make.specs.Views.Maker.{FailsExchanging, HasStoreFailed, SameCounts, TellsCounts, told_count, told_size};
 
-    /// How many records it holds.
+    /// One more record, behind the others.
     ///
-    /// In a broken maker it is what it was before the call that broke it.
-    pub fn count(&self) -> u64
-        ensures holds { (rs : List KeyValue) → Holds self.now rs
-            → WhereHonest (S.image (store_of self.now)) (result ≡ length rs) }
-        ensures is { result ≡ count_in self.now }
-    {
-        self.count
-    }
-
-    /// How many bytes the file of its records would have.
-    ///
-    /// In a broken maker it is what it was before the call that broke it.
-    pub fn size(&self) -> u64
-        ensures holds { (rs : List KeyValue) → Holds self.now rs
-            → WhereHonest (S.image (store_of self.now)) (result ≡ file_size L.WORD rs) }
-        ensures is { result ≡ made_size self.now }
-        ensures within { result ≤ limit_of self.now }
-    {
-        self.end + 2 * pair_size::<L>() as u64 * self.count
-    }
-
-    /// Whether an earlier call broke it, or found that its store gave back other bytes than were
-    /// written. Then every call that can fail answers `Broken`.
-    pub fn is_broken(&self) -> bool
-        ensures { result ≡ is_broken self.now }
-    {
-        self.broken
-    }
-
-    /// Its store, to ask how long it is or how much was written.
-    pub fn store(&self) -> &S
-        ensures { result.now ≡ store_of self.now }
-    {
-        &self.store
-    }
-
-    /// Its store, as it is.
-    pub fn into_store(self) -> S
-        ensures { result ≡ store_of self }
-    {
-        let Maker {
-            alloc: _,
-            store,
-            lists,
-            gaps,
-            end: _,
-            count: _,
-            limit: _,
-            broken: _,
-            width: _,
-        } = self;
-        drop(lists);
-        drop(gaps);
-        store
-    }
-
-    /// Why a look failed. If the store gave back other bytes than were written, the maker is
-    /// broken from then on.
-    pub(crate) fn failed_look(&mut self, fault: LookFault) -> MakeFault
-        requires { self.old.broken ≡ false }
-        ensures fault { result ≡ look_fault fault }
-        ensures broken { self.new.broken ≡ is_foreign fault }
-        ensures store { self.new.store ≡ self.old.store }
-        ensures lists { self.new.lists ≡ self.old.lists }
-        ensures counts { SameCounts self.old self.new }
-    {
-        match fault {
-            LookFault::Failed => MakeFault::Lookup,
-            LookFault::Foreign => {
-                self.broken = true;
-                MakeFault::Broken
-            }
-        }
-    }
-
-    /// Whether some record has a key.
-    ///
-    /// It writes nothing and takes no memory: records for which the index has no room, such as those
-    /// put by `Mode::Add` or appended, are compared one by one. `Lookup`: the store failed while it was read.
-    /// `Broken`: an earlier call broke the maker, or the store gave back other bytes than were
-    /// written.
-    pub fn exists(&mut self, key: &[u8]) -> Result<bool, MakeFault>
-        ensures there { (rs : List KeyValue) → Holds self.old rs
-            → IfOk result (λ there. IsThere there key.now rs (S.image (store_of self.new))) }
-        ensures ok { OnOk result (WritesNothing self.old self.new) }
-        ensures fails { IfErr result (FailsLooking self.old self.new) }
-        ensures counts { SameCounts self.old self.new }
-        ensures images { NoNewImage (S.image (store_of self.old)) (S.image (store_of self.new)) }
-        ensures room { S.room (store_of self.old) ≤ S.room (store_of self.new) }
-        ensures failures { S.failures (store_of self.old) ≤ S.failures (store_of self.new) }
-        ensures unwritten { S.unwritten (store_of self.old) ≤ S.unwritten (store_of self.new) }
-        ensures ok_failures { OnOk result (HasNotFailed self.old self.new) }
-    {
-        self.look(Indexing::Fixed, hash(key), key)
-    }
-
-    /// Whether some record has a key of this hash that is not marked, as `exists` says it.
-    pub(crate) fn look(
-        &mut self,
-        indexing: Indexing,
-        hash: u32,
-        key: &[u8],
-    ) -> Result<bool, MakeFault>
+    /// `NoMemory`: nothing was written. `Writing`: the store failed. The records are what they were.
+    #[inline(always)]
+    pub(crate) fn add(&mut self, hash: u32, key: &[u8], value: &[u8]) -> Result<(), MakeFault>
         requires hash { hash ≡ key_hash key.now }
-        ensures there { (all : List KeyValue) (marks : List Bool) → Carries self.new all marks
-            → IfOk result (λ there. IsThere there key.now (unmarked marks all)
-            (S.image self.new.store)) }
-        ensures rests { OnOk result (Rests self.old self.new) }
-        ensures wants { OnOk result ((value : List ℕ)
-            → WantsMemory self.new (record { key = key.now; value = value })
-            → WantsMemory self.old (record { key = key.now; value = value })) }
-        ensures fails { IfErr result (FailsSeeking self.old self.new) }
-        ensures reads { OnlyReads S.Store self.old.store self.new.store }
-        ensures counts { SameCounts self.old self.new }
-        ensures ok_failures { OnOk result (HasNotFailed self.old self.new) }
+        requires fits { self.old.roll.end + whole_size L.WORD (record_of key.now value.now)
+            + 4 * L.WORD * length self.old.roll.hashes.items ≤ self.old.limit }
+        ensures adds { OnOk result (Adds self.old self.new hash (record_of key.now value.now)) }
+        ensures fine { OnOk result (HasNotFailed self.old self.new) }
+        ensures stays { OnErr result (Stays self.old self.new) }
+        ensures counts { OnErr result (SameCounts self.old self.new) }
+        ensures counted { self.new.counted ≡ self.old.counted }
+        ensures fails { IfErr result (AddFails
+            (S.written self.old.store) (S.written self.new.store)
+            (S.failures self.old.store) (S.failures self.new.store)
+            (S.unwritten self.old.store) (S.unwritten self.new.store)
+            ((HasRoom self.old.roll → ⊥) ⊎ (S.room self.old.store
+            < self.old.roll.end + record_size L.WORD (record_of key.now value.now)))) }
+        ensures follows { Follows self.old self.new }
     {
-        if self.broken {
-            return Err(MakeFault::Broken);
-        }
-        self.lists.catch_up(hash, indexing);
-        match take_out::exists::<S, L>(&mut self.store, &self.lists, hash, key, self.end) {
-            Ok(there) => Ok(there),
-            Err(fault) => Err(self.failed_look(fault)),
-        }
+        self.roll.reserve()?;
+        append_record::<S, L>(&mut self.store, self.roll.end, key, value)?;
+        let size = pair_size::<L>() as u64 + key.len() as u64 + value.len() as u64;
+        self.roll.push(hash, size);
+        Ok(())
+    }
+
+    /// Takes the records that go out of the store and of the roll. It takes no memory.
+    ///
+    /// `Writing`: the store failed, and the maker is broken.
+    #[inline(never)]
+    pub(crate) fn pass(&mut self) -> Result<(), MakeFault>
+        ensures closes { OnOk result (Closes self.old self.new) }
+        ensures found { OnOk result (AreNone (found_of self.new.roll.marks.items)) }
+        ensures end { OnOk result
+            (self.new.roll.end + self.old.roll.gone.size ≡ self.old.roll.end) }
+        ensures count { OnOk result (length self.new.roll.hashes.items + self.old.roll.gone.count
+            ≡ length self.old.roll.hashes.items) }
+        ensures clear { OnOk result (self.new.roll.gone.count ≡ 0) }
+        ensures clear_size { OnOk result (self.new.roll.gone.size ≡ 0) }
+        ensures room { OnOk result (0 < self.old.roll.gone.count → HasRoom self.new.roll) }
+        ensures kept { OnErr result (SameRecords self.old.roll self.new.roll) }
+        ensures kept_gone { OnErr result (self.new.roll.gone ≡ self.old.roll.gone) }
+        ensures counts { OnErr result (SameCounts self.old self.new) }
+        ensures told { self.new.counted.count ≡ told_count self.old }
+        ensures told_size { self.new.counted.size ≡ told_size self.old }
+        ensures broken { OnErr result (self.new.broken ≡ true) }
+        ensures fails { IfErr result (λ f. f ≡ Writing) }
+        ensures cause { OnErr result (HasStoreFailed self.old self.new) }
+        ensures follows { Follows self.old self.new }
+    {
+        self.counted = self.counts();
+        self.broken = true;
+        let (places, marks) = (&self.roll.places, &self.roll.marks);
+        let (start, first) = (head_size::<L>() as u64, self.roll.gone.first);
+        close_bytes(&mut self.store, start, places, marks, first, self.roll.end)?;
+        self.roll.close();
+        self.broken = false;
+        Ok(())
+    }
+
+    /// Takes out the records that go and those that a look for the hash has found, which are some,
+    /// and adds one behind the others. There is room for it.
+    ///
+    /// `Writing`: the store failed. Amid the pass that breaks the maker, else the records are gone.
+    #[inline(never)]
+    pub(crate) fn exchange(&mut self, hash: u32, key: &[u8], value: &[u8]) -> Result<(), MakeFault>
+        requires hash { hash ≡ key_hash key.now }
+        requires have { HaveHash hash self.old.roll.hashes.items self.old.roll.marks.items }
+        requires some { 0 < self.old.roll.gone.count + self.old.roll.found.count }
+        requires fits { self.old.roll.end + whole_size L.WORD (record_of key.now value.now)
+            + 4 * L.WORD * length self.old.roll.hashes.items
+            ≤ self.old.limit + (self.old.roll.gone.size + self.old.roll.found.size)
+            + 4 * L.WORD * (self.old.roll.gone.count + self.old.roll.found.count) }
+        requires room { self.old.roll.end + record_size L.WORD (record_of key.now value.now)
+            ≤ S.room self.old.store + (self.old.roll.gone.size + self.old.roll.found.size) }
+        ensures exchanges { OnOk result
+            (Exchanges self.old self.new (record_of key.now value.now)) }
+        ensures fails { IfErr result (FailsExchanging self.old self.new) }
+        ensures fine { OnOk result (HasNotFailed self.old self.new) }
+        ensures counts { OnErr result (TellsCounts self.old self.new) }
+        ensures follows { Follows self.old self.new }
+    {
+        self.counted = self.counts();
+        self.broken = true;
+        self.roll.take(hash);
+        self.pass()?;
+        self.add(hash, key, value)
     }
 }

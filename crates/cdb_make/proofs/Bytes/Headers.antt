@@ -9,7 +9,7 @@ use Rattle.cdb_form.specs.Format.Reading.{pair_at}
 use Rattle.cdb_form.specs.Views.Pairs.{header_pair}
 use Rattle.cdb_form.specs.declared.header.Header.{Header}
 use Rattle.cdb_form.proofs.Bytes.WordLemmas.{pair_at-take}
-use Rattle.cdb_make.specs.declared.records.key_at.LookFault.TheVariants.{Foreign}
+use Rattle.cdb_make.specs.declared.key_at.LookFault.TheVariants.{Foreign}
 use Rattle.cdb_make.specs.Looks.{key_at, size_at, NoNewImage, HasLengths, HoldAt, TellsSame, LooksAt}
 
 prefix_pair : (w n : ℕ) (xs : List ℕ) → n ≡ 2 * w → pair_at w (take n xs) ≡ pair_at w xs

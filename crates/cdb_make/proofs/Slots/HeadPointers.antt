@@ -31,18 +31,16 @@ pub pointers_none : (w at : ℕ) → [] ≡ pointers_from w at []
 unfolding pointers_from
 pointers_none w at = refl
 
--- one pointer more, of whatever has entries
-pub pointers_next : {X : Type 0} (f : X → List WordPair) (w at : ℕ) (xs : List X) (ps : List Pointer) (i place slots : ℕ) (x : X) → i < length xs → i < length ps → x ≡ get_or xs i x
-    → place ≡ at + 4 * w * sum_by length (map f (take i xs)) → slots ≡ 2 * length (f x) → map pointer_pair (take i ps) ≡ pointers_from w at (map slots_of (map f (take i xs)))
-    → map pointer_pair (take (i + 1) (slice_set ps i (record { place = place; slots = slots }))) ≡ pointers_from w at (map slots_of (map f (take (i + 1) xs)))
-pointers_next f w at xs ps i place slots x h hp is ep es before =
+-- one pointer more
+pub pointers_next : (w at : ℕ) (ls : List (List WordPair)) (ps : List Pointer) (i place slots : ℕ) (l : List WordPair) → i < length ls → i < length ps → l ≡ get_or ls i l → place ≡ at + 4 * w * sum_by length (take i ls) → slots ≡ 2 * length l
+    → map pointer_pair (take i ps) ≡ pointers_from w at (map slots_of (take i ls)) → map pointer_pair (take (i + 1) (slice_set ps i (record { place = place; slots = slots }))) ≡ pointers_from w at (map slots_of (take (i + 1) ls))
+pointers_next w at ls ps i place slots l h hp is ep es before =
     let p : WordPair = record { first = place; second = slots } in
-    let lists : map f (take (i + 1) xs) ≡ map f (take i xs) ++ f x ∷ [] =
-    ap (map f) (take_more xs i x h ∙ ap (λ y. take i xs ++ y ∷ []) (sym is)) ∙ map_push f (take i xs) x in
-    let last = pointer_one w (at + 4 * w * sum_by length (map f (take i xs))) place slots (f x) ep es in
+    let lists : take (i + 1) ls ≡ take i ls ++ l ∷ [] = take_more ls i l h ∙ ap (λ y. take i ls ++ y ∷ []) (sym is) in
+    let last = pointer_one w (at + 4 * w * sum_by length (take i ls)) place slots l ep es in
     ap (map pointer_pair) (take_more_set ps i (record { place = place; slots = slots }) hp) ∙ map_push pointer_pair (take i ps) (record { place = place; slots = slots })
-    ∙ ap (λ t. t ++ p ∷ []) before ∙ ap (λ t. pointers_from w at (map slots_of (map f (take i xs))) ++ t) (sym last)
-    ∙ sym (ap (λ ls. pointers_from w at (map slots_of ls)) lists ∙ pointers_append w at (map f (take i xs)) (f x ∷ []))
+    ∙ ap (λ t. t ++ p ∷ []) before ∙ ap (λ t. pointers_from w at (map slots_of (take i ls)) ++ t) (sym last)
+    ∙ sym (ap (λ v. pointers_from w at (map slots_of v)) lists ∙ pointers_append w at (take i ls) (l ∷ []))
 
 -- the lists so far and the next one are no longer than all
 pub sums_within : {X : Type 0} (f : X → List WordPair) (k : ℕ) (xs : List X) (i : ℕ) (x : X) → i < length xs → x ≡ get_or xs i x → k * sum_by length (map f (take i xs)) + k * length (f x) ≤ k * sum_by length (map f xs)

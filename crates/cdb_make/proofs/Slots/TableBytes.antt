@@ -73,3 +73,9 @@ table_room f w end place slots bytes size len xs i x ww h is es el eb all ep =
       slots = slots_fit;
       bytes = omega (arith, bytes_fit, sized, eb);
     }
+
+-- no tables have no bytes to write
+pub all_written : (w pos : ℕ) (ls : List (List WordPair)) (i : List ℕ → Type 0) → ls ≡ [] → AfterWrite pos (flat_map (table_bytes w) ls) i i
+all_written w pos ls i none =
+    let same : (a : List ℕ) → overwrite a pos (flat_map (table_bytes w) ls) ≡ a = λ a. ap (λ v. overwrite a pos (flat_map (table_bytes w) v)) none ∙ overwrite_nothing pos a in
+    record { no_other = λ b is. (b, is, sym (same b)); none_lost = λ a is. subst i (sym (same a)) is }

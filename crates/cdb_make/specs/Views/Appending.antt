@@ -1,5 +1,5 @@
 -- Whole records that are appended at once.
-use Rattle.std.specs.Prelude.{ℕ, ◌≡◌, ◌+◌, ◌<◌, ◌≤◌, true, false, List, [], ◌∷◌, ◌++◌, length, take, drop}
+use Rattle.std.specs.Prelude.{ℕ, ◌≡◌, ◌+◌, ◌*◌, ◌<◌, ◌≤◌, ◌⊎◌, true, false, List, [], ◌∷◌, ◌++◌, length, take, drop}
 use Rattle.std.specs.Prelude.{flat_map, sum_by}
 use Rattle.cdb_store.specs.declared.store.Store.{Ghosts}
 use Rattle.cdb_form.specs.declared.width.Width.{Ghosts as Widths}
@@ -10,8 +10,9 @@ use Rattle.cdb_make.specs.declared.fault.MakeFault.{MakeFault}
 use Rattle.cdb_make.specs.declared.fault.MakeFault.TheVariants.{Broken, Lookup, TooBig, NoMemory}
 use Rattle.cdb_make.specs.declared.fault.MakeFault.TheVariants.{Writing}
 use Rattle.cdb_make.specs.declared.maker.Maker.{Maker}
-use Rattle.cdb_make.specs.Views.Maker.{Holds, WhereHonest, HasStoreFailed, HasNotFailed}
-use Rattle.cdb_make.specs.Views.Maker.{StaysWhole}
+use Rattle.cdb_make.specs.Rolls.{Sees}
+use Rattle.cdb_make.specs.Views.Maker.{Holds, WhereHonest, HasStoreFailed, HasNotFailed, HasGone}
+use Rattle.cdb_make.specs.Views.Maker.{StaysWhole, Passes, gone_in, count_in}
 
 -- all whole records at the start of some bytes
 abbrev pub records_at : ℕ → List ℕ → List KeyValue
@@ -29,15 +30,23 @@ pub record AreFirst (w : ℕ) (bytes : List ℕ) (count size : ℕ) : Type 0 whe
   pub are : take size bytes ≡ flat_map (record_bytes w) (take count (records_at w bytes))
   pub rest : records_at w (drop size bytes) ≡ drop count (records_at w bytes)
 
--- all these records were written behind the others, and take so many bytes
+-- the size of the file of all records, those that go too
+abbrev pub full_size : {S L : Type 0} {s : Ghosts S} {l : Widths L} → Maker S L s l → ℕ
+full_size {l = l} m = m.roll.end + 4 * l.WORD * length m.roll.hashes.items
+
+-- all these records were written behind the others, and take so many bytes: no more were written, or
+-- those of a pass before them, if records go
 pub record AppendsAll {S L : Type 0} {s : Ghosts S} {l : Widths L} (old new : Maker S L s l)
     (rs : List KeyValue) (n : ℕ) : Type 0 where
   pub was : old.broken ≡ false
   pub whole : new.broken ≡ false
   pub size : n ≡ sum_by (record_size l.WORD) rs
   pub holds : (before : List KeyValue) → Holds old before → Holds new (before ++ rs)
-  pub written : s.written new.store ≡ s.written old.store + n
-  pub count : new.count ≡ old.count + length rs
+  pub written : (HasGone old → ⊥) → s.written new.store ≡ s.written old.store + n
+  pub each : (b : List ℕ) → s.image new.store b → (a : List ℕ) × s.image old.store a
+      × ((all : List KeyValue) → Sees old.roll all a
+      → (s.written new.store ≡ s.written old.store + n) ⊎ Passes old new (gone_in old) n all)
+  pub count : count_in new ≡ count_in old + length rs
   pub failures : HasNotFailed old new
 
 -- the file with these records behind the others would keep the limit, or would pass it
@@ -73,7 +82,8 @@ FailsAppending old new rs TooBig =
 FailsAppending old new rs NoMemory =
     AppendsSome old new rs (KeepsLimit old new) × HasNotFailed old new
 FailsAppending old new rs Writing =
-    AppendsSome old new rs (KeepsLimit old new) × HasStoreFailed old new × StaysWhole old new
+    (AppendsSome old new rs (KeepsLimit old new) × HasStoreFailed old new × StaysWhole old new)
+    ⊎ (HasGone old × (old.broken ≡ false) × (new.broken ≡ true) × HasStoreFailed old new)
 
 -- bytes were not written behind the records, since memory was refused or the store failed
 abbrev pub FailsWriting : {S L : Type 0} {s : Ghosts S} {l : Widths L} → Maker S L s l
@@ -82,11 +92,13 @@ FailsWriting old new NoMemory = HasNotFailed old new
 FailsWriting old new Writing = HasStoreFailed old new
 FailsWriting old new fault = ⊥
 
--- entries were made for these records, whose bytes were in the store
+-- these records were noted, whose bytes were in the store
 pub record Enters {S L : Type 0} {s : Ghosts S} {l : Widths L} (old new : Maker S L s l)
     (rs : List KeyValue) : Type 0 where
   pub whole : new.broken ≡ false
   pub holds : (before : List KeyValue) → Holds old before → Holds new (before ++ rs)
-  pub end : new.end ≡ old.end + sum_by (record_size l.WORD) rs
-  pub count : new.count ≡ old.count + length rs
+  pub end : new.roll.end ≡ old.roll.end + sum_by (record_size l.WORD) rs
+  pub count : length new.roll.hashes.items ≡ length old.roll.hashes.items + length rs
+  pub gone : new.roll.gone.count ≡ old.roll.gone.count
+  pub gone_size : new.roll.gone.size ≡ old.roll.gone.size
   pub limit : new.limit ≡ old.limit

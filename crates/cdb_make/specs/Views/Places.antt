@@ -1,7 +1,7 @@
 -- What a list of places holds.
 use Rattle.std.specs.Prelude.{ℕ, ◌+◌, ◌*◌, ◌^◌, ◌==◌, min, cond, List, [], ◌∷◌, vec_capacity}
 use Rattle.cdb_form.specs.declared.width.Width.{Ghosts as Widths}
-use Rattle.cdb_make.specs.declared.index.places.Places.{Places}
+use Rattle.cdb_make.specs.declared.places.Places.{Places}
 
 -- numbers by their lower and their upper halves; one without an upper half has none
 abbrev pub of_halves : List ℕ → List ℕ → List ℕ

@@ -1,16 +1,21 @@
-use Rattle.std.proofs.Common.{sym, arith, inl, inr, ◌<◌}
-use Rattle.cdb_form.specs.Format.Pair.{head_size}
+use Rattle.std.proofs.Common.{◌≡◌, ap, refl}
+use Rattle.std.specs.Prelude.{List, filter, map}
+use Rattle.cdb_form.specs.Format.Pair.{WordPair, head_size}
+use Rattle.cdb_form.specs.Format.Record.{record_size}
+use Rattle.cdb_form.specs.Format.Table.{file_entries, table_entries, in_table}
 use Rattle.cdb_form.specs.Views.Pairs.{key_values}
-use Rattle.cdb_make.proofs.Gaps.Places.{entries_closed, table_closed}
+use Rattle.cdb_make.specs.Laws.{lowered}
+use Rattle.cdb_make.specs.Spans.{left}
+use Rattle.cdb_make.proofs.Lowering.{left_lower}
 use Rattle.cdb_make.proofs.laws.taken_out.Goals as goal
 
 pub returns : goal.returns
+unfolding table_entries
 returns g c =
     let w = g.L.Width.WORD in
-    let above : 0 < g.L.Width.WORD = elim g.met.L.Width.four_or_eight [ inl four ↦ omega arith | inr eight ↦ omega arith ] in
-    let rs = key_values c.args._records.now in
-    let marks = c.args._marks.now in
+    let (rs, marks) = (key_values c.args._records.now, c.args._marks.now) in
+    let all : file_entries w (left marks rs) ≡ lowered 0 marks (map (record_size w) rs) (file_entries w rs) = left_lower w 0 (head_size w) marks rs (omega arith) in
     record {
-      places = sym (entries_closed w 0 (head_size w) (head_size w) above (omega arith) marks rs);
-      tables = λ n. table_closed n w marks rs above;
+      places = all;
+      tables = λ n. ap (λ (es : List WordPair). filter (in_table n) es) all;
     }

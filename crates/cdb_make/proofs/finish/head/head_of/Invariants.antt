@@ -1,8 +1,9 @@
-use Rattle.std.proofs.Common.{◌≡◌, ◌+◌, ◌*◌, take, length, map, sum_by}
+use Rattle.std.proofs.Common.{◌≡◌, ◌+◌, ◌*◌, List, take, length, map}
+use Rattle.std.specs.Prelude.{sum}
 use Rattle.cdb_form.specs.Format.File.{pointers_from}
+use Rattle.cdb_form.specs.Format.Pair.{WordPair}
 use Rattle.cdb_form.specs.Format.Table.{slots_of}
 use Rattle.cdb_form.specs.Views.Pairs.{pointer_pair}
-use Rattle.cdb_make.specs.Views.EntryList.{lists_entries}
 use Rattle.cdb_make.proofs.finish.head.head_of.Given as goal
 
 -- the pointers so far, and the place of the next table
@@ -10,6 +11,7 @@ abbrev pub invariant-loop-n : goal.invariant-loop-n
 invariant-loop-n g l =
     record {
       long : length l.pointers ≡ 256;
-      place : l.place ≡ l.end + 4 * g.L.Width.WORD * sum_by length (lists_entries (take l.n l.lists.each.items));
-      so_far : map pointer_pair (take l.n l.pointers) ≡ pointers_from g.L.Width.WORD l.end (map slots_of (lists_entries (take l.n l.lists.each.items)));
+      place : l.place ≡ l.end + 4 * g.L.Width.WORD * sum (take l.n l.counts);
+      so_far : (tables : List (List WordPair)) → l.counts ≡ map length tables
+          → map pointer_pair (take l.n l.pointers) ≡ pointers_from g.L.Width.WORD l.end (map slots_of (take l.n tables));
     }

@@ -1,12 +1,18 @@
-use Rattle.std.proofs.Common.{◌+◌, ◌*◌, ◌≤◌, length, sum_by, arith}
+use Rattle.std.proofs.Common.{◌≡◌, ◌∙◌, ◌+◌, ◌*◌, ◌≤◌, ℕ, List, length, map, sum_by, arith, ap}
+use Rattle.std.specs.Prelude.{sum}
 use Rattle.std.proofs.lemmas.List.Elements.{All-same}
+use Rattle.cdb_form.specs.Format.Pair.{WordPair}
 use Rattle.cdb_form.specs.Views.Pairs.{PairFits}
 use Rattle.cdb_form.proofs.Files.Sizes.{pointers_fit}
-use Rattle.cdb_make.specs.Views.Lists.{all_entries}
+use Rattle.cdb_make.proofs.Slots.Counts.{lists_of, lengths_of, sum_lengths}
 use Rattle.cdb_make.proofs.finish.head.write_pointers.Goals as goal
 
 pub write_head-requires-clause-fits : goal.write_head-requires-clause-fits
 write_head-requires-clause-fits g c =
-    let ls = all_entries c.args.lists.now in
-    let limit : c.args.end + 4 * g.L.Width.WORD * sum_by length ls ≤ g.L.Width.TOP = omega (arith, c.requires.limit, g.met.L.Width.greatest_fits.0) in
-    All-same (PairFits g.L.Width.TOP) _ _ c.head_of-head.ensures (pointers_fit g.L.Width.WORD c.args.end g.L.Width.TOP ls g.met.L.Width.four_or_eight limit)
+    let ns : List ℕ = c.args.counts.now in
+    let ls : List (List WordPair) = lists_of ns in
+    let is : ns ≡ map length ls = lengths_of ns in
+    let same : sum ns ≡ sum_by length ls = ap sum is ∙ sum_lengths ls in
+    let total : 4 * g.L.Width.WORD * sum ns ≡ 4 * g.L.Width.WORD * sum_by length ls = ap (λ (n : ℕ). 4 * g.L.Width.WORD * n) same in
+    let limit : c.args.end + 4 * g.L.Width.WORD * sum_by length ls ≤ g.L.Width.TOP = omega (arith, total, c.requires.limit, g.met.L.Width.greatest_fits.0) in
+    All-same (PairFits g.L.Width.TOP) _ _ (c.head_of-head.ensures ls is) (pointers_fit g.L.Width.WORD c.args.end g.L.Width.TOP ls g.met.L.Width.four_or_eight limit)

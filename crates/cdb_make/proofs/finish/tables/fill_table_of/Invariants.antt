@@ -3,16 +3,16 @@ use Rattle.cdb_form.specs.Format.Pair.{pair_size}
 use Rattle.cdb_form.specs.Format.Record.{AreBytes}
 use Rattle.cdb_form.specs.Format.Table.{filled_slots}
 use Rattle.cdb_form.specs.Views.UsedRuns.{AreRuns}
-use Rattle.cdb_make.specs.Views.EntryList.{list_entries}
+use Rattle.cdb_make.specs.Tables.{gathered_in}
 use Rattle.cdb_form.specs.Views.SlotBytes.{slots_in}
 use Rattle.cdb_make.proofs.finish.tables.fill_table_of.Given as goal
 
 -- the slots that the entries so far fill
 abbrev pub invariant-loop-n : goal.invariant-loop-n
 invariant-loop-n g l = record {
-  long : length l.bytes ≡ pair_size g.L.Width.WORD * (2 * length (list_entries l.list));
-  filled : slots_in g.L.Width.WORD l.bytes ≡ filled_slots (2 * length (list_entries l.list)) (take l.n (list_entries l.list));
-  noted : length l.runs ≡ 2 * length (list_entries l.list);
+  long : length l.bytes ≡ pair_size g.L.Width.WORD * (2 * length (gathered_in l.list));
+  filled : slots_in g.L.Width.WORD l.bytes ≡ filled_slots (2 * length (gathered_in l.list)) (take l.n (gathered_in l.list));
+  noted : length l.runs ≡ 2 * length (gathered_in l.list);
   bytes : AreBytes l.bytes;
   runs : AreRuns l.runs (slots_in g.L.Width.WORD l.bytes);
 }

@@ -1,13 +1,13 @@
 use Rattle.std.proofs.Common.{arith, rules, ◌≡◌, length}
 use Rattle.cdb_form.proofs.Files.Sizes.{slots_within}
-use Rattle.cdb_make.specs.Views.EntryList.{list_entries}
+use Rattle.cdb_make.specs.Tables.{gathered_in}
 use Rattle.cdb_make.proofs.Slots.TableBytes.{nothing_written}
 use Rattle.std.proofs.lemmas.Grind.{common_steps}
 use Rattle.cdb_make.proofs.finish.tables.write_table.Goals as goal
 
 pub returns-then-is_empty-clause-ok : goal.returns-then-is_empty-clause-ok
-returns-then-is_empty-clause-ok g c = nothing_written g.L.Width.WORD c.args.place (list_entries c.args.list.now) (g.S.Store.image c.args.store.now) (let none : length c.args.bytes.now ≡ 0 = search (rules, c.if-is_empty.ensures, c.if-is_empty.true) in
-    let few = slots_within g.L.Width.WORD (length (list_entries c.args.list.now)) g.met.L.Width.four_or_eight in
+returns-then-is_empty-clause-ok g c = nothing_written g.L.Width.WORD c.args.place (gathered_in c.args.list.now) (g.S.Store.image c.args.store.now) (let none : length c.args.bytes.now ≡ 0 = search (rules, c.if-is_empty.ensures, c.if-is_empty.true) in
+    let few = slots_within g.L.Width.WORD (length (gathered_in c.args.list.now)) g.met.L.Width.four_or_eight in
     omega (arith, c.requires.bytes, none, few))
 
 pub returns-clause-torn : goal.returns-clause-torn

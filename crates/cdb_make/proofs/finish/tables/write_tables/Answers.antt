@@ -1,145 +1,103 @@
-use Rattle.std.proofs.Common.{arith, refl, ◌≡◌, ◌∙◌, ◌+◌, ◌*◌, ◌<◌, ◌≤◌, ◌++◌, ℕ, List, length, take, get_or, flat_map, sum_by, ap, sym, subst, length-append, length-drop}
-use Rattle.std.proofs.lemmas.List.{take_all, length-take-le, get_or-map, length-map}
-use Rattle.std.proofs.lemmas.List.Elements.{All-same}
+use Rattle.std.proofs.Common.{arith, refl, ◌≡◌, ◌∙◌, ◌+◌, ◌*◌, ◌<◌, ◌≤◌, ◌++◌, ℕ, List, [], length, flat_map, sum_by, ap, sym, subst, max}
+use Rattle.std.proofs.lemmas.List.Concat.{flat_map-append}
 use Rattle.cdb_store.specs.Images.{AfterWrite, AfterTornWrite, AreSized}
 use Rattle.cdb_store.proofs.Moves.{write_more, torn_behind, torn_wider, torn_from_write}
-use Rattle.cdb_form.specs.Format.Pair.{pair_size}
+use Rattle.cdb_form.specs.Format.Pair.{WordPair}
 use Rattle.cdb_make.specs.Parts.{table_bytes}
-use Rattle.cdb_make.specs.Views.EntryList.{list_entries, lists_entries}
-use Rattle.cdb_make.proofs.Slots.HeadPointers.{sums_more}
-use Rattle.cdb_make.proofs.Slots.TableBytes.{table_room, tables_next, length-tables}
-use Rattle.std.proofs.lemmas.Grind.{common_steps}
+use Rattle.cdb_make.specs.Tables.{roll_entries, roll_tables, tables_of, all_gathered}
+use Rattle.cdb_make.proofs.Slots.TableBytes.{length-tables, all_written}
+use Rattle.cdb_make.proofs.Tables.{group_room, group_runs, group_next, group_sum, no_tables}
 use Rattle.cdb_make.proofs.finish.tables.write_tables.Goals as goal
 
-pub overflow_mul-count : goal.overflow_mul-count
-overflow_mul-count g c =
-    let r = table_room list_entries g.L.Width.WORD c.args.end c.loop-list.place (length c.args.runs.now) (length c.args.bytes.now) c.pair_size-size.result c.len-count.result c.args.lists.now c.loop-list.list-index c.list-item.result
-    g.met.L.Width.four_or_eight (omega arith) c.list-item.is c.pair_size-size.ensures c.len-count.ensures c.requires.bytes c.requires.runs c.loop-list.invariant.place in
-    omega (arith, r.few, c.requires.limit, g.met.L.Width.greatest_fits.1)
-
-pub overflow_mul-bytes : goal.overflow_mul-bytes
-overflow_mul-bytes g c =
-    let r = table_room list_entries g.L.Width.WORD c.args.end c.loop-list.place (length c.args.runs.now) (length c.args.bytes.now) c.pair_size-size.result c.len-count.result c.args.lists.now c.loop-list.list-index c.list-item.result
-    g.met.L.Width.four_or_eight (omega arith) c.list-item.is c.pair_size-size.ensures c.len-count.ensures c.requires.bytes c.requires.runs c.loop-list.invariant.place in
-    omega (arith, r.within, c.requires.limit, g.met.L.Width.greatest_fits.1)
-
-pub slice_bounds-bytes-end : goal.slice_bounds-bytes-end
-slice_bounds-bytes-end g c =
-    let r = table_room list_entries g.L.Width.WORD c.args.end c.loop-list.place (length c.args.runs.now) (length c.args.bytes.now) c.pair_size-size.result c.len-count.result c.args.lists.now c.loop-list.list-index c.list-item.result
-    g.met.L.Width.four_or_eight (omega arith) c.list-item.is c.pair_size-size.ensures c.len-count.ensures c.requires.bytes c.requires.runs c.loop-list.invariant.place in
-    omega (arith, r.bytes, c.loop-list.invariant.bytes)
-
-pub slice_bounds-bytes-end-in-loop-list : goal.slice_bounds-bytes-end-in-loop-list
-slice_bounds-bytes-end-in-loop-list g c =
-    let r = table_room list_entries g.L.Width.WORD c.args.end c.loop-list.place (length c.args.runs.now) (length c.args.bytes.now) c.pair_size-size.result c.len-count.result c.args.lists.now c.loop-list.list-index c.list-item.result
-    g.met.L.Width.four_or_eight (omega arith) c.list-item.is c.pair_size-size.ensures c.len-count.ensures c.requires.bytes c.requires.runs c.loop-list.invariant.place in
-    sym (length-take-le (c.pair_size-size.result * (2 * c.len-count.result)) c.loop-list.bytes (omega (arith, r.bytes, c.loop-list.invariant.bytes)))
-
-pub write_table-requires-clause-fits : goal.write_table-requires-clause-fits
-write_table-requires-clause-fits g c =
-    let x = c.list-item.result in
-    let i : ℕ = c.loop-list.list-index in
-    let lt : i < length (lists_entries c.args.lists.now) = simp length-map (omega arith) in
-    let here : list_entries x ≡ get_or (lists_entries c.args.lists.now) i (list_entries x) = ap list_entries c.list-item.is ∙ sym (get_or-map list_entries c.args.lists.now i x (list_entries x) (omega arith)) in
-    All-same (λ e. e.second ≤ g.L.Width.TOP) _ _ here (c.requires.fits i (list_entries x) lt)
-
-pub write_table-requires-clause-limit : goal.write_table-requires-clause-limit
-write_table-requires-clause-limit g c =
-    let r = table_room list_entries g.L.Width.WORD c.args.end c.loop-list.place (length c.args.runs.now) (length c.args.bytes.now) c.pair_size-size.result c.len-count.result c.args.lists.now c.loop-list.list-index c.list-item.result
-    g.met.L.Width.four_or_eight (omega arith) c.list-item.is c.pair_size-size.ensures c.len-count.ensures c.requires.bytes c.requires.runs c.loop-list.invariant.place in
-    let cut : length (take (c.pair_size-size.result * (2 * c.len-count.result)) c.loop-list.bytes) ≡ c.pair_size-size.result * (2 * c.len-count.result) = length-take-le (c.pair_size-size.result * (2 * c.len-count.result)) c.loop-list.bytes (omega (arith, r.bytes, c.loop-list.invariant.bytes)) in
-    omega (arith, cut, r.within, c.requires.limit)
-
-pub write_table-requires-clause-room : goal.write_table-requires-clause-room
-write_table-requires-clause-room g c =
-    let r = table_room list_entries g.L.Width.WORD c.args.end c.loop-list.place (length c.args.runs.now) (length c.args.bytes.now) c.pair_size-size.result c.len-count.result c.args.lists.now c.loop-list.list-index c.list-item.result
-    g.met.L.Width.four_or_eight (omega arith) c.list-item.is c.pair_size-size.ensures c.len-count.ensures c.requires.bytes c.requires.runs c.loop-list.invariant.place in
-    let cut : length (take (c.pair_size-size.result * (2 * c.len-count.result)) c.loop-list.bytes) ≡ c.pair_size-size.result * (2 * c.len-count.result) = length-take-le (c.pair_size-size.result * (2 * c.len-count.result)) c.loop-list.bytes (omega (arith, r.bytes, c.loop-list.invariant.bytes)) in
-    omega (arith, cut, r.within, c.requires.room, c.loop-list.invariant.room)
-
-pub returns-in_err-write_table-clause-torn : goal.returns-in_err-write_table-clause-torn
-returns-in_err-write_table-clause-torn g c =
-    let r = table_room list_entries g.L.Width.WORD c.args.end c.loop-list.place (length c.args.runs.now) (length c.args.bytes.now) c.pair_size-size.result c.len-count.result c.args.lists.now c.loop-list.list-index c.list-item.result
-    g.met.L.Width.four_or_eight (omega arith) c.list-item.is c.pair_size-size.ensures c.len-count.ensures c.requires.bytes c.requires.runs c.loop-list.invariant.place in
-    let cut : length (take (c.pair_size-size.result * (2 * c.len-count.result)) c.loop-list.bytes) ≡ c.pair_size-size.result * (2 * c.len-count.result) = length-take-le (c.pair_size-size.result * (2 * c.len-count.result)) c.loop-list.bytes (omega (arith, r.bytes, c.loop-list.invariant.bytes)) in
-    let w : ℕ = g.L.Width.WORD in
-    let ls = c.args.lists.now in
-    let i : ℕ = c.loop-list.list-index in
-    let before : List ℕ = flat_map (table_bytes w) (lists_entries (take i ls)) in
-    let len : length before ≡ 4 * w * sum_by length (lists_entries (take i ls)) = length-tables w (lists_entries (take i ls)) in
-    let here : c.loop-list.place ≡ c.args.end + length before = omega (arith, len, c.loop-list.invariant.place) in
-    let sized : AreSized (g.S.Store.size c.args.store.now) (g.S.Store.image c.args.store.now) = record { each = g.met.S.Store.image_size c.args.store.now } in
-    let both : AfterTornWrite c.args.end (length before + length (take (c.pair_size-size.result * (2 * c.len-count.result)) c.loop-list.bytes)) (g.S.Store.image c.args.store.now) (g.S.Store.image c.write_table.new.store) =
-    torn_behind here refl c.requires.inside sized c.loop-list.invariant.tables c.write_table.ensures.torn in
-    torn_wider c.args.end _ _ _ _ (omega (arith, cut, here, r.within)) both
-
-pub overflow_add-place : goal.overflow_add-place
-overflow_add-place g c =
-    let r = table_room list_entries g.L.Width.WORD c.args.end c.loop-list.place (length c.args.runs.now) (length c.args.bytes.now) c.pair_size-size.result c.len-count.result c.args.lists.now c.loop-list.list-index c.list-item.result
-    g.met.L.Width.four_or_eight (omega arith) c.list-item.is c.pair_size-size.ensures c.len-count.ensures c.requires.bytes c.requires.runs c.loop-list.invariant.place in
-    let cut : length (take (c.pair_size-size.result * (2 * c.len-count.result)) c.loop-list.bytes) ≡ c.pair_size-size.result * (2 * c.len-count.result) = length-take-le (c.pair_size-size.result * (2 * c.len-count.result)) c.loop-list.bytes (omega (arith, r.bytes, c.loop-list.invariant.bytes)) in
-    omega (arith, cut, c.write_table.auto.bytes, r.within, c.requires.limit, g.met.L.Width.greatest_fits.1)
-
-pub loop-list-preserved : goal.loop-list-preserved
-loop-list-preserved g c =
-    let r = table_room list_entries g.L.Width.WORD c.args.end c.loop-list.place (length c.args.runs.now) (length c.args.bytes.now) c.pair_size-size.result c.len-count.result c.args.lists.now c.loop-list.list-index c.list-item.result
-    g.met.L.Width.four_or_eight (omega arith) c.list-item.is c.pair_size-size.ensures c.len-count.ensures c.requires.bytes c.requires.runs c.loop-list.invariant.place in
-    let cut : length (take (c.pair_size-size.result * (2 * c.len-count.result)) c.loop-list.bytes) ≡ c.pair_size-size.result * (2 * c.len-count.result) = length-take-le (c.pair_size-size.result * (2 * c.len-count.result)) c.loop-list.bytes (omega (arith, r.bytes, c.loop-list.invariant.bytes)) in
-    let w : ℕ = g.L.Width.WORD in
-    let ls = c.args.lists.now in
-    let i : ℕ = c.loop-list.list-index in
-    let before : List ℕ = flat_map (table_bytes w) (lists_entries (take i ls)) in
-    let len : length before ≡ 4 * w * sum_by length (lists_entries (take i ls)) = length-tables w (lists_entries (take i ls)) in
-    let here : c.loop-list.place ≡ c.args.end + length before = omega (arith, len, c.loop-list.invariant.place) in
-    let sized : AreSized (g.S.Store.size c.args.store.now) (g.S.Store.image c.args.store.now) = record { each = g.met.S.Store.image_size c.args.store.now } in
-    let x = c.list-item.result in
-    let more = sums_more list_entries (4 * w) ls i x (omega arith) c.list-item.is in
-    let new : length c.write_table.new.bytes ≡ c.pair_size-size.result * (2 * c.len-count.result) = omega (arith, cut, c.write_table.auto.bytes) in
-    let count : 4 * w * c.len-count.result ≡ 4 * w * length (list_entries x) = ap (λ (n : ℕ). 4 * w * n) c.len-count.ensures in
-    let wrote : AfterWrite c.args.end (before ++ table_bytes w (list_entries x)) (g.S.Store.image c.args.store.now) (g.S.Store.image c.write_table.new.store) =
-    write_more here c.requires.inside sized c.loop-list.invariant.tables c.in_ok-write_table.ensures.ok in
+pub loop-group-init : goal.loop-group-init
+loop-group-init g c =
+    let none : tables_of (roll_entries c.args.roll.now) 0 (32 * 0) ≡ [] = no_tables (roll_entries c.args.roll.now) in
+    let sum : 4 * g.L.Width.WORD * sum_by length (tables_of (roll_entries c.args.roll.now) 0 (32 * 0)) ≡ 0 = ap (λ v. 4 * g.L.Width.WORD * sum_by length v) none ∙ omega arith in
     record {
-      place = omega (arith, more, new, count, r.table, c.loop-list.invariant.place);
-      runs = omega (arith, c.write_table.auto.runs, c.loop-list.invariant.runs);
-      bytes = simp (length-append, length-drop) (omega (arith, new, r.bytes, c.loop-list.invariant.bytes));
-      tables = subst (λ (v : List ℕ). AfterWrite c.args.end v (g.S.Store.image c.args.store.now) (g.S.Store.image c.write_table.new.store)) (tables_next list_entries w ls i x (omega arith) c.list-item.is) wrote;
-      size = omega (arith, cut, new, c.loop-list.invariant.size, c.in_ok-write_table.ensures.ok_size);
-      written = omega (arith, cut, new, c.loop-list.invariant.written, c.in_ok-write_table.ensures.written);
-      room = omega (arith, c.loop-list.invariant.room, c.write_table.ensures.room);
-      failures = omega (arith, c.loop-list.invariant.failures, c.write_table.ensures.cause.later);
+      place = omega (arith, sum);
+      lists = c.requires.lists;
+      rooms = refl;
+      runs = refl;
+      bytes = refl;
+      tables = all_written g.L.Width.WORD c.args.end _ (g.S.Store.image c.args.store.now) none;
+      size = omega (arith, c.requires.inside);
+      written = refl;
+      room = omega arith;
+      failures = omega arith;
+      unwritten = omega arith;
+    }
+
+pub gather-requires-clause-room : goal.gather-requires-clause-room
+gather-requires-clause-room g c = group_room (roll_entries c.args.roll.now) _ _ c.loop-group.group (length c.loop-group.lists) c.loop-group.invariant.lists (omega arith) refl
+    (λ i k lt below. omega (arith, c.requires.gathers.each i k lt below, ap (λ (v : List ℕ). Rattle.std.proofs.Common.get_or v k 0) c.loop-group.invariant.rooms))
+
+pub write_group-requires-clause-runs : goal.write_group-requires-clause-runs
+write_group-requires-clause-runs g c =
+    subst (λ (n : ℕ). Rattle.std.specs.Prelude.All (λ (list : List WordPair). 2 * length list ≤ n) (all_gathered c.gather.new.gathered)) (sym c.loop-group.invariant.runs)
+    (group_runs (roll_entries c.args.roll.now) (all_gathered c.gather.new.gathered) c.loop-group.group (length c.loop-group.lists) (length c.args.runs.now) c.gather.ensures.all c.loop-group.invariant.lists (omega arith) c.requires.runs)
+
+pub write_group-requires-clause-limit : goal.write_group-requires-clause-limit
+write_group-requires-clause-limit g c =
+    let s = group_sum (4 * g.L.Width.WORD) (roll_entries c.args.roll.now) (all_gathered c.gather.new.gathered) c.loop-group.group (length c.loop-group.lists) c.gather.ensures.all c.loop-group.invariant.lists (omega arith) in
+    omega (arith, s.0, c.loop-group.invariant.place, c.requires.limit)
+
+pub write_group-requires-clause-room : goal.write_group-requires-clause-room
+write_group-requires-clause-room g c =
+    let s = group_sum (4 * g.L.Width.WORD) (roll_entries c.args.roll.now) (all_gathered c.gather.new.gathered) c.loop-group.group (length c.loop-group.lists) c.gather.ensures.all c.loop-group.invariant.lists (omega arith) in
+    omega (arith, s.0, c.loop-group.invariant.place, c.loop-group.invariant.room, c.requires.room)
+
+pub returns-in_err-place-clause-torn : goal.returns-in_err-place-clause-torn
+returns-in_err-place-clause-torn g c =
+    let w : ℕ = g.L.Width.WORD in
+    let es : List WordPair = roll_entries c.args.roll.now in
+    let ls : List (List WordPair) = all_gathered c.gather.new.gathered in
+    let s = group_sum (4 * w) es ls c.loop-group.group (length c.loop-group.lists) c.gather.ensures.all c.loop-group.invariant.lists (omega arith) in
+    let before : List ℕ = flat_map (table_bytes w) (tables_of es 0 (32 * c.loop-group.group)) in
+    let len : length before ≡ 4 * w * sum_by length (tables_of es 0 (32 * c.loop-group.group)) = length-tables w (tables_of es 0 (32 * c.loop-group.group)) in
+    let here : c.loop-group.place ≡ c.args.end + length before = omega (arith, len, c.loop-group.invariant.place) in
+    let sized : AreSized (g.S.Store.size c.args.store.now) (g.S.Store.image c.args.store.now) = record { each = g.met.S.Store.image_size c.args.store.now } in
+    let both : AfterTornWrite c.args.end (length before + 4 * w * sum_by length ls) (g.S.Store.image c.args.store.now) (g.S.Store.image c.write_group.new.store) =
+    torn_behind here refl c.requires.inside sized c.loop-group.invariant.tables c.write_group.ensures.torn in
+    torn_wider c.args.end _ _ _ _ (omega (arith, len, s.0)) both
+
+pub loop-group-preserved : goal.loop-group-preserved
+loop-group-preserved g c =
+    let w : ℕ = g.L.Width.WORD in
+    let es : List WordPair = roll_entries c.args.roll.now in
+    let group : ℕ = c.loop-group.group in
+    let ls : List (List WordPair) = all_gathered c.gather.new.gathered in
+    let done : List (List WordPair) = tables_of es 0 (32 * group) in
+    let inv = c.loop-group.invariant in
+    let s = group_sum (4 * w) es ls group (length c.loop-group.lists) c.gather.ensures.all inv.lists (omega arith) in
+    let before : List ℕ = flat_map (table_bytes w) done in
+    let len : length before ≡ 4 * w * sum_by length done = length-tables w done in
+    let here : c.loop-group.place ≡ c.args.end + length before = omega (arith, len, inv.place) in
+    let sized : AreSized (g.S.Store.size c.args.store.now) (g.S.Store.image c.args.store.now) = record { each = g.met.S.Store.image_size c.args.store.now } in
+    let k = c.in_ok-place.ensures in
+    let wrote : AfterWrite c.args.end (before ++ flat_map (table_bytes w) ls) (g.S.Store.image c.args.store.now) (g.S.Store.image c.write_group.new.store) =
+    write_more here c.requires.inside sized inv.tables k.ok in
+    let next : before ++ flat_map (table_bytes w) ls ≡ flat_map (table_bytes w) (tables_of es 0 (32 * (group + 1))) =
+    sym (flat_map-append (table_bytes w) done ls) ∙ ap (flat_map (table_bytes w)) (group_next es ls group (length c.loop-group.lists) c.gather.ensures.all inv.lists) in
+    record {
+      place = omega (arith, s.1, k.end, inv.place);
+      lists = c.gather.ensures.long ∙ inv.lists;
+      rooms = c.gather.ensures.rooms ∙ inv.rooms;
+      runs = c.write_group.auto.runs ∙ inv.runs;
+      bytes = c.write_group.auto.bytes ∙ inv.bytes;
+      tables = subst (λ (v : List ℕ). AfterWrite c.args.end v (g.S.Store.image c.args.store.now) (g.S.Store.image c.write_group.new.store)) next wrote;
+      size = omega (arith, inv.size, k.ok_size, k.end);
+      written = omega (arith, inv.written, k.written, k.end);
+      room = omega (arith, inv.room, c.write_group.ensures.room);
+      failures = omega (arith, inv.failures, c.write_group.ensures.failures);
+      unwritten = omega (arith, inv.unwritten, c.write_group.ensures.unwritten);
     }
 
 pub returns-clause-torn : goal.returns-clause-torn
 returns-clause-torn g c =
     let w : ℕ = g.L.Width.WORD in
-    let ls = c.args.lists.now in
-    let i : ℕ = c.loop-list.list-index in
-    let whole : take i ls ≡ ls = take_all i ls (omega arith) in
-    let len : length (flat_map (table_bytes w) (lists_entries (take i ls))) ≡ 4 * w * sum_by length (lists_entries ls) = length-tables w (lists_entries (take i ls)) ∙ ap (λ v. 4 * w * sum_by length (lists_entries v)) whole in
+    let es : List WordPair = roll_entries c.args.roll.now in
+    let all : 32 * c.loop-group.group ≡ 256 = omega arith in
     let sized : AreSized (g.S.Store.size c.args.store.now) (g.S.Store.image c.args.store.now) = record { each = g.met.S.Store.image_size c.args.store.now } in
-    subst (λ (n : ℕ). AfterTornWrite c.args.end n (g.S.Store.image c.args.store.now) (g.S.Store.image c.loop-list.store)) len (torn_from_write c.requires.inside sized c.loop-list.invariant.tables)
-
-pub returns-clause-ok_size : goal.returns-clause-ok_size
-returns-clause-ok_size g c = grind (arith, common_steps)
-
-pub loop-list-init : goal.loop-list-init
-loop-list-init g c = grind (arith, common_steps)
-
-pub write_table-requires-clause-bytes : goal.write_table-requires-clause-bytes
-write_table-requires-clause-bytes g c =
-    let r = table_room list_entries g.L.Width.WORD c.args.end c.loop-list.place (length c.args.runs.now) (length c.args.bytes.now) c.pair_size-size.result c.len-count.result c.args.lists.now c.loop-list.list-index c.list-item.result
-    g.met.L.Width.four_or_eight (omega arith) c.list-item.is c.pair_size-size.ensures c.len-count.ensures c.requires.bytes c.requires.runs c.loop-list.invariant.place in
-    length-take-le (c.pair_size-size.result * (2 * c.len-count.result)) c.loop-list.bytes (omega (arith, r.bytes, c.loop-list.invariant.bytes))
-    ∙ ap (λ (n : ℕ). n * (2 * c.len-count.result)) c.pair_size-size.ensures ∙ ap (λ (n : ℕ). pair_size g.L.Width.WORD * (2 * n)) c.len-count.ensures
-
-pub write_table-requires-clause-runs : goal.write_table-requires-clause-runs
-write_table-requires-clause-runs g c =
-    let r = table_room list_entries g.L.Width.WORD c.args.end c.loop-list.place (length c.args.runs.now) (length c.args.bytes.now) c.pair_size-size.result c.len-count.result c.args.lists.now c.loop-list.list-index c.list-item.result
-    g.met.L.Width.four_or_eight (omega arith) c.list-item.is c.pair_size-size.ensures c.len-count.ensures c.requires.bytes c.requires.runs c.loop-list.invariant.place in
-    omega (arith, r.slots, c.len-count.ensures, c.loop-list.invariant.runs)
-
-pub returns-clause-written : goal.returns-clause-written
-returns-clause-written g c = grind (arith, common_steps)
-
-pub returns-clause-ok : goal.returns-clause-ok
-returns-clause-ok g c = grind (arith, common_steps)
+    let len : length (flat_map (table_bytes w) (tables_of es 0 (32 * c.loop-group.group))) ≡ 4 * w * sum_by length (roll_tables c.args.roll.now) =
+    length-tables w (tables_of es 0 (32 * c.loop-group.group)) ∙ ap (λ (n : ℕ). 4 * w * sum_by length (tables_of es 0 n)) all in
+    subst (λ (n : ℕ). AfterTornWrite c.args.end n (g.S.Store.image c.args.store.now) (g.S.Store.image c.loop-group.store)) len (torn_from_write c.requires.inside sized c.loop-group.invariant.tables)

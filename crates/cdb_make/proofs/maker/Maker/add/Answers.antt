@@ -1,37 +1,127 @@
-use Rattle.std.proofs.Common.{arith, refl, subst, ◌+◌, ◌<◌, ◌≤◌, ◌⊎◌, ℕ, vec_capacity, rules}
-use Rattle.std.proofs.lemmas.Result.{err_from_is_err_and}
-use Rattle.cdb_form.specs.Format.Record.{KeyValue, record_size}
-use Rattle.cdb_make.specs.Views.Lists.{entry_count, entry_room}
-use Rattle.cdb_make.specs.Views.Maker.{HasRoom}
-use Rattle.cdb_make.proofs.Making.Carrying.{carries_kept, rests_same}
-use Rattle.cdb_make.proofs.Making.Puts.{adds_more, adds_none}
-use Rattle.std.proofs.lemmas.Grind.{common_steps}
+use Rattle.std.proofs.Common.{◌≡◌, ◌+◌, ◌*◌, ◌∷◌, ◌++◌, [], ℕ, false, List, length, take, inl, inr, Err, refl, ap, subst, ◌∙◌, arith}
+use Rattle.std.proofs.lemmas.List.{length_push}
+use Rattle.cdb_store.proofs.Moves.{kept_torn}
+use Rattle.cdb_form.specs.Format.Pair.{head_size}
+use Rattle.cdb_form.specs.Format.Record.{KeyValue, IsRecord, record_size}
+use Rattle.cdb_form.proofs.Files.Sizes.{length-record_bytes}
+use Rattle.cdb_make.specs.Marks.{gone_of, found_of}
+use Rattle.cdb_make.specs.Spans.{AreOf}
+use Rattle.cdb_make.specs.Views.Places.{places_in}
+use Rattle.cdb_make.proofs.Bytes.Written.{on_any_err}
+use Rattle.cdb_make.proofs.Looking.{sees_same}
+use Rattle.cdb_make.proofs.Spans.{spans_of, place_low}
+use Rattle.cdb_make.proofs.Rolls.{add_fails, none_more, sees_kept, sees_added, more_slots, comes_write}
 use Rattle.cdb_make.proofs.maker.Maker.add.Goals as goal
 
-pub returns-in_err-self-clause-fails : goal.returns-in_err-self-clause-fails
-returns-in_err-self-clause-fails g c =
-    let p = err_from_is_err_and c.from_residual.result c.from_residual.ensures.1 in
-    let m = c.args.self.now in
-    let e = c.in_err-self.ensures in
-    let r : KeyValue = record { key = c.args.key.now; value = c.args.value.now } in
-    let fit : HasRoom {s = g.S.Store} {l = g.L.Width} m r = omega (arith, c.size.ensures.is, c.if-not-has_room.ensures.room refl) in
-    rw (p.1, p.2) (adds_none {s = g.S.Store} {l = g.L.Width} m _ r _ _ _ fit (record { was = c.requires.whole; whole = c.requires.whole; keeps = carries_kept {s = g.S.Store} {l = g.L.Width} m _ c.requires.whole refl e.entries e.kept })
-    c.append_with_entry.ensures.comes (record { end = refl; count = refl; limit = refl }) c.append_with_entry.ensures.room c.append_with_entry.ensures.unwritten
-    (λ why. subst (λ (h : ℕ). ((entry_room m.lists h ≤ entry_count m.lists h) ⊎ (vec_capacity m.gaps ≤ entry_count m.lists h)) ⊎ (g.S.Store.room m.store < m.end + record_size g.L.Width.WORD r)) c.requires.hash why) e.fails e.not_written)
+pub returns-in_err-append_record-clause-fails : goal.returns-in_err-append_record-clause-fails
+returns-in_err-append_record-clause-fails g c =
+    let h = c.in_err-append_record.ensures.within in
+    let e = c.from_residual-in_err-append_record.ensures in
+    add_fails c.from_residual-in_err-append_record.result c.in_err-append_record.field-0.0 _ _ _ _ _ _ _ e.1
+    (λ is. let m = h.memory (ap Err is) in (m.written, m.failures, inr (let p = h.past_room (ap Err is) in omega (arith, p, c.reserve.ensures.same.end))))
+    (λ is. (h.cause.failed (ap Err is), h.unwritten.failed (ap Err is)))
+
+pub returns-in_err-append_record-clause-stays : goal.returns-in_err-append_record-clause-stays
+returns-in_err-append_record-clause-stays g c =
+    let m = c.args.self.now.roll in
+    let same = c.reserve.ensures.same in
+    on_any_err c.from_residual-in_err-append_record.result (record {
+      same = same;
+      marks = c.reserve.ensures.marks;
+      gone = c.reserve.ensures.gone;
+      found = c.reserve.ensures.found;
+      broken = refl;
+      goes = record {
+        each = λ b is.
+            let h = c.append_record.ensures.within.torn.no_other b is in (
+              h.0,
+              h.1,
+              λ all sees. (
+                all,
+                sees_kept m c.reserve.new.self all h.0 b same.hashes same.places same.end (subst (λ (n : ℕ). take n b ≡ take n h.0) same.end h.2.before) sees,
+                refl,
+              ),
+            );
+      };
+    })
+
+pub returns-in_err-append_record-clause-follows : goal.returns-in_err-append_record-clause-follows
+returns-in_err-append_record-clause-follows g c =
+    let m = c.args.self.now.roll in
+    let h = c.append_record.ensures.within in
+    let spans = spans_of (head_size g.L.Width.WORD) m.end (places_in m.places) m.spans in
+    record {
+      comes = comes_write h.torn;
+      head = kept_torn 0 (head_size g.L.Width.WORD) (inl (omega (arith, c.reserve.ensures.same.end, Rattle.cdb_make.proofs.Spans.end_low (head_size g.L.Width.WORD) spans.sizes, spans.of.ends))) h.torn;
+      limit = refl;
+      lazy = refl;
+      room = h.room;
+      failures = h.cause.later;
+      unwritten = h.unwritten.later;
+    }
+
+pub returns-clause-follows : goal.returns-clause-follows
+returns-clause-follows g c =
+    let m = c.args.self.now.roll in
+    let h = c.append_record.ensures.within in
+    let spans = spans_of (head_size g.L.Width.WORD) m.end (places_in m.places) m.spans in
+    record {
+      comes = comes_write h.torn;
+      head = kept_torn 0 (head_size g.L.Width.WORD) (inl (omega (arith, c.reserve.ensures.same.end, Rattle.cdb_make.proofs.Spans.end_low (head_size g.L.Width.WORD) spans.sizes, spans.of.ends))) h.torn;
+      limit = refl;
+      lazy = refl;
+      room = h.room;
+      failures = h.cause.later;
+      unwritten = h.unwritten.later;
+    }
 
 pub returns-clause-adds : goal.returns-clause-adds
 returns-clause-adds g c =
     let m = c.args.self.now in
-    let e = c.in_ok-self.ensures in
+    let w : ℕ = g.L.Width.WORD in
     let r : KeyValue = record { key = c.args.key.now; value = c.args.value.now } in
-    let fit : HasRoom {s = g.S.Store} {l = g.L.Width} m r = omega (arith, c.size.ensures.is, c.if-not-has_room.ensures.room refl) in
-    adds_more {s = g.S.Store} {l = g.L.Width} m _ r (record { key = λ k. omega (arith, c.type_inv.key k); value = λ k. omega (arith, c.type_inv.value k) }) c.requires.whole fit e.marked e.written c.append_with_entry.ensures.comes
+    let same = c.reserve.ensures.same in
+    let size : c.pair_size.result + length c.args.key.now + length c.args.value.now ≡ record_size w r = omega (arith, c.pair_size.ensures) in
+    let is_record : IsRecord r = record { key = λ k. omega (arith, c.type_inv.key k); value = λ k. omega (arith, c.type_inv.value k) } in
+    record {
+      goes = record {
+        each = λ b is.
+            let h = c.in_ok-append_record.ensures.ok.images.no_other b is in
+            let long : length h.0 ≡ g.S.Store.size m.store = g.met.S.Store.image_size m.store h.0 h.1 in (
+              h.0,
+              h.1,
+              λ all sees. (
+                all ++ r ∷ [],
+                sees_added c.reserve.new.self c.push.new.self r all h.0 b is_record (omega (arith, m.inside, same.end)) (c.push.ensures.hashes ∙ ap (λ (v : ℕ). c.reserve.new.self.hashes.items ++ v ∷ []) c.requires.hash)
+                    (λ sizes of. subst (λ (n : ℕ). AreOf (head_size w) (places_in c.push.new.self.places) c.push.new.self.end (sizes ++ n ∷ [])) size (c.push.ensures.of sizes of)) h.2
+                    (sees_same m.roll c.reserve.new.self all h.0 same sees),
+                refl,
+              ),
+            );
+      };
+      gone = c.push.ensures.gone ∙ ap (λ v. gone_of v ++ _) c.reserve.ensures.marks;
+      found = c.push.ensures.found ∙ ap (λ v. found_of v ++ _) c.reserve.ensures.marks;
+      hashes = c.push.ensures.hashes ∙ ap (λ (v : List ℕ). v ++ c.args.hash ∷ []) same.hashes;
+      broken = refl;
+      written = c.in_ok-append_record.ensures.ok.written ∙ ap (λ (n : ℕ). g.S.Store.written m.store + n) (length-record_bytes w r);
+    }
 
-pub overflow_add-self : goal.overflow_add-self
-overflow_add-self g c = grind (arith, common_steps)
+pub invariant_of-self-2-clause-inside : goal.invariant_of-self-2-clause-inside
+invariant_of-self-2-clause-inside g c =
+    let r : KeyValue = record { key = c.args.key.now; value = c.args.value.now } in
+    omega (arith, c.push.ensures.end, c.pair_size.ensures, c.in_ok-append_record.ensures.ok.size, length-record_bytes g.L.Width.WORD r)
 
-pub returns-then-not-has_room-clause-fails : goal.returns-then-not-has_room-clause-fails
-returns-then-not-has_room-clause-fails g c = (rests_same {s = g.S.Store} {l = g.L.Width} c.args.self.now c.requires.whole, refl, omega (arith, c.size.ensures.is, c.if-not-has_room.ensures.none refl))
+pub invariant_of-self-2-clause-within : goal.invariant_of-self-2-clause-within
+invariant_of-self-2-clause-within g c =
+    let m = c.args.self.now in
+    let w : ℕ = g.L.Width.WORD in
+    let n : ℕ = length m.roll.hashes.items in
+    let same = c.reserve.ensures.same in
+    let len : length c.push.new.self.hashes.items ≡ n + 1 = ap length c.push.ensures.hashes ∙ length_push c.reserve.new.self.hashes.items c.args.hash ∙ ap (λ (v : List ℕ). length v + 1) same.hashes in
+    let all : 4 * w * length c.push.new.self.hashes.items ≡ 4 * w * (n + 1) = ap (λ (v : ℕ). 4 * w * v) len in
+    omega (arith, all, more_slots w n g.met.L.Width.four_or_eight, c.requires.fits, c.push.ensures.end, c.pair_size.ensures, same.end)
 
-pub invariant_of-self-2 : goal.invariant_of-self-2
-invariant_of-self-2 g c = search rules
+pub invariant_of-self-2-clause-eager : goal.invariant_of-self-2-clause-eager
+invariant_of-self-2-clause-eager g c = λ eager whole.
+    let m = c.args.self.now in
+    none_more (gone_of m.roll.marks.items) (gone_of c.push.new.self.marks.items) (c.push.ensures.gone ∙ ap (λ v. gone_of v ++ false ∷ []) c.reserve.ensures.marks) (m.eager eager whole)

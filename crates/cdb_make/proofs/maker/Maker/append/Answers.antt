@@ -1,42 +1,22 @@
-use Rattle.std.proofs.Common.{arith, sym, ap, subst, ◌∙◌, ◌≡◌, ◌<◌, ◌+◌, ◌++◌, ◌∷◌, [], ℕ, List, take, drop}
-use Rattle.std.specs.Prelude.{sum_by}
-use Rattle.std.proofs.lemmas.List.{take-append-drop}
-use Rattle.std.proofs.lemmas.Result.{err_from_is_err_and}
-use Rattle.cdb_form.specs.Format.File.{whole_size}
-use Rattle.cdb_form.specs.Format.Record.{KeyValue}
-use Rattle.cdb_form.specs.Format.Walk.{prefix_record}
-use Rattle.cdb_make.specs.Views.Appending.{FailsAppending, PassesLimit, records_at}
-use Rattle.cdb_make.proofs.Making.Appends.{appends_until, fails_wider, passes_limit}
-use Rattle.cdb_make.proofs.Bytes.Fitting.{next_fits, next_splits}
+use Rattle.cdb_form.specs.Format.Walk.{whole_records}
+use Rattle.std.proofs.Common.{length}
+use Rattle.cdb_make.proofs.Appends.{appends_after, fails_after, if_ok_weaker}
+use Rattle.cdb_make.proofs.Rolls.{follows_then, if_err_weaker}
 use Rattle.cdb_make.proofs.maker.Maker.append.Goals as goal
 
-pub returns-in_err-append_first-clause-fails : goal.returns-in_err-append_first-clause-fails
-returns-in_err-append_first-clause-fails g c =
-    let p = err_from_is_err_and c.from_residual.result c.from_residual.ensures.1 in
-    let m = c.args.self.now in
-    let new = c.append_first.new.self in
-    let n : ℕ = c.measure-fitting.result.count in
-    let all : List KeyValue = records_at g.L.Width.WORD c.args.bytes.now in
-    let fault = c.in_err-append_first.field-0.0 in
-    rw (p.1, p.2)
-    (subst (λ (v : List KeyValue). FailsAppending {s = g.S.Store} {l = g.L.Width} m new v fault) (take-append-drop n all)
-    (fails_wider {s = g.S.Store} {l = g.L.Width} m new (take n all) (drop n all) fault c.in_err-append_first.ensures.fails))
+pub returns-clause-ok : goal.returns-clause-ok
+returns-clause-ok g c =
+    let k = c.in_ok-close_all.ensures in
+    if_ok_weaker c.append_beside-2.result
+    (λ n appends. appends_after c.args.self.now c.close_all.new.self c.append_beside-2.new.self (whole_records g.L.Width.WORD (length c.args.bytes.now) c.args.bytes.now) n k.closes_all k.counts k.fine c.append_beside-2.ensures.follows.comes appends)
+    c.append_beside-2.ensures.ok
 
-pub returns-then-fitting-clause-fails : goal.returns-then-fitting-clause-fails
-returns-then-fitting-clause-fails g c =
-    let w : ℕ = g.L.Width.WORD in
-    let m = c.args.self.now in
-    let new = c.append_first.new.self in
-    let bytes : List ℕ = c.args.bytes.now in
-    let all : List KeyValue = records_at w bytes in
-    let n : ℕ = c.measure-fitting.result.count in
-    let size : ℕ = c.measure-fitting.result.size in
-    let e = c.measure-fitting.ensures in
-    let r : KeyValue = prefix_record w (drop size bytes) in
-    let some : 0 < g.L.Width.WORD = omega (arith, g.met.L.Width.four_or_eight) in
-    let cut = next_splits w bytes n size some e.first (next_fits w bytes n size e.first (e.more c.if-fitting.true)) in
-    let are : all ≡ take n all ++ r ∷ drop (n + 1) all = sym (take-append-drop n all) ∙ ap (λ t. take n all ++ t) cut.2 in
-    let sum : sum_by (whole_size w) (take (n + 1) all) ≡ sum_by (whole_size w) (take n all ++ r ∷ []) = ap (sum_by (whole_size w)) cut.1 in
-    let passes : PassesLimit {s = g.S.Store} {l = g.L.Width} m new (take n all ++ r ∷ []) =
-    passes_limit {s = g.S.Store} {l = g.L.Width} m new (take n all ++ r ∷ []) c.append_first.ensures.follows.comes (omega (arith, e.passes c.if-fitting.true, c.size.ensures.is, c.size.ensures.within)) in
-    appends_until {s = g.S.Store} {l = g.L.Width} m new all (take n all) (drop (n + 1) all) r size are c.in_ok-append_first.ensures.ok passes
+pub returns-clause-fails : goal.returns-clause-fails
+returns-clause-fails g c =
+    let k = c.in_ok-close_all.ensures in
+    if_err_weaker c.append_beside-2.result
+    (λ fault fails. fails_after c.args.self.now c.close_all.new.self c.append_beside-2.new.self (whole_records g.L.Width.WORD (length c.args.bytes.now) c.args.bytes.now) fault k.closes_all k.counts k.fine fails)
+    c.append_beside-2.ensures.fails
+
+pub returns-clause-follows : goal.returns-clause-follows
+returns-clause-follows g c = follows_then c.args.self.now c.close_all.new.self c.append_beside-2.new.self c.close_all.ensures.follows c.append_beside-2.ensures.follows

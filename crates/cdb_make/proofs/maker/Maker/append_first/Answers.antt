@@ -7,7 +7,7 @@ use Rattle.cdb_form.specs.Format.Record.{KeyValue, record_size}
 use Rattle.cdb_form.specs.Format.Walk.{prefix_record}
 use Rattle.cdb_form.proofs.Files.Sizes.{size_split}
 use Rattle.cdb_make.specs.Views.Appending.{AreFirst, FailsAppending, KeepsLimit, records_at}
-use Rattle.cdb_make.proofs.Making.Appends.{appends_all, fails_behind, fails_writing, keeps_limit}
+use Rattle.cdb_make.proofs.Appends.{appends_all, fails_behind, fails_writing, keeps_limit}
 use Rattle.cdb_make.proofs.Bytes.Fitting.{first_none, next_fits, next_of, next_splits, sum_take}
 use Rattle.cdb_make.proofs.maker.Maker.append_first.Goals as goal
 
@@ -34,10 +34,10 @@ returns-in_err-write_behind-clause-fails g c =
     let are : take c.args.count all ≡ r ∷ later = next_of all 0 c.args.count r more cut in
     let one : sum_by (whole_size w) (take 1 all) ≡ sum_by (whole_size w) (r ∷ []) = ap (sum_by (whole_size w)) cut.1 in
     let le = sum_take (whole_size w) all 1 c.args.count (omega arith) in
-    let fits : KeepsLimit {s = g.S.Store} {l = g.L.Width} m new (r ∷ []) = keeps_limit {s = g.S.Store} {l = g.L.Width} m new (r ∷ []) c.write_behind.ensures.follows.comes (omega (arith, c.requires.room)) in
+    let fits : KeepsLimit m new (r ∷ []) = keeps_limit m new (r ∷ []) g.met.L.Width.four_or_eight c.write_behind.ensures.follows.comes (omega (arith, c.requires.room)) in
     rw (p.1, p.2)
-    (subst (λ (v : List KeyValue). FailsAppending {s = g.S.Store} {l = g.L.Width} m new v c.in_err-write_behind.field-0.0) (sym are)
-    (fails_writing {s = g.S.Store} {l = g.L.Width} m new r later c.in_err-write_behind.field-0.0 c.write_behind.ensures.stays fits c.in_err-write_behind.ensures.fails))
+    (subst (λ (v : List KeyValue). FailsAppending m new v c.in_err-write_behind.field-0.0) (sym are)
+    (fails_writing m new r later c.in_err-write_behind.field-0.0 c.write_behind.ensures.stays fits c.in_err-write_behind.ensures.fails))
 
 pub returns-clause-ok : goal.returns-clause-ok
 returns-clause-ok g c =
@@ -47,8 +47,8 @@ returns-clause-ok g c =
     let e = c.in_ok-write_behind.ensures in
     let long : length (take c.args.size bytes) ≡ c.args.size = omega (arith, c.requires.first.within, length-take c.args.size bytes) in
     on_ok_weaker c.enter_all.result
-    (λ ok. appends_all {s = g.S.Store} {l = g.L.Width} m c.write_behind.new.self c.enter_all.new.self (take c.args.count (records_at w bytes)) c.args.size
-    c.write_behind.ensures.stays c.write_behind.ensures.counts.count ok c.requires.first.sum (e.written ∙ ap (λ (n : ℕ). g.S.Store.written m.store + n) long) e.failures c.enter_all.ensures.store)
+    (λ ok. appends_all m c.write_behind.new.self c.enter_all.new.self (take c.args.count (records_at w bytes)) c.args.size
+    c.write_behind.ensures.stays c.write_behind.ensures.roll c.write_behind.ensures.gone c.write_behind.ensures.follows.comes ok c.requires.first.sum (e.written ∙ ap (λ (n : ℕ). g.S.Store.written m.store + n) long) e.failures c.enter_all.ensures.store)
     c.enter_all.ensures.ok
 
 pub returns-clause-fails : goal.returns-clause-fails
@@ -56,8 +56,8 @@ returns-clause-fails g c =
     let w : ℕ = g.L.Width.WORD in
     let m = c.args.self.now in
     let e = c.in_ok-write_behind.ensures in
-    fails_behind {s = g.S.Store} {l = g.L.Width} m c.write_behind.new.self c.enter_all.new.self (take c.args.count (records_at w c.args.bytes.now)) c.enter_all.result
-    c.write_behind.ensures.stays c.write_behind.ensures.counts.limit (ap g.S.Store.failures c.enter_all.ensures.store ∙ e.failures) c.enter_all.ensures.memory c.enter_all.ensures.some
+    fails_behind m c.write_behind.new.self c.enter_all.new.self (take c.args.count (records_at w c.args.bytes.now)) c.enter_all.result
+    c.write_behind.ensures.stays c.write_behind.ensures.follows.limit (ap g.S.Store.failures c.enter_all.ensures.store ∙ e.failures) c.enter_all.ensures.memory c.enter_all.ensures.some
 
 pub enter_all-requires-clause-first : goal.enter_all-requires-clause-first
 enter_all-requires-clause-first g c = subst (λ (n : ℕ). AreFirst g.L.Width.WORD c.args.bytes.now c.args.count n) c.requires.first.sum c.requires.first
@@ -65,7 +65,7 @@ enter_all-requires-clause-first g c = subst (λ (n : ℕ). AreFirst g.L.Width.WO
 pub enter_all-requires-clause-written : goal.enter_all-requires-clause-written
 enter_all-requires-clause-written g c =
     let new = c.write_behind.new.self in
-    subst (λ (n : ℕ). Stored new.end (take n c.args.bytes.now) (g.S.Store.image new.store)) c.requires.first.sum c.in_ok-write_behind.ensures.stored
+    subst (λ (n : ℕ). Stored new.roll.end (take n c.args.bytes.now) (g.S.Store.image new.store)) c.requires.first.sum c.in_ok-write_behind.ensures.stored
 
 pub enter_all-requires-clause-inside : goal.enter_all-requires-clause-inside
 enter_all-requires-clause-inside g c =

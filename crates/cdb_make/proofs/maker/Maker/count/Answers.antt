@@ -1,5 +1,17 @@
-use Rattle.cdb_make.proofs.Making.Makers.{held_count}
+use Rattle.std.proofs.Common.{◌≡◌, length, ap, arith}
+use Rattle.std.proofs.lemmas.List.{length-map}
+use Rattle.cdb_make.specs.Marks.{is_gone}
+use Rattle.cdb_make.specs.Views.Maker.{gone_in}
+use Rattle.cdb_make.proofs.Looking.{sees_long}
+use Rattle.cdb_make.proofs.Picking.{left_number}
 use Rattle.cdb_make.proofs.maker.Maker.count.Goals as goal
 
-pub returns-clause-holds : goal.returns-clause-holds
-returns-clause-holds g c = λ rs h. held_count c.args.self.now rs h
+pub returns-else-self-clause-holds : goal.returns-else-self-clause-holds
+returns-else-self-clause-holds g c = λ rs h. record {
+  each = λ b is.
+      let m = c.args.self.now.roll in
+      let held = h.each b is in
+      let long = sees_long m held.all b held.sees in
+      let many : length (gone_in c.args.self.now) ≡ length held.all = omega (arith, long, length-map m.marks.items is_gone, m.marked) in
+      omega (arith, c.left_count.ensures, m.picked.count, left_number (gone_in c.args.self.now) held.all many, long, ap length held.left);
+}

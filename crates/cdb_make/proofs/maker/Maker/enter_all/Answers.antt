@@ -8,14 +8,10 @@ use Rattle.cdb_form.specs.Format.Walk.{prefix_record, prefix_size}
 use Rattle.cdb_form.proofs.Bytes.HeadLemmas.{rest_of}
 use Rattle.cdb_form.proofs.Files.Standing.{AreBytes-drop}
 use Rattle.cdb_make.specs.Views.Appending.{Enters, first_size, records_at}
-use Rattle.cdb_make.proofs.Making.Appends.{entered_size, enters_more, stops_entering}
+use Rattle.cdb_make.proofs.Appends.{entered_size, enters_more, stops_entering}
 use Rattle.cdb_make.proofs.Bytes.Fitting.{first_more, prefix_is_record, prefix_sized, next_fits, next_of, next_splits, next_stored, next_sums, next_within, sum_take}
 use Rattle.cdb_make.proofs.Bytes.Written.{on_any_err}
 use Rattle.cdb_make.proofs.maker.Maker.enter_all.Goals as goal
-
--- the place behind a record, by its size
-end_at : (end : ℕ) {last n size : ℕ} → last ≡ end + n → n ≡ size → last ≡ end + size
-end_at end here same = here ∙ ap (λ (n : ℕ). end + n) same
 
 pub first_record-first-requires : goal.first_record-first-requires
 first_record-first-requires g c =
@@ -51,7 +47,7 @@ enter-requires-clause-within g c =
     let is : c.first_record-first.result.size ≡ prefix_size w (drop place bytes) = c.first_record-first.ensures.size ∙ ap (prefix_size w) (rest_of place (length bytes) bytes refl) in
     let sums = next_sums w bytes k place some i.first (next_fits w bytes k place i.first more) in
     let le = sum_take (whole_size w) all (k + 1) c.args.count (omega (arith, c.loop-test.true)) in
-    omega (arith, entered_size {s = g.S.Store} {l = g.L.Width} c.args.self.now c.loop.self (take k all) i.entered, c.requires.room, i.entered.limit)
+    omega (arith, entered_size c.args.self.now c.loop.self (take k all) i.entered, c.requires.room, i.entered.limit)
 
 pub returns-in_err-enter-clause-some : goal.returns-in_err-enter-clause-some
 returns-in_err-enter-clause-some g c =
@@ -69,8 +65,8 @@ returns-in_err-enter-clause-some g c =
     let le = sum_take (whole_size w) all (k + 1) c.args.count (omega (arith, c.loop-test.true)) in
     let same : sum_by (whole_size w) (take (k + 1) all) ≡ sum_by (whole_size w) (take k all ++ r ∷ []) = ap (sum_by (whole_size w)) cut.1 in
     on_any_err c.from_residual.result
-    (stops_entering {s = g.S.Store} {l = g.L.Width} c.args.self.now c.loop.self c.enter.new.self (take c.args.count all) (take k all) (take (c.args.count - (k + 1)) (drop (k + 1) all)) r
-    (next_of all k c.args.count r c.loop-test.true cut) c.requires.whole i.entered e.stays (c.enter.ensures.store ∙ i.store) (omega (arith, c.requires.room)))
+    (stops_entering c.args.self.now c.loop.self c.enter.new.self (take c.args.count all) (take k all) (take (c.args.count - (k + 1)) (drop (k + 1) all)) r
+    (next_of all k c.args.count r c.loop-test.true cut) g.met.L.Width.four_or_eight c.requires.whole i.entered e.stays (c.enter.ensures.store ∙ i.store) (omega (arith, c.requires.room)))
 
 pub loop-preserved : goal.loop-preserved
 loop-preserved g c =
@@ -91,15 +87,14 @@ loop-preserved g c =
     let sized : c.first_record-first.result.size ≡ record_size w r = is ∙ sym (prefix_sized w (drop place bytes) fits) in
     let cut = next_splits w bytes k place some i.first fits in
     let hashed : c.hash.result ≡ key_hash r.key = c.hash.ensures ∙ ap key_hash (c.first_record-first.ensures.key ∙ ap (λ (v : List ℕ). (prefix_record w v).key) (rest_of place (length bytes) bytes refl)) in
-    let here : c.loop.self.end ≡ m.end + place = i.entered.end ∙ ap (λ (n : ℕ). m.end + n) (sym i.first.sum) in
-    let was = next_stored w m.end bytes k place c.args.count (first_size w bytes c.args.count) some are i.first c.requires.first c.loop-test.true c.requires.written in
-    let stored : Stored c.loop.self.end (record_bytes w r) (g.S.Store.image c.loop.self.store) =
-    subst (λ (v : _). Stored c.loop.self.end (record_bytes w r) (g.S.Store.image v)) (sym i.store) (subst (λ (n : ℕ). Stored n (record_bytes w r) (g.S.Store.image m.store)) (sym here) was) in
+    let here : c.loop.self.roll.end ≡ m.roll.end + place = i.entered.end ∙ ap (λ (n : ℕ). m.roll.end + n) (sym i.first.sum) in
+    let was = next_stored w m.roll.end bytes k place c.args.count (first_size w bytes c.args.count) some are i.first c.requires.first c.loop-test.true c.requires.written in
+    let stored : Stored c.loop.self.roll.end (record_bytes w r) (g.S.Store.image c.loop.self.store) =
+    subst (λ (v : _). Stored c.loop.self.roll.end (record_bytes w r) (g.S.Store.image v)) (sym i.store) (subst (λ (n : ℕ). Stored n (record_bytes w r) (g.S.Store.image m.store)) (sym here) was) in
     record {
       first = first_more w bytes k place c.first_record-first.result.size some are i.first is (omega arith);
-      entered = subst (λ (v : List KeyValue). Enters {s = g.S.Store} {l = g.L.Width} m c.enter.new.self v) (sym cut.1)
-          (enters_more {s = g.S.Store} {l = g.L.Width} m c.loop.self c.enter.new.self (take k all) r i.entered c.enter.ensures.whole
-          (λ before h. e.holds r before (prefix_is_record w (drop place bytes) (AreBytes-drop place bytes are)) hashed sized stored h)
-          (end_at c.loop.self.end e.end sized) e.count c.enter.ensures.limit);
+      entered = subst (λ (v : List KeyValue). Enters m c.enter.new.self v) (sym cut.1)
+          (enters_more m c.loop.self c.enter.new.self (take k all) r i.entered (e.enters r (prefix_is_record w (drop place bytes) (AreBytes-drop place bytes are)) hashed sized stored));
       store = c.enter.ensures.store ∙ i.store;
+      lazy = c.enter.ensures.lazy ∙ i.lazy;
     }

@@ -6,6 +6,7 @@ use Rattle.cdb_make.proofs.maker.Maker.enter_all.Given as goal
 abbrev pub invariant-loop : goal.invariant-loop
 invariant-loop g l = record {
   first : AreFirst g.L.Width.WORD l.bytes l.counter l.place;
-  entered : Enters {s = g.S.Store} {l = g.L.Width} l.fn.self l.self (take l.counter (records_at g.L.Width.WORD l.bytes));
+  entered : Enters l.fn.self l.self (take l.counter (records_at g.L.Width.WORD l.bytes));
   store : l.self.store ≡ l.fn.self.store;
+  lazy : l.self.lazy ≡ l.fn.self.lazy;
 }

@@ -1,51 +1,94 @@
-use Rattle.std.proofs.Common.{arith, refl, ap, ◌≡◌, ◌+◌, ◌*◌, ◌≤◌, ℕ, length}
-use Rattle.std.proofs.lemmas.Result.{err_from_is_err_and}
+use Rattle.std.proofs.Common.{◌≡◌, ◌+◌, ◌*◌, ◌∷◌, ◌++◌, [], ℕ, Bool, List, length, map, inl, inr, ap, sym, ◌∙◌, arith}
+use Rattle.std.specs.Prelude.{sum}
+use Rattle.std.proofs.lemmas.Result.{on_ok_weaker, on_err_weaker}
 use Rattle.cdb_form.specs.Format.Record.{KeyValue, record_size}
-use Rattle.cdb_make.specs.Views.Maker.{HasRoom}
-use Rattle.cdb_make.proofs.Making.Exchanged.{fails_exchanged, fails_unexchanged, puts_exchanged}
-use Rattle.cdb_make.proofs.Making.Following.{follows_then}
-use Rattle.cdb_make.proofs.Making.Puts.{held_found, writes_same}
-use Rattle.cdb_make.proofs.Making.Replacing.{would_replace}
+use Rattle.cdb_make.specs.Spans.{left, behind, or_each}
+use Rattle.cdb_make.specs.Views.Maker.{gone_in, found_in}
+use Rattle.cdb_make.proofs.Finishing.{exchange_counts}
+use Rattle.cdb_make.proofs.Looking.{sees_same}
+use Rattle.cdb_make.proofs.Rolls.{none_more, slots_add, follows_then, exchange_fails, torn_fails}
 use Rattle.cdb_make.proofs.maker.Maker.exchange.Goals as goal
 
-pub take_out-requires-clause-apart : goal.take_out-requires-clause-apart
-take_out-requires-clause-apart g c = c.requires.found.apart
-
-pub returns-in_err-take_out-clause-fails : goal.returns-in_err-take_out-clause-fails
-returns-in_err-take_out-clause-fails g c =
-    let p = err_from_is_err_and c.from_residual.result c.from_residual.ensures.1 in
-    let m = c.args.self.now in
-    let r : KeyValue = record { key = c.args.key.now; value = c.args.value.now } in
-    rw (p.1, p.2) (fails_unexchanged {s = g.S.Store} {l = g.L.Width} m _ r _
-    (would_replace {s = g.S.Store} {l = g.L.Width} m m r (writes_same m c.requires.whole) refl (held_found {s = g.S.Store} {l = g.L.Width} m m.gaps.items c.args.key.now c.args.taken refl c.requires.found) c.requires.fits)
-    c.take_out.ensures.follows.comes (c.in_err-take_out.ensures.fails c.args.key.now c.args.taken c.requires.found))
-
-pub add-requires-clause-whole : goal.add-requires-clause-whole
-add-requires-clause-whole g c = (c.in_ok-take_out.ensures.removes c.args.key.now c.args.taken c.requires.found).whole
-
-pub returns-in-Ok-clause-puts : goal.returns-in-Ok-clause-puts
-returns-in-Ok-clause-puts g c =
-    puts_exchanged {s = g.S.Store} {l = g.L.Width} c.args.self.now c.take_out.new.self _ (record { key = c.args.key.now; value = c.args.value.now }) c.args.taken (c.in_ok-take_out.ensures.removes c.args.key.now c.args.taken c.requires.found) c.requires.some c.in-Ok.ensures.adds
-
-pub returns-in-Err-clause-fails : goal.returns-in-Err-clause-fails
-returns-in-Err-clause-fails g c =
-    let m = c.args.self.now in
-    let set = c.take_out.new.self in
+pub add-requires-clause-fits : goal.add-requires-clause-fits
+add-requires-clause-fits g c =
     let w : ℕ = g.L.Width.WORD in
-    let e = c.in_ok-take_out.ensures in
+    let m = c.args.self.now.roll in
+    let p = c.in_ok-pass.ensures in
+    let all : length c.pass.new.self.roll.hashes.items + (m.gone.count + m.found.count) ≡ length m.hashes.items = omega (arith, p.count, c.take.ensures.count, ap length c.take.ensures.same.hashes) in
+    let slots : 4 * w * length m.hashes.items ≡ 4 * w * length c.pass.new.self.roll.hashes.items + 4 * w * (m.gone.count + m.found.count) = ap (λ (v : ℕ). 4 * w * v) (sym all) ∙ slots_add w (length c.pass.new.self.roll.hashes.items) (m.gone.count + m.found.count) g.met.L.Width.four_or_eight in
+    omega (arith, slots, c.requires.fits, p.end, c.take.ensures.size, c.take.ensures.same.end, c.pass.ensures.follows.limit)
+
+pub returns-clause-exchanges : goal.returns-clause-exchanges
+returns-clause-exchanges g c =
+    let old = c.args.self.now in
+    let w : ℕ = g.L.Width.WORD in
     let r : KeyValue = record { key = c.args.key.now; value = c.args.value.now } in
-    let follows = c.take_out.ensures.follows in
-    let all : 4 * w * (set.count + length m.gaps.items) ≡ 4 * w * m.count = ap (λ (v : ℕ). 4 * w * v) e.fewer in
-    let fits : HasRoom {s = g.S.Store} {l = g.L.Width} set r = omega (arith, c.requires.fits, e.end, follows.limit, all) in
-    let room : set.end + record_size w r ≤ g.S.Store.room set.store = omega (arith, c.requires.room, e.end, follows.room) in
-    rw (c.torn_fault.ensures) (fails_exchanged {s = g.S.Store} {l = g.L.Width} m set c.add.new.self _ r c.args.taken c.in-Err.fault (e.removes c.args.key.now c.args.taken c.requires.found) c.requires.found c.requires.some follows e.fine e.lists c.take_out.ensures.gaps room fits
-    (would_replace {s = g.S.Store} {l = g.L.Width} m m r (writes_same m c.requires.whole) refl (held_found {s = g.S.Store} {l = g.L.Width} m m.gaps.items c.args.key.now c.args.taken refl c.requires.found) c.requires.fits)
-    c.add.ensures.follows.comes refl refl c.in-Err.ensures.fails)
+    let ms : List Bool = or_each (gone_in old) (found_in old) in
+    let closes = c.in_ok-pass.ensures.closes in
+    on_ok_weaker c.add.result
+    (λ added. record {
+      whole = added.broken ∙ closes.whole;
+      none = none_more (gone_in c.pass.new.self) (gone_in c.add.new.self) added.gone closes.none;
+      goes = record {
+        each = λ b is.
+            let h = added.goes.each b is in
+            let q = closes.goes.each h.0 h.1 in (
+              q.0,
+              q.1,
+              λ all sees.
+                  let ns : List ℕ = map (record_size w) all in
+                  let mid = q.2 all (sees_same old.roll c.take.new.self all q.0 c.take.ensures.same sees) in
+                  let last = h.2 mid.0 mid.1 in
+                  let moved = ap (λ (v : List Bool). sum (behind v ns)) c.take.ensures.gone in (
+                    last.0,
+                    last.1,
+                    (last.2 ∙ ap (λ (v : List KeyValue). v ++ r ∷ []) (mid.2.0 ∙ ap (λ (v : List Bool). left v all) c.take.ensures.gone), omega (arith, added.written, mid.2.1, moved)),
+                  ),
+            );
+      };
+    })
+    c.add.ensures.adds
 
-pub returns-in-Ok-clause-follows : goal.returns-in-Ok-clause-follows
-returns-in-Ok-clause-follows g c = follows_then c.take_out.ensures.follows c.add.ensures.follows
+pub returns-clause-fails : goal.returns-clause-fails
+returns-clause-fails g c =
+    let old = c.args.self.now in
+    let p = c.in_ok-pass.ensures in
+    let closes = p.closes in
+    let t = c.take.ensures in
+    exchange_fails old c.pass.new.self c.add.new.self c.add.result _
+    (λ wants. elim wants [
+      | inl full ↦ full (p.room (omega (arith, c.requires.some, t.count)))
+      | inr past ↦ omega (arith, past, c.requires.room, p.end, t.size, t.same.end, c.pass.ensures.follows.room)
+    ])
+    closes.whole closes.none (let f = c.pass.ensures.follows in record { comes = f.comes; head = f.head; limit = f.limit; lazy = f.lazy; room = f.room; failures = f.failures; unwritten = f.unwritten })
+    (record {
+      each = λ b is.
+          let q = closes.goes.each b is in (
+            q.0,
+            q.1,
+            λ all sees.
+                let mid = q.2 all (sees_same old.roll c.take.new.self all q.0 t.same sees) in
+                (mid.0, mid.1, mid.2.0 ∙ ap (λ (v : List Bool). left v all) t.gone),
+          );
+    })
+    c.add.ensures.stays c.add.ensures.fails
 
-pub returns-in-Err-clause-follows : goal.returns-in-Err-clause-follows
-returns-in-Err-clause-follows g c =
-    let f = follows_then c.take_out.ensures.follows c.add.ensures.follows in
-    record { comes = f.comes; head = f.head; limit = f.limit; room = f.room; failures = f.failures; unwritten = f.unwritten }
+pub returns-clause-follows : goal.returns-clause-follows
+returns-clause-follows g c = follows_then c.args.self.now c.pass.new.self c.add.new.self (let f = c.pass.ensures.follows in record { comes = f.comes; head = f.head; limit = f.limit; lazy = f.lazy; room = f.room; failures = f.failures; unwritten = f.unwritten }) c.add.ensures.follows
+
+pub returns-in_err-pass-clause-fails : goal.returns-in_err-pass-clause-fails
+returns-in_err-pass-clause-fails g c =
+    let p = c.in_err-pass.ensures in
+    torn_fails c.args.self.now c.pass.new.self c.from_residual.result c.in_err-pass.field-0.0 p.fails p.broken p.cause c.from_residual.ensures.1
+
+pub returns-in_err-pass-clause-follows : goal.returns-in_err-pass-clause-follows
+returns-in_err-pass-clause-follows g c = (let f = c.pass.ensures.follows in record { comes = f.comes; head = f.head; limit = f.limit; lazy = f.lazy; room = f.room; failures = f.failures; unwritten = f.unwritten })
+
+pub returns-clause-counts : goal.returns-clause-counts
+returns-clause-counts g c =
+    let p = c.in_ok-pass.ensures in
+    let t = c.take.ensures in
+    on_err_weaker c.add.result
+    (λ stays. exchange_counts c.args.self.now c.pass.new.self c.add.new.self (c.pass.ensures.told ∙ c.counts-self.ensures.count) (c.pass.ensures.told_size ∙ c.counts-self.ensures.size) c.add.ensures.counted p.clear p.clear_size (omega (arith, p.end, t.size, t.same.end))
+    (omega (arith, p.count, t.count, ap length t.same.hashes)) (c.add.ensures.follows.limit ∙ c.pass.ensures.follows.limit) stays)
+    c.add.ensures.stays

@@ -1,5 +1,6 @@
-use Rattle.std.proofs.Common.{rules}
+use Rattle.std.proofs.Common.{sym, subst}
+use Rattle.cdb_make.specs.Views.Maker.{IsFile}
 use Rattle.cdb_make.proofs.maker.Maker.finish.Goals as goal
 
-pub returns-in-Err-clause-fails : goal.returns-in-Err-clause-fails
-returns-in-Err-clause-fails g c = search rules
+pub returns-in-Ok-clause-file : goal.returns-in-Ok-clause-file
+returns-in-Ok-clause-file g c = λ rs h. subst (λ (s : g.row.S.Denot). IsFile g.L.Width.WORD rs (g.S.Store.image s)) (sym c.into_store.ensures) (c.in-Ok.ensures.file rs h)

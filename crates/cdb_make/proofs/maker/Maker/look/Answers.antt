@@ -1,23 +1,69 @@
-use Rattle.std.proofs.Common.{refl, ap, sym, subst, ◌∙◌, Err, rules}
+use Rattle.std.proofs.Common.{◌≡◌, ◌<◌, Err, List, Bool, length, subst, ap, sym, ◌∙◌, refl, arith}
+use Rattle.std.proofs.lemmas.List.{length-map}
 use Rattle.cdb_store.specs.Reads.{OnlyReads}
-use Rattle.cdb_make.specs.Views.Lists.{all_entries}
-use Rattle.cdb_make.proofs.Making.Carrying.{carried_stand, fails_sought, rests_looked}
+use Rattle.cdb_store.proofs.Reading.{reads_nothing}
+use Rattle.cdb_make.specs.Marks.{is_gone, gone_of}
+use Rattle.cdb_make.specs.Rolls.{SeesNone}
+use Rattle.cdb_make.specs.Spans.{left}
+use Rattle.cdb_make.specs.Survivors.{is_there}
+use Rattle.cdb_make.specs.Views.Roll.{SameRecords}
+use Rattle.cdb_make.specs.Views.Maker.{FailsLooking}
+use Rattle.cdb_make.proofs.Looking.{sees_long, sees_same, same_then}
+use Rattle.cdb_make.proofs.Survive.{last_there}
+use Rattle.cdb_make.proofs.Rolls.{look_fails, follows_read}
 use Rattle.cdb_make.proofs.maker.Maker.look.Goals as goal
 
-pub exists-requires-clause-hash : goal.exists-requires-clause-hash
-exists-requires-clause-hash g c = search rules
-
-pub returns-in-Ok-clause-rests : goal.returns-in-Ok-clause-rests
-returns-in-Ok-clause-rests g c = rests_looked {s = g.S.Store} {l = g.L.Width} c.args.self.now _ c.if-self.false c.if-self.false c.catch_up.ensures.entries (record { end = refl; count = refl; limit = refl }) c.exists.ensures.reads
-
-pub returns-in-Ok-clause-there : goal.returns-in-Ok-clause-there
-returns-in-Ok-clause-there g c = λ all marks h. c.in-Ok.ensures.one marks all (carried_stand {s = g.S.Store} {l = g.L.Width} _ all marks h)
-
-pub returns-in-Err-clause-reads : goal.returns-in-Err-clause-reads
-returns-in-Err-clause-reads g c = subst (OnlyReads g.S.Store c.args.self.now.store) (sym c.failed_look.ensures.store) c.exists.ensures.reads
+pub returns-in-Ok-clause-looks : goal.returns-in-Ok-clause-looks
+returns-in-Ok-clause-looks g c =
+    let i = c.args.self.now in
+    let m = c.put_back.new.self in
+    let same = same_then i.roll c.link.new.self m c.link.ensures.same c.put_back.ensures.same in
+    let gone = c.put_back.ensures.gone ∙ ap (λ v. gone_of v.items) c.link.ensures.marks in
+    record {
+      rests = record {
+        was = c.if-self.false;
+        whole = c.if-self.false;
+        same = same;
+        gone = gone;
+        picked = c.put_back.ensures.picked ∙ c.link.ensures.gone;
+        limit = refl;
+        lazy = refl;
+        reads = c.last_with_key.ensures.reads;
+      };
+      none = c.put_back.ensures.found;
+      is = λ rs h. record {
+        each = λ b is.
+            let held = h.each b (c.in-Ok.ensures.reads.images b is) in
+            let sees = sees_same i.roll m held.all b same held.sees in
+            let last = c.in-Ok.ensures.last.each b is held.all sees in
+            let long = sees_long m held.all b sees in
+            let many : length (gone_of m.marks.items) ≡ length held.all = omega (arith, long, length-map m.marks.items is_gone, m.marked) in
+            last_there c.args.key.now (gone_of m.marks.items) held.all c.len.result c.in-Ok.last many (omega (arith, long, c.len.ensures)) last
+            ∙ ap (is_there c.args.key.now) (ap (λ (v : List Bool). left v held.all) gone ∙ sym held.left);
+      };
+    }
 
 pub returns-in-Err-clause-fails : goal.returns-in-Err-clause-fails
 returns-in-Err-clause-fails g c =
-    let e = c.failed_look.ensures in
-    fails_sought {s = g.S.Store} {l = g.L.Width} c.args.self.now _ c.exists.new.store c.catch_up.new.self c.in-Err.fault _ c.catch_up.ensures.entries e.fault c.if-self.false e.broken (record { end = e.counts.end; count = e.counts.count; limit = e.counts.limit })
-    (ap all_entries e.lists ∙ c.catch_up.ensures.entries) e.store c.exists.ensures.reads (λ h. c.exists.ensures.failed (c.in-Err.is ∙ ap Err h)) (λ h. c.exists.ensures.none (c.in-Err.is ∙ ap Err h))
+    let i = c.args.self.now in
+    let k = c.failed_look.new.self in
+    let f = c.failed_look.ensures in
+    let h = c.in-Err.ensures in
+    let roll = c.put_back.new.self in
+    subst (FailsLooking i k) (sym f.fault)
+    (look_fails i k c.in-Err.fault c.if-self.false (subst (λ v. SameRecords i.roll v) (sym f.roll) (same_then i.roll c.link.new.self roll c.link.ensures.same c.put_back.ensures.same))
+    (ap (λ v. gone_of v.marks.items) f.roll ∙ c.put_back.ensures.gone ∙ ap (λ v. gone_of v.items) c.link.ensures.marks) (ap (λ v. v.gone) f.roll ∙ c.put_back.ensures.picked ∙ c.link.ensures.gone) f.limit f.lazy f.broken
+    (subst (λ v. OnlyReads g.S.Store i.store v) (sym f.store) c.last_with_key.ensures.reads)
+    (λ e. subst (λ v. SeesNone v (g.S.Store.image k.store)) (sym f.roll) (subst (λ v. SeesNone roll (g.S.Store.image v)) (sym f.store) (h.foreign (ap Err e))))
+    (λ e. subst (λ v. g.S.Store.failures i.store < g.S.Store.failures v) (sym f.store) (h.failed (ap Err e))))
+
+pub returns-then-self-clause-follows : goal.returns-then-self-clause-follows
+returns-then-self-clause-follows g c = follows_read c.args.self.now _ refl refl (reads_nothing _ _ refl)
+
+pub returns-in-Ok-clause-follows : goal.returns-in-Ok-clause-follows
+returns-in-Ok-clause-follows g c = follows_read c.args.self.now _ refl refl c.last_with_key.ensures.reads
+
+pub returns-in-Err-clause-follows : goal.returns-in-Err-clause-follows
+returns-in-Err-clause-follows g c =
+    let f = c.failed_look.ensures in
+    follows_read c.args.self.now c.failed_look.new.self f.limit f.lazy (subst (λ v. OnlyReads g.S.Store c.args.self.now.store v) (sym f.store) c.last_with_key.ensures.reads)

@@ -1,14 +1,21 @@
-use Rattle.std.proofs.lemmas.Result.{err_from_is_err_and}
-use Rattle.cdb_make.proofs.Making.Removing.{fails_remove_rested, removes_rested}
+use Rattle.std.proofs.Common.{arith}
+use Rattle.cdb_make.proofs.Rolls.{follows_then}
+use Rattle.cdb_make.proofs.Removing.{removes_none, removes_some, remove_fails}
 use Rattle.cdb_make.proofs.maker.Maker.remove.Goals as goal
+
+pub returns-then-taken-eq0-clause-removes : goal.returns-then-taken-eq0-clause-removes
+returns-then-taken-eq0-clause-removes g c = removes_none c.args.self.now c.seek.new.self c.hash-hash.result c.in_ok-taken.taken c.args.key.now c.if-taken-eq0.true c.in_ok-taken.ensures.seeks
 
 pub returns-in_err-take_out-clause-fails : goal.returns-in_err-take_out-clause-fails
 returns-in_err-take_out-clause-fails g c =
-    let p = err_from_is_err_and c.from_residual-in_err-take_out.result c.from_residual-in_err-take_out.ensures.1 in
-    let e = c.in_ok-taken.ensures in
-    rw (p.1, p.2) (fails_remove_rested {s = g.S.Store} {l = g.L.Width} c.args.self.now c.note_gaps.new.self _ _ _ e.rests e.ok_failures (c.in_err-take_out.ensures.fails c.args.key.now c.in_ok-taken.taken e.found))
+    remove_fails c.args.self.now c.seek.new.self c.take_out.new.self c.hash-hash.result c.in_ok-taken.taken c.args.key.now c.from_residual-in_err-take_out.result c.in_err-take_out.field-0.0 (omega (arith, c.if-taken-eq0.false)) c.in_ok-taken.ensures.seeks c.take_out.ensures.follows c.in_err-take_out.ensures.fails
+    c.from_residual-in_err-take_out.ensures.1
 
 pub returns-clause-removes : goal.returns-clause-removes
-returns-clause-removes g c =
-    let e = c.in_ok-taken.ensures in
-    removes_rested {s = g.S.Store} {l = g.L.Width} c.args.self.now c.note_gaps.new.self _ _ _ e.rests (c.in_ok-take_out.ensures.removes c.args.key.now c.in_ok-taken.taken e.found)
+returns-clause-removes g c = removes_some c.args.self.now c.seek.new.self c.take_out.new.self c.hash-hash.result c.in_ok-taken.taken c.args.key.now c.in_ok-taken.ensures.seeks c.in_ok-take_out.ensures.takes
+
+pub returns-in_err-take_out-clause-follows : goal.returns-in_err-take_out-clause-follows
+returns-in_err-take_out-clause-follows g c = follows_then c.args.self.now c.seek.new.self c.take_out.new.self c.seek.ensures.follows c.take_out.ensures.follows
+
+pub returns-clause-follows : goal.returns-clause-follows
+returns-clause-follows g c = follows_then c.args.self.now c.seek.new.self c.take_out.new.self c.seek.ensures.follows c.take_out.ensures.follows

@@ -1,11 +1,19 @@
-use Rattle.std.proofs.Common.{◌≡◌, ◌*◌, ap, arith, ℕ}
-use Rattle.cdb_make.proofs.Making.Makers.{held_size}
+use Rattle.std.proofs.Common.{◌≡◌, ◌+◌, length, ap, sym, ◌∙◌, arith}
+use Rattle.std.proofs.lemmas.List.{length-map}
+use Rattle.cdb_form.specs.Format.File.{file_size}
+use Rattle.cdb_make.specs.Marks.{is_gone}
+use Rattle.cdb_make.specs.Views.Maker.{gone_in}
+use Rattle.cdb_make.proofs.Looking.{sees_long}
+use Rattle.cdb_make.proofs.Rolls.{left_file, two_slots}
 use Rattle.cdb_make.proofs.maker.Maker.size.Goals as goal
 
 pub returns-clause-holds : goal.returns-clause-holds
-returns-clause-holds g c = λ rs h.
-    let m = c.args.self.now in
-    let w : ℕ = g.L.Width.WORD in
-    let n : 2 * c.pair_size.result ≡ 4 * w = omega (arith, c.pair_size.ensures) in
-    let k : 2 * c.pair_size.result * m.count ≡ 4 * w * m.count = ap (λ (v : ℕ). v * m.count) n in
-    held_size m rs _ (omega (arith, k)) h
+returns-clause-holds g c = λ rs h. record {
+  each = λ b is.
+      let m = c.args.self.now.roll in
+      let held = h.each b is in
+      let long = sees_long m held.all b held.sees in
+      let many : length (gone_in c.args.self.now) ≡ length held.all = omega (arith, long, length-map m.marks.items is_gone, m.marked) in
+      let file = (left_file m held.all b (gone_in c.args.self.now) c.left_end.result c.left_count.result m.gone.size m.gone.count g.met.L.Width.four_or_eight many held.sees c.left_end.ensures c.left_count.ensures (m.picked.size _ held.sees.of) m.picked.count).0 in
+      ap (λ n. c.left_end.result + n) (two_slots g.L.Width.WORD c.pair_size.result c.left_count.result c.pair_size.ensures g.met.L.Width.four_or_eight) ∙ sym file ∙ ap (file_size g.L.Width.WORD) (sym held.left);
+}

@@ -1,73 +1,54 @@
-use Rattle.std.proofs.Common.{arith, refl, sym, ap, subst, ◌≡◌, ◌≤◌, List, length, sum_by, true, false}
-use Rattle.std.proofs.lemmas.Result.{err_from_is_err_and}
+use Rattle.std.proofs.Common.{◌≡◌, ℕ, Bool, List, length, map, inr, ap, ◌∙◌, arith}
+use Rattle.std.specs.Prelude.{sum}
+use Rattle.std.proofs.lemmas.List.{length-map}
 use Rattle.cdb_form.specs.Format.Pair.{head_size}
-use Rattle.cdb_make.specs.declared.removal.gap.Gap.{Gap}
-use Rattle.cdb_make.specs.Gaps.{AreApart}
-use Rattle.cdb_make.specs.Views.Lists.{AreAllClosed}
-use Rattle.cdb_make.proofs.Entries.ClosedAll.{count_small}
-use Rattle.cdb_make.proofs.Making.Following.{follows_closed}
-use Rattle.cdb_make.proofs.Making.Makers.{comes_torn}
-use Rattle.cdb_make.proofs.Making.Removing.{fails_closed, removes_closed}
-use Rattle.cdb_make.proofs.Making.Replacing.{fewer_within}
+use Rattle.cdb_form.specs.Format.Record.{record_size}
+use Rattle.cdb_make.specs.Marks.{is_gone, gone_of}
+use Rattle.cdb_make.specs.Spans.{left, behind, or_each}
+use Rattle.cdb_make.specs.Views.Maker.{gone_in, found_in}
+use Rattle.cdb_make.proofs.Looking.{sees_same, sees_long}
+use Rattle.cdb_make.proofs.Picking.{left_all_stay, left_sum, end_sum}
+use Rattle.cdb_make.proofs.Spans.{long_as}
+use Rattle.cdb_make.proofs.Removing.{behind_most}
 use Rattle.cdb_make.proofs.maker.Maker.take_out.Goals as goal
 
-pub take_out_gaps-requires-clause-few : goal.take_out_gaps-requires-clause-few
-take_out_gaps-requires-clause-few g c =
-    let m = c.args.self.now in
-    let small : m.count ≤ m.limit = count_small g.L.Width.WORD m.count m.end m.limit g.met.L.Width.four_or_eight m.within in
-    omega (arith, m.counted c.requires.whole, m.limited, g.met.L.Width.greatest_fits.1)
-
-pub invariant_of-self : goal.invariant_of-self
-invariant_of-self g c =
-    let m = c.args.self.now in
-    record {
-      start = m.start;
-      inside = omega (arith, m.inside, c.take_out_gaps.ensures.size);
-      within = m.within;
-      limited = m.limited;
-      counted = λ whole. absurd (let k : true ≡ false = whole in cc);
-      placed = c.take_out_gaps.ensures.placed g.L.Width.GREATEST m.placed;
-      spare = c.take_out_gaps.ensures.spare _ m.spare;
-    }
-
-pub invariant_of-self-2 : goal.invariant_of-self-2
-invariant_of-self-2 g c =
-    let m = c.args.self.now in
-    let e = c.in_ok-left.ensures in
-    record {
-      start = e.within.0;
-      inside = omega (arith, m.inside, e.within.1, c.take_out_gaps.ensures.size);
-      within = fewer_within g.L.Width.WORD _ m.count _ m.end m.limit g.met.L.Width.four_or_eight (omega arith) e.within.1 m.within;
-      limited = m.limited;
-      counted = λ whole. omega (arith, e.gone, m.counted c.requires.whole);
-      placed = c.take_out_gaps.ensures.placed g.L.Width.GREATEST m.placed;
-      spare = c.take_out_gaps.ensures.spare _ m.spare;
-    }
-
-pub returns-in_err-left-clause-fails : goal.returns-in_err-left-clause-fails
-returns-in_err-left-clause-fails g c = λ key n found.
-    let p = err_from_is_err_and c.from_residual.result c.from_residual.ensures.1 in
-    rw (p.1, p.2) (fails_closed {s = g.S.Store} {l = g.L.Width} c.args.self.now _ _ key n _ c.requires.whole refl c.deref.ensures.value found (comes_torn c.take_out_gaps.ensures.torn) c.in_err-left.ensures.fails)
-
-pub returns-clause-removes : goal.returns-clause-removes
-returns-clause-removes g c = λ key n found.
-    removes_closed {s = g.S.Store} {l = g.L.Width} c.args.self.now _ c.deref.result.now key n c.requires.whole refl c.deref.ensures.value found (comes_torn c.take_out_gaps.ensures.torn) c.in_ok-left.ensures.closes_all c.in_ok-left.ensures.moves
-
-pub returns-in_err-left-clause-follows : goal.returns-in_err-left-clause-follows
-returns-in_err-left-clause-follows g c =
-    let e = c.take_out_gaps.ensures in
-    follows_closed {s = g.S.Store} {l = g.L.Width} c.args.self.now _ c.deref.result.now (subst (λ (v : List Gap). AreApart (head_size g.L.Width.WORD) v c.args.self.now.end) (sym c.deref.ensures.value) c.requires.apart) e.torn refl e.room e.failures e.unwritten
-
 pub returns-clause-follows : goal.returns-clause-follows
-returns-clause-follows g c =
-    let e = c.take_out_gaps.ensures in
-    follows_closed {s = g.S.Store} {l = g.L.Width} c.args.self.now _ c.deref.result.now (subst (λ (v : List Gap). AreApart (head_size g.L.Width.WORD) v c.args.self.now.end) (sym c.deref.ensures.value) c.requires.apart) e.torn refl e.room e.failures e.unwritten
+returns-clause-follows g c = (let f = c.pass.ensures.follows in record { comes = f.comes; head = f.head; limit = f.limit; lazy = f.lazy; room = f.room; failures = f.failures; unwritten = f.unwritten })
 
-pub returns-clause-end : goal.returns-clause-end
-returns-clause-end g c = let sizes = ap (sum_by (λ (v : Gap). v.size)) c.deref.ensures.value in omega (arith, c.in_ok-left.ensures.lower, sizes)
-
-pub returns-clause-fewer : goal.returns-clause-fewer
-returns-clause-fewer g c = let long = ap length c.deref.ensures.value in omega (arith, c.in_ok-left.ensures.count, c.in_ok-left.ensures.gone, c.args.self.now.counted c.requires.whole, long)
-
-pub returns-clause-lists : goal.returns-clause-lists
-returns-clause-lists g c = subst (λ (v : List Gap). AreAllClosed v c.args.self.now.lists c.take_out_gaps.new.lists) c.deref.ensures.value c.in_ok-left.ensures.lists
+pub returns-clause-takes : goal.returns-clause-takes
+returns-clause-takes g c =
+    let old = c.args.self.now in
+    let w : ℕ = g.L.Width.WORD in
+    let t = c.take-2.ensures in
+    let ms : List Bool = or_each (gone_in old) (found_in old) in
+    let p = c.pass.ensures in
+    Rattle.cdb_make.proofs.Rolls.on_ok_both c.pass.result
+    (λ closes last. record {
+      whole = closes.whole;
+      goes = record {
+        each = λ b is.
+            let q = closes.goes.each b is in (
+              q.0,
+              q.1,
+              λ all sees.
+                  let ns : List ℕ = map (record_size w) all in
+                  let now = sees_same old.roll c.take-2.new.self all q.0 t.same sees in
+                  let mid = q.2 all now in
+                  let m = c.pass.new.self.roll in
+                  let many : length (gone_in c.pass.new.self) ≡ length mid.0 = omega (arith, length-map m.marks.items is_gone, m.marked, sees_long m mid.0 b mid.1) in
+                  let tm = c.take-2.new.self in
+                  let moved : sum (behind (gone_of tm.marks.items) ns) ≡ sum (behind ms ns) = ap (λ (v : List Bool). sum (behind v ns)) t.gone in
+                  let sums = left_sum (gone_of tm.marks.items) ns (omega (arith, length-map tm.marks.items is_gone, tm.marked, tm.paired, long_as now.of)) in (
+                    mid.0,
+                    mid.1,
+                    (
+                      left_all_stay (gone_in c.pass.new.self) mid.0 many closes.none ∙ mid.2.0 ∙ ap (λ (v : List Bool). left v all) t.gone,
+                      λ eager. omega (arith, mid.2.1, moved),
+                      λ lazy. omega (arith, mid.2.1, last, t.size, t.same.end, c.waits.ensures.due c.if-waits.false lazy, behind_most (gone_of tm.marks.items) ns, sums, tm.picked.size ns now.of, now.of.ends, end_sum (head_size w) ns),
+                      inr (omega (arith, mid.2.1, moved), c.waits.ensures.due c.if-waits.false),
+                    ),
+                  ),
+            );
+      };
+    })
+    p.closes p.end

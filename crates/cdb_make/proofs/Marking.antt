@@ -1,0 +1,84 @@
+-- Marks of records, one by one.
+use Rattle.std.proofs.Common.{◌≡◌, ◌≢◌, ℕ, ◌+◌, ◌-◌, ◌<◌, ◌≤◌, Bool, true, false, List, length, map, get_or, refl, sym, ap, subst, ◌∙◌, arith, inl, inr}
+use Rattle.std.specs.Prelude.{slice_index}
+use Rattle.std.proofs.lemmas.Bool.{cases_eq, cases_lt}
+use Rattle.std.proofs.lemmas.List.{ext_get_or, length-map}
+use Rattle.std.proofs.Math.ListN.{get_or-map}
+use Rattle.cdb_make.specs.declared.mark.Mark.{Mark}
+use Rattle.cdb_make.specs.declared.mark.Mark.TheVariants.{Stays, Found, Gone}
+use Rattle.cdb_make.specs.Chains.{bucket_of, IsIn, IsLast, AreChained}
+use Rattle.cdb_make.specs.Marks.{is_gone, is_found, gone_of, found_of, taken, HaveHash, IsTakenFrom}
+
+pub gone_or : (ms : List Mark) (k : ℕ) → get_or (gone_of ms) k true ≡ is_gone (get_or ms k Gone)
+gone_or ms k = get_or-map is_gone ms k Gone
+
+pub found_or : (ms : List Mark) (k : ℕ) → get_or (found_of ms) k false ≡ is_found (get_or ms k Gone)
+found_or ms k = get_or-map is_found ms k Gone
+
+found_left : (m : Mark) → is_found m ≡ true → is_gone m ≡ false
+found_left Stays e = refl
+found_left Found e = refl
+found_left Gone e = absurd (let t : false ≡ true = e in cc)
+
+pub taken_same : (m : Mark) → is_found m ≡ false → taken m ≡ m
+taken_same Stays e = refl
+taken_same Found e = absurd (let t : true ≡ false = e in cc)
+taken_same Gone e = refl
+
+pub taken_found : (m : Mark) → is_found m ≡ true → Gone ≡ taken m
+taken_found Stays e = absurd (let t : false ≡ true = e in cc)
+taken_found Found e = refl
+taken_found Gone e = refl
+
+-- an entry that was found and is in no chain
+pub free_of : (count b hash : ℕ) (hs : List ℕ) (old ms : List Mark) (end at : ℕ) → b ≡ bucket_of count hash → HaveHash hash hs old → ((k : ℕ) → at ≤ k → k < end → get_or ms k Gone ≡ get_or old k Gone)
+    → IsLast (IsIn count b hs (gone_of ms)) end at → (k : ℕ) → at ≤ k → k < end → taken (get_or old k Gone) ≡ get_or old k Gone
+free_of count b hash hs old ms end at is have same last k low high =
+    let m : Mark = get_or old k Gone in
+    let f : (v : Bool) → is_found m ≡ v → taken m ≡ m = λ v. elim v as (λ v. is_found m ≡ v → taken m ≡ m) [
+      | true ↦ λ e. absurd (last.none k low high (record {
+        bucket = ap (bucket_of count) (have.each k (found_or old k ∙ e)) ∙ sym is;
+        stays = gone_or ms k ∙ ap is_gone (same k low high) ∙ found_left m e;
+      }))
+      | false ↦ λ e. taken_same m e
+    ] in
+    f (is_found m) refl
+
+pub taken_none : (old : List Mark) (at long : ℕ) → ((k : ℕ) → at ≤ k → k < long → taken (get_or old k Gone) ≡ get_or old k Gone) → IsTakenFrom at long old old
+taken_none old at long free = record { within = λ k low high. sym (free k low high); before = λ k lt. refl; behind = λ k le. refl }
+
+pub taken_step : (old ms ms₁ : List Mark) (entry older long : ℕ) → older ≤ entry → entry < long → ((k : ℕ) → k ≢ entry → get_or ms₁ k Gone ≡ get_or ms k Gone) → get_or ms₁ entry Gone ≡ taken (get_or ms entry Gone)
+    → ((k : ℕ) → older ≤ k → k < entry → taken (get_or old k Gone) ≡ get_or old k Gone) → IsTakenFrom (entry + 1) long old ms → IsTakenFrom older long old ms₁
+taken_step old ms ms₁ entry older long low in_long same here free h = record {
+  within = λ k from high. elim (cases_eq k entry) [
+    | inl e ↦ ap (λ (n : ℕ). get_or ms₁ n Gone) e ∙ here ∙ ap taken (h.before entry (omega arith)) ∙ ap (λ (n : ℕ). taken (get_or old n Gone)) (sym e)
+    | inr apart ↦ same k apart ∙ elim (cases_lt k entry) [
+      | inl below ↦ h.before k (omega arith) ∙ sym (free k from below)
+      | inr over ↦ h.within k (omega arith) high
+    ]
+  ];
+  before = λ k lt. same k (λ e. omega arith) ∙ h.before k (omega arith);
+  behind = λ k le. same k (λ e. omega arith) ∙ h.behind k le;
+}
+
+-- the first of them, and then the others
+pub taken_all : (old ms new : List Mark) (from : ℕ) → length new ≡ length ms → length ms ≡ length old → IsTakenFrom 0 from old ms → IsTakenFrom from (length ms) ms new → new ≡ map taken old
+taken_all old ms new from long long₁ first rest = ext_get_or Gone new (map taken old) (long ∙ long₁ ∙ sym (length-map old taken)) (λ k lt.
+    elim (cases_lt k from) [
+      | inl below ↦ rest.before k below ∙ first.within k (omega arith) below
+      | inr over ↦ rest.within k (omega arith) (omega arith) ∙ ap taken (first.behind k (omega arith))
+    ] ∙ sym (get_or-map taken old k Gone))
+
+-- the entry before the one before `at` in its bucket, and what is marked from there on
+pub onward : (heads before hs : List ℕ) (old ms : List Mark) (hash at long older : ℕ) → AreChained heads before hs (gone_of ms) → HaveHash hash hs old → IsTakenFrom at long old ms → 0 < at → at ≤ length before
+    → IsIn (length heads) (bucket_of (length heads) hash) hs (gone_of ms) (at - 1) → older ≡ slice_index before (at - 1)
+    → IsLast (IsIn (length heads) (bucket_of (length heads) hash) hs (gone_of ms)) (at - 1) older × ((k : ℕ) → older ≤ k → k < at - 1 → taken (get_or old k Gone) ≡ get_or old k Gone)
+onward heads before hs old ms hash at long older chained have h some within here is =
+    let n : ℕ = at - 1 in
+    let count : ℕ = length heads in
+    let b : ℕ = bucket_of count hash in
+    let lt : n < length before = omega arith in
+    let step : IsLast (IsIn count b hs (gone_of ms)) n older =
+    subst (λ (m : ℕ). IsLast (IsIn count m hs (gone_of ms)) n older) here.bucket
+    (subst (λ (m : ℕ). IsLast (IsIn count (bucket_of count (slice_index hs n)) hs (gone_of ms)) n m) (sym is) (chained.steps n lt here.stays)) in
+    (step, free_of count b hash hs old ms n older refl have (λ k low high. h.before k (omega arith)) step)

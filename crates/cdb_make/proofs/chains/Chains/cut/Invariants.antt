@@ -1,0 +1,10 @@
+use Rattle.std.proofs.Common.{length}
+use Rattle.cdb_make.specs.Chains.{AreChained}
+use Rattle.cdb_make.specs.Marks.{gone_of}
+use Rattle.cdb_make.proofs.chains.Chains.cut.Given as goal
+
+abbrev pub invariant-loop-self : goal.invariant-loop-self
+invariant-loop-self l = AreChained l.self.heads.items l.self.before.items l.hashes (gone_of l.marks)
+
+abbrev pub decreases-loop-self : goal.decreases-loop-self
+decreases-loop-self l = length l.self.before.items

@@ -1,0 +1,13 @@
+use Rattle.std.proofs.Common.{ℕ, ◌<◌, ◌≤◌}
+use Rattle.cdb_make.specs.Marks.{gone_of}
+use Rattle.cdb_make.specs.Chains.{Has}
+use Rattle.cdb_make.proofs.chains.Chains.last.Given as goal
+
+abbrev pub invariant-loop-at : goal.invariant-loop-at
+invariant-loop-at l = record {
+  within : l.at ≤ l.end;
+  none : (k : ℕ) → l.at ≤ k → k < l.end → Has l.hash l.hashes (gone_of l.marks) k → ⊥;
+}
+
+abbrev pub decreases-loop-at : goal.decreases-loop-at
+decreases-loop-at l = l.at

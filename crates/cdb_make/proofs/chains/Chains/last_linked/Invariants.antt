@@ -1,0 +1,10 @@
+use Rattle.std.proofs.Common.{length}
+use Rattle.cdb_make.specs.Marks.{gone_of}
+use Rattle.cdb_make.specs.Chains.{Reaches}
+use Rattle.cdb_make.proofs.chains.Chains.last_linked.Given as goal
+
+abbrev pub invariant-loop-at : goal.invariant-loop-at
+invariant-loop-at l = Reaches (length l.self.heads.items) l.hash l.hashes (gone_of l.marks) (length l.self.before.items) l.end l.at
+
+abbrev pub decreases-loop-at : goal.decreases-loop-at
+decreases-loop-at l = l.at

@@ -1,8 +1,0 @@
-use Rattle.std.proofs.Common.{arith}
-use Rattle.cdb_make.proofs.Entries.Halves.{length-halves}
-use Rattle.cdb_make.proofs.index.places.Places.len.Goals as goal
-
-pub returns : goal.returns
-returns g c =
-    let s = c.args.self.now in
-    omega (arith, length-halves s.lows.items s.highs.items, s.lows.ok.0, c.len.ensures)

@@ -1,0 +1,66 @@
+use Rattle.std.proofs.Common.{◌≡◌, ◌+◌, length, inr, refl, ◌∙◌, arith}
+use Rattle.std.proofs.lemmas.List.{length-map}
+use Rattle.cdb_form.specs.Format.Record.{KeyValue}
+use Rattle.cdb_make.specs.Marks.{is_gone}
+use Rattle.cdb_make.specs.Views.Maker.{gone_in}
+use Rattle.cdb_make.proofs.Looking.{sees_long}
+use Rattle.cdb_make.proofs.Picking.{left_all_stay, both_few, both_within}
+use Rattle.cdb_make.proofs.Rolls.{follows_then, follows_room, closing_fails, fewer_slots}
+use Rattle.cdb_make.proofs.maker.Maker.close_and_add.Goals as goal
+
+-- the record is within the limit by itself
+pub overflow_add-size-2 : goal.overflow_add-size-2
+overflow_add-size-2 g c =
+    let m = c.args.self.now in
+    omega (arith, c.requires.fits, both_within m.roll, fewer_slots g.L.Width.WORD (m.roll.gone.count + m.roll.found.count) (length m.roll.hashes.items) g.met.L.Width.four_or_eight (both_few m.roll), m.limited, g.met.L.Width.greatest_fits, c.pair_size.ensures)
+
+pub overflow_add-kept_end : goal.overflow_add-kept_end
+overflow_add-kept_end g c =
+    let m = c.args.self.now in
+    omega (arith, c.requires.fits, both_within m.roll, fewer_slots g.L.Width.WORD (m.roll.gone.count + m.roll.found.count) (length m.roll.hashes.items) g.met.L.Width.four_or_eight (both_few m.roll), m.limited, g.met.L.Width.greatest_fits, c.pair_size.ensures, c.kept_end.ensures)
+
+pub reserve-requires : goal.reserve-requires
+reserve-requires g c =
+    let m = c.args.self.now in
+    omega (arith, c.requires.fits, both_within m.roll, fewer_slots g.L.Width.WORD (m.roll.gone.count + m.roll.found.count) (length m.roll.hashes.items) g.met.L.Width.four_or_eight (both_few m.roll), m.limited, g.met.L.Width.greatest_fits, c.pair_size.ensures, c.kept_end.ensures)
+
+pub returns-in_err-reserve-clause-follows : goal.returns-in_err-reserve-clause-follows
+returns-in_err-reserve-clause-follows g c = follows_room c.args.self.now _ refl refl c.reserve.ensures.images c.reserve.ensures.room c.reserve.ensures.failures c.reserve.ensures.unwritten
+
+pub returns-in-Ok-clause-follows : goal.returns-in-Ok-clause-follows
+returns-in-Ok-clause-follows g c = follows_then c.args.self.now _ c.exchange.new.self (follows_room c.args.self.now _ refl refl c.reserve.ensures.images c.reserve.ensures.room c.reserve.ensures.failures c.reserve.ensures.unwritten) c.exchange.ensures.follows
+
+pub returns-in-Err-clause-follows : goal.returns-in-Err-clause-follows
+returns-in-Err-clause-follows g c =
+    let f = follows_then c.args.self.now _ c.exchange.new.self (follows_room c.args.self.now _ refl refl c.reserve.ensures.images c.reserve.ensures.room c.reserve.ensures.failures c.reserve.ensures.unwritten) c.exchange.ensures.follows in
+    record { comes = f.comes; head = f.head; limit = f.limit; lazy = f.lazy; room = f.room; failures = f.failures; unwritten = f.unwritten }
+
+pub returns-in-Err-clause-fails : goal.returns-in-Err-clause-fails
+returns-in-Err-clause-fails g c =
+    let r : KeyValue = record { key = c.args.key.now; value = c.args.value.now } in
+    let h = c.is_lost-self.ensures in
+    closing_fails c.args.self.now _ c.exchange.new.self _ r c.in-Err.fault refl c.reserve.ensures.images.no_other refl refl c.in_ok-reserve.ensures.ok_failures c.reserve.ensures.unwritten h.torn h.found h.none c.in-Err.ensures.fails
+
+pub returns-in-Ok-clause-settles : goal.returns-in-Ok-clause-settles
+returns-in-Ok-clause-settles g c =
+    let old = c.args.self.now in
+    let k = c.exchange.new.self in
+    let x = c.in-Ok.ensures.exchanges in
+    let m = k.roll in
+    record {
+      whole = x.whole;
+      goes = record {
+        each = λ b is.
+            let h = x.goes.each b is in (
+              h.0,
+              c.reserve.ensures.images.no_other h.0 h.1,
+              λ all sees.
+                  let q = h.2 all sees in
+                  let many : length (gone_in k) ≡ length q.0 = omega (arith, length-map m.marks.items is_gone, m.marked, sees_long m q.0 b q.1) in (
+                    q.0,
+                    q.1,
+                    (left_all_stay (gone_in k) q.0 many x.none ∙ q.2.0, λ eager. omega (arith, q.2.1, c.reserve.ensures.written), inr (omega (arith, q.2.1, c.reserve.ensures.written))),
+                  ),
+            );
+      };
+    }

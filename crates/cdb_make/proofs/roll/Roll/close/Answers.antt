@@ -1,0 +1,132 @@
+use Rattle.std.proofs.Common.{◌≡◌, ◌<◌, ◌≤◌, ◌+◌, ℕ, List, Bool, true, false, length, take, ap, sym, subst, ◌∙◌, arith}
+use Rattle.std.specs.Prelude.{slice_index}
+use Rattle.std.proofs.lemmas.List.{take_at, length-map, length-take-le, get_or_default}
+use Rattle.cdb_form.specs.Format.Pair.{head_size}
+use Rattle.cdb_make.specs.declared.mark.Mark.{Mark}
+use Rattle.cdb_make.specs.declared.roll.Picked.{Picked}
+use Rattle.cdb_make.specs.Chains.{AreChained}
+use Rattle.cdb_make.specs.Marks.{gone_of, found_of, is_gone, is_found}
+use Rattle.cdb_make.specs.Spans.{AreSpans, AreRising, AreOf, left, number}
+use Rattle.cdb_make.specs.Views.Places.{places_in}
+use Rattle.cdb_make.proofs.Spans.{rising_of, spans_of}
+use Rattle.cdb_make.proofs.Linking.{chained_same}
+use Rattle.cdb_make.proofs.Picking.{picks_none, left_front, stays_at, none_gone, none_found, left_number, end_left}
+use Rattle.cdb_make.proofs.roll.Roll.close.Goals as goal
+
+pub close_entries-kept-requires-clause-spans : goal.close_entries-kept-requires-clause-spans
+close_entries-kept-requires-clause-spans g c =
+    let m = c.put_back.new.self in
+    subst (λ (v : ℕ). AreSpans v (places_in m.places) m.end) (sym c.head_size-start.ensures) (spans_of (head_size g.L.Width.WORD) m.end (places_in m.places) m.spans)
+
+pub close_marks-requires-clause-stayed : goal.close_marks-requires-clause-stayed
+close_marks-requires-clause-stayed g c = λ k lt. stays_at c.put_back.new.self.marks.items c.put_back.new.self.gone.first k c.put_back.new.self.picked.first c.put_back.ensures.found lt
+
+pub returns-clause-of : goal.returns-clause-of
+returns-clause-of g c = λ sizes of.
+    let w : ℕ = g.L.Width.WORD in
+    let m = c.put_back.new.self in
+    let same = c.put_back.ensures.same in
+    let kept = c.close_entries-kept in
+    let moved : AreOf (head_size w) (places_in m.places) m.end sizes = record { are = same.places ∙ of.are; ends = same.end ∙ of.ends } in
+    let at : AreOf c.head_size-start.result (places_in m.places) m.end sizes = subst (λ (v : ℕ). AreOf v (places_in m.places) m.end sizes) (sym c.head_size-start.ensures) moved in
+    let marks : left (gone_of c.deref-3.result.now) sizes ≡ left (gone_of c.args.self.now.marks.items) sizes =
+    ap (λ (v : List Mark). left (gone_of v) sizes) c.deref-3.ensures.value ∙ ap (λ (v : List Bool). left v sizes) c.put_back.ensures.gone in
+    subst (λ (v : List ℕ). AreOf (head_size w) (places_in c.truncate-2.new.self) kept.result.end v) marks
+    (subst (λ (v : List ℕ). AreOf (head_size w) v kept.result.end (left (gone_of c.deref-3.result.now) sizes)) (sym c.truncate-2.ensures.places)
+    (subst (λ (v : ℕ). AreOf v (take kept.result.count (places_in kept.new.places)) kept.result.end (left (gone_of c.deref-3.result.now) sizes)) c.head_size-start.ensures (kept.ensures.of sizes at)))
+
+pub returns-clause-gone : goal.returns-clause-gone
+returns-clause-gone g c = none_gone c.close_marks.new.marks.items c.close_entries-kept.result.count c.close_marks.ensures.long c.close_marks.ensures.stay
+
+pub returns-clause-found : goal.returns-clause-found
+returns-clause-found g c = none_found c.close_marks.new.marks.items c.close_entries-kept.result.count c.close_marks.ensures.long c.close_marks.ensures.stay
+
+pub invariant_of-self-clause-picked : goal.invariant_of-self-clause-picked
+invariant_of-self-clause-picked g c =
+    let ms : List Mark = c.close_marks.new.marks.items in
+    let n : ℕ = c.close_entries-kept.result.count in
+    picks_none _ _ _ (gone_of ms) _ (none_gone ms n c.close_marks.ensures.long c.close_marks.ensures.stay) (omega (arith, length-map ms is_gone, c.close_marks.ensures.long, c.none-self.ensures.first)) c.none-self.ensures.count c.none-self.ensures.size
+
+pub invariant_of-self-clause-spans : goal.invariant_of-self-clause-spans
+invariant_of-self-clause-spans g c =
+    let m = c.put_back.new.self in
+    let kept = c.close_entries-kept in
+    let spans = spans_of (head_size g.L.Width.WORD) m.end (places_in m.places) m.spans in
+    let of : AreOf c.head_size-start.result (places_in m.places) m.end spans.sizes = subst (λ (v : ℕ). AreOf v (places_in m.places) m.end spans.sizes) (sym c.head_size-start.ensures) spans.of in
+    subst (λ (v : List ℕ). AreRising (head_size g.L.Width.WORD) v kept.result.end) (sym c.truncate-2.ensures.places)
+    (subst (λ (v : ℕ). AreRising v (take kept.result.count (places_in kept.new.places)) kept.result.end) c.head_size-start.ensures (rising_of (kept.ensures.of spans.sizes of)))
+
+pub invariant_of-self-clause-chained : goal.invariant_of-self-clause-chained
+invariant_of-self-clause-chained g c =
+    let m = c.put_back.new.self in
+    let s = c.cut.new.self in
+    let kept = c.close_entries-kept in
+    let ms : List Bool = gone_of m.marks.items in
+    let long : length kept.new.hashes ≡ m.hashes.len = omega (arith, kept.ensures.long, ap length c.deref_mut.ensures.value, m.hashes.ok.0) in
+    let hashes : c.truncate.new.self.items ≡ left ms m.hashes.items =
+    c.truncate.ensures.items ∙ ap (take kept.result.count) (take_at kept.new.hashes _ m.hashes.len long) ∙ kept.ensures.hashes
+    ∙ ap (λ (v : List Mark). left (gone_of v) c.deref_mut.result.now) c.deref-3.ensures.value ∙ ap (left ms) c.deref_mut.ensures.value in
+    let first : ℕ = m.gone.first in
+    let same : length ms ≡ length m.hashes.items = omega (arith, length-map m.marks.items is_gone, m.marked) in
+    let chained : AreChained s.heads.items s.before.items m.hashes.items ms =
+    subst (λ (v : List Mark). AreChained s.heads.items s.before.items m.hashes.items (gone_of v)) c.deref-2.ensures.value (subst (λ (v : List ℕ). AreChained s.heads.items s.before.items v (gone_of c.deref-2.result.now)) c.deref.ensures.value c.cut.ensures.chained) in
+    let none = none_gone c.close_marks.new.marks.items kept.result.count c.close_marks.ensures.long c.close_marks.ensures.stay in
+    chained_same s.heads.items s.before.items m.hashes.items c.truncate.new.self.items ms (gone_of c.close_marks.new.marks.items)
+    (omega (arith, c.truncate.ensures.len, c.truncate.new.self.ok.0, kept.ensures.past, kept.ensures.within, c.cut.ensures.left, m.paired, m.hashes.ok.0, long))
+    (λ k lt. ap (λ (v : List ℕ). slice_index v k) hashes ∙ left_front ms m.hashes.items first k 0 m.picked.first.before (omega (arith, lt, c.cut.ensures.left)) same)
+    (λ k lt.
+    let low : k < first = omega (arith, lt, c.cut.ensures.left) in
+    get_or_default (gone_of c.close_marks.new.marks.items) k true false (omega (arith, low, kept.ensures.past, length-map c.close_marks.new.marks.items is_gone, c.close_marks.ensures.long)) ∙ none k ∙ sym (m.picked.first.before k low))
+    chained
+
+pub invariant_of-self-clause-sought : goal.invariant_of-self-clause-sought
+invariant_of-self-clause-sought g c =
+    let ms : List Mark = c.close_marks.new.marks.items in
+    let n : ℕ = c.close_entries-kept.result.count in
+    picks_none _ _ _ (found_of ms) _ (none_found ms n c.close_marks.ensures.long c.close_marks.ensures.stay) (omega (arith, length-map ms is_found, c.close_marks.ensures.long, c.none-self-2.ensures.first)) c.none-self-2.ensures.count c.none-self-2.ensures.size
+
+pub returns-clause-end : goal.returns-clause-end
+returns-clause-end g c =
+    let m = c.put_back.new.self in
+    let ms : List Bool = gone_of m.marks.items in
+    let kept = c.close_entries-kept in
+    let spans = spans_of (head_size g.L.Width.WORD) m.end (places_in m.places) m.spans in
+    let of : AreOf c.head_size-start.result (places_in m.places) m.end spans.sizes = subst (λ (v : ℕ). AreOf v (places_in m.places) m.end spans.sizes) (sym c.head_size-start.ensures) spans.of in
+    let after : AreOf (head_size g.L.Width.WORD) (take kept.result.count (places_in kept.new.places)) kept.result.end (left ms spans.sizes) =
+    subst (λ (v : List Mark). AreOf (head_size g.L.Width.WORD) (take kept.result.count (places_in kept.new.places)) kept.result.end (left (gone_of v) spans.sizes)) c.deref-3.ensures.value
+    (subst (λ (v : ℕ). AreOf v (take kept.result.count (places_in kept.new.places)) kept.result.end (left (gone_of c.deref-3.result.now) spans.sizes)) c.head_size-start.ensures (kept.ensures.of spans.sizes of)) in
+    let all = end_left spans.sizes ms m.gone (omega (arith, length-map m.marks.items is_gone, m.marked, m.paired)) m.picked spans.of after in
+    omega (arith, all, c.put_back.ensures.same.end, ap (λ (p : Picked). p.size) c.put_back.ensures.picked)
+
+-- how many are left
+kept_count : (ms : List Mark) (hs news : List ℕ) (count gone : ℕ) → length ms ≡ length hs → count ≤ length news → take count news ≡ left (gone_of ms) hs → gone ≡ number (gone_of ms) → count + gone ≡ length hs
+kept_count ms hs news count gone long within is many =
+    omega (arith, ap length is, length-take-le count news within, left_number (gone_of ms) hs (length-map ms is_gone ∙ long), many)
+
+pub returns-clause-count : goal.returns-clause-count
+returns-clause-count g c =
+    let m = c.put_back.new.self in
+    let kept = c.close_entries-kept in
+    let n : ℕ = kept.result.count in
+    let long : length kept.new.hashes ≡ length m.hashes.items = omega (arith, kept.ensures.long, ap length c.deref_mut.ensures.value) in
+    let is : take n kept.new.hashes ≡ left (gone_of m.marks.items) m.hashes.items =
+    kept.ensures.hashes ∙ ap (λ (v : List Mark). left (gone_of v) c.deref_mut.result.now) c.deref-3.ensures.value ∙ ap (left (gone_of m.marks.items)) c.deref_mut.ensures.value in
+    let all : n + m.gone.count ≡ length m.hashes.items = kept_count m.marks.items m.hashes.items kept.new.hashes n m.gone.count m.marked (omega (arith, long, kept.ensures.within, m.paired)) is m.picked.count in
+    omega (arith, all, long, c.truncate.ensures.len, c.truncate.new.self.ok.0, m.hashes.ok.0, kept.ensures.within, m.paired, ap length c.put_back.ensures.same.hashes, ap (λ (p : Picked). p.count) c.put_back.ensures.picked)
+
+pub returns-clause-room : goal.returns-clause-room
+returns-clause-room g c = λ some.
+    let m = c.put_back.new.self in
+    let kept = c.close_entries-kept in
+    let n : ℕ = kept.result.count in
+    let long : length kept.new.hashes ≡ length m.hashes.items = omega (arith, kept.ensures.long, ap length c.deref_mut.ensures.value) in
+    let is : take n kept.new.hashes ≡ left (gone_of m.marks.items) m.hashes.items =
+    kept.ensures.hashes ∙ ap (λ (v : List Mark). left (gone_of v) c.deref_mut.result.now) c.deref-3.ensures.value ∙ ap (left (gone_of m.marks.items)) c.deref_mut.ensures.value in
+    let all : n + m.gone.count ≡ length m.hashes.items = kept_count m.marks.items m.hashes.items kept.new.hashes n m.gone.count m.marked (omega (arith, long, kept.ensures.within, m.paired)) is m.picked.count in
+    let fewer : n < length m.hashes.items = omega (arith, all, some, ap (λ (p : Picked). p.count) c.put_back.ensures.picked) in
+    let places : length (places_in c.truncate-2.new.self) ≡ n = ap length c.truncate-2.ensures.places ∙ length-take-le n (places_in kept.new.places) (omega (arith, kept.ensures.places, kept.ensures.within)) in
+    record {
+      hashes = omega (arith, fewer, long, c.truncate.ensures.len, c.truncate.new.self.ok.0, m.hashes.ok.0, c.truncate.ensures.capacity, m.hash_room);
+      places = omega (arith, fewer, places, c.truncate-2.ensures.room, kept.ensures.room, m.place_room, m.paired);
+      marks = omega (arith, fewer, c.close_marks.ensures.long, c.close_marks.ensures.room, m.room, m.marked);
+    }

@@ -1,0 +1,19 @@
+use Rattle.std.proofs.Common.{arith}
+use Rattle.cdb_form.specs.Format.Pair.{head_size}
+use Rattle.cdb_make.specs.Marks.{gone_of}
+use Rattle.cdb_make.specs.Views.Places.{places_in}
+use Rattle.cdb_make.proofs.Spans.{spans_of}
+use Rattle.cdb_make.proofs.Picking.{picked_within}
+use Rattle.cdb_make.proofs.roll.Roll.left_end.Goals as goal
+
+pub overflow_sub-result : goal.overflow_sub-result
+overflow_sub-result g c =
+    let m = c.args.self.now in
+    let spans = spans_of (head_size g.L.Width.WORD) m.end (places_in m.places) m.spans in
+    omega (arith, m.picked.size spans.sizes spans.of, picked_within spans.sizes (gone_of m.marks.items) spans.of)
+
+pub returns : goal.returns
+returns g c =
+    let m = c.args.self.now in
+    let spans = spans_of (head_size g.L.Width.WORD) m.end (places_in m.places) m.spans in
+    omega (arith, m.picked.size spans.sizes spans.of, picked_within spans.sizes (gone_of m.marks.items) spans.of)

@@ -1,0 +1,56 @@
+use Rattle.std.proofs.Common.{◌≡◌, ◌∷◌, ◌++◌, [], ℕ, ◌+◌, List, Bool, true, false, length, get_or, refl, ap, sym, subst, ◌∙◌, arith}
+use Rattle.std.specs.Prelude.{slice_index}
+use Rattle.std.proofs.lemmas.List.{length-map, map-append, length_push, get_or_append_left}
+use Rattle.cdb_form.specs.Format.Pair.{head_size}
+use Rattle.cdb_make.specs.declared.mark.Mark.TheVariants.{Stays}
+use Rattle.cdb_make.specs.Marks.{is_gone, is_found, gone_of, found_of}
+use Rattle.cdb_make.specs.Spans.{IsPicked}
+use Rattle.cdb_make.specs.Views.Places.{places_in}
+use Rattle.cdb_make.proofs.Linking.{chained_same}
+use Rattle.cdb_make.proofs.Picking.{picks_push}
+use Rattle.cdb_make.proofs.Spans.{long_as, pushed_of, rising_of, spans_of}
+use Rattle.cdb_make.proofs.roll.Roll.push.Goals as goal
+
+pub returns-clause-of : goal.returns-clause-of
+returns-clause-of g c = λ sizes of. pushed_of c.args.size c.push.ensures.places of
+
+pub invariant_of-self-clause-spans : goal.invariant_of-self-clause-spans
+invariant_of-self-clause-spans g c =
+    let m = c.args.self.now in
+    rising_of (pushed_of c.args.size c.push.ensures.places (spans_of (head_size g.L.Width.WORD) m.end (places_in m.places) m.spans).of)
+
+pub invariant_of-self-clause-picked : goal.invariant_of-self-clause-picked
+invariant_of-self-clause-picked g c =
+    let m = c.args.self.now in
+    let ms : List Bool = gone_of m.marks.items in
+    let spans = spans_of (head_size g.L.Width.WORD) m.end (places_in m.places) m.spans in
+    let count : c.len.result ≡ length ms = omega (arith, c.len.ensures, m.marks.ok.0, length-map m.marks.items is_gone) in
+    let items : gone_of c.push_reserved-2.new.self.items ≡ ms ++ false ∷ [] = ap gone_of c.push_reserved-2.ensures.items ∙ map-append is_gone m.marks.items (Stays ∷ []) in
+    subst (λ (v : List Bool). IsPicked (head_size g.L.Width.WORD) (places_in c.push.new.self) (m.end + c.args.size) v (record { first = c.first_after-self.result; count = m.gone.count; size = m.gone.size })) (sym items)
+    (picks_push ms m.gone (record { first = c.first_after-self.result; count = m.gone.count; size = m.gone.size }) c.args.size
+    (omega (arith, length-map m.marks.items is_gone, m.marked, m.paired, long_as spans.of)) spans.of (pushed_of c.args.size c.push.ensures.places spans.of)
+    (λ e. c.first_after-self.ensures.none (e ∙ sym count) ∙ ap (λ (n : ℕ). n + 1) count) (λ apart. c.first_after-self.ensures.some (λ e. apart (e ∙ count))) refl refl m.picked)
+
+pub invariant_of-self-clause-chained : goal.invariant_of-self-clause-chained
+invariant_of-self-clause-chained g c =
+    let m = c.args.self.now in
+    let ms : List Bool = gone_of m.marks.items in
+    let items : gone_of c.push_reserved-2.new.self.items ≡ ms ++ false ∷ [] = ap gone_of c.push_reserved-2.ensures.items ∙ map-append is_gone m.marks.items (Stays ∷ []) in
+    let hashes = c.push_reserved.ensures.items in
+    chained_same m.chains.heads.items m.chains.before.items m.hashes.items c.push_reserved.new.self.items ms (gone_of c.push_reserved-2.new.self.items)
+    (omega (arith, m.chained.within, ap length hashes, length_push m.hashes.items c.args.hash))
+    (λ k lt. ap (λ (v : List ℕ). slice_index v k) hashes ∙ get_or_append_left m.hashes.items (c.args.hash ∷ []) 0 k (omega (arith, m.chained.within)))
+    (λ k lt. ap (λ (v : List Bool). get_or v k true) items ∙ get_or_append_left ms (false ∷ []) true k (omega (arith, m.chained.within, m.marked, length-map m.marks.items is_gone)))
+    m.chained
+
+pub invariant_of-self-clause-sought : goal.invariant_of-self-clause-sought
+invariant_of-self-clause-sought g c =
+    let m = c.args.self.now in
+    let ms : List Bool = found_of m.marks.items in
+    let spans = spans_of (head_size g.L.Width.WORD) m.end (places_in m.places) m.spans in
+    let count : c.len-2.result ≡ length ms = omega (arith, c.len-2.ensures, m.marks.ok.0, length-map m.marks.items is_found) in
+    let items : found_of c.push_reserved-2.new.self.items ≡ ms ++ false ∷ [] = ap found_of c.push_reserved-2.ensures.items ∙ map-append is_found m.marks.items (Stays ∷ []) in
+    subst (λ (v : List Bool). IsPicked (head_size g.L.Width.WORD) (places_in c.push.new.self) (m.end + c.args.size) v (record { first = c.first_after-self-2.result; count = m.found.count; size = m.found.size })) (sym items)
+    (picks_push ms m.found (record { first = c.first_after-self-2.result; count = m.found.count; size = m.found.size }) c.args.size
+    (omega (arith, length-map m.marks.items is_found, m.marked, m.paired, long_as spans.of)) spans.of (pushed_of c.args.size c.push.ensures.places spans.of)
+    (λ e. c.first_after-self-2.ensures.none (e ∙ sym count) ∙ ap (λ (n : ℕ). n + 1) count) (λ apart. c.first_after-self-2.ensures.some (λ e. apart (e ∙ count))) refl refl m.sought)

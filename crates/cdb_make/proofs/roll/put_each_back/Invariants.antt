@@ -1,0 +1,9 @@
+use Rattle.std.proofs.Common.{◌≡◌, length}
+use Rattle.cdb_make.specs.Marks.{IsPutBackFrom}
+use Rattle.cdb_make.proofs.roll.put_each_back.Given as goal
+
+abbrev pub invariant-loop-n : goal.invariant-loop-n
+invariant-loop-n l = record {
+  long : length l.marks ≡ length l.fn.marks;
+  back : IsPutBackFrom l.from l.n l.fn.marks l.marks;
+}

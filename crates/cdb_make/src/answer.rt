@@ -1,0 +1,28 @@
+// What a put answers.
+ghost use Rattle.std.specs.Prelude.{◌≡◌};
+ghost use Rattle.cdb_make.specs.Views.Maker.{is_present};
+
+/// What a put did.
+#[derive(Clone, Copy, Debug, PartialEq, Eq)]
+pub enum Put {
+    /// The record was appended, and no record of its key was there or looked for.
+    Added,
+    /// The record was appended, and its key was there already.
+    AddedAgain,
+    /// The key was there already, and nothing was appended.
+    Present,
+    /// So many records of its key were taken out, and the record was appended.
+    Replaced(u64),
+}
+
+impl Put {
+    /// Whether the key was there already, and nothing was appended.
+    pub(crate) fn is_present(self) -> bool
+        ensures { result ≡ is_present self }
+    {
+        match self {
+            Put::Present => true,
+            Put::Added | Put::AddedAgain | Put::Replaced(_) => false,
+        }
+    }
+}

@@ -1,0 +1,247 @@
+// Whole records, as they are in a file, are written behind the others at once.
+ghost use Rattle.std.specs.Prelude.{◌≡◌, ℕ, ◌+◌, ◌*◌, ◌<◌, ◌≤◌, ◌⊎◌, ◌++◌, ◌∷◌, [], true, false, List};
+ghost use Rattle.std.specs.Prelude.{length, take, sum_by, IfOk, IfErr, OnOk, OnErr};
+ghost use Rattle.cdb_store.specs.Images.{Holds as AreIn};
+ghost use Rattle.cdb_form.specs.Format.File.{whole_size};
+ghost use Rattle.cdb_form.specs.Format.Hash.{key_hash};
+ghost use Rattle.cdb_form.specs.Format.Record.{KeyValue, IsRecord, record_bytes, record_size};
+ghost use Rattle.cdb_form.specs.Format.Walk.{prefix_size, prefix_record, whole_records};
+ghost use Rattle.cdb_make.specs.declared.fault.MakeFault.TheVariants.{NoMemory};
+ghost use Rattle.cdb_make.specs.Views.Appending.{records_at, first_size, AreFirst};
+ghost use Rattle.cdb_make.specs.Views.Roll.{SameRecords};
+
+use crate::fault::MakeFault;
+use crate::maker::Maker;
+use cdb_form::{Width, hash, pair_size, read_header, record_len};
+use cdb_store::Store;
+
+/// The record with which some bytes begin.
+#[derive(Clone, Copy)]
+struct First<'a> {
+    key: &'a [u8],
+    /// How many bytes it has.
+    size: usize,
+}
+
+/// The whole record with which some bytes begin.
+fn first_record<L: Width>(bytes: &[u8]) -> First<'_>
+    requires { prefix_size L.WORD bytes.now ≤ length bytes.now }
+    ensures key { result.key.now ≡ (prefix_record L.WORD bytes.now).key }
+    ensures size { result.size ≡ prefix_size L.WORD bytes.now }
+{
+    let size = pair_size::<L>();
+    let header = read_header::<L>(&bytes[..size]);
+    let value = size + header.klen as usize;
+    First {
+        key: &bytes[size..value],
+        size: value + header.vlen as usize,
+    }
+}
+
+/// Which records of a run are appended.
+#[derive(Clone, Copy)]
+struct Fitting {
+    /// How many they are.
+    count: usize,
+    /// How many bytes they have.
+    size: usize,
+    /// The limit keeps out a whole record that follows them.
+    passes: bool,
+}
+
+/// The first whole records at the start of some bytes for which a file has room: with the slots of
+/// their tables they take at most so many bytes.
+fn measure<L: Width>(bytes: &[u8], room: u64) -> Fitting
+    ensures first { AreFirst L.WORD bytes.now result.count result.size }
+    ensures room { sum_by (whole_size L.WORD) (take result.count (records_at L.WORD bytes.now))
+        ≤ room }
+    ensures all { result.passes ≡ false → result.count ≡ length (records_at L.WORD bytes.now) }
+    ensures more { result.passes ≡ true → result.count < length (records_at L.WORD bytes.now) }
+    ensures passes { result.passes ≡ true → room
+        < sum_by (whole_size L.WORD) (take (result.count + 1) (records_at L.WORD bytes.now)) }
+{
+    let slots = 2 * pair_size::<L>() as u64;
+    let mut left = room;
+    let (mut count, mut place) = (0, 0);
+    while let Some(next) = record_len::<L>(&bytes[place..]) {
+        if left < slots || left - slots < next as u64 {
+            return Fitting {
+                count,
+                size: place,
+                passes: true,
+            };
+        }
+        left -= slots + next as u64;
+        count += 1;
+        place += next;
+    }
+    Fitting {
+        count,
+        size: place,
+        passes: false,
+    }
+}
+
+impl<S: Store, L: Width> Maker<S, L> {
+    ghost use Rattle.cdb_make.specs.Views.Maker.{Holds, StaysWhole, Follows, HasNotFailed, HasGone};
+    ghost use Rattle.cdb_make.specs.Views.Appending.{AppendsAll, AppendsSome, FailsAppending};
+    ghost use Rattle.cdb_make.specs.Views.Appending.{Enters, KeepsLimit, FailsWriting, full_size};
+
+    /// Notes a record whose bytes are in the store, behind the others.
+    ///
+    /// `NoMemory`: the records are what they were.
+    fn enter(&mut self, hash: u32, size: u64) -> Result<(), MakeFault>
+        requires whole { self.old.broken ≡ false }
+        requires inside { self.old.roll.end + size ≤ S.size self.old.store }
+        requires within { full_size self.old + size + 4 * L.WORD ≤ self.old.limit }
+        ensures enters { (r : KeyValue) → IsRecord r → hash ≡ key_hash r.key
+            → size ≡ record_size L.WORD r
+            → AreIn self.old.roll.end (record_bytes L.WORD r) (S.image self.old.store)
+            → OnOk result (Enters self.old self.new (r ∷ [])) }
+        ensures end { OnOk result (self.new.roll.end ≡ self.old.roll.end + size) }
+        ensures stays { OnErr result (StaysWhole self.old self.new) }
+        ensures memory { IfErr result (λ fault. fault ≡ NoMemory) }
+        ensures whole { self.new.broken ≡ false }
+        ensures limit { self.new.limit ≡ self.old.limit }
+        ensures lazy { self.new.lazy ≡ self.old.lazy }
+        ensures store { self.new.store ≡ self.old.store }
+    {
+        self.roll.reserve()?;
+        self.roll.push(hash, size);
+        Ok(())
+    }
+
+    /// Notes the first whole records of some bytes, which are in the store behind the others.
+    ///
+    /// `NoMemory`: the records that are noted are held, and the bytes behind them are those of no
+    /// record.
+    fn enter_all(&mut self, bytes: &[u8], count: usize) -> Result<(), MakeFault>
+        requires whole { self.old.broken ≡ false }
+        requires first { AreFirst L.WORD bytes.now count (first_size L.WORD bytes.now count) }
+        requires room { full_size self.old
+            + sum_by (whole_size L.WORD) (take count (records_at L.WORD bytes.now))
+            ≤ self.old.limit }
+        requires inside { self.old.roll.end + first_size L.WORD bytes.now count
+            ≤ S.size self.old.store }
+        requires written { AreIn self.old.roll.end
+            (take (first_size L.WORD bytes.now count) bytes.now) (S.image self.old.store) }
+        ensures ok { OnOk result
+            (Enters self.old self.new (take count (records_at L.WORD bytes.now))) }
+        ensures some { OnErr result
+            (AppendsSome self.old self.new (take count (records_at L.WORD bytes.now))
+            (KeepsLimit self.old self.new)) }
+        ensures memory { IfErr result (λ fault. fault ≡ NoMemory) }
+        ensures limit { self.new.limit ≡ self.old.limit }
+        ensures lazy { self.new.lazy ≡ self.old.lazy }
+        ensures store { self.new.store ≡ self.old.store }
+    {
+        let mut place = 0;
+        for _ in 0..count {
+            let first = first_record::<L>(&bytes[place..]);
+            self.enter(hash(first.key), first.size as u64)?;
+            place += first.size;
+        }
+        Ok(())
+    }
+
+    /// Writes some bytes behind the records, which stay.
+    ///
+    /// `NoMemory`: nothing was written. `Writing`: the store failed.
+    fn write_behind(&mut self, bytes: &[u8]) -> Result<(), MakeFault>
+        requires whole { self.old.broken ≡ false }
+        requires fits { self.old.roll.end + length bytes.now ≤ self.old.limit }
+        ensures stays { StaysWhole self.old self.new }
+        ensures roll { SameRecords self.old.roll self.new.roll }
+        ensures gone { self.new.roll.gone ≡ self.old.roll.gone }
+        ensures follows { Follows self.old self.new }
+        ensures inside { OnOk result
+            (self.new.roll.end + length bytes.now ≤ S.size self.new.store) }
+        ensures stored { OnOk result
+            (AreIn self.new.roll.end bytes.now (S.image self.new.store)) }
+        ensures written { OnOk result
+            (S.written self.new.store ≡ S.written self.old.store + length bytes.now) }
+        ensures failures { OnOk result (HasNotFailed self.old self.new) }
+        ensures fails { IfErr result (FailsWriting self.old self.new) }
+    {
+        self.store.write_at(self.roll.end, bytes)?;
+        Ok(())
+    }
+
+    /// Writes the first whole records of some bytes behind the others, and notes them.
+    ///
+    /// The faults are those of `append`.
+    fn append_first(&mut self, bytes: &[u8], count: usize, size: usize) -> Result<(), MakeFault>
+        requires whole { self.old.broken ≡ false }
+        requires first { AreFirst L.WORD bytes.now count size }
+        requires room { full_size self.old
+            + sum_by (whole_size L.WORD) (take count (records_at L.WORD bytes.now))
+            ≤ self.old.limit }
+        ensures ok { OnOk result (AppendsAll self.old self.new
+            (take count (records_at L.WORD bytes.now)) size) }
+        ensures fails { IfErr result
+            (FailsAppending self.old self.new (take count (records_at L.WORD bytes.now))) }
+        ensures follows { Follows self.old self.new }
+    {
+        if count == 0 {
+            return Ok(());
+        }
+        self.write_behind(&bytes[..size])?;
+        self.enter_all(bytes, count)
+    }
+
+    /// Whether some records go, and beside them there is no room for all whole records of some bytes.
+    fn crowds(&self, bytes: &[u8]) -> bool
+        ensures { result ≡ false → (self.now.roll.gone.count ≡ 0) ⊎ (full_size self.now
+            + sum_by (whole_size L.WORD) (records_at L.WORD bytes.now) ≤ self.now.limit) }
+    {
+        self.roll.gone.count > 0 && measure::<L>(bytes, self.limit - self.full_size()).passes
+    }
+
+    /// Appends the whole records of some bytes as `append` does: no record goes, or there is room
+    /// for all beside those that go.
+    fn append_beside(&mut self, bytes: &[u8]) -> Result<usize, MakeFault>
+        requires whole { self.old.broken ≡ false }
+        requires room { (self.old.roll.gone.count ≡ 0) ⊎ (full_size self.old
+            + sum_by (whole_size L.WORD) (records_at L.WORD bytes.now) ≤ self.old.limit) }
+        ensures ok { IfOk result (λ n.
+            AppendsAll self.old self.new (whole_records L.WORD (length bytes.now) bytes.now) n) }
+        ensures fails { IfErr result
+            (FailsAppending self.old self.new (whole_records L.WORD (length bytes.now) bytes.now)) }
+        ensures follows { Follows self.old self.new }
+    {
+        let fitting = measure::<L>(bytes, self.limit - self.full_size());
+        self.append_first(bytes, fitting.count, fitting.size)?;
+        if fitting.passes {
+            return Err(MakeFault::TooBig);
+        }
+        Ok(fitting.size)
+    }
+
+    /// Appends the whole records at the start of some bytes, as they are, and answers how many
+    /// bytes they have.
+    ///
+    /// They are written by one write, and no record is copied. The bytes after the last whole
+    /// record are left out: pass them again, before those that follow them. Records that go are taken
+    /// out first if the file has no room beside them.
+    ///
+    /// `TooBig`: with the next record the file would pass the limit. `NoMemory`: an allocation
+    /// failed at the next record. Both leave the records before that one appended. `Writing`: the
+    /// store failed; amid a pass that breaks the maker, else it holds the records that it held.
+    /// `Broken`: an earlier call broke the maker, and it is what it was.
+    pub fn append(&mut self, bytes: &[u8]) -> Result<usize, MakeFault>
+        ensures ok { IfOk result (λ n.
+            AppendsAll self.old self.new (whole_records L.WORD (length bytes.now) bytes.now) n) }
+        ensures fails { IfErr result
+            (FailsAppending self.old self.new (whole_records L.WORD (length bytes.now) bytes.now)) }
+        ensures follows { Follows self.old self.new }
+    {
+        if self.broken {
+            return Err(MakeFault::Broken);
+        }
+        if !self.crowds(bytes) {
+            return self.append_beside(bytes);
+        }
+        self.close_all()?;
+        self.append_beside(bytes)
+    }
+}

@@ -1,0 +1,342 @@
+// The entries of a roll, found by their hashes.
+ghost use Rattle.std.specs.Prelude.{◌≡◌, ℕ, List, [], ◌+◌, ◌-◌, ◌<◌, ◌≤◌, ◌^◌, ◌⊎◌, ◌∷◌, length, min, map, Bool};
+ghost use Rattle.std.specs.Prelude.{slice_index, slice_set, get_or, vec_capacity, true, false, OnOk, OnErr};
+ghost use Rattle.std.specs.Bool.{Decides};
+ghost use Rattle.cdb_make.specs.Marks.{gone_of, taken, HaveHash, IsTakenFrom};
+ghost use Rattle.cdb_make.specs.Chains.{AreChained, IsLast, IsIn, Has, Reaches, bucket_of};
+
+use crate::mark::{Mark, is_found_at, is_gone_at};
+use std::alloc::{AllocError, Global};
+
+/// How many entries have a chain at most, since their numbers are 32 bits wide.
+const MOST: usize = 4294967295;
+
+/// Whether an entry has a hash, and its record does not go.
+#[inline(always)]
+fn is_left(hashes: &[u32], marks: &[Mark], hash: u32, entry: usize) -> bool
+    requires within { entry < length hashes.now }
+    requires long { length marks.now ≡ length hashes.now }
+    ensures { Decides result (Has hash hashes.now (gone_of marks.now) entry) }
+{
+    hashes[entry] == hash && !is_gone_at(marks, entry)
+}
+
+/// Marks that the records from `from` on go that a look has found.
+fn take_each(marks: &mut [Mark], from: usize)
+    requires { from ≤ length marks.old }
+    ensures long { length marks.new ≡ length marks.old }
+    ensures taken { IsTakenFrom from (length marks.old) marks.old marks.new }
+{
+    for n in from..marks.len() {
+        if is_found_at(marks, n) {
+            marks[n] = Mark::Gone;
+        }
+    }
+}
+
+/// The first entries of a roll in chains, a chain for the hashes of each bucket: 8 to 12 bytes an
+/// entry. So a search looks at few entries but those of its hash, however many there are.
+#[derive(Drop)]
+pub(crate) struct Chains {
+    /// The number after the last entry of each bucket, or 0 if it has none.
+    heads: Vec<u32>,
+    /// The same of the entries before each one in its bucket.
+    before: Vec<u32>,
+    ghost heads_room: { length heads.items ≤ vec_capacity heads },
+    ghost before_room: { length before.items ≤ vec_capacity before },
+    ghost spread: { length before.items ≤ length heads.items },
+    ghost most: { length before.items ≤ 2 ^ 32 - 1 },
+}
+
+impl Chains {
+    /// Chains of no entries.
+    pub(crate) fn new(alloc: Global) -> Chains
+        ensures heads { result.heads.items ≡ [] }
+        ensures before { result.before.items ≡ [] }
+    {
+        Chains {
+            heads: Vec::new(alloc),
+            before: Vec::new(alloc),
+        }
+    }
+
+    /// The bucket of a hash.
+    fn bucket(&self, hash: u32) -> usize
+        requires { 0 < length self.now.heads.items }
+        ensures bucket { result ≡ bucket_of (length self.now.heads.items) hash }
+        ensures within { result < length self.now.heads.items }
+    {
+        hash as usize % self.heads.len()
+    }
+
+    /// The number after the last entry below `end` that has the hash and no mark, or 0. If `end` is
+    /// the number of such an entry, the search goes on from it.
+    pub(crate) fn last(&self, hashes: &[u32], marks: &[Mark], hash: u32, end: usize) -> usize
+        requires chained { AreChained self.now.heads.items self.now.before.items hashes.now (gone_of marks.now) }
+        requires long { length marks.now ≡ length hashes.now }
+        requires end { end ≤ length hashes.now }
+        ensures { IsLast (Has hash hashes.now (gone_of marks.now)) end result }
+    {
+        let mut at = end;
+        while at > self.before.len() {
+            if is_left(hashes, marks, hash, at - 1) {
+                return at;
+            }
+            at -= 1;
+        }
+        self.last_linked(hashes, marks, hash, at)
+    }
+
+    /// Where such a search begins: at the entry before `end`, or at the last of the bucket.
+    fn start(&self, hashes: &[u32], marks: &[Mark], hash: u32, end: usize) -> usize
+        requires chained { AreChained self.now.heads.items self.now.before.items hashes.now (gone_of marks.now) }
+        requires long { length marks.now ≡ length hashes.now }
+        requires end { end ≤ length self.now.before.items }
+        requires some { 0 < end }
+        ensures { Reaches (length self.now.heads.items) hash hashes.now (gone_of marks.now)
+            (length self.now.before.items) end result }
+    {
+        if end < self.before.len() && is_left(hashes, marks, hash, end) {
+            return self.before[end] as usize;
+        }
+        self.heads[self.bucket(hash)] as usize
+    }
+
+    /// The same among the entries that are in chains.
+    fn last_linked(&self, hashes: &[u32], marks: &[Mark], hash: u32, end: usize) -> usize
+        requires chained { AreChained self.now.heads.items self.now.before.items hashes.now (gone_of marks.now) }
+        requires long { length marks.now ≡ length hashes.now }
+        requires end { end ≤ length self.now.before.items }
+        ensures { IsLast (Has hash hashes.now (gone_of marks.now)) end result }
+    {
+        if end == 0 {
+            return 0;
+        }
+        let mut at = self.start(hashes, marks, hash, end);
+        while at > 0 {
+            if at <= end && hashes[at - 1] == hash {
+                return at;
+            }
+            at = self.before[at - 1] as usize;
+        }
+        0
+    }
+
+    /// Puts the first entry that is in no chain into that of its bucket.
+    fn link(&mut self, hashes: &[u32], marks: &[Mark])
+        requires chained { AreChained self.old.heads.items self.old.before.items hashes.now (gone_of marks.now) }
+        requires long { length marks.now ≡ length hashes.now }
+        requires some { length self.old.before.items < length hashes.now }
+        requires room { length self.old.before.items < vec_capacity self.old.before }
+        requires spread { length self.old.before.items < length self.old.heads.items }
+        requires most { length self.old.before.items < 2 ^ 32 - 1 }
+        ensures chained { AreChained self.new.heads.items self.new.before.items hashes.now (gone_of marks.now) }
+        ensures more { length self.new.before.items ≡ length self.old.before.items + 1 }
+        ensures wide { length self.new.heads.items ≡ length self.old.heads.items }
+        ensures heads { vec_capacity self.new.heads ≡ vec_capacity self.old.heads }
+        ensures capacity { vec_capacity self.new.before ≡ vec_capacity self.old.before }
+    {
+        let entry = self.before.len();
+        let bucket = self.bucket(hashes[entry]);
+        self.before.push_reserved(self.heads[bucket]);
+        if !is_gone_at(marks, entry) {
+            self.heads[bucket] = entry as u32 + 1;
+        }
+    }
+
+    /// Takes the last entry of all out of its chain.
+    fn unlink(&mut self, hashes: &[u32], marks: &[Mark])
+        requires chained { AreChained self.old.heads.items self.old.before.items hashes.now (gone_of marks.now) }
+        requires long { length marks.now ≡ length hashes.now }
+        requires some { 0 < length self.old.before.items }
+        ensures chained { AreChained self.new.heads.items self.new.before.items hashes.now (gone_of marks.now) }
+        ensures fewer { length self.new.before.items + 1 ≡ length self.old.before.items }
+        ensures wide { length self.new.heads.items ≡ length self.old.heads.items }
+        ensures heads { vec_capacity self.new.heads ≡ vec_capacity self.old.heads }
+        ensures capacity { vec_capacity self.new.before ≡ vec_capacity self.old.before }
+    {
+        let entry = self.before.len() - 1;
+        if !is_gone_at(marks, entry) {
+            let bucket = self.bucket(hashes[entry]);
+            self.heads[bucket] = self.before[entry];
+        }
+        self.before.truncate(entry);
+    }
+
+    /// Takes an entry out of its chain, which is marked then: `newer` is the number after the next
+    /// one of its bucket, or 0 if it is the last.
+    pub(crate) fn drop_entry(&mut self, hashes: &[u32], marks: &[Mark], newer: usize, entry: usize)
+        requires chained { AreChained self.old.heads.items self.old.before.items hashes.now (gone_of marks.now) }
+        requires long { length marks.now ≡ length hashes.now }
+        requires linked { entry < length self.old.before.items }
+        requires stays { get_or (gone_of marks.now) entry true ≡ false }
+        requires last { newer ≡ 0 → slice_index self.old.heads.items
+            (bucket_of (length self.old.heads.items) (slice_index hashes.now entry)) ≡ entry + 1 }
+        requires next { 0 < newer → (newer ≤ length self.old.before.items)
+            × (get_or (gone_of marks.now) (newer - 1) true ≡ false)
+            × (slice_index self.old.before.items (newer - 1) ≡ entry + 1) }
+        ensures chained { AreChained self.new.heads.items self.new.before.items hashes.now
+            (slice_set (gone_of marks.now) entry true) }
+        ensures long { length self.new.before.items ≡ length self.old.before.items }
+        ensures wide { length self.new.heads.items ≡ length self.old.heads.items }
+        ensures head { newer ≡ 0 → slice_index self.new.heads.items
+            (bucket_of (length self.old.heads.items) (slice_index hashes.now entry))
+            ≡ slice_index self.old.before.items entry }
+        ensures next { 0 < newer → slice_index self.new.before.items (newer - 1)
+            ≡ slice_index self.old.before.items entry }
+    {
+        let left = self.before[entry];
+        if newer == 0 {
+            let bucket = self.bucket(hashes[entry]);
+            self.heads[bucket] = left;
+        } else {
+            self.before[newer - 1] = left;
+        }
+    }
+
+    /// So many entries it can have before it takes memory.
+    fn room(&self) -> usize
+        ensures { result ≡ min (vec_capacity self.now.before) (vec_capacity self.now.heads) }
+    {
+        self.before.capacity().min(self.heads.capacity())
+    }
+
+    /// Makes room for so many entries, or for as many as it can have. The chains stay.
+    fn reserve(&mut self, count: usize) -> Result<(), AllocError>
+        ensures heads { self.new.heads.items ≡ self.old.heads.items }
+        ensures before { self.new.before.items ≡ self.old.before.items }
+    {
+        let wanted = count.min(MOST);
+        self.before
+            .reserve_exact(wanted.saturating_sub(self.before.len()))?;
+        self.heads.reserve(wanted.saturating_sub(self.heads.len()))
+    }
+
+    /// Puts entries into the chains of their buckets until so many are in one.
+    fn link_up_to(&mut self, hashes: &[u32], marks: &[Mark], most: usize)
+        requires chained { AreChained self.old.heads.items self.old.before.items hashes.now (gone_of marks.now) }
+        requires long { length marks.now ≡ length hashes.now }
+        requires some { length self.old.before.items ≤ most }
+        requires within { most ≤ length hashes.now }
+        requires room { most ≤ vec_capacity self.old.before }
+        requires spread { most ≤ length self.old.heads.items }
+        requires most { most ≤ 2 ^ 32 - 1 }
+        ensures chained { AreChained self.new.heads.items self.new.before.items hashes.now (gone_of marks.now) }
+        ensures all { length self.new.before.items ≡ most }
+    {
+        while self.before.len() < most {
+            self.link(hashes, marks);
+        }
+    }
+
+    /// Takes as many buckets as there is room for, and all entries out of their chains.
+    fn widen(&mut self)
+        ensures chained { (hashes : List ℕ) (marks : List Bool)
+            → AreChained self.new.heads.items self.new.before.items hashes marks }
+        ensures none { self.new.before.items ≡ [] }
+        ensures wide { length self.new.heads.items ≡ vec_capacity self.old.heads }
+        ensures capacity { vec_capacity self.new.before ≡ vec_capacity self.old.before }
+    {
+        let room = self.heads.capacity();
+        self.before.clear();
+        self.heads.clear();
+        // It takes no memory.
+        let _ = self.heads.resize(room, 0);
+    }
+
+    /// Puts the entries that are in no chain into those of their buckets, as many as there is room
+    /// for. It takes no memory.
+    fn catch_up(&mut self, hashes: &[u32], marks: &[Mark])
+        requires chained { AreChained self.old.heads.items self.old.before.items hashes.now (gone_of marks.now) }
+        requires long { length marks.now ≡ length hashes.now }
+        ensures chained { AreChained self.new.heads.items self.new.before.items hashes.now (gone_of marks.now) }
+    {
+        let most = hashes.len().min(MOST).min(self.room());
+        if most <= self.before.len() {
+            return;
+        }
+        if most > self.heads.len() {
+            self.widen();
+        }
+        self.link_up_to(hashes, marks, most);
+    }
+
+    /// Puts the entries into chains before a look, and asks for memory for those that have no room
+    /// and for some more. Without it they are in none, and a look compares them one by one.
+    pub(crate) fn link_all(&mut self, hashes: &[u32], marks: &[Mark])
+        requires chained { AreChained self.old.heads.items self.old.before.items hashes.now (gone_of marks.now) }
+        requires long { length marks.now ≡ length hashes.now }
+        ensures chained { AreChained self.new.heads.items self.new.before.items hashes.now (gone_of marks.now) }
+    {
+        let count = hashes.len();
+        if self.room() < count {
+            let _ = self.reserve(count + count / 4);
+        }
+        self.catch_up(hashes, marks);
+    }
+
+    /// Takes the entries from `from` on out of their chains.
+    pub(crate) fn cut(&mut self, hashes: &[u32], marks: &[Mark], from: usize)
+        requires chained { AreChained self.old.heads.items self.old.before.items hashes.now (gone_of marks.now) }
+        requires long { length marks.now ≡ length hashes.now }
+        ensures chained { AreChained self.new.heads.items self.new.before.items hashes.now (gone_of marks.now) }
+        ensures left { length self.new.before.items ≤ from }
+    {
+        while self.before.len() > from {
+            self.unlink(hashes, marks);
+        }
+    }
+
+    /// The number after the last entry in the bucket of a hash, or 0.
+    fn head(&self, hashes: &[u32], marks: &[Mark], hash: u32) -> usize
+        requires chained { AreChained self.now.heads.items self.now.before.items hashes.now (gone_of marks.now) }
+        ensures last { IsLast (IsIn (length self.now.heads.items)
+            (bucket_of (length self.now.heads.items) hash) hashes.now (gone_of marks.now))
+            (length self.now.before.items) result }
+        ensures head { 0 < result → slice_index self.now.heads.items
+            (bucket_of (length self.now.heads.items) hash) ≡ result }
+    {
+        if self.heads.is_empty() {
+            0
+        } else {
+            self.heads[self.bucket(hash)] as usize
+        }
+    }
+
+    /// Takes the records of a hash that a look has found out of their chain, and marks that they go.
+    fn take_linked(&mut self, hashes: &[u32], marks: &mut [Mark], hash: u32)
+        requires chained { AreChained self.old.heads.items self.old.before.items hashes.now (gone_of marks.old) }
+        requires long { length marks.old ≡ length hashes.now }
+        requires found { HaveHash hash hashes.now marks.old }
+        ensures chained { AreChained self.new.heads.items self.new.before.items hashes.now (gone_of marks.new) }
+        ensures long { length marks.new ≡ length marks.old }
+        ensures same { length self.new.before.items ≡ length self.old.before.items }
+        ensures linked { IsTakenFrom 0 (length self.old.before.items) marks.old marks.new }
+    {
+        let mut newer = 0;
+        let mut at = self.head(hashes, marks, hash);
+        while at > 0 {
+            let entry = at - 1;
+            let older = self.before[entry] as usize;
+            if is_found_at(marks, entry) {
+                self.drop_entry(hashes, marks, newer, entry);
+                marks[entry] = Mark::Gone;
+            } else {
+                newer = at;
+            }
+            at = older;
+        }
+    }
+
+    /// Marks that the records of a hash go that a look has found, and takes them out of their chain.
+    pub(crate) fn take(&mut self, hashes: &[u32], marks: &mut [Mark], hash: u32)
+        requires chained { AreChained self.old.heads.items self.old.before.items hashes.now (gone_of marks.old) }
+        requires long { length marks.old ≡ length hashes.now }
+        requires found { HaveHash hash hashes.now marks.old }
+        ensures chained { AreChained self.new.heads.items self.new.before.items hashes.now (gone_of marks.new) }
+        ensures marks { marks.new ≡ map taken marks.old }
+    {
+        self.take_linked(hashes, marks, hash);
+        take_each(marks, self.before.len());
+    }
+}

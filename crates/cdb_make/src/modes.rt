@@ -1,0 +1,85 @@
+// A record, put by one of four modes.
+ghost use Rattle.std.specs.Prelude.{◌≡◌, ◌≢◌, ℕ, List, IfOk, IfErr, OnOk, OnErr};
+ghost use Rattle.cdb_form.specs.declared.mode.Mode.TheVariants.{Add};
+ghost use Rattle.cdb_make.specs.declared.fault.MakeFault.TheVariants.{Lookup};
+ghost use Rattle.cdb_form.specs.Format.Hash.{key_hash};
+ghost use Rattle.cdb_form.specs.Format.Record.{record_of};
+ghost use Rattle.cdb_make.specs.Views.Roll.{HasRoom};
+
+use crate::answer::Put;
+use crate::fault::MakeFault;
+use crate::maker::Maker;
+use cdb_form::{Mode, Width, hash};
+use cdb_store::Store;
+
+impl<S: Store, L: Width> Maker<S, L> {
+    ghost use Rattle.cdb_make.specs.Views.Maker.{Meets, FailsLooking, Puts, FailsPutting, Follows, HasNotFailed, SameCounts};
+
+    /// Looks at the key of a record that is to be put, and answers what the put will answer unless
+    /// it fails. The records that are to be taken out are noted as found, and no others.
+    #[inline(always)]
+    fn meet(&mut self, mode: Mode, hash: u32, key: &[u8]) -> Result<Put, MakeFault>
+        requires hash { hash ≡ key_hash key.now }
+        ensures meets { (value : List ℕ) → IfOk result (λ put.
+            Meets self.old self.new hash mode (record { key = key.now; value = value }) put) }
+        ensures fails { IfErr result (FailsLooking self.old self.new) }
+        ensures looks { IfErr result (λ f. f ≡ Lookup → mode ≢ Add) }
+        ensures follows { Follows self.old self.new }
+        ensures fine { OnOk result (HasNotFailed self.old self.new) }
+        ensures room { OnOk result (HasRoom self.old.roll → HasRoom self.new.roll) }
+        ensures counts { OnErr result (SameCounts self.old self.new) }
+    {
+        match mode {
+            Mode::Add => {
+                if self.broken {
+                    return Err(MakeFault::Broken);
+                }
+                self.roll.put_back();
+                Ok(Put::Added)
+            }
+            Mode::Warn => {
+                if self.look(hash, key)? {
+                    return Ok(Put::AddedAgain);
+                }
+                Ok(Put::Added)
+            }
+            Mode::Insert => {
+                if self.look(hash, key)? {
+                    return Ok(Put::Present);
+                }
+                Ok(Put::Added)
+            }
+            Mode::Replace => {
+                let taken = self.seek(hash, key)?;
+                if taken == 0 {
+                    return Ok(Put::Added);
+                }
+                Ok(Put::Replaced(taken))
+            }
+        }
+    }
+
+    /// Puts a record: the mode says what is done if its key is there already.
+    ///
+    /// `Lookup`: the store failed while it was read. `TooBig`: the file would pass the limit.
+    /// `NoMemory`: memory was refused to a put that would have been taken. All these leave the
+    /// records as they were, and nothing was written. `Writing`: the store failed; if records were to
+    /// be taken out, the maker is broken, else its records are what they were. `Broken`: an earlier
+    /// call broke it, or the store gave back other bytes than were written.
+    pub fn put(&mut self, mode: Mode, key: &[u8], value: &[u8]) -> Result<Put, MakeFault>
+        ensures puts { IfOk result
+            (Puts self.old self.new mode (record_of key.now value.now)) }
+        ensures fails { IfErr result
+            (FailsPutting self.old self.new mode (record_of key.now value.now)) }
+        ensures follows { Follows self.old self.new }
+        ensures fine { OnOk result (HasNotFailed self.old self.new) }
+        ensures counts { OnErr result (SameCounts self.old self.new) }
+    {
+        let hash = hash(key);
+        let put = self.meet(mode, hash, key)?;
+        if !put.is_present() {
+            self.settle(hash, key, value)?;
+        }
+        Ok(put)
+    }
+}

@@ -1,0 +1,324 @@
+// What is noted of the records on a store.
+ghost use Rattle.std.specs.Prelude.{◌≡◌, ◌≢◌, ℕ, ◌+◌, ◌<◌, ◌≤◌, ◌^◌, List, Bool, [], ◌∷◌, ◌++◌, true, false, get_or, slice_set, length, min, vec_capacity, OnOk, OnErr};
+ghost use Rattle.cdb_form.specs.Format.Pair.{head_size};
+ghost use Rattle.cdb_make.specs.Chains.{AreChained, Has, IsLast};
+ghost use Rattle.cdb_make.specs.Marks.{gone_of, found_of, HaveHash, IsPutBackFrom, AreNone};
+ghost use Rattle.cdb_make.specs.declared.mark.Mark.TheVariants.{Stays, Gone};
+ghost use Rattle.cdb_make.specs.Spans.{AreRising, AreOf, IsPicked, left, or_each};
+ghost use Rattle.cdb_make.specs.Views.Places.{places_in, places_room};
+
+use crate::chains::Chains;
+use crate::close::{close_entries, place_at};
+use crate::growth::reserve_one;
+use crate::mark::{Mark, is_found_at};
+use crate::places::Places;
+use cdb_form::{Width, head_size};
+use std::alloc::{AllocError, Global};
+use std::marker::PhantomData;
+
+/// Some records of a roll.
+#[derive(Clone, Copy)]
+pub(crate) struct Picked {
+    /// The number of the first of them, or of all records.
+    pub(crate) first: usize,
+    /// How many they are.
+    pub(crate) count: u64,
+    /// How many bytes they have.
+    pub(crate) size: u64,
+}
+
+/// No records, of so many in all.
+fn none(count: usize) -> Picked
+    ensures first { result.first ≡ count }
+    ensures count { result.count ≡ 0 }
+    ensures size { result.size ≡ 0 }
+{
+    Picked {
+        first: count,
+        count: 0,
+        size: 0,
+    }
+}
+
+/// The number of the first record that is picked, or of all, once there is one more that stays.
+fn first_after(first: usize, count: usize) -> usize
+    requires { count < 2 ^ 63 }
+    ensures none { first ≡ count → result ≡ count + 1 }
+    ensures some { first ≢ count → result ≡ first }
+{
+    if first == count { count + 1 } else { first }
+}
+
+/// Leaves the records from `from` on as if no look had found them.
+fn put_each_back(marks: &mut [Mark], from: usize)
+    requires { from ≤ length marks.old }
+    ensures back { IsPutBackFrom from (length marks.old) marks.old marks.new }
+    ensures long { length marks.new ≡ length marks.old }
+{
+    for n in from..marks.len() {
+        if is_found_at(marks, n) {
+            marks[n] = Mark::Stays;
+        }
+    }
+}
+
+/// Leaves the marks of so many records that stay. Those before `first` stayed, and no look has found
+/// them.
+fn close_marks(marks: &mut Vec<Mark>, first: usize, count: usize)
+    requires first { first ≤ count }
+    requires within { count ≤ vec_capacity marks.old }
+    requires stayed { (k : ℕ) → k < first → get_or marks.old.items k Gone ≡ Stays }
+    ensures long { length marks.new.items ≡ count }
+    ensures stay { (k : ℕ) → k < count → get_or marks.new.items k Gone ≡ Stays }
+    ensures room { vec_capacity marks.old ≤ vec_capacity marks.new }
+{
+    marks.truncate(first);
+    // It takes no memory.
+    let _ = marks.resize(count, Mark::Stays);
+}
+
+/// The hash of each record's key and where it lies, in the order of the file, and which records go.
+#[derive(Drop)]
+pub(crate) struct Roll<L: Width> {
+    /// The hash of each record's key.
+    pub(crate) hashes: Vec<u32>,
+    /// Where each record lies, in bytes from the file's start.
+    pub(crate) places: Places<L>,
+    /// What becomes of each.
+    pub(crate) marks: Vec<Mark>,
+    /// Those that stay, by their hashes.
+    pub(crate) chains: Chains,
+    /// Those that go with the next pass.
+    pub(crate) gone: Picked,
+    /// Those that the last look has found.
+    pub(crate) found: Picked,
+    /// Where the records end.
+    pub(crate) end: u64,
+    pub(crate) width: PhantomData<L>,
+    ghost paired: { length (places_in places) ≡ length hashes.items },
+    ghost marked: { length marks.items ≡ length hashes.items },
+    ghost chained: { AreChained chains.heads.items chains.before.items hashes.items (gone_of marks.items) },
+    ghost spans: { AreRising (head_size L.WORD) (places_in places) end },
+    ghost picked: { IsPicked (head_size L.WORD) (places_in places) end (gone_of marks.items) gone },
+    ghost sought: { IsPicked (head_size L.WORD) (places_in places) end (found_of marks.items) found },
+    ghost hash_room: { length hashes.items ≤ vec_capacity hashes },
+    ghost place_room: { length (places_in places) ≤ places_room places },
+    ghost room: { length marks.items ≤ vec_capacity marks },
+    ghost fits: { end ≤ L.GREATEST },
+}
+
+impl<L: Width> Roll<L> {
+    ghost use Rattle.cdb_make.specs.Views.Roll.{HasRoom, SameRecords};
+
+    /// No records.
+    pub(crate) fn new(alloc: Global) -> Roll<L>
+        ensures hashes { result.hashes.items ≡ [] }
+        ensures places { places_in result.places ≡ [] }
+        ensures marks { result.marks.items ≡ [] }
+        ensures end { result.end ≡ head_size L.WORD }
+    {
+        Roll {
+            hashes: Vec::new(alloc),
+            places: Places::new(alloc),
+            marks: Vec::new(alloc),
+            chains: Chains::new(alloc),
+            gone: none(0),
+            found: none(0),
+            end: head_size::<L>() as u64,
+            width: PhantomData,
+        }
+    }
+
+    /// How many records there are, those that go too.
+    pub(crate) fn len(&self) -> usize
+        ensures { result ≡ length self.now.hashes.items }
+    {
+        self.hashes.len()
+    }
+
+    /// Where the records would end without those that go.
+    pub(crate) fn left_end(&self) -> u64
+        ensures { result + self.now.gone.size ≡ self.now.end }
+    {
+        self.end - self.gone.size
+    }
+
+    /// How many records there are without those that go.
+    pub(crate) fn left_count(&self) -> u64
+        ensures { result + self.now.gone.count ≡ length self.now.hashes.items }
+    {
+        self.len() as u64 - self.gone.count
+    }
+
+    /// Where the records would end without those that go and those that were found.
+    pub(crate) fn kept_end(&self) -> u64
+        ensures { result + (self.now.gone.size + self.now.found.size) ≡ self.now.end }
+    {
+        self.end - self.gone.size - self.found.size
+    }
+
+    /// How many records there are without those that go and those that were found.
+    pub(crate) fn kept_count(&self) -> u64
+        ensures { result + (self.now.gone.count + self.now.found.count)
+            ≡ length self.now.hashes.items }
+    {
+        self.len() as u64 - self.gone.count - self.found.count
+    }
+
+    /// Whether no record goes and none was found.
+    pub(crate) fn takes_none(&self) -> bool
+        ensures none { result ≡ true → self.now.gone.count + self.now.found.count ≡ 0 }
+        ensures some { result ≡ false → 0 < self.now.gone.count + self.now.found.count }
+    {
+        self.gone.count == 0 && self.found.count == 0
+    }
+
+    /// The number after the last of the first `end` records that has a hash and does not go, or 0. If
+    /// `end` is the number of such a record, the search goes on from it.
+    #[inline(always)]
+    pub(crate) fn last(&self, hash: u32, end: usize) -> usize
+        requires { end ≤ length self.now.hashes.items }
+        ensures { IsLast (Has hash self.now.hashes.items (gone_of self.now.marks.items)) end result }
+    {
+        self.chains.last(&self.hashes, &self.marks, hash, end)
+    }
+
+    /// Makes room for one more record. If memory is refused, nothing has changed.
+    pub(crate) fn reserve(&mut self) -> Result<(), AllocError>
+        ensures room { OnOk result (HasRoom self.new) }
+        ensures full { OnErr result (HasRoom self.old → ⊥) }
+        ensures same { SameRecords self.old self.new }
+        ensures marks { self.new.marks.items ≡ self.old.marks.items }
+        ensures gone { self.new.gone ≡ self.old.gone }
+        ensures found { self.new.found ≡ self.old.found }
+    {
+        reserve_one(&mut self.hashes)?;
+        self.places.reserve()?;
+        reserve_one(&mut self.marks)
+    }
+
+    /// Notes one more record, of so many bytes, for which there is room.
+    #[inline(always)]
+    pub(crate) fn push(&mut self, hash: u32, size: u64)
+        requires room { HasRoom self.old }
+        requires fits { self.old.end + size ≤ L.GREATEST }
+        ensures hashes { self.new.hashes.items ≡ self.old.hashes.items ++ hash ∷ [] }
+        ensures of { (sizes : List ℕ)
+            → AreOf (head_size L.WORD) (places_in self.old.places) self.old.end sizes
+            → AreOf (head_size L.WORD) (places_in self.new.places) self.new.end (sizes ++ size ∷ []) }
+        ensures gone { gone_of self.new.marks.items ≡ gone_of self.old.marks.items ++ false ∷ [] }
+        ensures found { found_of self.new.marks.items ≡ found_of self.old.marks.items ++ false ∷ [] }
+        ensures end { self.new.end ≡ self.old.end + size }
+        ensures count { self.new.gone.count ≡ self.old.gone.count }
+        ensures size { self.new.gone.size ≡ self.old.gone.size }
+        ensures found_count { self.new.found.count ≡ self.old.found.count }
+        ensures found_size { self.new.found.size ≡ self.old.found.size }
+    {
+        self.gone.first = first_after(self.gone.first, self.marks.len());
+        self.found.first = first_after(self.found.first, self.marks.len());
+        self.hashes.push_reserved(hash);
+        self.places.push(self.end);
+        self.marks.push_reserved(Mark::Stays);
+        self.end += size;
+    }
+
+    /// Takes the records that go out.
+    pub(crate) fn close(&mut self)
+        ensures hashes { self.new.hashes.items ≡ left (gone_of self.old.marks.items) self.old.hashes.items }
+        ensures of { (sizes : List ℕ)
+            → AreOf (head_size L.WORD) (places_in self.old.places) self.old.end sizes
+            → AreOf (head_size L.WORD) (places_in self.new.places) self.new.end
+            (left (gone_of self.old.marks.items) sizes) }
+        ensures gone { AreNone (gone_of self.new.marks.items) }
+        ensures found { AreNone (found_of self.new.marks.items) }
+        ensures end { self.new.end + self.old.gone.size ≡ self.old.end }
+        ensures count { length self.new.hashes.items + self.old.gone.count
+            ≡ length self.old.hashes.items }
+        ensures clear { self.new.gone.count ≡ 0 }
+        ensures clear_size { self.new.gone.size ≡ 0 }
+        ensures room { 0 < self.old.gone.count → HasRoom self.new }
+    {
+        self.put_back();
+        let start = head_size::<L>() as u64;
+        let first = self.gone.first;
+        self.chains.cut(&self.hashes, &self.marks, first);
+        let (hashes, places) = (&mut self.hashes, &mut self.places);
+        let kept = close_entries(start, hashes, places, &self.marks, first, self.end);
+        self.hashes.truncate(kept.count);
+        self.places.truncate(kept.count);
+        close_marks(&mut self.marks, first, kept.count);
+        self.gone = none(kept.count);
+        self.found = none(kept.count);
+        self.end = kept.end;
+    }
+
+    /// Notes that a look has found a record that does not go, before those that it has found.
+    pub(crate) fn find(&mut self, n: usize)
+        requires within { n < length self.old.hashes.items }
+        requires stays { get_or (gone_of self.old.marks.items) n true ≡ false }
+        requires before { n < self.old.found.first }
+        ensures found { found_of self.new.marks.items
+            ≡ slice_set (found_of self.old.marks.items) n true }
+        ensures first { self.new.found.first ≡ n }
+        ensures gone { gone_of self.new.marks.items ≡ gone_of self.old.marks.items }
+        ensures same { SameRecords self.old self.new }
+        ensures kept { self.new.gone ≡ self.old.gone }
+        ensures room { HasRoom self.old → HasRoom self.new }
+    {
+        let size = place_at(&self.places, n + 1, self.end) - self.places.at(n);
+        self.marks[n] = Mark::Found;
+        self.found = Picked {
+            first: n,
+            count: self.found.count + 1,
+            size: self.found.size + size,
+        };
+    }
+
+    /// Marks that the records go that a look for a hash has found.
+    pub(crate) fn take(&mut self, hash: u32)
+        requires hash { HaveHash hash self.old.hashes.items self.old.marks.items }
+        ensures same { SameRecords self.old self.new }
+        ensures gone { gone_of self.new.marks.items
+            ≡ or_each (gone_of self.old.marks.items) (found_of self.old.marks.items) }
+        ensures count { self.new.gone.count ≡ self.old.gone.count + self.old.found.count }
+        ensures size { self.new.gone.size ≡ self.old.gone.size + self.old.found.size }
+    {
+        // Else a record that is put would take as long as all those before it that are in no chain.
+        if self.found.count == 0 {
+            return;
+        }
+        self.chains.take(&self.hashes, &mut self.marks, hash);
+        self.gone = Picked {
+            first: self.gone.first.min(self.found.first),
+            count: self.gone.count + self.found.count,
+            size: self.gone.size + self.found.size,
+        };
+        self.found = none(self.marks.len());
+    }
+
+    /// Leaves the records that a look has found as if none had.
+    pub(crate) fn put_back(&mut self)
+        ensures same { SameRecords self.old self.new }
+        ensures gone { gone_of self.new.marks.items ≡ gone_of self.old.marks.items }
+        ensures found { AreNone (found_of self.new.marks.items) }
+        ensures picked { self.new.gone ≡ self.old.gone }
+        ensures room { vec_capacity self.new.hashes ≡ vec_capacity self.old.hashes }
+        ensures place_room { self.new.places ≡ self.old.places }
+        ensures mark_room { vec_capacity self.new.marks ≡ vec_capacity self.old.marks }
+        ensures has { HasRoom self.old → HasRoom self.new }
+    {
+        put_each_back(&mut self.marks, self.found.first);
+        self.found = none(self.marks.len());
+    }
+
+    /// Puts the entries into chains before a look, if memory is given for it.
+    pub(crate) fn link(&mut self)
+        ensures same { SameRecords self.old self.new }
+        ensures marks { self.new.marks ≡ self.old.marks }
+        ensures gone { self.new.gone ≡ self.old.gone }
+        ensures found { self.new.found ≡ self.old.found }
+        ensures room { HasRoom self.old → HasRoom self.new }
+    {
+        self.chains.link_all(&self.hashes, &self.marks);
+    }
+}

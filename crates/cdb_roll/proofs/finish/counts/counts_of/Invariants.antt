@@ -1,7 +1,0 @@
-use Rattle.std.proofs.Common.{◌≡◌, length, map, take}
-use Rattle.cdb_roll.specs.Tables.{roll_entries, tables_of}
-use Rattle.cdb_roll.proofs.finish.counts.counts_of.Given as goal
-
--- the entries so far are counted
-abbrev pub invariant-loop-n : goal.invariant-loop-n
-invariant-loop-n g l = l.counts ≡ map length (tables_of (take l.n (roll_entries l.roll)) 0 256)

@@ -1,9 +1,0 @@
-use Rattle.std.proofs.Common.{arith}
-use Rattle.cdb_roll.proofs.Picking.{both_few}
-use Rattle.cdb_roll.proofs.roll.Roll.left_count.Goals as goal
-
-pub overflow_sub-result : goal.overflow_sub-result
-overflow_sub-result g c = omega (arith, both_few c.args.self.now, c.len.ensures)
-
-pub returns : goal.returns
-returns g c = omega (arith, both_few c.args.self.now, c.len.ensures)
