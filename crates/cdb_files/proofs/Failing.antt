@@ -1,5 +1,5 @@
 -- Why the file of some records was not built, or not made, and why no database was opened.
-use Rattle.std.proofs.Common.{Ok, ◌≡◌, ◌+◌, ◌<◌, ◌≤◌, ◌^◌, ℕ, inl, inr, List, [], ◌∷◌, ◌++◌, take, drop, refl, sym, ap, ◌∙◌, arith}
+use Rattle.std.proofs.Common.{◌≡◌, ◌+◌, ◌<◌, ◌≤◌, ℕ, inl, inr, List, [], ◌∷◌, ◌++◌, take, drop, refl, sym, ap, ◌∙◌, arith}
 use Rattle.std.specs.Prelude.{sum_by}
 use Rattle.std.proofs.lemmas.List.{map-append, take-append-drop}
 use Rattle.std.proofs.lemmas.List.Sums.{sum_by-append}
@@ -12,6 +12,7 @@ use Rattle.cdb_form.specs.Format.File.{file_size, whole_size}
 use Rattle.cdb_form.specs.Format.Record.{KeyValue}
 use Rattle.cdb_form.specs.Views.Pairs.{key_value, key_values}
 use Rattle.cdb_make.specs.Views.Maker.{FailsPutting, Holds}
+use Rattle.cdb_make.specs.Views.Making.{MakingFault}
 use Rattle.cdb_make.specs.declared.fault.MakeFault.{MakeFault}
 use Rattle.cdb_make.specs.declared.fault.MakeFault.TheVariants.{Broken, Lookup, NoMemory, TooBig, Writing}
 use Rattle.cdb_make.specs.declared.maker.Maker.{Maker}
@@ -44,6 +45,14 @@ puts_fail {l = l} limit before i records old new r TooBig held same later more f
 puts_fail limit before i records old new r NoMemory held same later more fails = fails.3 ∙ later
 puts_fail {s = s} limit before i records old new r Writing held same later more (inl x, would) = let failed : s.failures old.store < s.failures new.store = x.1.failed in omega (arith, later, failed)
 puts_fail {s = s} limit before i records old new r Writing held same later more (inr x, would) = let failed : s.failures old.store < s.failures new.store = x.0.failed in omega (arith, later, failed)
+
+-- no maker was made
+pub none_made : {S : Type 0} (s : Ghosts S) (w greatest : ℕ) (records : List Record) (old new : S) (f : MakeFault) → MakingFault s.image s.size s.written s.failures old new f → FailsBuilding w greatest records (s.failures old) (s.failures new) (s.image new) f
+none_made s w greatest records old new Broken fails = absurd fails
+none_made s w greatest records old new Lookup fails = absurd fails
+none_made s w greatest records old new TooBig fails = absurd fails
+none_made s w greatest records old new NoMemory fails = fails.3
+none_made s w greatest records old new Writing fails = fails
 
 -- a store that had failed as often before
 pub building_later : (w greatest : ℕ) (records : List Record) (first before after : ℕ) (images : List ℕ → Type 0) (f : MakeFault) → before ≡ first → FailsBuilding w greatest records before after images f → FailsBuilding w greatest records first after images f

@@ -17,7 +17,7 @@ returns g c =
     let marks = c.args._marks.now in
     let head : head_size w ≡ head_size w - 0 = omega arith in
     let all : file_entries w (left marks rs) ≡ lowered 0 marks (map (record_size w) rs) (file_entries w rs) =
-        ap (λ (at : ℕ). entries_from w at (left marks rs)) head ∙ left_lower w 0 (head_size w) marks rs (omega arith) in
+    ap (λ (at : ℕ). entries_from w at (left marks rs)) head ∙ left_lower w 0 (head_size w) marks rs (omega arith) in
     record {
       places = all;
       tables = λ n. ap (λ (es : List WordPair). filter (in_table n) es) all;

@@ -1,4 +1,4 @@
-use Rattle.std.proofs.Common.{arith, subst, ap, take, ◌∙◌, ◌≡◌, OnOk, Ok, Err, Result}
+use Rattle.std.proofs.Common.{subst, ap, take, ◌∙◌, ◌≡◌, OnOk, Ok, Err, Result}
 use Rattle.std.proofs.lemmas.Result.{IfErr-weaker}
 use Rattle.cdb_store.specs.BufferedStore.{bytes_of}
 use Rattle.cdb_store.proofs.OverLemmas.{over_emptied}
