@@ -1,6 +1,6 @@
 -- Records appended at once, from the bytes to the entries.
 use Rattle.std.proofs.Common.{◌≡◌, ℕ, ◌+◌, ◌-◌, ◌*◌, ◌<◌, ◌≤◌, ◌⊎◌, inl, inr, Bool, true, false, List, [], ◌∷◌, ◌++◌, length, refl, sym, ap, subst, ◌∙◌, arith, append_assoc, length-append, Result, Ok, Err, IfOk, IfErr, OnErr}
-use Rattle.std.specs.Prelude.{sum_by}
+use Rattle.std.specs.Prelude.{All, sum_by}
 use Rattle.std.proofs.Math.Nat.{mul-add, mul-le-mul_left}
 use Rattle.std.proofs.lemmas.List.{append-nil, length-map}
 use Rattle.std.proofs.lemmas.List.Sums.{sum_by_push, sum_by-append}
@@ -25,7 +25,7 @@ use Rattle.cdb_make.specs.Views.Maker.{gone_in, count_in, made_size, ComesFrom, 
 use Rattle.cdb_make.proofs.Finishing.{left_same}
 use Rattle.cdb_make.proofs.Looking.{sees_long}
 use Rattle.cdb_make.proofs.Picking.{both_few, both_within}
-use Rattle.cdb_make.proofs.Rolls.{left_file, sees_entered}
+use Rattle.cdb_make.proofs.Rolls.{left_every, left_file, sees_entered}
 use Rattle.cdb_make.proofs.Spans.{left-append}
 
 -- bytes that were written are in each image
@@ -95,8 +95,14 @@ held_size {l = l} m rs b w h is =
     let file = (left_file m.roll held.all b (gone_in m) (m.roll.end - m.roll.gone.size) (count_in m) m.roll.gone.size m.roll.gone.count w many held.sees (omega (arith, both_within m.roll)) (omega (arith, few)) (m.roll.picked.size _ held.sees.of) m.roll.picked.count).0 in
     sym file ∙ ap (file_size l.WORD) (sym held.left)
 
--- is no larger than that of all records
-made_within : {S L : Type 0} {s : Ghosts S} {l : Widths L} (m : Maker S L s l) → made_size m ≤ full_size m
+-- the records that a maker holds can be written
+pub held_are : {S L : Type 0} {s : Ghosts S} {l : Widths L} (m : Maker S L s l) (rs : List KeyValue) (b : List ℕ) → Holds m rs → s.image m.store b → All IsRecord rs
+held_are m rs b h is =
+    let held = h.each b is in
+    subst (λ (v : List KeyValue). All IsRecord v) (sym held.left) (left_every IsRecord (gone_in m) held.all held.sees.are)
+
+-- their file is no larger than that of all records
+pub made_within : {S L : Type 0} {s : Ghosts S} {l : Widths L} (m : Maker S L s l) → made_size m ≤ full_size m
 made_within {l = l} m = let few : count_in m ≤ length m.roll.hashes.items = omega arith in omega (arith, mul-le-mul_left (4 * l.WORD) few)
 
 -- the file of more records

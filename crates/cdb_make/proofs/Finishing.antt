@@ -25,7 +25,7 @@ use Rattle.cdb_make.specs.Views.Maker.{gone_in, count_in, made_size, Holds, Goes
 use Rattle.cdb_make.proofs.Bytes.Written.{flat_map-map}
 use Rattle.cdb_make.proofs.FinishedFile.{file_of_parts}
 use Rattle.cdb_make.proofs.Looking.{sees_long, sees_same}
-use Rattle.cdb_make.proofs.Picking.{left_all_stay, end_sum, picked_none, number_none}
+use Rattle.cdb_make.proofs.Picking.{left_all_stay, end_sum, picked_most, picked_none, number_none}
 use Rattle.cdb_make.proofs.Rolls.{end_joined}
 use Rattle.cdb_make.proofs.Settling.{behind_nothing}
 use Rattle.cdb_make.proofs.Spans.{spans_of, place_low, place_high}
@@ -60,6 +60,12 @@ pub end_behind : {L : Type 0} {l : Widths L} (m : Roll L l) → head_size l.WORD
 end_behind {l = l} m =
     let spans = spans_of (head_size l.WORD) m.end (places_in m.places) m.spans in
     omega (arith, place_low 0 spans.of, place_high 0 spans.of)
+
+-- and so they do without those that go
+pub left_behind : {L : Type 0} {l : Widths L} (m : Roll L l) → head_size l.WORD + m.gone.size ≤ m.end
+left_behind {l = l} m =
+    let spans = spans_of (head_size l.WORD) m.end (places_in m.places) m.spans in
+    omega (arith, m.picked.size spans.sizes spans.of, spans.of.ends, end_sum (head_size l.WORD) spans.sizes, picked_most (gone_of m.marks.items) spans.sizes)
 
 -- all stay then
 pub all_in : {S L : Type 0} {s : Ghosts S} {l : Widths L} (m : Maker S L s l) (all : List KeyValue) (b : List ℕ) → m.roll.gone.count ≡ 0 → Sees m.roll all b → left (gone_in m) all ≡ all

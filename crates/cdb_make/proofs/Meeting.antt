@@ -403,3 +403,7 @@ put_failed i j k hash mode r put (Err v) f w np m fine follows h e = subst (Fail
 
 pub meets_add : {S L : Type 0} {s : Ghosts S} {l : Widths L} (i j : Maker S L s l) (hash : ℕ) (mode : Mode) (r : KeyValue) → mode ≡ Add → Rests i j → AreNone (found_in j) → Meets i j hash mode r Added
 meets_add {l = l} i j hash mode r is rests none = subst (λ v. Meets i j hash v r Added) (sym is) (meets_by i j hash Add r Added (λ e. (let t : Add ≡ Replace = e in cc)) rests none (λ rs h b at. plain_add l.WORD r rs))
+
+-- a replacement is taken, and no record is in its way
+pub replaces_it : (n : ℕ) → Replaced n ≢ Present
+replaces_it n e = cc

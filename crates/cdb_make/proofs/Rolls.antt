@@ -36,7 +36,7 @@ use Rattle.cdb_make.proofs.Spans.{left-map, joined_more, joined_end, kept_then}
 use Rattle.cdb_make.proofs.Looking.{sizes_of, sees_long, sees_same}
 use Rattle.cdb_make.proofs.Picking.{left_sum, left_number, end_sum}
 
-left_every : (P : KeyValue → Type 0) (ms : List Bool) (rs : List KeyValue) → All P rs → All P (left ms rs)
+pub left_every : (P : KeyValue → Type 0) (ms : List Bool) (rs : List KeyValue) → All P rs → All P (left ms rs)
 left_every P [] rs all = all
 left_every P (m ∷ ms) [] all = All-nil P
 left_every P (true ∷ ms) (r ∷ rs) all = left_every P ms rs (All-tail P r rs all)

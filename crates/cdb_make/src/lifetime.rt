@@ -165,6 +165,7 @@ impl<S: Store, L: Width> Maker<S, L> {
         ensures comes { ComesFrom (S.image self.old.store) (S.image self.new.store) }
         ensures failures { S.failures self.old.store ≤ S.failures self.new.store }
         ensures counts { SameCounts self.old self.new }
+        ensures lazy { is_lazy self.new ≡ is_lazy self.old }
         ensures fails { IfErr result (FailsFinishing self.old self.new) }
     {
         self.close_all()?;
@@ -189,6 +190,7 @@ impl<S: Store, L: Width> Maker<S, L> {
         ensures failures { IfOk result (λ s. S.failures self.store ≤ S.failures s) }
         ensures fails { IfErr result (λ u. FailsFinishing self u.maker u.fault) }
         ensures counts { IfErr result (λ u. SameCounts self u.maker) }
+        ensures lazy { IfErr result (λ u. is_lazy u.maker ≡ is_lazy self) }
         // In each image the head is an old one, or all tables stand.
         ensures head_last { IfErr result (λ u.
             PutsHeadLast u.maker (S.image self.store) (S.image u.maker.store)) }

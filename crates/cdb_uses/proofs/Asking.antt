@@ -6,22 +6,23 @@ use Rattle.std.proofs.lemmas.List.Elements.{recursion_from_All}
 use Rattle.std.specs.List.{concat, All}
 use Rattle.std.specs.Io.KnownBytes.{Appends}
 use Rattle.cdb_store.specs.declared.store.Store.{Ghosts}
+use Rattle.cdb_form.specs.Format.Pair.{head_size}
 use Rattle.cdb_form.specs.Format.File.{file_bytes, file_size}
 use Rattle.cdb_form.specs.Format.Record.{KeyValue, IsRecord}
 use Rattle.cdb_form.specs.Views.KnownBytes.{AppendsPrefix}
 use Rattle.cdb_form.specs.declared.damage.Damage.{Damage}
 use Rattle.cdb_form.specs.declared.width.Width.{Ghosts as Widths}
 use Rattle.cdb_form.proofs.Bytes.WritingLemmas.{appends_then, prefix_then}
-use Rattle.cdb_make.specs.Views.Maker.{Holds, IsFile}
+use Rattle.cdb_make.specs.Views.Maker.{Holds, IsFile, made_size}
 use Rattle.cdb_make.specs.declared.maker.Maker.{Maker}
-use Rattle.cdb_make.proofs.Making.Makers.{held_size}
+use Rattle.cdb_make.proofs.Appends.{held_are, held_size, made_within}
 use Rattle.cdb_read.proofs.WholeFiles.LookupLaws.{finds_values}
 use Rattle.cdb_read.specs.Laws.{FindsValues}
 use Rattle.cdb_read.specs.Lookup.{Found, nothing_found, found_damaged, with_span, with_spans, bytes_of, lookup_of}
 use Rattle.cdb_read.specs.Values.{values_of}
 use Rattle.cdb_read.specs.Views.Finder.{left_in, FindingFails}
 use Rattle.cdb_store.specs.Reads.{OnlyReads}
-use Rattle.cdb_read.specs.Views.Reads.{CopyingFails}
+use Rattle.cdb_read.specs.Views.Reads.{CopyingFails, OpeningFails}
 use Rattle.cdb_read.specs.Views.Search.{found_ahead}
 use Rattle.cdb_read.specs.declared.fault.ReadFault.{ReadFault}
 use Rattle.cdb_read.specs.declared.fault.ReadFault.TheVariants.{Short, Table, Record, Slot, Twice, Unindexed, Device, NoMemory, Output}
@@ -127,10 +128,10 @@ pub reads_none : {S : Type 0} {s : Ghosts S} (a : S) → OnlyReads s a a
 reads_none a = record { images = λ b is. is; size = refl; written = refl; room = omega arith; failures = omega arith; unwritten = omega arith }
 
 -- the records of a maker make a file within the greatest size
-pub held_within : {S L : Type 0} {s : Ghosts S} {l : Widths L} (m : Maker S L s l) (rs : List KeyValue) (b : List ℕ) → s.image m.store b → Holds m rs → All IsRecord rs × (file_size l.WORD rs ≤ l.GREATEST)
-held_within m rs b is h =
-    let size = (held_size m rs _ refl h).each b is in
-    ((h.each b is).are, omega (arith, size, m.within, m.limited))
+pub held_within : {S L : Type 0} {s : Ghosts S} {l : Widths L} (m : Maker S L s l) (rs : List KeyValue) (b : List ℕ) → (l.WORD ≡ 4) ⊎ (l.WORD ≡ 8) → s.image m.store b → Holds m rs → All IsRecord rs × (file_size l.WORD rs ≤ l.GREATEST)
+held_within {l = l} m rs b w is h =
+    let size : made_size m ≡ file_size l.WORD rs = held_size m rs b w h is in
+    (held_are m rs b h is, omega (arith, size, made_within m, m.within, m.limited))
 
 -- which is still there where its store was only read
 pub file_opened : {S : Type 0} (s : Ghosts S) {w : ℕ} {rs : List KeyValue} {old new : S} → IsFile w rs (s.image old) → OnlyReads s old new → IsFile w rs (s.image new)
@@ -147,3 +148,15 @@ writer_fails s before after old new values (Twice place) same fails front = absu
 writer_fails s before after old new values (Unindexed place) same fails front = absurd fails
 writer_fails s before after old new values NoMemory same fails front = absurd fails
 writer_fails s before after old new values Output same fails front = front
+
+-- a store that does not fail and is as long as a head is opened
+pub open_fails : {S : Type 0} (s : Ghosts S) (w : ℕ) (before after : S) (old new : Option (List ℕ)) (values : List ℕ) (f : ReadFault) → s.failures after ≡ s.failures before → head_size w ≤ s.size before → OpeningFails w s before after f → AskingFails old new values (Read f)
+open_fails s w before after old new values Short same long fails = let short : s.size before < head_size w = fails.0 in absurd (omega (arith, short, long))
+open_fails s w before after old new values Device same long fails = let failed : s.failures before < s.failures after = fails.1 in absurd (omega (arith, failed, same))
+open_fails s w before after old new values (Table n) same long fails = absurd fails
+open_fails s w before after old new values (Record place) same long fails = absurd fails
+open_fails s w before after old new values (Slot n i) same long fails = absurd fails
+open_fails s w before after old new values (Twice place) same long fails = absurd fails
+open_fails s w before after old new values (Unindexed place) same long fails = absurd fails
+open_fails s w before after old new values NoMemory same long fails = absurd fails
+open_fails s w before after old new values Output same long fails = absurd fails

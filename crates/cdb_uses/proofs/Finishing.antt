@@ -1,5 +1,5 @@
 -- A database that is built by steps, from a new maker on to its finish.
-use Rattle.std.proofs.Common.{◌≡◌, ◌+◌, ◌<◌, ◌≤◌, false, ℕ, List, [], ◌∷◌, ◌++◌, length, length-append, refl, sym, ap, subst, ◌∙◌, arith, Option}
+use Rattle.std.proofs.Common.{◌≡◌, ◌+◌, ◌<◌, ◌≤◌, ◌⊎◌, inl, inr, false, ℕ, List, [], ◌∷◌, ◌++◌, length, length-append, refl, sym, ap, subst, ◌∙◌, arith, Option}
 use Rattle.std.specs.Prelude.{All, drop, get_or, take}
 use Rattle.std.proofs.lemmas.List.{drop_more, take-append-drop, take_all, take_more}
 use Rattle.cdb_store.specs.declared.store.Store.{Ghosts}
@@ -16,21 +16,24 @@ use Rattle.cdb_uses.specs.declared.ask.AskFault.TheVariants.{Make}
 use Rattle.cdb_uses.specs.declared.steps.Step.{Step}
 use Rattle.cdb_uses.specs.declared.steps.Step.TheVariants as kind
 use Rattle.cdb_uses.specs.declared.steps.Unbuilt.{Unbuilt}
+use Rattle.cdb_make.proofs.Finishing.{left_behind}
 use Rattle.cdb_uses.proofs.Asking.{held_within}
 use Rattle.cdb_uses.proofs.Stepping.{left_first, left_more, runs_more, runs_taken, stage_whole}
 
 -- these steps were made, each with its answer
 pub record SoFar {S L : Type 0} {s : Ghosts S} {l : Widths L} (store : S) (limit : ℕ) (steps : List Step) (faults : List (Option MakeFault)) (m : Maker S L s l) : Type 0 where
   pub same : m.limit ≡ limit
+  pub eager : m.lazy ≡ false
   pub one_each : length faults ≡ length steps
   pub rises : s.failures store ≤ s.failures m.store
   pub made : WhereHonest (s.image m.store) (Made l.WORD limit steps faults (s.failures store) (stage_of m))
   pub holds : HoldsWhole m (left_by l.WORD limit steps faults)
 
 -- none, of a new maker
-pub so_far_none : {S L : Type 0} {s : Ghosts S} {l : Widths L} (store : S) (limit : ℕ) (m : Maker S L s l) (faults : List (Option MakeFault)) → faults ≡ [] → Holds m [] → m.limit ≡ limit → s.failures store ≤ s.failures m.store → SoFar store limit [] faults m
-so_far_none {s = s} {l = l} store limit m faults none held same rises = subst (λ fs. SoFar store limit [] fs m) (sym none) (record {
+pub so_far_none : {S L : Type 0} {s : Ghosts S} {l : Widths L} (store : S) (limit : ℕ) (m : Maker S L s l) (faults : List (Option MakeFault)) → faults ≡ [] → Holds m [] → m.limit ≡ limit → m.lazy ≡ false → s.failures store ≤ s.failures m.store → SoFar store limit [] faults m
+so_far_none {s = s} {l = l} store limit m faults none held same eager rises = subst (λ fs. SoFar store limit [] fs m) (sym none) (record {
   same = same;
+  eager = eager;
   one_each = refl;
   rises = rises;
   made = record { each = λ b is. record { begun = s.failures m.store; begins = rises; runs = stage_whole m (s.failures m.store) held.whole refl } };
@@ -45,6 +48,7 @@ so_far_more {s = s} {l = l} store limit steps faults step fault m n so t =
     let left : List KeyValue = left_by w limit steps faults in
     record {
       same = t.limit ∙ so.same;
+      eager = t.lazy ∙ so.eager;
       one_each = omega (arith, so.one_each, length-append faults (fault ∷ []), length-append steps (step ∷ []));
       rises = omega (arith, so.rises, t.failures);
       made = record {
@@ -63,7 +67,7 @@ so_far_more {s = s} {l = l} store limit steps faults step fault m n so t =
 
 pub finishes : {S L : Type 0} {s : Ghosts S} {l : Widths L} (m : Maker S L s l) (rs : List KeyValue) (store : S) → m.broken ≡ false → IsFile l.WORD rs (s.image store) → s.size store ≡ made_size m → ComesFrom (s.image m.store) (s.image store) → s.failures m.store ≤ s.failures store
     → Finishes m rs kind.Finish store
-finishes m rs store whole file size comes rises = record { finish = refl; whole = whole; file = file; size = omega (arith, size, m.start); comes = comes; failures = rises }
+finishes m rs store whole file size comes rises = record { finish = refl; whole = whole; file = file; size = omega (arith, size, left_behind m.roll); comes = comes; failures = rises }
 
 -- the steps that a run has are the first of all steps
 pub record IsWhole (first steps : List Step) (faults : List (Option MakeFault)) : Type 0 where
@@ -93,9 +97,9 @@ pub record Ended {S L : Type 0} (s : Ghosts S) (l : Widths L) (store : S) (limit
   pub file : IsFile l.WORD (left_by l.WORD limit steps faults) (s.image new)
   pub fits : WhereHonest (s.image new) (All IsRecord (left_by l.WORD limit steps faults) × (file_size l.WORD (left_by l.WORD limit steps faults) ≤ l.GREATEST))
 
-ended : {S L : Type 0} {s : Ghosts S} {l : Widths L} (store : S) (limit : ℕ) (first steps : List Step) (faults : List (Option MakeFault)) (m : Maker S L s l) (step : Step) (new : S) → SoFar store limit first faults m → IsWhole first steps faults
+ended : {S L : Type 0} {s : Ghosts S} {l : Widths L} (store : S) (limit : ℕ) (first steps : List Step) (faults : List (Option MakeFault)) (m : Maker S L s l) (step : Step) (new : S) → (l.WORD ≡ 4) ⊎ (l.WORD ≡ 8) → SoFar store limit first faults m → IsWhole first steps faults
     → Finishes m (left_by l.WORD limit first faults) step new → Ended s l store limit steps faults new
-ended {s = s} {l = l} store limit first steps faults m step new so all end =
+ended {s = s} {l = l} store limit first steps faults m step new four so all end =
     let w : ℕ = l.WORD in
     let here : stage_of m ≡ whole (s.failures m.store) = stage_whole m (s.failures m.store) end.whole refl in
     record {
@@ -113,21 +117,21 @@ ended {s = s} {l = l} store limit first steps faults m step new so all end =
       fits = record {
         each = λ b is.
             let was = end.comes.each b is in
-            subst (λ v. All IsRecord v × (file_size w v ≤ l.GREATEST)) (sym (all.left w limit)) (held_within m (left_by w limit first faults) was.0 was.1 (so.holds end.whole));
+            subst (λ v. All IsRecord v × (file_size w v ≤ l.GREATEST)) (sym (all.left w limit)) (held_within m (left_by w limit first faults) was.0 four was.1 (so.holds end.whole));
       };
     }
 
 -- where a step was the finish
-pub ended_taken : {S L : Type 0} {s : Ghosts S} {l : Widths L} (store : S) (limit i : ℕ) (steps : List Step) (faults : List (Option MakeFault)) (m : Maker S L s l) (step : Step) (new : S) → i < length steps → step ≡ get_or steps i step → SoFar store limit (take i steps) faults m
+pub ended_taken : {S L : Type 0} {s : Ghosts S} {l : Widths L} (store : S) (limit i : ℕ) (steps : List Step) (faults : List (Option MakeFault)) (m : Maker S L s l) (step : Step) (new : S) → (l.WORD ≡ 4) ⊎ (l.WORD ≡ 8) → i < length steps → step ≡ get_or steps i step → SoFar store limit (take i steps) faults m
     → Finishes m (left_by l.WORD limit (take i steps) faults) step new → Ended s l store limit steps faults new
-ended_taken store limit i steps faults m step new lt is so end =
-    ended store limit (take i steps) steps faults m step new so (whole_taken (take i steps) (drop (i + 1) steps) steps faults (split_at steps i step lt is end.finish) so.one_each) end
+ended_taken store limit i steps faults m step new four lt is so end =
+    ended store limit (take i steps) steps faults m step new four so (whole_taken (take i steps) (drop (i + 1) steps) steps faults (split_at steps i step lt is end.finish) so.one_each) end
 
 -- or all were made
-pub ended_made : {S L : Type 0} {s : Ghosts S} {l : Widths L} (store : S) (limit i : ℕ) (steps : List Step) (faults : List (Option MakeFault)) (m : Maker S L s l) (new : S) → length steps ≤ i → SoFar store limit (take i steps) faults m
+pub ended_made : {S L : Type 0} {s : Ghosts S} {l : Widths L} (store : S) (limit i : ℕ) (steps : List Step) (faults : List (Option MakeFault)) (m : Maker S L s l) (new : S) → (l.WORD ≡ 4) ⊎ (l.WORD ≡ 8) → length steps ≤ i → SoFar store limit (take i steps) faults m
     → m.broken ≡ false → ((rs : List KeyValue) → Holds m rs → IsFile l.WORD rs (s.image new)) → s.size new ≡ made_size m → ComesFrom (s.image m.store) (s.image new) → s.failures m.store ≤ s.failures new → Ended s l store limit steps faults new
-ended_made {l = l} store limit i steps faults m new all so whole file size comes rises =
-    ended store limit (take i steps) steps faults m kind.Finish new so (whole_made (take i steps) steps faults (take_all i steps all)) (finishes m (left_by l.WORD limit (take i steps) faults) new whole (file (left_by l.WORD limit (take i steps) faults) (so.holds whole)) size comes rises)
+ended_made {l = l} store limit i steps faults m new four all so whole file size comes rises =
+    ended store limit (take i steps) steps faults m kind.Finish new four so (whole_made (take i steps) steps faults (take_all i steps all)) (finishes m (left_by l.WORD limit (take i steps) faults) new whole (file (left_by l.WORD limit (take i steps) faults) (so.holds whole)) size comes rises)
 
 -- or the last finish was refused
 unfinished : {S L : Type 0} {s : Ghosts S} {l : Widths L} (store : S) (limit : ℕ) (first steps : List Step) (faults : List (Option MakeFault)) (m n : Maker S L s l) (f : MakeFault) → SoFar store limit first faults m → IsWhole first steps faults
@@ -139,7 +143,8 @@ unfinished {l = l} store limit first steps faults m n Broken so all fails comes 
       (stage_of m, fails.0, record { begun = h.begun; begins = h.begins; runs = all.runs l.WORD limit (whole h.begun) (stage_of m) h.runs });
 }
 unfinished store limit first steps faults m n NoMemory so all fails comes = record { each = λ b is. tt }
-unfinished {s = s} store limit first steps faults m n Writing so all fails comes = record { each = λ b is. let failed : s.failures m.store < s.failures n.store = fails.2 in omega (arith, so.rises, failed) }
+unfinished {s = s} store limit first steps faults m n Writing so all (inl (stays, failed)) comes = record { each = λ b is. omega (arith, so.rises, failed) }
+unfinished {s = s} store limit first steps faults m n Writing so all (inr (gone, whole, broken, failed)) comes = record { each = λ b is. omega (arith, so.rises, failed) }
 unfinished store limit first steps faults m n Lookup so all fails comes = absurd fails
 unfinished store limit first steps faults m n TooBig so all fails comes = absurd fails
 

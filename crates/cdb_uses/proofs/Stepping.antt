@@ -1,5 +1,5 @@
 -- A maker goes on by steps, of which some are refused.
-use Rattle.std.proofs.Common.{◌≡◌, ◌+◌, ◌*◌, ◌<◌, ◌≤◌, true, false, if◌then◌else◌, ℕ, Bool, inl, inr, List, [], ◌∷◌, ◌++◌, length, length-append, not, fold, refl, sym, ap, subst, ◌∙◌, append_assoc, arith, Option, Some, None, Result, Ok, Err}
+use Rattle.std.proofs.Common.{◌≡◌, ◌+◌, ◌<◌, ◌≤◌, true, false, if◌then◌else◌, ℕ, Bool, ◌⊎◌, inl, inr, List, [], ◌∷◌, ◌++◌, length, length-append, not, fold, refl, sym, ap, subst, ◌∙◌, append_assoc, arith, Option, Some, None, Result, Ok, Err}
 use Rattle.std.specs.Prelude.{filter, IfOk, IfErr}
 use Rattle.std.specs.List.{list_any}
 use Rattle.std.specs.Result.{result_err}
@@ -16,12 +16,13 @@ use Rattle.cdb_form.specs.Format.File.{file_size}
 use Rattle.cdb_form.specs.Format.Record.{KeyValue}
 use Rattle.cdb_make.specs.Survivors.{answered_step, survivors, put_list, fits, is_there, has_key, without}
 use Rattle.cdb_make.specs.Survivors.Call.{Putting, Removing}
-use Rattle.cdb_make.specs.Views.Maker.{Follows, IsBroken, Holds, HoldsIn, ComesFrom, WhereHonest, Puts, FailsPutting, Removes, FailsRemoving, FailsFinishing}
+use Rattle.cdb_make.specs.Views.Maker.{Follows, IsBroken, Holds, HoldsIn, ComesFrom, WhereHonest, Puts, FailsPutting, Removes, FailsRemoving, FailsFinishing, HasGone, HasGoneOr, SameCounts, made_size}
 use Rattle.cdb_make.specs.declared.fault.MakeFault.{MakeFault}
 use Rattle.cdb_make.specs.declared.fault.MakeFault.TheVariants.{Broken, Lookup, TooBig, NoMemory, Writing}
 use Rattle.cdb_make.specs.declared.maker.Maker.{Maker}
-use Rattle.cdb_make.specs.declared.records.put.Put.{Put}
-use Rattle.cdb_make.proofs.Making.Makers.{held_size}
+use Rattle.cdb_make.specs.declared.answer.Put.{Put}
+use Rattle.cdb_make.proofs.Appends.{held_size, made_within}
+use Rattle.cdb_make.proofs.Finishing.{rests_nothing}
 use Rattle.cdb_uses.specs.Steps.{HoldsWhole, Meets, MeetsStep, Runs, Stage, Tries, TriesCall, TriesStep, after, answers_of, answered, left_by, stage_of, takes_out, whole}
 use Rattle.cdb_uses.specs.declared.steps.Step.{Step}
 use Rattle.cdb_uses.specs.declared.steps.Step.TheVariants as kind
@@ -32,6 +33,18 @@ use Rattle.cdb_uses.specs.declared.steps.Step.TheVariants as kind
 not_broken : {b : Bool} → b ≡ true → b ≡ false → ⊥
 not_broken broken whole = let k : true ≡ false = sym broken ∙ whole in cc
 
+-- a maker that takes records out at once has none that go later
+none_gone : {S L : Type 0} {s : Ghosts S} {l : Widths L} (m : Maker S L s l) → m.lazy ≡ false → HasGone m → ⊥
+none_gone m eager gone = not_broken gone.0 eager
+
+its_key : {S L : Type 0} {s : Ghosts S} {l : Widths L} (m : Maker S L s l) (key : List ℕ) (rs : List KeyValue) → m.lazy ≡ false → HasGoneOr m key rs → is_there key rs ≡ true
+its_key m key rs eager (inl gone) = absurd (none_gone m eager gone)
+its_key m key rs eager (inr there) = there
+
+is_replacement : {S L : Type 0} {s : Ghosts S} {l : Widths L} (m : Maker S L s l) (mode : Mode) → m.lazy ≡ false → HasGone m ⊎ (mode ≡ Replace) → mode ≡ Replace
+is_replacement m mode eager (inl gone) = absurd (none_gone m eager gone)
+is_replacement m mode eager (inr is) = is
+
 -- a whole maker
 pub stage_whole : {S L : Type 0} {s : Ghosts S} {l : Widths L} (m : Maker S L s l) (n : ℕ) → m.broken ≡ false → s.failures m.store ≡ n → stage_of m ≡ whole n
 stage_whole {s = s} m n is same = ap (λ b. let x : Stage = record { broken = b; failures = s.failures m.store } in x) is ∙ ap whole same
@@ -41,16 +54,16 @@ meets_whole : {answers : ℕ → Stage → Type 0} {fault : Option MakeFault} {o
 meets_whole whole answers = record { of_broken = λ broken. absurd (not_broken broken whole); of_whole = λ _. answers }
 
 -- a put that was taken is within the limit, and one that is too big isn't
-put_fits : {S L : Type 0} {s : Ghosts S} {l : Widths L} (new : Maker S L s l) (limit : ℕ) (mode : Mode) (r : KeyValue) (rs : List KeyValue) (b : List ℕ) → new.limit ≡ limit → Holds new (put_list mode r rs) → s.image new.store b → fits l.WORD limit mode r rs ≡ true
-put_fits {l = l} new limit mode r rs b same holds is =
-    let size : new.end + 4 * l.WORD * new.count ≡ file_size l.WORD (put_list mode r rs) = (held_size new (put_list mode r rs) _ refl holds).each b is in
-    le-leb (file_size l.WORD (put_list mode r rs)) limit (omega (arith, size, same, new.within))
+put_fits : {S L : Type 0} {s : Ghosts S} {l : Widths L} (new : Maker S L s l) (limit : ℕ) (mode : Mode) (r : KeyValue) (rs : List KeyValue) (b : List ℕ) → (l.WORD ≡ 4) ⊎ (l.WORD ≡ 8) → new.limit ≡ limit → Holds new (put_list mode r rs) → s.image new.store b → fits l.WORD limit mode r rs ≡ true
+put_fits {l = l} new limit mode r rs b w same holds is =
+    let size : made_size new ≡ file_size l.WORD (put_list mode r rs) = held_size new (put_list mode r rs) b w holds is in
+    le-leb (file_size l.WORD (put_list mode r rs)) limit (omega (arith, size, same, made_within new, new.within))
 
-put_done : {S L : Type 0} {s : Ghosts S} {l : Widths L} (new : Maker S L s l) (limit : ℕ) (mode : Mode) (r : KeyValue) (rs : List KeyValue) → new.limit ≡ limit → new.broken ≡ false → Holds new (put_list mode r rs)
+put_done : {S L : Type 0} {s : Ghosts S} {l : Widths L} (new : Maker S L s l) (limit : ℕ) (mode : Mode) (r : KeyValue) (rs : List KeyValue) → (l.WORD ≡ 4) ⊎ (l.WORD ≡ 8) → new.limit ≡ limit → new.broken ≡ false → Holds new (put_list mode r rs)
     → Holds new (if fits l.WORD limit mode r rs then put_list mode r rs else rs)
-put_done new limit mode r rs same whole holds = record {
+put_done new limit mode r rs w same whole holds = record {
   whole = whole;
-  each = λ b is. subst (λ (x : Bool). HoldsIn new (if x then put_list mode r rs else rs) b) (sym (put_fits new limit mode r rs b same holds is)) (holds.each b is);
+  each = λ b is. subst (λ (x : Bool). HoldsIn new (if x then put_list mode r rs else rs) b) (sym (put_fits new limit mode r rs b w same holds is)) (holds.each b is);
 }
 
 put_too_big : {S L : Type 0} {s : Ghosts S} {l : Widths L} (new : Maker S L s l) (limit : ℕ) (mode : Mode) (r : KeyValue) (rs : List KeyValue) → new.broken ≡ false → WhereHonest (s.image new.store) (limit < file_size l.WORD (put_list mode r rs)) → Holds new rs
@@ -93,7 +106,7 @@ takes_there Insert r rs is there = absurd (let no : ⊥ = cc in no)
 -- what was tried of a maker
 tried : {S L : Type 0} {s : Ghosts S} {l : Widths L} (old new : Maker S L s l) (answers : ℕ → Stage → Type 0) (fault : Option MakeFault) (left : List KeyValue) → Follows old new → WhereHonest (s.image new.store) (Meets answers fault (stage_of old) (stage_of new)) → HoldsWhole new left
     → Tries old new answers fault left
-tried old new answers fault left follows meets holds = record { meets = meets; holds = holds; limit = follows.limit; comes = follows.comes; failures = follows.failures }
+tried old new answers fault left follows meets holds = record { meets = meets; holds = holds; limit = follows.limit; lazy = follows.lazy; comes = follows.comes; failures = follows.failures }
 
 -- a call that answered that the maker is broken
 tried_broken : {S L : Type 0} {s : Ghosts S} {l : Widths L} (old new : Maker S L s l) (answers : ℕ → Stage → Type 0) (rs left : List KeyValue) → Follows old new → IsBroken old new → HoldsWhole old rs → Tries old new answers (Some Broken) left
@@ -102,23 +115,23 @@ tried_broken {S = S} {L = L} {s = s} {l = l} old new answers rs left follows bro
     (λ whole. absurd (not_broken broken.broken whole))
 
 -- a put, whatever it answers
-pub put_tried : {S L : Type 0} {s : Ghosts S} {l : Widths L} (old new : Maker S L s l) (mode : Mode) (r : KeyValue) (result : Result Put MakeFault) (rs : List KeyValue) → IfOk result (Puts old new mode r) → IfErr result (FailsPutting old new mode r) → Follows old new → HoldsWhole old rs
+pub put_tried : {S L : Type 0} {s : Ghosts S} {l : Widths L} (old new : Maker S L s l) (mode : Mode) (r : KeyValue) (result : Result Put MakeFault) (rs : List KeyValue) → (l.WORD ≡ 4) ⊎ (l.WORD ≡ 8) → old.lazy ≡ false → IfOk result (Puts old new mode r) → IfErr result (FailsPutting old new mode r) → Follows old new → HoldsWhole old rs
     → TriesCall old new rs (Putting mode r) (result_err result)
-put_tried old new mode r (Ok answer) rs puts fails follows h =
+put_tried old new mode r (Ok answer) rs w eager puts fails follows h =
     let holds : Holds new (put_list mode r rs) = puts.holds rs (h puts.was) in
-    tried old new _ None _ follows (record { each = λ b is. meets_whole puts.was (put_fits new old.limit mode r rs b follows.limit holds is, follows.failures, puts.whole) })
-    (λ whole. put_done new old.limit mode r rs follows.limit whole holds)
-put_tried old new mode r (Err Broken) rs puts fails follows h = tried_broken old new _ rs _ follows fails h
-put_tried old new mode r (Err Lookup) rs puts fails follows h =
-    let stays = fails.0.stays in
+    tried old new _ None _ follows (record { each = λ b is. meets_whole puts.was (put_fits new old.limit mode r rs b w follows.limit holds is, follows.failures, puts.whole) })
+    (λ whole. put_done new old.limit mode r rs w follows.limit whole holds)
+put_tried old new mode r (Err Broken) rs w eager puts fails follows h = tried_broken old new _ rs _ follows fails h
+put_tried old new mode r (Err Lookup) rs w eager puts fails follows h =
+    let stays = (rests_nothing old new fails.0).stays in
     tried old new _ (Some Lookup) _ follows (record { each = λ b is. meets_whole stays.was (fails.2, fails.1, stays.whole) }) (λ whole. stays.holds rs (h stays.was))
-put_tried {s = s} {l = l} old new mode r (Err TooBig) rs puts fails follows h =
+put_tried {s = s} {l = l} old new mode r (Err TooBig) rs w eager puts fails follows h =
     let stays = fails.0.stays in
     let held = h stays.was in
     tried old new _ (Some TooBig) _ follows
     (record { each = λ b is. meets_whole stays.was (lt-leb (file_size l.WORD (put_list mode r rs)) old.limit ((fails.1 rs held).each b is), stage_whole new (s.failures old.store) stays.whole fails.2) })
     (λ whole. put_too_big new old.limit mode r rs whole (fails.1 rs held) (stays.holds rs held))
-put_tried {s = s} {l = l} old new mode r (Err NoMemory) rs puts fails follows h =
+put_tried {s = s} {l = l} old new mode r (Err NoMemory) rs w eager puts fails follows h =
     let stays = fails.0.stays in
     tried old new _ (Some NoMemory) _ follows
     (record {
@@ -127,20 +140,20 @@ put_tried {s = s} {l = l} old new mode r (Err NoMemory) rs puts fails follows h 
           meets_whole stays.was (would.0, le-leb (file_size l.WORD (put_list mode r rs)) old.limit would.1, stage_whole new (s.failures old.store) stays.whole fails.3);
     })
     (λ whole. stays.holds rs (h stays.was))
-put_tried {l = l} old new mode r (Err Writing) rs puts (inl x, would) follows h =
+put_tried {l = l} old new mode r (Err Writing) rs w eager puts (inl x, would) follows h =
     tried old new _ (Some Writing) _ follows
     (record {
       each = λ b is.
           let put = (would rs (h x.0.was)).each b is in
-          meets_whole x.0.was (put.0, le-leb (file_size l.WORD (put_list mode r rs)) old.limit put.1, x.1.failed, x.0.whole ∙ sym (adds_only mode r rs ((x.2 rs (h x.0.was)).each b is)));
+          meets_whole x.0.was (put.0, le-leb (file_size l.WORD (put_list mode r rs)) old.limit put.1, x.1.failed, x.0.whole ∙ sym (adds_only mode r rs ((x.2 eager rs (h x.0.was)).each b is)));
     })
     (λ whole. x.0.holds rs (h x.0.was))
-put_tried {l = l} old new mode r (Err Writing) rs puts (inr x, would) follows h =
+put_tried {l = l} old new mode r (Err Writing) rs w eager puts (inr x, would) follows h =
     tried old new _ (Some Writing) _ follows
     (record {
       each = λ b is.
           let put = (would rs (h x.0.was)).each b is in
-          meets_whole x.0.was (put.0, le-leb (file_size l.WORD (put_list mode r rs)) old.limit put.1, x.0.failed, x.0.broken ∙ sym (takes_there mode r rs x.1 ((x.0.found rs (h x.0.was)).each b is)));
+          meets_whole x.0.was (put.0, le-leb (file_size l.WORD (put_list mode r rs)) old.limit put.1, x.0.failed, x.0.broken ∙ sym (takes_there mode r rs (is_replacement old mode eager x.1) (its_key old r.key rs eager ((x.0.found rs (h x.0.was)).each b is))));
     })
     (λ whole. absurd (not_broken x.0.broken whole))
 
@@ -151,7 +164,7 @@ removal_tried old new key (Ok count) rs removes fails follows h =
     tried old new _ None _ follows (record { each = λ b is. meets_whole removes.was (refl, follows.failures, removes.whole) }) (λ whole. removes.holds rs (h removes.was))
 removal_tried old new key (Err Broken) rs removes fails follows h = tried_broken old new _ rs _ follows fails h
 removal_tried old new key (Err Lookup) rs removes fails follows h =
-    let stays = fails.0.stays in
+    let stays = (rests_nothing old new fails.0).stays in
     tried old new _ (Some Lookup) _ follows (record { each = λ b is. meets_whole stays.was (tt, fails.1, stays.whole) }) (λ whole. stays.holds rs (h stays.was))
 removal_tried old new key (Err TooBig) rs removes fails follows h = absurd fails
 removal_tried old new key (Err NoMemory) rs removes fails follows h = absurd fails
@@ -167,28 +180,32 @@ removal_tried old new key (Err Writing) rs removes fails follows h =
 -- ---- a finish
 
 -- one that was refused
-pub finish_tried : {S L : Type 0} {s : Ghosts S} {l : Widths L} (old new : Maker S L s l) (f : MakeFault) (rs : List KeyValue) → FailsFinishing old new f → ComesFrom (s.image old.store) (s.image new.store) → s.failures old.store ≤ s.failures new.store → HoldsWhole old rs
+pub finish_tried : {S L : Type 0} {s : Ghosts S} {l : Widths L} (old new : Maker S L s l) (f : MakeFault) (rs : List KeyValue) → old.lazy ≡ false → SameCounts old new → new.lazy ≡ old.lazy → FailsFinishing old new f → ComesFrom (s.image old.store) (s.image new.store) → s.failures old.store ≤ s.failures new.store → HoldsWhole old rs
     → TriesStep old new rs kind.Finish (Some f)
-finish_tried {S = S} {L = L} {s = s} {l = l} old new Broken rs fails comes rises h = record {
+finish_tried {S = S} {L = L} {s = s} {l = l} old new Broken rs eager counts lazy fails comes rises h = record {
   meets = record { each = λ b is. record { of_broken = λ e. (refl, ap (λ (m : Maker S L s l). stage_of m) fails.1); of_whole = λ e. absurd (not_broken fails.0 e) } };
   holds = λ whole. absurd (not_broken fails.0 (sym (ap (λ m. m.broken) fails.1) ∙ whole));
-  limit = ap (λ m. m.limit) fails.1;
+  limit = counts.limit;
+  lazy = lazy;
   comes = comes;
   failures = rises;
 }
-finish_tried old new Lookup rs fails comes rises h = absurd fails
-finish_tried old new TooBig rs fails comes rises h = absurd fails
-finish_tried old new NoMemory rs fails comes rises h = record {
+finish_tried old new Lookup rs eager counts lazy fails comes rises h = absurd fails
+finish_tried old new TooBig rs eager counts lazy fails comes rises h = absurd fails
+finish_tried old new NoMemory rs eager counts lazy fails comes rises h = record {
   meets = record { each = λ b is. meets_whole fails.0.stays.was (rises, fails.0.stays.whole) };
   holds = λ whole. fails.0.stays.holds rs (h fails.0.stays.was);
-  limit = fails.1.limit;
+  limit = counts.limit;
+  lazy = lazy;
   comes = comes;
   failures = rises;
 }
-finish_tried old new Writing rs fails comes rises h = record {
-  meets = record { each = λ b is. meets_whole fails.0.was (fails.2, fails.0.whole) };
-  holds = λ whole. fails.0.holds rs (h fails.0.was);
-  limit = fails.1.limit;
+finish_tried old new Writing rs eager counts lazy (inr torn) comes rises h = absurd (none_gone old eager torn.0)
+finish_tried old new Writing rs eager counts lazy (inl (stays, failed)) comes rises h = record {
+  meets = record { each = λ b is. meets_whole stays.was (failed, stays.whole) };
+  holds = λ whole. stays.holds rs (h stays.was);
+  limit = counts.limit;
+  lazy = lazy;
   comes = comes;
   failures = rises;
 }

@@ -8,8 +8,8 @@ use Rattle.cdb_make.specs.Survivors.{survivors}
 use Rattle.cdb_make.specs.Survivors.Call.{Putting, Removing}
 use Rattle.cdb_make.specs.declared.fault.MakeFault.TheVariants.{NoMemory, TooBig, Writing}
 use Rattle.cdb_form.specs.declared.mode.Mode.TheVariants.{Add, Insert, Replace}
-use Rattle.cdb_make.proofs.Making.Puts.{not_present}
 use Rattle.cdb_uses.specs.Steps.{Answers, answer_of, whole}
+use Rattle.cdb_make.proofs.Meeting.{replaces_it}
 
 -- a record of one byte each
 abbrev short : ℕ → ℕ → KeyValue
@@ -24,12 +24,12 @@ too_big = (refl, refl)
 
 refused : Answers 4 2099 (short 97 50 ∷ []) (Putting Replace (short 97 51)) (Some NoMemory) 0
     (whole 0)
-refused = (not_present true 1, refl, refl)
+refused = (replaces_it 1, refl, refl)
 
 -- a store that fails amid a replacement breaks the maker
 torn : Answers 4 2099 (short 97 50 ∷ []) (Putting Replace (short 97 51)) (Some Writing) 0
     (record { broken = true; failures = 1 })
-torn = (not_present true 1, refl, le_refl 1, refl)
+torn = (replaces_it 1, refl, le_refl 1, refl)
 
 -- what they leave
 replaced : survivors 4 2099

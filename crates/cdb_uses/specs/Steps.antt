@@ -14,7 +14,7 @@ use Rattle.cdb_make.specs.declared.fault.MakeFault.{MakeFault}
 use Rattle.cdb_make.specs.declared.fault.MakeFault.TheVariants.{Broken, Lookup, TooBig, NoMemory}
 use Rattle.cdb_make.specs.declared.fault.MakeFault.TheVariants.{Writing}
 use Rattle.cdb_make.specs.declared.maker.Maker.{Maker}
-use Rattle.cdb_make.specs.declared.records.put.Put.TheVariants.{Present}
+use Rattle.cdb_make.specs.declared.answer.Put.TheVariants.{Present}
 use Rattle.cdb_uses.specs.declared.edits.Edit.{Edit}
 use Rattle.cdb_uses.specs.declared.edits.Edit.TheVariants.{Put, Remove}
 use Rattle.cdb_uses.specs.declared.steps.Step.{Step}
@@ -152,6 +152,7 @@ pub record Tries {S L : Type 0} {s : Ghosts S} {l : Widths L} (old new : Maker S
   pub meets : WhereHonest (s.image new.store) (Meets answers fault (stage_of old) (stage_of new))
   pub holds : HoldsWhole new left
   pub limit : new.limit ≡ old.limit
+  pub lazy : new.lazy ≡ old.lazy
   pub comes : ComesFrom (s.image old.store) (s.image new.store)
   pub failures : s.failures old.store ≤ s.failures new.store
 

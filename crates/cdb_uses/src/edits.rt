@@ -1,6 +1,7 @@
 // A caller of cdb_make: a record is put, or those of a key are taken out.
-ghost use Rattle.std.specs.Prelude.{List};
+ghost use Rattle.std.specs.Prelude.{◌≡◌, false, List};
 ghost use Rattle.cdb_form.specs.Format.Record.{KeyValue};
+ghost use Rattle.cdb_make.specs.Views.Maker.{is_lazy};
 ghost use Rattle.cdb_uses.specs.Steps.{HoldsWhole, TriesCall, call_of};
 
 use cdb_form::{Record, Width};
@@ -16,11 +17,13 @@ pub enum Edit {
     Remove(Vec<u8>),
 }
 
-/// Makes a change, and answers why it was refused, if it was.
+/// Makes a change to a maker that takes records out at once, and answers why it was refused, if it
+/// was.
 pub(crate) fn make_edit<S: Store, L: Width>(
     maker: &mut Maker<S, L>,
     change: &Edit,
 ) -> Option<MakeFault>
+    requires { is_lazy maker.old ≡ false }
     ensures { (rs : List KeyValue) → HoldsWhole maker.old rs
         → TriesCall maker.old maker.new rs (call_of change.now) result }
 {

@@ -1,9 +1,9 @@
 // A caller of cdb_make and cdb_read: a database is built in any store, whatever is refused.
-ghost use Rattle.std.specs.Prelude.{◌≡◌, ℕ, ◌≤◌, List, All, IfOk, IfErr};
+ghost use Rattle.std.specs.Prelude.{◌≡◌, ℕ, ◌≤◌, false, List, All, IfOk, IfErr};
 ghost use Rattle.cdb_form.specs.Format.File.{file_size};
 ghost use Rattle.cdb_form.specs.Format.Pair.{head_size};
 ghost use Rattle.cdb_form.specs.Format.Record.{KeyValue, IsRecord};
-ghost use Rattle.cdb_make.specs.Views.Maker.{IsFile, WhereHonest};
+ghost use Rattle.cdb_make.specs.Views.Maker.{IsFile, WhereHonest, is_lazy};
 ghost use Rattle.cdb_uses.specs.Building.{Builds, BuildingFails, Finds, IsUnbuilt, LeavesOf};
 ghost use Rattle.cdb_uses.specs.Steps.{HoldsWhole, left_by};
 ghost use Rattle.cdb_uses.specs.declared.ask.AskFault.TheVariants.{Make};
@@ -57,8 +57,9 @@ enum Stepped<S: Store, L: Width> {
     Finished(S),
 }
 
-/// Makes a step.
+/// Makes a step of a maker that takes records out at once.
 fn make_step<S: Store, L: Width>(maker: Maker<S, L>, step: &Step) -> Stepped<S, L>
+    requires { is_lazy maker ≡ false }
     ensures { (rs : List KeyValue) → HoldsWhole maker rs → LeavesOf maker rs step.now result }
 {
     let mut maker = maker;

@@ -6,7 +6,7 @@ pub returns-in-Put : goal.returns-in-Put
 returns-in-Put g c = λ rs h.
     let e = c.put.ensures in
     rw (c.in-Put.is, c.err.ensures.value, sym c.deref.ensures.value, sym c.deref-in-Put.ensures.value)
-    (put_tried {s = g.S.Store} {l = g.L.Width} c.args.maker.now c.put.new.self _ _ _ rs e.puts e.fails e.follows h)
+    (put_tried {s = g.S.Store} {l = g.L.Width} c.args.maker.now c.put.new.self _ _ _ rs g.met.L.Width.four_or_eight c.requires e.puts e.fails e.follows h)
 
 pub returns-in-Remove : goal.returns-in-Remove
 returns-in-Remove g c = λ rs h.

@@ -1,9 +1,10 @@
 use Rattle.std.proofs.Common.{ℕ, ap, arith, refl, take}
+use Rattle.cdb_make.proofs.Finishing.{left_behind}
 use Rattle.cdb_uses.proofs.Finishing.{ended_made, ended_taken, one_more, out_of_memory, so_far_more, so_far_none, unbuilt}
 use Rattle.cdb_uses.proofs.steps.build.Goals as goal
 
 pub loop-step-init : goal.loop-step-init
-loop-step-init g c = so_far_none {s = g.S.Store} {l = g.L.Width} c.args.store c.args.limit c.in-Ok-new.maker c.in-Ok.faults.items c.in-Ok.ensures.items c.in-Ok-new.ensures.holds c.in-Ok-new.ensures.limit c.in-Ok-new.ensures.failures
+loop-step-init g c = so_far_none {s = g.S.Store} {l = g.L.Width} c.args.store c.args.limit c.in-Ok-new.maker c.in-Ok.faults.items c.in-Ok.ensures.items c.in-Ok-new.ensures.begins.holds c.in-Ok-new.ensures.begins.limited c.in-Ok-new.ensures.lazy (omega (arith, c.in-Ok-new.ensures.begins.fine))
 
 pub loop-step-preserved : goal.loop-step-preserved
 loop-step-preserved g c =
@@ -22,19 +23,19 @@ returns-in_default-clause-fails g c = out_of_memory g.S.Store g.L.Width.WORD c.a
 pub returns-in-Finished-clause-builds : goal.returns-in-Finished-clause-builds
 returns-in-Finished-clause-builds g c =
     let so = c.loop-step.invariant in
-    let end = ended_taken {s = g.S.Store} {l = g.L.Width} c.args.store c.args.limit c.loop-step.step-index c.args.steps.now c.loop-step.faults.items c.loop-step.maker c.step-item.result c.in-Finished.store (omega arith) c.step-item.is so (rw c.in-Finished.is at c.make_step.ensures _ so.holds) in
+    let end = ended_taken {s = g.S.Store} {l = g.L.Width} c.args.store c.args.limit c.loop-step.step-index c.args.steps.now c.loop-step.faults.items c.loop-step.maker c.step-item.result c.in-Finished.store g.met.L.Width.four_or_eight (omega arith) c.step-item.is so (rw c.in-Finished.is at c.make_step.ensures _ so.holds) in
     end.builds
 
 pub returns-in-Finished-clause-file : goal.returns-in-Finished-clause-file
 returns-in-Finished-clause-file g c =
     let so = c.loop-step.invariant in
-    let end = ended_taken {s = g.S.Store} {l = g.L.Width} c.args.store c.args.limit c.loop-step.step-index c.args.steps.now c.loop-step.faults.items c.loop-step.maker c.step-item.result c.in-Finished.store (omega arith) c.step-item.is so (rw c.in-Finished.is at c.make_step.ensures _ so.holds) in
+    let end = ended_taken {s = g.S.Store} {l = g.L.Width} c.args.store c.args.limit c.loop-step.step-index c.args.steps.now c.loop-step.faults.items c.loop-step.maker c.step-item.result c.in-Finished.store g.met.L.Width.four_or_eight (omega arith) c.step-item.is so (rw c.in-Finished.is at c.make_step.ensures _ so.holds) in
     end.file
 
 pub returns-in-Finished-clause-fits : goal.returns-in-Finished-clause-fits
 returns-in-Finished-clause-fits g c =
     let so = c.loop-step.invariant in
-    let end = ended_taken {s = g.S.Store} {l = g.L.Width} c.args.store c.args.limit c.loop-step.step-index c.args.steps.now c.loop-step.faults.items c.loop-step.maker c.step-item.result c.in-Finished.store (omega arith) c.step-item.is so (rw c.in-Finished.is at c.make_step.ensures _ so.holds) in
+    let end = ended_taken {s = g.S.Store} {l = g.L.Width} c.args.store c.args.limit c.loop-step.step-index c.args.steps.now c.loop-step.faults.items c.loop-step.maker c.step-item.result c.in-Finished.store g.met.L.Width.four_or_eight (omega arith) c.step-item.is so (rw c.in-Finished.is at c.make_step.ensures _ so.holds) in
     end.fits
 
 pub returns-in-Finished-clause-size : goal.returns-in-Finished-clause-size
@@ -45,19 +46,19 @@ returns-in-Finished-clause-size g c =
 pub returns-in-Ok-finish-clause-builds : goal.returns-in-Ok-finish-clause-builds
 returns-in-Ok-finish-clause-builds g c =
     let e = c.in-Ok-finish.ensures in
-    let end = ended_made {s = g.S.Store} {l = g.L.Width} c.args.store c.args.limit c.loop-step.step-index c.args.steps.now c.loop-step.faults.items c.loop-step.maker c.in-Ok-finish.store (omega arith) c.loop-step.invariant e.whole e.file e.size e.comes e.failures in
+    let end = ended_made {s = g.S.Store} {l = g.L.Width} c.args.store c.args.limit c.loop-step.step-index c.args.steps.now c.loop-step.faults.items c.loop-step.maker c.in-Ok-finish.store g.met.L.Width.four_or_eight (omega arith) c.loop-step.invariant e.whole e.file e.size e.comes e.failures in
     end.builds
 
 pub returns-in-Ok-finish-clause-file : goal.returns-in-Ok-finish-clause-file
 returns-in-Ok-finish-clause-file g c =
     let e = c.in-Ok-finish.ensures in
-    let end = ended_made {s = g.S.Store} {l = g.L.Width} c.args.store c.args.limit c.loop-step.step-index c.args.steps.now c.loop-step.faults.items c.loop-step.maker c.in-Ok-finish.store (omega arith) c.loop-step.invariant e.whole e.file e.size e.comes e.failures in
+    let end = ended_made {s = g.S.Store} {l = g.L.Width} c.args.store c.args.limit c.loop-step.step-index c.args.steps.now c.loop-step.faults.items c.loop-step.maker c.in-Ok-finish.store g.met.L.Width.four_or_eight (omega arith) c.loop-step.invariant e.whole e.file e.size e.comes e.failures in
     end.file
 
 pub returns-in-Ok-finish-clause-fits : goal.returns-in-Ok-finish-clause-fits
 returns-in-Ok-finish-clause-fits g c =
     let e = c.in-Ok-finish.ensures in
-    let end = ended_made {s = g.S.Store} {l = g.L.Width} c.args.store c.args.limit c.loop-step.step-index c.args.steps.now c.loop-step.faults.items c.loop-step.maker c.in-Ok-finish.store (omega arith) c.loop-step.invariant e.whole e.file e.size e.comes e.failures in
+    let end = ended_made {s = g.S.Store} {l = g.L.Width} c.args.store c.args.limit c.loop-step.step-index c.args.steps.now c.loop-step.faults.items c.loop-step.maker c.in-Ok-finish.store g.met.L.Width.four_or_eight (omega arith) c.loop-step.invariant e.whole e.file e.size e.comes e.failures in
     end.fits
 
 pub returns-in-Err-finish-clause-fails : goal.returns-in-Err-finish-clause-fails
@@ -66,3 +67,6 @@ returns-in-Err-finish-clause-fails g c =
     let e = c.in-Err-finish.ensures in
     let no = unbuilt {s = g.S.Store} {l = g.L.Width} c.args.store c.args.limit c.loop-step.step-index c.args.steps.now c.loop-step.faults.items c.loop-step.maker u.maker u.fault (omega arith) c.loop-step.invariant e.fails e.fails_comes in
     rw (c.left_unbuilt-in-Err-finish.ensures, c.into_store-in-Err-finish.ensures) (u.fault, refl, no)
+
+pub returns-in-Ok-finish-clause-size : goal.returns-in-Ok-finish-clause-size
+returns-in-Ok-finish-clause-size g c = omega (arith, c.in-Ok-finish.ensures.size, left_behind c.loop-step.maker.roll)
