@@ -25,6 +25,7 @@ use Rattle.cdb_make.specs.Spans.{left, picked, number, behind, or_each}
 use Rattle.cdb_make.specs.Survivors.{has_key, is_there, count_of, behind_first, put_list, put_answer}
 use Rattle.cdb_make.specs.Views.Roll.{HasRoom}
 use Rattle.cdb_make.specs.Views.Maker.{gone_in, found_in, Holds, Rests, Stays, Seeks, Meets, Settles, Puts, Follows, IsOver, IsWithin, IsTooBig, WouldPut, WantsRoom, OnlyAdds, PassesRoom, DoesNothing, WritesNothing, HasFailedToWrite, HasNotFailed, HasStoreFailed, HasGone, HasGoneOr, IsTorn, FailsSettling, FailsPutting, IsAlone, IsShort, put_bytes, lone_bytes, goes_with, is_present}
+use Rattle.cdb_make.proofs.Ends.{end_passed}
 use Rattle.cdb_make.proofs.Finishing.{gone_lazy}
 use Rattle.cdb_make.proofs.Looking.{sees_long, sees_same, same_back}
 use Rattle.cdb_make.proofs.Picking.{left_all_stay, left_sum, end_sum, number_none, gone_taken, number_taken, both_within, both_few}
@@ -212,14 +213,38 @@ puts_by {s = s} {l = l} i j k hash mode r put np m t alone room = record {
           wrote = elim alone [
             | inl wrote ↦ inl (omega (arith, wrote, lone, m.rests.reads.written))
             | inr why ↦ elim q.2.2 [
-              | inl wrote ↦ inl (omega (arith, wrote, lone, m.rests.reads.written))
+              | inl wrote ↦ inl (omega (arith, wrote.0, lone, m.rests.reads.written))
               | inr pass ↦ inr (
-                omega (arith, pass, moved, m.rests.reads.written),
+                omega (arith, pass.0, moved, m.rests.reads.written),
                 λ lazy. elim (why (m.rests.lazy ∙ lazy)) [ inl due ↦ inl (omega (arith, due, taken, m.rests.same.end)) | inr short ↦ inr (short_before i j r m.rests room short) ],
               )
             ]
           ];
         };
+  };
+  pays = λ lazy rs h. record {
+    each = λ b is.
+        let g = t.goes.each b is in
+        let e = m.each rs h g.0 g.1 in
+        let q = g.2 e.all e.sees in
+        let ms : List Bool = or_each (gone_in j) (found_in j) in
+        let ns : List ℕ = map (record_size l.WORD) e.all in
+        let lone : lone_bytes l.WORD mode r rs ≡ record_size l.WORD r = e.lone ∙ ap (λ (v : Bool). cond v 0 (record_size l.WORD r)) np in
+        elim q.2.2 [
+          | inl wrote ↦ inl (omega (arith, wrote, lone, m.rests.reads.written, m.rests.same.end))
+          | inr pass ↦
+              let taken : j.roll.gone.size + j.roll.found.size ≡ sum (picked ms ns) = kept_picked j.roll e.all g.0 e.sees in
+              let many : length ms ≡ length e.all = length-or (gone_in j) (found_in j) (same_marks j.roll) ∙ length-map j.roll.marks.items is_gone ∙ j.roll.marked ∙ sees_long j.roll e.all g.0 e.sees in
+              let stay : length (gone_in k) ≡ length q.0 = length-map k.roll.marks.items is_gone ∙ k.roll.marked ∙ sees_long k.roll q.0 b q.1 in
+              let ends = end_passed j.roll k.roll e.all q.0 ms g.0 b r many e.sees q.1 (sym (left_all_stay (gone_in k) q.0 stay pass.1) ∙ q.2.0) in
+              elim alone [
+                | inl wrote ↦ inl (omega (arith, wrote, ends.0, lone, m.rests.reads.written, m.rests.same.end))
+                | inr why ↦ elim (why (m.rests.lazy ∙ lazy)) [
+                  | inl due ↦ inl (omega (arith, due, taken, pass.0, ends.0, ends.1, lone, m.rests.reads.written, m.rests.same.end))
+                  | inr short ↦ inr (short_before i j r m.rests room short)
+                ]
+              ]
+        ];
   };
 }
 
@@ -246,6 +271,7 @@ puts_none {s = s} {l = l} i j hash mode r put p m = record {
           wrote = inl (omega (arith, lone, m.rests.reads.written));
         };
   };
+  pays = λ lazy rs h. record { each = λ b is. inl (omega (arith, m.rests.reads.written, m.rests.same.end)) };
 }
 
 held_still : {S L : Type 0} {s : Ghosts S} {l : Widths L} (i j k : Maker S L s l) → Rests i j → Stays j k → (rs : List KeyValue) → Holds i rs → Holds k rs

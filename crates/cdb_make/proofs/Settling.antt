@@ -18,6 +18,7 @@ use Rattle.cdb_make.specs.Views.Maker.{gone_in, found_in, Stays, Adds, Waits, Se
 use Rattle.cdb_make.proofs.Looking.{sees_same, sees_long, same_then}
 use Rattle.cdb_make.proofs.Spans.{left-append, or_append}
 use Rattle.cdb_make.proofs.Survive.{or_none, number_zero}
+use Rattle.cdb_make.proofs.Ends.{end_more}
 use Rattle.cdb_make.proofs.Rolls.{none_more, goes_then}
 
 pub have_more : (hash : ℕ) (hs hs₁ : List ℕ) (ms ms₁ : List Mark) → hs₁ ≡ hs ++ hash ∷ [] → found_of ms₁ ≡ found_of ms ++ false ∷ [] → length ms ≡ length hs → HaveHash hash hs ms → HaveHash hash hs₁ ms₁
@@ -85,7 +86,7 @@ settles_later {s = s} {l = l} i j k hash r first whole a store broken same gone 
                       let none = clear_by i first eager whole in
                       let z : sum (behind ms (map (record_size l.WORD) all)) ≡ 0 = ap sum (behind_nothing ms (map (record_size l.WORD) all) (or_clear (gone_in i) (found_in i) long none.0 none.1)) in
                       omega (arith, written, z),
-                  inl written,
+                  inl (written, same.end ∙ end_more i.roll j.roll all q.0 h.0 b r sees q.1 q.2),
                 ),
               ),
         );
@@ -113,7 +114,7 @@ settles_after {s = s} {l = l} i j k r w lazy t = record {
                 (
                   q.2.0 ∙ ap (λ (v : List Bool). left v m.0 ++ r ∷ []) marks ∙ ap (λ (v : List KeyValue). left (or_each (gone_in i) (found_in i)) v ++ r ∷ []) m.2,
                   λ eager. (let x = q.2.1 (lazy ∙ eager) in omega (arith, x, moved, w.written)),
-                  elim q.2.2 [ inl x ↦ inl (omega (arith, x, w.written)) | inr x ↦ inr (omega (arith, x, moved, w.written)) ],
+                  elim q.2.2 [ inl x ↦ inl (omega (arith, x.0, w.written), omega (arith, x.1, w.stays.same.end)) | inr x ↦ inr (omega (arith, x.0, moved, w.written), x.1) ],
                 ),
               ),
         );

@@ -377,7 +377,8 @@ pub record FailsToWrite {S L : Type 0} {s : Ghosts S} {l : Widths L} (old new : 
   pub stays : Stays old new
   pub failed : HasFailedToWrite old new
 
--- the records that go and those that were found are gone, now or with a later pass, and one was added
+-- the records that go and those that were found are gone, now or with a later pass, and one was added:
+-- alone behind the others, or after a pass
 pub record Settles {S L : Type 0} {s : Ghosts S} {l : Widths L} (old new : Maker S L s l)
     (r : KeyValue) : Type 0 where
   pub whole : new.broken ≡ false
@@ -385,8 +386,10 @@ pub record Settles {S L : Type 0} {s : Ghosts S} {l : Widths L} (old new : Maker
       (left (gone_in new) rest ≡ left (or_each (gone_in old) (found_in old)) all ++ r ∷ [])
       × (old.lazy ≡ false
       → Passes old new (or_each (gone_in old) (found_in old)) (record_size l.WORD r) all)
-      × ((s.written new.store ≡ s.written old.store + record_size l.WORD r)
-      ⊎ Passes old new (or_each (gone_in old) (found_in old)) (record_size l.WORD r) all))
+      × (((s.written new.store ≡ s.written old.store + record_size l.WORD r)
+      × (new.roll.end ≡ old.roll.end + record_size l.WORD r))
+      ⊎ (Passes old new (or_each (gone_in old) (found_in old)) (record_size l.WORD r) all
+      × AreNone (gone_in new))))
 
 -- it wrote the record alone, or was to make a pass: if it is lazy, one was due, or there was no room
 abbrev pub IsAlone : {S L : Type 0} {s : Ghosts S} {l : Widths L} → Maker S L s l → Maker S L s l
@@ -504,7 +507,9 @@ pub record Meets {S L : Type 0} {s : Ghosts S} {l : Widths L} (old new : Maker S
   pub each : (rs : List KeyValue) → Holds old rs → (b : List ℕ) → s.image new.store b
       → MeetsIn new mode r put rs b
 
--- a put of a record that answered so
+-- a put of a record that answered so. With what a lazy maker writes, its records end no later than
+-- before but for the new one, which is written and stands behind them: so all passes together move no
+-- more bytes than were put, but for those of a put that had no room
 pub record Puts {S L : Type 0} {s : Ghosts S} {l : Widths L} (old new : Maker S L s l)
     (mode : Mode) (r : KeyValue) (answer : Put) : Type 0 where
   pub was : old.broken ≡ false
@@ -518,6 +523,9 @@ pub record Puts {S L : Type 0} {s : Ghosts S} {l : Widths L} (old new : Maker S 
   pub writes : (rs : List KeyValue) → Holds old rs → WhereHonest (s.image new.store)
       (WritesIn old new (goes_with mode r.key (gone_in old)) (lone_bytes l.WORD mode r rs)
       (record_size l.WORD r) (IsShort old r) rs)
+  pub pays : old.lazy ≡ true → (rs : List KeyValue) → Holds old rs
+      → WhereHonest (s.image new.store) ((s.written new.store + new.roll.end
+      ≤ s.written old.store + old.roll.end + 2 * lone_bytes l.WORD mode r rs) ⊎ IsShort old r)
 
 -- and nothing was written
 pub record WritesNothing {S L : Type 0} {s : Ghosts S} {l : Widths L} (old new : Maker S L s l)

@@ -59,7 +59,7 @@ returns-in-Ok-clause-settles g c =
                   let many : length (gone_in k) ≡ length q.0 = omega (arith, length-map m.marks.items is_gone, m.marked, sees_long m q.0 b q.1) in (
                     q.0,
                     q.1,
-                    (left_all_stay (gone_in k) q.0 many x.none ∙ q.2.0, λ eager. omega (arith, q.2.1, c.reserve.ensures.written), inr (omega (arith, q.2.1, c.reserve.ensures.written))),
+                    (left_all_stay (gone_in k) q.0 many x.none ∙ q.2.0, λ eager. omega (arith, q.2.1, c.reserve.ensures.written), inr (omega (arith, q.2.1, c.reserve.ensures.written), x.none)),
                   ),
             );
       };
