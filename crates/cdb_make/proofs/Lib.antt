@@ -18,3 +18,4 @@ pub mod Settling
 pub mod Meeting
 pub mod BegunHeads
 pub mod Lowering
+pub mod Callers
