@@ -1,5 +1,4 @@
-use Rattle.std.proofs.lemmas.Grind.{common_steps}
-use Rattle.std.proofs.Common.{arith, inl}
+use Rattle.std.proofs.Common.{inl}
 use Rattle.cdb_tool.proofs.Courses.{err_each}
 use Rattle.cdb_tool.proofs.runs.make_input.do_item.Goals as goal
 
