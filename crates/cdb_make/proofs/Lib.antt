@@ -19,3 +19,4 @@ pub mod Meeting
 pub mod BegunHeads
 pub mod Lowering
 pub mod Ends
+pub mod Callers

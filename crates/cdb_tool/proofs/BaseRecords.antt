@@ -1,8 +1,10 @@
 -- A base whose records are added to a maker, one after the other.
-use Rattle.std.proofs.Common.{◌≡◌, ℕ, ◌+◌, ◌*◌, ◌≤◌, List, [], ◌∷◌, ◌++◌, refl, sym, ap, subst, ◌∙◌, arith, append_assoc, length, take, Option, Some, None, Bool, true, false, true≢false, ◌<◌}
+use Rattle.std.proofs.Common.{◌≡◌, ℕ, ◌≤◌, ◌⊎◌, List, [], ◌∷◌, ◌++◌, refl, sym, ap, subst, ◌∙◌, arith, append_assoc, length, take, Option, Some, None, Bool, true, false, true≢false, ◌<◌}
 use Rattle.std.proofs.Math.Seq.{take-append_seam}
 use Rattle.std.proofs.lemmas.List.{append-nil, length-take}
+use Rattle.cdb_store.specs.Reads.{OnlyReads}
 use Rattle.cdb_store.specs.declared.store.Store.{Ghosts}
+use Rattle.cdb_store.proofs.Reading.{reads_nothing}
 use Rattle.cdb_form.specs.declared.width.Width.{Ghosts as Widths}
 use Rattle.cdb_form.specs.Format.File.{file_size}
 use Rattle.cdb_form.specs.Format.Record.{KeyValue}
@@ -18,9 +20,9 @@ use Rattle.cdb_make.specs.declared.fault.MakeFault.{MakeFault}
 use Rattle.cdb_make.specs.declared.fault.MakeFault.TheVariants as make
 use Rattle.cdb_make.specs.declared.maker.Maker.{Maker}
 use Rattle.cdb_form.specs.declared.mode.Mode.TheVariants.{Add}
-use Rattle.cdb_make.specs.declared.records.put.Put.{Put}
-use Rattle.cdb_make.proofs.Entries.EntryLists.{size_push}
-use Rattle.cdb_make.proofs.Making.Makers.{held_size}
+use Rattle.cdb_make.specs.declared.answer.Put.{Put}
+use Rattle.cdb_make.proofs.Rolls.{whole_push}
+use Rattle.cdb_make.proofs.Callers.{holds_fits}
 use Rattle.cdb_read.specs.Lookup.{bytes_of}
 use Rattle.cdb_read.specs.Views.Reads.{OpeningFails}
 use Rattle.cdb_read.specs.Views.Walk.{left_of, WalkingFails}
@@ -125,33 +127,33 @@ none_added w images left rest m none ended = record {
 
 -- ---- the walk stopped
 
-damage_fails : {S L : Type 0} {s : Ghosts S} {l : Widths L} (rs : List KeyValue) (left : Walked) (d : Damage) (m : Maker S L s l) → left ≡ damaged d → Holds m rs → (a : List ℕ) → s.image m.store a
+damage_fails : {S L : Type 0} {s : Ghosts S} {l : Widths L} (rs : List KeyValue) (left : Walked) (d : Damage) (m : Maker S L s l) → (l.WORD ≡ 4) ⊎ (l.WORD ≡ 8) → left ≡ damaged d → Holds m rs → (a : List ℕ) → s.image m.store a
     → ((with_records rs left).damage ≡ Some d) × (file_size l.WORD (with_records rs left).records ≤ limit_of m)
-damage_fails {l = l} rs left d m is holds a i =
-    let size : m.end + 4 * l.WORD * m.count ≡ file_size l.WORD rs = (held_size m rs _ refl holds).each a i in
+damage_fails {l = l} rs left d m wide is holds a i =
+    let fits : file_size l.WORD rs ≤ limit_of m = (holds_fits m rs wide holds).each a i in
     let same : file_size l.WORD (rs ++ left.records) ≡ file_size l.WORD rs = ap (λ (v : Walked). file_size l.WORD (rs ++ v.records)) is ∙ ap (file_size l.WORD) (append-nil rs) in
-    (ap (λ (v : Walked). v.damage) is, omega (arith, size, same, m.within))
+    (ap (λ (v : Walked). v.damage) is, omega (arith, fits, same))
 
-stopped_so : {S L B : Type 0} {s : Ghosts S} {l : Widths L} {t : Ghosts B} (old new : Walk B L t l) (m : Maker S L s l) (f : ReadFault) → WalkingFails l.WORD old new f → (rs : List KeyValue) → Holds m rs → (b : List ℕ) → t.image new.reader.now.store b → (a : List ℕ) → s.image m.store a
+stopped_so : {S L B : Type 0} {s : Ghosts S} {l : Widths L} {t : Ghosts B} (old new : Walk B L t l) (m : Maker S L s l) (f : ReadFault) → (l.WORD ≡ 4) ⊎ (l.WORD ≡ 8) → WalkingFails l.WORD old new f → (rs : List KeyValue) → Holds m rs → (b : List ℕ) → t.image new.reader.now.store b → (a : List ℕ) → s.image m.store a
     → NotAdded l.WORD (limit_of m) (with_records rs (left_of l.WORD b old)) (read_fault f)
-stopped_so old new m read.Short x rs holds b i a j = absurd x
-stopped_so {l = l} old new m (read.Table n) x rs holds b i a j =
-    let p = damage_fails rs (left_of l.WORD b old) (damage.Table n) m (x.1 b i) holds a j in
+stopped_so old new m read.Short wide x rs holds b i a j = absurd x
+stopped_so {l = l} old new m (read.Table n) wide x rs holds b i a j =
+    let p = damage_fails rs (left_of l.WORD b old) (damage.Table n) m wide (x.1 b i) holds a j in
     (damage.Table n, refl, p.0, p.1)
-stopped_so {l = l} old new m (read.Record place) x rs holds b i a j =
-    let p = damage_fails rs (left_of l.WORD b old) (damage.Record place) m (x.1 b i) holds a j in
+stopped_so {l = l} old new m (read.Record place) wide x rs holds b i a j =
+    let p = damage_fails rs (left_of l.WORD b old) (damage.Record place) m wide (x.1 b i) holds a j in
     (damage.Record place, refl, p.0, p.1)
-stopped_so old new m (read.Slot n k) x rs holds b i a j = absurd x
-stopped_so old new m (read.Twice place) x rs holds b i a j = absurd x
-stopped_so old new m (read.Unindexed place) x rs holds b i a j = absurd x
-stopped_so old new m read.Device x rs holds b i a j = tt
-stopped_so old new m read.NoMemory x rs holds b i a j = absurd x
-stopped_so old new m read.Output x rs holds b i a j = absurd x
+stopped_so old new m (read.Slot n k) wide x rs holds b i a j = absurd x
+stopped_so old new m (read.Twice place) wide x rs holds b i a j = absurd x
+stopped_so old new m (read.Unindexed place) wide x rs holds b i a j = absurd x
+stopped_so old new m read.Device wide x rs holds b i a j = tt
+stopped_so old new m read.NoMemory wide x rs holds b i a j = absurd x
+stopped_so old new m read.Output wide x rs holds b i a j = absurd x
 
-pub walk_stopped : {S L B : Type 0} {s : Ghosts S} {l : Widths L} {t : Ghosts B} (left : List ℕ → Walked) (old new : Walk B L t l) (m : Maker S L s l) (f : ReadFault) → ((b : List ℕ) → left b ≡ left_of l.WORD b old) → WalkingFails l.WORD old new f → (rs : List KeyValue) → Holds m rs → (b : List ℕ)
+pub walk_stopped : {S L B : Type 0} {s : Ghosts S} {l : Widths L} {t : Ghosts B} (left : List ℕ → Walked) (old new : Walk B L t l) (m : Maker S L s l) (f : ReadFault) → (l.WORD ≡ 4) ⊎ (l.WORD ≡ 8) → ((b : List ℕ) → left b ≡ left_of l.WORD b old) → WalkingFails l.WORD old new f → (rs : List KeyValue) → Holds m rs → (b : List ℕ)
     → t.image new.reader.now.store b → WhereHonest (s.image m.store) (NotAdded l.WORD (limit_of m) (with_records rs (left b)) (read_fault f))
-walk_stopped {l = l} left old new m f same x rs holds b i = record {
-  each = λ a j. subst (λ v. NotAdded l.WORD (limit_of m) (with_records rs v) (read_fault f)) (sym (same b)) (stopped_so old new m f x rs holds b i a j);
+walk_stopped {l = l} left old new m f wide same x rs holds b i = record {
+  each = λ a j. subst (λ v. NotAdded l.WORD (limit_of m) (with_records rs v) (read_fault f)) (sym (same b)) (stopped_so old new m f wide x rs holds b i a j);
 }
 
 -- ---- records were not added
@@ -160,7 +162,7 @@ walk_stopped {l = l} left old new m f same x rs holds b i = record {
 pub size_grows : (w : ℕ) (rs more : List KeyValue) → file_size w rs ≤ file_size w (rs ++ more)
 size_grows w rs [] = subst (λ v. file_size w rs ≤ file_size w v) (sym (append-nil rs)) (omega arith)
 size_grows w rs (r ∷ more) =
-    let one = size_push w rs r in
+    let one = whole_push w rs r in
     let rest = subst (λ v. file_size w (rs ++ r ∷ []) ≤ file_size w v) (append_assoc rs (r ∷ []) more) (size_grows w (rs ++ r ∷ []) more) in
     omega (arith, one, rest)
 
@@ -244,23 +246,35 @@ text_no_base n text.Endless is = is
 
 -- ---- no database was opened
 
-unopened_so : {S L B : Type 0} {s : Ghosts S} {l : Widths L} (t : Ghosts B) (old new : B) (m : Maker S L s l) (f : ReadFault) → OpeningFails l.WORD t old new f → ((b : List ℕ) → t.image new b → length b ≡ t.size new) → Holds m [] → (b : List ℕ) → t.image new b → (a : List ℕ) → s.image m.store a
+-- its store was only read
+pub unopened_reads : {B : Type 0} (w : ℕ) (t : Ghosts B) (old new : B) (f : ReadFault) → OpeningFails w t old new f → OnlyReads t old new
+unopened_reads w t old new read.Short x = reads_nothing old new x.1
+unopened_reads w t old new read.Device x = x.0
+unopened_reads w t old new (read.Table n) x = absurd x
+unopened_reads w t old new (read.Record place) x = absurd x
+unopened_reads w t old new (read.Slot n k) x = absurd x
+unopened_reads w t old new (read.Twice place) x = absurd x
+unopened_reads w t old new (read.Unindexed place) x = absurd x
+unopened_reads w t old new read.NoMemory x = absurd x
+unopened_reads w t old new read.Output x = absurd x
+
+unopened_so : {S L B : Type 0} {s : Ghosts S} {l : Widths L} (t : Ghosts B) (old new : B) (m : Maker S L s l) (f : ReadFault) → (l.WORD ≡ 4) ⊎ (l.WORD ≡ 8) → OpeningFails l.WORD t old new f → ((b : List ℕ) → t.image new b → length b ≡ t.size new) → Holds m [] → (b : List ℕ) → t.image new b → (a : List ℕ) → s.image m.store a
     → BaseFails l.WORD (limit_of m) b (read_fault f)
-unopened_so {l = l} t old new m read.Short x size holds b i a j =
+unopened_so {l = l} t old new m read.Short wide x size holds b i a j =
     let long = size b i in
     let same = ap t.size x.1 in
     let few = x.0 in
-    let p = damage_fails [] (walk_of l.WORD b) damage.Short m (walk_of-short l.WORD b (omega (arith, long, same, few))) holds a j in
+    let p = damage_fails [] (walk_of l.WORD b) damage.Short m wide (walk_of-short l.WORD b (omega (arith, long, same, few))) holds a j in
     (damage.Short, refl, p.0, p.1)
-unopened_so t old new m read.Device x size holds b i a j = tt
-unopened_so t old new m (read.Table n) x size holds b i a j = absurd x
-unopened_so t old new m (read.Record place) x size holds b i a j = absurd x
-unopened_so t old new m (read.Slot n k) x size holds b i a j = absurd x
-unopened_so t old new m (read.Twice place) x size holds b i a j = absurd x
-unopened_so t old new m (read.Unindexed place) x size holds b i a j = absurd x
-unopened_so t old new m read.NoMemory x size holds b i a j = tt
-unopened_so t old new m read.Output x size holds b i a j = absurd x
+unopened_so t old new m read.Device wide x size holds b i a j = tt
+unopened_so t old new m (read.Table n) wide x size holds b i a j = absurd x
+unopened_so t old new m (read.Record place) wide x size holds b i a j = absurd x
+unopened_so t old new m (read.Slot n k) wide x size holds b i a j = absurd x
+unopened_so t old new m (read.Twice place) wide x size holds b i a j = absurd x
+unopened_so t old new m (read.Unindexed place) wide x size holds b i a j = absurd x
+unopened_so t old new m read.NoMemory wide x size holds b i a j = tt
+unopened_so t old new m read.Output wide x size holds b i a j = absurd x
 
-pub unopened : {S L B : Type 0} {s : Ghosts S} {l : Widths L} (t : Ghosts B) (old new : B) (m : Maker S L s l) (f : ReadFault) → OpeningFails l.WORD t old new f → ((b : List ℕ) → t.image new b → length b ≡ t.size new) → Holds m [] → (b : List ℕ) → t.image new b
+pub unopened : {S L B : Type 0} {s : Ghosts S} {l : Widths L} (t : Ghosts B) (old new : B) (m : Maker S L s l) (f : ReadFault) → (l.WORD ≡ 4) ⊎ (l.WORD ≡ 8) → OpeningFails l.WORD t old new f → ((b : List ℕ) → t.image new b → length b ≡ t.size new) → Holds m [] → (b : List ℕ) → t.image new b
     → WhereHonest (s.image m.store) (BaseFails l.WORD (limit_of m) b (read_fault f))
-unopened t old new m f x size holds b i = record { each = λ a j. unopened_so t old new m f x size holds b i a j }
+unopened t old new m f wide x size holds b i = record { each = λ a j. unopened_so t old new m f wide x size holds b i a j }

@@ -10,16 +10,15 @@ use Rattle.cdb_form.specs.Format.Record.{KeyValue}
 use Rattle.cdb_form.specs.Format.File.{file_size}
 use Rattle.cdb_form.specs.Text.Amending.{Change, Putting, Removing}
 use Rattle.cdb_make.specs.Survivors.{put_list, put_answer, fits}
-use Rattle.cdb_make.specs.Views.Batch.{Holds, Held, StaysWhole, Puts, WouldPut, FailsPutting, Removes, FailsRemoving, limit_of, count_in, IsUsable}
-use Rattle.cdb_make.specs.Views.Maker.{WhereHonest, ComesFrom}
+use Rattle.cdb_make.specs.Views.Maker.{Holds, HoldsIn, StaysWhole, Puts, WouldPut, FailsPutting, Removes, FailsRemoving, limit_of, told_count, IsUsable, WhereHonest, ComesFrom}
 use Rattle.cdb_make.specs.declared.fault.MakeFault.{MakeFault}
 use Rattle.cdb_make.specs.declared.fault.MakeFault.TheVariants as make
-use Rattle.cdb_make.specs.declared.batch.Batch.{Batch}
+use Rattle.cdb_make.specs.declared.maker.Maker.{Maker}
 use Rattle.cdb_form.specs.declared.mode.Mode.{Mode}
-use Rattle.cdb_make.specs.declared.records.put.Put.{Put}
-use Rattle.cdb_make.specs.declared.records.put.Put.TheVariants.{Added, AddedAgain, Present, Replaced}
-use Rattle.cdb_make.proofs.Making.Batches.{holds_count}
-use Rattle.cdb_make.proofs.Making.BatchPuts.{holds_fits}
+use Rattle.cdb_make.specs.declared.answer.Put.{Put}
+use Rattle.cdb_make.specs.declared.answer.Put.TheVariants.{Added, AddedAgain, Present, Replaced}
+use Rattle.cdb_make.proofs.Callers.{holds_count, holds_fits}
+use Rattle.cdb_make.proofs.Finishing.{rests_nothing}
 use Rattle.cdb_tool.specs.Message.{TellsEach, TellsPart}
 use Rattle.cdb_tool.specs.Views.Fault.{make_fault}
 use Rattle.cdb_tool.specs.Runs.Course.{Task, Incoming, Course, from_input, from_inputs, mode_of, told, ends, is_going, with_put, with_change, with_next, at_start, course_of, TellFails, Goes, StopsSo}
@@ -61,13 +60,13 @@ put_full w o s i n r full =
 
 -- ---- a put
 
-record IsPut {S L : Type 0} {s : Ghosts S} {l : Widths L} (t : Task) (cs : List Incoming) (i n : ℕ) (r : KeyValue) (start mid : Option (List ℕ)) (m : Batch S L s l) (put : Put) (b : List ℕ) : Type 0 where
+record IsPut {S L : Type 0} {s : Ghosts S} {l : Widths L} (t : Task) (cs : List Incoming) (i n : ℕ) (r : KeyValue) (start mid : Option (List ℕ)) (m : Maker S L s l) (put : Put) (b : List ℕ) : Type 0 where
   goes : Goes l.WORD t cs start mid
   is : course_of l.WORD t (cs ++ putting i n r ∷ []) ≡ course_put l.WORD t cs i n r put
-  held : Held m (put_list (mode_of t.options) r (course_of l.WORD t cs).records)
+  held : HoldsIn m (put_list (mode_of t.options) r (course_of l.WORD t cs).records) b
 
-is_put : {S L : Type 0} {s : Ghosts S} {l : Widths L} (t : Task) (cs : List Incoming) (i n : ℕ) (r : KeyValue) (start mid : Option (List ℕ)) (old new : Batch S L s l) (put : Put) → InCourse t cs start mid old → (l.WORD ≡ 4) ⊎ (l.WORD ≡ 8) → Puts old new (mode_of t.options) r put
-    → ComesFrom (s.image old.maker.store) (s.image new.maker.store) → limit_of new ≡ limit_of old → (b : List ℕ) → s.image new.maker.store b → IsPut t cs i n r start mid new put b
+is_put : {S L : Type 0} {s : Ghosts S} {l : Widths L} (t : Task) (cs : List Incoming) (i n : ℕ) (r : KeyValue) (start mid : Option (List ℕ)) (old new : Maker S L s l) (put : Put) → InCourse t cs start mid old → (l.WORD ≡ 4) ⊎ (l.WORD ≡ 8) → Puts old new (mode_of t.options) r put
+    → ComesFrom (s.image old.store) (s.image new.store) → limit_of new ≡ limit_of old → (b : List ℕ) → s.image new.store b → IsPut t cs i n r start mid new put b
 is_put {l = l} t cs i n r start mid old new put h wide puts comes limit b is =
     let rs = (course_of l.WORD t cs).records in
     let all = put_list (mode_of t.options) r rs in
@@ -80,16 +79,16 @@ is_put {l = l} t cs i n r start mid old new put h wide puts comes limit b is =
     record {
       goes = goes;
       is = course_next l.WORD t cs (putting i n r) goes.going ∙ put_fits l.WORD t.options (course_of l.WORD t cs) i n r put fit ((puts.answers rs h.holds).each b is);
-      held = holds.held.each b is;
+      held = holds.each b is;
     }
 
 -- the run goes on
-put_goes : {S L : Type 0} {s : Ghosts S} {l : Widths L} (t : Task) (cs : List Incoming) (i n : ℕ) (r : KeyValue) (start mid end : Option (List ℕ)) (old new : Batch S L s l) (put : Put) → InCourse t cs start mid old → (l.WORD ≡ 4) ⊎ (l.WORD ≡ 8) → Puts old new (mode_of t.options) r put
-    → ComesFrom (s.image old.maker.store) (s.image new.maker.store) → limit_of new ≡ limit_of old → TellsEach t.options.names (told t.options i n r.key (Ok put)) mid end → ends t.options (Ok put) ≡ None → InCourse t (cs ++ putting i n r ∷ []) start end new
+put_goes : {S L : Type 0} {s : Ghosts S} {l : Widths L} (t : Task) (cs : List Incoming) (i n : ℕ) (r : KeyValue) (start mid end : Option (List ℕ)) (old new : Maker S L s l) (put : Put) → InCourse t cs start mid old → (l.WORD ≡ 4) ⊎ (l.WORD ≡ 8) → Puts old new (mode_of t.options) r put
+    → ComesFrom (s.image old.store) (s.image new.store) → limit_of new ≡ limit_of old → TellsEach t.options.names (told t.options i n r.key (Ok put)) mid end → ends t.options (Ok put) ≡ None → InCourse t (cs ++ putting i n r ∷ []) start end new
 put_goes {l = l} t cs i n r start mid end old new put h wide puts comes limit tells going = record {
   holds = record {
     whole = puts.whole;
-    held = record { each = λ b is. let p = is_put t cs i n r start mid old new put h wide puts comes limit b is in subst (λ s. Held new s.records) (sym p.is) p.held };
+    each = λ b is. let p = is_put t cs i n r start mid old new put h wide puts comes limit b is in subst (λ s. HoldsIn new s.records b) (sym p.is) p.held;
   };
   limit = limit ∙ h.limit;
   goes = record {
@@ -103,7 +102,7 @@ put_goes {l = l} t cs i n r start mid end old new put h wide puts comes limit te
 }
 
 -- or stops where it was told
-told_so : {S L : Type 0} {s : Ghosts S} {l : Widths L} (t : Task) (cs : List Incoming) (i n : ℕ) (r : KeyValue) (start mid end : Option (List ℕ)) (m : Batch S L s l) (put : Put) (f : Fault) (b : List ℕ) → IsPut t cs i n r start mid m put b → TellFails t.options i n r.key put mid end f
+told_so : {S L : Type 0} {s : Ghosts S} {l : Widths L} (t : Task) (cs : List Incoming) (i n : ℕ) (r : KeyValue) (start mid end : Option (List ℕ)) (m : Maker S L s l) (put : Put) (f : Fault) (b : List ℕ) → IsPut t cs i n r start mid m put b → TellFails t.options i n r.key put mid end f
     → StopsSo l.WORD t (cs ++ putting i n r ∷ []) start end f
 told_so t cs i n r start mid end m put (Text j f) b p x = absurd x
 told_so t cs i n r start mid end m put (Make f) b p x = absurd x
@@ -129,8 +128,8 @@ told_so t cs i n r start mid end m put Duplicate b p x = record {
   lines = subst (λ s. TellsEach t.options.names s.told start end) (sym p.is) (tells_then t.options.names _ _ start mid end p.goes.lines x.0);
 }
 
-put_told : {S L : Type 0} {s : Ghosts S} {l : Widths L} (t : Task) (cs : List Incoming) (i n : ℕ) (r : KeyValue) (start mid end : Option (List ℕ)) (old new : Batch S L s l) (put : Put) (f : Fault) → InCourse t cs start mid old → (l.WORD ≡ 4) ⊎ (l.WORD ≡ 8) → Puts old new (mode_of t.options) r put
-    → ComesFrom (s.image old.maker.store) (s.image new.maker.store) → limit_of new ≡ limit_of old → TellFails t.options i n r.key put mid end f → WhereHonest (s.image new.maker.store) (PutStops l.WORD t cs (putting i n r) start end f)
+put_told : {S L : Type 0} {s : Ghosts S} {l : Widths L} (t : Task) (cs : List Incoming) (i n : ℕ) (r : KeyValue) (start mid end : Option (List ℕ)) (old new : Maker S L s l) (put : Put) (f : Fault) → InCourse t cs start mid old → (l.WORD ≡ 4) ⊎ (l.WORD ≡ 8) → Puts old new (mode_of t.options) r put
+    → ComesFrom (s.image old.store) (s.image new.store) → limit_of new ≡ limit_of old → TellFails t.options i n r.key put mid end f → WhereHonest (s.image new.store) (PutStops l.WORD t cs (putting i n r) start end f)
 put_told t cs i n r start mid end old new put f h wide puts comes limit x = record { each = λ b is. inr (told_so t cs i n r start mid end new put f b (is_put t cs i n r start mid old new put h wide puts comes limit b is) x) }
 
 -- what a teller answers is no fault of the store
@@ -153,7 +152,7 @@ told_store o i j key put old new Duplicate x is = absurd is
 
 -- ---- a put that was refused
 
-full_so : {S L : Type 0} {s : Ghosts S} {l : Widths L} (t : Task) (cs : List Incoming) (i n : ℕ) (r : KeyValue) (start mid : Option (List ℕ)) (old : Batch S L s l) → Goes l.WORD t cs start mid → limit_of old ≡ t.options.limit
+full_so : {S L : Type 0} {s : Ghosts S} {l : Widths L} (t : Task) (cs : List Incoming) (i n : ℕ) (r : KeyValue) (start mid : Option (List ℕ)) (old : Maker S L s l) → Goes l.WORD t cs start mid → limit_of old ≡ t.options.limit
     → limit_of old < file_size l.WORD (put_list (mode_of t.options) r (course_of l.WORD t cs).records) → StopsSo l.WORD t (cs ++ putting i n r ∷ []) start mid (Make make.TooBig)
 full_so {l = l} t cs i n r start mid old goes limit large =
     let s = course_of l.WORD t cs in
@@ -169,31 +168,31 @@ full_so {l = l} t cs i n r start mid old goes limit large =
       lines = subst (λ v. TellsEach o.names v.told start mid) (sym is) (subst (λ ds. TellsEach o.names ds start mid) (sym (append-nil s.told)) goes.lines);
     }
 
-refused_so : {S L : Type 0} {s : Ghosts S} {l : Widths L} (t : Task) (cs : List Incoming) (i n : ℕ) (r : KeyValue) (start mid : Option (List ℕ)) (old new : Batch S L s l) (f : MakeFault) → InCourse t cs start mid old → FailsPutting old new (mode_of t.options) r f
-    → ComesFrom (s.image old.maker.store) (s.image new.maker.store) → (b : List ℕ) → s.image new.maker.store b → PutStops l.WORD t cs (putting i n r) start mid (make_fault f)
+refused_so : {S L : Type 0} {s : Ghosts S} {l : Widths L} (t : Task) (cs : List Incoming) (i n : ℕ) (r : KeyValue) (start mid : Option (List ℕ)) (old new : Maker S L s l) (f : MakeFault) → InCourse t cs start mid old → FailsPutting old new (mode_of t.options) r f
+    → ComesFrom (s.image old.store) (s.image new.store) → (b : List ℕ) → s.image new.store b → PutStops l.WORD t cs (putting i n r) start mid (make_fault f)
 refused_so {l = l} t cs i n r start mid old new make.Broken h x comes b is = absurd (x.cause (course_of l.WORD t cs).records h.holds b is)
 refused_so t cs i n r start mid old new make.Lookup h x comes b is = let a = comes.each b is in inl (h.goes.each a.0 a.1)
 refused_so {l = l} t cs i n r start mid old new make.TooBig h x comes b is =
     let a = comes.each b is in
-    inr (full_so t cs i n r start mid old (h.goes.each a.0 a.1) h.limit ((x.2 (course_of l.WORD t cs).records h.holds).each b is))
+    inr (full_so t cs i n r start mid old (h.goes.each a.0 a.1) h.limit ((x.1 (course_of l.WORD t cs).records h.holds).each b is))
 refused_so t cs i n r start mid old new make.NoMemory h x comes b is = let a = comes.each b is in inl (h.goes.each a.0 a.1)
 refused_so t cs i n r start mid old new make.Writing h x comes b is = let a = comes.each b is in inl (h.goes.each a.0 a.1)
 
-put_refused : {S L : Type 0} {s : Ghosts S} {l : Widths L} (t : Task) (cs : List Incoming) (i n : ℕ) (r : KeyValue) (start mid : Option (List ℕ)) (old new : Batch S L s l) (f : MakeFault) → InCourse t cs start mid old → FailsPutting old new (mode_of t.options) r f
-    → ComesFrom (s.image old.maker.store) (s.image new.maker.store) → WhereHonest (s.image new.maker.store) (PutStops l.WORD t cs (putting i n r) start mid (make_fault f))
+put_refused : {S L : Type 0} {s : Ghosts S} {l : Widths L} (t : Task) (cs : List Incoming) (i n : ℕ) (r : KeyValue) (start mid : Option (List ℕ)) (old new : Maker S L s l) (f : MakeFault) → InCourse t cs start mid old → FailsPutting old new (mode_of t.options) r f
+    → ComesFrom (s.image old.store) (s.image new.store) → WhereHonest (s.image new.store) (PutStops l.WORD t cs (putting i n r) start mid (make_fault f))
 put_refused t cs i n r start mid old new f h x comes = record { each = λ b is. refused_so t cs i n r start mid old new f h x comes b is }
 
 -- a fault of the store comes where it failed
-pub refused_store : {S L : Type 0} {s : Ghosts S} {l : Widths L} (old new : Batch S L s l) (mode : Mode) (r : KeyValue) (f : MakeFault) → FailsPutting old new mode r f → IsOfStore (make_fault f) → s.failures old.maker.store < s.failures new.maker.store
+pub refused_store : {S L : Type 0} {s : Ghosts S} {l : Widths L} (old new : Maker S L s l) (mode : Mode) (r : KeyValue) (f : MakeFault) → FailsPutting old new mode r f → IsOfStore (make_fault f) → s.failures old.store < s.failures new.store
 refused_store old new mode r make.Broken x is = absurd is
-refused_store old new mode r make.Lookup x is = x.2
+refused_store old new mode r make.Lookup x is = x.1
 refused_store old new mode r make.TooBig x is = absurd is
 refused_store old new mode r make.NoMemory x is = absurd is
-refused_store old new mode r make.Writing x is = elim x [ inl stays ↦ stays.1.failed | inr torn ↦ torn.0.failed ]
+refused_store old new mode r make.Writing x is = elim x.0 [ inl stays ↦ stays.1.failed | inr torn ↦ torn.0.failed ]
 
 -- ---- where a run came to that was halted
 
-stands_so : {S L : Type 0} {s : Ghosts S} {l : Widths L} (t : Task) (cs : List Incoming) (start mid : Option (List ℕ)) (old new : Batch S L s l) → InCourse t cs start mid old → ComesFrom (s.image old.maker.store) (s.image new.maker.store) → count_in new ≡ count_in old
+stands_so : {S L : Type 0} {s : Ghosts S} {l : Widths L} (t : Task) (cs : List Incoming) (start mid : Option (List ℕ)) (old new : Maker S L s l) → InCourse t cs start mid old → ComesFrom (s.image old.store) (s.image new.store) → told_count new ≡ told_count old
     → (IsUsable new → Holds new (course_of l.WORD t cs).records) → StandsAt t cs start mid new
 stands_so {l = l} t cs start mid old new h comes count holds = record {
   holds = holds;
@@ -201,36 +200,36 @@ stands_so {l = l} t cs start mid old new h comes count holds = record {
   goes = record { each = λ b is. let a = comes.each b is in h.goes.each a.0 a.1 };
 }
 
-stands_whole : {S L : Type 0} {s : Ghosts S} {l : Widths L} (t : Task) (cs : List Incoming) (start mid : Option (List ℕ)) (old new : Batch S L s l) → InCourse t cs start mid old → ComesFrom (s.image old.maker.store) (s.image new.maker.store) → count_in new ≡ count_in old → StaysWhole old new
+stands_whole : {S L : Type 0} {s : Ghosts S} {l : Widths L} (t : Task) (cs : List Incoming) (start mid : Option (List ℕ)) (old new : Maker S L s l) → InCourse t cs start mid old → ComesFrom (s.image old.store) (s.image new.store) → told_count new ≡ told_count old → StaysWhole old new
     → StandsAt t cs start mid new
 stands_whole {l = l} t cs start mid old new h comes count stays = stands_so t cs start mid old new h comes count (λ usable. stays.holds (course_of l.WORD t cs).records h.holds)
 
-stands_broken : {S L : Type 0} {s : Ghosts S} {l : Widths L} (t : Task) (cs : List Incoming) (start mid : Option (List ℕ)) (old new : Batch S L s l) → InCourse t cs start mid old → ComesFrom (s.image old.maker.store) (s.image new.maker.store) → count_in new ≡ count_in old → new.maker.broken ≡ true
+stands_broken : {S L : Type 0} {s : Ghosts S} {l : Widths L} (t : Task) (cs : List Incoming) (start mid : Option (List ℕ)) (old new : Maker S L s l) → InCourse t cs start mid old → ComesFrom (s.image old.store) (s.image new.store) → told_count new ≡ told_count old → new.broken ≡ true
     → StandsAt t cs start mid new
 stands_broken t cs start mid old new h comes count broken = stands_so t cs start mid old new h comes count (λ usable. absurd (let k : true ≡ false = sym broken ∙ usable in cc))
 
-pub course_stands : {S L : Type 0} {s : Ghosts S} {l : Widths L} (t : Task) (cs : List Incoming) (start now : Option (List ℕ)) (m : Batch S L s l) → InCourse t cs start now m → StandsAt t cs start now m
+pub course_stands : {S L : Type 0} {s : Ghosts S} {l : Widths L} (t : Task) (cs : List Incoming) (start now : Option (List ℕ)) (m : Maker S L s l) → InCourse t cs start now m → StandsAt t cs start now m
 course_stands t cs start now m h = stands_so t cs start now m m h (record { each = λ b is. (b, is) }) refl (λ usable. h.holds)
 
-put_halted : {S L : Type 0} {s : Ghosts S} {l : Widths L} (t : Task) (cs : List Incoming) (r : KeyValue) (start mid : Option (List ℕ)) (old new : Batch S L s l) (f : MakeFault) → InCourse t cs start mid old → FailsPutting old new (mode_of t.options) r f
-    → ComesFrom (s.image old.maker.store) (s.image new.maker.store) → count_in new ≡ count_in old → IsHalt (make_fault f) → StandsAt t cs start mid new
+put_halted : {S L : Type 0} {s : Ghosts S} {l : Widths L} (t : Task) (cs : List Incoming) (r : KeyValue) (start mid : Option (List ℕ)) (old new : Maker S L s l) (f : MakeFault) → InCourse t cs start mid old → FailsPutting old new (mode_of t.options) r f
+    → ComesFrom (s.image old.store) (s.image new.store) → told_count new ≡ told_count old → IsHalt (make_fault f) → StandsAt t cs start mid new
 put_halted t cs r start mid old new make.Broken h x comes count is = absurd is
-put_halted t cs r start mid old new make.Lookup h x comes count is = stands_whole t cs start mid old new h comes count x.0
+put_halted t cs r start mid old new make.Lookup h x comes count is = stands_whole t cs start mid old new h comes count (rests_nothing old new x.0).stays
 put_halted t cs r start mid old new make.TooBig h x comes count is = absurd is
-put_halted t cs r start mid old new make.NoMemory h x comes count is = stands_whole t cs start mid old new h comes count x.0
-put_halted t cs r start mid old new make.Writing h x comes count is = elim x [
+put_halted t cs r start mid old new make.NoMemory h x comes count is = stands_whole t cs start mid old new h comes count x.0.stays
+put_halted t cs r start mid old new make.Writing h x comes count is = elim x.0 [
   | inl stays ↦ stands_whole t cs start mid old new h comes count stays.0
   | inr torn ↦ stands_broken t cs start mid old new h comes count torn.0.broken
 ]
 
-pub put_halted_so : {S L : Type 0} {s : Ghosts S} {l : Widths L} (t : Task) (o : MakeOptions) (cs : List Incoming) (r : KeyValue) (start mid : Option (List ℕ)) (old new : Batch S L s l) (f : MakeFault) → t.options ≡ o → InCourse t cs start mid old → FailsPutting old new (mode_of o) r f
-    → ComesFrom (s.image old.maker.store) (s.image new.maker.store) → count_in new ≡ count_in old → IsHalt (make_fault f) → StandsAt t cs start mid new
+pub put_halted_so : {S L : Type 0} {s : Ghosts S} {l : Widths L} (t : Task) (o : MakeOptions) (cs : List Incoming) (r : KeyValue) (start mid : Option (List ℕ)) (old new : Maker S L s l) (f : MakeFault) → t.options ≡ o → InCourse t cs start mid old → FailsPutting old new (mode_of o) r f
+    → ComesFrom (s.image old.store) (s.image new.store) → told_count new ≡ told_count old → IsHalt (make_fault f) → StandsAt t cs start mid new
 put_halted_so t o cs r start mid old new f same h x comes count is = put_halted t cs r start mid old new f h (subst (λ v. FailsPutting old new (mode_of v) r f) (sym same) x) comes count is
 
-pub removal_halted : {S L : Type 0} {s : Ghosts S} {l : Widths L} (t : Task) (cs : List Incoming) (key : List ℕ) (start now : Option (List ℕ)) (old new : Batch S L s l) (f : MakeFault) → InCourse t cs start now old → FailsRemoving old new key f
-    → ComesFrom (s.image old.maker.store) (s.image new.maker.store) → count_in new ≡ count_in old → IsHalt (make_fault f) → StandsAt t cs start now new
+pub removal_halted : {S L : Type 0} {s : Ghosts S} {l : Widths L} (t : Task) (cs : List Incoming) (key : List ℕ) (start now : Option (List ℕ)) (old new : Maker S L s l) (f : MakeFault) → InCourse t cs start now old → FailsRemoving old new key f
+    → ComesFrom (s.image old.store) (s.image new.store) → told_count new ≡ told_count old → IsHalt (make_fault f) → StandsAt t cs start now new
 removal_halted t cs key start now old new make.Broken h x comes count is = absurd is
-removal_halted t cs key start now old new make.Lookup h x comes count is = stands_whole t cs start now old new h comes count x.0
+removal_halted t cs key start now old new make.Lookup h x comes count is = stands_whole t cs start now old new h comes count (rests_nothing old new x.0).stays
 removal_halted t cs key start now old new make.TooBig h x comes count is = absurd is
 removal_halted t cs key start now old new make.NoMemory h x comes count is = absurd x
 removal_halted t cs key start now old new make.Writing h x comes count is = stands_broken t cs start now old new h comes count x.broken
@@ -261,8 +260,8 @@ goes_on o AddedAgain h = refl
 goes_on o Present h = absurd (h refl)
 goes_on o (Replaced n) h = refl
 
-would_take : {S L : Type 0} {s : Ghosts S} {l : Widths L} (t : Task) (cs : List Incoming) (i n : ℕ) (r : KeyValue) (start mid : Option (List ℕ)) (old new : Batch S L s l) → InCourse t cs start mid old → WouldPut old new (mode_of t.options) r
-    → ComesFrom (s.image old.maker.store) (s.image new.maker.store) → WhereHonest (s.image new.maker.store) (TakesNext l.WORD t cs (putting i n r))
+would_take : {S L : Type 0} {s : Ghosts S} {l : Widths L} (t : Task) (cs : List Incoming) (i n : ℕ) (r : KeyValue) (start mid : Option (List ℕ)) (old new : Maker S L s l) → InCourse t cs start mid old → WouldPut old new (mode_of t.options) r
+    → ComesFrom (s.image old.store) (s.image new.store) → WhereHonest (s.image new.store) (TakesNext l.WORD t cs (putting i n r))
 would_take {l = l} t cs i n r start mid old new h would comes = record {
   each = λ b is.
       let s = course_of l.WORD t cs in
@@ -275,16 +274,16 @@ would_take {l = l} t cs i n r start mid old new h would comes = record {
       ap (λ v. v.ended) (course_next l.WORD t cs (putting i n r) goes.going ∙ put_fits l.WORD o s i n r (put_answer (mode_of o) r s.records) fit refl) ∙ goes_on o (put_answer (mode_of o) r s.records) w.0;
 }
 
-memory_taken : {S L : Type 0} {s : Ghosts S} {l : Widths L} (t : Task) (cs : List Incoming) (i n : ℕ) (r : KeyValue) (start mid : Option (List ℕ)) (old new : Batch S L s l) (f : MakeFault) → InCourse t cs start mid old → FailsPutting old new (mode_of t.options) r f
-    → ComesFrom (s.image old.maker.store) (s.image new.maker.store) → make_fault f ≡ NoMemory → WhereHonest (s.image new.maker.store) (TakesNext l.WORD t cs (putting i n r))
-memory_taken t cs i n r start mid old new make.NoMemory h x comes e = would_take t cs i n r start mid old new h x.3 comes
+memory_taken : {S L : Type 0} {s : Ghosts S} {l : Widths L} (t : Task) (cs : List Incoming) (i n : ℕ) (r : KeyValue) (start mid : Option (List ℕ)) (old new : Maker S L s l) (f : MakeFault) → InCourse t cs start mid old → FailsPutting old new (mode_of t.options) r f
+    → ComesFrom (s.image old.store) (s.image new.store) → make_fault f ≡ NoMemory → WhereHonest (s.image new.store) (TakesNext l.WORD t cs (putting i n r))
+memory_taken t cs i n r start mid old new make.NoMemory h x comes e = would_take t cs i n r start mid old new h x.2 comes
 memory_taken t cs i n r start mid old new make.Broken h x comes e = absurd (let k : Make make.Broken ≡ NoMemory = e in cc)
 memory_taken t cs i n r start mid old new make.Lookup h x comes e = absurd (let k : Make make.Lookup ≡ NoMemory = e in cc)
 memory_taken t cs i n r start mid old new make.TooBig h x comes e = absurd (let k : Make make.TooBig ≡ NoMemory = e in cc)
 memory_taken t cs i n r start mid old new make.Writing h x comes e = absurd (let k : Make make.Writing ≡ NoMemory = e in cc)
 
-pub memory_taken_so : {S L : Type 0} {s : Ghosts S} {l : Widths L} (t : Task) (o : MakeOptions) (cs : List Incoming) (i n : ℕ) (r : KeyValue) (start mid : Option (List ℕ)) (old new : Batch S L s l) (f : MakeFault) → t.options ≡ o → InCourse t cs start mid old → FailsPutting old new (mode_of o) r f
-    → ComesFrom (s.image old.maker.store) (s.image new.maker.store) → make_fault f ≡ NoMemory → WhereHonest (s.image new.maker.store) (TakesNext l.WORD t cs (putting i n r))
+pub memory_taken_so : {S L : Type 0} {s : Ghosts S} {l : Widths L} (t : Task) (o : MakeOptions) (cs : List Incoming) (i n : ℕ) (r : KeyValue) (start mid : Option (List ℕ)) (old new : Maker S L s l) (f : MakeFault) → t.options ≡ o → InCourse t cs start mid old → FailsPutting old new (mode_of o) r f
+    → ComesFrom (s.image old.store) (s.image new.store) → make_fault f ≡ NoMemory → WhereHonest (s.image new.store) (TakesNext l.WORD t cs (putting i n r))
 memory_taken_so t o cs i n r start mid old new f same h x comes e = memory_taken t cs i n r start mid old new f h (subst (λ v. FailsPutting old new (mode_of v) r f) (sym same) x) comes e
 
 pub told_memory : (o : MakeOptions) (i j : ℕ) (key : List ℕ) (put : Put) (old new : Option (List ℕ)) (f : Fault) → TellFails o i j key put old new f → f ≡ NoMemory → ⊥
@@ -292,19 +291,19 @@ told_memory o i j key put old new f x e = told_halts o i j key put old new f x (
 
 -- ---- the same of a run that has these options
 
-pub put_goes_so : {S L : Type 0} {s : Ghosts S} {l : Widths L} (t : Task) (o : MakeOptions) (cs : List Incoming) (i n : ℕ) (r : KeyValue) (start mid end : Option (List ℕ)) (old new : Batch S L s l) (put : Put) → t.options ≡ o → InCourse t cs start mid old → (l.WORD ≡ 4) ⊎ (l.WORD ≡ 8) → Puts old new (mode_of o) r put
-    → ComesFrom (s.image old.maker.store) (s.image new.maker.store) → limit_of new ≡ limit_of old → TellsEach o.names (told o i n r.key (Ok put)) mid end → ends o (Ok put) ≡ None → InCourse t (cs ++ putting i n r ∷ []) start end new
+pub put_goes_so : {S L : Type 0} {s : Ghosts S} {l : Widths L} (t : Task) (o : MakeOptions) (cs : List Incoming) (i n : ℕ) (r : KeyValue) (start mid end : Option (List ℕ)) (old new : Maker S L s l) (put : Put) → t.options ≡ o → InCourse t cs start mid old → (l.WORD ≡ 4) ⊎ (l.WORD ≡ 8) → Puts old new (mode_of o) r put
+    → ComesFrom (s.image old.store) (s.image new.store) → limit_of new ≡ limit_of old → TellsEach o.names (told o i n r.key (Ok put)) mid end → ends o (Ok put) ≡ None → InCourse t (cs ++ putting i n r ∷ []) start end new
 put_goes_so t o cs i n r start mid end old new put same h wide puts comes limit tells going =
     put_goes t cs i n r start mid end old new put h wide (subst (λ v. Puts old new (mode_of v) r put) (sym same) puts) comes limit
     (subst (λ v. TellsEach v.names (told v i n r.key (Ok put)) mid end) (sym same) tells) (subst (λ v. ends v (Ok put) ≡ None) (sym same) going)
 
-pub put_told_so : {S L : Type 0} {s : Ghosts S} {l : Widths L} (t : Task) (o : MakeOptions) (cs : List Incoming) (i n : ℕ) (r : KeyValue) (start mid end : Option (List ℕ)) (old new : Batch S L s l) (put : Put) (f : Fault) → t.options ≡ o → InCourse t cs start mid old → (l.WORD ≡ 4) ⊎ (l.WORD ≡ 8) → Puts old new (mode_of o) r put
-    → ComesFrom (s.image old.maker.store) (s.image new.maker.store) → limit_of new ≡ limit_of old → TellFails o i n r.key put mid end f → WhereHonest (s.image new.maker.store) (PutStops l.WORD t cs (putting i n r) start end f)
+pub put_told_so : {S L : Type 0} {s : Ghosts S} {l : Widths L} (t : Task) (o : MakeOptions) (cs : List Incoming) (i n : ℕ) (r : KeyValue) (start mid end : Option (List ℕ)) (old new : Maker S L s l) (put : Put) (f : Fault) → t.options ≡ o → InCourse t cs start mid old → (l.WORD ≡ 4) ⊎ (l.WORD ≡ 8) → Puts old new (mode_of o) r put
+    → ComesFrom (s.image old.store) (s.image new.store) → limit_of new ≡ limit_of old → TellFails o i n r.key put mid end f → WhereHonest (s.image new.store) (PutStops l.WORD t cs (putting i n r) start end f)
 put_told_so t o cs i n r start mid end old new put f same h wide puts comes limit x =
     put_told t cs i n r start mid end old new put f h wide (subst (λ v. Puts old new (mode_of v) r put) (sym same) puts) comes limit (subst (λ v. TellFails v i n r.key put mid end f) (sym same) x)
 
-pub put_refused_so : {S L : Type 0} {s : Ghosts S} {l : Widths L} (t : Task) (o : MakeOptions) (cs : List Incoming) (i n : ℕ) (r : KeyValue) (start mid : Option (List ℕ)) (old new : Batch S L s l) (f : MakeFault) → t.options ≡ o → InCourse t cs start mid old → FailsPutting old new (mode_of o) r f
-    → ComesFrom (s.image old.maker.store) (s.image new.maker.store) → WhereHonest (s.image new.maker.store) (PutStops l.WORD t cs (putting i n r) start mid (make_fault f))
+pub put_refused_so : {S L : Type 0} {s : Ghosts S} {l : Widths L} (t : Task) (o : MakeOptions) (cs : List Incoming) (i n : ℕ) (r : KeyValue) (start mid : Option (List ℕ)) (old new : Maker S L s l) (f : MakeFault) → t.options ≡ o → InCourse t cs start mid old → FailsPutting old new (mode_of o) r f
+    → ComesFrom (s.image old.store) (s.image new.store) → WhereHonest (s.image new.store) (PutStops l.WORD t cs (putting i n r) start mid (make_fault f))
 put_refused_so t o cs i n r start mid old new f same h x comes = put_refused t cs i n r start mid old new f h (subst (λ v. FailsPutting old new (mode_of v) r f) (sym same) x) comes
 
 -- ---- a removal
@@ -313,19 +312,17 @@ put_refused_so t o cs i n r start mid old new f same h x comes = put_refused t c
 abbrev pub removing : ℕ → ℕ → List ℕ → Incoming
 removing i n key = record { input = i; number = n; it = Removing key }
 
-pub removed_goes : {S L : Type 0} {s : Ghosts S} {l : Widths L} (t : Task) (cs : List Incoming) (i n : ℕ) (key : List ℕ) (count : ℕ) (start now : Option (List ℕ)) (old new : Batch S L s l) → InCourse t cs start now old → Removes old new key count
-    → ComesFrom (s.image old.maker.store) (s.image new.maker.store) → limit_of new ≡ limit_of old → InCourse t (cs ++ removing i n key ∷ []) start now new
+pub removed_goes : {S L : Type 0} {s : Ghosts S} {l : Widths L} (t : Task) (cs : List Incoming) (i n : ℕ) (key : List ℕ) (count : ℕ) (start now : Option (List ℕ)) (old new : Maker S L s l) → InCourse t cs start now old → Removes old new key count
+    → ComesFrom (s.image old.store) (s.image new.store) → limit_of new ≡ limit_of old → InCourse t (cs ++ removing i n key ∷ []) start now new
 removed_goes {l = l} t cs i n key count start now old new h removes comes limit =
     let rs = (course_of l.WORD t cs).records in
     let held = removes.holds rs h.holds in
     record {
       holds = record {
         whole = removes.whole;
-        held = record {
-          each = λ b is.
-              let a = comes.each b is in
-              subst (λ s. Held new s.records) (sym (course_next l.WORD t cs (removing i n key) (h.goes.each a.0 a.1).going)) (held.held.each b is);
-        };
+        each = λ b is.
+            let a = comes.each b is in
+            subst (λ s. HoldsIn new s.records b) (sym (course_next l.WORD t cs (removing i n key) (h.goes.each a.0 a.1).going)) (held.each b is);
       };
       limit = limit ∙ h.limit;
       goes = record {
@@ -340,28 +337,28 @@ removed_goes {l = l} t cs i n key count start now old new h removes comes limit 
       };
     }
 
-unremoved_so : {S L : Type 0} {s : Ghosts S} {l : Widths L} (t : Task) (cs : List Incoming) (key : List ℕ) (start now : Option (List ℕ)) (old new : Batch S L s l) (f : MakeFault) → InCourse t cs start now old → FailsRemoving old new key f
-    → ComesFrom (s.image old.maker.store) (s.image new.maker.store) → (b : List ℕ) → s.image new.maker.store b → StopsSo l.WORD t cs start now (make_fault f)
+unremoved_so : {S L : Type 0} {s : Ghosts S} {l : Widths L} (t : Task) (cs : List Incoming) (key : List ℕ) (start now : Option (List ℕ)) (old new : Maker S L s l) (f : MakeFault) → InCourse t cs start now old → FailsRemoving old new key f
+    → ComesFrom (s.image old.store) (s.image new.store) → (b : List ℕ) → s.image new.store b → StopsSo l.WORD t cs start now (make_fault f)
 unremoved_so {l = l} t cs key start now old new make.Broken h x comes b is = absurd (x.cause (course_of l.WORD t cs).records h.holds b is)
 unremoved_so t cs key start now old new make.Lookup h x comes b is = let a = comes.each b is in h.goes.each a.0 a.1
 unremoved_so t cs key start now old new make.Writing h x comes b is = let a = comes.each b is in h.goes.each a.0 a.1
 unremoved_so t cs key start now old new make.TooBig h x comes b is = absurd x
 unremoved_so t cs key start now old new make.NoMemory h x comes b is = absurd x
 
-pub unremoved : {S L : Type 0} {s : Ghosts S} {l : Widths L} (t : Task) (cs : List Incoming) (key : List ℕ) (start now : Option (List ℕ)) (old new : Batch S L s l) (f : MakeFault) → InCourse t cs start now old → FailsRemoving old new key f
-    → ComesFrom (s.image old.maker.store) (s.image new.maker.store) → WhereHonest (s.image new.maker.store) (StopsSo l.WORD t cs start now (make_fault f))
+pub unremoved : {S L : Type 0} {s : Ghosts S} {l : Widths L} (t : Task) (cs : List Incoming) (key : List ℕ) (start now : Option (List ℕ)) (old new : Maker S L s l) (f : MakeFault) → InCourse t cs start now old → FailsRemoving old new key f
+    → ComesFrom (s.image old.store) (s.image new.store) → WhereHonest (s.image new.store) (StopsSo l.WORD t cs start now (make_fault f))
 unremoved t cs key start now old new f h x comes = record { each = λ b is. unremoved_so t cs key start now old new f h x comes b is }
 
-pub unremoved_store : {S L : Type 0} {s : Ghosts S} {l : Widths L} (old new : Batch S L s l) (key : List ℕ) (f : MakeFault) → FailsRemoving old new key f → IsOfStore (make_fault f) → s.failures old.maker.store < s.failures new.maker.store
+pub unremoved_store : {S L : Type 0} {s : Ghosts S} {l : Widths L} (old new : Maker S L s l) (key : List ℕ) (f : MakeFault) → FailsRemoving old new key f → IsOfStore (make_fault f) → s.failures old.store < s.failures new.store
 unremoved_store old new key make.Broken x is = absurd is
-unremoved_store old new key make.Lookup x is = x.2
+unremoved_store old new key make.Lookup x is = x.1
 unremoved_store old new key make.Writing x is = x.failed
 unremoved_store old new key make.TooBig x is = absurd is
 unremoved_store old new key make.NoMemory x is = absurd is
 
 -- ---- the start
 
-pub course_starts : {S L : Type 0} {s : Ghosts S} {l : Widths L} (t : Task) (start : Option (List ℕ)) (m : Batch S L s l) → Holds m (at_start t).records → limit_of m ≡ t.options.limit → InCourse t [] start start m
+pub course_starts : {S L : Type 0} {s : Ghosts S} {l : Widths L} (t : Task) (start : Option (List ℕ)) (m : Maker S L s l) → Holds m (at_start t).records → limit_of m ≡ t.options.limit → InCourse t [] start start m
 course_starts t start m h limit = record { holds = h; limit = limit; goes = record { each = λ b is. record { going = refl; lines = tells_none t.options.names start } } }
 
 -- ---- the items of inputs, one more

@@ -5,10 +5,10 @@ use Rattle.cdb_form.specs.declared.width.Width.{Ghosts as Widths}
 use Rattle.cdb_form.specs.Text.Amending.{Change}
 use Rattle.cdb_form.specs.declared.text.fault.TextFault.{TextFault}
 use Rattle.cdb_form.specs.declared.text.fault.TextFault.TheVariants as fault
-use Rattle.cdb_make.specs.Views.Batch.{Follows}
-use Rattle.cdb_make.specs.Views.Maker.{WhereHonest}
-use Rattle.cdb_make.specs.declared.batch.Batch.{Batch}
-use Rattle.cdb_make.proofs.Making.Following.{follows_same, follows_then}
+use Rattle.cdb_make.specs.Views.Maker.{Follows, WhereHonest}
+use Rattle.cdb_make.specs.declared.maker.Maker.{Maker}
+use Rattle.cdb_make.proofs.Callers.{follows_same}
+use Rattle.cdb_make.proofs.Rolls.{follows_then}
 use Rattle.cdb_tool.specs.Views.Fault.{text_fault}
 use Rattle.cdb_tool.specs.Views.ItemReader.{form_of, Fails}
 use Rattle.cdb_tool.specs.Runs.Course.{Task, Incoming, from_inputs, Goes, StopsSo}
@@ -31,7 +31,7 @@ use Rattle.cdb_tool.proofs.Courses.{came_more, came_none, course_stands}
 use Rattle.cdb_tool.proofs.ItemTexts.{GaveItems, items_first, items_fault, items_native}
 
 -- nothing was put of an input that begins
-pub none_put : {S L : Type 0} {s : Ghosts S} {l : Widths L} (o : Task) (read : List (List Change)) (start now : Option (List ℕ)) (m : Batch S L s l) → InCourse o (from_inputs 1 read) start now m → InCourse o (came read []) start now m
+pub none_put : {S L : Type 0} {s : Ghosts S} {l : Widths L} (o : Task) (read : List (List Change)) (start now : Option (List ℕ)) (m : Maker S L s l) → InCourse o (from_inputs 1 read) start now m → InCourse o (came read []) start now m
 none_put o read start now m h = subst (λ cs. InCourse o cs start now m) (sym (came_none read)) h
 
 -- ---- an input that stops
@@ -86,9 +86,9 @@ input_failed w g o remaining read input number t u last start now (fault.Large a
 input_failed w g o remaining read input number t u last start now fault.Input same h m n goes = text_failed w g o remaining read input number t u last start now fault.Input same h m (λ e. let i : fault.Input ≡ fault.NoMemory = e in cc) n goes
 input_failed w g o remaining read input number t u last start now fault.Endless same h m n goes = text_failed w g o remaining read input number t u last start now fault.Endless same h m (λ e. let i : fault.Endless ≡ fault.NoMemory = e in cc) n goes
 
-pub input_fails : {R L S K : Type 0} {s : Ghosts S} {k : Widths K} (g : ℕ) (o : Task) (remaining : R → Option (List ℕ)) (read : List (List Change)) (input : Option (List ℕ)) (number : ℕ) (t u : ItemReader R L) (last : List Change) (start now : Option (List ℕ)) (m : Batch S K s k) (f : TextFault)
+pub input_fails : {R L S K : Type 0} {s : Ghosts S} {k : Widths K} (g : ℕ) (o : Task) (remaining : R → Option (List ℕ)) (read : List (List Change)) (input : Option (List ℕ)) (number : ℕ) (t u : ItemReader R L) (last : List Change) (start now : Option (List ℕ)) (m : Maker S K s k) (f : TextFault)
     → form_of t ≡ task_form o → GaveItems g remaining input t last → Fails g remaining t u f → number ≡ length read + 1 → InCourse o (came read last) start now m
-    → WhereHonest (s.image m.maker.store) (InputFails k.WORD g o read input start now (text_fault number f))
+    → WhereHonest (s.image m.store) (InputFails k.WORD g o read input start now (text_fault number f))
 input_fails {k = k} g o remaining read input number t u last start now m f same h fails n course = record { each = λ b is. input_failed k.WORD g o remaining read input number t u last start now f same h fails n (course.goes.each b is) }
 
 -- a fault of a text is none of the store
@@ -101,7 +101,7 @@ text_store n fault.Input is = is
 text_store n fault.Endless is = is
 
 -- a run that was halted in an input, or behind its items
-pub halted_here : {S K : Type 0} {s : Ghosts S} {k : Widths K} (form is : InputForm) (g : ℕ) (o : Task) (read : List (List Change)) (input : Option (List ℕ)) (last : List Change) (start now : Option (List ℕ)) (m : Batch S K s k) → is ≡ form → IfSome input (BeginsWithItems is g last)
+pub halted_here : {S K : Type 0} {s : Ghosts S} {k : Widths K} (form is : InputForm) (g : ℕ) (o : Task) (read : List (List Change)) (input : Option (List ℕ)) (last : List Change) (start now : Option (List ℕ)) (m : Maker S K s k) → is ≡ form → IfSome input (BeginsWithItems is g last)
     → StandsAt o (came read last) start now m → StandsIn form g o read input start now m
 halted_here form is g o read input last start now m same b h = record { last = last; begins = subst (λ v. IfSome input (BeginsWithItems v g last)) same b; stands = h }
 
@@ -157,12 +157,12 @@ left_now own shared turns reader = record { each = map (one_of own) turns; share
 pub next_has : {J I : Type 0} (own : J → Option (List ℕ)) (shared : I → Option (List ℕ)) (left rest : List (Turn J)) (turn : Turn J) (reader : SharedInput I) → left ≡ turn ∷ rest → FirstHas (left_now own shared left reader) (bytes_of (one_of own turn) (shared_bytes shared reader))
 next_has own shared left rest turn reader e = record { one = one_of own turn; more = map (one_of own) rest; first = ap (map (one_of own)) e; has = refl }
 
-pub halted : {S K : Type 0} {s : Ghosts S} {k : Widths K} (g : ℕ) (form : InputForm) (o : Task) (read : List (List Change)) (inputs rest : InputsLeft) (x start now : Option (List ℕ)) (m : Batch S K s k) → AreInputs form g read inputs rest → FirstHas rest x → StandsIn form g o read x start now m
+pub halted : {S K : Type 0} {s : Ghosts S} {k : Widths K} (g : ℕ) (form : InputForm) (o : Task) (read : List (List Change)) (inputs rest : InputsLeft) (x start now : Option (List ℕ)) (m : Maker S K s k) → AreInputs form g read inputs rest → FirstHas rest x → StandsIn form g o read x start now m
     → Stands form g o inputs start now m
 halted g form o read inputs rest x start now m are first h = record { read = read; last = h.last; rest = rest; are = are; begins = first_begins form g h.last rest x first h.begins; stands = h.stands }
 
 -- and its items were done: so many inputs were, and so many are left
-pub record PutSoFar {J I S L : Type 0} {s : Ghosts S} {l : Widths L} (g : ℕ) (own : J → Option (List ℕ)) (shared : I → Option (List ℕ)) (o : MakeOptions) (form : InputForm) (inputs : Inputs J I) (left : List (Turn J)) (reader : SharedInput I) (done : ℕ) (before now : Option (List ℕ)) (old new : Batch S L s l) : Type 0
+pub record PutSoFar {J I S L : Type 0} {s : Ghosts S} {l : Widths L} (g : ℕ) (own : J → Option (List ℕ)) (shared : I → Option (List ℕ)) (o : MakeOptions) (form : InputForm) (inputs : Inputs J I) (left : List (Turn J)) (reader : SharedInput I) (done : ℕ) (before now : Option (List ℕ)) (old new : Maker S L s l) : Type 0
   where
     pub read : List (List Change)
     pub are : AreInputs form g read (inputs_left own shared inputs) (left_now own shared left reader)
@@ -171,7 +171,7 @@ pub record PutSoFar {J I S L : Type 0} {s : Ghosts S} {l : Widths L} (g : ℕ) (
     pub course : (t : Task) (start : Option (List ℕ)) → t.options ≡ o → InCourse t [] start before old → InCourse t (from_inputs 1 read) start now new
     pub follows : Follows {s = s} {l = l} old new
 
-pub put_none : {J I S L : Type 0} {s : Ghosts S} {l : Widths L} (g : ℕ) (own : J → Option (List ℕ)) (shared : I → Option (List ℕ)) (o : MakeOptions) (form : InputForm) (inputs : Inputs J I) (left : List (Turn J)) (now : Option (List ℕ)) (m : Batch S L s l) → left ≡ inputs.turns.items
+pub put_none : {J I S L : Type 0} {s : Ghosts S} {l : Widths L} (g : ℕ) (own : J → Option (List ℕ)) (shared : I → Option (List ℕ)) (o : MakeOptions) (form : InputForm) (inputs : Inputs J I) (left : List (Turn J)) (now : Option (List ℕ)) (m : Maker S L s l) → left ≡ inputs.turns.items
     → PutSoFar g own shared o form inputs left (Unread inputs.shared) 0 now now m m
 put_none g own shared o form inputs left now m e = record {
   read = [];
@@ -179,15 +179,15 @@ put_none g own shared o form inputs left now m e = record {
   number = refl;
   all = omega (arith, ap length e);
   course = λ t start same h. h;
-  follows = follows_same m.maker;
+  follows = follows_same m;
 }
 
 -- what the items of an input come to, whatever was done before
-abbrev pub PutsInput : {S L : Type 0} {s : Ghosts S} {l : Widths L} → ℕ → MakeOptions → InputForm → ℕ → OneInput → (was left before now : Option (List ℕ)) → Batch S L s l → Batch S L s l → Type 0
+abbrev pub PutsInput : {S L : Type 0} {s : Ghosts S} {l : Widths L} → ℕ → MakeOptions → InputForm → ℕ → OneInput → (was left before now : Option (List ℕ)) → Maker S L s l → Maker S L s l → Type 0
 PutsInput g o form number one was left before now old new = (last : List Change) × ReadsOne form g last one was left × PutsItems o number last before now old new
 
 pub put_next : {J I S L : Type 0} {s : Ghosts S} {l : Widths L} (g : ℕ) (own : J → Option (List ℕ)) (shared : I → Option (List ℕ)) (o : MakeOptions) (form : InputForm) (inputs : Inputs J I) (left rest : List (Turn J)) (turn : Turn J) (reader further : SharedInput I) (done : ℕ)
-    (before mid now : Option (List ℕ)) (old between new : Batch S L s l) → PutSoFar g own shared o form inputs left reader done before mid old between → left ≡ turn ∷ rest
+    (before mid now : Option (List ℕ)) (old between new : Maker S L s l) → PutSoFar g own shared o form inputs left reader done before mid old between → left ≡ turn ∷ rest
     → PutsInput g o form (done + 1) (one_of own turn) (shared_bytes shared reader) (shared_bytes shared further) mid now between new
     → Follows {s = s} {l = l} between new → PutSoFar g own shared o form inputs rest further (done + 1) before now old new
 put_next g own shared o form inputs left rest turn reader further done before mid now old between new h e one follows = record {
@@ -196,7 +196,7 @@ put_next g own shared o form inputs left rest turn reader further done before mi
   number = sym (length-append h.read (one.0 ∷ []) ∙ ap (λ (n : ℕ). n + 1) (sym h.number));
   all = omega (arith, h.all, ap length e);
   course = λ t start with c. one.2 t h.read start with (ap (λ (n : ℕ). n + 1) h.number) (h.course t start with c);
-  follows = follows_then h.follows follows;
+  follows = follows_then old between new h.follows follows;
 }
 
 -- the form of the inputs of a run
@@ -218,10 +218,10 @@ begins_none (form.Puts style.Map) g (Some text) = ([], refl, (map_lines text, re
 begins_none form.Changes g (Some text) = (text, refl)
 begins_none form.Lists g (Some text) = ([], refl, (text, refl))
 
-pub no_window : {S K : Type 0} {s : Ghosts S} {k : Widths K} (g : ℕ) (t : Task) (read : List (List Change)) (x start now : Option (List ℕ)) (m : Batch S K s k) → InCourse t (from_inputs 1 read) start now m → WhereHonest (s.image m.maker.store) (InputFails k.WORD g t read x start now NoMemory)
+pub no_window : {S K : Type 0} {s : Ghosts S} {k : Widths K} (g : ℕ) (t : Task) (read : List (List Change)) (x start now : Option (List ℕ)) (m : Maker S K s k) → InCourse t (from_inputs 1 read) start now m → WhereHonest (s.image m.store) (InputFails k.WORD g t read x start now NoMemory)
 no_window {k = k} g t read x start now m h = record {
   each = λ b is. record { last = []; begins = begins_none (task_form t) g x; stops = subst (λ cs. Goes k.WORD t cs start now) (sym (came_none read)) (h.goes.each b is) };
 }
 
-pub no_window_stands : {S K : Type 0} {s : Ghosts S} {k : Widths K} (st : InputForm) (g : ℕ) (t : Task) (read : List (List Change)) (x start now : Option (List ℕ)) (m : Batch S K s k) → InCourse t (from_inputs 1 read) start now m → StandsIn st g t read x start now m
+pub no_window_stands : {S K : Type 0} {s : Ghosts S} {k : Widths K} (st : InputForm) (g : ℕ) (t : Task) (read : List (List Change)) (x start now : Option (List ℕ)) (m : Maker S K s k) → InCourse t (from_inputs 1 read) start now m → StandsIn st g t read x start now m
 no_window_stands {s = s} {k = k} st g t read x start now m h = record { last = []; begins = begins_none st g x; stands = course_stands {s = s} {l = k} t (came read []) start now m (none_put t read start now m h) }

@@ -6,8 +6,8 @@ use Rattle.cdb_form.specs.Format.Record.{KeyValue}
 use Rattle.cdb_form.specs.Text.Amending.{Change, Putting, Removing}
 use Rattle.cdb_make.specs.Survivors.{put_result, put_step}
 use Rattle.cdb_make.specs.declared.fault.MakeFault.{MakeFault}
-use Rattle.cdb_make.specs.declared.records.put.Put.{Put}
-use Rattle.cdb_make.specs.declared.records.put.Put.TheVariants.{Added, AddedAgain, Present, Replaced}
+use Rattle.cdb_make.specs.declared.answer.Put.{Put}
+use Rattle.cdb_make.specs.declared.answer.Put.TheVariants.{Added, AddedAgain, Present, Replaced}
 use Rattle.cdb_tool.specs.Runs.Course.{Course, Incoming, at_start, ends, from_inputs, is_going, mode_of, task_of, told, with_change, with_next}
 use Rattle.cdb_tool.specs.Runs.Inputs.{input_form}
 use Rattle.cdb_tool.specs.Runs.Made.{Given, Made, base_fault, ended_by, given_from, made_from, made_of, unless_stopped}

@@ -1,6 +1,6 @@
 -- How a run ends: without a record, with a fault of its inputs or its store, or with its file; and
 -- then the flush.
-use Rattle.std.proofs.Common.{◌≡◌, ◌+◌, ◌*◌, Bool, ℕ, inl, inr, List, [], ◌∷◌, refl, sym, ap, subst, ◌∙◌, Option, Some, None, is_some, Result, Ok, Err, arith}
+use Rattle.std.proofs.Common.{◌≡◌, ◌<◌, ◌≤◌, ◌⊎◌, true≢false, Bool, ℕ, inl, inr, List, [], ◌∷◌, refl, sym, ap, subst, ◌∙◌, Option, Some, None, is_some, Result, Ok, Err, arith}
 use Rattle.std.specs.Prelude.{IsOk}
 use Rattle.std.specs.Io.KnownBytes.{Keeps}
 use Rattle.cdb_store.specs.declared.store.Store.{Ghosts}
@@ -10,21 +10,19 @@ use Rattle.cdb_form.specs.Format.File.{file_size}
 use Rattle.cdb_form.specs.Format.Walk.{walk_of}
 use Rattle.cdb_form.specs.Text.Amending.{Change}
 use Rattle.cdb_form.proofs.Bytes.WritingLemmas.{appends_kept}
-use Rattle.cdb_make.specs.Views.Batch as batch
-use Rattle.cdb_make.specs.Views.Maker.{Holds, WhereHonest, ComesFrom, IsFile, limit_of}
+use Rattle.cdb_make.specs.Views.Maker.{Holds, WhereHonest, ComesFrom, IsFile, FailsFinishing, limit_of}
 use Rattle.cdb_make.specs.Views.Making.{MakingFault}
 use Rattle.cdb_make.specs.declared.fault.MakeFault.{MakeFault}
 use Rattle.cdb_make.specs.declared.fault.MakeFault.TheVariants as make
-use Rattle.cdb_make.specs.declared.batch.Batch.{Batch}
 use Rattle.cdb_make.specs.declared.maker.Maker.{Maker}
-use Rattle.cdb_make.proofs.Making.Makers.{held_size}
+use Rattle.cdb_make.proofs.Callers.{holds_fits}
 use Rattle.cdb_tool.specs.Message.{TellsPart}
 use Rattle.cdb_tool.specs.Views.Fault.{make_fault}
 use Rattle.cdb_tool.specs.Runs.Flushed.{Flushed}
 use Rattle.cdb_tool.specs.Runs.Course.{Task, task_of, Incoming, from_inputs, course_of, Goes, EndsSo, StopsSo}
 use Rattle.cdb_tool.specs.Runs.Inputs.{InputForm, InputsLeft, OneInput, AreAllInputs, OneBegins, FirstBegins, bytes_of}
 use Rattle.cdb_tool.specs.Runs.Inputs as form
-use Rattle.cdb_tool.specs.Runs.Make.{InCourse, Stops, InputsFail, RunFails, Runs, came, form_of, records_of, OfBase, HoldsBase, BaseStopped, HandsBack, IsBase, IsSomeBase, BaseFails}
+use Rattle.cdb_tool.specs.Runs.Make.{InCourse, Stops, InputsFail, RunFails, Runs, came, form_of, records_of, OfBase, HoldsBase, BaseStopped, HandsBack, IsBase, IsSomeBase, BaseFails, IsOfStore}
 use Rattle.cdb_tool.specs.declared.fault.Fault.{Fault}
 use Rattle.cdb_tool.specs.declared.fault.Fault.TheVariants.{Text, Make, Duplicate, Missing, Read, Walk, Output, Long, Open, Rename, NoMemory, Old, New, NoOldTables, NoNewTables}
 use Rattle.cdb_command.specs.declared.options.MakeOptions.{MakeOptions}
@@ -59,6 +57,14 @@ not_made image size written failures w g o (Some b) inputs start old new make.Wr
 not_made image size written failures w g o x inputs start old new make.Broken h = absurd h
 not_made image size written failures w g o x inputs start old new make.Lookup h = absurd h
 not_made image size written failures w g o x inputs start old new make.TooBig h = absurd h
+
+-- memory was refused, and the store has not failed
+pub unmade_memory : {S : Type 0} (image : S → List ℕ → Type 0) (size written failures : S → ℕ) (old new : S) (f : MakeFault) → MakingFault image size written failures old new f → make_fault f ≡ NoMemory → failures new ≡ failures old
+unmade_memory image size written failures old new make.NoMemory h e = h.3
+unmade_memory image size written failures old new make.Writing h e = absurd (let k : Make make.Writing ≡ NoMemory = e in cc)
+unmade_memory image size written failures old new make.Broken h e = absurd h
+unmade_memory image size written failures old new make.Lookup h e = absurd h
+unmade_memory image size written failures old new make.TooBig h e = absurd h
 
 -- what holds whatever the base is
 each_base : {B : Type 0} (s : Ghosts B) (base : Option B) (P : Option (List ℕ) → Type 0) → ((x : Option (List ℕ)) → P x) → OfBase s base P
@@ -103,55 +109,47 @@ runs_unbased s (Some base) w g o limit inputs start images f same h = record {
 -- ---- its inputs stopped it
 
 -- a base that was added can be amended
-is_base : {S L : Type 0} {s : Ghosts S} {l : Widths L} (o : MakeOptions) (b : List ℕ) (rs : List KeyValue) (m : Maker S L s l) → walk_of l.WORD b ≡ record { records = rs; damage = None } → Holds m rs → limit_of m ≡ o.limit → (a : List ℕ) → s.image m.store a → IsBase l.WORD o.limit b
-is_base {l = l} o b rs m is holds limit a j =
-    let size : m.end + 4 * l.WORD * m.count ≡ file_size l.WORD rs = (held_size m rs _ refl holds).each a j in
+is_base : {S L : Type 0} {s : Ghosts S} {l : Widths L} (o : MakeOptions) (b : List ℕ) (rs : List KeyValue) (m : Maker S L s l) → (l.WORD ≡ 4) ⊎ (l.WORD ≡ 8) → walk_of l.WORD b ≡ record { records = rs; damage = None } → Holds m rs → limit_of m ≡ o.limit → (a : List ℕ) → s.image m.store a → IsBase l.WORD o.limit b
+is_base {l = l} o b rs m wide is holds limit a j =
+    let fits : file_size l.WORD rs ≤ limit_of m = (holds_fits m rs wide holds).each a j in
     let same : file_size l.WORD (walk_of l.WORD b).records ≡ file_size l.WORD rs = ap (λ v. file_size l.WORD v.records) is in
-    record { whole = ap (λ v. v.damage) is; fits = omega (arith, size, same, m.within, limit) }
-
--- a batch of the records of the maker of the base, none of them marked
-pub record IsOver {S L : Type 0} {s : Ghosts S} {l : Widths L} (first : Maker S L s l) (m : Batch S L s l) : Type 0 where
-  pub same : m.maker ≡ first
-  pub holds : (rs : List KeyValue) → Holds first rs → batch.Holds m rs
-  pub limit : batch.limit_of m ≡ first.limit
+    record { whole = ap (λ v. v.damage) is; fits = omega (arith, fits, same, limit) }
 
 -- and the run begins with its records
-begins_based : {S L : Type 0} {s : Ghosts S} {l : Widths L} (o : MakeOptions) (b : List ℕ) (rs : List KeyValue) (start : Option (List ℕ)) (first : Maker S L s l) (m : Batch S L s l) → walk_of l.WORD b ≡ record { records = rs; damage = None } → Holds first rs → limit_of first ≡ o.limit → IsOver first m
+begins_based : {S L : Type 0} {s : Ghosts S} {l : Widths L} (o : MakeOptions) (b : List ℕ) (rs : List KeyValue) (start : Option (List ℕ)) (m : Maker S L s l) → walk_of l.WORD b ≡ record { records = rs; damage = None } → Holds m rs → limit_of m ≡ o.limit
     → InCourse (task_of o (records_of l.WORD (Some b))) [] start start m
-begins_based {l = l} o b rs start first m is holds limit over =
-    course_starts (task_of o (records_of l.WORD (Some b))) start m (over.holds _ (subst (Holds first) (sym (ap (λ v. v.records) is)) holds)) (over.limit ∙ limit)
+begins_based {l = l} o b rs start m is holds limit =
+    course_starts (task_of o (records_of l.WORD (Some b))) start m (subst (Holds m) (sym (ap (λ v. v.records) is)) holds) limit
 
 -- what is so for each run that begins with such records, is so of the base
-of_held : {S L B : Type 0} {s : Ghosts S} {l : Widths L} (t : Ghosts B) (base : Option B) (o : MakeOptions) (start : Option (List ℕ)) (first : Maker S L s l) (m : Batch S L s l) (P : Option (List ℕ) → Type 0) → HoldsBase l.WORD t base first → limit_of first ≡ o.limit → IsOver first m
-    → (a : List ℕ) → s.image m.maker.store a → ((x : Option (List ℕ)) → is_some (records_of l.WORD x) ≡ is_some base → IsSomeBase l.WORD o.limit x → InCourse (task_of o (records_of l.WORD x)) [] start start m → P x) → OfBase t base P
-of_held t None o start first m P h limit over a j f = f None refl tt (course_starts (task_of o None) start m (over.holds [] h) (over.limit ∙ limit))
-of_held {s = s} t (Some base) o start first m P h limit over a j f = λ b is.
-    let at : s.image first.store a = subst (λ v. s.image v.store a) over.same j in
-    f (Some b) refl (is_base o b h.records first (h.each b is) h.holds limit a at) (begins_based o b h.records start first m (h.each b is) h.holds limit over)
+of_held : {S L B : Type 0} {s : Ghosts S} {l : Widths L} (t : Ghosts B) (base : Option B) (o : MakeOptions) (start : Option (List ℕ)) (m : Maker S L s l) (P : Option (List ℕ) → Type 0) → (l.WORD ≡ 4) ⊎ (l.WORD ≡ 8) → HoldsBase l.WORD t base m → limit_of m ≡ o.limit
+    → (a : List ℕ) → s.image m.store a → ((x : Option (List ℕ)) → is_some (records_of l.WORD x) ≡ is_some base → IsSomeBase l.WORD o.limit x → InCourse (task_of o (records_of l.WORD x)) [] start start m → P x) → OfBase t base P
+of_held t None o start m P wide h limit a j f = f None refl tt (course_starts (task_of o None) start m h limit)
+of_held t (Some base) o start m P wide h limit a j f = λ b is. f (Some b) refl (is_base o b h.records m wide (h.each b is) h.holds limit a j) (begins_based o b h.records start m (h.each b is) h.holds limit)
 
-pub runs_stopped : {S L B : Type 0} {s : Ghosts S} {l : Widths L} (t : Ghosts B) (base : Option B) (g : ℕ) (o : MakeOptions) (amends : Bool) (inputs : InputsLeft) (start now : Option (List ℕ)) (first : Maker S L s l) (m : Batch S L s l) (images : List ℕ → Type 0) (f : Fault)
-    → HoldsBase l.WORD t base first → limit_of first ≡ o.limit → IsOver first m → is_some base ≡ amends → ComesFrom (s.image m.maker.store) images
+pub runs_stopped : {S L B : Type 0} {s : Ghosts S} {l : Widths L} (t : Ghosts B) (base : Option B) (g : ℕ) (o : MakeOptions) (amends : Bool) (inputs : InputsLeft) (start now : Option (List ℕ)) (m : Maker S L s l) (images : List ℕ → Type 0) (f : Fault)
+    → (l.WORD ≡ 4) ⊎ (l.WORD ≡ 8) → HoldsBase l.WORD t base m → limit_of m ≡ o.limit → is_some base ≡ amends → ComesFrom (s.image m.store) images
     → ((k : Task) → k.options ≡ o → is_some k.base ≡ amends → InCourse k [] start start m → WhereHonest images (InputsFail l.WORD g k inputs start now f))
     → WhereHonest images (OfBase t base (λ x. Runs l.WORD g o x inputs images start now (Err f)))
-runs_stopped {l = l} t base g o amends inputs start now first m images f h limit over some comes fails = record {
+runs_stopped {l = l} t base g o amends inputs start now m images f wide h limit some comes fails = record {
   each = λ b is.
       let a = comes.each b is in
-      of_held t base o start first m _ h limit over a.0 a.1
+      of_held t base o start m _ wide h limit a.0 a.1
       (λ x same based begins. record { ok = tt; err = inr (record { based = based; fails = (fails (task_of o (records_of l.WORD x)) refl (same ∙ some) begins).each b is }) });
 }
 
 -- ---- all inputs were put
 
-pub runs_whole : {S L B : Type 0} {s : Ghosts S} {l : Widths L} (t : Ghosts B) (base : Option B) (g : ℕ) (o : MakeOptions) (inputs : InputsLeft) (read : List (List Change)) (start now : Option (List ℕ)) (first : Maker S L s l) (begun m : Batch S L s l) (images : List ℕ → Type 0)
-    → HoldsBase l.WORD t base first → limit_of first ≡ o.limit → IsOver first begun → AreAllInputs (form.input_form o.style (is_some base)) g read inputs
+pub runs_whole : {S L B : Type 0} {s : Ghosts S} {l : Widths L} (t : Ghosts B) (base : Option B) (g : ℕ) (o : MakeOptions) (inputs : InputsLeft) (read : List (List Change)) (start now : Option (List ℕ)) (begun m : Maker S L s l) (images : List ℕ → Type 0)
+    → (l.WORD ≡ 4) ⊎ (l.WORD ≡ 8) → HoldsBase l.WORD t base begun → limit_of begun ≡ o.limit → AreAllInputs (form.input_form o.style (is_some base)) g read inputs
     → ((k : Task) → k.options ≡ o → InCourse k [] start start begun → InCourse k (from_inputs 1 read) start now m)
-    → ComesFrom (s.image begun.maker.store) (s.image m.maker.store) → ComesFrom (s.image m.maker.store) images → ((rs : List KeyValue) → batch.Holds m rs → IsFile l.WORD rs images)
+    → ComesFrom (s.image begun.store) (s.image m.store) → ComesFrom (s.image m.store) images → ((rs : List KeyValue) → Holds m rs → IsFile l.WORD rs images)
     → WhereHonest images (OfBase t base (λ x. Runs l.WORD g o x inputs images start now (Ok tt)))
-runs_whole {l = l} t base g o inputs read start now first begun m images h limit over are course before comes file = record {
+runs_whole {l = l} t base g o inputs read start now begun m images wide h limit are course before comes file = record {
   each = λ b is.
       let a = comes.each b is in
       let c = before.each a.0 a.1 in
-      of_held t base o start first begun _ h limit over c.0 c.1
+      of_held t base o start begun _ wide h limit c.0 c.1
       (λ x same based begins.
       let k : Task = task_of o (records_of l.WORD x) in
       let put = course k refl begins in
@@ -168,23 +166,38 @@ runs_whole {l = l} t base g o inputs read start now first begun m images h limit
 stops_whole : (w g : ℕ) (t : Task) (inputs : InputsLeft) (read : List (List Change)) (start now : Option (List ℕ)) (f : Fault) → AreAllInputs (form_of t) g read inputs → StopsSo w t (from_inputs 1 read) start now f → Stops w g t inputs start now f
 stops_whole w g t inputs read start now f are h = record { read = read; last = []; rest = are.rest; are = are.are; begins = first_none (form_of t) g are.rest; stops = subst (λ cs. StopsSo w t cs start now f) (sym (came_none read)) h }
 
-not_finished : {S L : Type 0} {s : Ghosts S} {l : Widths L} (g : ℕ) (t : Task) (inputs : InputsLeft) (read : List (List Change)) (start now : Option (List ℕ)) (old new : Batch S L s l) (rs : List KeyValue) (b : List ℕ) (f : MakeFault) → AreAllInputs (form_of t) g read inputs
-    → batch.Holds old rs → s.image new.maker.store b → Goes l.WORD t (from_inputs 1 read) start now → batch.FailsFinishing old new f → InputsFail l.WORD g t inputs start now (make_fault f)
-not_finished g t inputs read start now old new rs b make.Broken are holds is goes h = absurd (h.cause rs holds b is)
+not_finished : {S L : Type 0} {s : Ghosts S} {l : Widths L} (g : ℕ) (t : Task) (inputs : InputsLeft) (read : List (List Change)) (start now : Option (List ℕ)) (old new : Maker S L s l) (rs : List KeyValue) (b : List ℕ) (f : MakeFault) → AreAllInputs (form_of t) g read inputs
+    → Holds old rs → s.image new.store b → Goes l.WORD t (from_inputs 1 read) start now → FailsFinishing old new f → InputsFail l.WORD g t inputs start now (make_fault f)
+not_finished g t inputs read start now old new rs b make.Broken are holds is goes h = absurd (true≢false (sym h.0 ∙ holds.whole))
 not_finished {l = l} g t inputs read start now old new rs b make.NoMemory are holds is goes h = stops_whole l.WORD g t inputs read start now NoMemory are goes
 not_finished {l = l} g t inputs read start now old new rs b make.Writing are holds is goes h = stops_whole l.WORD g t inputs read start now (Make make.Writing) are goes
 not_finished g t inputs read start now old new rs b make.Lookup are holds is goes h = absurd h
 not_finished g t inputs read start now old new rs b make.TooBig are holds is goes h = absurd h
 
-pub runs_unfinished : {S L B : Type 0} {s : Ghosts S} {l : Widths L} (t : Ghosts B) (base : Option B) (g : ℕ) (o : MakeOptions) (inputs : InputsLeft) (read : List (List Change)) (start now : Option (List ℕ)) (first : Maker S L s l) (begun old new : Batch S L s l) (f : MakeFault)
-    → HoldsBase l.WORD t base first → limit_of first ≡ o.limit → IsOver first begun → AreAllInputs (form.input_form o.style (is_some base)) g read inputs
-    → ((k : Task) → k.options ≡ o → InCourse k [] start start begun → InCourse k (from_inputs 1 read) start now old) → ComesFrom (s.image begun.maker.store) (s.image old.maker.store) → ComesFrom (s.image old.maker.store) (s.image new.maker.store)
-    → batch.FailsFinishing old new f → WhereHonest (s.image new.maker.store) (OfBase t base (λ x. Runs l.WORD g o x inputs (s.image new.maker.store) start now (Err (make_fault f))))
-runs_unfinished {l = l} t base g o inputs read start now first begun old new f h limit over are course before comes fails = record {
+-- a fault of the store comes where it failed, and want of memory where it did not
+pub unfinished_store : {S L : Type 0} {s : Ghosts S} {l : Widths L} (old new : Maker S L s l) (f : MakeFault) → FailsFinishing old new f → IsOfStore (make_fault f) → s.failures old.store < s.failures new.store
+unfinished_store old new make.Broken x is = absurd is
+unfinished_store old new make.NoMemory x is = absurd is
+unfinished_store old new make.Writing x is = elim x [ inl stays ↦ stays.1 | inr torn ↦ torn.3 ]
+unfinished_store old new make.Lookup x is = absurd x
+unfinished_store old new make.TooBig x is = absurd x
+
+pub unfinished_memory : {S L : Type 0} {s : Ghosts S} {l : Widths L} (old new : Maker S L s l) (f : MakeFault) → FailsFinishing old new f → make_fault f ≡ NoMemory → s.failures new.store ≡ s.failures old.store
+unfinished_memory old new make.NoMemory x e = x.1
+unfinished_memory old new make.Broken x e = absurd (let k : Make make.Broken ≡ NoMemory = e in cc)
+unfinished_memory old new make.Writing x e = absurd (let k : Make make.Writing ≡ NoMemory = e in cc)
+unfinished_memory old new make.Lookup x e = absurd x
+unfinished_memory old new make.TooBig x e = absurd x
+
+pub runs_unfinished : {S L B : Type 0} {s : Ghosts S} {l : Widths L} (t : Ghosts B) (base : Option B) (g : ℕ) (o : MakeOptions) (inputs : InputsLeft) (read : List (List Change)) (start now : Option (List ℕ)) (begun old new : Maker S L s l) (f : MakeFault)
+    → (l.WORD ≡ 4) ⊎ (l.WORD ≡ 8) → HoldsBase l.WORD t base begun → limit_of begun ≡ o.limit → AreAllInputs (form.input_form o.style (is_some base)) g read inputs
+    → ((k : Task) → k.options ≡ o → InCourse k [] start start begun → InCourse k (from_inputs 1 read) start now old) → ComesFrom (s.image begun.store) (s.image old.store) → ComesFrom (s.image old.store) (s.image new.store)
+    → FailsFinishing old new f → WhereHonest (s.image new.store) (OfBase t base (λ x. Runs l.WORD g o x inputs (s.image new.store) start now (Err (make_fault f))))
+runs_unfinished {l = l} t base g o inputs read start now begun old new f wide h limit are course before comes fails = record {
   each = λ b is.
       let a = comes.each b is in
       let c = before.each a.0 a.1 in
-      of_held t base o start first begun _ h limit over c.0 c.1
+      of_held t base o start begun _ wide h limit c.0 c.1
       (λ x same based begins.
       let k : Task = task_of o (records_of l.WORD x) in
       let put = course k refl begins in

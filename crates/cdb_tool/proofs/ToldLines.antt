@@ -8,7 +8,7 @@ use Rattle.std.specs.Io.KnownBytes.{Appends, Keeps}
 use Rattle.cdb_form.specs.Views.KnownBytes.{AppendsPrefix, Writes}
 use Rattle.cdb_form.proofs.Bytes.WritingLemmas.{appends_kept, appends_none, appends_then, prefix_in, prefix_last}
 use Rattle.cdb_command.specs.declared.options.MakeOptions.{MakeOptions}
-use Rattle.cdb_make.specs.declared.records.put.Put.{Put}
+use Rattle.cdb_make.specs.declared.answer.Put.{Put}
 use Rattle.cdb_tool.specs.Runs.Course.{meets_key, told}
 use Rattle.cdb_tool.specs.Message.{AreLines, TellsEach, TellsPart, Told, duplicate_line, duplicate_lines, plain_lines}
 use Rattle.cdb_tool.proofs.WholeRuns.{prefix_kept, whole_prefix}

@@ -13,10 +13,7 @@ use Rattle.cdb_form.specs.Text.Amending.{Change}
 use Rattle.cdb_form.specs.Views.TextFault.{IsOfText}
 use Rattle.cdb_form.specs.declared.text.fault.TextFault.{TextFault}
 use Rattle.cdb_form.specs.declared.text.fault.TextFault.TheVariants as text_fault
-use Rattle.cdb_make.specs.Views.Batch.{Holds, limit_of, count_in, IsUsable}
-use Rattle.cdb_make.specs.Views.Maker.{WhereHonest, IsFile}
-use Rattle.cdb_make.specs.Views.Maker as maker
-use Rattle.cdb_make.specs.declared.batch.Batch.{Batch}
+use Rattle.cdb_make.specs.Views.Maker.{Holds, WhereHonest, IsFile, limit_of, told_count, IsUsable}
 use Rattle.cdb_make.specs.declared.fault.MakeFault.TheVariants.{Lookup, Writing}
 use Rattle.cdb_make.specs.declared.maker.Maker.{Maker}
 use Rattle.cdb_read.specs.declared.fault.ReadFault.TheVariants as read
@@ -163,14 +160,14 @@ IsOfStore fault = ⊥
 
 -- a maker holds the records that a run came to so far
 pub record InCourse {S L : Type 0} {s : Ghosts S} {l : Widths L} (t : Task)
-    (cs : List Incoming) (old new : Option (List ℕ)) (m : Batch S L s l) : Type 0 where
+    (cs : List Incoming) (old new : Option (List ℕ)) (m : Maker S L s l) : Type 0 where
   pub holds : Holds m (course_of l.WORD t cs).records
   pub limit : limit_of m ≡ t.options.limit
-  pub goes : WhereHonest (s.image m.maker.store) (Goes l.WORD t cs old new)
+  pub goes : WhereHonest (s.image m.store) (Goes l.WORD t cs old new)
 
 -- the items of an input of this number were done, behind those of the inputs that were read
 abbrev pub PutsItems : {S L : Type 0} {s : Ghosts S} {l : Widths L} → MakeOptions → (number : ℕ)
-    → List Change → (before now : Option (List ℕ)) → (old new : Batch S L s l) → Type 0
+    → List Change → (before now : Option (List ℕ)) → (old new : Maker S L s l) → Type 0
 PutsItems o number last before now old new =
     (t : Task) (read : List (List Change)) (start : Option (List ℕ)) → t.options ≡ o
     → number ≡ length read + 1 → InCourse t (from_inputs 1 read) start before old
@@ -179,15 +176,15 @@ PutsItems o number last before now old new =
 -- a maker is where a run came to: it counts its records and, unless it is broken, holds them; and
 -- the lines are those of the same items
 pub record StandsAt {S L : Type 0} {s : Ghosts S} {l : Widths L} (t : Task) (cs : List Incoming)
-    (old new : Option (List ℕ)) (m : Batch S L s l) : Type 0 where
+    (old new : Option (List ℕ)) (m : Maker S L s l) : Type 0 where
   pub holds : IsUsable m → Holds m (course_of l.WORD t cs).records
-  pub count : WhereHonest (s.image m.maker.store)
-      (count_in m ≡ length (course_of l.WORD t cs).records)
-  pub goes : WhereHonest (s.image m.maker.store) (Goes l.WORD t cs old new)
+  pub count : WhereHonest (s.image m.store)
+      (told_count m ≡ length (course_of l.WORD t cs).records)
+  pub goes : WhereHonest (s.image m.store) (Goes l.WORD t cs old new)
 
 -- the same behind these items of an input, which comes after those that were read
 pub record StandsIn {S L : Type 0} {s : Ghosts S} {l : Widths L} (form : InputForm) (greatest : ℕ)
-    (t : Task) (read : List (List Change)) (input old new : Option (List ℕ)) (m : Batch S L s l)
+    (t : Task) (read : List (List Change)) (input old new : Option (List ℕ)) (m : Maker S L s l)
     : Type 0 where
   pub last : List Change
   pub begins : IfSome input (BeginsWithItems form greatest last)
@@ -195,7 +192,7 @@ pub record StandsIn {S L : Type 0} {s : Ghosts S} {l : Widths L} (form : InputFo
 
 -- and behind the items of some inputs, and these of the next one
 pub record Stands {S L : Type 0} {s : Ghosts S} {l : Widths L} (form : InputForm) (greatest : ℕ)
-    (t : Task) (inputs : InputsLeft) (old new : Option (List ℕ)) (m : Batch S L s l)
+    (t : Task) (inputs : InputsLeft) (old new : Option (List ℕ)) (m : Maker S L s l)
     : Type 0 where
   pub read : List (List Change)
   pub last : List Change
@@ -254,13 +251,13 @@ IsOfBase fault = ⊥
 pub record AddsBase {S L : Type 0} {s : Ghosts S} {l : Widths L} (w : ℕ) (images : List ℕ → Type 0)
     (m : Maker S L s l) : Type 0 where
   pub records : List KeyValue
-  pub holds : maker.Holds m records
+  pub holds : Holds m records
   pub each : (b : List ℕ) → images b → walk_of w b ≡ record { records = records; damage = None }
 
 -- it holds those of a base, or none where there is no base
 abbrev pub HoldsBase : {S L B : Type 0} {s : Ghosts S} {l : Widths L} → ℕ → Ghosts B → Option B
     → Maker S L s l → Type 0
-HoldsBase w s None m = maker.Holds m []
+HoldsBase w s None m = Holds m []
 HoldsBase w s (Some base) m = AddsBase w (s.image base) m
 
 -- the base stopped the run

@@ -3,8 +3,7 @@ ghost use Rattle.std.specs.Prelude.{◌≡◌, ◌+◌, ◌<◌, ◌≤◌, ℕ,
 ghost use Rattle.std.specs.Prelude.{length, IfOk, IfErr, OnOk};
 ghost use Rattle.cdb_form.specs.Format.Pair.{head_size};
 ghost use Rattle.cdb_form.specs.Text.Amending.{Change};
-ghost use Rattle.cdb_make.specs.Views.Batch.{Follows, store_of};
-ghost use Rattle.cdb_make.specs.Views.Maker.{WhereHonest};
+ghost use Rattle.cdb_make.specs.Views.Maker.{Follows, WhereHonest, store_of};
 ghost use Rattle.cdb_tool.specs.Runs.Course.{Task, from_inputs};
 ghost use Rattle.cdb_tool.specs.Runs.Inputs.{AreAllInputs, ReadsOne, bytes_of, input_form, own_inputs};
 ghost use Rattle.cdb_tool.specs.Runs.Make.{InCourse, Runs, InputFails, InputsFail, IsOfStore, IsOfBase};
@@ -23,7 +22,7 @@ use crate::runs::make_base::add_base;
 use crate::runs::make_input::put_input;
 use cdb_command::MakeOptions;
 use cdb_form::Width;
-use cdb_make::{Batch, Maker};
+use cdb_make::Maker;
 use cdb_store::Store;
 use std::alloc::Global;
 use std::io::{Read, Write};
@@ -32,7 +31,7 @@ use std::io::{Read, Write};
 /// are counted too.
 fn put_turn<L: Width, S: Store, J: Read + Drop, I: Read + Drop, E: Write>(
     alloc: Global,
-    maker: &mut Batch<S, L>,
+    maker: &mut Maker<S, L>,
     options: &MakeOptions<'_>,
     amends: bool,
     number: u64,
@@ -97,7 +96,7 @@ fn put_turn<L: Width, S: Store, J: Read + Drop, I: Read + Drop, E: Write>(
 /// unless it is broken, and the lines are those of these items. `errors` is not flushed.
 pub fn put_inputs<L: Width, S: Store, J: Read + Drop, I: Read + Drop, E: Write>(
     alloc: Global,
-    maker: &mut Batch<S, L>,
+    maker: &mut Maker<S, L>,
     options: &MakeOptions<'_>,
     amends: bool,
     inputs: Inputs<J, I>,
@@ -170,7 +169,7 @@ fn make_unflushed<L: Width, S: Store, B: Store, J: Read + Drop, I: Read + Drop, 
         (λ f. f ≡ NoMemory → S.failures result.store ≡ S.failures store) }
     ensures base_failed { IfErr result.answer (λ f. IsOfBase f → HasFailed B.Store base result.base) }
 {
-    let mut maker = match Maker::<S, L>::new(alloc, store, options.limit) {
+    let mut maker = match Maker::<S, L>::lazy(alloc, store, options.limit) {
         Ok(maker) => maker,
         Err(refused) => {
             return Made {
@@ -189,23 +188,22 @@ fn make_unflushed<L: Width, S: Store, B: Store, J: Read + Drop, I: Read + Drop, 
             answer: Err(fault),
         };
     }
-    let mut batch = Batch::over(alloc, maker);
-    let put = put_inputs::<L, S, J, I, E>(alloc, &mut batch, options, amends, inputs, errors);
+    let put = put_inputs::<L, S, J, I, E>(alloc, &mut maker, options, amends, inputs, errors);
     if let Err(fault) = put {
         return Made {
-            store: batch.into_store(),
+            store: maker.into_store(),
             base,
             answer: Err(fault),
         };
     }
-    match batch.finish() {
+    match maker.finish() {
         Ok(store) => Made {
             store,
             base,
             answer: Ok(()),
         },
         Err(unfinished) => Made {
-            store: unfinished.batch.into_store(),
+            store: unfinished.maker.into_store(),
             base,
             answer: Err(Fault::from(unfinished.fault)),
         },

@@ -5,8 +5,7 @@ ghost use Rattle.cdb_form.specs.Format.Record.{KeyValue};
 ghost use Rattle.cdb_form.specs.Text.Amending.{Change, Putting, Removing};
 ghost use Rattle.cdb_form.specs.Views.KnownBytes.{FromTo};
 ghost use Rattle.cdb_form.specs.Views.Pairs.{change_in};
-ghost use Rattle.cdb_make.specs.Views.Batch.{Follows, store_of};
-ghost use Rattle.cdb_make.specs.Views.Maker.{WhereHonest};
+ghost use Rattle.cdb_make.specs.Views.Maker.{Follows, WhereHonest, store_of};
 ghost use Rattle.cdb_tool.specs.Views.ItemReader.{form_of, unread, IsNew};
 ghost use Rattle.cdb_tool.specs.Message.{TellsEach, TellsPart};
 ghost use Rattle.cdb_tool.specs.Runs.Course.{Incoming, from_inputs, mode_of, meets_key, told};
@@ -24,7 +23,7 @@ use crate::lines::Lines;
 use crate::runs::item_reader::ItemReader;
 use cdb_command::{MakeOptions, Style};
 use cdb_form::{AtHand, ChangeKind, OutFault, Record, Width};
-use cdb_make::{Batch, Mode, Put};
+use cdb_make::{Maker, Mode, Put};
 use cdb_store::Store;
 use std::alloc::Global;
 use std::io::{Read, Write};
@@ -107,7 +106,7 @@ fn tell_put<E: Write>(
 /// Puts a record of an input, both counted from 1, and then reports it.
 #[inline(always)]
 fn put_record<L: Width, S: Store, E: Write>(
-    maker: &mut Batch<S, L>,
+    maker: &mut Maker<S, L>,
     options: &MakeOptions<'_>,
     mode: Mode,
     input: u64,
@@ -154,7 +153,7 @@ fn put_record<L: Width, S: Store, E: Write>(
 }
 
 /// Removes the records of a key. Nothing is told of it.
-fn remove_key<L: Width, S: Store>(maker: &mut Batch<S, L>, key: &[u8]) -> Result<(), Fault>
+fn remove_key<L: Width, S: Store>(maker: &mut Maker<S, L>, key: &[u8]) -> Result<(), Fault>
     ensures ok { (t : Task) (cs : List Incoming) (start now : Option (List ℕ))
         (input number : ℕ) → InCourse t cs start now maker.old
         → OnOk result (InCourse t
@@ -182,7 +181,7 @@ fn remove_key<L: Width, S: Store>(maker: &mut Batch<S, L>, key: &[u8]) -> Result
 /// Does what an item of an input says, both counted from 1.
 #[inline(always)]
 fn do_item<L: Width, S: Store, E: Write>(
-    maker: &mut Batch<S, L>,
+    maker: &mut Maker<S, L>,
     options: &MakeOptions<'_>,
     mode: Mode,
     input: u64,
@@ -247,7 +246,7 @@ fn line_of_last(style: Style, next: u64, lines: &Lines) -> u64 {
 /// its reader, which goes on after its text. The lines are those of the reader.
 pub(crate) fn put_input<L: Width, S: Store, R: Read + Drop, E: Write, A: AtHand<R>>(
     alloc: Global,
-    maker: &mut Batch<S, L>,
+    maker: &mut Maker<S, L>,
     options: &MakeOptions<'_>,
     input: u64,
     mut items: ItemReader<R, L>,

@@ -1,7 +1,7 @@
 // put_inputs: the records that are held and the lines that were written, where a put fails.
 use super::running::{Duplicates, options, texts};
 use cdb_form::Narrow;
-use cdb_make::{Batch, MakeFault, Mode};
+use cdb_make::{MakeFault, Maker, Mode};
 use cdb_store::{FuseStore, MemStore};
 use cdb_tool::{Fault, Inputs, Style, put_inputs};
 use std::alloc::{AllocError, Global};
@@ -21,7 +21,7 @@ const LINES: [&[u8]; 5] = [
 ];
 
 /// A maker over a store that fails its call of a number.
-type Fused = Batch<FuseStore<MemStore>, Narrow>;
+type Fused = Maker<FuseStore<MemStore>, Narrow>;
 
 /// Puts the inputs, and leaves their lines.
 fn put(
@@ -45,7 +45,7 @@ fn lines_of(count: u64) -> &'static [u8] {
 /// of these records. `None`: there was no memory for maker and inputs.
 pub(super) fn put_in_memory(alloc: Global) -> Option<(Result<(), Fault>, u64, bool)> {
     let store = FuseStore::new(MemStore::new(alloc), u64::MAX, 0);
-    let Ok(mut maker) = Fused::new(alloc, store, 4294967295) else {
+    let Ok(mut maker) = Fused::lazy(alloc, store, 4294967295) else {
         return None;
     };
     let Ok(inputs) = texts(alloc, &INPUTS) else {
@@ -63,7 +63,7 @@ pub(super) fn put_in_memory(alloc: Global) -> Option<(Result<(), Fault>, u64, bo
 /// are to be those of these records.
 fn held(alloc: Global, calls: u64) -> Result<Option<u64>, AllocError> {
     let store = FuseStore::new(MemStore::new(alloc), calls, 0);
-    let Ok(mut maker) = Fused::new(alloc, store, 4294967295) else {
+    let Ok(mut maker) = Fused::lazy(alloc, store, 4294967295) else {
         return Ok(None);
     };
     let mut lines = Vec::new(alloc);

@@ -1,6 +1,6 @@
 use Rattle.std.proofs.Common.{refl, ap, ◌∙◌, ◌+◌, ℕ}
 use Rattle.std.proofs.lemmas.Result.{err_from_is_err_and}
-use Rattle.cdb_make.proofs.Making.Following.{follows_then}
+use Rattle.cdb_make.proofs.Rolls.{follows_then}
 use Rattle.cdb_tool.proofs.InputRuns.{put_none, put_next, inputs_fail, next_has, halted}
 use Rattle.cdb_tool.proofs.runs.make.put_inputs.Goals as goal
 
@@ -34,4 +34,4 @@ returns-in_err-shared-clause-stands g c = λ t start same h.
     (λ halt. halted {s = g.S.Store} {k = g.L.Width} _ _ t put.read _ _ _ start _ c.put_turn.new.maker put.are (next_has g.J.Read.remaining g.I.Read.remaining _ _ c.in-Some.turn c.loop-turn.shared c.in-Some.ensures.steps.0) (stands halt))
 
 pub returns-in_err-shared-clause-follows : goal.returns-in_err-shared-clause-follows
-returns-in_err-shared-clause-follows g c = follows_then c.loop-turn.invariant.put.follows c.put_turn.ensures.follows
+returns-in_err-shared-clause-follows g c = follows_then _ _ _ c.loop-turn.invariant.put.follows c.put_turn.ensures.follows

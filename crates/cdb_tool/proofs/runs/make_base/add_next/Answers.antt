@@ -1,3 +1,4 @@
+use Rattle.cdb_store.proofs.Reading.{reads_more}
 use Rattle.std.proofs.Common.{◌≡◌, arith, refl, sym, ap, ◌∙◌, take}
 use Rattle.std.proofs.lemmas.Result.{err_from_is_err_and}
 use Rattle.cdb_form.specs.Format.Record.{KeyValue}
@@ -29,7 +30,7 @@ returns-in_err-pair-clause-fails g c =
     let p = err_from_is_err_and c.from_residual-in_err-pair.result c.from_residual-in_err-pair.ensures.1 in
     let none : c.in_ok-n.n ≡ 0 = omega (arith, c.if-n-gt0.false) in
     let stays = c.in_ok-n.ensures.ok.stays none in
-    rw (p.1, p.2) (λ rs holds b i. walk_stopped {s = g.S.Store} {l = g.L.Width} {t = g.B.Store} (λ b. left_of g.L.Width.WORD b c.args.records.now) c.records_into.new.self c.next.new.self _ c.in_err-pair.field-0.0 (λ b. ap (walk_ahead g.L.Width.WORD b) (sym stays)) c.in_err-pair.ensures.fails rs holds b i)
+    rw (p.1, p.2) (λ rs holds b i. walk_stopped {s = g.S.Store} {l = g.L.Width} {t = g.B.Store} (λ b. left_of g.L.Width.WORD b c.args.records.now) c.records_into.new.self c.next.new.self _ c.in_err-pair.field-0.0 g.met.L.Width.four_or_eight (λ b. ap (walk_ahead g.L.Width.WORD b) (sym stays)) c.in_err-pair.ensures.fails rs holds b i)
 
 pub returns-in_default-clause-ok : goal.returns-in_default-clause-ok
 returns-in_default-clause-ok g c =
@@ -65,3 +66,15 @@ returns-clause-ok g c =
     one_added {s = g.S.Store} {l = g.L.Width} _ (g.B.Store.image c.value_into-2.new.self.reader.now.store) (λ b. left_of g.L.Width.WORD b c.args.records.now) (λ b. left_of g.L.Width.WORD b c.value_into-2.new.self) _ c.put.new.self c.in-Some.pair _ _ _
     (λ b i. ap (walk_ahead g.L.Width.WORD b) (sym stays) ∙ one.first b (key.reads.images b (value.reads.images b i)) ∙ ap (λ v. with_first (record_in b c.in-Some.pair) (walk_ahead g.L.Width.WORD b v)) (sym (value.stays ∙ key.stays)))
     (λ b i. c.in_ok-value_into.ensures.is b (value.reads.images b i)) (λ b i. c.in_ok-value_into-2.ensures.is b i) puts
+
+pub returns-in_err-value_into-clause-reads : goal.returns-in_err-value_into-clause-reads
+returns-in_err-value_into-clause-reads g c = reads_more c.records_into.ensures.reads (reads_more c.next.ensures.reads c.value_into.ensures.reads)
+
+pub returns-in_err-value_into-2-clause-reads : goal.returns-in_err-value_into-2-clause-reads
+returns-in_err-value_into-2-clause-reads g c = reads_more (reads_more c.records_into.ensures.reads (reads_more c.next.ensures.reads c.value_into.ensures.reads)) c.value_into-2.ensures.reads
+
+pub returns-in_err-put-clause-reads : goal.returns-in_err-put-clause-reads
+returns-in_err-put-clause-reads g c = reads_more (reads_more c.records_into.ensures.reads (reads_more c.next.ensures.reads c.value_into.ensures.reads)) c.value_into-2.ensures.reads
+
+pub returns-clause-reads : goal.returns-clause-reads
+returns-clause-reads g c = reads_more (reads_more c.records_into.ensures.reads (reads_more c.next.ensures.reads c.value_into.ensures.reads)) c.value_into-2.ensures.reads

@@ -1,7 +1,8 @@
 use Rattle.std.proofs.Common.{refl, ap, ◌∙◌, rules}
 use Rattle.std.proofs.lemmas.Result.{err_from_is_err_and}
 use Rattle.cdb_store.proofs.Reading.{reads_more, reads_nothing}
-use Rattle.cdb_make.proofs.Making.Following.{follows_same, follows_then}
+use Rattle.cdb_make.proofs.Callers.{follows_same}
+use Rattle.cdb_make.proofs.Rolls.{follows_then}
 use Rattle.cdb_read.specs.Views.Walk.{left_of}
 use Rattle.cdb_tool.proofs.BaseRecords.{added_none, added_next, added_all, added_not}
 use Rattle.cdb_tool.proofs.runs.make_base.add_records.Goals as goal
@@ -25,7 +26,7 @@ loop-room-preserved g c =
       same = step.same_reader ∙ inv.same;
       reads = reads_more inv.reads step.reads;
       added = added_next {s = g.S.Store} {l = g.L.Width} _ _ _ _ (λ b. left_of g.L.Width.WORD b c.add_next.new.records) _ _ c.add_next.new.maker _ inv.added (λ b i. step.reads.images b i) c.in_ok-add_next.ensures.ok;
-      follows = follows_then inv.follows step.follows;
+      follows = follows_then _ _ _ inv.follows step.follows;
       fine = c.in_ok-add_next.ensures.fine ∙ inv.fine;
     }
 
@@ -44,7 +45,17 @@ returns-clause-ok g c = λ none.
     search (all, rules)
 
 pub returns-in_err-add_next-clause-follows : goal.returns-in_err-add_next-clause-follows
-returns-in_err-add_next-clause-follows g c = follows_then c.loop-room.invariant.follows c.add_next.ensures.follows
+returns-in_err-add_next-clause-follows g c = follows_then _ _ _ c.loop-room.invariant.follows c.add_next.ensures.follows
 
 pub returns-clause-follows : goal.returns-clause-follows
-returns-clause-follows g c = follows_then c.loop-room.invariant.follows c.add_next.ensures.follows
+returns-clause-follows g c = follows_then _ _ _ c.loop-room.invariant.follows c.add_next.ensures.follows
+
+pub returns-in_err-add_next-clause-reads : goal.returns-in_err-add_next-clause-reads
+returns-in_err-add_next-clause-reads g c =
+    let reads = reads_more c.loop-room.invariant.reads c.add_next.ensures.reads in
+    search (reads, rules)
+
+pub returns-clause-reads : goal.returns-clause-reads
+returns-clause-reads g c =
+    let reads = reads_more c.loop-room.invariant.reads c.add_next.ensures.reads in
+    search (reads, rules)

@@ -2,7 +2,7 @@ use Rattle.std.proofs.Common.{arith, ◌++◌, ◌∷◌, [], List, ℕ, refl, s
 use Rattle.cdb_form.specs.Format.Record.{KeyValue}
 use Rattle.cdb_make.specs.Views.Maker.{Holds, FailsPutting}
 use Rattle.cdb_form.specs.declared.mode.Mode.TheVariants.{Add}
-use Rattle.cdb_make.proofs.Making.Makers.{held_size}
+use Rattle.cdb_make.proofs.Callers.{holds_fits}
 use Rattle.std.proofs.lemmas.Result.{err_from_is_err_and}
 use Rattle.cdb_form.specs.Views.Pairs.{key_value}
 use Rattle.cdb_tool.proofs.WholeRuns.{holds_so_far_none, holds_so_far_more, reads_fitting, text_not_read, refused}
@@ -33,10 +33,10 @@ loop-fault-preserved g c =
     let holds : Holds m (held.records ++ r ∷ []) =
     subst (λ (v : List ℕ). Holds m (held.records ++ record { key = v; value = r.value } ∷ [])) c.deref.ensures.value
     (subst (λ (v : List ℕ). Holds m (held.records ++ record { key = c.deref.result.now; value = v } ∷ [])) c.deref-in-loop-fault.ensures.value (puts.holds held.records held.holds)) in
-    let size = (held_size m (held.records ++ r ∷ []) _ refl holds).each m.store.bytes.items refl in
+    let fits = (holds_fits m (held.records ++ r ∷ []) g.met.L.Width.four_or_eight holds).each m.store.bytes.items refl in
     record {
       going = one.going;
-      so_far = holds_so_far_more _ _ _ _ _ _ _ _ _ r held one.reads one.spends holds (omega (arith, m.within, m.limited)) c.put.ensures.follows.limit;
+      so_far = holds_so_far_more _ _ _ _ _ _ _ _ _ r held one.reads one.spends holds (omega (arith, fits, m.limited)) c.put.ensures.follows.limit;
     }
 
 pub loop-fault-smaller : goal.loop-fault-smaller

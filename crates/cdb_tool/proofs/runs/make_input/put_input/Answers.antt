@@ -5,7 +5,8 @@ use Rattle.cdb_form.specs.Text.Amending.{Change, Putting}
 use Rattle.cdb_form.specs.Views.Prefix.{shown_by}
 use Rattle.cdb_form.specs.Views.KnownBytes.{FromTo}
 use Rattle.cdb_form.specs.Views.Pairs.{change_in}
-use Rattle.cdb_make.proofs.Making.Following.{follows_same, follows_then}
+use Rattle.cdb_make.proofs.Callers.{follows_same}
+use Rattle.cdb_make.proofs.Rolls.{follows_then}
 use Rattle.cdb_tool.specs.Runs.Inputs.{IsInputOf}
 use Rattle.cdb_tool.specs.Runs.Make.{InCourse, form_of as task_form}
 use Rattle.cdb_tool.specs.Views.ItemReader.{form_of, unread}
@@ -23,7 +24,7 @@ loop-peeked-init g c = record {
   number = refl;
   asks = omega (arith, c.requires.fresh.asks);
   course = λ t read start o n h. none_put {s = g.S.Store} {l = g.L.Width} t read start _ _ h;
-  follows = follows_same {s = g.S.Store} {l = g.L.Width} c.args.maker.now.maker;
+  follows = follows_same {s = g.S.Store} {l = g.L.Width} c.args.maker.now;
   fine = refl;
 }
 
@@ -65,7 +66,7 @@ loop-peeked-preserved g c =
           subst (λ cs. InCourse {s = g.S.Store} {l = g.L.Width} t cs start (g.E.Write.contents c.do_item.new.errors) c.do_item.new.maker)
           (sym (came_more c.args.input (c.loop-peeked.number + 1) read inv.last item n (ap (λ (n : ℕ). n + 1) inv.number)))
           (c.in_ok-do_item.ensures.ok t _ start o (inv.course t read start o n h));
-      follows = follows_then inv.follows c.do_item.ensures.follows;
+      follows = follows_then _ _ _ inv.follows c.do_item.ensures.follows;
       fine = c.in_ok-do_item.ensures.fine ∙ inv.fine;
     }
 
@@ -88,7 +89,7 @@ loop-peeked-preserved-in-Continue-1 g c =
           subst (λ cs. InCourse {s = g.S.Store} {l = g.L.Width} t cs start (g.E.Write.contents c.put_record-put.new.errors) c.put_record-put.new.maker)
           (sym (came_more c.args.input (c.loop-peeked.number + 1) read inv.last item n (ap (λ (n : ℕ). n + 1) inv.number)))
           (c.in_ok-put.ensures.ok t _ start o (inv.course t read start o n h));
-      follows = follows_then inv.follows c.put_record-put.ensures.follows;
+      follows = follows_then _ _ _ inv.follows c.put_record-put.ensures.follows;
       fine = c.in_ok-put.ensures.fine ∙ inv.fine;
     }
 
@@ -172,10 +173,19 @@ pub returns-in-Ok-None-clause-fails : goal.returns-in-Ok-None-clause-fails
 returns-in-Ok-None-clause-fails g c = grind (arith, common_steps)
 
 pub returns-in_err-do_item-clause-own : goal.returns-in_err-do_item-clause-own
-returns-in_err-do_item-clause-own g c = grind (arith, common_steps)
+returns-in_err-do_item-clause-own g c =
+    let p = err_from_is_err_and c.from_residual-in_err-do_item.result c.from_residual-in_err-do_item.ensures.1 in
+    rw (p.1, p.2) c.in_err-do_item.ensures.own
 
 pub returns-in_err-do_item-clause-follows : goal.returns-in_err-do_item-clause-follows
-returns-in_err-do_item-clause-follows g c = follows_then c.loop-peeked.invariant.follows c.do_item.ensures.follows
+returns-in_err-do_item-clause-follows g c = follows_then _ _ _ c.loop-peeked.invariant.follows c.do_item.ensures.follows
 
 pub returns-in_err-put-clause-follows : goal.returns-in_err-put-clause-follows
-returns-in_err-put-clause-follows g c = follows_then c.loop-peeked.invariant.follows c.put_record-put.ensures.follows
+returns-in_err-put-clause-follows g c = follows_then _ _ _ c.loop-peeked.invariant.follows c.put_record-put.ensures.follows
+
+pub loop-peeked-smaller-in-Continue-1 : goal.loop-peeked-smaller-in-Continue-1
+loop-peeked-smaller-in-Continue-1 g c =
+    let item : Change = Putting (shown_by c.in-Some.peeked) in
+    let one = c.take_peeked.ensures (shown_by c.in-Some.peeked) c.in-Some.ensures in
+    let fewer = items_fewer g.L.Width.GREATEST g.R.Read.remaining c.loop-peeked.items c.take_peeked.new.self item one in
+    omega (arith, fewer)

@@ -1,6 +1,6 @@
 use Rattle.std.proofs.Common.{◌≡◌, ◌+◌, ◌^◌, ◌≤◌, ℕ, List, length, Option}
 use Rattle.cdb_form.specs.Text.Amending.{Change}
-use Rattle.cdb_make.specs.Views.Batch.{Follows}
+use Rattle.cdb_make.specs.Views.Maker.{Follows}
 use Rattle.cdb_tool.specs.Runs.Course.{Task, from_inputs}
 use Rattle.cdb_tool.specs.Runs.Make.{InCourse, came}
 use Rattle.cdb_tool.specs.Views.ItemReader.{form_of, unread, asks_left}
@@ -20,7 +20,7 @@ invariant-loop-peeked g l =
           → InCourse {s = g.S.Store} {l = g.L.Width} t (from_inputs 1 read) start (g.E.Write.contents l.fn.errors) l.fn.maker
           → InCourse {s = g.S.Store} {l = g.L.Width} t (came read last) start (g.E.Write.contents l.errors) l.maker;
       follows : Follows {s = g.S.Store} {l = g.L.Width} l.fn.maker l.maker;
-      fine : g.S.Store.failures l.maker.maker.store ≡ g.S.Store.failures l.fn.maker.maker.store;
+      fine : g.S.Store.failures l.maker.store ≡ g.S.Store.failures l.fn.maker.store;
     }
 
 abbrev pub decreases-loop-peeked : goal.decreases-loop-peeked

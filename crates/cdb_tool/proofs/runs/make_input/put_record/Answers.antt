@@ -1,6 +1,6 @@
 use Rattle.std.proofs.Common.{refl}
 use Rattle.std.proofs.lemmas.Result.{err_from_is_err_and}
-use Rattle.cdb_make.specs.Views.Batch.{Puts, FailsPutting}
+use Rattle.cdb_make.specs.Views.Maker.{Puts, FailsPutting}
 use Rattle.cdb_tool.proofs.BaseRecords.{make_no_base, told_no_base}
 use Rattle.cdb_tool.proofs.Courses.{put_goes_so, put_told_so, told_store, put_refused_so, put_halted_so, memory_taken_so, told_halts, told_memory, refused_store, as_told, ok_both, err_each}
 use Rattle.cdb_tool.proofs.runs.make_input.put_record.Goals as goal

@@ -1,0 +1,40 @@
+-- What a caller of a maker concludes from what its calls leave.
+use Rattle.std.proofs.Common.{◌≡◌, ◌*◌, ◌≤◌, ◌⊎◌, List, length, refl, ap, ◌∙◌, arith}
+use Rattle.std.proofs.Math.Nat.{mul-le-mul_left}
+use Rattle.std.proofs.lemmas.List.{length-map}
+use Rattle.cdb_store.specs.declared.store.Store.{Ghosts}
+use Rattle.cdb_store.proofs.Reading.{reads_nothing}
+use Rattle.cdb_form.specs.declared.width.Width.{Ghosts as Widths}
+use Rattle.cdb_form.specs.Format.File.{file_size}
+use Rattle.cdb_form.specs.Format.Record.{KeyValue}
+use Rattle.cdb_make.specs.declared.maker.Maker.{Maker}
+use Rattle.cdb_make.specs.Marks.{is_gone}
+use Rattle.cdb_make.specs.Views.Maker.{Follows, Holds, WhereHonest, count_in, gone_in, limit_of, told_count}
+use Rattle.cdb_make.proofs.Appends.{held_size}
+use Rattle.cdb_make.proofs.Finishing.{told_whole}
+use Rattle.cdb_make.proofs.Looking.{sees_long}
+use Rattle.cdb_make.proofs.Picking.{left_number}
+use Rattle.cdb_make.proofs.Rolls.{follows_read}
+
+-- it counts the records that it holds
+pub holds_count : {S L : Type 0} {s : Ghosts S} {l : Widths L} (m : Maker S L s l) (rs : List KeyValue) → Holds m rs → WhereHonest (s.image m.store) (told_count m ≡ length rs)
+holds_count m rs h = record {
+  each = λ b is.
+      let held = h.each b is in
+      let long = sees_long m.roll held.all b held.sees in
+      let many : length (gone_in m) ≡ length held.all = omega (arith, long, length-map m.roll.marks.items is_gone, m.roll.marked) in
+      let count : count_in m ≡ length rs = omega (arith, m.roll.picked.count, left_number (gone_in m) held.all many, long, ap length held.left) in
+      (told_whole m h.whole).0 ∙ count;
+}
+
+-- and their file keeps its limit
+pub holds_fits : {S L : Type 0} {s : Ghosts S} {l : Widths L} (m : Maker S L s l) (rs : List KeyValue) → (l.WORD ≡ 4) ⊎ (l.WORD ≡ 8) → Holds m rs → WhereHonest (s.image m.store) (file_size l.WORD rs ≤ limit_of m)
+holds_fits {l = l} m rs wide h = record {
+  each = λ b is.
+      let few : count_in m ≤ length m.roll.hashes.items = omega arith in
+      omega (arith, held_size m rs b wide h is, mul-le-mul_left (4 * l.WORD) few, m.within);
+}
+
+-- it comes of itself
+pub follows_same : {S L : Type 0} {s : Ghosts S} {l : Widths L} (m : Maker S L s l) → Follows m m
+follows_same m = follows_read m m refl refl (reads_nothing m.store m.store refl)
