@@ -5,10 +5,11 @@ use Rattle.cdb_make.specs.declared.fault.MakeFault.{MakeFault}
 use Rattle.cdb_make.specs.declared.fault.MakeFault.TheVariants.{NoMemory}
 use Rattle.cdb_make.specs.declared.fault.MakeFault.TheVariants.{Writing}
 
--- where memory was refused it is as it was, and else it failed
+-- where memory was refused it is as it was and has not failed, and else it failed
 abbrev pub MakingFault : {S : Type 0} → (S → List ℕ → Type 0) → (S → ℕ) → (S → ℕ) → (S → ℕ)
     → S → S → MakeFault → Type 0
 MakingFault image size written failures old new NoMemory =
     SameImages (image old) (image new) × (size new ≡ size old) × (written new ≡ written old)
+    × (failures new ≡ failures old)
 MakingFault image size written failures old new Writing = failures old < failures new
 MakingFault image size written failures old new fault = ⊥
