@@ -1,8 +1,8 @@
-use Rattle.std.proofs.Common.{◌≡◌, ap, refl, arith}
+use Rattle.std.proofs.Common.{◌≡◌, ap, ◌∙◌, arith, ℕ, ◌-◌}
 use Rattle.std.specs.Prelude.{List, filter, map}
 use Rattle.cdb_form.specs.Format.Pair.{WordPair, head_size}
 use Rattle.cdb_form.specs.Format.Record.{record_size}
-use Rattle.cdb_form.specs.Format.Table.{file_entries, table_entries, in_table}
+use Rattle.cdb_form.specs.Format.Table.{entries_from, file_entries, table_entries, in_table}
 use Rattle.cdb_form.specs.Views.Pairs.{key_values}
 use Rattle.cdb_make.specs.Laws.{lowered}
 use Rattle.cdb_make.specs.Spans.{left}
@@ -13,8 +13,11 @@ pub returns : goal.returns
 unfolding table_entries
 returns g c =
     let w = g.L.Width.WORD in
-    let (rs, marks) = (key_values c.args._records.now, c.args._marks.now) in
-    let all : file_entries w (left marks rs) ≡ lowered 0 marks (map (record_size w) rs) (file_entries w rs) = left_lower w 0 (head_size w) marks rs (omega arith) in
+    let rs = key_values c.args._records.now in
+    let marks = c.args._marks.now in
+    let here : head_size w ≡ head_size w - 0 = omega arith in
+    let all : file_entries w (left marks rs) ≡ lowered 0 marks (map (record_size w) rs) (file_entries w rs) =
+    ap (λ (k : ℕ). entries_from w k (left marks rs)) here ∙ left_lower w 0 (head_size w) marks rs (omega arith) in
     record {
       places = all;
       tables = λ n. ap (λ (es : List WordPair). filter (in_table n) es) all;
