@@ -6,8 +6,8 @@ use Rattle.cdb_form.specs.declared.mode.Mode.TheVariants.{Add, Warn, Insert, Rep
 use Rattle.cdb_make.specs.declared.fault.MakeFault.{MakeFault}
 use Rattle.cdb_make.specs.declared.fault.MakeFault.TheVariants.{Broken, Lookup, TooBig, NoMemory}
 use Rattle.cdb_make.specs.declared.fault.MakeFault.TheVariants.{Writing}
-use Rattle.cdb_make.specs.declared.records.put.Put.{Put}
-use Rattle.cdb_make.specs.declared.records.put.Put.TheVariants.{Added, AddedAgain, Present, Replaced}
+use Rattle.cdb_make.specs.declared.answer.Put.{Put}
+use Rattle.cdb_make.specs.declared.answer.Put.TheVariants.{Added, AddedAgain, Present, Replaced}
 
 abbrev pub fault_code : MakeFault → ℤ
 fault_code Broken = negsuc 0

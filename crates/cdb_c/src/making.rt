@@ -1,16 +1,15 @@
 // The making calls.
 ghost use Rattle.cdb_form.specs.Format.Record.{record_of};
 ghost use Rattle.std.specs.Prelude.{◌≡◌, None, Err, IfOk, IfErr, negsuc, length};
-ghost use Rattle.cdb_make.specs.Views.Batch.{Puts, FailsPutting, Follows};
-ghost use Rattle.cdb_make.specs.Views.Batch.{Removes, FailsRemoving, FailsFinishing};
-ghost use Rattle.cdb_make.specs.Views.Batch.{WritesNothing, FailsLooking, SameCounts};
+ghost use Rattle.cdb_make.specs.Views.Maker.{Puts, FailsPutting, Follows};
+ghost use Rattle.cdb_make.specs.Views.Maker.{Removes, FailsRemoving, FailsFinishing};
+ghost use Rattle.cdb_make.specs.Views.Maker.{WritesNothing, FailsLooking, SameCounts};
 ghost use Rattle.cdb_make.specs.declared.fault.MakeFault.TheVariants.{Broken};
 ghost use Rattle.cdb_make.specs.Views.Appending.{AppendsAll, FailsAppending};
 ghost use Rattle.cdb_form.specs.Format.Walk.{whole_records};
 ghost use Rattle.cdb_handle.specs.Kept.{kept_in};
 ghost use Rattle.cdb_handle.specs.Calls.{Between, HasNoMaker, HasNewMaker, IsFinished};
-ghost use Rattle.cdb_handle.specs.Calls.{FindsKey};
-ghost use Rattle.cdb_handle.specs.Calls.{Grows, Counts, HasNoBeginning};
+ghost use Rattle.cdb_handle.specs.Calls.{FindsKey, Counts};
 ghost use Rattle.cdb_c.specs.Codes.{put_code, done_code, found_code, removed_code, mode_of};
 ghost use Rattle.cdb_c.specs.Codes.{Answers, appended_code};
 
@@ -79,21 +78,23 @@ pub extern "C" fn cdb_c_make_put(
     put_code(put_by(alloc, handle, mode, key, value))
 }
 
-/// Appends the whole records at the start of some bytes to a maker to which records were only
-/// appended. -1: the handle has no such maker.
+/// Appends the whole records at the start of some bytes. -1: the handle has no maker, or a broken
+/// one.
 #[unsafe(no_mangle)]
 pub extern "C" fn cdb_c_make_append(alloc: Global, handle: &mut Handle, bytes: &[u8]) -> i32
     ensures appends { Answers appended_code result
-        (λ k. Grows (kept_in handle.old) (kept_in handle.new) (λ m n.
+        (λ k. Between (kept_in handle.old) (kept_in handle.new) (λ m n.
         AppendsAll m.maker n.maker (whole_records 4 (length bytes.now) bytes.now) k))
-        (λ f. Grows (kept_in handle.old) (kept_in handle.new) (λ m n.
+        (λ f. Between (kept_in handle.old) (kept_in handle.new) (λ m n.
         FailsAppending m.maker n.maker (whole_records 4 (length bytes.now) bytes.now) f)) }
-    ensures none { HasNoBeginning (kept_in handle.old) → result ≡ negsuc 0 }
+    ensures follows { Between (kept_in handle.old) (kept_in handle.new) (λ m n.
+        Follows m.maker n.maker) }
+    ensures no_maker { HasNoMaker (kept_in handle.old) → result ≡ negsuc 0 }
 {
     appended_code(append(alloc, handle, bytes))
 }
 
-/// How many records a maker holds to which they were only appended. 0: the handle has none.
+/// How many records a maker holds. 0: the handle has none.
 #[unsafe(no_mangle)]
 pub extern "C" fn cdb_c_make_count(alloc: Global, handle: &mut Handle) -> u64
     ensures count { Counts (kept_in handle.old) result }
@@ -114,6 +115,8 @@ pub extern "C" fn cdb_c_make_exists(alloc: Global, handle: &mut Handle, key: &[u
         WritesNothing m.maker n.maker))
         (λ f. Between (kept_in handle.old) (kept_in handle.new) (λ m n.
         FailsLooking m.maker n.maker f)) }
+    ensures follows { Between (kept_in handle.old) (kept_in handle.new) (λ m n.
+        Follows m.maker n.maker) }
     ensures counts { Between (kept_in handle.old) (kept_in handle.new) (λ m n.
         SameCounts m.maker n.maker) }
     ensures no_maker { HasNoMaker (kept_in handle.old) → result ≡ negsuc 0 }

@@ -1,7 +1,7 @@
 //! A maker of a database that a program in C holds between its calls.
 //!
 //! C holds a `Handle`: 16 bytes, of which zeros are no database. Each call takes the database out
-//! of the handle, makes the call of its `Batch`, and puts it back. C gives the file, which is written as
+//! of the handle, makes the call of its `Maker`, and puts it back. C gives the file, which is written as
 //! records come.
 #![tactic(auto)]
 
@@ -13,7 +13,7 @@ mod making;
 mod parts;
 
 pub use address::BoxAddress;
-pub use database::{Beginning, Database, Finished, Making};
+pub use database::{Database, Finished, Making};
 pub use file::GivenFile;
 pub use handle::Handle;
 pub use making::{append, count, exists, finish, number, put, release, remove, start};

@@ -2,21 +2,20 @@
 ghost use Rattle.cdb_form.specs.Format.Record.{record_of};
 ghost use Rattle.std.specs.Prelude.{◌≡◌, ◌⊎◌, Some, None, Err, IfOk, IfErr, OnOk, OnErr, MatchOption, length};
 ghost use Rattle.cdb_make.specs.declared.fault.MakeFault.TheVariants.{Broken, NoMemory, Writing};
-ghost use Rattle.cdb_make.specs.Views.Batch.{Puts, FailsPutting, Follows};
-ghost use Rattle.cdb_make.specs.Views.Batch.{Removes, FailsRemoving, FailsFinishing};
-ghost use Rattle.cdb_make.specs.Views.Batch.{WritesNothing, FailsLooking, SameCounts};
+ghost use Rattle.cdb_make.specs.Views.Maker.{Puts, FailsPutting, Follows};
+ghost use Rattle.cdb_make.specs.Views.Maker.{Removes, FailsRemoving, FailsFinishing};
+ghost use Rattle.cdb_make.specs.Views.Maker.{WritesNothing, FailsLooking, SameCounts};
 ghost use Rattle.cdb_make.specs.Views.Appending.{AppendsAll, FailsAppending};
 ghost use Rattle.cdb_form.specs.Format.Walk.{whole_records};
 ghost use Rattle.cdb_handle.specs.Kept.{kept_in};
 ghost use Rattle.cdb_handle.specs.Calls.{Between, HasNoMaker, HasNewMaker, IsFinished};
-ghost use Rattle.cdb_handle.specs.Calls.{FindsKey, IsNew};
-ghost use Rattle.cdb_handle.specs.Calls.{Opens, Grows, Counts, HasNoBeginning};
+ghost use Rattle.cdb_handle.specs.Calls.{FindsKey, IsNew, Counts};
 
-use crate::database::{Beginning, Database, Finished, Making};
+use crate::database::{Database, Finished, Making};
 use crate::file::GivenFile;
 use crate::handle::Handle;
 use cdb_form::{Narrow, Width};
-use cdb_make::{Batch, MakeFault, Maker, Mode, Put};
+use cdb_make::{MakeFault, Maker, Mode, Put};
 use cdb_store::{BufferedStore, FileStore, RealFile};
 use std::alloc::Global;
 use std::fs::File;
@@ -39,7 +38,6 @@ fn keep_open(store: FileStore<RealFile>) {
 /// Gives up the file of a database. It stays open.
 fn leave(database: Database) {
     match database {
-        Database::Begun(beginning) => give_up(beginning.maker.into_store()),
         Database::Open(making) => give_up(making.maker.into_store()),
         Database::Made(finished) => give_up(finished.store),
         Database::Lent => {}
@@ -53,7 +51,7 @@ pub fn number(file: GivenFile) -> i32 {
 }
 
 /// A new maker of an empty file of less than 4 GiB.
-fn begin(alloc: Global, file: File) -> Result<Beginning, MakeFault>
+fn begin(alloc: Global, file: File) -> Result<Making, MakeFault>
     ensures new { IfOk result IsNew }
     ensures fault { IfErr result (λ f. (f ≡ NoMemory) ⊎ (f ≡ Writing)) }
 {
@@ -65,8 +63,8 @@ fn begin(alloc: Global, file: File) -> Result<Beginning, MakeFault>
             return Err(MakeFault::NoMemory);
         }
     };
-    match Maker::<BufferedStore<FileStore<RealFile>>, Narrow>::new(alloc, store, Narrow::GREATEST) {
-        Ok(maker) => Ok(Beginning { maker }),
+    match Maker::lazy(alloc, store, Narrow::GREATEST) {
+        Ok(maker) => Ok(Making { maker }),
         Err(refused) => {
             give_up(refused.store);
             Err(refused.fault)
@@ -83,8 +81,8 @@ pub fn start(alloc: Global, handle: &mut Handle, file: GivenFile) -> Result<(), 
     ensures err { OnErr result (kept_in handle.new ≡ kept_in handle.old) }
     ensures fault { IfErr result (λ f. (f ≡ NoMemory) ⊎ (f ≡ Writing)) }
 {
-    let beginning = begin(alloc, file.into_file())?;
-    match Box::new(alloc, Database::Begun(beginning)) {
+    let making = begin(alloc, file.into_file())?;
+    match Box::new(alloc, Database::Open(making)) {
         Ok(database) => {
             release(alloc, handle);
             *handle = Handle::of(database);
@@ -97,22 +95,37 @@ pub fn start(alloc: Global, handle: &mut Handle, file: GivenFile) -> Result<(), 
     }
 }
 
-/// Appends the whole records at the start of some bytes, as `Maker::append` does. `Broken`: the
-/// handle has no maker to which records were only appended.
-pub fn append(alloc: Global, handle: &mut Handle, bytes: &[u8]) -> Result<usize, MakeFault>
-    ensures ok { IfOk result (λ k. Grows (kept_in handle.old) (kept_in handle.new) (λ m n.
+/// Appends the whole records at the start of some bytes, if the database has an open maker.
+fn append_in(database: &mut Database, bytes: &[u8]) -> Result<usize, MakeFault>
+    ensures ok { IfOk result (λ k. Between (Some database.old) (Some database.new) (λ m n.
         AppendsAll m.maker n.maker (whole_records 4 (length bytes.now) bytes.now) k)) }
-    ensures fails { IfErr result (λ f. Grows (kept_in handle.old) (kept_in handle.new) (λ m n.
+    ensures fails { IfErr result (λ f. Between (Some database.old) (Some database.new) (λ m n.
         FailsAppending m.maker n.maker (whole_records 4 (length bytes.now) bytes.now) f)) }
-    ensures none { HasNoBeginning (kept_in handle.old) → result ≡ Err Broken }
+    ensures follows { Between (Some database.old) (Some database.new) (λ m n.
+        Follows m.maker n.maker) }
+    ensures no_maker { HasNoMaker (Some database.old) → result ≡ Err Broken }
+{
+    match database {
+        Database::Open(making) => making.maker.append(bytes),
+        Database::Made(_) | Database::Lent => Err(MakeFault::Broken),
+    }
+}
+
+/// Appends the whole records at the start of some bytes, as `Maker::append` does. `Broken`: the
+/// handle has no maker, or a broken one.
+pub fn append(alloc: Global, handle: &mut Handle, bytes: &[u8]) -> Result<usize, MakeFault>
+    ensures ok { IfOk result (λ k. Between (kept_in handle.old) (kept_in handle.new) (λ m n.
+        AppendsAll m.maker n.maker (whole_records 4 (length bytes.now) bytes.now) k)) }
+    ensures fails { IfErr result (λ f. Between (kept_in handle.old) (kept_in handle.new) (λ m n.
+        FailsAppending m.maker n.maker (whole_records 4 (length bytes.now) bytes.now) f)) }
+    ensures follows { Between (kept_in handle.old) (kept_in handle.new) (λ m n.
+        Follows m.maker n.maker) }
+    ensures no_maker { HasNoMaker (kept_in handle.old) → result ≡ Err Broken }
 {
     let Some(mut database) = handle.take(alloc) else {
         return Err(MakeFault::Broken);
     };
-    let answer = match &mut *database {
-        Database::Begun(beginning) => beginning.maker.append(bytes),
-        Database::Open(_) | Database::Made(_) | Database::Lent => Err(MakeFault::Broken),
-    };
+    let answer = append_in(&mut *database, bytes);
     *handle = Handle::of(database);
     answer
 }
@@ -122,12 +135,12 @@ fn count_in(database: &Database) -> u64
     ensures { Counts (Some database.now) result }
 {
     match database {
-        Database::Begun(beginning) => beginning.maker.count(),
-        Database::Open(_) | Database::Made(_) | Database::Lent => 0,
+        Database::Open(making) => making.maker.count(),
+        Database::Made(_) | Database::Lent => 0,
     }
 }
 
-/// How many records a maker holds to which they were only appended. 0: the handle has none.
+/// How many records a maker holds. 0: the handle has none.
 pub fn count(alloc: Global, handle: &mut Handle) -> u64
     ensures count { Counts (kept_in handle.old) result }
     ensures kept { kept_in handle.new ≡ kept_in handle.old }
@@ -140,37 +153,8 @@ pub fn count(alloc: Global, handle: &mut Handle) -> u64
     count
 }
 
-/// A database whose records may be put and taken out.
-fn opened(alloc: Global, database: Database) -> Database
-    ensures opens { Opens (Some database) (Some result) }
-    ensures open { HasNoBeginning (Some result) }
-{
-    match database {
-        Database::Begun(beginning) => {
-            let maker = Batch::over(alloc, beginning.maker);
-            Database::Open(Making { maker })
-        }
-        Database::Open(making) => Database::Open(making),
-        Database::Made(finished) => Database::Made(finished),
-        Database::Lent => Database::Lent,
-    }
-}
-
-/// Takes the database of a handle, as one whose records may be put and taken out.
-fn take_open(alloc: Global, handle: &mut Handle) -> Option<Box<Database>>
-    ensures taken { MatchOption result (kept_in handle.old ≡ None)
-        (λ b. Opens (kept_in handle.old) (Some b.value)) }
-    ensures open { MatchOption result (Unit {0}) (λ b. HasNoBeginning (Some b.value)) }
-    ensures left { kept_in handle.new ≡ None }
-{
-    let mut database = handle.take(alloc)?;
-    *database = opened(alloc, replace(&mut *database, Database::Lent));
-    Some(database)
-}
-
 /// Puts a record, if the database has an open maker.
 fn put_in(database: &mut Database, mode: Mode, key: &[u8], value: &[u8]) -> Result<Put, MakeFault>
-    requires { HasNoBeginning (Some database.old) }
     ensures puts { IfOk result (λ p. Between (Some database.old) (Some database.new) (λ m n.
         Puts m.maker n.maker mode (record_of key.now value.now) p)) }
     ensures fails { IfErr result (λ f. Between (Some database.old) (Some database.new) (λ m n.
@@ -181,12 +165,11 @@ fn put_in(database: &mut Database, mode: Mode, key: &[u8], value: &[u8]) -> Resu
 {
     match database {
         Database::Open(making) => making.maker.put(mode, key, value),
-        Database::Begun(_) | Database::Made(_) | Database::Lent => Err(MakeFault::Broken),
+        Database::Made(_) | Database::Lent => Err(MakeFault::Broken),
     }
 }
 
-/// Puts a record, as `Batch::put` does. `Broken`: the handle has no maker, or a broken one.
-#[tactic(auto, using(crate::proofs::Opening::none_opened))]
+/// Puts a record, as `Maker::put` does. `Broken`: the handle has no maker, or a broken one.
 pub fn put(
     alloc: Global,
     handle: &mut Handle,
@@ -202,7 +185,7 @@ pub fn put(
         Follows m.maker n.maker) }
     ensures no_maker { HasNoMaker (kept_in handle.old) → result ≡ Err Broken }
 {
-    let Some(mut database) = take_open(alloc, handle) else {
+    let Some(mut database) = handle.take(alloc) else {
         return Err(MakeFault::Broken);
     };
     let answer = put_in(&mut *database, mode, key, value);
@@ -211,11 +194,11 @@ pub fn put(
 }
 
 /// Whether some record of a maker has a key.
-#[tactic(auto, using(crate::proofs::Looks::finds_key))]
 fn look(making: &mut Making, key: &[u8]) -> Result<bool, MakeFault>
     ensures there { IfOk result (λ there. FindsKey there key.now making.old making.new) }
     ensures ok { OnOk result (WritesNothing making.old.maker making.new.maker) }
     ensures fails { IfErr result (FailsLooking making.old.maker making.new.maker) }
+    ensures follows { Follows making.old.maker making.new.maker }
     ensures counts { SameCounts making.old.maker making.new.maker }
 {
     making.maker.exists(key)
@@ -223,26 +206,26 @@ fn look(making: &mut Making, key: &[u8]) -> Result<bool, MakeFault>
 
 /// Whether some record has a key, if the database has an open maker.
 fn look_in(database: &mut Database, key: &[u8]) -> Result<bool, MakeFault>
-    requires { HasNoBeginning (Some database.old) }
     ensures there { IfOk result (λ there. Between (Some database.old) (Some database.new)
         (FindsKey there key.now)) }
     ensures ok { OnOk result (Between (Some database.old) (Some database.new) (λ m n.
         WritesNothing m.maker n.maker)) }
     ensures fails { IfErr result (λ f. Between (Some database.old) (Some database.new) (λ m n.
         FailsLooking m.maker n.maker f)) }
+    ensures follows { Between (Some database.old) (Some database.new) (λ m n.
+        Follows m.maker n.maker) }
     ensures counts { Between (Some database.old) (Some database.new) (λ m n.
         SameCounts m.maker n.maker) }
     ensures no_maker { HasNoMaker (Some database.old) → result ≡ Err Broken }
 {
     match database {
         Database::Open(making) => look(making, key),
-        Database::Begun(_) | Database::Made(_) | Database::Lent => Err(MakeFault::Broken),
+        Database::Made(_) | Database::Lent => Err(MakeFault::Broken),
     }
 }
 
-/// Whether some record has a key, as `Batch::exists` says. `Broken`: the handle has no maker, or a
+/// Whether some record has a key, as `Maker::exists` says. `Broken`: the handle has no maker, or a
 /// broken one.
-#[tactic(auto, using(crate::proofs::Opening::none_opened))]
 pub fn exists(alloc: Global, handle: &mut Handle, key: &[u8]) -> Result<bool, MakeFault>
     ensures there { IfOk result (λ there. Between (kept_in handle.old) (kept_in handle.new)
         (FindsKey there key.now)) }
@@ -250,11 +233,13 @@ pub fn exists(alloc: Global, handle: &mut Handle, key: &[u8]) -> Result<bool, Ma
         WritesNothing m.maker n.maker)) }
     ensures fails { IfErr result (λ f. Between (kept_in handle.old) (kept_in handle.new) (λ m n.
         FailsLooking m.maker n.maker f)) }
+    ensures follows { Between (kept_in handle.old) (kept_in handle.new) (λ m n.
+        Follows m.maker n.maker) }
     ensures counts { Between (kept_in handle.old) (kept_in handle.new) (λ m n.
         SameCounts m.maker n.maker) }
     ensures no_maker { HasNoMaker (kept_in handle.old) → result ≡ Err Broken }
 {
-    let Some(mut database) = take_open(alloc, handle) else {
+    let Some(mut database) = handle.take(alloc) else {
         return Err(MakeFault::Broken);
     };
     let answer = look_in(&mut *database, key);
@@ -264,7 +249,6 @@ pub fn exists(alloc: Global, handle: &mut Handle, key: &[u8]) -> Result<bool, Ma
 
 /// Takes out every record of a key, if the database has an open maker.
 fn remove_in(database: &mut Database, key: &[u8]) -> Result<u64, MakeFault>
-    requires { HasNoBeginning (Some database.old) }
     ensures removes { IfOk result (λ n. Between (Some database.old) (Some database.new) (λ m o.
         Removes m.maker o.maker key.now n)) }
     ensures fails { IfErr result (λ f. Between (Some database.old) (Some database.new) (λ m n.
@@ -275,13 +259,12 @@ fn remove_in(database: &mut Database, key: &[u8]) -> Result<u64, MakeFault>
 {
     match database {
         Database::Open(making) => making.maker.remove(key),
-        Database::Begun(_) | Database::Made(_) | Database::Lent => Err(MakeFault::Broken),
+        Database::Made(_) | Database::Lent => Err(MakeFault::Broken),
     }
 }
 
-/// Takes out every record of a key, as `Batch::remove` does. `Broken`: the handle has no maker, or
+/// Takes out every record of a key, as `Maker::remove` does. `Broken`: the handle has no maker, or
 /// a broken one.
-#[tactic(auto, using(crate::proofs::Opening::none_opened))]
 pub fn remove(alloc: Global, handle: &mut Handle, key: &[u8]) -> Result<u64, MakeFault>
     ensures removes { IfOk result (λ n. Between (kept_in handle.old) (kept_in handle.new) (λ m o.
         Removes m.maker o.maker key.now n)) }
@@ -291,7 +274,7 @@ pub fn remove(alloc: Global, handle: &mut Handle, key: &[u8]) -> Result<u64, Mak
         Follows m.maker n.maker) }
     ensures no_maker { HasNoMaker (kept_in handle.old) → result ≡ Err Broken }
 {
-    let Some(mut database) = take_open(alloc, handle) else {
+    let Some(mut database) = handle.take(alloc) else {
         return Err(MakeFault::Broken);
     };
     let answer = remove_in(&mut *database, key);
@@ -301,7 +284,6 @@ pub fn remove(alloc: Global, handle: &mut Handle, key: &[u8]) -> Result<u64, Mak
 
 /// Finishes a database: what it is then, and whether that failed.
 fn finished(database: Database) -> (Database, Result<(), MakeFault>)
-    requires { HasNoBeginning (Some database) }
     ensures ok { OnOk result.1 (IsFinished (Some database) (Some result.0)) }
     ensures fails { IfErr result.1 (λ f. Between (Some database) (Some result.0) (λ m n.
         FailsFinishing m.maker n.maker f)) }
@@ -311,26 +293,24 @@ fn finished(database: Database) -> (Database, Result<(), MakeFault>)
         Database::Open(making) => match making.maker.finish() {
             Ok(store) => (Database::Made(Finished { store }), Ok(())),
             Err(unfinished) => {
-                let maker = unfinished.batch;
+                let maker = unfinished.maker;
                 (Database::Open(Making { maker }), Err(unfinished.fault))
             }
         },
-        Database::Begun(beginning) => (Database::Begun(beginning), Err(MakeFault::Broken)),
         Database::Made(finished) => (Database::Made(finished), Err(MakeFault::Broken)),
         Database::Lent => (Database::Lent, Err(MakeFault::Broken)),
     }
 }
 
-/// Finishes the file of its records, as `Batch::finish` does. `Broken`: an earlier call broke the
+/// Finishes the file of its records, as `Maker::finish` does. `Broken`: an earlier call broke the
 /// maker, or the handle has none.
-#[tactic(auto, using(crate::proofs::Opening::none_opened))]
 pub fn finish(alloc: Global, handle: &mut Handle) -> Result<(), MakeFault>
     ensures ok { OnOk result (IsFinished (kept_in handle.old) (kept_in handle.new)) }
     ensures fails { IfErr result (λ f. Between (kept_in handle.old) (kept_in handle.new) (λ m n.
         FailsFinishing m.maker n.maker f)) }
     ensures no_maker { HasNoMaker (kept_in handle.old) → result ≡ Err Broken }
 {
-    let Some(mut database) = take_open(alloc, handle) else {
+    let Some(mut database) = handle.take(alloc) else {
         return Err(MakeFault::Broken);
     };
     let (left, answer) = finished(replace(&mut *database, Database::Lent));
