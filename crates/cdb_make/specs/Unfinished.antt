@@ -1,6 +1,6 @@
 -- The head of a database that is not finished.
 use Rattle.std.specs.Prelude.{ℕ, ◌≡◌, List, replicate}
-use Rattle.cdb_store.specs.Images.{part, KeepsPart}
+use Rattle.cdb_store.specs.Images.{part}
 use Rattle.cdb_form.specs.Format.Pair.{head_size}
 
 -- its bytes are all ones, so that each pointer names a table outside of any file
@@ -10,7 +10,3 @@ unfinished_head w = replicate (head_size w) 255
 -- every image has that head
 pub record IsUnfinished (w : ℕ) (images : List ℕ → Type 0) : Type 0 where
   pub each : (b : List ℕ) → images b → part 0 (head_size w) b ≡ unfinished_head w
-
--- every image has the head of an old one
-abbrev pub KeepsHead : ℕ → (old new : List ℕ → Type 0) → Type 0
-KeepsHead w old new = KeepsPart 0 (head_size w) old new
