@@ -3,7 +3,7 @@ ghost use Rattle.cdb_form.specs.Format.Record.{record_of};
 ghost use Rattle.std.specs.Prelude.{◌≡◌, None, Err, IfOk, IfErr, negsuc, length};
 ghost use Rattle.cdb_make.specs.Views.Maker.{Puts, FailsPutting, Follows};
 ghost use Rattle.cdb_make.specs.Views.Maker.{Removes, FailsRemoving, FailsFinishing};
-ghost use Rattle.cdb_make.specs.Views.Maker.{WritesNothing, FailsLooking, SameCounts};
+ghost use Rattle.cdb_make.specs.Views.Maker.{WritesNothing, FailsLooking, SameCounts, KeepsAll};
 ghost use Rattle.cdb_make.specs.declared.fault.MakeFault.TheVariants.{Broken};
 ghost use Rattle.cdb_make.specs.Views.Appending.{AppendsAll, FailsAppending};
 ghost use Rattle.cdb_form.specs.Format.Walk.{whole_records};
@@ -87,6 +87,8 @@ pub extern "C" fn cdb_c_make_append(alloc: Global, handle: &mut Handle, bytes: &
         AppendsAll m.maker n.maker (whole_records 4 (length bytes.now) bytes.now) k))
         (λ f. Between (kept_in handle.old) (kept_in handle.new) (λ m n.
         FailsAppending m.maker n.maker (whole_records 4 (length bytes.now) bytes.now) f)) }
+    ensures keeps { Between (kept_in handle.old) (kept_in handle.new) (λ m n.
+        KeepsAll m.maker n.maker) }
     ensures follows { Between (kept_in handle.old) (kept_in handle.new) (λ m n.
         Follows m.maker n.maker) }
     ensures no_maker { HasNoMaker (kept_in handle.old) → result ≡ negsuc 0 }

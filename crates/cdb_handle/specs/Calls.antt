@@ -6,7 +6,7 @@ use Rattle.cdb_store.specs.Calls.{IsSynced}
 use Rattle.cdb_store.specs.FileStore.{calls_of}
 use Rattle.cdb_make.specs.Unfinished.{IsUnfinished}
 use Rattle.cdb_make.specs.Views.Maker.{Holds, IsThere, IsFile, WhereHonest, store_of, limit_of, is_lazy}
-use Rattle.cdb_make.specs.Views.Maker.{told_count}
+use Rattle.cdb_make.specs.Views.Maker.{told_count, HasGone}
 use Rattle.cdb_handle.specs.declared.database.Database.{Database}
 use Rattle.cdb_handle.specs.declared.database.Database.TheVariants.{Open, Made, Lent}
 use Rattle.cdb_handle.specs.declared.database.Finished.{Finished}
@@ -43,13 +43,14 @@ HasNoMaker (Some Lent) = Unit {0}
 HasNoMaker (Some (Made f)) = Unit {0}
 HasNoMaker (Some (Open m)) = ⊥
 
--- there is a maker, and it is new: it holds no records, takes records out later, and its file may have
--- less than 4 GiB; and the system was asked to sync its head
+-- there is a maker, and it is new: it holds no records, takes records out later, none goes yet, and
+-- its file may have less than 4 GiB; and the system was asked to sync its head
 pub record IsNew (m : Making) : Type 0 where
   pub holds : Holds m.maker []
   pub head : IsUnfinished 4 (images_of (store_of m.maker))
   pub limit : limit_of m.maker ≡ 4294967295
   pub lazy : is_lazy m.maker ≡ true
+  pub none : HasGone m.maker → ⊥
   pub synced : IsSynced (calls_of (inner_of (store_of m.maker)))
 
 abbrev pub HasNewMaker : Option Database → Type 0

@@ -4,7 +4,7 @@ ghost use Rattle.std.specs.Prelude.{◌≡◌, ◌⊎◌, Some, None, Err, IfOk,
 ghost use Rattle.cdb_make.specs.declared.fault.MakeFault.TheVariants.{Broken, NoMemory, Writing};
 ghost use Rattle.cdb_make.specs.Views.Maker.{Puts, FailsPutting, Follows};
 ghost use Rattle.cdb_make.specs.Views.Maker.{Removes, FailsRemoving, FailsFinishing};
-ghost use Rattle.cdb_make.specs.Views.Maker.{WritesNothing, FailsLooking, SameCounts};
+ghost use Rattle.cdb_make.specs.Views.Maker.{WritesNothing, FailsLooking, SameCounts, KeepsAll};
 ghost use Rattle.cdb_make.specs.Views.Appending.{AppendsAll, FailsAppending};
 ghost use Rattle.cdb_form.specs.Format.Walk.{whole_records};
 ghost use Rattle.cdb_handle.specs.Kept.{kept_in};
@@ -101,6 +101,8 @@ fn append_in(database: &mut Database, bytes: &[u8]) -> Result<usize, MakeFault>
         AppendsAll m.maker n.maker (whole_records 4 (length bytes.now) bytes.now) k)) }
     ensures fails { IfErr result (λ f. Between (Some database.old) (Some database.new) (λ m n.
         FailsAppending m.maker n.maker (whole_records 4 (length bytes.now) bytes.now) f)) }
+    ensures keeps { Between (Some database.old) (Some database.new) (λ m n.
+        KeepsAll m.maker n.maker) }
     ensures follows { Between (Some database.old) (Some database.new) (λ m n.
         Follows m.maker n.maker) }
     ensures no_maker { HasNoMaker (Some database.old) → result ≡ Err Broken }
@@ -118,6 +120,8 @@ pub fn append(alloc: Global, handle: &mut Handle, bytes: &[u8]) -> Result<usize,
         AppendsAll m.maker n.maker (whole_records 4 (length bytes.now) bytes.now) k)) }
     ensures fails { IfErr result (λ f. Between (kept_in handle.old) (kept_in handle.new) (λ m n.
         FailsAppending m.maker n.maker (whole_records 4 (length bytes.now) bytes.now) f)) }
+    ensures keeps { Between (kept_in handle.old) (kept_in handle.new) (λ m n.
+        KeepsAll m.maker n.maker) }
     ensures follows { Between (kept_in handle.old) (kept_in handle.new) (λ m n.
         Follows m.maker n.maker) }
     ensures no_maker { HasNoMaker (kept_in handle.old) → result ≡ Err Broken }

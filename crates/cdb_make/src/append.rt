@@ -83,7 +83,7 @@ fn measure<L: Width>(bytes: &[u8], room: u64) -> Fitting
 }
 
 impl<S: Store, L: Width> Maker<S, L> {
-    ghost use Rattle.cdb_make.specs.Views.Maker.{Holds, StaysWhole, Follows, HasNotFailed, HasGone};
+    ghost use Rattle.cdb_make.specs.Views.Maker.{Holds, StaysWhole, Follows, HasNotFailed, HasGone, KeepsAll};
     ghost use Rattle.cdb_make.specs.Views.Appending.{AppendsAll, AppendsSome, FailsAppending};
     ghost use Rattle.cdb_make.specs.Views.Appending.{Enters, KeepsLimit, FailsWriting, full_size};
 
@@ -104,6 +104,7 @@ impl<S: Store, L: Width> Maker<S, L> {
         ensures whole { self.new.broken ≡ false }
         ensures limit { self.new.limit ≡ self.old.limit }
         ensures lazy { self.new.lazy ≡ self.old.lazy }
+        ensures gone { self.new.roll.gone.count ≡ self.old.roll.gone.count }
         ensures store { self.new.store ≡ self.old.store }
     {
         self.roll.reserve()?;
@@ -133,6 +134,7 @@ impl<S: Store, L: Width> Maker<S, L> {
         ensures memory { IfErr result (λ fault. fault ≡ NoMemory) }
         ensures limit { self.new.limit ≡ self.old.limit }
         ensures lazy { self.new.lazy ≡ self.old.lazy }
+        ensures gone { self.new.roll.gone.count ≡ self.old.roll.gone.count }
         ensures store { self.new.store ≡ self.old.store }
     {
         let mut place = 0;
@@ -180,6 +182,7 @@ impl<S: Store, L: Width> Maker<S, L> {
             (take count (records_at L.WORD bytes.now)) size) }
         ensures fails { IfErr result
             (FailsAppending self.old self.new (take count (records_at L.WORD bytes.now))) }
+        ensures gone { self.new.roll.gone.count ≡ self.old.roll.gone.count }
         ensures follows { Follows self.old self.new }
     {
         if count == 0 {
@@ -207,6 +210,7 @@ impl<S: Store, L: Width> Maker<S, L> {
             AppendsAll self.old self.new (whole_records L.WORD (length bytes.now) bytes.now) n) }
         ensures fails { IfErr result
             (FailsAppending self.old self.new (whole_records L.WORD (length bytes.now) bytes.now)) }
+        ensures gone { self.new.roll.gone.count ≡ self.old.roll.gone.count }
         ensures follows { Follows self.old self.new }
     {
         let fitting = measure::<L>(bytes, self.limit - self.full_size());
@@ -233,6 +237,7 @@ impl<S: Store, L: Width> Maker<S, L> {
             AppendsAll self.old self.new (whole_records L.WORD (length bytes.now) bytes.now) n) }
         ensures fails { IfErr result
             (FailsAppending self.old self.new (whole_records L.WORD (length bytes.now) bytes.now)) }
+        ensures keeps { KeepsAll self.old self.new }
         ensures follows { Follows self.old self.new }
     {
         if self.broken {

@@ -162,10 +162,12 @@ pub record Holds {S L : Type 0} {s : Ghosts S} {l : Widths L} (m : Maker S L s l
   pub whole : m.broken ≡ false
   pub each : (b : List ℕ) → s.image m.store b → HoldsIn m rs b
 
--- it was made in a store: it holds no records, and the store has a head of a file that is not finished
+-- it was made in a store: it holds no records, none goes, and the store has a head of a file that is
+-- not finished
 pub record Begins {S L : Type 0} {s : Ghosts S} {l : Widths L} (store : S) (limit : ℕ)
     (m : Maker S L s l) : Type 0 where
   pub holds : Holds m []
+  pub none : m.roll.gone.count ≡ 0
   pub limited : m.limit ≡ limit
   pub head : IsUnfinished l.WORD (s.image m.store)
   pub settled : s.settled m.store
@@ -295,6 +297,11 @@ pub record StaysWhole {S L : Type 0} {s : Ghosts S} {l : Widths L} (old new : Ma
 -- it is lazy, and some of its records go with a later pass
 abbrev pub HasGone : {S L : Type 0} {s : Ghosts S} {l : Widths L} → Maker S L s l → Type 0
 HasGone m = (m.lazy ≡ true) × (0 < m.roll.gone.count)
+
+-- if none of its records went with a later pass, none does now
+abbrev pub KeepsAll : {S L : Type 0} {s : Ghosts S} {l : Widths L} → Maker S L s l
+    → Maker S L s l → Type 0
+KeepsAll old new = (HasGone old → ⊥) → HasGone new → ⊥
 
 -- it is broken, since its store failed amid a pass, in such a case
 pub record IsTorn {S L : Type 0} {s : Ghosts S} {l : Widths L} (old new : Maker S L s l)
