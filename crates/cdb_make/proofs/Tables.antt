@@ -33,6 +33,12 @@ get_or-entries_of (x ∷ hs) [] k h p d e lt eh ep = absurd (omega arith)
 get_or-entries_of (x ∷ hs) (y ∷ ps) zero h p d e lt eh ep = ap (λ (n : ℕ). let q : WordPair = record { first = n; second = y } in q) (sym eh) ∙ ap (λ (n : ℕ). let q : WordPair = record { first = h; second = n } in q) (sym ep)
 get_or-entries_of (x ∷ hs) (y ∷ ps) (suc k) h p d e lt eh ep = get_or-entries_of hs ps k h p d (omega arith) (omega arith) eh ep
 
+pub entries_push : (hs ps : List ℕ) (h p : ℕ) → length ps ≡ length hs → entries_of (hs ++ h ∷ []) (ps ++ p ∷ []) ≡ entries_of hs ps ++ record { first = h; second = p } ∷ []
+entries_push [] [] h p e = refl
+entries_push [] (y ∷ ps) h p e = absurd (omega arith)
+entries_push (x ∷ hs) [] h p e = absurd (omega arith)
+entries_push (x ∷ hs) (y ∷ ps) h p e = ap (λ (v : List WordPair). let q : WordPair = record { first = x; second = y } in q ∷ v) (entries_push hs ps h p (omega arith))
+
 pub roll_long : {L : Type 0} {l : Widths L} (m : Roll L l) → length (roll_entries m) ≡ length m.hashes.items
 roll_long m = length-entries_of m.hashes.items (places_in m.places) m.paired
 

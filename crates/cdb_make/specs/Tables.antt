@@ -1,11 +1,10 @@
 -- The entries of a roll, by the tables of their hashes.
-use Rattle.std.specs.Prelude.{ℕ, ◌+◌, ◌*◌, ◌<◌, ◌≤◌, List, [], ◌∷◌, map, filter, get_or, vec_capacity}
+use Rattle.std.specs.Prelude.{ℕ, ◌+◌, ◌*◌, ◌<◌, ◌≤◌, List, [], ◌∷◌, map, filter, get_or, min, vec_capacity}
 use Rattle.std.specs.List.{range_with_len}
 use Rattle.cdb_form.specs.Format.Pair.{WordPair}
 use Rattle.cdb_form.specs.Format.Table.{in_table}
-use Rattle.cdb_form.specs.Views.Pairs.{slot_pair}
 use Rattle.cdb_form.specs.declared.width.Width.{Ghosts as Widths}
-use Rattle.cdb_make.specs.Views.Places.{places_in}
+use Rattle.cdb_make.specs.Views.Places.{places_in, places_room}
 use Rattle.cdb_make.specs.declared.finish.gathered.Gathered.{Gathered}
 use Rattle.cdb_make.specs.declared.roll.Roll.{Roll}
 
@@ -32,14 +31,17 @@ roll_tables m = tables_of (roll_entries m) 0 256
 
 -- the entries that were gathered of a table, and of each of some
 abbrev pub gathered_in : {L : Type 0} {l : Widths L} → Gathered L l → List WordPair
-gathered_in g = map slot_pair g.slots.items
+gathered_in g = entries_of g.hashes.items (places_in g.places)
 
 abbrev pub all_gathered : {L : Type 0} {l : Widths L} → List (Gathered L l) → List (List WordPair)
 all_gathered gs = map gathered_in gs
 
--- how many there is room for in each
+-- how many there is room for in one, and in each
+abbrev pub gathered_room : {L : Type 0} {l : Widths L} → Gathered L l → ℕ
+gathered_room g = min (vec_capacity g.hashes) (places_room g.places)
+
 abbrev pub rooms_of : {L : Type 0} {l : Widths L} → List (Gathered L l) → List ℕ
-rooms_of gs = map (λ g. vec_capacity g.slots) gs
+rooms_of gs = map gathered_room gs
 
 -- each has room for the entries of every 32nd table from its own on, of which there are so many
 pub record HaveRoom {L : Type 0} {l : Widths L} (counts : List ℕ) (gs : List (Gathered L l)) : Type 0 where

@@ -1,6 +1,6 @@
 // The places of some records, in as few bytes as the width of a word allows.
 ghost use Rattle.std.specs.Prelude.{◌≡◌, ℕ, ◌+◌, ◌<◌, ◌≤◌, [], ◌∷◌, ◌++◌, length, take, get_or};
-ghost use Rattle.std.specs.Prelude.{slice_set, true, false, vec_capacity, OnOk, OnErr};
+ghost use Rattle.std.specs.Prelude.{slice_set, true, false, vec_capacity, IfOk, OnOk, OnErr};
 
 use crate::growth::reserve_one;
 use cdb_form::Width;
@@ -44,6 +44,19 @@ impl<L: Width> Places<L> {
             highs: Vec::new(alloc),
             width: PhantomData,
         }
+    }
+
+    /// No places, with room for so many.
+    pub(crate) fn with_room(alloc: Global, count: usize) -> Result<Places<L>, AllocError>
+        ensures none { IfOk result (λ p. places_in p ≡ []) }
+        ensures room { IfOk result (λ p. count ≤ places_room p) }
+    {
+        let upper = if is_wide::<L>() { count } else { 0 };
+        Ok(Places {
+            lows: Vec::with_capacity(alloc, count)?,
+            highs: Vec::with_capacity(alloc, upper)?,
+            width: PhantomData,
+        })
     }
 
     /// How many they are.

@@ -1,15 +1,13 @@
 // The entries of some tables, gathered in their order.
-ghost use Rattle.std.specs.Prelude.{◌≡◌, ℕ, ◌+◌, ◌*◌, ◌<◌, ◌≤◌, ◌++◌, ◌∷◌, [], length, get_or, vec_capacity, IfOk};
+ghost use Rattle.std.specs.Prelude.{◌≡◌, ℕ, ◌+◌, ◌*◌, ◌<◌, ◌≤◌, ◌++◌, ◌∷◌, [], length, get_or, IfOk};
 ghost use Rattle.std.specs.Prelude.{slice_set, All, map};
-ghost use Rattle.cdb_form.specs.Views.Pairs.{slot_pair, PairFits};
 ghost use Rattle.cdb_make.specs.Tables.{all_gathered, gathered_in, rooms_of, roll_entries, tables_of, HaveRoom};
 
 use crate::finish::counts::most_of;
 use crate::finish::gathered::Gathered;
 use crate::roll::Roll;
-use cdb_form::{Slot, Width, table_number};
+use cdb_form::{Width, table_number};
 use std::alloc::{AllocError, Global};
-use std::marker::PhantomData;
 
 /// So many tables are gathered at once, and so many times. More at once would take more memory, and
 /// fewer more passes over all hashes.
@@ -28,11 +26,7 @@ pub(crate) fn room_for<L: Width>(
 {
     let mut gathered = Vec::with_capacity(alloc, TABLES)?;
     for n in 0..TABLES {
-        let slots = Vec::with_capacity(alloc, most_of(counts, n))?;
-        gathered.push_reserved(Gathered {
-            slots,
-            width: PhantomData,
-        });
+        gathered.push_reserved(Gathered::with_room(alloc, most_of(counts, n))?);
     }
     Ok(gathered)
 }
@@ -50,16 +44,16 @@ fn clear<L: Width>(gathered: &mut [Gathered<L>])
 
 /// One entry more, of the table with this number among those that are gathered.
 #[inline(always)]
-fn push<L: Width>(gathered: &mut [Gathered<L>], n: usize, entry: Slot)
-    requires fits { PairFits L.TOP (slot_pair entry) }
+fn push<L: Width>(gathered: &mut [Gathered<L>], n: usize, hash: u32, place: u64)
+    requires fits { place ≤ L.TOP }
     requires within { n < length gathered.old }
     requires room { length (get_or (all_gathered gathered.old) n []) < get_or (rooms_of gathered.old) n 0 }
     ensures more { all_gathered gathered.new ≡ slice_set (all_gathered gathered.old) n
-        (get_or (all_gathered gathered.old) n [] ++ slot_pair entry ∷ []) }
+        (get_or (all_gathered gathered.old) n [] ++ record { first = hash; second = place } ∷ []) }
     ensures rooms { rooms_of gathered.new ≡ rooms_of gathered.old }
     ensures long { length gathered.new ≡ length gathered.old }
 {
-    gathered[n].push(entry);
+    gathered[n].push(hash, place);
 }
 
 /// Gathers the entries of some tables, from the first of them on, in their order. It takes no memory.
@@ -75,11 +69,11 @@ pub(crate) fn gather<L: Width>(gathered: &mut [Gathered<L>], roll: &Roll<L>, fir
 {
     clear(gathered);
     for n in 0..roll.len() {
-        let hash = u64::from(roll.hashes[n]);
-        let table = table_number(hash);
+        let hash = roll.hashes[n];
+        let table = table_number(u64::from(hash));
         if first <= table && table - first < gathered.len() {
             let place = roll.places.at(n);
-            push(gathered, table - first, Slot { hash, place });
+            push(gathered, table - first, hash, place);
         }
     }
 }

@@ -1,54 +1,73 @@
 // What is gathered of a table.
-ghost use Rattle.std.specs.Prelude.{◌≡◌, ◌<◌, ◌≤◌, [], ◌∷◌, ◌++◌, length, map, get_or, vec_capacity, All};
+ghost use Rattle.std.specs.Prelude.{◌≡◌, ◌<◌, ◌≤◌, [], ◌∷◌, ◌++◌, length, get_or, vec_capacity, IfOk};
 ghost use Rattle.cdb_form.specs.Views.Pairs.{slot_pair, PairFits};
+ghost use Rattle.cdb_make.specs.Views.Places.{places_in, places_room};
 
+use crate::places::Places;
 use cdb_form::{Slot, Width};
-use std::marker::PhantomData;
+use std::alloc::{AllocError, Global};
 
-/// The entries that were gathered of a table.
+/// The entries that were gathered of a table: 8 bytes each, or 12 if words are wide.
 #[derive(Drop)]
 pub(crate) struct Gathered<L: Width> {
-    pub(crate) slots: Vec<Slot>,
-    pub(crate) width: PhantomData<L>,
-    ghost room: { length slots.items ≤ vec_capacity slots },
-    ghost fits: { All (PairFits L.TOP) (map slot_pair slots.items) },
+    hashes: Vec<u32>,
+    places: Places<L>,
+    ghost paired: { length (places_in places) ≡ length hashes.items },
+    ghost hash_room: { length hashes.items ≤ vec_capacity hashes },
+    ghost place_room: { length (places_in places) ≤ places_room places },
 }
 
 impl<L: Width> Gathered<L> {
+    ghost use Rattle.cdb_make.specs.Tables.{gathered_in, gathered_room};
+
+    /// No entries, with room for so many.
+    pub(crate) fn with_room(alloc: Global, count: usize) -> Result<Gathered<L>, AllocError>
+        ensures none { IfOk result (λ g. gathered_in g ≡ []) }
+        ensures room { IfOk result (λ g. count ≤ gathered_room g) }
+    {
+        Ok(Gathered {
+            hashes: Vec::with_capacity(alloc, count)?,
+            places: Places::with_room(alloc, count)?,
+        })
+    }
+
     /// How many entries there are.
     pub(crate) fn len(&self) -> usize
-        ensures { result ≡ length (map slot_pair self.now.slots.items) }
+        ensures { result ≡ length (gathered_in self.now) }
     {
-        self.slots.len()
+        self.hashes.len()
     }
 
     /// One of them.
     pub(crate) fn entry(&self, n: usize) -> Slot
-        requires { n < length (map slot_pair self.now.slots.items) }
-        ensures entry { slot_pair result
-            ≡ get_or (map slot_pair self.now.slots.items) n (slot_pair result) }
+        requires { n < length (gathered_in self.now) }
+        ensures entry { slot_pair result ≡ get_or (gathered_in self.now) n (slot_pair result) }
         ensures fits { PairFits L.TOP (slot_pair result) }
     {
-        self.slots[n]
+        let hash = u64::from(self.hashes[n]);
+        let place = self.places.at(n);
+        Slot { hash, place }
     }
 
     /// Leaves no entries. The room stays.
     pub(crate) fn clear(&mut self)
-        ensures none { self.new.slots.items ≡ [] }
-        ensures room { vec_capacity self.new.slots ≡ vec_capacity self.old.slots }
+        ensures none { gathered_in self.new ≡ [] }
+        ensures room { gathered_room self.new ≡ gathered_room self.old }
     {
-        self.slots.clear();
+        self.hashes.truncate(0);
+        self.places.truncate(0);
     }
 
     /// One entry more, for which there is room.
     #[inline(always)]
-    pub(crate) fn push(&mut self, entry: Slot)
-        requires fits { PairFits L.TOP (slot_pair entry) }
-        requires room { length self.old.slots.items < vec_capacity self.old.slots }
-        ensures more { map slot_pair self.new.slots.items
-            ≡ map slot_pair self.old.slots.items ++ slot_pair entry ∷ [] }
-        ensures room { vec_capacity self.new.slots ≡ vec_capacity self.old.slots }
+    pub(crate) fn push(&mut self, hash: u32, place: u64)
+        requires fits { place ≤ L.TOP }
+        requires room { length (gathered_in self.old) < gathered_room self.old }
+        ensures more { gathered_in self.new
+            ≡ gathered_in self.old ++ record { first = hash; second = place } ∷ [] }
+        ensures room { gathered_room self.new ≡ gathered_room self.old }
     {
-        self.slots.push_reserved(entry);
+        self.hashes.push_reserved(hash);
+        self.places.push(place);
     }
 }

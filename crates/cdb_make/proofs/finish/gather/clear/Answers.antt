@@ -1,8 +1,7 @@
-use Rattle.std.proofs.Common.{◌≡◌, ℕ, [], inl, inr, map, ap, ◌∙◌, arith, length-set, vec_capacity, get_or, slice_set}
+use Rattle.std.proofs.Common.{◌≡◌, ℕ, [], inl, inr, map, ap, ◌∙◌, arith, length-set, get_or, slice_set}
 use Rattle.std.proofs.lemmas.Bool.{cases_eq}
 use Rattle.std.proofs.Math.Seq.{map-set_same}
-use Rattle.cdb_form.specs.Views.Pairs.{slot_pair}
-use Rattle.cdb_make.specs.Tables.{gathered_in}
+use Rattle.cdb_make.specs.Tables.{gathered_in, gathered_room}
 use Rattle.cdb_make.proofs.Gathered.{told_here, told_there}
 use Rattle.cdb_make.proofs.finish.gather.clear.Goals as goal
 
@@ -11,12 +10,12 @@ loop-n-preserved g c =
     let ls = c.loop-n.gathered in
     let n : ℕ = c.loop-n.n in
     let new = c.clear.new.self in
-    let empty : gathered_in new ≡ [] = ap (map slot_pair) c.clear.ensures.none in
+    let empty : gathered_in new ≡ [] = c.clear.ensures.none in
     record {
       none = λ k lt. elim (cases_eq k n) [
         | inl here ↦ ap (λ (j : ℕ). get_or (map gathered_in (slice_set ls n new)) j []) here ∙ told_here gathered_in ls n new [] (omega arith) ∙ empty
         | inr apart ↦ told_there gathered_in ls n k new [] apart ∙ c.loop-n.invariant.none k (omega arith)
       ];
-      rooms = map-set_same (λ g. vec_capacity g.slots) ls n new c.index-gathered-n.result c.clear.ensures.room ∙ c.loop-n.invariant.rooms;
+      rooms = map-set_same gathered_room ls n new c.index-gathered-n.result c.clear.ensures.room ∙ c.loop-n.invariant.rooms;
       long = length-set ls n new ∙ c.loop-n.invariant.long;
     }

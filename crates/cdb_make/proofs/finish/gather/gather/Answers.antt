@@ -2,7 +2,6 @@ use Rattle.std.proofs.Common.{◌≡◌, ◌<◌, ◌≤◌, ◌+◌, ◌-◌, �
 use Rattle.std.proofs.lemmas.List.{take_all, take_more, length-map, get_or_default}
 use Rattle.cdb_form.specs.Format.Hash.{table_number}
 use Rattle.cdb_form.specs.Format.Pair.{WordPair}
-use Rattle.cdb_form.specs.Views.Pairs.{slot_pair}
 use Rattle.cdb_make.specs.Tables.{all_gathered, gathered_in, rooms_of, roll_entries, entries_in, tables_of}
 use Rattle.cdb_make.specs.Views.Places.{places_in}
 use Rattle.cdb_make.proofs.Tables.{get_or-entries_of, roll_long, table_at, tables_more, tables_same, tables_none, entries_more}
@@ -23,14 +22,14 @@ push-requires-clause-room g c =
     let m = c.args.roll.now in
     let es : List WordPair = roll_entries m in
     let k : ℕ = c.loop-n.n in
-    let h : ℕ = c.index.result.now in
+    let h : ℕ = c.index-hash.result.now in
     let p : ℕ = c.at-place.result in
     let first : ℕ = c.args.first in
     let count : ℕ = length c.args.gathered.now in
     let n : ℕ = c.table_number-table.result - first in
     let e : WordPair = record { first = h; second = p } in
-    let is : get_or es k e ≡ e = get_or-entries_of m.hashes.items (places_in m.places) k h p e m.paired (omega arith) c.index.ensures c.at-place.ensures.at in
-    let number : c.table_number-table.result ≡ table_number h = c.table_number-table.ensures.number ∙ ap table_number c.from-hash.ensures in
+    let is : get_or es k e ≡ e = get_or-entries_of m.hashes.items (places_in m.places) k h p e m.paired (omega arith) c.index-hash.ensures c.at-place.ensures.at in
+    let number : c.table_number-table.result ≡ table_number h = c.table_number-table.ensures.number ∙ ap table_number c.from.ensures in
     let lt : n < count = omega (arith, c.loop-n.invariant.long, c.if-table-first.true) in
     let at : first + n ≡ c.table_number-table.result = omega (arith, c.if-first-table.true) in
     let now : get_or (all_gathered c.loop-n.gathered) n [] ≡ entries_in (take k es) c.table_number-table.result = ap (λ v. get_or v n []) c.loop-n.invariant.all ∙ table_at (take k es) first count n c.table_number-table.result lt at in
@@ -45,7 +44,7 @@ loop-n-preserved g c =
     let m = c.args.roll.now in
     let es : List WordPair = roll_entries m in
     let k : ℕ = c.loop-n.n in
-    let h : ℕ = c.index.result.now in
+    let h : ℕ = c.index-hash.result.now in
     let p : ℕ = get_or (places_in m.places) k 0 in
     let first : ℕ = c.args.first in
     let count : ℕ = length c.args.gathered.now in
@@ -53,9 +52,9 @@ loop-n-preserved g c =
     let e : WordPair = record { first = h; second = p } in
     let lt : k < length m.hashes.items = omega arith in
     let place : p ≡ get_or (places_in m.places) k p = get_or_default (places_in m.places) k 0 p (omega (arith, m.paired)) in
-    let is : get_or es k e ≡ e = get_or-entries_of m.hashes.items (places_in m.places) k h p e m.paired lt c.index.ensures place in
+    let is : get_or es k e ≡ e = get_or-entries_of m.hashes.items (places_in m.places) k h p e m.paired lt c.index-hash.ensures place in
     let more : take (k + 1) es ≡ take k es ++ e ∷ [] = take_more es k e (omega (arith, roll_long m)) ∙ ap (λ (q : WordPair). take k es ++ q ∷ []) is in
-    let number : table ≡ table_number h = c.table_number-table.ensures.number ∙ ap table_number c.from-hash.ensures in
+    let number : table ≡ table_number h = c.table_number-table.ensures.number ∙ ap table_number c.from.ensures in
     let inv = c.loop-n.invariant in
     let others : ((n : ℕ) → n < count → first + n ≡ table_number h → ⊥) → all_gathered c.loop-n.gathered ≡ tables_of (take (k + 1) es) first count = λ none.
     inv.all ∙ tables_same (take k es) e first count none ∙ ap (λ v. tables_of v first count) (sym more) in
@@ -64,7 +63,7 @@ loop-n-preserved g c =
           let n : ℕ = table - first in
           let at : w.at-place.result ≡ p = w.at-place.ensures.at ∙ get_or_default (places_in m.places) k w.at-place.result 0 (omega (arith, m.paired)) in
           let put = w.push.ensures in
-          let same : slot_pair (record { hash = c.from-hash.result; place = w.at-place.result }) ≡ e = ap (λ (q : ℕ). let r : WordPair = record { first = q; second = w.at-place.result } in r) c.from-hash.ensures ∙ ap (λ (q : ℕ). let r : WordPair = record { first = h; second = q } in r) at in
+          let same : (let r : WordPair = record { first = h; second = w.at-place.result } in r) ≡ e = ap (λ (q : ℕ). let r : WordPair = record { first = h; second = q } in r) at in
           record {
             all = ap all_gathered w.gathered-is ∙ put.more
                 ∙ ap (λ v. slice_set (all_gathered c.loop-n.gathered) n (get_or (all_gathered c.loop-n.gathered) n [] ++ v ∷ [])) same

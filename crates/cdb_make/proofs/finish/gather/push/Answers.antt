@@ -1,8 +1,8 @@
-use Rattle.std.proofs.Common.{◌≡◌, ℕ, [], ◌∷◌, ◌++◌, get_or, slice_set, ap, sym, ◌∙◌, vec_capacity}
+use Rattle.std.proofs.Common.{◌≡◌, ℕ, [], ◌∷◌, ◌++◌, get_or, slice_set, ap, sym, ◌∙◌}
 use Rattle.std.proofs.lemmas.List.{map-set, get_or-map}
 use Rattle.std.proofs.Math.Seq.{map-set_same}
-use Rattle.cdb_form.specs.Views.Pairs.{slot_pair}
-use Rattle.cdb_make.specs.Tables.{all_gathered, gathered_in}
+use Rattle.cdb_form.specs.Format.Pair.{WordPair}
+use Rattle.cdb_make.specs.Tables.{all_gathered, gathered_in, gathered_room}
 use Rattle.cdb_make.proofs.finish.gather.push.Goals as goal
 
 pub returns-clause-more : goal.returns-clause-more
@@ -12,7 +12,7 @@ returns-clause-more g c =
     let x = c.index-gathered-n.result in
     let here : get_or (all_gathered ls) n [] ≡ gathered_in (get_or ls n x) = get_or-map gathered_in ls n x [] c.requires.within in
     map-set gathered_in ls n c.push.new.self
-    ∙ ap (slice_set (all_gathered ls) n) (c.push.ensures.more ∙ ap (λ v. v ++ slot_pair c.args.entry ∷ []) (sym here))
+    ∙ ap (slice_set (all_gathered ls) n) (c.push.ensures.more ∙ ap (λ v. v ++ (let e : WordPair = record { first = c.args.hash; second = c.args.place } in e) ∷ []) (sym here))
 
 pub returns-clause-rooms : goal.returns-clause-rooms
-returns-clause-rooms g c = map-set_same (λ g. vec_capacity g.slots) c.args.gathered.now c.args.n c.push.new.self c.index-gathered-n.result c.push.ensures.room
+returns-clause-rooms g c = map-set_same gathered_room c.args.gathered.now c.args.n c.push.new.self c.index-gathered-n.result c.push.ensures.room

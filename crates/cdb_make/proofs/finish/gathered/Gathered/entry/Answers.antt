@@ -1,10 +1,24 @@
-use Rattle.std.proofs.Common.{ap, sym, subst, ◌∙◌, arith}
-use Rattle.std.proofs.lemmas.List.{get_or-map, length-map}
-use Rattle.cdb_form.specs.Views.Pairs.{slot_pair, PairFits}
+use Rattle.std.proofs.Common.{◌<◌, ℕ, ap, sym, ◌∙◌, arith, length}
+use Rattle.cdb_form.specs.Format.Pair.{WordPair}
+use Rattle.cdb_make.specs.Views.Places.{places_in}
+use Rattle.cdb_make.proofs.Tables.{get_or-entries_of, length-entries_of}
 use Rattle.cdb_make.proofs.finish.gathered.Gathered.entry.Goals as goal
 
-pub returns-clause-fits : goal.returns-clause-fits
-returns-clause-fits g c =
-    let xs = c.args.self.now.slots.items in
-    let x = c.index.result.now in
-    subst (PairFits g.L.Width.TOP) (get_or-map slot_pair xs c.args.n x (slot_pair x) (omega (arith, length-map xs slot_pair, c.requires)) ∙ ap slot_pair (sym c.index.ensures)) (c.args.self.now.fits c.args.n (slot_pair x) c.requires)
+pub index-requires : goal.index-requires
+index-requires g c =
+    let s = c.args.self.now in
+    omega (arith, length-entries_of s.hashes.items (places_in s.places) s.paired, s.hashes.ok.0, c.requires)
+
+pub at-place-requires : goal.at-place-requires
+at-place-requires g c =
+    let s = c.args.self.now in
+    omega (arith, length-entries_of s.hashes.items (places_in s.places) s.paired, s.paired, c.requires)
+
+pub returns-clause-entry : goal.returns-clause-entry
+returns-clause-entry g c =
+    let s = c.args.self.now in
+    let h : ℕ = c.index.result.now in
+    let p : ℕ = c.at-place.result in
+    let lt : c.args.n < length s.hashes.items = omega (arith, length-entries_of s.hashes.items (places_in s.places) s.paired, c.requires) in
+    ap (λ (q : ℕ). let r : WordPair = record { first = q; second = p } in r) c.from-hash.ensures
+    ∙ sym (get_or-entries_of s.hashes.items (places_in s.places) c.args.n h p _ s.paired lt c.index.ensures c.at-place.ensures.at)
