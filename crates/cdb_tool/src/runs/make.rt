@@ -3,17 +3,20 @@ ghost use Rattle.std.specs.Prelude.{◌≡◌, ◌+◌, ◌<◌, ◌≤◌, ℕ,
 ghost use Rattle.std.specs.Prelude.{length, IfOk, IfErr, OnOk};
 ghost use Rattle.cdb_form.specs.Format.Pair.{head_size};
 ghost use Rattle.cdb_form.specs.Text.Amending.{Change};
+ghost use Rattle.cdb_form.specs.Views.KnownBytes.{FromTo};
 ghost use Rattle.cdb_make.specs.Views.Maker.{Follows, WhereHonest, store_of};
 ghost use Rattle.cdb_tool.specs.Runs.Course.{Task, from_inputs};
-ghost use Rattle.cdb_tool.specs.Runs.Inputs.{AreAllInputs, ReadsOne, bytes_of, input_form, own_inputs};
+ghost use Rattle.cdb_tool.specs.Runs.Inputs.{AreAllInputs, IsInputOf, ReadsOne, bytes_of, input_form};
+ghost use Rattle.cdb_tool.specs.Runs.Inputs.{own_inputs};
 ghost use Rattle.cdb_tool.specs.Runs.Make.{InCourse, Runs, InputFails, InputsFail, IsOfStore, IsOfBase};
 ghost use Rattle.cdb_tool.specs.Runs.Make.{OfBase, HandsBack, HasFailed, Stands, StandsIn, IsHalt};
 ghost use Rattle.cdb_tool.specs.Runs.Make.{PutsItems};
+ghost use Rattle.cdb_tool.specs.Views.Input.{input_bytes};
 ghost use Rattle.cdb_tool.specs.Views.Inputs.{inputs_left, one_of, shared_bytes};
 ghost use Rattle.cdb_tool.specs.declared.fault.Fault.TheVariants.{NoMemory};
 
 use crate::fault::Fault;
-use crate::input::Input;
+use crate::input::{InWindow, Input};
 use crate::inputs::{Inputs, SharedInput, Turn};
 use crate::lines::{InLined, LinedInput, Lines};
 use crate::runs::flushed::flushed;
@@ -26,6 +29,55 @@ use cdb_make::Maker;
 use cdb_store::Store;
 use std::alloc::Global;
 use std::io::{Read, Write};
+
+/// Does what an input says from here on, whose number is counted from 1, and answers it as it goes on
+/// after its text. Its lines are counted if duplicates are explained.
+fn put_text<L: Width, S: Store, R: Read + Drop, E: Write>(
+    alloc: Global,
+    maker: &mut Maker<S, L>,
+    options: &MakeOptions<'_>,
+    amends: bool,
+    number: u64,
+    input: Input<R>,
+    lines: &Lines,
+    errors: &mut E,
+) -> Result<Input<R>, Fault>
+    ensures ok { IfOk result (λ left. (last : List Change)
+        × FromTo (input_bytes R.remaining input) (input_bytes R.remaining left)
+        (IsInputOf (input_form options.now.style amends) L.GREATEST last)
+        × PutsItems options.now number last (E.contents errors.old) (E.contents errors.new)
+        maker.old maker.new) }
+    ensures fails { (t : Task) (read : List (List Change)) (start : Option (List ℕ))
+        → t.options ≡ options.now → is_some t.base ≡ amends → number ≡ length read + 1
+        → InCourse t (from_inputs 1 read) start (E.contents errors.old) maker.old
+        → IfErr result (λ f. WhereHonest (S.image (store_of maker.new))
+        (InputFails L.WORD L.GREATEST t read (input_bytes R.remaining input)
+        start (E.contents errors.new) f)) }
+    ensures stands { (t : Task) (read : List (List Change)) (start : Option (List ℕ))
+        → t.options ≡ options.now → number ≡ length read + 1
+        → InCourse t (from_inputs 1 read) start (E.contents errors.old) maker.old
+        → IfErr result (λ f. IsHalt f
+        → StandsIn (input_form options.now.style amends) L.GREATEST t read
+        (input_bytes R.remaining input) start (E.contents errors.new) maker.new) }
+    ensures follows { Follows maker.old maker.new }
+    ensures failed { IfErr result
+        (λ f. IsOfStore f → S.failures (store_of maker.old) < S.failures (store_of maker.new)) }
+    ensures memory { IfErr result
+        (λ f. f ≡ NoMemory → S.failures (store_of maker.new) ≡ S.failures (store_of maker.old)) }
+    ensures fine { OnOk result (S.failures (store_of maker.new) ≡ S.failures (store_of maker.old)) }
+    ensures own { IfErr result (λ f. IsOfBase f → ⊥) }
+{
+    if options.names.is_some() {
+        let lined = LinedInput::new(input, lines);
+        let items = ItemReader::new(alloc, options.style, amends, lined);
+        let left = put_input::<L, S, _, E, InLined>(
+            alloc, maker, options, number, items, lines, errors,
+        )?;
+        return Ok(left.into_input());
+    }
+    let items = ItemReader::new(alloc, options.style, amends, input);
+    put_input::<L, S, _, E, InWindow>(alloc, maker, options, number, items, lines, errors)
+}
 
 /// Does what an input says, whose number is counted from 1, and answers what the inputs share, whose lines
 /// are counted too.
@@ -71,19 +123,13 @@ fn put_turn<L: Width, S: Store, J: Read + Drop, I: Read + Drop, E: Write>(
         Turn::Own(reader) => {
             let lines = Lines::new(options.names.is_some());
             let input = Input::growing(alloc, reader)?;
-            let lined = LinedInput::new(input, &lines);
-            let items = ItemReader::new(alloc, options.style, amends, lined);
-            put_input::<L, S, _, E, InLined>(alloc, maker, options, number, items, &lines, errors)?;
+            put_text(alloc, maker, options, amends, number, input, &lines, errors)?;
             Ok(shared)
         }
         Turn::Shared => {
             let input = shared.in_hand(alloc)?;
-            let lined = LinedInput::new(input, lines);
-            let items = ItemReader::new(alloc, options.style, amends, lined);
-            let left = put_input::<L, S, _, E, InLined>(
-                alloc, maker, options, number, items, lines, errors,
-            )?;
-            Ok(SharedInput::InHand(left.into_input()))
+            let left = put_text(alloc, maker, options, amends, number, input, lines, errors)?;
+            Ok(SharedInput::InHand(left))
         }
     }
 }
