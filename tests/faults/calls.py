@@ -34,6 +34,7 @@ TESTS = {
         "a_removal_and_a_look_tell_no_refused_memory",
         "a_finish_tells_refused_memory",
         "an_append_tells_refused_memory",
+        "a_lazy_maker_tells_refused_memory",
     ],
     "cdb_read_tests": ["values_tell_refused_memory", "a_check_tells_refused_memory"],
     "cdb_command_tests": ["a_create_tells_refused_memory", "a_refused_line_tells_refused_memory"],

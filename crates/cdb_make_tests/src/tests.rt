@@ -1,18 +1,15 @@
-// The maker and the batch, over stores in memory and files, with faults of the store and want of memory.
+// Makers, eager and lazy ones, over stores in memory and files, with faults of the store and want of
+// memory.
 mod again;
 mod appends;
-mod batches;
-mod batches_drawn;
-mod batches_faults;
-mod batches_limited;
-mod batches_paced;
-mod batches_scarce;
 mod drawn;
 mod faults;
 mod files;
 mod filling;
 mod maker;
 mod makers;
+mod model;
+mod paced;
 mod refusals;
 mod said;
 mod scarce;

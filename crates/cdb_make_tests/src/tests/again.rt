@@ -1,7 +1,8 @@
-//! Scripts of which a call may fail once, and is made again where it left the maker whole.
-use super::makers::refused_finish;
-use super::scripts::{Answer, Call, Step, Wanted, act};
-use cdb_form::{Narrow, Width};
+//! Scripts of which a call may fail once, and is made again if it left the maker whole.
+use super::makers::{Way, finished, limit_of, refused_finish};
+use super::model::Wanted;
+use super::scripts::{Answer, Call, Step, answer_of};
+use cdb_form::Width;
 use cdb_make::{MakeFault, Maker, Mode, Put};
 use cdb_store::Store;
 use std::alloc::Global;
@@ -40,24 +41,62 @@ pub(super) struct Played<S> {
 
 /// A maker, and whether a call on it failed so far.
 #[derive(Drop)]
-struct Tried<S: Store> {
-    /// The maker.
-    maker: Maker<S, Narrow>,
+struct Tried<S: Store, L: Width> {
+    maker: Maker<S, L>,
+    /// It is a lazy one.
+    lazy: bool,
+    cause: Cause,
     /// Some call failed.
     met: bool,
 }
 
-/// A maker in a store. Where that failed, it is made again.
-fn made<S: Store + Drop>(alloc: Global, store: S, cause: Cause) -> Result<Tried<S>, Fail> {
-    let refused = match Maker::<S, Narrow>::new(alloc, store, Narrow::GREATEST) {
-        Ok(maker) => return Ok(Tried { maker, met: false }),
+/// A maker in a store, or the store in which none was made, and why.
+fn begun<S: Store, L: Width>(
+    alloc: Global,
+    store: S,
+    way: Way,
+) -> Result<Maker<S, L>, cdb_make::Refused<S>> {
+    let limit = limit_of::<L>(way.most);
+    if way.lazy {
+        Maker::<S, L>::lazy(alloc, store, limit)
+    } else {
+        Maker::<S, L>::new(alloc, store, limit)
+    }
+}
+
+/// A maker in a store. If that failed, it is made again.
+fn begin<S: Store + Drop, L: Width>(
+    alloc: Global,
+    store: S,
+    cause: Cause,
+    way: Way,
+) -> Result<Tried<S, L>, Fail> {
+    let lazy = way.lazy;
+    let refused = match begun::<S, L>(alloc, store, way) {
+        Ok(maker) => {
+            let met = false;
+            return Ok(Tried {
+                maker,
+                lazy,
+                cause,
+                met,
+            });
+        }
         Err(refused) => refused,
     };
     if refused.fault != cause.fault() {
         return Err(Fail::new("another fault of making a maker"));
     }
-    match Maker::<S, Narrow>::new(alloc, refused.store, Narrow::GREATEST) {
-        Ok(maker) => Ok(Tried { maker, met: true }),
+    match begun::<S, L>(alloc, refused.store, way) {
+        Ok(maker) => {
+            let met = true;
+            Ok(Tried {
+                maker,
+                lazy,
+                cause,
+                met,
+            })
+        }
         Err(_) => Err(Fail::new("a second fault")),
     }
 }
@@ -79,57 +118,83 @@ fn appends(wanted: Answer) -> bool {
     }
 }
 
-/// Whether a call that should give this answer may fail so. `broken` tells what it left.
-fn may_fail(cause: Cause, step: Step, wanted: Answer, fault: MakeFault, broken: bool) -> bool {
-    match (cause, fault) {
-        (Cause::Device, MakeFault::Lookup) => step != Step::Put(Mode::Add) && !broken,
-        (Cause::Device, MakeFault::Writing) if takes_out(wanted) => broken,
-        (Cause::Device, MakeFault::Writing) => appends(wanted) && !broken,
-        // No other call of a script has to ask.
-        (Cause::Memory, MakeFault::NoMemory) => step == Step::Put(Mode::Add) && !broken,
-        _ => false,
-    }
+/// Whether a call looks for a key.
+fn looks(step: Step) -> bool {
+    step != Step::Put(Mode::Add) && step != Step::Append
 }
 
-/// Makes a call, and makes it again where it failed and left the maker whole. It is to give its
-/// answer at last, unless it broke the maker.
-fn act_again<S: Store>(
-    tried: &mut Tried<S>,
-    cause: Cause,
-    call: &Call,
-    wanted: Answer,
-) -> Result<(), Fail> {
-    let held = (tried.maker.count(), tried.maker.size());
-    let first = act(&mut tried.maker, call);
-    let broken = tried.maker.is_broken();
-    let last = match first {
-        Ok(_) => first,
-        Err(_) if held != (tried.maker.count(), tried.maker.size()) => {
-            return Err(Fail::new("a call that failed counts"));
+/// Whether an eager maker may fail so if a call of its store does, which leaves it broken or not.
+fn may_fail_at_once(step: Step, wanted: Answer, broken: bool) -> bool {
+    if takes_out(wanted) {
+        return broken;
+    }
+    !broken && (appends(wanted) || step == Step::Append)
+}
+
+impl<S: Store, L: Width> Tried<S, L> {
+    /// Whether a call may fail so.
+    fn may_fail(&self, step: Step, wanted: Answer, fault: MakeFault) -> bool {
+        let broken = self.maker.is_broken();
+        match (self.cause, fault) {
+            (Cause::Device, MakeFault::Lookup) => looks(step) && !broken,
+            (Cause::Device, MakeFault::Writing) if self.lazy => {
+                takes_out(wanted) || appends(wanted) || step == Step::Append
+            }
+            (Cause::Device, MakeFault::Writing) => may_fail_at_once(step, wanted, broken),
+            // No other call of a script has to ask.
+            (Cause::Memory, MakeFault::NoMemory) => step == Step::Put(Mode::Add) && !broken,
+            _ => false,
         }
-        Err(fault) if !may_fail(cause, call.step, wanted, fault, broken) => {
-            return Err(Fail::new("another fault of a call"));
-        }
-        Err(_) if broken => {
-            tried.met = true;
+    }
+
+    /// What the maker counts.
+    fn counts(&self) -> (u64, u64) {
+        (self.maker.count(), self.maker.size())
+    }
+
+    /// Makes a call, and makes it again if it failed and left the maker whole. It is to give its
+    /// answer at last, unless it broke the maker.
+    fn act(&mut self, call: &Call, wanted: Answer) -> Result<(), Fail> {
+        let held = self.counts();
+        let first = answer_of(&mut self.maker, call);
+        if first == wanted {
             return Ok(());
         }
-        Err(_) => {
-            tried.met = true;
-            act(&mut tried.maker, call)
+        let Answer::Refused(fault) = first else {
+            return Err(Fail::new("another answer"));
+        };
+        if held != self.counts() {
+            return Err(Fail::new("a call that failed counts"));
         }
-    };
-    if last == Ok(wanted) {
+        if !self.may_fail(call.step, wanted, fault) {
+            return Err(Fail::new("another fault of a call"));
+        }
+        self.met = true;
+        if self.maker.is_broken() || answer_of(&mut self.maker, call) == wanted {
+            Ok(())
+        } else {
+            Err(Fail::new("another answer"))
+        }
+    }
+
+    /// Makes the calls of a script, until one breaks the maker.
+    fn act_all(&mut self, script: &[Call], wanted: &Wanted) -> Result<(), Fail> {
+        for (call, answer) in script.iter().zip(wanted.answers.iter()) {
+            self.act(call, *answer)?;
+            if self.maker.is_broken() {
+                return Ok(());
+            }
+        }
         Ok(())
-    } else {
-        Err(Fail::new("another answer"))
     }
 }
 
 /// Whether each call on a maker but the finish answers `Broken`.
-fn refuses_all<S: Store>(maker: &mut Maker<S, Narrow>) -> bool {
+fn refuses_all<S: Store, L: Width>(maker: &mut Maker<S, L>) -> bool {
     let mut same = maker.remove(b"a") == Err(MakeFault::Broken);
     same = same && maker.exists(b"a") == Err(MakeFault::Broken);
+    same = same && maker.append(b"") == Err(MakeFault::Broken);
+    same = same && maker.close_all() == Err(MakeFault::Broken);
     for mode in [Mode::Add, Mode::Warn, Mode::Insert, Mode::Replace] {
         same = same && maker.put(mode, b"a", b"1") == Err(MakeFault::Broken);
     }
@@ -137,72 +202,65 @@ fn refuses_all<S: Store>(maker: &mut Maker<S, Narrow>) -> bool {
 }
 
 /// The store of a broken maker, of which every call answers `Broken` and the counts stay.
-fn stays_broken<S: Store + Drop>(maker: Maker<S, Narrow>) -> Result<S, Fail> {
+fn stays_broken<S: Store + Drop, L: Width>(maker: Maker<S, L>) -> Result<Played<S>, Fail> {
     let mut maker = maker;
     let held = (maker.count(), maker.size());
     let refused = refuses_all(&mut maker);
     let maker = refused_finish(maker, MakeFault::Broken)?;
-    if refused && maker.is_broken() && held == (maker.count(), maker.size()) {
-        Ok(maker.into_store())
-    } else {
-        Err(Fail::new("a broken maker goes on"))
+    if !refused || !maker.is_broken() || held != (maker.count(), maker.size()) {
+        return Err(Fail::new("a broken maker goes on"));
     }
+    let (store, met, broke) = (maker.into_store(), true, true);
+    Ok(Played { store, met, broke })
 }
 
-/// The store with the finished file. Where the finish failed, it is made again.
-fn finished<S: Store + Drop>(tried: Tried<S>, cause: Cause) -> Result<Played<S>, Fail> {
-    let Tried { maker, met } = tried;
+/// The store with the finished file. If the finish failed, it is made again, unless that broke a lazy
+/// maker.
+fn made<S: Store + Drop, L: Width>(tried: Tried<S, L>) -> Result<Played<S>, Fail> {
+    let held = tried.counts();
+    let Tried {
+        maker,
+        lazy,
+        cause,
+        met,
+    } = tried;
     let broke = false;
-    let held = (maker.count(), maker.size());
     let unfinished = match maker.finish() {
         Ok(store) => return Ok(Played { store, met, broke }),
         Err(unfinished) => unfinished,
     };
     let (maker, fault) = (unfinished.maker, unfinished.fault);
-    if fault != cause.fault() || maker.is_broken() {
+    if fault != cause.fault() {
         return Err(Fail::new("another fault of the finish"));
     }
     if held != (maker.count(), maker.size()) {
         return Err(Fail::new("a finish that failed counts"));
     }
+    if maker.is_broken() {
+        return if lazy && cause == Cause::Device {
+            stays_broken(maker)
+        } else {
+            Err(Fail::new("a finish breaks the maker"))
+        };
+    }
     let met = true;
-    match maker.finish() {
-        Ok(store) => Ok(Played { store, met, broke }),
-        Err(_) => Err(Fail::new("a second fault")),
-    }
-}
-
-/// Makes the calls of a script, until one breaks the maker.
-fn act_all<S: Store>(
-    tried: &mut Tried<S>,
-    cause: Cause,
-    script: &[Call],
-    wanted: &Wanted,
-) -> Result<(), Fail> {
-    for (call, answer) in script.iter().zip(wanted.answers.iter()) {
-        act_again(tried, cause, call, *answer)?;
-        if tried.maker.is_broken() {
-            return Ok(());
-        }
-    }
-    Ok(())
+    let store = finished(maker)?;
+    Ok(Played { store, met, broke })
 }
 
 /// Makes the calls of a script in a store, and finishes the file. Each call gives the answer that
-/// is wanted, at the second try where the first failed, until one breaks the maker.
-pub(super) fn play<S: Store + Drop>(
+/// is wanted, at the second try if the first failed, until one breaks the maker.
+pub(super) fn play<S: Store + Drop, L: Width>(
     alloc: Global,
     store: S,
-    cause: Cause,
+    (cause, way): (Cause, Way),
     script: &[Call],
     wanted: &Wanted,
 ) -> Result<Played<S>, Fail> {
-    let mut tried = made(alloc, store, cause)?;
-    act_all(&mut tried, cause, script, wanted)?;
+    let mut tried = begin::<S, L>(alloc, store, cause, way)?;
+    tried.act_all(script, wanted)?;
     if tried.maker.is_broken() {
-        let store = stays_broken(tried.maker)?;
-        let (met, broke) = (true, true);
-        return Ok(Played { store, met, broke });
+        return stays_broken(tried.maker);
     }
-    finished(tried, cause)
+    made(tried)
 }

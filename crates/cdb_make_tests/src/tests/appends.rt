@@ -1,8 +1,8 @@
 //! Whole records that a maker appends by one write.
-use super::batches_limited::limited_maker;
-use super::makers::{finished, maker_in};
+use super::makers::{EAGER, LAZY, Way, finished, made_in, maker_in};
+use super::model::expected;
 use super::scarce::ScarceStore;
-use super::scripts::{Call, add, expected};
+use super::scripts::{Call, add};
 use cdb_form::{Narrow, Wide, Width};
 use cdb_make::{MakeFault, Maker, Mode};
 use cdb_store::{FuseStore, MemStore, Store};
@@ -121,7 +121,9 @@ fn append_within(
     most: u16,
     run: &[u8],
 ) -> Result<(Result<usize, MakeFault>, u64, usize), Fail> {
-    let mut maker = limited_maker(alloc, most)?;
+    let most = Some(most);
+    let store = MemStore::new(alloc);
+    let mut maker: Maker<MemStore, Narrow> = made_in(alloc, store, Way { most, ..EAGER })?;
     let answer = maker.append(run);
     let count = maker.count();
     Ok((answer, count, finished(maker)?.into_vec().len()))
@@ -139,6 +141,24 @@ fn records_are_appended_up_to_the_limit(rt: HostRuntime) -> Result<(), Fail> {
     // A record that is cut does not pass the limit.
     let cut = run.get(..33).unwrap_or(b"");
     assert!(rt; append_within(alloc, 32, cut)? == (Ok(16), 1, 2080));
+    Ok(())
+}
+
+#[test]
+fn a_pass_makes_room_for_a_run(rt: HostRuntime) -> Result<(), Fail> {
+    let alloc = rt.alloc();
+    let run = run_of(alloc, &two(), 4)?;
+    // With their slots the two records have 66 bytes: there is no room beside one that goes.
+    let most = Some(66);
+    let fuse = FuseStore::new(MemStore::new(alloc), u64::MAX, 0);
+    let mut maker = made_in::<_, Narrow>(alloc, fuse, Way { most, ..LAZY })?;
+    maker.put(Mode::Add, b"a", b"1")?;
+    assert!(rt; maker.remove(b"a") == Ok(1) && maker.size() == 2048);
+    let before = maker.store().written();
+    assert!(rt; maker.append(&run) == Ok(34) && maker.count() == 2);
+    assert!(rt; maker.store().written() == before.saturating_add(34));
+    let file = finished(maker)?.into_inner().into_vec();
+    assert!(rt; file == expected::<Narrow>(alloc, &two())?.file);
     Ok(())
 }
 

@@ -1,7 +1,8 @@
 //! Databases made in files of the system. The files lie in the folder that each test runs in.
 use super::again::{Cause, Played, play};
-use super::makers::buffered;
-use super::scripts::{Call, Wanted, add, expected, long, replace};
+use super::makers::{EAGER, LAZY, Way, buffered};
+use super::model::{Wanted, expected};
+use super::scripts::{Call, add, long, replace};
 use cdb_form::Narrow;
 use cdb_store::{FileStore, Store};
 use std::alloc::Global;
@@ -13,10 +14,12 @@ use std::test::Fail;
 fn fill<S: Store + Drop>(
     alloc: Global,
     store: S,
+    way: Way,
     script: &[Call],
     wanted: &Wanted,
 ) -> Result<S, Fail> {
-    let Played { store, met, broke } = play(alloc, store, Cause::Device, script, wanted)?;
+    let how = (Cause::Device, way);
+    let Played { store, met, broke } = play::<S, Narrow>(alloc, store, how, script, wanted)?;
     if met || broke {
         return Err(Fail::new("the file system failed"));
     }
@@ -26,24 +29,30 @@ fn fill<S: Store + Drop>(
 /// Whether a script makes its file of so many bytes.
 fn makes_plainly(
     rt: &HostRuntime,
-    name: &str,
+    (name, way): (&str, Way),
     script: &[Call],
     wanted: &Wanted,
     size: u64,
 ) -> Result<bool, Fail> {
-    let store = fill(rt.alloc(), FileStore::create(rt, name)?, script, wanted)?;
+    let store = fill(
+        rt.alloc(),
+        FileStore::create(rt, name)?,
+        way,
+        script,
+        wanted,
+    )?;
     Ok(store.len() == size && fs::read(rt, name)? == wanted.file)
 }
 
 /// Whether a script makes its file through a buffer, which the finish has handed on.
 fn makes_through_a_buffer(
     rt: &HostRuntime,
-    name: &str,
+    (name, way): (&str, Way),
     script: &[Call],
     wanted: &Wanted,
 ) -> Result<bool, Fail> {
     let buffer = buffered(rt.alloc(), FileStore::create(rt, name)?, 4096)?;
-    let store = fill(rt.alloc(), buffer, script, wanted)?;
+    let store = fill(rt.alloc(), buffer, way, script, wanted)?;
     let is_made = fs::read(rt, name)? == wanted.file;
     drop(store);
     Ok(is_made)
@@ -52,8 +61,12 @@ fn makes_through_a_buffer(
 /// Whether a script makes a file of so many bytes, as over a store in memory.
 fn makes_file(rt: &HostRuntime, name: &str, script: &[Call], size: u64) -> Result<bool, Fail> {
     let wanted = expected::<Narrow>(rt.alloc(), script)?;
-    let plainly = makes_plainly(rt, name, script, &wanted, size)?;
-    Ok(plainly && makes_through_a_buffer(rt, name, script, &wanted)?)
+    let mut makes = true;
+    for way in [EAGER, LAZY] {
+        makes = makes && makes_plainly(rt, (name, way), script, &wanted, size)?;
+        makes = makes && makes_through_a_buffer(rt, (name, way), script, &wanted)?;
+    }
+    Ok(makes)
 }
 
 #[test]

@@ -1,8 +1,9 @@
 //! Files that a maker makes in place, with their places and the bytes that each call writes.
-use super::makers::finished;
+use super::makers::{EAGER, LAZY, Way, finished, made_in};
+use super::model::expected;
 use super::scripts::{
-    ADDED, Answer, Call, Made, act, add, comes_to, exists, expected, long, put, remove, replace,
-    replaced, words,
+    ADDED, Answer, Made, add, answer_of, comes_late_to, comes_to, exists, long, put, remove,
+    replace, replaced, words,
 };
 use cdb_form::{Narrow, Wide};
 use cdb_make::{MakeFault, Maker, Mode, Put};
@@ -91,6 +92,10 @@ fn a_replaced_record_stands_last(rt: HostRuntime) -> Result<(), Fail> {
     let slots = [193421353, 2064, 0, 0, 0, 0, 193420161, 2048];
     let wrote = [10, 16, 18, 44, 0, 0, 0, 0, 2080];
     assert_made(&rt, &two, &answers, &wrote, 2082, &slots);
+    // A lazy maker writes the record alone, and the finish moves two of the four before its tables.
+    let late = comes_late_to::<Narrow>(rt.alloc(), &calls)?;
+    let wrote = [10, 16, 18, 10, 0, 0, 0, 0, 2114];
+    assert_made(&rt, &late, &answers, &wrote, 2082, &slots);
     Ok(())
 }
 
@@ -109,6 +114,9 @@ fn all_records_of_a_key_are_removed(rt: HostRuntime) -> Result<(), Fail> {
     let slots = [193421353, 2064, 0, 0, 0, 0, 193420161, 2048];
     let wrote = [10, 16, 10, 18, 10, 34, 2080];
     assert_made(&rt, &made, &answers, &wrote, 2082, &slots);
+    let late = comes_late_to::<Narrow>(rt.alloc(), &calls)?;
+    let wrote = [10, 16, 10, 18, 10, 0, 2114];
+    assert_made(&rt, &late, &answers, &wrote, 2082, &slots);
     Ok(())
 }
 
@@ -182,25 +190,27 @@ const OTHER: &[u8] = b"987654321098765432109876543210987654321";
 fn a_record_is_too_big_only_where_the_file_would_pass_the_limit(
     rt: HostRuntime,
 ) -> Result<(), Fail> {
-    let store = MemStore::new(rt.alloc());
-    let Ok(mut maker) = Maker::<MemStore, Narrow>::new(rt.alloc(), store, 2112) else {
-        return Err(Fail::new("no maker was made"));
-    };
+    let too_big = Answer::Refused(MakeFault::TooBig);
     // What is put, what that answers, and how long the file then is.
     let rows = [
-        (add(b"a", FORTY), Err(MakeFault::TooBig), 2048),
-        (add(b"a", LESS), Ok(ADDED), 2112),
-        (replace(b"a", OTHER), Ok(replaced(1)), 2112),
-        (replace(b"a", FORTY), Err(MakeFault::TooBig), 2112),
-        (add(b"", b""), Err(MakeFault::TooBig), 2112),
+        (add(b"a", FORTY), too_big, 2048),
+        (add(b"a", LESS), ADDED, 2112),
+        (replace(b"a", OTHER), replaced(1), 2112),
+        (replace(b"a", FORTY), too_big, 2112),
+        (add(b"", b""), too_big, 2112),
     ];
-    for (row, (call, answer, size)) in rows.iter().enumerate() {
-        let given = act(&mut maker, call);
-        assert!(rt; given == *answer && maker.size() == *size, "row {row}");
-    }
-    let store = finished(maker)?;
     let wanted = expected::<Narrow>(rt.alloc(), &[add(b"a", OTHER)])?;
-    assert!(rt; store.bytes() == wanted.file.as_slice());
+    for way in [EAGER, LAZY] {
+        let most = Some(64);
+        let store = MemStore::new(rt.alloc());
+        let mut maker: Maker<MemStore, Narrow> = made_in(rt.alloc(), store, Way { most, ..way })?;
+        for (row, (call, given, size)) in rows.iter().enumerate() {
+            let same = answer_of(&mut maker, call) == *given && maker.size() == *size;
+            assert!(rt; same, "{way:?}, row {row}");
+        }
+        let store = finished(maker)?;
+        assert!(rt; store.bytes() == wanted.file.as_slice(), "{way:?}");
+    }
     Ok(())
 }
 

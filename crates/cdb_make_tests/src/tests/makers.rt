@@ -1,4 +1,7 @@
-//! Makers and buffers, for the tests in which nothing refuses them.
+//! Makers, eager and lazy ones, and buffers, for the tests in which nothing refuses them.
+ghost use Rattle.std.specs.Prelude.{◌≤◌};
+ghost use Rattle.cdb_form.specs.Format.Pair.{head_size};
+
 use cdb_form::Width;
 use cdb_make::{MakeFault, Maker};
 use cdb_store::{BufferedStore, Store};
@@ -6,15 +9,74 @@ use std::alloc::Global;
 use std::prelude::*;
 use std::test::Fail;
 
-/// A maker of files as long as the width has them.
+/// How a maker is called.
+#[derive(Clone, Copy, Debug, PartialEq, Eq)]
+pub(super) struct Way {
+    /// It is a lazy one.
+    pub(super) lazy: bool,
+    /// It makes a pass after each seventh call.
+    pub(super) closes: bool,
+    /// How many bytes its file may have more than those of a head. None: as many as the width has them.
+    pub(super) most: Option<u16>,
+}
+
+/// An eager maker.
+pub(super) const EAGER: Way = Way {
+    lazy: false,
+    closes: false,
+    most: None,
+};
+
+/// A lazy maker.
+pub(super) const LAZY: Way = Way {
+    lazy: true,
+    closes: false,
+    most: None,
+};
+
+/// A lazy maker, with passes that nothing makes due.
+pub(super) const CLOSING: Way = Way {
+    lazy: true,
+    closes: true,
+    most: None,
+};
+
+/// The greatest size of a file with so many bytes more than a head has.
+pub(super) fn limit_of<L: Width>(most: Option<u16>) -> u64
+    ensures head { head_size L.WORD ≤ result }
+    ensures words { result ≤ L.GREATEST }
+{
+    let Some(most) = most else {
+        return L::GREATEST;
+    };
+    let head = if L::WORD == 8 { 4096 } else { 2048 };
+    L::GREATEST.min(head + u64::from(most))
+}
+
+/// A maker that is called so.
+pub(super) fn made_in<S: Store + Drop, L: Width>(
+    alloc: Global,
+    store: S,
+    way: Way,
+) -> Result<Maker<S, L>, MakeFault> {
+    let limit = limit_of::<L>(way.most);
+    let made = if way.lazy {
+        Maker::<S, L>::lazy(alloc, store, limit)
+    } else {
+        Maker::<S, L>::new(alloc, store, limit)
+    };
+    match made {
+        Ok(maker) => Ok(maker),
+        Err(refused) => Err(refused.fault),
+    }
+}
+
+/// An eager maker of files as long as the width has them.
 pub(super) fn maker_in<S: Store + Drop, L: Width>(
     alloc: Global,
     store: S,
 ) -> Result<Maker<S, L>, MakeFault> {
-    match Maker::<S, L>::new(alloc, store, L::GREATEST) {
-        Ok(maker) => Ok(maker),
-        Err(refused) => Err(refused.fault),
-    }
+    made_in(alloc, store, EAGER)
 }
 
 /// The store with the file of a maker.

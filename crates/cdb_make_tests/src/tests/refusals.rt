@@ -3,13 +3,11 @@
 // is compared with, or to neither.
 use super::again::{Cause, play};
 use super::appends::run_of;
-use super::batches::{act_on, batch_in, file_of};
-use super::makers::{finished, maker_in};
-use super::scripts::{
-    ADDED, Answer, Call, act, add, exists, expected, long, remove, replace, replaced,
-};
+use super::makers::{EAGER, LAZY, Way, finished, maker_in};
+use super::model::expected;
+use super::scripts::{ADDED, Answer, Call, Step, act, add, exists, remove, replace, replaced};
 use cdb_form::Narrow;
-use cdb_make::{Batch, MakeFault, Maker, Mode, Put};
+use cdb_make::{MakeFault, Maker, Mode};
 use cdb_store::{FuseStore, MemStore, Store};
 use std::alloc::Global;
 use std::prelude::*;
@@ -36,11 +34,12 @@ fn tell(rt: &HostRuntime, came: Came) -> Result<(), Fail> {
 type Row<'a> = (Call<'a>, Answer, u64);
 
 /// What came of a script whose file has so many bytes.
-fn came_of(alloc: Global, script: &[Call], size: usize) -> Result<Came, Fail> {
+fn came_of(alloc: Global, way: Way, script: &[Call], size: usize) -> Result<Came, Fail> {
     let Ok(wanted) = expected::<Narrow>(alloc, script) else {
         return Ok(Came::NoInputs);
     };
-    let played = play(alloc, MemStore::new(alloc), Cause::Memory, script, &wanted)?;
+    let (store, how) = (MemStore::new(alloc), (Cause::Memory, way));
+    let played = play::<_, Narrow>(alloc, store, how, script, &wanted)?;
     let file = played.store.bytes();
     if played.broke || file != wanted.file.as_slice() || file.len() != size {
         return Err(Fail::new("another file"));
@@ -60,34 +59,47 @@ fn adds_tell_refused_memory(rt: HostRuntime) -> Result<(), Fail> {
         add(b"a", b"3"),
         add(b"a", b"4"),
     ];
-    tell(&rt, came_of(rt.alloc(), &script, 2152)?)
+    tell(&rt, came_of(rt.alloc(), EAGER, &script, 2152)?)
 }
 
 #[test]
 fn many_adds_tell_refused_memory(rt: HostRuntime) -> Result<(), Fail> {
     let mut script = [add(b"a", b"1"); 41];
     script[40] = exists(b"a");
-    tell(&rt, came_of(rt.alloc(), &script, 3088)?)
+    tell(&rt, came_of(rt.alloc(), EAGER, &script, 3088)?)
 }
 
+/// A removal of no record. Its look asks for memory to find keys by, and goes on without it.
+const LOOK: Row<'static> = (
+    Call {
+        step: Step::Remove,
+        key: b"zzz",
+        value: b"",
+    },
+    Answer::Removed(0),
+    0,
+);
+
 /// Three records, of which the first is replaced.
-fn order() -> [Row<'static>; 4] {
+fn order() -> [Row<'static>; 5] {
     [
         (add(b"a", b"1"), ADDED, 10),
         (add(b"one", b"Hello"), ADDED, 16),
         (add(b"two", b"Goodbye"), ADDED, 18),
+        LOOK,
         (replace(b"a", b"2"), replaced(1), 44),
     ]
 }
 
 /// Five records, of which three are removed.
-fn gaps() -> [Row<'static>; 7] {
+fn gaps() -> [Row<'static>; 8] {
     [
         (add(b"a", b"1"), ADDED, 10),
         (add(b"one", b"Hello"), ADDED, 16),
         (add(b"a", b"2"), ADDED, 10),
         (add(b"two", b"Goodbye"), ADDED, 18),
         (add(b"a", b"3"), ADDED, 10),
+        LOOK,
         (remove(b"a"), Answer::Removed(3), 34),
         (exists(b"one"), Answer::There(true), 0),
     ]
@@ -95,12 +107,18 @@ fn gaps() -> [Row<'static>; 7] {
 
 #[test]
 fn a_replacement_tells_no_refused_memory(rt: HostRuntime) -> Result<(), Fail> {
-    tell(&rt, came_of(rt.alloc(), &order().map(|row| row.0), 2140)?)
+    tell(
+        &rt,
+        came_of(rt.alloc(), EAGER, &order().map(|row| row.0), 2140)?,
+    )
 }
 
 #[test]
 fn a_removal_and_a_look_tell_no_refused_memory(rt: HostRuntime) -> Result<(), Fail> {
-    tell(&rt, came_of(rt.alloc(), &gaps().map(|row| row.0), 2114)?)
+    tell(
+        &rt,
+        came_of(rt.alloc(), EAGER, &gaps().map(|row| row.0), 2114)?,
+    )
 }
 
 /// A maker of two records in memory.
@@ -233,7 +251,7 @@ fn make(alloc: Global, room: u32, rows: &[Row]) -> Result<Came, Fail> {
 
 #[test]
 fn asks_before_a_replacement(rt: HostRuntime) -> Result<(), Fail> {
-    tell(&rt, make(rt.alloc(), 0, &order()[..3])?)
+    tell(&rt, make(rt.alloc(), 0, &order()[..4])?)
 }
 
 #[test]
@@ -242,19 +260,20 @@ fn asks_with_a_replacement(rt: HostRuntime) -> Result<(), Fail> {
 }
 
 /// Four values of a key, which are replaced by one.
-fn four() -> [Row<'static>; 5] {
+fn four() -> [Row<'static>; 6] {
     [
         (add(b"a", b"1"), ADDED, 10),
         (add(b"a", b"2"), ADDED, 10),
         (add(b"a", b"3"), ADDED, 10),
         (add(b"a", b"4"), ADDED, 10),
+        LOOK,
         (replace(b"a", b"5"), replaced(4), 10),
     ]
 }
 
 #[test]
 fn asks_before_a_replacement_of_four(rt: HostRuntime) -> Result<(), Fail> {
-    tell(&rt, make(rt.alloc(), 0, &four()[..4])?)
+    tell(&rt, make(rt.alloc(), 0, &four()[..5])?)
 }
 
 #[test]
@@ -264,12 +283,12 @@ fn asks_with_a_replacement_of_four(rt: HostRuntime) -> Result<(), Fail> {
 
 #[test]
 fn asks_before_a_removal(rt: HostRuntime) -> Result<(), Fail> {
-    tell(&rt, make(rt.alloc(), 0, &gaps()[..5])?)
+    tell(&rt, make(rt.alloc(), 0, &gaps()[..6])?)
 }
 
 #[test]
 fn asks_with_a_removal(rt: HostRuntime) -> Result<(), Fail> {
-    tell(&rt, make(rt.alloc(), 0, &gaps()[..6])?)
+    tell(&rt, make(rt.alloc(), 0, &gaps()[..7])?)
 }
 
 #[test]
@@ -297,10 +316,8 @@ fn asks_with_a_first_look(rt: HostRuntime) -> Result<(), Fail> {
 
 #[test]
 fn asks_before_a_longer_replacement(rt: HostRuntime) -> Result<(), Fail> {
-    tell(
-        &rt,
-        make(rt.alloc(), 4096, &[(add(b"a", b"1"), ADDED, 10)])?,
-    )
+    let rows = [(add(b"a", b"1"), ADDED, 10), LOOK];
+    tell(&rt, make(rt.alloc(), 4096, &rows)?)
 }
 
 #[test]
@@ -308,6 +325,7 @@ fn asks_with_a_longer_replacement(rt: HostRuntime) -> Result<(), Fail> {
     let value = [b'x'; 1000];
     let rows = [
         (add(b"a", b"1"), ADDED, 10),
+        LOOK,
         (replace(b"a", &value), replaced(1), 1009),
     ];
     tell(&rt, make(rt.alloc(), 4096, &rows)?)
@@ -332,59 +350,8 @@ fn asks_with_a_long_record(rt: HostRuntime) -> Result<(), Fail> {
     tell(&rt, make(rt.alloc(), 32768, &anew(&[b'x'; 10000]))?)
 }
 
-/// Makes a call on a batch, and makes it again if memory was refused to it. Answers whether it was.
-fn act_again(
-    batch: &mut Batch<MemStore, Narrow>,
-    call: &Call,
-    wanted: Answer,
-) -> Result<bool, Fail> {
-    let first = act_on(batch, call);
-    let met = first == Err(MakeFault::NoMemory);
-    let last = if met { act_on(batch, call) } else { first };
-    if last == Ok(wanted) {
-        Ok(met)
-    } else {
-        Err(Fail::new("another answer of a batch"))
-    }
-}
-
-/// The file of a batch, whose finish is made again if memory was refused to it, and whether it was.
-fn file_again(batch: Batch<MemStore, Narrow>) -> Result<(Vec<u8>, bool), Fail> {
-    match batch.finish() {
-        Ok(store) => Ok((store.into_vec(), false)),
-        Err(unsettled) => {
-            if unsettled.fault != MakeFault::NoMemory {
-                return Err(Fail::new("another fault of the finish"));
-            }
-            Ok((file_of(unsettled.batch)?.into_vec(), true))
-        }
-    }
-}
-
-/// What came of a script on a batch.
-fn came_of_batch(alloc: Global, script: &[Call]) -> Result<Came, Fail> {
-    let wanted = expected::<Narrow>(alloc, script);
-    let made = batch_in::<MemStore, Narrow>(alloc, MemStore::new(alloc));
-    let (Ok(wanted), Ok(mut batch)) = (wanted, made) else {
-        return Ok(Came::NoInputs);
-    };
-    let mut met = false;
-    for (call, answer) in script.iter().zip(wanted.answers.iter()) {
-        met = act_again(&mut batch, call, *answer)? || met;
-    }
-    let (file, late) = file_again(batch)?;
-    if file != wanted.file {
-        return Err(Fail::new("another file of a batch"));
-    }
-    Ok(if met || late {
-        Came::NoMemory
-    } else {
-        Came::Whole
-    })
-}
-
 #[test]
-fn a_batch_tells_refused_memory(rt: HostRuntime) -> Result<(), Fail> {
+fn a_lazy_maker_tells_refused_memory(rt: HostRuntime) -> Result<(), Fail> {
     let script = [
         add(b"a", b"1"),
         add(b"one", b"Hello"),
@@ -394,5 +361,5 @@ fn a_batch_tells_refused_memory(rt: HostRuntime) -> Result<(), Fail> {
         add(b"two", b"Goodbye"),
         replace(b"two", b"a longer value"),
     ];
-    tell(&rt, came_of_batch(rt.alloc(), &script)?)
+    tell(&rt, came_of(rt.alloc(), LAZY, &script, 2130)?)
 }

@@ -1,10 +1,12 @@
-//! A maker over a store that refuses memory.
+//! Makers over a store that refuses memory.
 ghost use Rattle.std.specs.Prelude.{◌≡◌, ◌<◌, ◌≤◌, true};
 
-use super::makers::{finished, maker_in, refused_finish};
-use super::scripts::{add, expected};
+use super::drawn::{KEYS, drawn_calls};
+use super::makers::{EAGER, LAZY, Way, finished, made_in, refused_finish};
+use super::model::{Wanted, expected};
+use super::scripts::{Answer, Call, add, answer_of};
 use cdb_form::Narrow;
-use cdb_make::{MakeFault, Maker, Mode};
+use cdb_make::{MakeFault, Maker, Mode, Put};
 use cdb_store::{MemStore, Store, StoreFault};
 use std::alloc::Global;
 use std::prelude::*;
@@ -108,10 +110,10 @@ impl<S: Store> Store for ScarceStore<S> {
 /// A maker over such a store.
 type Held = Maker<ScarceStore<MemStore>, Narrow>;
 
-/// A maker of two records, to which memory is refused three times then.
-fn two_records(alloc: Global) -> Result<Held, Fail> {
-    let store = ScarceStore::new(MemStore::new(alloc), 2048 + 16 + 18, 3);
-    let mut maker: Held = maker_in(alloc, store)?;
+/// A maker of two records, to which memory is refused so often then.
+fn two_records(alloc: Global, way: Way, refusals: u32) -> Result<Held, Fail> {
+    let store = ScarceStore::new(MemStore::new(alloc), 2048 + 16 + 18, u64::from(refusals));
+    let mut maker: Held = made_in(alloc, store, way)?;
     maker.put(Mode::Add, b"one", b"Hello")?;
     maker.put(Mode::Add, b"two", b"Goodbye")?;
     Ok(maker)
@@ -132,17 +134,70 @@ fn with_one_more(mut maker: Held) -> Result<Vec<u8>, Fail> {
 
 #[test]
 fn refused_memory_leaves_what_was_held(rt: HostRuntime) -> Result<(), Fail> {
-    let mut maker = two_records(rt.alloc())?;
-    assert!(rt; refuses_puts(&mut maker));
-    let maker = refused_finish(maker, MakeFault::NoMemory)?;
-    assert!(rt; !maker.is_broken() && maker.count() == 2);
-    let file = with_one_more(maker)?;
-    let calls = [
-        add(b"one", b"Hello"),
-        add(b"two", b"Goodbye"),
-        add(b"a", b"1"),
-    ];
+    // A lazy maker asks for a replacement twice: for its record beside those that go, and without them.
+    for (way, refusals) in [(EAGER, 3), (LAZY, 4)] {
+        let mut maker = two_records(rt.alloc(), way, refusals)?;
+        assert!(rt; refuses_puts(&mut maker), "{way:?}");
+        let maker = refused_finish(maker, MakeFault::NoMemory)?;
+        assert!(rt; !maker.is_broken() && maker.count() == 2, "{way:?}");
+        let file = with_one_more(maker)?;
+        let calls = [
+            add(b"one", b"Hello"),
+            add(b"two", b"Goodbye"),
+            add(b"a", b"1"),
+        ];
+        let wanted = expected::<Narrow>(rt.alloc(), &calls)?;
+        assert!(rt; file == wanted.file && file.len() == 2140, "{way:?}");
+    }
+    Ok(())
+}
+
+#[test]
+fn a_pass_makes_room_for_a_record(rt: HostRuntime) -> Result<(), Fail> {
+    let mut maker = two_records(rt.alloc(), LAZY, 1)?;
+    assert!(rt; maker.remove(b"one") == Ok(1));
+    assert!(rt; maker.put(Mode::Add, b"a", b"1") == Ok(Put::Added));
+    assert!(rt; maker.count() == 2);
+    let calls = [add(b"two", b"Goodbye"), add(b"a", b"1")];
     let wanted = expected::<Narrow>(rt.alloc(), &calls)?;
-    assert!(rt; file == wanted.file && file.len() == 2140);
+    assert!(rt; finished(maker)?.inner.into_vec() == wanted.file);
+    Ok(())
+}
+
+/// Makes the calls of a script on a lazy maker to whose store memory is refused once, when it is so
+/// long. A call to which it was refused is made again. It is to come to what is wanted.
+fn comes_to_it(alloc: Global, calls: &[Call], wanted: &Wanted, from: u64) -> Result<(), Fail> {
+    let store = ScarceStore::new(MemStore::new(alloc), from, 1);
+    let mut maker: Held = made_in(alloc, store, LAZY)?;
+    for (call, expected) in calls.iter().zip(wanted.answers.iter()) {
+        let mut given = answer_of(&mut maker, call);
+        if given == Answer::Refused(MakeFault::NoMemory) {
+            given = answer_of(&mut maker, call);
+        }
+        if given != *expected {
+            return Err(Fail::new("another answer"));
+        }
+    }
+    let store = match maker.finish() {
+        Ok(store) => store,
+        Err(unfinished) => finished(unfinished.maker)?,
+    };
+    if store.inner.into_vec() == wanted.file {
+        Ok(())
+    } else {
+        Err(Fail::new("another file"))
+    }
+}
+
+#[test]
+fn refused_memory_leaves_drawn_scripts(rt: HostRuntime) -> Result<(), Fail> {
+    let mut state = 0xd6e8feb86659fd93;
+    for _ in 0..300u32 {
+        let calls = drawn_calls(rt.alloc(), &mut state, &KEYS, 3, 16)?;
+        let wanted = expected::<Narrow>(rt.alloc(), &calls)?;
+        for step in 0..12u64 {
+            comes_to_it(rt.alloc(), &calls, &wanted, 2049 + 40 * step)?;
+        }
+    }
     Ok(())
 }

@@ -1,5 +1,6 @@
-//! Scripts of calls to a maker, and what a plain list of records makes of them.
-use super::makers::{finished, maker_in};
+//! Scripts of calls to a maker, which come to what a plain list of records does.
+use super::makers::{CLOSING, EAGER, LAZY, Way, finished, made_in};
+use super::model::{Wanted, expected, expected_within};
 use cdb_form::Width;
 use cdb_make::{MakeFault, Maker, Mode, Put};
 use cdb_store::{FuseStore, MemStore, Store};
@@ -16,6 +17,8 @@ pub(super) enum Step {
     Remove,
     /// It is looked for.
     Exists,
+    /// Two records of other keys are appended at once.
+    Append,
 }
 
 /// A call of a script.
@@ -38,6 +41,10 @@ pub(super) enum Answer {
     Removed(u64),
     /// Whether the key is there.
     There(bool),
+    /// How many bytes the records have that were appended.
+    Appended(usize),
+    /// Nothing but a fault.
+    Refused(MakeFault),
 }
 
 /// A record was appended, and nothing else was done.
@@ -60,17 +67,6 @@ pub(super) struct Made {
     /// How long their file was to be.
     pub(super) size: u64,
     /// The finished file.
-    pub(super) file: Vec<u8>,
-}
-
-/// What a script should come to.
-#[derive(Drop)]
-pub(super) struct Wanted {
-    /// What its calls should answer.
-    pub(super) answers: Vec<Answer>,
-    /// How many records then stand.
-    pub(super) count: u64,
-    /// Their file, made from scratch.
     pub(super) file: Vec<u8>,
 }
 
@@ -108,6 +104,13 @@ pub(super) fn exists(key: &[u8]) -> Call {
     }
 }
 
+/// The records that an append has, as they are in a narrow file, and a byte more.
+const NARROW_RUN: &[u8] = b"\x03\0\0\0\x01\0\0\0one!\x01\0\0\0\0\0\0\0a?";
+
+/// The same in a wide file.
+const WIDE_RUN: &[u8] =
+    b"\x03\0\0\0\0\0\0\0\x01\0\0\0\0\0\0\0one!\x01\0\0\0\0\0\0\0\0\0\0\0\0\0\0\0a?";
+
 /// Makes a call.
 pub(super) fn act<S: Store, L: Width>(
     maker: &mut Maker<S, L>,
@@ -117,18 +120,33 @@ pub(super) fn act<S: Store, L: Width>(
         Step::Put(mode) => Ok(Answer::Put(maker.put(mode, call.key, call.value)?)),
         Step::Remove => Ok(Answer::Removed(maker.remove(call.key)?)),
         Step::Exists => Ok(Answer::There(maker.exists(call.key)?)),
+        Step::Append => {
+            let run = if L::WORD == 8 { WIDE_RUN } else { NARROW_RUN };
+            Ok(Answer::Appended(maker.append(run)?))
+        }
+    }
+}
+
+/// Makes a call, and answers its fault if it fails.
+pub(super) fn answer_of<S: Store, L: Width>(maker: &mut Maker<S, L>, call: &Call) -> Answer {
+    match act(maker, call) {
+        Ok(answer) => answer,
+        Err(fault) => Answer::Refused(fault),
     }
 }
 
 /// Makes the calls of a script, and finishes the file.
-fn run<L: Width>(alloc: Global, calls: &[Call]) -> Result<Made, Fail> {
+fn run<L: Width>(alloc: Global, calls: &[Call], way: Way) -> Result<Made, Fail> {
     let store = FuseStore::new(MemStore::new(alloc), u64::MAX, 0);
-    let mut maker = maker_in::<FuseStore<MemStore>, L>(alloc, store)?;
+    let mut maker = made_in::<FuseStore<MemStore>, L>(alloc, store, way)?;
     let (mut answers, mut wrote) = (Vec::new(alloc), Vec::new(alloc));
-    for call in calls {
+    for (number, call) in calls.iter().enumerate() {
         let before = maker.store().written();
-        answers.push(act(&mut maker, call)?)?;
+        answers.push(answer_of(&mut maker, call))?;
         wrote.push(maker.store().written().saturating_sub(before))?;
+        if way.closes && number % 7 == 6 {
+            maker.close_all()?;
+        }
     }
     let (count, size) = (maker.count(), maker.size());
     let before = maker.store().written();
@@ -141,59 +159,6 @@ fn run<L: Width>(alloc: Global, calls: &[Call]) -> Result<Made, Fail> {
         size,
         file: store.into_inner().into_vec(),
     })
-}
-
-/// What a call should answer where some earlier calls' records stand, and whether its own does
-/// then. Those that it takes out are struck.
-fn expect(earlier: &[Call], stands: &mut [bool], call: &Call) -> (Answer, bool) {
-    let takes_out = call.step == Step::Remove || call.step == Step::Put(Mode::Replace);
-    let mut count = 0u64;
-    for (mark, other) in stands.iter_mut().zip(earlier.iter()) {
-        if *mark && other.key == call.key {
-            count = count.saturating_add(1);
-            *mark = !takes_out;
-        }
-    }
-    match call.step {
-        Step::Exists => (Answer::There(count > 0), false),
-        Step::Remove => (Answer::Removed(count), false),
-        Step::Put(Mode::Insert) if count > 0 => (Answer::Put(Put::Present), false),
-        Step::Put(Mode::Warn) if count > 0 => (Answer::Put(Put::AddedAgain), true),
-        Step::Put(Mode::Replace) if count > 0 => (Answer::Put(Put::Replaced(count)), true),
-        Step::Put(_) => (Answer::Put(Put::Added), true),
-    }
-}
-
-/// What a script should come to.
-pub(super) fn expected<L: Width>(alloc: Global, calls: &[Call]) -> Result<Wanted, MakeFault> {
-    let (mut answers, mut stands) = (Vec::new(alloc), Vec::new(alloc));
-    for call in calls {
-        let (answer, stays) = expect(calls, &mut stands, call);
-        answers.push(answer)?;
-        stands.push(stays)?;
-    }
-    let file = from_scratch::<L>(alloc, calls, &stands)?;
-    let count = stands.iter().filter(|mark| **mark).count() as u64;
-    Ok(Wanted {
-        answers,
-        count,
-        file,
-    })
-}
-
-/// The file of the records that stand, made by adding them.
-fn from_scratch<L: Width>(
-    alloc: Global,
-    calls: &[Call],
-    stands: &[bool],
-) -> Result<Vec<u8>, MakeFault> {
-    let mut maker = maker_in::<MemStore, L>(alloc, MemStore::new(alloc))?;
-    for (call, mark) in calls.iter().zip(stands.iter()) {
-        if *mark {
-            maker.put(Mode::Add, call.key, call.value)?;
-        }
-    }
-    Ok(finished(maker)?.into_vec())
 }
 
 impl Made {
@@ -213,15 +178,46 @@ impl Made {
     }
 }
 
-/// Runs a script, which is to come to what a plain list of records does.
-pub(super) fn comes_to<L: Width>(alloc: Global, calls: &[Call]) -> Result<Made, Fail> {
-    let made = run::<L>(alloc, calls)?;
-    let other = made.other_than(&expected::<L>(alloc, calls)?);
+/// Runs a script, which is to come to what is wanted.
+fn run_to<L: Width>(
+    alloc: Global,
+    calls: &[Call],
+    way: Way,
+    wanted: &Wanted,
+) -> Result<Made, Fail> {
+    let made = run::<L>(alloc, calls, way)?;
+    let other = made.other_than(wanted);
     if other.is_empty() {
         Ok(made)
     } else {
         Err(Fail::new(other))
     }
+}
+
+/// Runs a script on an eager maker, which is to come to what a plain list of records does.
+pub(super) fn comes_to<L: Width>(alloc: Global, calls: &[Call]) -> Result<Made, Fail> {
+    run_to::<L>(alloc, calls, EAGER, &expected::<L>(alloc, calls)?)
+}
+
+/// The same of a lazy maker.
+pub(super) fn comes_late_to<L: Width>(alloc: Global, calls: &[Call]) -> Result<Made, Fail> {
+    run_to::<L>(alloc, calls, LAZY, &expected::<L>(alloc, calls)?)
+}
+
+/// Runs a script on makers of each way, whose files may have so many bytes more than a head has. Each
+/// is to come to what a plain list of records does. Answers how many calls were refused.
+pub(super) fn all_come_to<L: Width>(
+    alloc: Global,
+    calls: &[Call],
+    most: Option<u16>,
+) -> Result<u64, Fail> {
+    let wanted = expected_within::<L>(alloc, calls, most)?;
+    for way in [EAGER, LAZY, CLOSING] {
+        run_to::<L>(alloc, calls, Way { most, ..way }, &wanted)?;
+    }
+    let too_big = Answer::Refused(MakeFault::TooBig);
+    let answers = wanted.answers.iter();
+    Ok(answers.filter(|answer| **answer == too_big).count() as u64)
 }
 
 /// Whether these words of 4 bytes stand in a file from a place on, and nothing behind them.

@@ -1,13 +1,14 @@
 //! Records of a key, taken out from between others.
-use super::scripts::{Call, add, comes_to, exists, long, remove};
-use cdb_form::{Narrow, hash};
+use super::scripts::{Call, add, all_come_to, exists, long, remove, replace};
+use cdb_form::{Narrow, Wide, hash};
 use std::alloc::Global;
 use std::prelude::*;
 use std::test::Fail;
 
 /// Runs a script, which is to leave the records that a plain list has.
 fn leaves(alloc: Global, calls: &[Call]) -> Result<(), Fail> {
-    comes_to::<Narrow>(alloc, calls)?;
+    all_come_to::<Narrow>(alloc, calls, None)?;
+    all_come_to::<Wide>(alloc, calls, None)?;
     Ok(())
 }
 
@@ -40,6 +41,29 @@ fn several_gaps_are_closed_round_long_records(rt: HostRuntime) -> Result<(), Fai
         remove(b"gone"),
     ];
     leaves(rt.alloc(), &calls)
+}
+
+#[test]
+fn records_at_both_ends_are_taken_out(rt: HostRuntime) -> Result<(), Fail> {
+    // The last goes before the first, between them a look, and then records that follow.
+    let calls = [
+        add(b"one", b"1"),
+        add(b"two", b"22"),
+        add(b"a", b"333"),
+        add(b"bc", b"4"),
+        remove(b"bc"),
+        exists(b"bc"),
+        remove(b"one"),
+        exists(b"one"),
+        exists(b"two"),
+        add(b"one", b"5"),
+        replace(b"two", b"6"),
+        exists(b"bc"),
+    ];
+    for len in 5..13usize {
+        leaves(rt.alloc(), calls.get(..len).unwrap_or(&[]))?;
+    }
+    Ok(())
 }
 
 #[test]

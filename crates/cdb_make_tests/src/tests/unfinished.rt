@@ -1,7 +1,9 @@
 //! Databases that are not finished, and looks that fail at the limit.
-use super::makers::{finished, maker_in};
+use super::makers::{EAGER, LAZY, Way, finished, made_in};
+use super::model::expected;
+use super::scripts::add;
 use cdb_form::{Narrow, Wide, Width};
-use cdb_make::{MakeFault, Maker, Mode};
+use cdb_make::{MakeFault, Maker, Mode, Put};
 use cdb_store::{FuseStore, MemStore};
 use std::alloc::Global;
 use std::prelude::*;
@@ -15,8 +17,8 @@ fn ones<L: Width>(maker: &Maker<MemStore, L>) -> usize {
 
 /// How many bytes of all ones stand at the start of a store after each of five calls, and once it
 /// is finished.
-fn ones_after_calls<L: Width>(alloc: Global) -> Result<[usize; 6], Fail> {
-    let mut maker = maker_in::<MemStore, L>(alloc, MemStore::new(alloc))?;
+fn ones_after_calls<L: Width>(alloc: Global, way: Way) -> Result<[usize; 6], Fail> {
+    let mut maker = made_in::<MemStore, L>(alloc, MemStore::new(alloc), way)?;
     let begun = ones(&maker);
     maker.put(Mode::Add, b"a", b"1")?;
     let added = ones(&maker);
@@ -33,37 +35,86 @@ fn ones_after_calls<L: Width>(alloc: Global) -> Result<[usize; 6], Fail> {
 
 #[test]
 fn the_head_is_all_ones_until_the_finish(rt: HostRuntime) -> Result<(), Fail> {
-    let narrow = ones_after_calls::<Narrow>(rt.alloc())?;
-    let wide = ones_after_calls::<Wide>(rt.alloc())?;
-    assert!(rt; narrow == [2048, 2048, 2048, 2048, 2048, 0]);
-    assert!(rt; wide == [4096, 4096, 4096, 4096, 4096, 0]);
+    for way in [EAGER, LAZY] {
+        let narrow = ones_after_calls::<Narrow>(rt.alloc(), way)?;
+        let wide = ones_after_calls::<Wide>(rt.alloc(), way)?;
+        assert!(rt; narrow == [2048, 2048, 2048, 2048, 2048, 0], "{way:?}");
+        assert!(rt; wide == [4096, 4096, 4096, 4096, 4096, 0], "{way:?}");
+    }
     Ok(())
 }
 
 /// A maker with one record, at a limit that leaves no room for another, over a store that fails the
-/// call behind so many.
-fn full_maker(alloc: Global, calls: u64) -> Result<Maker<FuseStore<MemStore>, Narrow>, MakeFault> {
+/// call after so many.
+fn full_maker(
+    alloc: Global,
+    way: Way,
+    calls: u64,
+) -> Result<Maker<FuseStore<MemStore>, Narrow>, MakeFault> {
     let fuse = FuseStore::new(MemStore::new(alloc), calls, 0);
-    let mut maker = match Maker::<FuseStore<MemStore>, Narrow>::new(alloc, fuse, 2074) {
-        Ok(maker) => maker,
-        Err(refused) => return Err(refused.fault),
-    };
+    let most = Some(26);
+    let mut maker = made_in::<_, Narrow>(alloc, fuse, Way { most, ..way })?;
     maker.put(Mode::Add, b"a", b"1")?;
     Ok(maker)
 }
 
 #[test]
 fn a_failed_look_is_told_before_the_limit(rt: HostRuntime) -> Result<(), Fail> {
-    let mut whole = full_maker(rt.alloc(), u64::MAX)?;
-    let calls = whole.store().calls();
-    assert!(rt; whole.put(Mode::Warn, b"a", b"2") == Err(MakeFault::TooBig));
-    for mode in [Mode::Warn, Mode::Insert, Mode::Replace] {
-        let mut failing = full_maker(rt.alloc(), calls)?;
-        assert!(rt; failing.put(mode, b"a", b"23") == Err(MakeFault::Lookup));
+    for way in [EAGER, LAZY] {
+        let mut whole = full_maker(rt.alloc(), way, u64::MAX)?;
+        let calls = whole.store().calls();
+        assert!(rt;
+            whole.put(Mode::Warn, b"a", b"2") == Err(MakeFault::TooBig),
+            "{way:?}"
+        );
+        for mode in [Mode::Warn, Mode::Insert, Mode::Replace] {
+            let mut failing = full_maker(rt.alloc(), way, calls)?;
+            let answer = failing.put(mode, b"a", b"23");
+            assert!(rt; answer == Err(MakeFault::Lookup), "{way:?}, {mode:?}");
+        }
+        // One that looks for nothing makes no call.
+        let mut failing = full_maker(rt.alloc(), way, calls)?;
+        let answer = failing.put(Mode::Add, b"a", b"2");
+        assert!(rt;
+            answer == Err(MakeFault::TooBig) && failing.store().calls() == calls,
+            "{way:?}"
+        );
     }
-    // One that looks for nothing makes no call.
-    let mut failing = full_maker(rt.alloc(), calls)?;
-    assert!(rt; failing.put(Mode::Add, b"a", b"2") == Err(MakeFault::TooBig));
-    assert!(rt; failing.store().calls() == calls);
+    Ok(())
+}
+
+/// A maker with two records of a key, over a store that fails the call after so many.
+fn two_of_a_key(
+    alloc: Global,
+    way: Way,
+    calls: u64,
+) -> Result<Maker<FuseStore<MemStore>, Narrow>, MakeFault> {
+    let fuse = FuseStore::new(MemStore::new(alloc), calls, 0);
+    let mut maker = made_in::<_, Narrow>(alloc, fuse, way)?;
+    maker.put(Mode::Add, b"a", b"1")?;
+    maker.put(Mode::Add, b"a", b"2")?;
+    Ok(maker)
+}
+
+#[test]
+fn what_a_failed_look_has_found_stays(rt: HostRuntime) -> Result<(), Fail> {
+    let calls = [add(b"a", b"1"), add(b"a", b"2"), add(b"one", b"3")];
+    let wanted = expected::<Narrow>(rt.alloc(), &calls)?;
+    for way in [EAGER, LAZY] {
+        let before = two_of_a_key(rt.alloc(), way, u64::MAX)?.store().calls();
+        // It reads the newer record, and fails at the older one.
+        let mut maker = two_of_a_key(rt.alloc(), way, before.saturating_add(1))?;
+        assert!(rt; maker.remove(b"a") == Err(MakeFault::Lookup), "{way:?}");
+        assert!(rt;
+            maker.put(Mode::Add, b"one", b"3") == Ok(Put::Added),
+            "{way:?}"
+        );
+        assert!(rt;
+            maker.count() == 3 && maker.remove(b"two") == Ok(0),
+            "{way:?}"
+        );
+        let file = finished(maker)?.into_inner().into_vec();
+        assert!(rt; file == wanted.file, "{way:?}");
+    }
     Ok(())
 }
