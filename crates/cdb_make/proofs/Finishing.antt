@@ -43,7 +43,7 @@ none_size {l = l} m e =
     let spans = spans_of (head_size l.WORD) m.end (places_in m.places) m.spans in
     m.picked.size spans.sizes spans.of ∙ ap sum (picked_none (gone_of m.marks.items) spans.sizes (number_zero (gone_of m.marks.items) (sym m.picked.count ∙ e)))
 
-found_size : {L : Type 0} {l : Widths L} (m : Roll L l) → m.found.count ≡ 0 → m.found.size ≡ 0
+pub found_size : {L : Type 0} {l : Widths L} (m : Roll L l) → m.found.count ≡ 0 → m.found.size ≡ 0
 found_size {l = l} m e =
     let spans = spans_of (head_size l.WORD) m.end (places_in m.places) m.spans in
     m.sought.size spans.sizes spans.of ∙ ap sum (picked_none (found_of m.marks.items) spans.sizes (number_zero (found_of m.marks.items) (sym m.sought.count ∙ e)))

@@ -6,6 +6,18 @@ use std::alloc::AllocError;
 /// How many more there is room for at least, once there was none.
 const LEAST: usize = 64;
 
+/// Makes room for a quarter more than there are, and some.
+#[cold]
+#[inline(never)]
+fn grow<T: Copy>(items: &mut Vec<T>) -> Result<(), AllocError>
+    requires { vec_capacity items.old ≤ length items.old.items }
+    ensures items { items.new.items ≡ items.old.items }
+    ensures ok { OnOk result (length items.new.items < vec_capacity items.new) }
+    ensures room { vec_capacity items.old ≤ vec_capacity items.new }
+{
+    items.reserve_exact(items.len() / 4 + LEAST)
+}
+
 /// Makes room for one more: where there is none, for a quarter more than there are. So at most the
 /// fifth part of a long vector is spare. If memory is refused, nothing has changed.
 #[inline(always)]
@@ -18,5 +30,5 @@ pub(crate) fn reserve_one<T: Copy>(items: &mut Vec<T>) -> Result<(), AllocError>
     if items.len() < items.capacity() {
         return Ok(());
     }
-    items.reserve_exact(items.len() / 4 + LEAST)
+    grow(items)
 }

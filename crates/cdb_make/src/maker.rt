@@ -27,7 +27,8 @@ pub(crate) struct Counts {
 /// Makes a database in a store: each record is written as it is put.
 ///
 /// The store holds the records one after another, from the end of the head on. Of each the maker
-/// keeps the hash of its key, its place and its mark: 9 bytes, or 13 if words are wide.
+/// keeps the hash of its key, its place and its mark: 9 bytes, or 13 if words are wide. Of the bytes
+/// of all records at most half, and 2 MiB, are of records that go with a later pass.
 #[derive(Drop)]
 pub struct Maker<S: Store, L: Width> {
     pub(crate) alloc: Global,
@@ -47,6 +48,7 @@ pub struct Maker<S: Store, L: Width> {
     ghost limited: { limit ≤ L.GREATEST },
     ghost told: { counted.size ≤ limit },
     ghost eager: { lazy ≡ false → broken ≡ false → AreNone (gone_of roll.marks.items) },
+    ghost spare: { broken ≡ false → 2 * roll.gone.size ≤ roll.end + 4194304 },
 }
 
 impl<S: Store, L: Width> Maker<S, L> {

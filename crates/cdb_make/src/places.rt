@@ -92,6 +92,7 @@ impl<L: Width> Places<L> {
     }
 
     /// Makes room for one more. If memory is refused, they stay.
+    #[inline(always)]
     pub(crate) fn reserve(&mut self) -> Result<(), AllocError>
         ensures places { places_in self.new ≡ places_in self.old }
         ensures ok { OnOk result (length (places_in self.new) < places_room self.new) }

@@ -30,6 +30,8 @@ impl<S: Store, L: Width> Maker<S, L> {
     /// Whether records that are taken out wait for a later pass.
     pub(crate) fn waits(&self) -> bool
         ensures lazy { result ≡ true → self.now.lazy ≡ true }
+        ensures spare { result ≡ true → 2 * (self.now.roll.gone.size + self.now.roll.found.size)
+            ≤ self.now.roll.end + 4194304 }
         ensures due { result ≡ false → self.now.lazy ≡ true → self.now.roll.end + 4194304
             < 2 * (self.now.roll.gone.size + self.now.roll.found.size) }
     {

@@ -115,6 +115,7 @@ impl<L: Width> Roll<L> {
         ensures hashes { result.hashes.items ≡ [] }
         ensures places { places_in result.places ≡ [] }
         ensures marks { result.marks.items ≡ [] }
+        ensures gone { result.gone.size ≡ 0 }
         ensures end { result.end ≡ head_size L.WORD }
     {
         Roll {
@@ -184,6 +185,7 @@ impl<L: Width> Roll<L> {
     }
 
     /// Makes room for one more record. If memory is refused, nothing has changed.
+    #[inline(always)]
     pub(crate) fn reserve(&mut self) -> Result<(), AllocError>
         ensures room { OnOk result (HasRoom self.new) }
         ensures full { OnErr result (HasRoom self.old → ⊥) }

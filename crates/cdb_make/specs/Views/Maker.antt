@@ -101,6 +101,9 @@ pub record Adds {S L : Type 0} {s : Ghosts S} {l : Widths L} (old new : Maker S 
   pub gone : gone_in new ≡ gone_in old ++ false ∷ []
   pub found : found_in new ≡ found_in old ++ false ∷ []
   pub hashes : new.roll.hashes.items ≡ old.roll.hashes.items ++ hash ∷ []
+  pub gone_size : new.roll.gone.size ≡ old.roll.gone.size
+  pub found_size : new.roll.found.size ≡ old.roll.found.size
+  pub end : new.roll.end ≡ old.roll.end + record_size l.WORD r
   pub broken : new.broken ≡ old.broken
   pub written : s.written new.store ≡ s.written old.store + record_size l.WORD r
 

@@ -102,6 +102,9 @@ returns-clause-adds g c =
       gone = c.push.ensures.gone ∙ ap (λ v. gone_of v ++ _) c.reserve.ensures.marks;
       found = c.push.ensures.found ∙ ap (λ v. found_of v ++ _) c.reserve.ensures.marks;
       hashes = c.push.ensures.hashes ∙ ap (λ (v : List ℕ). v ++ c.args.hash ∷ []) same.hashes;
+      gone_size = c.push.ensures.size ∙ ap (λ q. q.size) c.reserve.ensures.gone;
+      found_size = c.push.ensures.found_size ∙ ap (λ q. q.size) c.reserve.ensures.found;
+      end = omega (arith, c.push.ensures.end, size, same.end);
       broken = refl;
       written = c.in_ok-append_record.ensures.ok.written ∙ ap (λ (n : ℕ). g.S.Store.written m.store + n) (length-record_bytes w r);
     }

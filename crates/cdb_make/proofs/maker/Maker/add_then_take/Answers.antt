@@ -1,7 +1,8 @@
-use Rattle.std.proofs.Common.{refl, sym, subst, ◌∙◌}
+use Rattle.std.proofs.Common.{inl, inr, refl, sym, subst, ap, arith, ◌∙◌}
 use Rattle.std.proofs.lemmas.Result.{on_ok_weaker}
 use Rattle.cdb_form.specs.Format.Record.{KeyValue}
 use Rattle.cdb_make.specs.Marks.{AreNone}
+use Rattle.cdb_make.proofs.Bytes.Written.{on_any_ok}
 use Rattle.cdb_make.proofs.Rolls.{follows_then, if_err_weaker}
 use Rattle.cdb_make.proofs.Settling.{have_more, taken_clear, settles_later, settles_after, fails_after}
 use Rattle.cdb_make.proofs.maker.Maker.add_then_take.Goals as goal
@@ -16,12 +17,12 @@ pub invariant_of-self-clause-eager : goal.invariant_of-self-clause-eager
 invariant_of-self-clause-eager g c = λ eager whole.
     let r : KeyValue = record { key = c.args.key.now; value = c.args.value.now } in
     let a = c.in_ok-add_before.ensures.done c.if-branch.true in
-    subst AreNone (sym c.take.ensures.gone) (taken_clear c.args.self.now c.add_before.new.self c.args.hash r c.requires.first c.requires.whole a (sym c.add_before.ensures.follows.lazy ∙ eager))
+    subst AreNone (sym c.take.ensures.gone) (taken_clear c.args.self.now c.add_before.new.self c.args.hash r (inl c.requires.lazy) c.requires.whole a (sym c.add_before.ensures.follows.lazy ∙ eager))
 
 pub returns-then-branch-clause-settles : goal.returns-then-branch-clause-settles
 returns-then-branch-clause-settles g c =
     let r : KeyValue = record { key = c.args.key.now; value = c.args.value.now } in
-    settles_later c.args.self.now c.add_before.new.self _ c.args.hash r c.requires.first c.requires.whole (c.in_ok-add_before.ensures.done c.if-branch.true) refl refl c.take.ensures.same c.take.ensures.gone
+    settles_later c.args.self.now c.add_before.new.self _ c.args.hash r (inl c.requires.lazy) c.requires.whole (c.in_ok-add_before.ensures.done c.if-branch.true) refl refl c.take.ensures.same c.take.ensures.gone
 
 pub returns-clause-settles : goal.returns-clause-settles
 returns-clause-settles g c =
@@ -31,7 +32,16 @@ returns-clause-settles g c =
 pub returns-clause-fails : goal.returns-clause-fails
 returns-clause-fails g c =
     let r : KeyValue = record { key = c.args.key.now; value = c.args.value.now } in
-    if_err_weaker c.close_and_add.result (λ fault. fails_after c.args.self.now c.add_before.new.self c.close_and_add.new.self r fault (c.in_ok-add_before.ensures.waits c.if-branch.false) c.add_before.ensures.follows.room c.add_before.ensures.follows.unwritten c.requires.fits (c.takes_none.ensures.some c.if-takes_none.false)) c.close_and_add.ensures.fails
+    if_err_weaker c.close_and_add.result (λ fault. fails_after c.args.self.now c.add_before.new.self c.close_and_add.new.self r fault (c.in_ok-add_before.ensures.waits c.if-branch.false) c.add_before.ensures.follows.room c.add_before.ensures.follows.unwritten c.requires.fits (let w = c.in_ok-add_before.ensures.waits c.if-branch.false in omega (arith, c.requires.some, ap (λ q. q.count) w.stays.gone, ap (λ q. q.count) w.stays.found))) c.close_and_add.ensures.fails
 
 pub returns-clause-follows : goal.returns-clause-follows
 returns-clause-follows g c = follows_then c.args.self.now c.add_before.new.self c.close_and_add.new.self c.add_before.ensures.follows c.close_and_add.ensures.follows
+
+pub invariant_of-self-clause-spare : goal.invariant_of-self-clause-spare
+invariant_of-self-clause-spare g c = λ whole. (let a = c.in_ok-add_before.ensures.done c.if-branch.true in omega (arith, c.requires.spare, a.gone_size, a.found_size, a.end, c.take.ensures.size, c.take.ensures.same.end))
+
+pub returns-then-branch-clause-alone : goal.returns-then-branch-clause-alone
+returns-then-branch-clause-alone g c = inl (c.in_ok-add_before.ensures.done c.if-branch.true).written
+
+pub returns-clause-alone : goal.returns-clause-alone
+returns-clause-alone g c = on_any_ok c.close_and_add.result (inr (λ lazy. inr (c.in_ok-add_before.ensures.waits c.if-branch.false).short))
