@@ -71,6 +71,8 @@ ALIKE = {
     "a difference of many records": [of_two(it) for it in (FEW, MANY)],
     "statistics of many records": [of_file(words("-s"), it) for it in (FEW, MANY)],
 }
+# A roll grows by a quarter, so that all that it asks for is so many times as much as it has in the end.
+GROWN = 7
 # A run, the most asks, and the most bytes.
 BOUNDED = {
     "a list": (of_file(words("-l"), LONG_VALUE), 200, SMALL),
@@ -78,17 +80,18 @@ BOUNDED = {
     "a check of many records": (of_file(words("-k"), MANY), 10_000, 4 * 13 * 20_000 + SMALL),
     "a load of a short database": (Command(["-s"], SHORT_VALUE), 200, SMALL),
     "a load of a long database": (Command(["-s"], LONG_VALUE), 200, 4 * LONG + SMALL),
-    "a create of many records": (Command(["-c", "x"], text_of(records(300_000))), 10_000, 4 * 8 * 300_000 + SMALL),
+    "a create of many records": (Command(["-c", "x"], text_of(records(300_000))), 10_000, GROWN * 9 * 300_000 + SMALL),
     "a create that looks for keys": (Command(["-cu", "x"], text_of(records(20_000))), 10_000, 4 * 20 * 20_000 + 2 * SMALL),
     "a create of many inputs": (Command(["-c", "x", *INPUTS], b"", dict.fromkeys(INPUTS, b"\n")), 10_000, WINDOW * len(INPUTS) + SMALL),
 }
 # A run that ends by a fault, one that goes on there, and the most bytes that it asks for behind it. A
-# finish has room for the slots of one table, here 374 of 32 bytes, and not for all 40,000.
+# finish has room for the slots of one table, here 374 of 32 bytes, and not for all 40,000; and for the
+# entries of 32 tables, an eighth of all, of 8 bytes.
 FURTHER = {
     "the finish of a create": (
         Command(["-c", "x"], text_of(records(20_000))[:-1]),
         Command(["-c", "x"], text_of(records(20_000))),
-        20_000,
+        40_000,
     ),
 }
 # A run, and the most memory that it may have at once, the program and its library too.
