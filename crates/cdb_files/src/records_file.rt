@@ -153,7 +153,7 @@ pub fn make_file_in<L: Width, N: Names>(
         (FailsMaking temporary.now name.now (N.calls names.old) (N.calls names.new)) }
     // The fault of the maker is the one that it answered.
     ensures build { IfErr result (IsOfBuilding (FailsToMake N.File.RawFile L.WORD L.GREATEST records.now
-        temporary.now (N.calls names.new))) }
+        temporary.now (N.calls names.old) (N.calls names.new))) }
     // A crash at any moment leaves the old file or the database of the records, if the names are of
     // two files. A rename comes only after the system answered so.
     ensures any_moment { AtEachMoment (LeavesOldOrNew temporary.now name.now (IsFileOf L.WORD records.now)
@@ -194,7 +194,7 @@ pub fn make_file<L: Width, N: Names>(
         (N.calls names.old) (N.calls names.new)) }
     // The fault of the maker is the one that it answered.
     ensures build { IfErr result (IsOfBuilding (FailsToMake N.File.RawFile L.WORD L.GREATEST records.now
-        (name.now ++ codes ".tmp") (N.calls names.new))) }
+        (name.now ++ codes ".tmp") (N.calls names.old) (N.calls names.new))) }
     // A crash at any moment leaves the old file or the database of the records, if the names are of
     // two files.
     ensures any_moment { AtEachMoment (LeavesOldOrNew (name.now ++ codes ".tmp") name.now
