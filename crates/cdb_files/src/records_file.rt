@@ -1,5 +1,5 @@
 // The database of some records, made under its name.
-ghost use Rattle.std.specs.Prelude.{◌≡◌, ◌≤◌, ◌++◌, [], ⊤, codes, IfErr, OnOk, OnErr};
+ghost use Rattle.std.specs.Prelude.{◌≡◌, ◌≤◌, ◌+◌, ◌++◌, [], ⊤, codes, IfErr, OnOk, OnErr};
 ghost use Rattle.cdb_form.specs.Views.Pairs.{key_values};
 ghost use Rattle.cdb_make.specs.Views.Maker.{Holds, IsFile, limit_of};
 ghost use Rattle.cdb_files.specs.Folder.{AreGuarded};
@@ -148,6 +148,8 @@ pub fn make_file_in<L: Width, N: Names>(
     // A name is taken only from a file whose lock this create holds, and a file is renamed only if it
     // may replace the other.
     ensures guarded { AreGuarded name.now (N.calls names.old) (N.calls names.new) }
+    ensures renamed { OnOk result
+        (renames (N.calls names.new) ≡ renames (N.calls names.old) + 1) }
     ensures kept { OnErr result (renames (N.calls names.new) ≡ renames (N.calls names.old)) }
     ensures err { IfErr result
         (FailsMaking temporary.now name.now (N.calls names.old) (N.calls names.new)) }
@@ -189,6 +191,8 @@ pub fn make_file<L: Width, N: Names>(
     ensures calls { AreOfReplacing (name.now ++ codes ".tmp") name.now
         (IsFileOf L.WORD records.now) (N.calls names.old) (N.calls names.new) }
     ensures guarded { AreGuarded name.now (N.calls names.old) (N.calls names.new) }
+    ensures renamed { OnOk result
+        (renames (N.calls names.new) ≡ renames (N.calls names.old) + 1) }
     ensures kept { OnErr result (renames (N.calls names.new) ≡ renames (N.calls names.old)) }
     ensures err { IfErr result (FailsBeside (name.now ++ codes ".tmp") name.now
         (N.calls names.old) (N.calls names.new)) }
