@@ -1,4 +1,4 @@
-use Rattle.std.proofs.Common.{inr}
+use Rattle.std.proofs.Common.{inr, rules}
 use Rattle.cdb_files.specs.declared.name_trace.NameCall.TheVariants.{Renamed, NotRenamed}
 use Rattle.cdb_files.specs.Folder.{MayRemove}
 use Rattle.cdb_files.proofs.Replacing.{no_step, step, cleared, synced, ready, sure}
@@ -24,4 +24,4 @@ returns-in-Err-clause-steps g c =
 
 pub returns-in-Err-clause-cleared : goal.returns-in-Err-clause-cleared
 returns-in-Err-clause-cleared g c =
-    (_, one_more _ _ _ _ (no_more (g.N.Names.calls c.args.names.now)) c.in-Err.ensures.err, rw c.in-Err.ensures.kept at c.remove_own.ensures)
+    (g.N.Names.calls c.rename.new.self, one_more _ _ _ _ (no_more (g.N.Names.calls c.args.names.now)) c.in-Err.ensures.err, search rules)
