@@ -1,16 +1,16 @@
 -- A create in a temporary file comes to what the oracle says.
-use Rattle.std.proofs.Common.{ℕ, true, false, ◌||◌, ◌≢◌, ◌⊎◌, List, [], ◌∷◌, ◌++◌, Option, Some, None, Result, Ok, Err, ◌≡◌, ◌∙◌, ap, inl, inr, refl, subst, sym, append_assoc, bytes_eq}
+use Rattle.std.proofs.Common.{ℕ, true, false, ◌||◌, ◌≢◌, ◌⊎◌, List, [], ◌∷◌, ◌++◌, Option, Some, None, Result, Ok, Err, ◌≡◌, ◌∙◌, ap, inl, inr, refl, subst, sym, append_assoc, arith, bytes_eq, length, length-append}
 use Rattle.std.specs.Prelude.{OnErr, OnOk}
 use Rattle.std.specs.List.{AllByRecursion}
 use Rattle.std.proofs.lemmas.Bool.{eqb-true, cond-true, cond-false, or_right, cases_Bool}
 use Rattle.std.specs.Io.KnownBytes.{Appends, Keeps}
 use Rattle.cdb_command.specs.declared.options.MakeOptions.{MakeOptions}
-use Rattle.cdb_files.specs.Folder.{Has, IsCleared, MayHave, NameCalls}
+use Rattle.cdb_files.specs.Folder.{Has, MayHave, NameCalls}
 use Rattle.cdb_files.specs.declared.replace.ReplaceFault.{ReplaceFault}
 use Rattle.cdb_files.specs.declared.replace.ReplaceFault.TheVariants as replace
 use Rattle.cdb_store.specs.FileStore.{calls_of}
 use Rattle.std.proofs.KnownBytes.{Keeps-refl}
-use Rattle.cdb_files.specs.Replacing.{AtEach, AtEachMoment, ClearsFile, IsNoName, Tells, IsRenamed, NameEvent, renames}
+use Rattle.cdb_files.specs.Replacing.{AtEach, AtEachMoment, ClearsFile, IsNoName, Tells, IsRenamed, renames}
 use Rattle.cdb_files.specs.declared.name_trace.NameCall.{NameCall}
 use Rattle.cdb_store.specs.Calls.{Calls}
 use Rattle.cdb_files.specs.declared.name_trace.NameCall.TheVariants as name_call
@@ -28,7 +28,7 @@ use Rattle.cdb.specs.Opening.{OpenCalls}
 use Rattle.cdb.specs.Oracle.{Disk, inputs_of, is_standard}
 use Rattle.cdb.specs.declared.system.System.{Ghosts as Systems}
 use Rattle.cdb.proofs.Replaced.{IsGone, KeepsOthers, LeavesOldOrMade, ReplacesSo, at_name, none_appended, not_at, replaces_so, said_nothing}
-use Rattle.cdb.proofs.CreateReads.{Asking, IsQuestion, all_known_by, asked_all, asked_kept, asking_all, moments_first}
+use Rattle.cdb.proofs.CreateReads.{Asking, all_known_by, asked_all, asked_kept, asking_all, moments_first}
 use Rattle.cdb.proofs.CreateEnds.{Came, CreateSo, apart_is, constant, ends_early, first_is, has_may, last_leaves, last_moment, lines_of, name_holds, open_so, oracle_is, other_name, result_of, same_name, same_some, since_asked}
 
 -- ---- in a temporary file
@@ -218,25 +218,16 @@ no_name_unopened w g disk input name base inputs temporary o standard in_place i
     (λ old files. cond-false (is_standard name) _ _ standard ∙ cond-false (is_in_place name temporary) _ _ in_place
     ∙ cond-true (is_read (temporary_of name temporary) base inputs || is_no_name name) _ _ (or_right _ _ is))
 
-first_call : (x y : NameEvent) (xs ys : NameCalls) → x ∷ xs ≡ y ∷ ys → x ≡ y
-first_call x y xs ys e = cc
+-- a replacement that made no call did not take its temporary name from a file
+not_cleared : (t : List ℕ) (file : Calls) (asked now : NameCalls) → now ≡ asked → ClearsFile t file asked now → ⊥
+not_cleared t file asked now same (before, (since, on), (gone, removal, are)) =
+    omega (arith, ap length same, ap length on, ap length are, length-append since asked)
 
--- a question is no removal
-cleared_asked : (temporary : List ℕ) (file : Calls) (before since : NameCalls) → AllByRecursion IsQuestion since → IsCleared temporary file before (since ++ []) → ⊥
-cleared_asked t file before [] all (gone, removal, are) = let no : ◌≡◌ {A = NameCalls} [] ((gone, t, [], file) ∷ before) = are in cc
-cleared_asked t file before (call ∷ since) all (gone, inl e, are) =
-    let same : call ≡ (name_call.Removed, t, [], file) = (let a : call ≡ (gone, t, [], file) = first_call call (gone, t, [], file) (since ++ []) before are in a) ∙ ap (λ (g : NameCall). (g, t, [], file)) e in
-    absurd (subst IsQuestion same all.0)
-cleared_asked t file before (call ∷ since) all (gone, inr e, are) =
-    let same : call ≡ (name_call.NotRemoved, t, [], file) = (let a : call ≡ (gone, t, [], file) = first_call call (gone, t, [], file) (since ++ []) before are in a) ∙ ap (λ (g : NameCall). (g, t, [], file)) e in
-    absurd (subst IsQuestion same all.0)
-
-silent_so : {F R : Type 0} (s : Ghosts F) (r : Raw R) (mk : Making F) (temporary name : List ℕ) (asked now : NameCalls) (back : Option F) (told said : Option (List ℕ)) (answer : Result Unit (ReplaceFault Fault)) → Asking [] asked → now ≡ asked → answer ≡ Err replace.Open
+silent_so : {F R : Type 0} (s : Ghosts F) (r : Raw R) (mk : Making F) (temporary name : List ℕ) (asked now : NameCalls) (back : Option F) (told said : Option (List ℕ)) (answer : Result Unit (ReplaceFault Fault)) → now ≡ asked → answer ≡ Err replace.Open
     → Tells r (λ base. base ≡ mk.base) (λ base before after images made. IsBufferedRun s mk base images before after made) temporary name asked now back told said answer → Keeps told said
-silent_so s r mk t name asked now back told said answer a same is (inl none) = subst (λ v. Keeps told v) (sym none.same) (Keeps-refl told)
-silent_so s r mk t name asked now back told said answer a same is (inr some) =
-    let cleared = subst (λ v. OnErr v (ClearsFile t (calls_of some.sealed) now)) is some.cleared in
-    absurd (cleared_asked t (calls_of some.sealed) cleared.0 a.since a.each (subst (λ c. IsCleared t (calls_of some.sealed) cleared.0 c) (same ∙ a.are) cleared.1))
+silent_so s r mk t name asked now back told said answer same is (inl none) = subst (λ v. Keeps told v) (sym none.same) (Keeps-refl told)
+silent_so s r mk t name asked now back told said answer same is (inr some) =
+    absurd (not_cleared t (calls_of some.sealed) asked now same (subst (λ v. OnErr v (ClearsFile t (calls_of some.sealed) asked now)) is some.cleared))
 
 -- nothing is done for it
 no_name_so : {F M R : Type 0} (s : Ghosts F) (m : Ghosts M) (r : Raw R) (w g : ℕ) (disk : Disk) (input name : List ℕ) (base : Option (List ℕ)) (inputs : List (List ℕ)) (temporary : Option (List ℕ)) (o : MakeOptions) (mk : Making F) (read : Option F) (was asked now : NameCalls) (start end told said : Option (List ℕ)) (result : Result Unit Fault)
@@ -247,7 +238,7 @@ no_name_so s m r w g disk input name base inputs temporary o mk read was asked n
     let a = asking_all (temporary_of name temporary) base inputs was asked asks in
     elim replaces.no_name [
       | inl named ↦ absurd (named (no_name_is name is))
-      | inr ended ↦ (let silent = silent_so s r mk (temporary_of name temporary) name asked now read told said replaces.answer (subst (λ v. Asking v asked) first a) ended.1 ended.0 replaces.lines in
+      | inr ended ↦ (let silent = silent_so s r mk (temporary_of name temporary) name asked now read told said replaces.answer ended.1 ended.0 replaces.lines in
           subst (CreateSo m disk name temporary o c was now None start end told said) (sym (replaces.answered ∙ ap answer_of ended.0))
           (ends_early m o c disk name temporary was now start end told said Open first (subst (λ v. Asking was v) (sym ended.1) a)
           (open_so o c disk start end told said (no_name_unopened w g disk input name base inputs temporary o standard in_place is) (kept, silent))))

@@ -243,11 +243,11 @@ pub ran_ok : {F : Type 0} (f : Ghosts F) (m : Making F) (back : Option F) (x : O
 ran_ok f m back x files input images b held told said has known is e (inl ran) = made_ok m.word m.options (made_here m x files input) images b held told said is e (run_is f m back x files input images b told said (Ok tt) has known is ran)
 ran_ok f m back x files input images b held told said has known is e (inr none) = absurd (let no : ◌≡◌ {A = Result Unit Fault} (Ok tt) (Err NoMemory) = none.1 in cc)
 
-abbrev FileTold : {F R : Type 0} → Ghosts F → Raw R → Making F → (temporary name : List ℕ) → NameCalls → Option F → (told said : Option (List ℕ)) → Result Unit (ReplaceFault Fault) → Type 0
-FileTold f r m temporary name new back told said answer = TellsOfFile r (λ base before after images made. IsBufferedRun f m base images before after made) temporary name new back told said answer
+abbrev FileTold : {F R : Type 0} → Ghosts F → Raw R → Making F → (temporary name : List ℕ) (old new : NameCalls) → Option F → (told said : Option (List ℕ)) → Result Unit (ReplaceFault Fault) → Type 0
+FileTold f r m temporary name old new back told said answer = TellsOfFile r (λ base before after images made. IsBufferedRun f m base images before after made) temporary name old new back told said answer
 
 with_sync : {F R : Type 0} (f : Ghosts F) (r : Raw R) (m : Making F) (back : Option F) (x : Option (List ℕ)) (files : List (Option (List ℕ))) (input temporary name : List ℕ) (old new before : NameCalls) (first held told said : Option (List ℕ)) (sync : NameCall) → renames old ≡ 0 → BaseHas f back x → Known files input m.inputs
-    → AreOfReplacing temporary name (IsDatabase f m back) old new → (t : FileTold f r m temporary name new back told said (Ok tt))
+    → AreOfReplacing temporary name (IsDatabase f m back) old new → (t : FileTold f r m temporary name old new back told said (Ok tt))
     → new ≡ (sync, name, [], []) ∷ (Renamed t.sealed.len, temporary, name, calls_of t.sealed) ∷ before → ((calls : NameCalls) → renames ((sync, name, [], []) ∷ calls) ≡ renames calls)
     → ((calls : NameCalls) → Has (place_of name) first ((sync, name, [], []) ∷ calls) held → Has (place_of name) first calls held) → Has (place_of name) first new held → HasMade m.word m.options (made_here m x files input) told said held
 with_sync f r m back x files input temporary name old new before first held told said sync none has known calls t e plain passes h =
@@ -259,7 +259,7 @@ with_sync f r m back x files input temporary name old new before first held told
     (subst (IsBufferedRun f m back (images_of t.left) told said) (built_ok t.built t.answers) t.tells_so)
 
 replaced_ok : {F R : Type 0} (f : Ghosts F) (r : Raw R) (m : Making F) (back : Option F) (x : Option (List ℕ)) (files : List (Option (List ℕ))) (input temporary name : List ℕ) (old new : NameCalls) (told said : Option (List ℕ)) → renames old ≡ 0 → BaseHas f back x → Known files input m.inputs
-    → AreOfReplacing temporary name (IsDatabase f m back) old new → IsRenamed temporary name new → FileTold f r m temporary name new back told said (Ok tt)
+    → AreOfReplacing temporary name (IsDatabase f m back) old new → IsRenamed temporary name new → FileTold f r m temporary name old new back told said (Ok tt)
     → (first held : Option (List ℕ)) → Has (place_of name) first new held → HasMade m.word m.options (made_here m x files input) told said held
 replaced_ok f r m back x files input temporary name old new told said none has known calls renamed t first held h =
     let is = t.renamed in
@@ -340,9 +340,9 @@ same_replace : (e g : ReplaceFault Fault) → ◌≡◌ {A = Result Unit (Replac
 same_replace e g h = cc
 
 -- the file that was cleared away had some image
-some_image : {R : Type 0} (r : Raw R) (store : FileStore R r) (temporary : List ℕ) (new : NameCalls) → HadBytes temporary new → ClearsFile temporary (calls_of store) new → (b : List ℕ) × images_of store b
-some_image r store temporary new had cleared =
-    let h = had (calls_of store) cleared.0 cleared.1 in
+some_image : {R : Type 0} (r : Raw R) (store : FileStore R r) (temporary : List ℕ) (old new : NameCalls) → HadBytes temporary new → ClearsFile temporary (calls_of store) old new → (b : List ℕ) × images_of store b
+some_image r store temporary old new had cleared =
+    let h = had (calls_of store) cleared.0 cleared.2 in
     let long = (store.long (store.known ∙ h.0)).each h.1.0 h.1.1 in
     (take store.len h.1.0, (h.1.0, h.1.1, long, refl))
 
@@ -365,16 +365,16 @@ replaced_err f r m back x files input temporary name old new told said e has kno
       lines = λ plain. said_nothing told said _ (subst (λ s. Keeps told s) (sym none.same) (Keeps-refl told));
     })
 replaced_err f r m back x files input temporary name old new told said e has known had (inr t) =
-    let image = some_image r t.sealed temporary new had t.cleared in
+    let image = some_image r t.sealed temporary old new had t.cleared in
     elim (built_err f r m back x files input temporary name new told said e t.built (images_of t.left) image.0 has known (t.same.no_other image.0 image.1) t.answers t.tells_so) [
-      | inl ended ↦ inl (ended, (t.cleared.0, (calls_of t.sealed, t.cleared.1)))
+      | inl ended ↦ inl (ended, (t.cleared.0, (calls_of t.sealed, t.cleared.2)))
       | inr refused ↦ inr refused
     ]
 
 -- ---- a replacement
 
 no_file : {F R : Type 0} (f : Ghosts F) (r : Raw R) (m : Making F) (temporary name : List ℕ) (old new : NameCalls) (back : Option F) (told said : Option (List ℕ)) → Tells r (λ base. base ≡ m.base) (λ base before after images made. IsBufferedRun f m base images before after made) temporary name old new back told said (Ok tt)
-    → FileTold f r m temporary name new back told said (Ok tt)
+    → FileTold f r m temporary name old new back told said (Ok tt)
 no_file f r m temporary name old new back told said (inl none) = absurd (let no : ◌≡◌ {A = Result Unit (ReplaceFault Fault)} (Ok tt) (Err none.fault) = none.is in cc)
 no_file f r m temporary name old new back told said (inr t) = t
 

@@ -245,7 +245,8 @@ pub record Replaces {F R : Type 0} (f : Ghosts F) (r : Raw R) (m : Making F)
   pub renamed : OnOk answer (renames new ≡ renames old + 1)
   pub unrenamed : OnErr answer (renames new ≡ renames old)
   pub build : IfErr answer (IsOfBuilder (FailsToBuild {file = r}
-      (λ store left fault. IsCaused fault (failures_of store) (failures_of left)) temporary new))
+      (λ store left fault. IsCaused fault (failures_of store) (failures_of left))
+      temporary old new))
   pub lines : Tells r (λ base. base ≡ m.base)
       (λ base before after images made. IsBufferedRun f m base images before after made)
       temporary name old new back told said answer

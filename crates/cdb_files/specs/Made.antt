@@ -35,7 +35,7 @@ FailsBuilding w greatest records before after images Lookup = ⊥
 
 -- why it was not built in a file that was just made
 abbrev pub FailsToMake : {F : Type 0} → Raw F → (w greatest : ℕ) → List Record
-    → (temporary : List ℕ) → NameCalls → MakeFault → Type 0
+    → (temporary : List ℕ) → (old new : NameCalls) → MakeFault → Type 0
 FailsToMake file w greatest records = FailsToBuild {file = file} (λ old new.
     FailsBuilding w greatest records (failures_of old) (failures_of new) (images_of new))
 

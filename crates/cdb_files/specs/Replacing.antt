@@ -102,44 +102,52 @@ pub record RenamesFile (temporary name : List ℕ) (len : ℕ) (file : Calls) (c
 abbrev pub IsNoName : List ℕ → Type 0
 IsNoName name = (name ≡ []) ⊎ ((front : List ℕ) × (name ≡ front ++ 47 ∷ []))
 
--- the rename failed so, and the temporary name was to be taken from the file then
-abbrev pub FailsRename : (temporary name : List ℕ) → NameCalls → NameFault → Type 0
-FailsRename temporary name calls fault = (len : ℕ) × (file : Calls) × (before : NameCalls)
+-- the calls go on from the old ones, which were made first
+abbrev pub GoesOn : (old calls : NameCalls) → Type 0
+GoesOn old calls = (since : NameCalls) × (calls ≡ since ++ old)
+
+-- since the old calls the rename failed so, and then the temporary name was to be taken from the file
+abbrev pub FailsRename : (temporary name : List ℕ) (old calls : NameCalls) → NameFault → Type 0
+FailsRename temporary name old calls fault =
+    (len : ℕ) × (file : Calls) × (before : NameCalls) × GoesOn old before
     × IsCleared temporary file ((NotRenamed len fault, temporary, name, file) ∷ before) calls
 
--- the last call was to take a name from its file
+-- the last call was to take a name from its file, after these
 abbrev pub HasCleared : (name : List ℕ) (before calls : NameCalls) → Type 0
 HasCleared name before calls = (file : Calls) × IsCleared name file before calls
 
--- or from the file on which these calls were made
-abbrev pub ClearsFile : (name : List ℕ) (file : Calls) (calls : NameCalls) → Type 0
-ClearsFile name file calls = (before : NameCalls) × IsCleared name file before calls
+-- the last call, since the old ones, was to take a name from the file on which these calls were made
+abbrev pub ClearsFile : (name : List ℕ) (file : Calls) (old calls : NameCalls) → Type 0
+ClearsFile name file old calls =
+    (before : NameCalls) × GoesOn old before × IsCleared name file before calls
 
--- or a look found that nothing has the name
-abbrev pub IsFree : (name : List ℕ) → NameCalls → Type 0
-IsFree name calls = (before : NameCalls)
+-- or to take it from any file, or was a look that found that nothing has it
+abbrev pub IsFree : (name : List ℕ) (old calls : NameCalls) → Type 0
+IsFree name old calls = (before : NameCalls) × GoesOn old before
     × ((calls ≡ (Looked found.Nothing, name, [], []) ∷ before) ⊎ HasCleared name before calls)
 
--- the last look found a file
-abbrev pub IsFound : (name : List ℕ) → NameCalls → Type 0
-IsFound name calls = (before : NameCalls) × (calls ≡ (Looked found.File, name, [], []) ∷ before)
+-- the last call, since the old ones, was a look that found a file
+abbrev pub IsFound : (name : List ℕ) (old calls : NameCalls) → Type 0
+IsFound name old calls = (before : NameCalls) × GoesOn old before
+    × (calls ≡ (Looked found.File, name, [], []) ∷ before)
 
 -- an answer at which nothing was made: the system did not say what a name has; or the two names are
 -- of one file, which was just found; or the temporary name has no regular file, or one that cannot be
 -- opened or that another process holds; or no file could be made there, once the name was free
-abbrev pub IsStop : (temporary name : List ℕ) → NameEvent → (before : NameCalls) → Type 0
-IsStop temporary name (Special answer.Unknown, one, other, file) before = one ≡ name
-IsStop temporary name (Same answer.Yes, one, two, file) before =
-    (one ≡ temporary) × (two ≡ name) × IsFound temporary before
-IsStop temporary name (Same answer.Unknown, one, two, file) before =
-    (one ≡ temporary) × (two ≡ name) × IsFound temporary before
-IsStop temporary name (Looked found.Other, one, other, file) before = one ≡ temporary
-IsStop temporary name (Looked found.Unknown, one, other, file) before = one ≡ temporary
-IsStop temporary name (NotOpened name_fault.Failed, one, other, file) before = one ≡ temporary
-IsStop temporary name (Locked locking.Held, one, other, file) before = one ≡ temporary
-IsStop temporary name (NotMade name_fault.Failed, one, other, file) before =
-    (one ≡ temporary) × IsFree temporary before
-IsStop temporary name (call, one, other, file) before = ⊥
+abbrev pub IsStop : (temporary name : List ℕ) (old : NameCalls) → NameEvent → (before : NameCalls)
+    → Type 0
+IsStop temporary name old (Special answer.Unknown, one, other, file) before = one ≡ name
+IsStop temporary name old (Same answer.Yes, one, two, file) before =
+    (one ≡ temporary) × (two ≡ name) × IsFound temporary old before
+IsStop temporary name old (Same answer.Unknown, one, two, file) before =
+    (one ≡ temporary) × (two ≡ name) × IsFound temporary old before
+IsStop temporary name old (Looked found.Other, one, other, file) before = one ≡ temporary
+IsStop temporary name old (Looked found.Unknown, one, other, file) before = one ≡ temporary
+IsStop temporary name old (NotOpened name_fault.Failed, one, other, file) before = one ≡ temporary
+IsStop temporary name old (Locked locking.Held, one, other, file) before = one ≡ temporary
+IsStop temporary name old (NotMade name_fault.Failed, one, other, file) before =
+    (one ≡ temporary) × IsFree temporary old before
+IsStop temporary name old (call, one, other, file) before = ⊥
 
 -- an answer at which the file that was made is removed again: the temporary name was not seen to have
 -- it, or not seen to be of another file than the name
@@ -150,76 +158,82 @@ IsUndone temporary name (Same answer.Yes, one, two, file) = (one ≡ temporary) 
 IsUndone temporary name (Same answer.Unknown, one, two, file) = (one ≡ temporary) × (two ≡ name)
 IsUndone temporary name (call, one, other, file) = ⊥
 
--- no file was made, or it was removed again, empty as it was
-abbrev pub StopsMaking : (temporary name : List ℕ) → NameCalls → Type 0
-StopsMaking temporary name calls = (stop : NameEvent) × (before : NameCalls)
-    × ((IsStop temporary name stop before × (calls ≡ stop ∷ before))
+-- since the old calls no file was made, or it was removed again, empty as it was
+abbrev pub StopsMaking : (temporary name : List ℕ) (old calls : NameCalls) → Type 0
+StopsMaking temporary name old calls = (stop : NameEvent) × (before : NameCalls) × GoesOn old before
+    × ((IsStop temporary name old stop before × (calls ≡ stop ∷ before))
     ⊎ (IsUndone temporary name stop
     × IsCleared temporary ((file_call.Made, []) ∷ []) (stop ∷ before) calls))
 
--- the system had no memory for the temporary file
-abbrev pub LacksMemory : (temporary : List ℕ) → NameCalls → Type 0
-LacksMemory temporary calls = (before : NameCalls)
+-- the system had no memory for the temporary file, since the old calls
+abbrev pub LacksMemory : (temporary : List ℕ) (old calls : NameCalls) → Type 0
+LacksMemory temporary old calls = (before : NameCalls) × GoesOn old before
     × ((calls ≡ (NotOpened name_fault.NoMemory, temporary, [], []) ∷ before)
-    ⊎ ((calls ≡ (NotMade name_fault.NoMemory, temporary, [], []) ∷ before) × IsFree temporary before))
+    ⊎ ((calls ≡ (NotMade name_fault.NoMemory, temporary, [], []) ∷ before)
+    × IsFree temporary old before))
 
--- which calls end in this fault once the names were seen
-abbrev pub StopsAt : {E : Type 0} → (temporary name : List ℕ) → NameCalls → ReplaceFault E → Type 0
-StopsAt temporary name new Open = StopsMaking temporary name new
-StopsAt temporary name new NoMemory = LacksMemory temporary new
-StopsAt temporary name new fault = ⊥
+-- which calls since the old ones end in this fault once the names were seen
+abbrev pub StopsAt : {E : Type 0} → (temporary name : List ℕ) (old new : NameCalls)
+    → ReplaceFault E → Type 0
+StopsAt temporary name old new Open = StopsMaking temporary name old new
+StopsAt temporary name old new NoMemory = LacksMemory temporary old new
+StopsAt temporary name old new fault = ⊥
 
--- which calls end in this fault before anything is built
+-- which calls since the old ones end in this fault before anything is built
 abbrev pub StopsUnbuilt : {E : Type 0} → (temporary name : List ℕ) (old new : NameCalls)
     → ReplaceFault E → Type 0
 StopsUnbuilt temporary name old new Open =
-    ((new ≡ old) × (IsNoName name ⊎ (temporary ≡ name))) ⊎ StopsMaking temporary name new
-StopsUnbuilt temporary name old new NoMemory = LacksMemory temporary new
+    ((new ≡ old) × (IsNoName name ⊎ (temporary ≡ name))) ⊎ StopsMaking temporary name old new
+StopsUnbuilt temporary name old new NoMemory = LacksMemory temporary old new
 StopsUnbuilt temporary name old new Rename = new ≡ (Special answer.Yes, name, [], []) ∷ old
 StopsUnbuilt temporary name old new Write = ⊥
 StopsUnbuilt temporary name old new (Build fault) = ⊥
 
--- the system was asked for permission bits with which the file may get the name, and it has others
-abbrev pub IsNotGiven : (temporary name : List ℕ) (bits : ℕ) → NameCalls → Type 0
-IsNotGiven temporary name bits calls = (wanted : Wanted) × (first : ℕ) × (file : Calls)
-    × (before : NameCalls) × (Suits wanted bits → ⊥)
+-- the system was asked, since the old calls, for permission bits with which the file may get the name,
+-- and it has others
+abbrev pub IsNotGiven : (temporary name : List ℕ) (bits : ℕ) (old calls : NameCalls) → Type 0
+IsNotGiven temporary name bits old calls = (wanted : Wanted) × (first : ℕ) × (file : Calls)
+    × (before : NameCalls) × GoesOn old before × (Suits wanted bits → ⊥)
     × (calls ≡ asked_for temporary name wanted first file before)
 
 -- the system did not say which permission bits the file is to have, or which it has, or did not give them
-abbrev pub LacksBits : (temporary name : List ℕ) → NameEvent → (before : NameCalls) → Type 0
-LacksBits temporary name (Bits None, one, other, file) before = one ≡ name
-LacksBits temporary name (Seen None, one, other, file) before = one ≡ temporary
-LacksBits temporary name (Seen (Some bits), one, other, file) before =
-    (one ≡ temporary) × IsNotGiven temporary name bits before
-LacksBits temporary name (call, one, other, file) before = ⊥
+abbrev pub LacksBits : (temporary name : List ℕ) (old : NameCalls) → NameEvent
+    → (before : NameCalls) → Type 0
+LacksBits temporary name old (Bits None, one, other, file) before = one ≡ name
+LacksBits temporary name old (Seen None, one, other, file) before = one ≡ temporary
+LacksBits temporary name old (Seen (Some bits), one, other, file) before =
+    (one ≡ temporary) × IsNotGiven temporary name bits old before
+LacksBits temporary name old (call, one, other, file) before = ⊥
 
--- the file that was built did not get its permission bits, or was not synced
-abbrev pub FailsToSeal : {E : Type 0} → (temporary name : List ℕ) → NameCalls → ReplaceFault E
-    → Type 0
-FailsToSeal temporary name calls Open =
-    (stop : NameEvent) × (before : NameCalls) × LacksBits temporary name stop before
-    × (calls ≡ stop ∷ before)
-FailsToSeal temporary name calls Write = Unit {0}
-FailsToSeal temporary name calls fault = ⊥
+-- since the old calls the file that was built did not get its permission bits, or was not synced
+abbrev pub FailsToSeal : {E : Type 0} → (temporary name : List ℕ) (old calls : NameCalls)
+    → ReplaceFault E → Type 0
+FailsToSeal temporary name old calls Open =
+    (stop : NameEvent) × (before : NameCalls) × GoesOn old before
+    × LacksBits temporary name old stop before × (calls ≡ stop ∷ before)
+FailsToSeal temporary name old calls Write = Unit {0}
+FailsToSeal temporary name old calls fault = ⊥
 
--- which calls end in this fault once the builder came to its end: the last one was to take the
--- temporary name from the file
-abbrev pub EndsBuilt : {E : Type 0} → (temporary name : List ℕ) → NameCalls → ReplaceFault E
-    → Type 0
-EndsBuilt temporary name new NoMemory = FailsRename temporary name new name_fault.NoMemory
-EndsBuilt temporary name new Rename = FailsRename temporary name new name_fault.Failed
-EndsBuilt temporary name new Open =
-    (stop : NameEvent) × (before : NameCalls) × LacksBits temporary name stop before
-    × HasCleared temporary (stop ∷ before) new
-EndsBuilt temporary name new Write = (before : NameCalls) × HasCleared temporary before new
-EndsBuilt temporary name new (Build fault) =
-    (before : NameCalls) × HasCleared temporary before new
+-- which calls since the old ones end in this fault once the builder came to its end: the last one was
+-- to take the temporary name from the file
+abbrev pub EndsBuilt : {E : Type 0} → (temporary name : List ℕ) (old new : NameCalls)
+    → ReplaceFault E → Type 0
+EndsBuilt temporary name old new NoMemory =
+    FailsRename temporary name old new name_fault.NoMemory
+EndsBuilt temporary name old new Rename = FailsRename temporary name old new name_fault.Failed
+EndsBuilt temporary name old new Open =
+    (stop : NameEvent) × (before : NameCalls) × GoesOn old before
+    × LacksBits temporary name old stop before × HasCleared temporary (stop ∷ before) new
+EndsBuilt temporary name old new Write =
+    (before : NameCalls) × GoesOn old before × HasCleared temporary before new
+EndsBuilt temporary name old new (Build fault) =
+    (before : NameCalls) × GoesOn old before × HasCleared temporary before new
 
--- which calls end in this fault
+-- which calls since the old ones end in this fault
 abbrev pub EndsIn : {E : Type 0} → (temporary name : List ℕ) (old new : NameCalls)
     → ReplaceFault E → Type 0
 EndsIn temporary name old new fault =
-    StopsUnbuilt temporary name old new fault ⊎ EndsBuilt temporary name new fault
+    StopsUnbuilt temporary name old new fault ⊎ EndsBuilt temporary name old new fault
 
 -- no other process held the lock of the file of a name
 pub record TakesLock (name : List ℕ) (old new : NameCalls) : Type 0 where
@@ -227,10 +241,10 @@ pub record TakesLock (name : List ℕ) (old new : NameCalls) : Type 0 where
   pub free : lock ≢ locking.Held
   pub are : new ≡ (Locked lock, name, [], []) ∷ old
 
--- the last answer was one at which a file that was made is removed again
-abbrev pub IsUndoing : (temporary name : List ℕ) → NameCalls → Type 0
-IsUndoing temporary name calls =
-    (stop : NameEvent) × (before : NameCalls) × IsUndone temporary name stop
+-- the last answer, since the old calls, was one at which a file that was made is removed again
+abbrev pub IsUndoing : (temporary name : List ℕ) (old calls : NameCalls) → Type 0
+IsUndoing temporary name old calls =
+    (stop : NameEvent) × (before : NameCalls) × GoesOn old before × IsUndone temporary name stop
     × (calls ≡ stop ∷ before)
 
 -- a file was made, its lock taken, its name seen to have it, and both names to be of two files
@@ -295,12 +309,12 @@ LeavesNew name whole now = (place : List ℕ → Bool) → place name ≡ true
 -- was to be taken then
 pub record FailsToBuild {F : Type 0} {file : Raw F} {E : Type 0}
     (fails : FileStore F file → FileStore F file → E → Type 0) (temporary : List ℕ)
-    (calls : NameCalls) (fault : E) : Type 0 where
+    (old new : NameCalls) (fault : E) : Type 0 where
   pub empty : FileStore F file
   pub left : FileStore F file
   pub made : calls_of empty ≡ (file_call.Made, []) ∷ []
   pub why : fails empty left fault
-  pub cleared : ClearsFile temporary (calls_of left) calls
+  pub cleared : ClearsFile temporary (calls_of left) old new
 
 -- the fault of a replacement is that of its builder
 abbrev pub IsOfBuilder : {E : Type 0} → (E → Type 0) → ReplaceFault E → Type 0
@@ -318,7 +332,7 @@ Answers (Err fault) result = result ≡ Err (Build fault)
 -- was to be taken from it
 pub record TellsOfFile {F B T E : Type 0} (file : Raw F)
     (tells : B → T → T → (List ℕ → Type 0) → Result Unit E → Type 0) (temporary name : List ℕ)
-    (calls : NameCalls) (back : B) (told said : T)
+    (old new : NameCalls) (back : B) (told said : T)
     (result : Result Unit (ReplaceFault E)) : Type 0 where
   pub left : FileStore F file
   pub built : Result Unit E
@@ -327,8 +341,8 @@ pub record TellsOfFile {F B T E : Type 0} (file : Raw F)
   pub sealed : FileStore F file
   pub same : SameImages (images_of left) (images_of sealed)
   pub unsynced : result ≡ Err Write → failures_of left < failures_of sealed
-  pub renamed : OnOk result (RenamesFile temporary name sealed.len (calls_of sealed) calls)
-  pub cleared : OnErr result (ClearsFile temporary (calls_of sealed) calls)
+  pub renamed : OnOk result (RenamesFile temporary name sealed.len (calls_of sealed) new)
+  pub cleared : OnErr result (ClearsFile temporary (calls_of sealed) old new)
 
 -- nothing was built: the builder gave up, and what it writes to beside is as it was; no file is whole,
 -- so no call was a rename, and a crash at any moment leaves what one before would have left
@@ -350,4 +364,4 @@ abbrev pub Tells : {F B T E : Type 0} → Raw F → (B → Type 0)
     → Result Unit (ReplaceFault E) → Type 0
 Tells file gives_up tells temporary name old new back told said result =
     TellsOfNone gives_up temporary name old new back told said result
-    ⊎ TellsOfFile file tells temporary name new back told said result
+    ⊎ TellsOfFile file tells temporary name old new back told said result

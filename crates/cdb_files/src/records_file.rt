@@ -1,5 +1,5 @@
 // The database of some records, made under its name.
-ghost use Rattle.std.specs.Prelude.{◌≡◌, ◌≤◌, ◌++◌, [], ⊤, codes, IfErr, OnOk, OnErr};
+ghost use Rattle.std.specs.Prelude.{◌≡◌, ◌≤◌, ◌+◌, ◌++◌, [], ⊤, codes, IfErr, OnOk, OnErr};
 ghost use Rattle.cdb_form.specs.Views.Pairs.{key_values};
 ghost use Rattle.cdb_make.specs.Views.Maker.{Holds, IsFile, limit_of};
 ghost use Rattle.cdb_files.specs.Folder.{AreGuarded};
@@ -148,12 +148,14 @@ pub fn make_file_in<L: Width, N: Names>(
     // A name is taken only from a file whose lock this create holds, and a file is renamed only if it
     // may replace the other.
     ensures guarded { AreGuarded name.now (N.calls names.old) (N.calls names.new) }
+    ensures renamed { OnOk result
+        (renames (N.calls names.new) ≡ renames (N.calls names.old) + 1) }
     ensures kept { OnErr result (renames (N.calls names.new) ≡ renames (N.calls names.old)) }
     ensures err { IfErr result
         (FailsMaking temporary.now name.now (N.calls names.old) (N.calls names.new)) }
     // The fault of the maker is the one that it answered.
     ensures build { IfErr result (IsOfBuilding (FailsToMake N.File.RawFile L.WORD L.GREATEST records.now
-        temporary.now (N.calls names.new))) }
+        temporary.now (N.calls names.old) (N.calls names.new))) }
     // A crash at any moment leaves the old file or the database of the records, if the names are of
     // two files. A rename comes only after the system answered so.
     ensures any_moment { AtEachMoment (LeavesOldOrNew temporary.now name.now (IsFileOf L.WORD records.now)
@@ -189,12 +191,14 @@ pub fn make_file<L: Width, N: Names>(
     ensures calls { AreOfReplacing (name.now ++ codes ".tmp") name.now
         (IsFileOf L.WORD records.now) (N.calls names.old) (N.calls names.new) }
     ensures guarded { AreGuarded name.now (N.calls names.old) (N.calls names.new) }
+    ensures renamed { OnOk result
+        (renames (N.calls names.new) ≡ renames (N.calls names.old) + 1) }
     ensures kept { OnErr result (renames (N.calls names.new) ≡ renames (N.calls names.old)) }
     ensures err { IfErr result (FailsBeside (name.now ++ codes ".tmp") name.now
         (N.calls names.old) (N.calls names.new)) }
     // The fault of the maker is the one that it answered.
     ensures build { IfErr result (IsOfBuilding (FailsToMake N.File.RawFile L.WORD L.GREATEST records.now
-        (name.now ++ codes ".tmp") (N.calls names.new))) }
+        (name.now ++ codes ".tmp") (N.calls names.old) (N.calls names.new))) }
     // A crash at any moment leaves the old file or the database of the records, if the names are of
     // two files.
     ensures any_moment { AtEachMoment (LeavesOldOrNew (name.now ++ codes ".tmp") name.now

@@ -14,6 +14,7 @@ ghost use Rattle.cdb_files.specs.Folder.{
   MayRemove,
   MayReplace,
   MayUndo,
+  NameCalls,
 };
 ghost use Rattle.cdb_files.specs.declared.answer.Answer.TheVariants.{Yes, No};
 ghost use Rattle.cdb_files.specs.declared.answer.Lock.TheVariants.{Held};
@@ -190,10 +191,11 @@ fn remove_old<N: Names, E: Drop>(
     requires seen { AreApart temporary.now name.now (N.calls names.old) }
     ensures steps { AreSteps temporary.now name.now (λ _. ⊥) (N.calls names.old)
         (N.calls names.new) }
-    ensures free { OnOk result (IsFree temporary.now (N.calls names.new)) }
+    ensures free { OnOk result (IsFree temporary.now (N.calls names.old) (N.calls names.new)) }
     ensures plain { IsPlain name.now (N.calls names.old) → IsPlain name.now (N.calls names.new) }
     ensures renames { renames (N.calls names.new) ≡ renames (N.calls names.old) }
-    ensures err { IfErr result (StopsAt temporary.now name.now (N.calls names.new)) }
+    ensures err { IfErr result
+        (StopsAt temporary.now name.now (N.calls names.old) (N.calls names.new)) }
     ensures not_built { IfErr result (IsOfBuilder (λ _. ⊥)) }
 {
     let old = match names.open_old(temporary) {
@@ -217,10 +219,11 @@ fn clear<N: Names, E: Drop>(
 ) -> Result<(), ReplaceFault<E>>
     ensures steps { AreSteps temporary.now name.now (λ _. ⊥) (N.calls names.old)
         (N.calls names.new) }
-    ensures free { OnOk result (IsFree temporary.now (N.calls names.new)) }
+    ensures free { OnOk result (IsFree temporary.now (N.calls names.old) (N.calls names.new)) }
     ensures plain { IsPlain name.now (N.calls names.old) → IsPlain name.now (N.calls names.new) }
     ensures renames { renames (N.calls names.new) ≡ renames (N.calls names.old) }
-    ensures err { IfErr result (StopsAt temporary.now name.now (N.calls names.new)) }
+    ensures err { IfErr result
+        (StopsAt temporary.now name.now (N.calls names.old) (N.calls names.new)) }
     ensures not_built { IfErr result (IsOfBuilder (λ _. ⊥)) }
 {
     match names.look(temporary) {
@@ -242,7 +245,7 @@ fn is_own_apart<N: Names>(names: &mut N, name: &str, temporary: &str, file: &N::
     ensures seen { result ≡ true → N.calls names.new ≡ (Same No, temporary.now, name.now, [])
         ∷ (Own Yes, temporary.now, [], []) ∷ N.calls names.old }
     ensures undone { result ≡ false
-        → IsUndoing temporary.now name.now (N.calls names.new) }
+        → IsUndoing temporary.now name.now (N.calls names.old) (N.calls names.new) }
     ensures steps { AreSteps temporary.now name.now (λ _. ⊥) (N.calls names.old)
         (N.calls names.new) }
     ensures may { MayUndo temporary.now (N.calls names.old)
@@ -267,13 +270,14 @@ fn make_own<N: Names, E: Drop>(
     name: &str,
     temporary: &str,
 ) -> Result<FileStore<N::File>, ReplaceFault<E>>
-    requires free { IsFree temporary.now (N.calls names.old) }
+    requires free { IsFree temporary.now [] (N.calls names.old) }
     ensures steps { AreSteps temporary.now name.now (λ _. ⊥) (N.calls names.old)
         (N.calls names.new) }
     ensures made { OnOk result
         (IsMadeApart temporary.now name.now (N.calls names.old) (N.calls names.new)) }
     ensures renames { renames (N.calls names.new) ≡ renames (N.calls names.old) }
-    ensures err { IfErr result (StopsAt temporary.now name.now (N.calls names.new)) }
+    ensures err { (first : NameCalls) → IsFree temporary.now first (N.calls names.old)
+        → IfErr result (StopsAt temporary.now name.now first (N.calls names.new)) }
     ensures not_built { IfErr result (IsOfBuilder (λ _. ⊥)) }
     ensures empty { IfOk result (λ s. calls_of s ≡ (FileMade, []) ∷ []) }
 {
@@ -347,7 +351,8 @@ fn seal<N: Names, E>(
     ensures may { MayRemove temporary.now name.now (N.calls names.old)
         → MayRemove temporary.now name.now (N.calls names.new) }
     ensures renames { renames (N.calls names.new) ≡ renames (N.calls names.old) }
-    ensures err { IfErr result (λ f. FailsToSeal temporary.now name.now (N.calls names.new) f) }
+    ensures err { IfErr result (λ f. FailsToSeal temporary.now name.now (N.calls names.old)
+        (N.calls names.new) f) }
     ensures synced { OnOk result (IsSynced (calls_of store.new)) }
     ensures images { SameImages (images_of store.old) (images_of store.new) }
     ensures failed { result ≡ Err Write → failures_of store.old < failures_of store.new }
@@ -406,9 +411,9 @@ fn publish<N: Names, E: Drop>(
         (renames (N.calls names.new) ≡ renames (N.calls names.old) + 1) }
     ensures renames_err { OnErr result (renames (N.calls names.new) ≡ renames (N.calls names.old)) }
     ensures err { IfErr result (λ e. (fault : NameFault) × (e ≡ of_name fault)
-        × FailsRename temporary.now name.now (N.calls names.new) fault) }
+        × FailsRename temporary.now name.now (N.calls names.old) (N.calls names.new) fault) }
     ensures cleared { OnErr result
-        (ClearsFile temporary.now (N.File.calls file) (N.calls names.new)) }
+        (ClearsFile temporary.now (N.File.calls file) (N.calls names.old) (N.calls names.new)) }
 {
     match names.rename(file, len, temporary, name) {
         Ok(()) => {
@@ -458,12 +463,14 @@ pub fn replace_file<N: Names, B: Builder<FileStore<N::File>>>(
         (renames (N.calls names.new) ≡ renames (N.calls names.old) + 1) }
     ensures renames_err { OnErr result.1
         (renames (N.calls names.new) ≡ renames (N.calls names.old)) }
+    // The calls that ended it are its own. It made none only if no file can have the name, or if one
+    // text was given for both names.
     ensures err { IfErr result.1
         (EndsIn temporary.now name.now (N.calls names.old) (N.calls names.new)) }
     // The fault of the builder is the one that it answered, and the file that it left is the one from
     // which the temporary name is taken.
     ensures build { IfErr result.1 (IsOfBuilder (FailsToBuild (B.fails builder) temporary.now
-        (N.calls names.new))) }
+        (N.calls names.old) (N.calls names.new))) }
     // If nothing was built, no file is whole, the builder gave up, and what it writes to beside is as
     // it was. Else that is as the builder left it, and at Ok the file that it built then was renamed.
     ensures told { Tells N.File.RawFile (B.gives_up builder) (B.tells builder) temporary.now name.now

@@ -31,4 +31,4 @@ returns-in-Err-clause-build g c =
     let w = g.L.Width.WORD in
     let greatest = g.L.Width.GREATEST in
     rw (c.from.ensures) (building_fault _ _ c.in-Err.fault (λ f fails.
-    subst (λ (records : List Record). FailsToMake g.N.File.RawFile w greatest records c.args.temporary.now (g.N.Names.calls c.replace_file-replaced.new.names) f) c.new-builder.ensures fails) (rw c.in-Err.is at c.replace_file-replaced.ensures.build))
+    subst (λ (records : List Record). FailsToMake g.N.File.RawFile w greatest records c.args.temporary.now (g.N.Names.calls c.args.names.now) (g.N.Names.calls c.replace_file-replaced.new.names) f) c.new-builder.ensures fails) (rw c.in-Err.is at c.replace_file-replaced.ensures.build))

@@ -1,4 +1,6 @@
 use Rattle.cdb_files.proofs.Replacing.{go_on}
+use Rattle.cdb_files.proofs.Stops.{free_since, steps_go_on, stops_since, unbuilt}
+use Rattle.std.proofs.lemmas.Result.{IfErr-weaker, err_from_is_err_and}
 use Rattle.cdb_files.proofs.replace.make_temporary.Goals as goal
 
 pub returns-in_err-clear-clause-steps : goal.returns-in_err-clear-clause-steps
@@ -7,3 +9,19 @@ returns-in_err-clear-clause-steps g c = go_on (λ b is. is) c.see_names.ensures.
 pub returns-clause-steps : goal.returns-clause-steps
 returns-clause-steps g c =
     go_on (λ b is. is) (go_on (λ b is. is) c.see_names.ensures.steps c.clear.ensures.steps) c.make_own.ensures.steps
+
+pub returns-in_err-clear-clause-err : goal.returns-in_err-clear-clause-err
+returns-in_err-clear-clause-err g c =
+    let t = c.args.temporary.now in
+    let n = c.args.name.now in
+    let old = g.N.Names.calls c.args.names.now in
+    let p = err_from_is_err_and c.from_residual-in_err-clear.result c.from_residual-in_err-clear.ensures.1 in
+    rw (p.1, p.2) (unbuilt t n old _ _ (stops_since t n old _ _ _ (steps_go_on c.see_names.ensures.steps) c.in_err-clear.ensures.err))
+
+pub returns-clause-err : goal.returns-clause-err
+returns-clause-err g c =
+    let t = c.args.temporary.now in
+    let n = c.args.name.now in
+    let old = g.N.Names.calls c.args.names.now in
+    let free = free_since t old _ _ (steps_go_on c.see_names.ensures.steps) c.in_ok-clear.ensures.free in
+    IfErr-weaker c.make_own.result _ _ (λ fault stops. unbuilt t n old _ fault stops) (c.make_own.ensures.err old free)

@@ -3,7 +3,7 @@ use Rattle.cdb_files.specs.declared.answer.Lock.TheVariants.{Held}
 use Rattle.cdb_files.specs.declared.name_trace.NameCall.TheVariants.{Locked, NotOpened, Opened}
 use Rattle.cdb_files.proofs.Locking.{old_removable}
 use Rattle.cdb_files.proofs.Replacing.{no_step, step, cleared}
-use Rattle.cdb_files.proofs.Stops.{not_opened, is_held}
+use Rattle.cdb_files.proofs.Stops.{is_held, no_more, not_opened, one_more}
 use Rattle.cdb_files.proofs.replace.remove_old.Goals as goal
 
 pub returns-in-Err-clause-steps : goal.returns-in-Err-clause-steps
@@ -17,7 +17,7 @@ returns-then-not-is_locked-clause-steps g c =
     step _ (Locked Held, c.args.temporary.now, [], []) (step _ (Opened, c.args.temporary.now, [], []) (no_step _) c.in-Ok.ensures.ok tt tt) (c.is_locked.ensures.held c.if-not-is_locked.true) tt tt
 
 pub returns-then-not-is_locked-clause-err : goal.returns-then-not-is_locked-clause-err
-returns-then-not-is_locked-clause-err g c = is_held c.args.temporary.now c.args.name.now _ _ (c.is_locked.ensures.held c.if-not-is_locked.true)
+returns-then-not-is_locked-clause-err g c = is_held c.args.temporary.now c.args.name.now (g.N.Names.calls c.args.names.now) _ _ (one_more _ _ _ _ (no_more _) c.in-Ok.ensures.ok) (c.is_locked.ensures.held c.if-not-is_locked.true)
 
 pub returns-clause-steps : goal.returns-clause-steps
 returns-clause-steps g c =
@@ -25,4 +25,5 @@ returns-clause-steps g c =
     cleared _ (step _ (Locked takes.lock, c.args.temporary.now, [], []) (step _ (Opened, c.args.temporary.now, [], []) (no_step _) c.in-Ok.ensures.ok tt tt) takes.are tt tt) (old_removable c.args.temporary.now c.args.name.now _ _ _ c.requires.seen c.in-Ok.ensures.ok takes) c.remove_own.ensures
 
 pub returns-clause-free : goal.returns-clause-free
-returns-clause-free g c = (_, inr (_, c.remove_own.ensures))
+returns-clause-free g c =
+    (_, one_more _ _ _ _ (one_more _ _ _ _ (no_more (g.N.Names.calls c.args.names.now)) c.in-Ok.ensures.ok) (c.is_locked.ensures.free c.if-not-is_locked.false).are, inr (_, c.remove_own.ensures))

@@ -2,6 +2,7 @@ use Rattle.std.proofs.Common.{[], inl, inr, refl}
 use Rattle.cdb_files.specs.declared.answer.Answer.TheVariants.{Unknown}
 use Rattle.cdb_files.specs.declared.name_trace.NameCall.TheVariants.{Special}
 use Rattle.cdb_files.proofs.Replacing.{no_step, step}
+use Rattle.cdb_files.proofs.Stops.{no_more}
 use Rattle.cdb_files.proofs.replace.see_names.Goals as goal
 
 pub returns-in-No-clause-steps : goal.returns-in-No-clause-steps
@@ -18,4 +19,4 @@ returns-in-Unknown-clause-steps g c =
 
 pub returns-in-Unknown-clause-err : goal.returns-in-Unknown-clause-err
 returns-in-Unknown-clause-err g c =
-    inr ((Special Unknown, c.args.name.now, [], []), g.N.Names.calls c.args.names.now, inl (refl, c.in-Unknown.ensures))
+    inr ((Special Unknown, c.args.name.now, [], []), g.N.Names.calls c.args.names.now, no_more _, inl (refl, c.in-Unknown.ensures))
