@@ -19,6 +19,8 @@ use Rattle.cdb.proofs.CreateReads.{asking_all, asking_finds, asking_none, standa
 use Rattle.cdb.proofs.CreateEnds.{CreateSo, back_none, ends_early, found, memory_so, not_opened_so, open_so, read_unopened, refused_early}
 use Rattle.cdb.proofs.CreateApart.{replacing_so}
 use Rattle.cdb.proofs.CreatePlaced.{emptied_so, emptying_refused, in_place_unopened, output_so}
+use Rattle.cdb.specs.State.{state_of}
+use Rattle.cdb.specs.Files.{files_of}
 
 -- ---- each create
 
@@ -37,7 +39,7 @@ in_place_not name None other = refl
 in_place_not name (Some t) other = or_from _ _ (false_from_ne_true (bytes_eq t (codes "-")) (λ e. other (inl ((bytes_eq-Decides t (codes "-")).0 e)))) (false_from_ne_true (bytes_eq t name) (λ e. other (inr ((bytes_eq-Decides t name).0 e))))
 
 pub creates_so : {F I M R Y : Type 0} (s : Ghosts F) (m : Ghosts M) (r : Raw R) (remaining : I → Option (List ℕ)) (y : Systems Y F I M) (w g : ℕ) (disk : Disk) (input name : List ℕ) (base : Option (List ℕ)) (inputs : List (List ℕ)) (temporary : Option (List ℕ)) (o : MakeOptions) (given : Option (List ℕ)) (old new : OpenCalls) (left : Left F M) (was now : NameCalls) (start end told said : Option (List ℕ)) (result : Result Unit Fault)
-    → HonestCreate s remaining y disk input inputs given old new left.read name was now → Creates w g y s m r remaining o name base inputs temporary given old new was now left start end told said result
+    → HonestCreate (files_of s m remaining y) disk input inputs given name (state_of old was start told) (state_of new now end said) left.read → Creates (files_of s m remaining y) r (record { word = w; greatest = g; options = o; name = name; base = base; inputs = inputs; temporary = temporary }) given (state_of old was start told) (state_of new now end said) left result
     → CreateSo m disk name temporary o (create_of w g disk input name base inputs temporary o) was now left.made start end told said result
 creates_so s m r remaining y w g disk input name base inputs temporary o given old new left was now start end told said result honest (inl (fault, is, not_opened, same, handed, kept, silent)) =
     let c = create_of w g disk input name base inputs temporary o in
@@ -79,7 +81,7 @@ creates_so s m r remaining y w g disk input name base inputs temporary o given o
 creates_so s m r remaining y w g disk input name base inputs temporary o given old new left was now start end told said result honest (inr (file, items, mid, opens, inr (other, kept, inr (apart, same, handed, inr (inr (asked, asks, replaces)))))) =
     let c = create_of w g disk input name base inputs temporary o in
     let mk : Making _ = record { word = w; greatest = g; options = o; base = file; inputs = items } in
-    let none : file ≡ None → left.read ≡ None = back_none s r mk (temporary_of name temporary) name asked now left.read told said result replaces in
+    let none : file ≡ None → left.read ≡ None = back_none s r mk (temporary_of name temporary) name (state_of mid asked start told) (state_of new now end said) left.read result replaces in
     let standard = standard_not name other in
     let placed_in = in_place_not name temporary apart in
     with_none m disk name temporary o c was now left.read left start end told said result handed
