@@ -24,7 +24,7 @@ use Rattle.cdb.specs.Files.{Files}
 use Rattle.cdb.specs.Foretold.{GivesInputs, IsAnswered, if_some}
 use Rattle.cdb.specs.Opening.{OpenCalls}
 use Rattle.cdb.specs.Oracle.{Disk, greatest_size, is_standard, word_size}
-use Rattle.cdb.specs.State.{Given, State, calls_of}
+use Rattle.cdb.specs.State.{Given, State, with_calls}
 use Rattle.cdb.specs.declared.left.Left.{Left}
 
 -- ---- the calls
@@ -173,7 +173,7 @@ IsCreateForetold files given old new left taken status =
     (temporary : Option (List ℕ)) (o : MakeOptions) (wide : Bool)
     → given.asked ≡ Ok (Create name base inputs temporary o wide) → taken
     → GivesInputs disk inputs input given.input
-    → HonestCreate files disk name (calls_of files.system old) (calls_of files.system new) left.read
+    → HonestCreate files disk name (with_calls files old) (with_calls files new) left.read
     → CreateHolds files.made (expected_of disk name temporary
     (create_of (word_size wide) (greatest_size wide) disk input name base inputs temporary o))
     given.explained left.made old new status

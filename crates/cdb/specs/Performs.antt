@@ -41,7 +41,7 @@ use Rattle.cdb.specs.Files.{Files}
 use Rattle.cdb_tool.specs.declared.inputs.Turn.{Turn}
 use Rattle.cdb.specs.Inputs.{OpensInputs, StopsOpening}
 use Rattle.cdb.specs.Opening.{Misses, OpenCalls, both_left, none_left, read_left}
-use Rattle.cdb.specs.State.{Failed, Given, State, calls_of, given_of}
+use Rattle.cdb.specs.State.{Failed, Given, State, calls_in, given_of, with_calls}
 use Rattle.cdb.specs.declared.left.Left.{Left}
 use Rattle.cdb.specs.declared.open_trace.OpenCall.TheVariants.{AtPlaces, InTurn, Stream}
 
@@ -72,9 +72,9 @@ pub record QueriesFile {F I M Y : Type 0} (w : ℕ) (files : Files F I M Y) (nam
 abbrev pub PerformsQuery : {F I M Y : Type 0} → ℕ → Files F I M Y → (name : List ℕ) → Query
     → (old new : State Y) → Left F M → Result Unit Fault → Type 0
 PerformsQuery w files name q old new left result =
-    ((left ≡ none_left) × Refuses name (files.system.calls old.opened) (files.system.calls new.opened) old.output
-    new.output result)
-    ⊎ ((files.system.calls new.opened ≡ (AtPlaces, name) ∷ files.system.calls old.opened)
+    ((left ≡ none_left)
+    × Refuses name (calls_in files old) (calls_in files new) old.output new.output result)
+    ⊎ ((calls_in files new ≡ (AtPlaces, name) ∷ calls_in files old)
     × QueriesFile w files name q old new left result)
 
 -- ---- dump and list
@@ -97,9 +97,8 @@ pub record WritesFile {F I M Y : Type 0} (w : ℕ) (files : Files F I M Y) (form
 abbrev pub PerformsText : {F I M Y : Type 0} → ℕ → Files F I M Y → Form → Option (List ℕ)
     → (input : Option (List ℕ)) → (old new : State Y) → Result Unit Fault → Type 0
 PerformsText w files form (Some name) input old new result =
-    Refuses name (files.system.calls old.opened) (files.system.calls new.opened) old.output
-    new.output result
-    ⊎ ((files.system.calls new.opened ≡ (InTurn, name) ∷ files.system.calls old.opened)
+    Refuses name (calls_in files old) (calls_in files new) old.output new.output result
+    ⊎ ((calls_in files new ≡ (InTurn, name) ∷ calls_in files old)
     × (LacksMemory old.output new.output result
     ⊎ WritesFile w files form name old.output new.output result))
 PerformsText w files form None input old new result =
@@ -166,21 +165,16 @@ abbrev pub PerformsOn : {F I M Y : Type 0} → Files F I M Y → (most : ℕ)
     → (name : Option (List ℕ)) → (input : Option (List ℕ)) → (old new : State Y) → Left F M
     → Result Unit Fault → (F → F → Type 0) → (MemStore → MemStore → Type 0) → Type 0
 PerformsOn files most (Some name) input old new left result file taken =
-    ((left ≡ none_left)
-    × Refuses name ((Stream looks.No, name) ∷ files.system.calls old.opened)
-    (files.system.calls new.opened) old.output new.output result)
-    ⊎ ((files.system.calls new.opened
-    ≡ (AtPlaces, name) ∷ (Stream looks.No, name) ∷ files.system.calls old.opened)
+    ((left ≡ none_left) × Refuses name ((Stream looks.No, name) ∷ calls_in files old)
+    (calls_in files new) old.output new.output result)
+    ⊎ ((calls_in files new ≡ (AtPlaces, name) ∷ (Stream looks.No, name) ∷ calls_in files old)
     × OfFile files name left file)
-    ⊎ ((left ≡ none_left)
-    × Refuses name ((Stream looks.Yes, name) ∷ files.system.calls old.opened)
-    (files.system.calls new.opened) old.output new.output result)
-    ⊎ ((files.system.calls new.opened
-    ≡ (InTurn, name) ∷ (Stream looks.Yes, name) ∷ files.system.calls old.opened)
+    ⊎ ((left ≡ none_left) × Refuses name ((Stream looks.Yes, name) ∷ calls_in files old)
+    (calls_in files new) old.output new.output result)
+    ⊎ ((calls_in files new ≡ (InTurn, name) ∷ (Stream looks.Yes, name) ∷ calls_in files old)
     × (left ≡ none_left) × OfStream files name most old.output new.output result taken)
-    ⊎ ((files.system.calls new.opened
-    ≡ (Stream looks.Unknown, name) ∷ files.system.calls old.opened) × (left ≡ none_left)
-    × (result ≡ Err Open) × Keeps old.output new.output)
+    ⊎ ((calls_in files new ≡ (Stream looks.Unknown, name) ∷ calls_in files old)
+    × (left ≡ none_left) × (result ≡ Err Open) × Keeps old.output new.output)
 PerformsOn files most None input old new left result file taken =
     (new.opened ≡ old.opened) × (left ≡ none_left)
     × Takes most input old.output new.output result taken
@@ -207,18 +201,17 @@ pub record RefusesSecond {F I M Y : Type 0} (files : Files F I M Y) (first secon
   pub file : F
   pub came : files.system.gives first file
   pub is_left : left ≡ read_left file
-  pub refuses : Refuses second ((AtPlaces, first) ∷ files.system.calls old.opened)
-      (files.system.calls new.opened) old.output new.output result
+  pub refuses : Refuses second ((AtPlaces, first) ∷ calls_in files old)
+      (calls_in files new) old.output new.output result
 
 -- both are opened, to be read at places, and no other file is
 abbrev pub PerformsDifference : {F I M Y : Type 0} → ℕ → Files F I M Y → (first second : List ℕ)
     → (old new : State Y) → Left F M → Result Unit Fault → Type 0
 PerformsDifference w files first second old new left result =
-    ((left ≡ none_left) × Refuses first (files.system.calls old.opened)
-    (files.system.calls new.opened) old.output new.output result)
+    ((left ≡ none_left)
+    × Refuses first (calls_in files old) (calls_in files new) old.output new.output result)
     ⊎ RefusesSecond files first second old new left result
-    ⊎ ((files.system.calls new.opened
-    ≡ (AtPlaces, second) ∷ (AtPlaces, first) ∷ files.system.calls old.opened)
+    ⊎ ((calls_in files new ≡ (AtPlaces, second) ∷ (AtPlaces, first) ∷ calls_in files old)
     × ComparesFiles w files first second old new left result)
 
 -- ---- many keys
@@ -241,7 +234,7 @@ pub record LooksUpFile {F I M Y : Type 0} (w most : ℕ) (files : Files F I M Y)
   pub is_last : left ≡ read_left last
   pub turns : List (Turn I)
   pub opens : OpensInputs files.system l.inputs turns
-      ((AtPlaces, l.name) ∷ files.system.calls old.opened) (files.system.calls new.opened)
+      ((AtPlaces, l.name) ∷ calls_in files old) (calls_in files new)
   pub each : InputsLeft
   pub each_are : each ≡ record { each = map (one_of files.remaining) turns; shared = l.standard }
   pub looks : LooksUp w most files.stores l.number l.style each file last old.output new.output
@@ -256,16 +249,16 @@ pub record RefusesInputs {F I M Y : Type 0} (files : Files F I M Y) (name : List
   pub is_left : left ≡ read_left file
   pub fault : Fault
   pub is : result ≡ Err fault
-  pub stops : StopsOpening files.system inputs ((AtPlaces, name) ∷ files.system.calls old.opened)
-      (files.system.calls new.opened) fault
+  pub stops : StopsOpening files.system inputs ((AtPlaces, name) ∷ calls_in files old)
+      (calls_in files new) fault
   pub kept : Keeps old.output new.output
 
 -- the file is opened, to be read at places, and then the inputs
 abbrev pub PerformsLookups : {F I M Y : Type 0} → (w most : ℕ) → Files F I M Y → Lookups
     → (old new : State Y) → Left F M → Result Unit Fault → Type 0
 PerformsLookups w most files l old new left result =
-    ((left ≡ none_left) × Refuses l.name (files.system.calls old.opened)
-    (files.system.calls new.opened) old.output new.output result)
+    ((left ≡ none_left)
+    × Refuses l.name (calls_in files old) (calls_in files new) old.output new.output result)
     ⊎ RefusesInputs files l.name l.inputs old new left result
     ⊎ LooksUpFile w most files l old new left result
 
@@ -326,7 +319,7 @@ Performs w most files r explained (asked.Create name base inputs temporary optio
       base = base;
       inputs = inputs;
       temporary = temporary;
-    }) input (calls_of files.system old) (calls_of files.system new) left result
+    }) input (with_calls files old) (with_calls files new) left result
 Performs w most files r explained asked.Help input old new left result =
     (new.opened ≡ old.opened) × (left ≡ none_left) × Tells usage_text old.output new.output result
 Performs w most files r explained asked.Version input old new left result =
@@ -427,7 +420,7 @@ pub record AsksFor {F I M R Y : Type 0} (files : Files F I M Y) (r : Raw R)
     pub same : IsUntouched (asked_in command) old.named new.named
     pub more : List ℕ
     pub explains : Explains given.explained (asked_in command) result
-        (files.system.calls new.opened) new.named more
+        (calls_in files new) new.named more
     pub says : Says result more before new.errors failed.errors
     pub is_status : status ≡ status_of command result
 

@@ -1,8 +1,8 @@
 -- What a command is given, and what it has asked of the system and written so far.
 use Rattle.std.specs.Prelude.{ℕ, Bool, List, Option}
 use Rattle.cdb_files.specs.Folder.{NameCalls}
+use Rattle.cdb.specs.Files.{Files}
 use Rattle.cdb.specs.Opening.{OpenCalls}
-use Rattle.cdb.specs.declared.system.System.{Ghosts as Systems}
 
 -- what is asked for, whether its faults are explained, and what standard input has
 pub record Given (A : Type 0) : Type 0 where
@@ -15,6 +15,9 @@ given_of asked explained input = record { asked = asked; explained = explained; 
 
 -- what was opened, as the system itself or as the calls on its files; the calls on names; and what
 -- standard output and standard error took
+--
+-- A relation is of two: before and after. The contract of a function that has no names, say, holds
+-- whatever calls on names there were, and leaves them.
 pub record State (S : Type 0) : Type 0 where
   pub opened : S
   pub named : NameCalls
@@ -25,10 +28,14 @@ abbrev pub state_of : {S : Type 0} → S → NameCalls → (output errors : Opti
 state_of opened named output errors =
     record { opened = opened; named = named; output = output; errors = errors }
 
--- with the calls on files for the system
-abbrev pub calls_of : {F I M Y : Type 0} → Systems Y F I M → State Y → State OpenCalls
-calls_of y state = record {
-  opened = y.calls state.opened;
+-- the calls on files
+abbrev pub calls_in : {F I M Y : Type 0} → Files F I M Y → State Y → OpenCalls
+calls_in files state = files.system.calls state.opened
+
+-- with these for the system
+abbrev pub with_calls : {F I M Y : Type 0} → Files F I M Y → State Y → State OpenCalls
+with_calls files state = record {
+  opened = calls_in files state;
   named = state.named;
   output = state.output;
   errors = state.errors;
