@@ -145,7 +145,8 @@ inputs_are_given = record {
 }
 
 create_is_honest : (y : Systems OpenCalls MemStore (List ℕ) MemStore)
-    → HonestCreate (files_of in_memory in_memory Some y) nothing its (state_of [] [] None None) (state_of [] name_calls None None) None
+    → HonestCreate (files_of in_memory in_memory Some y) nothing its (state_of [] [] None None)
+    (state_of [] name_calls None None) None
 unfolding nothing
 create_is_honest y = record {
   calls = [];

@@ -38,8 +38,8 @@ use Rattle.cdb.specs.declared.system.System.{Ghosts as Systems}
 
 -- ---- the database
 
--- what is wanted: in words of so many bytes, in a file of at most the greatest length, by these options,
--- the database of this name, of this base and these inputs, by way of this temporary file
+-- what is wanted: in words of so many bytes, in a file of at most the greatest length, by these
+-- options, the database of this name, of this base and these inputs, by way of this temporary file
 pub record Wanted : Type 0 where
   pub word : ℕ
   pub greatest : ℕ
@@ -328,8 +328,8 @@ MakesAt files r m wanted old new left result =
 
 -- all that is read is opened, and then the database is made of it; or nothing is made. A base that was
 -- opened is handed back, as it came if nothing was built; so is a file that was made in place
-abbrev pub Creates : {F I M R Y : Type 0} → Files F I M Y → Raw R → Wanted → (standard : Option (List ℕ)) → (old new : State OpenCalls) → Left F M
-    → Result Unit Fault → Type 0
+abbrev pub Creates : {F I M R Y : Type 0} → Files F I M Y → Raw R → Wanted
+    → (standard : Option (List ℕ)) → (old new : State OpenCalls) → Left F M → Result Unit Fault → Type 0
 Creates {F = F} files r wanted standard old new left result =
     ((fault : Fault) × (result ≡ Err fault)
     × NotOpened files.system wanted.base wanted.inputs old.opened new.opened left.read fault

@@ -3,7 +3,8 @@ use Rattle.std.specs.Prelude.{ℕ, List, Option}
 use Rattle.cdb_store.specs.declared.store.Store.{Ghosts}
 use Rattle.cdb.specs.declared.system.System.{Ghosts as Systems}
 
--- what is read at places, what is made, what is read from its start on, and the system that gives them
+-- what is read at places, what is made, what is read from its start on, and the system that gives
+-- them
 pub record Files (F I M Y : Type 0) : Type 1 where
   pub stores : Ghosts F
   pub made : Ghosts M

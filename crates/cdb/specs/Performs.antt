@@ -60,8 +60,8 @@ LacksMemory start end result = (result ≡ Err NoRoom) × Keeps start end
 -- ---- query
 
 -- the values of a key of the file that came, which is left so
-pub record QueriesFile {F I M Y : Type 0} (w : ℕ) (files : Files F I M Y) (name : List ℕ) (q : Query)
-    (old new : State Y) (left : Left F M) (result : Result Unit Fault) : Type 0 where
+pub record QueriesFile {F I M Y : Type 0} (w : ℕ) (files : Files F I M Y) (name : List ℕ)
+    (q : Query) (old new : State Y) (left : Left F M) (result : Result Unit Fault) : Type 0 where
   pub file : F
   pub came : files.system.gives name file
   pub last : F
@@ -86,8 +86,8 @@ pub record WritesText (w : ℕ) (form : Form) (file start end : Option (List ℕ
   pub walk : WritesWalk w form file rest start end result
 
 -- of the file that came
-pub record WritesFile {F I M Y : Type 0} (w : ℕ) (files : Files F I M Y) (form : Form) (name : List ℕ)
-    (start end : Option (List ℕ)) (result : Result Unit Fault) : Type 0 where
+pub record WritesFile {F I M Y : Type 0} (w : ℕ) (files : Files F I M Y) (form : Form)
+    (name : List ℕ) (start end : Option (List ℕ)) (result : Result Unit Fault) : Type 0 where
   pub file : I
   pub came : files.system.reads name file
   pub writes : WritesText w form (files.remaining file) start end result
@@ -282,7 +282,8 @@ IsShown true inputs options shown =
 abbrev pub Performs : {F I M R Y : Type 0} → (w most : ℕ) → Files F I M Y → Raw R
     → (explained : Bool) → Asked → (input : Option (List ℕ)) → (old new : State Y) → Left F M
     → Result Unit Fault → Type 0
-Performs w most files r explained (asked.Query name key number lines wide) input old new left result =
+Performs w most files r explained (asked.Query name key number lines wide) input old new left
+    result =
     PerformsQuery w files name (record { key = key; number = number; shown = value_text lines }) old
     new left result
 Performs w most files r explained (asked.Lookups name inputs number style wide) input old new left
@@ -408,7 +409,8 @@ pub record AsksNothing {F M Y : Type 0} (given : Given (Result Asked Refused)) (
 
 -- the command that they ask for was performed, and then its fault was said, and explained if it is to be
 pub record AsksFor {F I M R Y : Type 0} (files : Files F I M Y) (r : Raw R)
-    (given : Given (Result Asked Refused)) (old new : State Y) (left : Left F M) (failed : Failed) (status : ℕ) : Type 0
+    (given : Given (Result Asked Refused)) (old new : State Y) (left : Left F M)
+    (failed : Failed) (status : ℕ) : Type 0
   where
     pub command : Command
     pub asks : given.asked ≡ Ok (asked_in command)
@@ -427,7 +429,8 @@ pub record AsksFor {F I M R Y : Type 0} (files : Files F I M Y) (r : Raw R)
 -- from its words to its exit status: what was written, what standard output has of it, and what is
 -- said on standard error; whether the one failed, or the other; and which files are handed back
 abbrev pub Runs : {F I M R Y : Type 0} → Files F I M Y → Raw R
-    → Given (Result Asked Refused) → (old new : State Y) → (final : Option (List ℕ)) → Left F M → Failed → (status : ℕ)
+    → Given (Result Asked Refused) → (old new : State Y) → (final : Option (List ℕ)) → Left F M
+    → Failed → (status : ℕ)
     → Type 0
 Runs files r given old new final left failed status =
     AsksNothing given old new left failed.errors status

@@ -65,8 +65,10 @@ where
     requires words { creation.options.limit ≤ L.GREATEST }
     ensures { Creates (files_of Y.File.Store Y.Made.Store Y.Stream.remaining Y.System)
         N.File.RawFile (wanted_of L.WORD L.GREATEST creation.entry) (I.remaining input)
-        (state_of (Y.calls system.old) (N.calls names.old) (O.contents output.old) (E.contents errors.old))
-        (state_of (Y.calls system.new) (N.calls names.new) (O.contents output.new) (E.contents errors.new))
+        (state_of (Y.calls system.old) (N.calls names.old) (O.contents output.old)
+        (E.contents errors.old))
+        (state_of (Y.calls system.new) (N.calls names.new) (O.contents output.new)
+        (E.contents errors.new))
         result.0 result.1 }
 {
     let contents = match open_all::<L, Y, I>(alloc, system, creation, input) {

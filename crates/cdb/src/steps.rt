@@ -40,8 +40,8 @@ where
     E: Write,
     ensures runs { Runs (files_of Y.File.Store Y.Made.Store Y.Stream.remaining Y.System)
         N.File.RawFile
-        (given_of (plan_of (map string_bytes words.items)) (explains_in (map string_bytes words.items))
-        (I.remaining input))
+        (given_of (plan_of (map string_bytes words.items))
+        (explains_in (map string_bytes words.items)) (I.remaining input))
         (state_of system.old (N.calls names.old) (output_bytes O.contents output.old)
         (output_bytes E.contents errors.old))
         (state_of system.new (N.calls names.new) (output_bytes O.contents output.new)
@@ -50,20 +50,22 @@ where
     ensures handed { held_by output.old ≡ [] → HasHandedOn output.new }
     ensures said { HasHandedOn errors.new }
     ensures foretold { IsForetold (files_of Y.File.Store Y.Made.Store Y.Stream.remaining Y.System)
-        (given_of (plan_of (map string_bytes words.items)) (explains_in (map string_bytes words.items))
-        (I.remaining input))
+        (given_of (plan_of (map string_bytes words.items))
+        (explains_in (map string_bytes words.items)) (I.remaining input))
         (state_of system.old (N.calls names.old) (output_bytes O.contents output.old)
         (output_bytes E.contents errors.old))
         (state_of system.new (N.calls names.new) (O.contents output.new.writer)
-        (E.contents errors.new.writer)) result.0 (IsTaken output.old output.new errors.new) result.1 }
+        (E.contents errors.new.writer)) result.0 (IsTaken output.old output.new errors.new)
+        result.1 }
     ensures created { IsCreateForetold
         (files_of Y.File.Store Y.Made.Store Y.Stream.remaining Y.System)
-        (given_of (plan_of (map string_bytes words.items)) (explains_in (map string_bytes words.items))
-        (I.remaining input))
+        (given_of (plan_of (map string_bytes words.items))
+        (explains_in (map string_bytes words.items)) (I.remaining input))
         (state_of system.old (N.calls names.old) (output_bytes O.contents output.old)
         (output_bytes E.contents errors.old))
         (state_of system.new (N.calls names.new) (O.contents output.new.writer)
-        (E.contents errors.new.writer)) result.0 (IsTaken output.old output.new errors.new) result.1 }
+        (E.contents errors.new.writer)) result.0 (IsTaken output.old output.new errors.new)
+        result.1 }
 {
     let (left, status) = answer::<Y, N, I, O, E>(
         alloc, system, names, words, input, output, errors,
@@ -91,8 +93,8 @@ where
     E: Write,
     ensures runs { Runs (files_of Y.File.Store Y.Made.Store Y.Stream.remaining Y.System)
         N.File.RawFile
-        (given_of (plan_of (map string_bytes words.items)) (explains_in (map string_bytes words.items))
-        (I.remaining input))
+        (given_of (plan_of (map string_bytes words.items))
+        (explains_in (map string_bytes words.items)) (I.remaining input))
         (state_of system.old (N.calls names.old) (output_bytes O.contents output.old)
         (output_bytes E.contents errors.old))
         (state_of system.new (N.calls names.new) (output_bytes O.contents output.new)
