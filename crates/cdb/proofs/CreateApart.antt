@@ -30,6 +30,9 @@ use Rattle.cdb.specs.declared.system.System.{Ghosts as Systems}
 use Rattle.cdb.proofs.Replaced.{IsGone, KeepsOthers, LeavesOldOrMade, ReplacesSo, at_name, none_appended, not_at, replaces_so, said_nothing}
 use Rattle.cdb.proofs.CreateReads.{Asking, all_known_by, asked_all, asked_kept, asking_all, moments_first}
 use Rattle.cdb.proofs.CreateEnds.{Came, CreateSo, apart_is, constant, ends_early, first_is, has_may, last_leaves, last_moment, lines_of, name_holds, open_so, oracle_is, other_name, result_of, same_name, same_some, since_asked}
+use Rattle.cdb.specs.State.{state_of}
+use Rattle.cdb.specs.Files.{files_of}
+use Rattle.cdb.specs.Foretold.{GivesInputs}
 
 -- ---- in a temporary file
 
@@ -179,12 +182,12 @@ passing_temporary : (name : List ℕ) (temporary : Option (List ℕ)) → is_sta
 passing_temporary name temporary standard in_place = cond-false (is_standard name) _ _ standard ∙ cond-false (is_in_place name temporary) _ _ in_place
 
 named_so : {F I M R Y : Type 0} (s : Ghosts F) (m : Ghosts M) (remaining : I → Option (List ℕ)) (y : Systems Y F I M) (r : Raw R) (w g : ℕ) (disk : Disk) (input name : List ℕ) (base : Option (List ℕ)) (inputs : List (List ℕ)) (temporary : Option (List ℕ)) (o : MakeOptions) (given : Option (List ℕ)) (old mid new : OpenCalls) (file read : Option F) (left : InputsLeft) (was asked now : NameCalls) (start end told said : Option (List ℕ)) (result : Result Unit Fault)
-    → is_standard name ≡ false → is_in_place name temporary ≡ false → is_no_name name ≡ false → (file ≡ None → read ≡ None) → HonestCreate s remaining y disk input inputs given old new read name was now → OpensAll y remaining base inputs given old mid file left → new ≡ mid → Keeps start end → AsksAll (temporary_of name temporary) base inputs was asked
-    → Replaces s r (record { word = w; greatest = g; options = o; base = file; inputs = left }) (temporary_of name temporary) name asked now read told said result
+    → is_standard name ≡ false → is_in_place name temporary ≡ false → is_no_name name ≡ false → (file ≡ None → read ≡ None) → GivesInputs disk inputs input given → HonestCreate (files_of s m remaining y) disk name (state_of old was start told) (state_of new now end said) read → OpensAll (files_of s m remaining y) base inputs given old mid file left → new ≡ mid → Keeps start end → AsksAll (temporary_of name temporary) base inputs was asked
+    → Replaces s r (record { word = w; greatest = g; options = o; base = file; inputs = left }) (temporary_of name temporary) name (state_of mid asked start told) (state_of new now end said) read result
     → CreateSo m disk name temporary o (create_of w g disk input name base inputs temporary o) was now None start end told said result
-named_so s m remaining y r w g disk input name base inputs temporary o given old mid new file read left was asked now start end told said result standard in_place named none honest opens same kept asks replaces =
+named_so s m remaining y r w g disk input name base inputs temporary o given old mid new file read left was asked now start end told said result standard in_place named none gives honest opens same kept asks replaces =
     let t = temporary_of name temporary in
-    let known = all_known_by s remaining y disk input base inputs given read file left old mid new honest.calls honest.bytes none honest.reads opens ([], same) honest.are honest.answered in
+    let known = all_known_by s m remaining y disk input base inputs given read file left old mid new honest.calls gives.bytes none gives.known opens ([], same) honest.are honest.answered in
     let apart = apart_is name temporary in_place in
     let more = since_asked asked now replaces.moments.since replaces.moments.calls honest.alone in
     let question = asked_all t base inputs was asked asks more in
@@ -230,8 +233,8 @@ silent_so s r mk t name asked now back told said answer same is (inr some) =
     absurd (not_cleared t (calls_of some.sealed) asked now same (subst (λ v. OnErr v (ClearsFile t (calls_of some.sealed) asked now)) is some.cleared))
 
 -- nothing is done for it
-no_name_so : {F M R : Type 0} (s : Ghosts F) (m : Ghosts M) (r : Raw R) (w g : ℕ) (disk : Disk) (input name : List ℕ) (base : Option (List ℕ)) (inputs : List (List ℕ)) (temporary : Option (List ℕ)) (o : MakeOptions) (mk : Making F) (read : Option F) (was asked now : NameCalls) (start end told said : Option (List ℕ)) (result : Result Unit Fault)
-    → is_standard name ≡ false → is_in_place name temporary ≡ false → is_no_name name ≡ true → was ≡ [] → Keeps start end → AsksAll (temporary_of name temporary) base inputs was asked → Replaces s r mk (temporary_of name temporary) name asked now read told said result
+no_name_so : {F M R : Type 0} {mid new : OpenCalls} (s : Ghosts F) (m : Ghosts M) (r : Raw R) (w g : ℕ) (disk : Disk) (input name : List ℕ) (base : Option (List ℕ)) (inputs : List (List ℕ)) (temporary : Option (List ℕ)) (o : MakeOptions) (mk : Making F) (read : Option F) (was asked now : NameCalls) (start end told said : Option (List ℕ)) (result : Result Unit Fault)
+    → is_standard name ≡ false → is_in_place name temporary ≡ false → is_no_name name ≡ true → was ≡ [] → Keeps start end → AsksAll (temporary_of name temporary) base inputs was asked → Replaces s r mk (temporary_of name temporary) name (state_of mid asked start told) (state_of new now end said) read result
     → CreateSo m disk name temporary o (create_of w g disk input name base inputs temporary o) was now None start end told said result
 no_name_so s m r w g disk input name base inputs temporary o mk read was asked now start end told said result standard in_place is first kept asks replaces =
     let c = create_of w g disk input name base inputs temporary o in
@@ -245,10 +248,10 @@ no_name_so s m r w g disk input name base inputs temporary o mk read was asked n
     ]
 
 pub replacing_so : {F I M R Y : Type 0} (s : Ghosts F) (m : Ghosts M) (remaining : I → Option (List ℕ)) (y : Systems Y F I M) (r : Raw R) (w g : ℕ) (disk : Disk) (input name : List ℕ) (base : Option (List ℕ)) (inputs : List (List ℕ)) (temporary : Option (List ℕ)) (o : MakeOptions) (given : Option (List ℕ)) (old mid new : OpenCalls) (file read : Option F) (left : InputsLeft) (was asked now : NameCalls) (start end told said : Option (List ℕ)) (result : Result Unit Fault)
-    → is_standard name ≡ false → is_in_place name temporary ≡ false → (file ≡ None → read ≡ None) → HonestCreate s remaining y disk input inputs given old new read name was now → OpensAll y remaining base inputs given old mid file left → new ≡ mid → Keeps start end → AsksAll (temporary_of name temporary) base inputs was asked
-    → Replaces s r (record { word = w; greatest = g; options = o; base = file; inputs = left }) (temporary_of name temporary) name asked now read told said result
+    → is_standard name ≡ false → is_in_place name temporary ≡ false → (file ≡ None → read ≡ None) → GivesInputs disk inputs input given → HonestCreate (files_of s m remaining y) disk name (state_of old was start told) (state_of new now end said) read → OpensAll (files_of s m remaining y) base inputs given old mid file left → new ≡ mid → Keeps start end → AsksAll (temporary_of name temporary) base inputs was asked
+    → Replaces s r (record { word = w; greatest = g; options = o; base = file; inputs = left }) (temporary_of name temporary) name (state_of mid asked start told) (state_of new now end said) read result
     → CreateSo m disk name temporary o (create_of w g disk input name base inputs temporary o) was now None start end told said result
-replacing_so s m remaining y r w g disk input name base inputs temporary o given old mid new file read left was asked now start end told said result standard in_place none honest opens same kept asks replaces = elim (cases_Bool (is_no_name name)) [
+replacing_so s m remaining y r w g disk input name base inputs temporary o given old mid new file read left was asked now start end told said result standard in_place none gives honest opens same kept asks replaces = elim (cases_Bool (is_no_name name)) [
   | inl is ↦ no_name_so s m r w g disk input name base inputs temporary o (record { word = w; greatest = g; options = o; base = file; inputs = left }) read was asked now start end told said result standard in_place is honest.first kept asks replaces
-  | inr named ↦ named_so s m remaining y r w g disk input name base inputs temporary o given old mid new file read left was asked now start end told said result standard in_place named none honest opens same kept asks replaces
+  | inr named ↦ named_so s m remaining y r w g disk input name base inputs temporary o given old mid new file read left was asked now start end told said result standard in_place named none gives honest opens same kept asks replaces
 ]

@@ -34,6 +34,7 @@ use Rattle.cdb.specs.declared.open_trace.OpenCall.TheVariants.{Unopened}
 use Rattle.cdb.specs.declared.system.System.{Ghosts as Systems}
 use Rattle.cdb.proofs.Replaced.{IsPlain, none_appended, said_nothing}
 use Rattle.cdb.proofs.CreateReads.{AllKnown, Asking, all_back, asked_kept, base_grows, grows, moments_first, read_input, standard_not}
+use Rattle.cdb.specs.State.{State}
 
 -- ---- the oracle
 
@@ -318,8 +319,8 @@ hands_none s None None h e = refl
 hands_none s None (Some store) h e = absurd h
 hands_none s (Some store) new h e = absurd (let no : ◌≡◌ {A = Option _} (Some store) None = e in cc)
 
-pub back_none : {F R : Type 0} (s : Ghosts F) (r : Raw R) (m : Making F) (temporary name : List ℕ) (old new : NameCalls) (back : Option F) (told said : Option (List ℕ)) (result : Result Unit Fault) → Replaces s r m temporary name old new back told said result → m.base ≡ None → back ≡ None
-back_none s r m temporary name old new back told said result h e = elim h.lines [
+pub back_none : {F R : Type 0} (s : Ghosts F) (r : Raw R) (m : Making F) (temporary name : List ℕ) (old new : State OpenCalls) (back : Option F) (result : Result Unit Fault) → Replaces s r m temporary name old new back result → m.base ≡ None → back ≡ None
+back_none s r m temporary name old new back result h e = elim h.lines [
   | inl none ↦ none.gave_up ∙ e
   | inr some ↦ elim some.tells_so [ inl ran ↦ hands_none s m.base back ran.hands e | inr lacks ↦ lacks.0 ∙ e ]
 ]

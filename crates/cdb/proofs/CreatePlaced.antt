@@ -31,6 +31,9 @@ use Rattle.cdb.specs.declared.left.Left.{Left}
 use Rattle.cdb.proofs.Replaced.{BaseHas, EndsSo, IsPlain, WasRefused, database_is, made_here, ran_err, ran_ok, whole_lines, none_appended, said_nothing}
 use Rattle.cdb.proofs.CreateReads.{AllKnown, Asking, all_known_by, asked_all, asking_all, asking_none, moments_first}
 use Rattle.cdb.proofs.CreateEnds.{Came, CameTrue, CreateSo, GaveUp, constant, hands_none, has_first, holds_first, keeps_first, same_name}
+use Rattle.cdb.specs.State.{state_of}
+use Rattle.cdb.specs.Files.{files_of}
+use Rattle.cdb.specs.Foretold.{GivesInputs}
 
 -- ---- in place
 
@@ -158,12 +161,12 @@ if_err P (Ok done) p = tt
 if_err P (Err f) p = p
 
 pub emptied_so : {F I M Y : Type 0} (s : Ghosts F) (m : Ghosts M) (remaining : I → Option (List ℕ)) (y : Systems Y F I M) (w g : ℕ) (disk : Disk) (input name : List ℕ) (base : Option (List ℕ)) (inputs : List (List ℕ)) (temporary : Option (List ℕ)) (o : MakeOptions) (given : Option (List ℕ)) (old mid new : OpenCalls) (file : Option F) (items : InputsLeft) (left : Left F M) (was now : NameCalls) (start end told said : Option (List ℕ)) (result : Result Unit Fault)
-    → is_standard name ≡ false → is_in_place name temporary ≡ true → HonestCreate s remaining y disk input inputs given old new left.read name was now → OpensAll y remaining base inputs given old mid file items → Keeps start end → AsksAll name base inputs was now → Empties name mid new
-    → MakesEmptied y s m (record { word = w; greatest = g; options = o; base = file; inputs = items }) name left told said result → CreateSo m disk name temporary o (create_of w g disk input name base inputs temporary o) was now left.made start end told said result
-emptied_so s m remaining y w g disk input name base inputs temporary o given old mid new file items left was now start end told said result standard placed_in honest opens kept asks empties h =
+    → is_standard name ≡ false → is_in_place name temporary ≡ true → GivesInputs disk inputs input given → HonestCreate (files_of s m remaining y) disk name (state_of old was start told) (state_of new now end said) left.read → OpensAll (files_of s m remaining y) base inputs given old mid file items → Keeps start end → AsksAll name base inputs was now → Empties name mid new
+    → MakesEmptied (files_of s m remaining y) (record { word = w; greatest = g; options = o; base = file; inputs = items }) name (state_of mid was start told) (state_of new now end said) left result → CreateSo m disk name temporary o (create_of w g disk input name base inputs temporary o) was now left.made start end told said result
+emptied_so s m remaining y w g disk input name base inputs temporary o given old mid new file items left was now start end told said result standard placed_in gives honest opens kept asks empties h =
     let mk : Making _ = record { word = w; greatest = g; options = o; base = file; inputs = items } in
     let none : file ≡ None → left.read ≡ None = back_of s mk left.read (m.image h.built) told said h.made h.run in
-    let known = all_known_by s remaining y disk input base inputs given left.read file items old mid new honest.calls honest.bytes none honest.reads opens (emptying_grows name mid new empties) honest.are honest.answered in
+    let known = all_known_by s m remaining y disk input base inputs given left.read file items old mid new honest.calls gives.bytes none gives.known opens (emptying_grows name mid new empties) honest.are honest.answered in
     let question = asked_all name base inputs was now asks honest.alone in
     let a = asking_all name base inputs was now asks in
     let c = create_of w g disk input name base inputs temporary o in
@@ -255,12 +258,12 @@ if_ok P (Ok done) p = p
 if_ok P (Err f) p = tt
 
 pub output_so : {F I M Y : Type 0} (s : Ghosts F) (m : Ghosts M) (remaining : I → Option (List ℕ)) (y : Systems Y F I M) (w g : ℕ) (disk : Disk) (input name : List ℕ) (base : Option (List ℕ)) (inputs : List (List ℕ)) (temporary : Option (List ℕ)) (o : MakeOptions) (given : Option (List ℕ)) (old mid new : OpenCalls) (file read : Option F) (items : InputsLeft) (was now : NameCalls) (start end told said : Option (List ℕ)) (result : Result Unit Fault)
-    → is_standard name ≡ true → HonestCreate s remaining y disk input inputs given old new read name was now → OpensAll y remaining base inputs given old mid file items → new ≡ mid → now ≡ was
+    → is_standard name ≡ true → GivesInputs disk inputs input given → HonestCreate (files_of s m remaining y) disk name (state_of old was start told) (state_of new now end said) read → OpensAll (files_of s m remaining y) base inputs given old mid file items → new ≡ mid → now ≡ was
     → MakesOnOutput s (record { word = w; greatest = g; options = o; base = file; inputs = items }) read start end told said result → CreateSo m disk name temporary o (create_of w g disk input name base inputs temporary o) was now None start end told said result
-output_so s m remaining y w g disk input name base inputs temporary o given old mid new file read items was now start end told said result standard honest opens same calls h =
+output_so s m remaining y w g disk input name base inputs temporary o given old mid new file read items was now start end told said result standard gives honest opens same calls h =
     let mk : Making _ = record { word = w; greatest = g; options = o; base = file; inputs = items } in
     let none : file ≡ None → read ≡ None = hands_none s file read h.makes.run.hands in
-    let known = all_known_by s remaining y disk input base inputs given read file items old mid new honest.calls honest.bytes none honest.reads opens ([], same) honest.are honest.answered in
+    let known = all_known_by s m remaining y disk input base inputs given read file items old mid new honest.calls gives.bytes none gives.known opens ([], same) honest.are honest.answered in
     let c = create_of w g disk input name base inputs temporary o in
     let v = made_here mk known.old known.files input in
     let is = output_is s w g disk input name base inputs temporary o read items known standard v refl in

@@ -27,6 +27,7 @@ use Rattle.cdb.specs.Oracle.{Disk, both, each_of, input_of, inputs_of, is_standa
 use Rattle.cdb.specs.declared.open_trace.OpenCall.TheVariants.{AtPlaces, InTurn}
 use Rattle.cdb.specs.declared.system.System.{Ghosts as Systems}
 use Rattle.cdb.proofs.Replaced.{BaseHas}
+use Rattle.cdb.specs.Files.{files_of}
 
 -- ---- lists of calls
 
@@ -162,10 +163,10 @@ inputs_known s remaining y disk read (name ∷ names) turns old new calls bytes 
     let k = each_known s remaining y disk read (name ∷ names) turns old new calls bytes h e all in
     (k.files, k.are, k.each, k.own)
 
-all_known : {F I M Y : Type 0} (s : Ghosts F) (remaining : I → Option (List ℕ)) (y : Systems Y F I M) (disk : Disk) (input : List ℕ) (base : Option (List ℕ)) (inputs : List (List ℕ)) (given : Option (List ℕ)) (read file : Option F) (left : InputsLeft) (old new calls : OpenCalls) → IsOfBytes disk input → (file ≡ None → read ≡ None)
-    → ((files : List (Option (List ℕ))) → inputs_of disk inputs ≡ Some files → KnownFor files given input) → OpensAll y remaining base inputs given old new file left → new ≡ calls ++ old → AllByRecursion (λ c. IsAnswered s remaining y disk (if_some read) c.0 c.1) calls
+all_known : {F I M Y : Type 0} (s : Ghosts F) (m : Ghosts M) (remaining : I → Option (List ℕ)) (y : Systems Y F I M) (disk : Disk) (input : List ℕ) (base : Option (List ℕ)) (inputs : List (List ℕ)) (given : Option (List ℕ)) (read file : Option F) (left : InputsLeft) (old new calls : OpenCalls) → IsOfBytes disk input → (file ≡ None → read ≡ None)
+    → ((files : List (Option (List ℕ))) → inputs_of disk inputs ≡ Some files → KnownFor files given input) → OpensAll (files_of s m remaining y) base inputs given old new file left → new ≡ calls ++ old → AllByRecursion (λ c. IsAnswered s remaining y disk (if_some read) c.0 c.1) calls
     → AllKnown s disk base inputs input read left
-all_known s remaining y disk input base inputs given read file left old new calls bytes none reads opens e all =
+all_known s m remaining y disk input base inputs given read file left old new calls bytes none reads opens e all =
     let P : OpenCalls → Type 0 = AllByRecursion (λ c. IsAnswered s remaining y disk (if_some read) c.0 c.1) in
     let a = base_grows y base file old opens.mid opens.base_is in
     let b = inputs_grow y inputs opens.turns opens.mid new opens.inputs_are in
@@ -187,22 +188,22 @@ all_known s remaining y disk input base inputs given read file left old new call
       };
     }
 
-opens_grow : {F I M Y : Type 0} (y : Systems Y F I M) (remaining : I → Option (List ℕ)) (base : Option (List ℕ)) (inputs : List (List ℕ)) (given : Option (List ℕ)) (old new : OpenCalls) (file : Option F) (left : InputsLeft) → OpensAll y remaining base inputs given old new file left → (calls : OpenCalls) × (new ≡ calls ++ old)
-opens_grow y remaining base inputs given old new file left opens =
+opens_grow : {F I M Y : Type 0} (s : Ghosts F) (m : Ghosts M) (remaining : I → Option (List ℕ)) (y : Systems Y F I M) (base : Option (List ℕ)) (inputs : List (List ℕ)) (given : Option (List ℕ)) (old new : OpenCalls) (file : Option F) (left : InputsLeft) → OpensAll (files_of s m remaining y) base inputs given old new file left → (calls : OpenCalls) × (new ≡ calls ++ old)
+opens_grow s m remaining y base inputs given old new file left opens =
     let a = base_grows y base file old opens.mid opens.base_is in
     let b = inputs_grow y inputs opens.turns opens.mid new opens.inputs_are in
     (b.0 ++ a.0, b.1 ∙ ap (λ c. b.0 ++ c) a.1 ∙ sym (append_assoc b.0 a.0 old))
 
 -- whatever is called then
-pub all_known_by : {F I M Y : Type 0} (s : Ghosts F) (remaining : I → Option (List ℕ)) (y : Systems Y F I M) (disk : Disk) (input : List ℕ) (base : Option (List ℕ)) (inputs : List (List ℕ)) (given : Option (List ℕ)) (read file : Option F) (left : InputsLeft) (old mid new calls : OpenCalls) → IsOfBytes disk input → (file ≡ None → read ≡ None)
-    → ((files : List (Option (List ℕ))) → inputs_of disk inputs ≡ Some files → KnownFor files given input) → OpensAll y remaining base inputs given old mid file left → (later : OpenCalls) × (new ≡ later ++ mid) → new ≡ calls ++ old → AllByRecursion (λ c. IsAnswered s remaining y disk (if_some read) c.0 c.1) calls
+pub all_known_by : {F I M Y : Type 0} (s : Ghosts F) (m : Ghosts M) (remaining : I → Option (List ℕ)) (y : Systems Y F I M) (disk : Disk) (input : List ℕ) (base : Option (List ℕ)) (inputs : List (List ℕ)) (given : Option (List ℕ)) (read file : Option F) (left : InputsLeft) (old mid new calls : OpenCalls) → IsOfBytes disk input → (file ≡ None → read ≡ None)
+    → ((files : List (Option (List ℕ))) → inputs_of disk inputs ≡ Some files → KnownFor files given input) → OpensAll (files_of s m remaining y) base inputs given old mid file left → (later : OpenCalls) × (new ≡ later ++ mid) → new ≡ calls ++ old → AllByRecursion (λ c. IsAnswered s remaining y disk (if_some read) c.0 c.1) calls
     → AllKnown s disk base inputs input read left
-all_known_by s remaining y disk input base inputs given read file left old mid new calls bytes none reads opens later e all =
+all_known_by s m remaining y disk input base inputs given read file left old mid new calls bytes none reads opens later e all =
     let P : OpenCalls → Type 0 = AllByRecursion (λ c. IsAnswered s remaining y disk (if_some read) c.0 c.1) in
-    let first = opens_grow y remaining base inputs given old mid file left opens in
+    let first = opens_grow s m remaining y base inputs given old mid file left opens in
     let split : calls ≡ later.0 ++ first.0 = same_calls calls first.0 later.0 [] old mid new e first.1 later.1 in
     let answered : P (later.0 ++ first.0) = subst P split all in
-    all_known s remaining y disk input base inputs given read file left old mid first.0 bytes none reads opens first.1 (all_back _ later.0 first.0 answered)
+    all_known s m remaining y disk input base inputs given read file left old mid first.0 bytes none reads opens first.1 (all_back _ later.0 first.0 answered)
 
 -- ---- no file that is read has the temporary name
 

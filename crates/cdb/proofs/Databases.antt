@@ -21,6 +21,8 @@ use Rattle.cdb.specs.Creating.{Making, HasDatabase, IsBufferedRun, IsDatabase, I
 use Rattle.cdb.specs.Performs.{Says, SaysLine, Runs, refused_lines}
 use Rattle.cdb.specs.declared.left.Left.{Left}
 use Rattle.cdb.specs.declared.system.System.{Ghosts as Systems}
+use Rattle.cdb.specs.State.{failed_of, given_of, state_of}
+use Rattle.cdb.specs.Files.{files_of}
 
 of_weaker : {F : Type 0} (f : Ghosts F) (base : Option F) (P Q : Option (List ℕ) → Type 0) → ((x : Option (List ℕ)) → P x → Q x) → OfBase f base P → OfBase f base Q
 of_weaker f None P Q g h = g None h
@@ -98,8 +100,8 @@ says_kept (Ok done) more told mid said was is stays h k = Keeps-trans told mid s
 says_kept (Err fault) more told mid said was is stays h k = line_kept (fault_line fault ++ more) told mid said was is stays h k
 
 pub run_kept : {F I M R Y : Type 0} (s : Ghosts F) (m : Ghosts M) (r : Raw R) (remaining : I → Option (List ℕ)) (y : Systems Y F I M) (planned : Result Asked Refused) (explained : Bool) (input : Option (List ℕ)) (old new : Y) (was now : NameCalls) (left : Left F M) (start end final told mid said : Option (List ℕ)) (unwritten before after : Type 0) (status : ℕ)
-    → Runs s m r remaining y planned explained input old new was now left start end final told mid unwritten before status → (before → after) → Keeps mid said → Runs s m r remaining y planned explained input old new was now left start end final told said unwritten after status
-run_kept s m r remaining y planned explained input old new was now left start end final told mid said unwritten before after status h stays k = elim h as (λ _. Runs s m r remaining y planned explained input old new was now left start end final told said unwritten after status) [
+    → Runs (files_of s m remaining y) r (given_of planned explained input) (state_of old was start told) (state_of new now end mid) final left (failed_of unwritten before) status → (before → after) → Keeps mid said → Runs (files_of s m remaining y) r (given_of planned explained input) (state_of old was start told) (state_of new now end said) final left (failed_of unwritten after) status
+run_kept s m r remaining y planned explained input old new was now left start end final told mid said unwritten before after status h stays k = elim h as (λ _. Runs (files_of s m remaining y) r (given_of planned explained input) (state_of old was start told) (state_of new now end said) final left (failed_of unwritten after) status) [
   | inl none ↦ inl (record { refused = none.refused; why = none.why; line = line_kept (refused_lines explained none.refused) told mid said before after stays none.line k; untouched = none.untouched; none = none.none; same = none.same; kept = none.kept; is_status = none.is_status })
   | inr some ↦
       inr (record {

@@ -31,6 +31,8 @@ use Rattle.cdb.specs.declared.system.System.{Ghosts as Systems}
 use Rattle.cdb.proofs.Coming.{Comes, EachAnswered, IsSized, comes_so, gives_none, gives_up, long_is, nothing_written, of_shown, output_of, refused_so, short_is}
 use Rattle.cdb.proofs.CreateEnds.{input_missing, missing_inputs}
 use Rattle.cdb.proofs.CreateReads.{grows, inputs_known}
+use Rattle.cdb.specs.State.{State}
+use Rattle.cdb.specs.Files.{files_of}
 
 -- ---- the inputs were opened
 
@@ -81,18 +83,18 @@ inputs_missed s remaining y disk stores file files outcome name why.Failed found
     comes_so true Texts plain_status _ [] start end (Err Open) (ap (λ f. of_file file (λ bytes. of_inputs f (outcome bytes))) (missing none) ∙ not_there file) (nothing_written start end k)
 inputs_missed s remaining y disk stores file files outcome name why.NoMemory found start end none missing k = gives_none true Texts plain_status _ start end NoMemory tt k
 
-inputs_refused : {F I M Y : Type 0} (w g : ℕ) (s : Ghosts F) (remaining : I → Option (List ℕ)) (y : Systems Y F I M) (name : List ℕ) (inputs : List (List ℕ)) (disk : Disk) (stores : List F) (outcome : List ℕ → List (Option (List ℕ)) → Outcome) (old new : OpenCalls) (left : Left F M) (start end : Option (List ℕ)) (result : Result Unit Fault)
-    → EachAnswered s remaining y disk stores old new → RefusesInputs y name inputs old new left start end result → Comes true Texts plain_status (of_file (disk name) (λ bytes. of_inputs (inputs_of disk inputs) (outcome bytes))) start end result
-inputs_refused w g s remaining y name inputs disk stores outcome old new left start end result answers h = elim h.stops.last [
-  | inl memory ↦ subst (Comes true Texts plain_status _ start end) (sym (h.is ∙ ap (λ (f : Fault). Err f) memory.1)) (gives_none true Texts plain_status _ start end NoMemory tt h.kept)
+inputs_refused : {F I M Y : Type 0} (w g : ℕ) (s : Ghosts F) (m : Ghosts M) (remaining : I → Option (List ℕ)) (y : Systems Y F I M) (name : List ℕ) (inputs : List (List ℕ)) (disk : Disk) (stores : List F) (outcome : List ℕ → List (Option (List ℕ)) → Outcome) (old new : State Y) (left : Left F M) (result : Result Unit Fault)
+    → EachAnswered s remaining y disk stores (y.calls old.opened) (y.calls new.opened) → RefusesInputs (files_of s m remaining y) name inputs old new left result → Comes true Texts plain_status (of_file (disk name) (λ bytes. of_inputs (inputs_of disk inputs) (outcome bytes))) old.output new.output result
+inputs_refused w g s m remaining y name inputs disk stores outcome old new left result answers h = elim h.stops.last [
+  | inl memory ↦ subst (Comes true Texts plain_status _ old.output new.output) (sym (h.is ∙ ap (λ (f : Fault). Err f) memory.1)) (gives_none true Texts plain_status _ old.output new.output NoMemory tt h.kept)
   | inr missed ↦ (let stops = h.stops in
-      let m = missed.3.1 in
-      let opened = grows y stops.opened stops.turns ((AtPlaces, name) ∷ old) stops.mid stops.opens in
-      let calls : new ≡ ((Unopened m.why m.found, missed.0) ∷ (opened.0 ++ (AtPlaces, name) ∷ [])) ++ old =
-      m.calls ∙ ap (λ c. (Unopened m.why m.found, missed.0) ∷ c) (opened.1 ∙ sym (append_assoc opened.0 ((AtPlaces, name) ∷ []) old)) in
-      let answered = (answers ((Unopened m.why m.found, missed.0) ∷ (opened.0 ++ (AtPlaces, name) ∷ [])) calls).0 in
-      subst (Comes true Texts plain_status _ start end) (sym (h.is ∙ ap (λ (f : Fault). Err f) m.is))
-      (inputs_missed s remaining y disk stores (disk name) (inputs_of disk inputs) outcome missed.0 m.why m.found start end answered
+      let miss = missed.3.1 in
+      let opened = grows y stops.opened stops.turns ((AtPlaces, name) ∷ y.calls old.opened) stops.mid stops.opens in
+      let calls : y.calls new.opened ≡ ((Unopened miss.why miss.found, missed.0) ∷ (opened.0 ++ (AtPlaces, name) ∷ [])) ++ y.calls old.opened =
+      miss.calls ∙ ap (λ c. (Unopened miss.why miss.found, missed.0) ∷ c) (opened.1 ∙ sym (append_assoc opened.0 ((AtPlaces, name) ∷ []) (y.calls old.opened))) in
+      let answered = (answers ((Unopened miss.why miss.found, missed.0) ∷ (opened.0 ++ (AtPlaces, name) ∷ [])) calls).0 in
+      subst (Comes true Texts plain_status _ old.output new.output) (sym (h.is ∙ ap (λ (f : Fault). Err f) miss.is))
+      (inputs_missed s remaining y disk stores (disk name) (inputs_of disk inputs) outcome missed.0 miss.why miss.found old.output new.output answered
       (λ none. missing_inputs disk inputs stops.opened missed.0 missed.1 (stops.are ∙ ap (λ l. stops.opened ++ l) missed.2) (input_missing disk missed.0 missed.3.0 none)) h.kept))
 ]
 
@@ -121,25 +123,25 @@ lookups_come w g s number style files input old last bytes start end result size
           ])
     ]
 
-pub lookups_foretold : {F I M Y : Type 0} (remaining : I → Option (List ℕ)) (w g : ℕ) (s : Ghosts F) (y : Systems Y F I M) (name : List ℕ) (inputs : List (List ℕ)) (number : Option ℕ) (style : Style) (given : Option (List ℕ)) (disk : Disk) (input : List ℕ) (old new : Y) (left : Left F M) (start end : Option (List ℕ)) (result : Result Unit Fault)
-    → IsSized s → EachAnswered s remaining y disk (stores_in left) (y.calls old) (y.calls new) → GivesInputs disk inputs input given → PerformsLookups w g s remaining y name inputs number style given old new left start end result
-    → Comes true Texts plain_status (of_file (disk name) (λ bytes. of_inputs (inputs_of disk inputs) (λ files. lookups_outcome w g number style files input bytes))) start end result
-lookups_foretold remaining w g s y name inputs number style given disk input old new left start end result sized answers gives (inl none) =
-    refused_so true Texts s remaining y plain_status name disk (stores_in left) _ (y.calls old) (y.calls new) [] start end result refl answers none.1
-lookups_foretold remaining w g s y name inputs number style given disk input old new left start end result sized answers gives (inr (inl half)) =
-    inputs_refused w g s remaining y name inputs disk (stores_in left) (λ bytes files. lookups_outcome w g number style files input bytes) (y.calls old) (y.calls new) left start end result answers half
-lookups_foretold remaining w g s y name inputs number style given disk input old new left start end result sized answers gives (inr (inr looks)) =
-    let since = in_turn y inputs looks.turns ((AtPlaces, name) ∷ y.calls old) (y.calls new) looks.opens in
-    let calls : y.calls new ≡ (since.since ++ (AtPlaces, name) ∷ []) ++ y.calls old = since.are ∙ sym (append_assoc since.since ((AtPlaces, name) ∷ []) (y.calls old)) in
-    let all = subst (λ l. EachAnswered s remaining y disk (stores_in l) (y.calls old) (y.calls new)) looks.is_last answers (since.since ++ (AtPlaces, name) ∷ []) calls in
+pub lookups_foretold : {F I M Y : Type 0} (remaining : I → Option (List ℕ)) (w g : ℕ) (s : Ghosts F) (m : Ghosts M) (y : Systems Y F I M) (name : List ℕ) (inputs : List (List ℕ)) (number : Option ℕ) (style : Style) (given : Option (List ℕ)) (disk : Disk) (input : List ℕ) (old new : State Y) (left : Left F M) (result : Result Unit Fault)
+    → IsSized s → EachAnswered s remaining y disk (stores_in left) (y.calls old.opened) (y.calls new.opened) → GivesInputs disk inputs input given → PerformsLookups w g (files_of s m remaining y) (record { name = name; inputs = inputs; standard = given; number = number; style = style }) old new left result
+    → Comes true Texts plain_status (of_file (disk name) (λ bytes. of_inputs (inputs_of disk inputs) (λ files. lookups_outcome w g number style files input bytes))) old.output new.output result
+lookups_foretold remaining w g s m y name inputs number style given disk input old new left result sized answers gives (inl none) =
+    refused_so true Texts s remaining y plain_status name disk (stores_in left) _ (y.calls old.opened) (y.calls new.opened) [] old.output new.output result refl answers none.1
+lookups_foretold remaining w g s m y name inputs number style given disk input old new left result sized answers gives (inr (inl half)) =
+    inputs_refused w g s m remaining y name inputs disk (stores_in left) (λ bytes files. lookups_outcome w g number style files input bytes) old new left result answers half
+lookups_foretold remaining w g s m y name inputs number style given disk input old new left result sized answers gives (inr (inr looks)) =
+    let since = in_turn y inputs looks.turns ((AtPlaces, name) ∷ y.calls old.opened) (y.calls new.opened) looks.opens in
+    let calls : y.calls new.opened ≡ (since.since ++ (AtPlaces, name) ∷ []) ++ y.calls old.opened = since.are ∙ sym (append_assoc since.since ((AtPlaces, name) ∷ []) (y.calls old.opened)) in
+    let all = subst (λ l. EachAnswered s remaining y disk (stores_in l) (y.calls old.opened) (y.calls new.opened)) looks.is_last answers (since.since ++ (AtPlaces, name) ∷ []) calls in
     let apart = answered_apart s remaining y disk (looks.last ∷ []) since.since ((AtPlaces, name) ∷ []) since.each all in
-    let k = inputs_known s remaining y disk (Some looks.last) inputs looks.turns ((AtPlaces, name) ∷ y.calls old) (y.calls new) since.since gives.bytes.files looks.opens since.are apart.0 in
+    let k = inputs_known s remaining y disk (Some looks.last) inputs looks.turns ((AtPlaces, name) ∷ y.calls old.opened) (y.calls new.opened) since.since gives.bytes.files looks.opens since.are apart.0 in
     let known : Known k.0 input looks.each = record {
       each = ap (λ (l : InputsLeft). l.each) looks.each_are ∙ k.2;
       known = subst (λ v. KnownFor k.0 v input) (sym (ap (λ (l : InputsLeft). l.shared) looks.each_are)) (gives.known k.0 k.1);
       own = k.3;
       bytes = gives.bytes.standard;
     } in
-    of_shown true Texts s plain_status (disk name) looks.last [] _ start end result apart.1.0
-    (λ bytes is works. subst (λ f. Comes true Texts plain_status (of_inputs f (λ files. lookups_outcome w g number style files input bytes)) start end result) (sym k.1)
-    (lookups_come w g s number style k.0 input looks.file looks.last bytes start end result (sized looks.last bytes is) (lookups_asked w g s number style k.0 input looks.each looks.file looks.last bytes start end result known is works looks.looks)))
+    of_shown true Texts s plain_status (disk name) looks.last [] _ old.output new.output result apart.1.0
+    (λ bytes is works. subst (λ f. Comes true Texts plain_status (of_inputs f (λ files. lookups_outcome w g number style files input bytes)) old.output new.output result) (sym k.1)
+    (lookups_come w g s number style k.0 input looks.file looks.last bytes old.output new.output result (sized looks.last bytes is) (lookups_asked w g s number style k.0 input looks.each looks.file looks.last bytes old.output new.output result known is works looks.looks)))

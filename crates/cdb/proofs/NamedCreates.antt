@@ -1,14 +1,14 @@
 -- The names of the inputs change the lines of a create that explains its duplicates, and nothing else.
 use Rattle.std.proofs.Common.{ℕ, Bool, true, false, List, Option, None, Some, ◌≡◌, ◌∙◌, ap, refl, subst, sym}
 use Rattle.cdb_command.specs.declared.options.MakeOptions.{MakeOptions}
-use Rattle.cdb_files.specs.Folder.{NameCalls}
 use Rattle.cdb_store.specs.declared.store.Store.{Ghosts}
 use Rattle.cdb_tool.proofs.NamedInputs.{IsNamed, named_made}
 use Rattle.cdb.specs.Created.{Created, base_of, create_of, if_opened, placed}
-use Rattle.cdb.specs.ForetoldCreate.{CreateHolds}
+use Rattle.cdb.specs.ForetoldCreate.{CreateHolds, expected_of}
 use Rattle.cdb.specs.Oracle.{Disk, both, inputs_of}
 use Rattle.cdb.specs.Performs.{IsShown}
 use Rattle.cdb.proofs.Replaced.{IsPlain}
+use Rattle.cdb.specs.State.{State}
 
 -- ---- a create
 
@@ -34,9 +34,9 @@ shown_plain false inputs o p h e = ap (λ (q : MakeOptions). q.names) h
 shown_plain true inputs o p h e = absurd (let no : true ≡ false = e in cc)
 
 -- what holds of a create with the names holds of one without
-pub named_holds : {M : Type 0} (m : Ghosts M) (w g : ℕ) (disk : Disk) (input name : List ℕ) (base : Option (List ℕ)) (inputs : List (List ℕ)) (temporary : Option (List ℕ)) (o shown : MakeOptions) (explained : Bool) (was now : NameCalls) (made : Option M) (start final told said : Option (List ℕ)) (status : ℕ) → IsShown explained inputs o shown
-    → CreateHolds m disk name temporary (create_of w g disk input name base inputs temporary shown) explained was now made start final told said status
-    → CreateHolds m disk name temporary (create_of w g disk input name base inputs temporary o) explained was now made start final told said status
-named_holds m w g disk input name base inputs temporary o shown explained was now made start final told said status h =
-    subst (λ c. CreateHolds m disk name temporary c explained was now made start final told said status)
+pub named_holds : {M S : Type 0} (m : Ghosts M) (w g : ℕ) (disk : Disk) (input name : List ℕ) (base : Option (List ℕ)) (inputs : List (List ℕ)) (temporary : Option (List ℕ)) (o shown : MakeOptions) (explained : Bool) (made : Option M) (old new : State S) (status : ℕ) → IsShown explained inputs o shown
+    → CreateHolds m (expected_of disk name temporary (create_of w g disk input name base inputs temporary shown)) explained made old new status
+    → CreateHolds m (expected_of disk name temporary (create_of w g disk input name base inputs temporary o)) explained made old new status
+named_holds m w g disk input name base inputs temporary o shown explained made old new status h =
+    subst (λ c. CreateHolds m (expected_of disk name temporary c) explained made old new status)
     (sym (named_creates w g disk input name base inputs temporary o shown (shown_named explained inputs o shown h)))

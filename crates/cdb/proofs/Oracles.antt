@@ -62,6 +62,8 @@ use Rattle.cdb.proofs.Explained.{SaysOnly, says_only}
 use Rattle.cdb.specs.declared.left.Left.{Left}
 use Rattle.cdb.specs.declared.open_trace.OpenCall.TheVariants.{AtPlaces, InTurn, Stream, Unopened}
 use Rattle.cdb.specs.declared.system.System.{Ghosts as Systems}
+use Rattle.cdb.specs.State.{State, failed_of, given_of, state_of}
+use Rattle.cdb.specs.Files.{files_of}
 
 -- ---- query
 
@@ -107,14 +109,14 @@ query_comes : {S : Type 0} (w : ℕ) (s : Ghosts S) (q : Query) (file last : S) 
 query_comes w s q file last bytes start end (Ok done) is size works h = query_answered w s q last bytes start end (Ok tt) is size h.ok
 query_comes w s q file last bytes start end (Err fault) is size works h = query_ended w s q file last bytes start end fault is size works h.err
 
-query_foretold : {F I M Y : Type 0} (remaining : I → Option (List ℕ)) (w : ℕ) (s : Ghosts F) (y : Systems Y F I M) (name : List ℕ) (q : Query) (disk : Disk) (old new : Y) (left : Left F M) (start end : Option (List ℕ)) (result : Result Unit Fault) → IsSized s → EachAnswered s remaining y disk (stores_in left) (y.calls old) (y.calls new)
-    → PerformsQuery w s y name q old new left start end result → Comes true Nothing plain_status (of_file (disk name) (query_outcome w q)) start end result
-query_foretold remaining w s y name q disk old new left start end result sized answers (inl none) =
-    refused_so true Nothing s remaining y plain_status name disk (stores_in left) (query_outcome w q) (y.calls old) (y.calls new) [] start end result refl answers none.1
-query_foretold remaining w s y name q disk old new left start end result sized answers (inr some) =
+query_foretold : {F I M Y : Type 0} (remaining : I → Option (List ℕ)) (w : ℕ) (s : Ghosts F) (m : Ghosts M) (y : Systems Y F I M) (name : List ℕ) (q : Query) (disk : Disk) (old new : State Y) (left : Left F M) (result : Result Unit Fault) → IsSized s → EachAnswered s remaining y disk (stores_in left) (y.calls old.opened) (y.calls new.opened)
+    → PerformsQuery w (files_of s m remaining y) name q old new left result → Comes true Nothing plain_status (of_file (disk name) (query_outcome w q)) old.output new.output result
+query_foretold remaining w s m y name q disk old new left result sized answers (inl none) =
+    refused_so true Nothing s remaining y plain_status name disk (stores_in left) (query_outcome w q) (y.calls old.opened) (y.calls new.opened) [] old.output new.output result refl answers none.1
+query_foretold remaining w s m y name q disk old new left result sized answers (inr some) =
     let file = some.1 in
-    of_shown true Nothing s plain_status (disk name) file.last [] (query_outcome w q) start end result (subst (λ l. EachAnswered s remaining y disk (stores_in l) (y.calls old) (y.calls new)) file.is_last answers ((AtPlaces, name) ∷ []) some.0).0
-    (λ bytes is works. query_comes w s q file.file file.last bytes start end result is (sized file.last bytes is) works file.queries)
+    of_shown true Nothing s plain_status (disk name) file.last [] (query_outcome w q) old.output new.output result (subst (λ l. EachAnswered s remaining y disk (stores_in l) (y.calls old.opened) (y.calls new.opened)) file.is_last answers ((AtPlaces, name) ∷ []) some.0).0
+    (λ bytes is works. query_comes w s q file.file file.last bytes old.output new.output result is (sized file.last bytes is) works file.queries)
 
 -- ---- dump and list
 
@@ -181,22 +183,22 @@ text_revealed w form None left start end result is h = absurd is
 lacks_memory : (status : Fault → ℕ) (o : Outcome) (start end : Option (List ℕ)) (result : Result Unit Fault) → LacksMemory start end result → Comes true Database status o start end result
 lacks_memory status o start end result h = subst (Comes true Database status o start end) (sym h.0) (gives_none true Database status o start end NoMemory tt h.1)
 
-text_named : {F I M Y : Type 0} (s : Ghosts F) (remaining : I → Option (List ℕ)) (w : ℕ) (y : Systems Y F I M) (form : Form) (name : List ℕ) (given : Option (List ℕ)) (disk : Disk) (stores : List F) (old new : Y) (start end : Option (List ℕ)) (result : Result Unit Fault) → EachAnswered s remaining y disk stores (y.calls old) (y.calls new)
-    → PerformsText w remaining y form (Some name) given old new start end result → Comes true Database plain_status (of_file (disk name) (text_outcome w form)) start end result
-text_named s remaining w y form name given disk stores old new start end result answers (inl refuses) =
-    refused_so true Database s remaining y plain_status name disk stores (text_outcome w form) (y.calls old) (y.calls new) [] start end result refl answers refuses
-text_named s remaining w y form name given disk stores old new start end result answers (inr opened) =
+text_named : {F I M Y : Type 0} (s : Ghosts F) (remaining : I → Option (List ℕ)) (w : ℕ) (m : Ghosts M) (y : Systems Y F I M) (form : Form) (name : List ℕ) (given : Option (List ℕ)) (disk : Disk) (stores : List F) (old new : State Y) (result : Result Unit Fault) → EachAnswered s remaining y disk stores (y.calls old.opened) (y.calls new.opened)
+    → PerformsText w (files_of s m remaining y) form (Some name) given old new result → Comes true Database plain_status (of_file (disk name) (text_outcome w form)) old.output new.output result
+text_named s remaining w m y form name given disk stores old new result answers (inl refuses) =
+    refused_so true Database s remaining y plain_status name disk stores (text_outcome w form) (y.calls old.opened) (y.calls new.opened) [] old.output new.output result refl answers refuses
+text_named s remaining w m y form name given disk stores old new result answers (inr opened) =
     let reveals = (answers ((InTurn, name) ∷ []) opened.0).0 in
     elim opened.1 [
-      | inl lacks ↦ lacks_memory plain_status _ start end result lacks
-      | inr writes ↦ text_revealed w form (disk name) (remaining writes.file) start end result (reveals writes.file writes.came) writes.writes
+      | inl lacks ↦ lacks_memory plain_status _ old.output new.output result lacks
+      | inr writes ↦ text_revealed w form (disk name) (remaining writes.file) old.output new.output result (reveals writes.file writes.came) writes.writes
     ]
 
-text_input : {F I M Y : Type 0} (remaining : I → Option (List ℕ)) (w : ℕ) (y : Systems Y F I M) (form : Form) (given : Option (List ℕ)) (input : List ℕ) (old new : Y) (start end : Option (List ℕ)) (result : Result Unit Fault) → given ≡ Some input
-    → PerformsText w remaining y form None given old new start end result → Comes true Database plain_status (text_outcome w form input) start end result
-text_input remaining w y form given input old new start end result is h = elim h.1 [
-  | inl lacks ↦ lacks_memory plain_status _ start end result lacks
-  | inr writes ↦ text_comes w form input start end result (subst (λ g. WritesText w form g start end result) is writes)
+text_input : {F I M Y : Type 0} (s : Ghosts F) (remaining : I → Option (List ℕ)) (w : ℕ) (m : Ghosts M) (y : Systems Y F I M) (form : Form) (given : Option (List ℕ)) (input : List ℕ) (old new : State Y) (result : Result Unit Fault) → given ≡ Some input
+    → PerformsText w (files_of s m remaining y) form None given old new result → Comes true Database plain_status (text_outcome w form input) old.output new.output result
+text_input s remaining w m y form given input old new result is h = elim h.1 [
+  | inl lacks ↦ lacks_memory plain_status _ old.output new.output result lacks
+  | inr writes ↦ text_comes w form input old.output new.output result (subst (λ g. WritesText w form g old.output new.output result) is writes)
 ]
 
 -- ---- statistics
@@ -290,19 +292,19 @@ yes_is_no e = cc
 unknown_is_no : looks.Unknown ≡ looks.No → ⊥
 unknown_is_no e = cc
 
-on_named : {F I M Y : Type 0} (writes : Bool) (s : Ghosts F) (remaining : I → Option (List ℕ)) (y : Systems Y F I M) (status : Fault → ℕ) (most : ℕ) (name : List ℕ) (given : Option (List ℕ)) (disk : Disk) (outcome : List ℕ → Outcome) (old new : Y) (left : Left F M) (start end : Option (List ℕ)) (result : Result Unit Fault) (file : F → F → Type 0) (taken : MemStore → MemStore → Type 0)
-    → 111 ≡ status Open → EachAnswered s remaining y disk (stores_in left) (y.calls old) (y.calls new) → ((store last : F) (bytes : List ℕ) → s.image last bytes → s.failures last ≡ 0 → file store last → Comes writes Nothing status (outcome bytes) start end result)
-    → PerformsOn s remaining y most (Some name) given old new left start end result file taken → Comes writes Nothing status (of_file (disk name) outcome) start end result
-on_named writes s remaining y status most name given disk outcome old new left start end result file taken plain answers comes h = elim h [
-  | inl none ↦ refused_so writes Nothing s remaining y status name disk (stores_in left) outcome (y.calls old) (y.calls new) ((Stream looks.No, name) ∷ []) start end result plain answers none.1
+on_named : {F I M Y : Type 0} (writes : Bool) (s : Ghosts F) (m : Ghosts M) (remaining : I → Option (List ℕ)) (y : Systems Y F I M) (status : Fault → ℕ) (most : ℕ) (name : List ℕ) (given : Option (List ℕ)) (disk : Disk) (outcome : List ℕ → Outcome) (old new : State Y) (left : Left F M) (result : Result Unit Fault) (file : F → F → Type 0) (taken : MemStore → MemStore → Type 0)
+    → 111 ≡ status Open → EachAnswered s remaining y disk (stores_in left) (y.calls old.opened) (y.calls new.opened) → ((store last : F) (bytes : List ℕ) → s.image last bytes → s.failures last ≡ 0 → file store last → Comes writes Nothing status (outcome bytes) old.output new.output result)
+    → PerformsOn (files_of s m remaining y) most (Some name) given old new left result file taken → Comes writes Nothing status (of_file (disk name) outcome) old.output new.output result
+on_named writes s m remaining y status most name given disk outcome old new left result file taken plain answers comes h = elim h [
+  | inl none ↦ refused_so writes Nothing s remaining y status name disk (stores_in left) outcome (y.calls old.opened) (y.calls new.opened) ((Stream looks.No, name) ∷ []) old.output new.output result plain answers none.1
   | inr h ↦ elim h [
     | inl some ↦
         (let of = some.1 in
-        of_shown writes Nothing s status (disk name) of.last [] outcome start end result (subst (λ l. EachAnswered s remaining y disk (stores_in l) (y.calls old) (y.calls new)) of.is_last answers ((AtPlaces, name) ∷ (Stream looks.No, name) ∷ []) some.0).0 (λ bytes is works. comes of.file of.last bytes is works of.does))
+        of_shown writes Nothing s status (disk name) of.last [] outcome old.output new.output result (subst (λ l. EachAnswered s remaining y disk (stores_in l) (y.calls old.opened) (y.calls new.opened)) of.is_last answers ((AtPlaces, name) ∷ (Stream looks.No, name) ∷ []) some.0).0 (λ bytes is works. comes of.file of.last bytes is works of.does))
     | inr h ↦ elim h [
       | inl none ↦
-          (let m = none.1.misses in
-          absurd (yes_is_no (answers ((Unopened m.why m.found, name) ∷ (Stream looks.Yes, name) ∷ []) m.calls).1.0))
+          (let miss = none.1.misses in
+          absurd (yes_is_no (answers ((Unopened miss.why miss.found, name) ∷ (Stream looks.Yes, name) ∷ []) miss.calls).1.0))
       | inr h ↦ elim h [
         | inl some ↦ absurd (yes_is_no (answers ((InTurn, name) ∷ (Stream looks.Yes, name) ∷ []) some.0).1.0)
         | inr unsaid ↦ absurd (unknown_is_no (answers ((Stream looks.Unknown, name) ∷ []) unsaid.0).0)
@@ -426,21 +428,21 @@ compared : {S : Type 0} (w : ℕ) (s : Ghosts S) (file : Option (List ℕ)) (las
 compared w s None last others outcome start end result sized order shows h = absurd shows
 compared w s (Some bytes) last others outcome start end result sized order shows h = h bytes (record { is = shows.0; size = sized last bytes shows.0; works = shows.1; whole = order.0; finds = order.1 })
 
-difference_foretold : {F I M Y : Type 0} (remaining : I → Option (List ℕ)) (w : ℕ) (s : Ghosts F) (y : Systems Y F I M) (first second : List ℕ) (disk : Disk) (old new : Y) (left : Left F M) (start end : Option (List ℕ)) (result : Result Unit Fault) → IsSized s → EachAnswered s remaining y disk (stores_in left) (y.calls old) (y.calls new) → IsInOrder w (disk first) → IsInOrder w (disk second)
-    → PerformsDifference w s y first second old new left start end result → Comes true Nothing plain_status (of_file (disk first) (λ b. of_file (disk second) (difference_outcome w b))) start end result
-difference_foretold remaining w s y first second disk old new left start end result sized answers one two (inl none) =
-    refused_so true Nothing s remaining y plain_status first disk (stores_in left) _ (y.calls old) (y.calls new) [] start end result refl answers none.1
-difference_foretold remaining w s y first second disk old new left start end result sized answers one two (inr (inl half)) =
-    let m = half.refuses.misses in
-    let calls = subst (λ l. EachAnswered s remaining y disk (stores_in l) (y.calls old) (y.calls new)) half.is_left answers ((Unopened m.why m.found, second) ∷ (AtPlaces, first) ∷ []) m.calls in
-    of_shown true Nothing s plain_status (disk first) half.file [] _ start end result calls.1.0
-    (λ b is works. refused_so true Nothing s remaining y plain_status second disk (stores_in left) (difference_outcome w b) (y.calls old) (y.calls new) ((AtPlaces, first) ∷ []) start end result refl answers half.refuses)
-difference_foretold remaining w s y first second disk old new left start end result sized answers one two (inr (inr both)) =
+difference_foretold : {F I M Y : Type 0} (remaining : I → Option (List ℕ)) (w : ℕ) (s : Ghosts F) (m : Ghosts M) (y : Systems Y F I M) (first second : List ℕ) (disk : Disk) (old new : State Y) (left : Left F M) (result : Result Unit Fault) → IsSized s → EachAnswered s remaining y disk (stores_in left) (y.calls old.opened) (y.calls new.opened) → IsInOrder w (disk first) → IsInOrder w (disk second)
+    → PerformsDifference w (files_of s m remaining y) first second old new left result → Comes true Nothing plain_status (of_file (disk first) (λ b. of_file (disk second) (difference_outcome w b))) old.output new.output result
+difference_foretold remaining w s m y first second disk old new left result sized answers one two (inl none) =
+    refused_so true Nothing s remaining y plain_status first disk (stores_in left) _ (y.calls old.opened) (y.calls new.opened) [] old.output new.output result refl answers none.1
+difference_foretold remaining w s m y first second disk old new left result sized answers one two (inr (inl half)) =
+    let miss = half.refuses.misses in
+    let calls = subst (λ l. EachAnswered s remaining y disk (stores_in l) (y.calls old.opened) (y.calls new.opened)) half.is_left answers ((Unopened miss.why miss.found, second) ∷ (AtPlaces, first) ∷ []) miss.calls in
+    of_shown true Nothing s plain_status (disk first) half.file [] _ old.output new.output result calls.1.0
+    (λ b is works. refused_so true Nothing s remaining y plain_status second disk (stores_in left) (difference_outcome w b) (y.calls old.opened) (y.calls new.opened) ((AtPlaces, first) ∷ []) old.output new.output result refl answers half.refuses)
+difference_foretold remaining w s m y first second disk old new left result sized answers one two (inr (inr both)) =
     let files = both.1 in
-    let calls = subst (λ l. EachAnswered s remaining y disk (stores_in l) (y.calls old) (y.calls new)) files.are_last answers ((AtPlaces, second) ∷ (AtPlaces, first) ∷ []) both.0 in
-    compared w s (disk first) files.old_last [] _ start end result sized one calls.1.0
-    (λ b x. compared w s (disk second) files.new_last (files.old_last ∷ []) (difference_outcome w b) start end result sized two calls.0
-    (λ c y. difference_comes w s files.old files.old_last files.new files.new_last b c start end result x y files.tells))
+    let calls = subst (λ l. EachAnswered s remaining y disk (stores_in l) (y.calls old.opened) (y.calls new.opened)) files.are_last answers ((AtPlaces, second) ∷ (AtPlaces, first) ∷ []) both.0 in
+    compared w s (disk first) files.old_last [] _ old.output new.output result sized one calls.1.0
+    (λ b x. compared w s (disk second) files.new_last (files.old_last ∷ []) (difference_outcome w b) old.output new.output result sized two calls.0
+    (λ c y. difference_comes w s files.old files.old_last files.new files.new_last b c old.output new.output result x y files.tells))
 
 -- ---- help and version
 
@@ -509,60 +511,60 @@ ends_so command o start end final told said unsaid result status taken k says is
 
 -- ---- each command
 
-abbrev CommandComes : {F I M R Y : Type 0} → Ghosts F → Ghosts M → Raw R → (I → Option (List ℕ)) → Systems Y F I M → (explained : Bool) → Command → Disk → (input : List ℕ) → (given : Option (List ℕ)) → (old new : Y) → (was now : NameCalls) → Left F M → (start end told said : Option (List ℕ)) → Result Unit Fault → Type 0
-CommandComes s m r remaining y explained command disk input given old new was now left start end told said result =
-    Honest s remaining y disk input (asked_in command) given old new left → PerformsIn (has_wide_words (asked_in command)) s m r remaining y explained (asked_in command) given old new was now left start end told said result
-    → IfSome (command_outcome (asked_in command) disk input) (λ o. Comes (writes_output (asked_in command)) (reads_in_turn (asked_in command)) (exit_status command) o start end result)
+abbrev CommandComes : {F I M R Y : Type 0} → Ghosts F → Ghosts M → Raw R → (I → Option (List ℕ)) → Systems Y F I M → (explained : Bool) → Command → Disk → (input : List ℕ) → (given : Option (List ℕ)) → (old new : State Y) → Left F M → Result Unit Fault → Type 0
+CommandComes s m r remaining y explained command disk input given old new left result =
+    Honest (files_of s m remaining y) disk input (asked_in command) given old.opened new.opened left → PerformsIn (has_wide_words (asked_in command)) (files_of s m remaining y) r (given_of (asked_in command) explained given) old new left result
+    → IfSome (command_outcome (asked_in command) disk input) (λ o. Comes (writes_output (asked_in command)) (reads_in_turn (asked_in command)) (exit_status command) o old.output new.output result)
 
-command_comes : {F I M R Y : Type 0} (s : Ghosts F) (m : Ghosts M) (r : Raw R) (remaining : I → Option (List ℕ)) (y : Systems Y F I M) (explained : Bool) (command : Command) (disk : Disk) (input : List ℕ) (given : Option (List ℕ)) (old new : Y) (was now : NameCalls) (left : Left F M) (start end told said : Option (List ℕ)) (result : Result Unit Fault) → IsSized s → EachAnswered s remaining y disk (stores_in left) (y.calls old) (y.calls new)
-    → CommandComes s m r remaining y explained command disk input given old new was now left start end told said result
-command_comes s m r remaining y explained (command.Query name key number lines true) disk input given old new was now left start end told said result sized calls honest h =
-    query_foretold remaining 8 s y (string_bytes name) _ disk old new left start end result sized calls h
-command_comes s m r remaining y explained (command.Query name key number lines false) disk input given old new was now left start end told said result sized calls honest h =
-    query_foretold remaining 4 s y (string_bytes name) _ disk old new left start end result sized calls h
-command_comes s m r remaining y explained (command.Dump (Some name) style true) disk input given old new was now left start end told said result sized calls honest h =
-    text_named s remaining 8 y (dump_form style) (string_bytes name) given disk (stores_in left) old new start end result calls h.1
-command_comes s m r remaining y explained (command.Dump (Some name) style false) disk input given old new was now left start end told said result sized calls honest h =
-    text_named s remaining 4 y (dump_form style) (string_bytes name) given disk (stores_in left) old new start end result calls h.1
-command_comes s m r remaining y explained (command.Dump None style true) disk input given old new was now left start end told said result sized calls honest h =
-    text_input remaining 8 y (dump_form style) given input old new start end result honest.reads h.1
-command_comes s m r remaining y explained (command.Dump None style false) disk input given old new was now left start end told said result sized calls honest h =
-    text_input remaining 4 y (dump_form style) given input old new start end result honest.reads h.1
-command_comes s m r remaining y explained (command.List (Some name) style true) disk input given old new was now left start end told said result sized calls honest h =
-    text_named s remaining 8 y (list_form style) (string_bytes name) given disk (stores_in left) old new start end result calls h.1
-command_comes s m r remaining y explained (command.List (Some name) style false) disk input given old new was now left start end told said result sized calls honest h =
-    text_named s remaining 4 y (list_form style) (string_bytes name) given disk (stores_in left) old new start end result calls h.1
-command_comes s m r remaining y explained (command.List None style true) disk input given old new was now left start end told said result sized calls honest h =
-    text_input remaining 8 y (list_form style) given input old new start end result honest.reads h.1
-command_comes s m r remaining y explained (command.List None style false) disk input given old new was now left start end told said result sized calls honest h =
-    text_input remaining 4 y (list_form style) given input old new start end result honest.reads h.1
-command_comes s m r remaining y explained (command.Stats (Some name) true) disk input given old new was now left start end told said result sized calls honest h =
-    on_named true s remaining y plain_status _ (string_bytes name) given disk (stats_outcome 8) old new left start end result _ _ refl calls (λ store last bytes is works does. stats_comes Nothing 8 s store last bytes start end result is (sized last bytes is) works does) h
-command_comes s m r remaining y explained (command.Stats (Some name) false) disk input given old new was now left start end told said result sized calls honest h =
-    on_named true s remaining y plain_status _ (string_bytes name) given disk (stats_outcome 4) old new left start end result _ _ refl calls (λ store last bytes is works does. stats_comes Nothing 4 s store last bytes start end result is (sized last bytes is) works does) h
-command_comes s m r remaining y explained (command.Stats None true) disk input given old new was now left start end told said result sized calls honest h =
-    on_input true plain_status _ given input (stats_outcome 8) start end result _ refl honest.reads (λ store last does. stats_taken 8 store last start end result does) h.2
-command_comes s m r remaining y explained (command.Stats None false) disk input given old new was now left start end told said result sized calls honest h =
-    on_input true plain_status _ given input (stats_outcome 4) start end result _ refl honest.reads (λ store last does. stats_taken 4 store last start end result does) h.2
-command_comes s m r remaining y explained (command.Check (Some name) true) disk input given old new was now left start end told said result sized calls honest h =
-    on_named false s remaining y check_status _ (string_bytes name) given disk (check_outcome 8) old new left start end result _ _ refl calls (λ store last bytes is works does. check_comes Nothing 8 s store last bytes start end result (omega arith) is works does) h
-command_comes s m r remaining y explained (command.Check (Some name) false) disk input given old new was now left start end told said result sized calls honest h =
-    on_named false s remaining y check_status _ (string_bytes name) given disk (check_outcome 4) old new left start end result _ _ refl calls (λ store last bytes is works does. check_comes Nothing 4 s store last bytes start end result (omega arith) is works does) h
-command_comes s m r remaining y explained (command.Check None true) disk input given old new was now left start end told said result sized calls honest h =
-    on_input false check_status _ given input (check_outcome 8) start end result _ refl honest.reads (λ store last does. check_taken 8 store last start end result (omega arith) does) h.2
-command_comes s m r remaining y explained (command.Check None false) disk input given old new was now left start end told said result sized calls honest h =
-    on_input false check_status _ given input (check_outcome 4) start end result _ refl honest.reads (λ store last does. check_taken 4 store last start end result (omega arith) does) h.2
-command_comes s m r remaining y explained (command.Difference first second true) disk input given old new was now left start end told said result sized calls honest h =
-    difference_foretold remaining 8 s y (string_bytes first) (string_bytes second) disk old new left start end result sized calls honest.in_order.0 honest.in_order.1 h
-command_comes s m r remaining y explained (command.Difference first second false) disk input given old new was now left start end told said result sized calls honest h =
-    difference_foretold remaining 4 s y (string_bytes first) (string_bytes second) disk old new left start end result sized calls honest.in_order.0 honest.in_order.1 h
-command_comes s m r remaining y explained (command.Create name base inputs temporary options wide) disk input given old new was now left start end told said result sized calls honest h = tt
-command_comes s m r remaining y explained command.Help disk input given old new was now left start end told said result sized calls honest h = told_comes usage_text start end result h.2
-command_comes s m r remaining y explained command.Version disk input given old new was now left start end told said result sized calls honest h = told_comes version_text start end result h.2
-command_comes s m r remaining y explained (command.Lookups name inputs number style true) disk input given old new was now left start end told said result sized calls honest h =
-    lookups_foretold remaining 8 9223372036854775807 s y (string_bytes name) (map string_bytes inputs.items) number style given disk input old new left start end result sized calls honest.reads h
-command_comes s m r remaining y explained (command.Lookups name inputs number style false) disk input given old new was now left start end told said result sized calls honest h =
-    lookups_foretold remaining 4 4294967295 s y (string_bytes name) (map string_bytes inputs.items) number style given disk input old new left start end result sized calls honest.reads h
+command_comes : {F I M R Y : Type 0} (s : Ghosts F) (m : Ghosts M) (r : Raw R) (remaining : I → Option (List ℕ)) (y : Systems Y F I M) (explained : Bool) (command : Command) (disk : Disk) (input : List ℕ) (given : Option (List ℕ)) (old new : State Y) (left : Left F M) (result : Result Unit Fault) → IsSized s → EachAnswered s remaining y disk (stores_in left) (y.calls old.opened) (y.calls new.opened)
+    → CommandComes s m r remaining y explained command disk input given old new left result
+command_comes s m r remaining y explained (command.Query name key number lines true) disk input given old new left result sized calls honest h =
+    query_foretold remaining 8 s m y (string_bytes name) _ disk old new left result sized calls h
+command_comes s m r remaining y explained (command.Query name key number lines false) disk input given old new left result sized calls honest h =
+    query_foretold remaining 4 s m y (string_bytes name) _ disk old new left result sized calls h
+command_comes s m r remaining y explained (command.Dump (Some name) style true) disk input given old new left result sized calls honest h =
+    text_named s remaining 8 m y (dump_form style) (string_bytes name) given disk (stores_in left) old new result calls h.1
+command_comes s m r remaining y explained (command.Dump (Some name) style false) disk input given old new left result sized calls honest h =
+    text_named s remaining 4 m y (dump_form style) (string_bytes name) given disk (stores_in left) old new result calls h.1
+command_comes s m r remaining y explained (command.Dump None style true) disk input given old new left result sized calls honest h =
+    text_input s remaining 8 m y (dump_form style) given input old new result honest.reads h.1
+command_comes s m r remaining y explained (command.Dump None style false) disk input given old new left result sized calls honest h =
+    text_input s remaining 4 m y (dump_form style) given input old new result honest.reads h.1
+command_comes s m r remaining y explained (command.List (Some name) style true) disk input given old new left result sized calls honest h =
+    text_named s remaining 8 m y (list_form style) (string_bytes name) given disk (stores_in left) old new result calls h.1
+command_comes s m r remaining y explained (command.List (Some name) style false) disk input given old new left result sized calls honest h =
+    text_named s remaining 4 m y (list_form style) (string_bytes name) given disk (stores_in left) old new result calls h.1
+command_comes s m r remaining y explained (command.List None style true) disk input given old new left result sized calls honest h =
+    text_input s remaining 8 m y (list_form style) given input old new result honest.reads h.1
+command_comes s m r remaining y explained (command.List None style false) disk input given old new left result sized calls honest h =
+    text_input s remaining 4 m y (list_form style) given input old new result honest.reads h.1
+command_comes s m r remaining y explained (command.Stats (Some name) true) disk input given old new left result sized calls honest h =
+    on_named true s m remaining y plain_status _ (string_bytes name) given disk (stats_outcome 8) old new left result _ _ refl calls (λ store last bytes is works does. stats_comes Nothing 8 s store last bytes old.output new.output result is (sized last bytes is) works does) h
+command_comes s m r remaining y explained (command.Stats (Some name) false) disk input given old new left result sized calls honest h =
+    on_named true s m remaining y plain_status _ (string_bytes name) given disk (stats_outcome 4) old new left result _ _ refl calls (λ store last bytes is works does. stats_comes Nothing 4 s store last bytes old.output new.output result is (sized last bytes is) works does) h
+command_comes s m r remaining y explained (command.Stats None true) disk input given old new left result sized calls honest h =
+    on_input true plain_status _ given input (stats_outcome 8) old.output new.output result _ refl honest.reads (λ store last does. stats_taken 8 store last old.output new.output result does) h.2
+command_comes s m r remaining y explained (command.Stats None false) disk input given old new left result sized calls honest h =
+    on_input true plain_status _ given input (stats_outcome 4) old.output new.output result _ refl honest.reads (λ store last does. stats_taken 4 store last old.output new.output result does) h.2
+command_comes s m r remaining y explained (command.Check (Some name) true) disk input given old new left result sized calls honest h =
+    on_named false s m remaining y check_status _ (string_bytes name) given disk (check_outcome 8) old new left result _ _ refl calls (λ store last bytes is works does. check_comes Nothing 8 s store last bytes old.output new.output result (omega arith) is works does) h
+command_comes s m r remaining y explained (command.Check (Some name) false) disk input given old new left result sized calls honest h =
+    on_named false s m remaining y check_status _ (string_bytes name) given disk (check_outcome 4) old new left result _ _ refl calls (λ store last bytes is works does. check_comes Nothing 4 s store last bytes old.output new.output result (omega arith) is works does) h
+command_comes s m r remaining y explained (command.Check None true) disk input given old new left result sized calls honest h =
+    on_input false check_status _ given input (check_outcome 8) old.output new.output result _ refl honest.reads (λ store last does. check_taken 8 store last old.output new.output result (omega arith) does) h.2
+command_comes s m r remaining y explained (command.Check None false) disk input given old new left result sized calls honest h =
+    on_input false check_status _ given input (check_outcome 4) old.output new.output result _ refl honest.reads (λ store last does. check_taken 4 store last old.output new.output result (omega arith) does) h.2
+command_comes s m r remaining y explained (command.Difference first second true) disk input given old new left result sized calls honest h =
+    difference_foretold remaining 8 s m y (string_bytes first) (string_bytes second) disk old new left result sized calls honest.in_order.0 honest.in_order.1 h
+command_comes s m r remaining y explained (command.Difference first second false) disk input given old new left result sized calls honest h =
+    difference_foretold remaining 4 s m y (string_bytes first) (string_bytes second) disk old new left result sized calls honest.in_order.0 honest.in_order.1 h
+command_comes s m r remaining y explained (command.Create name base inputs temporary options wide) disk input given old new left result sized calls honest h = tt
+command_comes s m r remaining y explained command.Help disk input given old new left result sized calls honest h = told_comes usage_text old.output new.output result h.2
+command_comes s m r remaining y explained command.Version disk input given old new left result sized calls honest h = told_comes version_text old.output new.output result h.2
+command_comes s m r remaining y explained (command.Lookups name inputs number style true) disk input given old new left result sized calls honest h =
+    lookups_foretold remaining 8 9223372036854775807 s m y (string_bytes name) (map string_bytes inputs.items) number style given disk input old new left result sized calls honest.reads h
+command_comes s m r remaining y explained (command.Lookups name inputs number style false) disk input given old new left result sized calls honest h =
+    lookups_foretold remaining 4 4294967295 s m y (string_bytes name) (map string_bytes inputs.items) number style given disk input old new left result sized calls honest.reads h
 
 -- only a create says anything before it ends
 is_silent : (command : Command) (disk : Disk) (input : List ℕ) (told before : Option (List ℕ)) → IsUntouched (asked_in command) told before → IfSome (command_outcome (asked_in command) disk input) (λ o. before ≡ told)
@@ -592,8 +594,8 @@ no_memory_may (Ok command) = tt
 no_memory_may (Err usage) = refl
 
 run_foretold : {F I M R Y : Type 0} (s : Ghosts F) (m : Ghosts M) (r : Raw R) (remaining : I → Option (List ℕ)) (y : Systems Y F I M) (planned : Result Asked Refused) (explained : Bool) (given : Option (List ℕ)) (old new : Y) (was now : NameCalls) (left : Left F M) (start end final told said : Option (List ℕ)) (unwritten unsaid : Type 0) (status : ℕ) (disk : Disk) (input : List ℕ)
-    → IsSized s → explained ≡ false → (unwritten → ⊥) → (unsaid → ⊥) → Keeps end final → Runs s m r remaining y planned explained given old new was now left start end final told said unwritten unsaid status
-    → IfOk planned (λ command. Honest s remaining y disk input command given old new left) → IfSome (oracle planned disk input) (λ o. Foretold planned o start final told said status)
+    → IsSized s → explained ≡ false → (unwritten → ⊥) → (unsaid → ⊥) → Keeps end final → Runs (files_of s m remaining y) r (given_of planned explained given) (state_of old was start told) (state_of new now end said) final left (failed_of unwritten unsaid) status
+    → IfOk planned (λ command. Honest (files_of s m remaining y) disk input command given old new left) → IfSome (oracle planned disk input) (λ o. Foretold planned o start final told said status)
 run_foretold s m r remaining y planned explained given old new was now left start end final told said unwritten unsaid status disk input sized plain writes speaks k (inl none) honest =
     let kept = Keeps-trans start end final none.kept k in
     let alone : SaysLine (usage_line (usage_of none.refused)) told said unsaid = subst (λ b. SaysLine (refused_lines b none.refused) told said unsaid) plain none.line in
@@ -614,12 +616,12 @@ run_foretold s m r remaining y planned explained given old new was now left star
     ]
 run_foretold s m r remaining y planned explained given old new was now left start end final told said unwritten unsaid status disk input sized plain writes speaks k (inr some) honest =
     let command = some.command in
-    let honest = subst (λ p. IfOk p (λ c. Honest s remaining y disk input c given old new left)) some.asks honest in
+    let honest = subst (λ p. IfOk p (λ c. Honest (files_of s m remaining y) disk input c given old new left)) some.asks honest in
     let handed = handed_all some.does.end final unwritten some.does.answer some.result writes some.does.hands in
     subst (λ p. IfSome (oracle p disk input) (λ o. Foretold p o start final told said status)) (sym some.asks)
     (some_so (command_outcome (asked_in command) disk input) (λ o. Comes (writes_output (asked_in command)) (reads_in_turn (asked_in command)) (exit_status command) o start some.does.end some.does.answer) (λ o. some.before ≡ told) (λ o. Foretold (Ok (asked_in command)) o start final told said status)
     (λ o comes silent. ends_so command o start some.does.end final told said unsaid some.result status speaks handed.0 (subst (λ t. SaysOnly some.result t said unsaid) silent (says_only explained (asked_in command) some.result (y.calls new) now some.more some.before said unsaid plain some.explains some.says)) some.is_status (subst (Comes (writes_output (asked_in command)) (reads_in_turn (asked_in command)) (exit_status command) o start some.does.end) (sym handed.1) comes))
-    (command_comes s m r remaining y explained command disk input given old new was now left start some.does.end told some.before some.does.answer sized (each_answered s remaining y disk (stores_in left) (y.calls old) (y.calls new) honest.calls honest.are honest.answered) honest some.does.performs)
+    (command_comes s m r remaining y explained command disk input given (state_of old was start told) (state_of new now some.does.end some.before) left some.does.answer sized (each_answered s remaining y disk (stores_in left) (y.calls old) (y.calls new) honest.calls honest.are honest.answered) honest some.does.performs)
     (is_silent command disk input told some.before some.silent))
 
 -- an output that was flushed and did not fail holds nothing back
@@ -645,8 +647,8 @@ total_so (Err usage) disk input P none h = h
 
 pub run_is_foretold : {F I M R Y W V : Type 0} (s : Ghosts F) (m : Ghosts M) (r : Raw R) (remaining : I → Option (List ℕ)) (y : Systems Y F I M) (planned : Result Asked Refused) (explained : Bool) (given : Option (List ℕ)) (old new : Y) (was now : NameCalls) (left : Left F M) (of_output : W → Option (List ℕ)) (of_errors : V → Option (List ℕ)) (output_old output_new : Writer W) (errors_old errors_new : Writer V) (status : ℕ)
     → IsSized s → (held_by output_old ≡ [] → HasHandedOn output_new) → HasHandedOn errors_new
-    → Runs s m r remaining y planned explained given old new was now left (output_bytes of_output output_old) (output_bytes of_output output_new) (of_output output_new.writer) (output_bytes of_errors errors_old) (output_bytes of_errors errors_new) (OutputFailed output_new) (OutputFailed errors_new) status
-    → IsForetold s remaining y planned explained given old new left (output_bytes of_output output_old) (of_output output_new.writer) (output_bytes of_errors errors_old) (of_errors errors_new.writer) (IsTaken output_old output_new errors_new) status
+    → Runs (files_of s m remaining y) r (given_of planned explained given) (state_of old was (output_bytes of_output output_old) (output_bytes of_errors errors_old)) (state_of new now (output_bytes of_output output_new) (output_bytes of_errors errors_new)) (of_output output_new.writer) left (failed_of (OutputFailed output_new) (OutputFailed errors_new)) status
+    → IsForetold (files_of s m remaining y) (given_of planned explained given) (state_of old was (output_bytes of_output output_old) (output_bytes of_errors errors_old)) (state_of new now (of_output output_new.writer) (of_errors errors_new.writer)) left (IsTaken output_old output_new errors_new) status
 run_is_foretold s m r remaining y planned explained given old new was now left of_output of_errors output_old output_new errors_old errors_new status sized handed said runs = λ disk input taken plain none honest.
     total_so planned disk input (λ o. Foretold planned o (output_bytes of_output output_old) (of_output output_new.writer) (output_bytes of_errors errors_old) (of_errors errors_new.writer) status) none
     (let end = output_bytes of_output output_new in

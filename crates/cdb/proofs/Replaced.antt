@@ -31,6 +31,8 @@ use Rattle.cdb_tool.proofs.MadeOf.{made_so, run_comes}
 use Rattle.cdb_tool.proofs.ToldLines.{part_plain, tells_plain}
 use Rattle.cdb.specs.Creating.{IsBufferedRun, IsDatabase, IsRun, Making, Replaces, answer_of, fault_of}
 use Rattle.cdb.specs.ForetoldCreate.{HadBytes, IsCreateRefusal, IsNoFailedRename, place_of}
+use Rattle.cdb.specs.State.{state_of}
+use Rattle.cdb.specs.Opening.{OpenCalls}
 
 -- ---- what it comes to
 
@@ -418,8 +420,8 @@ answered f r m x files input temporary name old new back told said (Err e) none 
   err = λ had. replaced_err f r m back x files input temporary name old new told said e has known had lines;
 }
 
-pub replaces_so : {F R : Type 0} (f : Ghosts F) (r : Raw R) (m : Making F) (x : Option (List ℕ)) (files : List (Option (List ℕ))) (input temporary name : List ℕ) (old new : NameCalls) (back : Option F) (told said : Option (List ℕ)) (result : Result Unit Fault) → temporary ≢ name → renames old ≡ 0 → BaseHas f back x → Known files input m.inputs
-    → Replaces f r m temporary name old new back told said result → ReplacesSo m.word m.options temporary name (made_here m x files input) old new told said result
+pub replaces_so : {F R : Type 0} {opened opens : OpenCalls} {start end : Option (List ℕ)} (f : Ghosts F) (r : Raw R) (m : Making F) (x : Option (List ℕ)) (files : List (Option (List ℕ))) (input temporary name : List ℕ) (old new : NameCalls) (back : Option F) (told said : Option (List ℕ)) (result : Result Unit Fault) → temporary ≢ name → renames old ≡ 0 → BaseHas f back x → Known files input m.inputs
+    → Replaces f r m temporary name (state_of opened old start told) (state_of opens new end said) back result → ReplacesSo m.word m.options temporary name (made_here m x files input) old new told said result
 replaces_so f r m x files input temporary name old new back told said result apart none has known h =
     let moments = h.moments in
     let same = append_cancel_right h.calls.since moments.since old (sym h.calls.calls ∙ moments.calls) in

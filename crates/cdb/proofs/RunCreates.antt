@@ -19,8 +19,8 @@ use Rattle.cdb_tool.specs.declared.fault.Fault.{Fault}
 use Rattle.cdb_tool.specs.declared.fault.Fault.TheVariants.{Missing, NoMemory}
 use Rattle.cdb.specs.Created.{Created, create_of}
 use Rattle.cdb.specs.Creating.{Creates}
-use Rattle.cdb.specs.Foretold.{IsTaken}
-use Rattle.cdb.specs.ForetoldCreate.{CreateHolds, HonestCreate, IsCreateForetold, IsCreateRefusal, IsCreated, IsGivenUp, passing}
+use Rattle.cdb.specs.Foretold.{GivesInputs, IsTaken}
+use Rattle.cdb.specs.ForetoldCreate.{CreateHolds, HonestCreate, IsCreateForetold, IsCreateRefusal, IsCreated, IsGivenUp, expected_of, passing}
 use Rattle.cdb.specs.Oracle.{Disk, ended, greatest_size, word_size}
 use Rattle.cdb.specs.Performs.{IsShown, PerformsIn, Runs, SaysLine, refused_lines, status_of, usage_line, usage_status}
 use Rattle.cdb.specs.declared.left.Left.{Left}
@@ -36,6 +36,9 @@ use Rattle.cdb.proofs.CreateReads.{asking_none, moments_first}
 use Rattle.cdb.proofs.Creates.{creates_so}
 use Rattle.cdb.proofs.Oracles.{all_taken, handed_all}
 use Rattle.cdb.proofs.Replaced.{said_nothing}
+use Rattle.cdb.specs.State.{failed_of, given_of, state_of}
+use Rattle.cdb.specs.Files.{Files, files_of}
+use Rattle.cdb.specs.Opening.{OpenCalls}
 
 -- ---- the end
 
@@ -99,8 +102,8 @@ same_asked : (a b : Asked) → ◌≡◌ {A = Result Asked Refused} (Ok a) (Ok b
 same_asked a b e = cc
 
 creates_in : {F I M R Y : Type 0} (s : Ghosts F) (m : Ghosts M) (r : Raw R) (remaining : I → Option (List ℕ)) (y : Systems Y F I M) (name : List ℕ) (base : Option (List ℕ)) (inputs : List (List ℕ)) (temporary : Option (List ℕ)) (o : MakeOptions) (wide explained : Bool) (given : Option (List ℕ)) (old new : Y) (was now : NameCalls) (left : Left F M) (start end told said : Option (List ℕ)) (result : Result Unit Fault)
-    → PerformsIn wide s m r remaining y explained (asked.Create name base inputs temporary o wide) given old new was now left start end told said result
-    → (shown : MakeOptions) × IsShown explained inputs o shown × Creates (word_size wide) (greatest_size wide) y s m r remaining shown name base inputs temporary given (y.calls old) (y.calls new) was now left start end told said result
+    → PerformsIn wide (files_of s m remaining y) r (given_of (asked.Create name base inputs temporary o wide) explained given) (state_of old was start told) (state_of new now end said) left result
+    → (shown : MakeOptions) × IsShown explained inputs o shown × Creates (files_of s m remaining y) r (record { word = word_size wide; greatest = greatest_size wide; options = shown; name = name; base = base; inputs = inputs; temporary = temporary }) given (state_of (y.calls old) was start told) (state_of (y.calls new) now end said) left result
 creates_in s m r remaining y name base inputs temporary o true explained given old new was now left start end told said result h = h
 creates_in s m r remaining y name base inputs temporary o false explained given old new was now left start end told said result h = h
 
@@ -108,8 +111,8 @@ if_not_done : (P : Type 0) (answer : Result Unit Fault) → OnErr answer P → (
 if_not_done P (Ok done) h some = absurd (some refl)
 if_not_done P (Err fault) h some = h
 
-comes_so : {M : Type 0} (m : Ghosts M) (disk : Disk) (shown : MakeOptions) (c : Created) (explained : Bool) (now : NameCalls) (made : Option M) (command : Command) (name : List ℕ) (base : Option (List ℕ)) (inputs : List (List ℕ)) (temporary : Option (List ℕ)) (o : MakeOptions) (wide : Bool) (start end final told before said : Option (List ℕ)) (unsaid : Type 0) (answer result : Result Unit Fault) (status : ℕ) → asked_in command ≡ asked.Create name base inputs temporary o wide → Keeps end final → result ≡ answer → (unsaid → ⊥)
-    → (explained ≡ false → SaysOnly result before said unsaid) → status ≡ status_of command result → (explained ≡ false → IsPlain shown) → Came m disk name shown c now made start end told before answer → IsCreated m disk name c explained now made start final told said status ⊎ IsGivenUp c explained start final told said status
+comes_so : {M S : Type 0} {old new : S} {was : NameCalls} (m : Ghosts M) (disk : Disk) (shown : MakeOptions) (c : Created) (explained : Bool) (now : NameCalls) (made : Option M) (command : Command) (name : List ℕ) (base : Option (List ℕ)) (inputs : List (List ℕ)) (temporary : Option (List ℕ)) (o : MakeOptions) (wide : Bool) (start end final told before said : Option (List ℕ)) (unsaid : Type 0) (answer result : Result Unit Fault) (status : ℕ) → asked_in command ≡ asked.Create name base inputs temporary o wide → Keeps end final → result ≡ answer → (unsaid → ⊥)
+    → (explained ≡ false → SaysOnly result before said unsaid) → status ≡ status_of command result → (explained ≡ false → IsPlain shown) → Came m disk name shown c now made start end told before answer → IsCreated m (expected_of disk name temporary c) explained made (state_of old was start told) (state_of new now final said) status ⊎ IsGivenUp c explained (state_of old was start told) (state_of new now final said) status
 comes_so m disk shown c explained now made command name base inputs temporary o wide start end final told before said unsaid answer result status a kept same speaks says is unnamed (inl h) =
     let whole : result ≡ c.result = same ∙ h.0.is in
     inl (record {
@@ -128,10 +131,15 @@ comes_so m disk shown c explained now made command name base inputs temporary o 
       lines = λ unexplained. (let part = h.lines (unnamed unexplained) in (part.front, part.more, part.split, subst (λ l. Appends told said (part.front ++ l)) (ap line_of whole) (said_end result told before said unsaid part.front speaks part.appended (says unexplained))));
     })
 
+-- whether the calls were answered as the disk is says nothing of what was written
+honest_so : {F I M Y : Type 0} {files : Files F I M Y} {disk : Disk} {name : List ℕ} {old new : OpenCalls} {was now : NameCalls} {start end told said : Option (List ℕ)} {read : Option F} (final before : Option (List ℕ))
+    → HonestCreate files disk name (state_of old was start told) (state_of new now end said) read → HonestCreate files disk name (state_of old was start told) (state_of new now final before) read
+honest_so final before h = record { calls = h.calls; are = h.are; answered = h.answered; first = h.first; alone = h.alone; held = h.held; has = h.has }
+
 run_holds : {F I M R Y : Type 0} (s : Ghosts F) (m : Ghosts M) (r : Raw R) (remaining : I → Option (List ℕ)) (y : Systems Y F I M) (planned : Result Asked Refused) (explained : Bool) (given : Option (List ℕ)) (old new : Y) (was now : NameCalls) (left : Left F M) (start end final told said : Option (List ℕ)) (unwritten unsaid : Type 0) (status : ℕ) (disk : Disk) (input name : List ℕ) (base : Option (List ℕ)) (inputs : List (List ℕ)) (temporary : Option (List ℕ)) (o : MakeOptions) (wide : Bool)
-    → planned ≡ Ok (asked.Create name base inputs temporary o wide) → (unwritten → ⊥) → (unsaid → ⊥) → Keeps end final → HonestCreate s remaining y disk input inputs given (y.calls old) (y.calls new) left.read name was now → Runs s m r remaining y planned explained given old new was now left start end final told said unwritten unsaid status
-    → CreateHolds m disk name temporary (create_of (word_size wide) (greatest_size wide) disk input name base inputs temporary o) explained was now left.made start final told said status
-run_holds s m r remaining y planned explained given old new was now left start end final told said unwritten unsaid status disk input name base inputs temporary o wide plan writes speaks kept honest (inl none) = elim none.why [
+    → planned ≡ Ok (asked.Create name base inputs temporary o wide) → (unwritten → ⊥) → (unsaid → ⊥) → Keeps end final → GivesInputs disk inputs input given → HonestCreate (files_of s m remaining y) disk name (state_of (y.calls old) was start told) (state_of (y.calls new) now final said) left.read → Runs (files_of s m remaining y) r (given_of planned explained given) (state_of old was start told) (state_of new now end said) final left (failed_of unwritten unsaid) status
+    → CreateHolds m (expected_of disk name temporary (create_of (word_size wide) (greatest_size wide) disk input name base inputs temporary o)) explained left.made (state_of old was start told) (state_of new now final said) status
+run_holds s m r remaining y planned explained given old new was now left start end final told said unwritten unsaid status disk input name base inputs temporary o wide plan writes speaks kept gives honest (inl none) = elim none.why [
   | inl lacks ↦ (let c = create_of (word_size wide) (greatest_size wide) disk input name base inputs temporary o in
       let is : status ≡ 111 = none.is_status ∙ ap (λ x. usage_status (usage_of x)) lacks in
       record {
@@ -148,19 +156,19 @@ run_holds s m r remaining y planned explained given old new was now left start e
       })
   | inr refused ↦ absurd (let no : ◌≡◌ {A = Result Asked Refused} (Ok (asked.Create name base inputs temporary o wide)) (Err none.refused) = sym plan ∙ refused in cc)
 ]
-run_holds s m r remaining y planned explained given old new was now left start end final told said unwritten unsaid status disk input name base inputs temporary o wide plan writes speaks kept honest (inr some) =
+run_holds s m r remaining y planned explained given old new was now left start end final told said unwritten unsaid status disk input name base inputs temporary o wide plan writes speaks kept gives honest (inr some) =
     let command = some.command in
     let does = some.does in
     let a : asked_in command ≡ asked.Create name base inputs temporary o wide = same_asked (asked_in command) (asked.Create name base inputs temporary o wide) (sym some.asks ∙ plan) in
-    let performs = subst (λ q. PerformsIn (has_wide_words q) s m r remaining y explained q given old new was now left start does.end told some.before does.answer) a does.performs in
+    let performs = subst (λ q. PerformsIn (has_wide_words q) (files_of s m remaining y) r (given_of q explained given) (state_of old was start told) (state_of new now does.end some.before) left does.answer) a does.performs in
     let shows = creates_in s m r remaining y name base inputs temporary o wide explained given old new was now left start does.end told some.before does.answer performs in
     let shown = shows.0 in
     let creates = shows.2 in
-    let so = creates_so s m r remaining y (word_size wide) (greatest_size wide) disk input name base inputs temporary shown given (y.calls old) (y.calls new) left was now start does.end told some.before does.answer honest creates in
+    let so = creates_so s m r remaining y (word_size wide) (greatest_size wide) disk input name base inputs temporary shown given (y.calls old) (y.calls new) left was now start does.end told some.before does.answer gives (honest_so does.end some.before honest) creates in
     let handed = handed_all does.end final unwritten does.answer some.result writes does.hands in
     let c = create_of (word_size wide) (greatest_size wide) disk input name base inputs temporary shown in
     let some_is : status ≡ plain does.answer = some.is_status ∙ status_create command name base inputs temporary o wide some.result a ∙ ap plain handed.1 in
-    named_holds m (word_size wide) (greatest_size wide) disk input name base inputs temporary o shown explained was now left.made start final told said status shows.1
+    named_holds m (word_size wide) (greatest_size wide) disk input name base inputs temporary o shown explained left.made (state_of old was start told) (state_of new now final said) status shows.1
     (record {
       comes = λ had has. comes_so m disk shown c explained now left.made command name base inputs temporary o wide start does.end final told some.before said unsaid does.answer some.result status a handed.0 handed.1 speaks (λ unexplained. says_only explained (asked_in command) some.result (y.calls new) now some.more some.before said unsaid unexplained some.explains some.says) some.is_status (λ unexplained. shown_plain explained inputs o shown shows.1 unexplained) (so.answer had has);
       done = λ zero. if_done _ does.answer so.done (sym some_is ∙ zero);
@@ -170,10 +178,10 @@ run_holds s m r remaining y planned explained given old new was now left start e
 
 pub run_is_created : {F I M R Y W V : Type 0} (s : Ghosts F) (m : Ghosts M) (r : Raw R) (remaining : I → Option (List ℕ)) (y : Systems Y F I M) (planned : Result Asked Refused) (explained : Bool) (given : Option (List ℕ)) (old new : Y) (was now : NameCalls) (left : Left F M) (of_output : W → Option (List ℕ)) (of_errors : V → Option (List ℕ)) (output_old output_new : Writer W) (errors_old errors_new : Writer V) (status : ℕ)
     → (held_by output_old ≡ [] → HasHandedOn output_new) → HasHandedOn errors_new
-    → Runs s m r remaining y planned explained given old new was now left (output_bytes of_output output_old) (output_bytes of_output output_new) (of_output output_new.writer) (output_bytes of_errors errors_old) (output_bytes of_errors errors_new) (OutputFailed output_new) (OutputFailed errors_new) status
-    → IsCreateForetold s m remaining y planned explained given old new was now left (output_bytes of_output output_old) (of_output output_new.writer) (output_bytes of_errors errors_old) (of_errors errors_new.writer) (IsTaken output_old output_new errors_new) status
-run_is_created s m r remaining y planned explained given old new was now left of_output of_errors output_old output_new errors_old errors_new status handed said runs = λ disk input name base inputs temporary o wide plan taken honest.
+    → Runs (files_of s m remaining y) r (given_of planned explained given) (state_of old was (output_bytes of_output output_old) (output_bytes of_errors errors_old)) (state_of new now (output_bytes of_output output_new) (output_bytes of_errors errors_new)) (of_output output_new.writer) left (failed_of (OutputFailed output_new) (OutputFailed errors_new)) status
+    → IsCreateForetold (files_of s m remaining y) (given_of planned explained given) (state_of old was (output_bytes of_output output_old) (output_bytes of_errors errors_old)) (state_of new now (of_output output_new.writer) (of_errors errors_new.writer)) left (IsTaken output_old output_new errors_new) status
+run_is_created s m r remaining y planned explained given old new was now left of_output of_errors output_old output_new errors_old errors_new status handed said runs = λ disk input name base inputs temporary o wide plan taken gives honest.
     (let end = output_bytes of_output output_new in
     let kept = subst (Keeps end) (all_taken of_output output_new (handed taken.0) taken.1) (Keeps-refl end) in
-    subst (λ t. CreateHolds m disk name temporary (create_of (word_size wide) (greatest_size wide) disk input name base inputs temporary o) explained was now left.made (output_bytes of_output output_old) (of_output output_new.writer) (output_bytes of_errors errors_old) t status) (all_taken of_errors errors_new said taken.2)
-    (run_holds s m r remaining y planned explained given old new was now left (output_bytes of_output output_old) end (of_output output_new.writer) (output_bytes of_errors errors_old) (output_bytes of_errors errors_new) (OutputFailed output_new) (OutputFailed errors_new) status disk input name base inputs temporary o wide plan taken.1 taken.2 kept honest runs))
+    subst (λ t. CreateHolds m (expected_of disk name temporary (create_of (word_size wide) (greatest_size wide) disk input name base inputs temporary o)) explained left.made (state_of old was (output_bytes of_output output_old) (output_bytes of_errors errors_old)) (state_of new now (of_output output_new.writer) t) status) (all_taken of_errors errors_new said taken.2)
+    (run_holds s m r remaining y planned explained given old new was now left (output_bytes of_output output_old) end (of_output output_new.writer) (output_bytes of_errors errors_old) (output_bytes of_errors errors_new) (OutputFailed output_new) (OutputFailed errors_new) status disk input name base inputs temporary o wide plan taken.1 taken.2 kept gives (honest_so (of_output output_new.writer) (output_bytes of_errors errors_new) honest) runs))

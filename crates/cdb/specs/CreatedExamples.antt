@@ -12,8 +12,11 @@ use Rattle.cdb_store.specs.declared.memory.MemStore.{MemStore}
 use Rattle.cdb_store.specs.declared.trace.Call.TheVariants as file_call
 use Rattle.cdb_form.specs.Format.Record.{AreBytes}
 use Rattle.cdb_tool.specs.Runs.MakesSo.{KnownFor}
+use Rattle.cdb.specs.Files.{files_of}
+use Rattle.cdb.specs.Foretold.{GivesInputs}
 use Rattle.cdb.specs.ForetoldCreate.{HonestCreate}
 use Rattle.cdb.specs.Opening.{OpenCalls}
+use Rattle.cdb.specs.State.{state_of}
 use Rattle.cdb.specs.declared.system.System.{Ghosts as Systems}
 use Rattle.cdb_command.specs.Asked.{Create}
 use Rattle.cdb_command.specs.declared.options.MakeOptions.{MakeOptions}
@@ -134,14 +137,21 @@ is_written = (empty_file, ([], refl, omega arith, refl), omega arith, refl)
 of_none : (files : List (Option (List ℕ))) → ◌≡◌ {A = Option (List (Option (List ℕ)))} (Some (None ∷ [])) (Some files) → KnownFor files (Some (codes "\n")) (codes "\n")
 of_none files e = subst (λ (v : Option (List (Option (List ℕ)))). IfSome v (λ fs. KnownFor fs (Some (codes "\n")) (codes "\n"))) e refl
 
-create_is_honest : (y : Systems OpenCalls MemStore (List ℕ) MemStore) → HonestCreate in_memory Some y nothing (codes "\n") [] (Some (codes "\n")) [] [] None its [] name_calls
+inputs_are_given : GivesInputs nothing [] (codes "\n") (Some (codes "\n"))
+unfolding nothing
+inputs_are_given = record {
+  bytes = record { files = λ name. tt; standard = newline_is };
+  known = λ files e. of_none files e;
+}
+
+create_is_honest : (y : Systems OpenCalls MemStore (List ℕ) MemStore)
+    → HonestCreate (files_of in_memory in_memory Some y) nothing its (state_of [] [] None None)
+    (state_of [] name_calls None None) None
 unfolding nothing
 create_is_honest y = record {
   calls = [];
   are = refl;
   answered = tt;
-  reads = λ files e. of_none files e;
-  bytes = record { files = λ name. tt; standard = newline_is };
   first = refl;
   alone = (tt, (tt, ((λ said same. (let no : temporary ≡ its = same in cc), λ said. absurd (said refl)), (tt, (tt, (tt, (refl, tt)))))));
   held = Some empty_file;

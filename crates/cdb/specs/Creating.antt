@@ -28,13 +28,26 @@ use Rattle.cdb_tool.specs.declared.fault.Fault.TheVariants.{Make}
 use Rattle.cdb_make.specs.declared.fault.MakeFault.TheVariants.{Writing}
 use Rattle.cdb_tool.specs.declared.inputs.Turn.{Turn}
 use Rattle.cdb_tool.specs.Views.Inputs.{one_of}
+use Rattle.cdb.specs.Files.{Files}
 use Rattle.cdb.specs.Inputs.{IsStandard, MissesBase, OpensBase, OpensInputs, StopsOpening}
 use Rattle.cdb.specs.Inputs.{inputs_read}
 use Rattle.cdb.specs.Opening.{Empties, MissesEmptying, OpenCalls, base_left}
+use Rattle.cdb.specs.State.{State}
 use Rattle.cdb.specs.declared.left.Left.{Left}
 use Rattle.cdb.specs.declared.system.System.{Ghosts as Systems}
 
 -- ---- the database
+
+-- what is wanted: in words of so many bytes, in a file of at most the greatest length, by these
+-- options, the database of this name, of this base and these inputs, by way of this temporary file
+pub record Wanted : Type 0 where
+  pub word : ℕ
+  pub greatest : ℕ
+  pub options : MakeOptions
+  pub name : List ℕ
+  pub base : Option (List ℕ)
+  pub inputs : List (List ℕ)
+  pub temporary : Option (List ℕ)
 
 -- what it is made of: words of so many bytes, the greatest length of a file, the options, the base as
 -- it was opened, and what the inputs have
@@ -183,34 +196,34 @@ pub record Syncs {M : Type 0} (s : Ghosts M) (built left : M) (made result : Res
   pub settled : OnOk result (s.settled left)
 
 -- a run was made in the store that came, and it has the database if the create succeeds. It is left so
-pub record MakesEmptied {F I M Y : Type 0} (y : Systems Y F I M) (f : Ghosts F) (s : Ghosts M)
-    (m : Making F) (name : List ℕ) (left : Left F M) (told said : Option (List ℕ))
-    (result : Result Unit Fault) : Type 0 where
+pub record MakesEmptied {F I M Y : Type 0} (files : Files F I M Y) (m : Making F) (name : List ℕ)
+    (old new : State OpenCalls) (left : Left F M) (result : Result Unit Fault) : Type 0 where
   pub store : M
-  pub came : y.makes name store
+  pub came : files.system.makes name store
   pub built : M
   pub made : Result Unit Fault
   pub last : M
   pub is_last : left.made ≡ Some last
   pub alone : left.other ≡ None
-  pub run : IsBufferedRun f m left.read (s.image built) told said made
-  pub cause : HasCause s store built made
-  pub syncs : Syncs s built last made result
-  pub has : OnOk result (HasDatabase f m left.read (s.image last))
+  pub run : IsBufferedRun files.stores m left.read (files.made.image built) old.errors new.errors
+      made
+  pub cause : HasCause files.made store built made
+  pub syncs : Syncs files.made built last made result
+  pub has : OnOk result (HasDatabase files.stores m left.read (files.made.image last))
 
 -- a file that is read may be the one of the name; or none is, as was asked of each, and then the file of
 -- the name is not emptied, or it is, once its lock is held. The base is handed back, as it was if nothing
 -- was built
-abbrev pub MakesInPlace : {F I M Y : Type 0} → Systems Y F I M → Ghosts F → Ghosts M → Making F
-    → (name : List ℕ) → (base : Option (List ℕ)) → (inputs : List (List ℕ)) → (old new : OpenCalls)
-    → (was now : NameCalls) → Left F M → (told said : Option (List ℕ)) → Result Unit Fault → Type 0
-MakesInPlace y f s m name base inputs old new was now left told said result =
-    (FindsOne name base inputs was now × (new ≡ old) × (left ≡ base_left m.base)
-    × (result ≡ Err Open) × Keeps told said)
-    ⊎ (AsksAll name base inputs was now
-    × (((fault : Fault) × MissesEmptying name old new fault × (left ≡ base_left m.base)
-    × (result ≡ Err fault) × Keeps told said)
-    ⊎ (Empties name old new × MakesEmptied y f s m name left told said result)))
+abbrev pub MakesInPlace : {F I M Y : Type 0} → Files F I M Y → Making F → Wanted
+    → (old new : State OpenCalls) → Left F M → Result Unit Fault → Type 0
+MakesInPlace files m wanted old new left result =
+    (FindsOne wanted.name wanted.base wanted.inputs old.named new.named × (new.opened ≡ old.opened)
+    × (left ≡ base_left m.base) × (result ≡ Err Open) × Keeps old.errors new.errors)
+    ⊎ (AsksAll wanted.name wanted.base wanted.inputs old.named new.named
+    × (((fault : Fault) × MissesEmptying wanted.name old.opened new.opened fault
+    × (left ≡ base_left m.base) × (result ≡ Err fault) × Keeps old.errors new.errors)
+    ⊎ (Empties wanted.name old.opened new.opened
+    × MakesEmptied files m wanted.name old new left result)))
 
 -- ---- in a temporary file
 
@@ -231,35 +244,35 @@ answer_of (Err fault) = Err (fault_of fault)
 -- one is a rename, and none after a fault; nothing is done for a text that no file can have as its name.
 -- The lines are those of the run that was made in it
 pub record Replaces {F R : Type 0} (f : Ghosts F) (r : Raw R) (m : Making F)
-    (temporary name : List ℕ) (old new : NameCalls) (back : Option F)
-    (told said : Option (List ℕ)) (result : Result Unit Fault) : Type 0 where
+    (temporary name : List ℕ) (old new : State OpenCalls) (back : Option F)
+    (result : Result Unit Fault) : Type 0 where
   pub answer : Result Unit (ReplaceFault Fault)
   pub answered : result ≡ answer_of answer
-  pub calls : AreOfReplacing temporary name (IsDatabase f m back) old new
-  pub moments : AtEachMoment (LeavesOldOrNew temporary name (IsDatabase f m back) old) old new
+  pub calls : AreOfReplacing temporary name (IsDatabase f m back) old.named new.named
+  pub moments : AtEachMoment (LeavesOldOrNew temporary name (IsDatabase f m back) old.named)
+      old.named new.named
   pub ok : OnOk answer
-      (IsRenamed temporary name new × LeavesNew name (IsDatabase f m back) new)
-  pub err : IfErr answer (EndsIn temporary name old new)
-  pub no_name : (IsNoName name → ⊥) ⊎ ((answer ≡ Err replace.Open) × (new ≡ old))
-  pub guarded : AreGuarded name old new
-  pub renamed : OnOk answer (renames new ≡ renames old + 1)
-  pub unrenamed : OnErr answer (renames new ≡ renames old)
+      (IsRenamed temporary name new.named × LeavesNew name (IsDatabase f m back) new.named)
+  pub err : IfErr answer (EndsIn temporary name old.named new.named)
+  pub no_name : (IsNoName name → ⊥) ⊎ ((answer ≡ Err replace.Open) × (new.named ≡ old.named))
+  pub guarded : AreGuarded name old.named new.named
+  pub renamed : OnOk answer (renames new.named ≡ renames old.named + 1)
+  pub unrenamed : OnErr answer (renames new.named ≡ renames old.named)
   pub build : IfErr answer (IsOfBuilder (FailsToBuild {file = r}
-      (λ store left fault. IsCaused fault (failures_of store) (failures_of left))
-      temporary old new))
+      (λ store left fault. IsCaused fault (failures_of store) (failures_of left)) temporary
+      old.named new.named))
   pub lines : Tells r (λ base. base ≡ m.base)
       (λ base before after images made. IsBufferedRun f m base images before after made)
-      temporary name old new back told said answer
+      temporary name old.named new.named back old.errors new.errors answer
 
 -- a file that is read may have the temporary name; or none has, as was asked of each
-abbrev pub MakesApart : {F R : Type 0} → Ghosts F → Raw R → Making F → (temporary name : List ℕ)
-    → (base : Option (List ℕ)) → (inputs : List (List ℕ)) → (old new : NameCalls)
-    → (back : Option F) → (told said : Option (List ℕ)) → Result Unit Fault → Type 0
-MakesApart f r m temporary name base inputs old new back told said result =
-    (FindsOne temporary base inputs old new × (back ≡ m.base) × (result ≡ Err Open)
-    × Keeps told said)
-    ⊎ ((mid : NameCalls) × AsksAll temporary base inputs old mid
-    × Replaces f r m temporary name mid new back told said result)
+abbrev pub MakesApart : {F R : Type 0} → Ghosts F → Raw R → Making F → (temporary : List ℕ)
+    → Wanted → (old new : State OpenCalls) → (back : Option F) → Result Unit Fault → Type 0
+MakesApart f r m temporary wanted old new back result =
+    (FindsOne temporary wanted.base wanted.inputs old.named new.named × (back ≡ m.base)
+    × (result ≡ Err Open) × Keeps old.errors new.errors)
+    ⊎ ((mid : NameCalls) × AsksAll temporary wanted.base wanted.inputs old.named mid
+    × Replaces f r m temporary wanted.name (record old { named = mid }) new back result)
 
 -- ---- under a name
 
@@ -274,29 +287,28 @@ temporary_of name None = name ++ codes ".tmp"
 temporary_of name (Some temporary) = temporary
 
 -- it is made in place; or in a temporary file, unless the allocation of its name failed
-abbrev pub MakesNamed : {F I M R Y : Type 0} → Systems Y F I M → Ghosts F → Ghosts M → Raw R
-    → Making F → (name : List ℕ) → (base : Option (List ℕ)) → (inputs : List (List ℕ))
-    → (temporary : Option (List ℕ)) → (old new : OpenCalls) → (was now : NameCalls) → Left F M
-    → (told said : Option (List ℕ)) → Result Unit Fault → Type 0
-MakesNamed y f s r m name base inputs temporary old new was now left told said result =
-    (IsInPlace name temporary
-    × MakesInPlace y f s m name base inputs old new was now left told said result)
-    ⊎ ((IsInPlace name temporary → ⊥) × (new ≡ old) × (left ≡ base_left left.read)
-    × (((now ≡ was) × (left.read ≡ m.base) × (result ≡ Err NoMemory) × Keeps told said)
-    ⊎ MakesApart f r m (temporary_of name temporary) name base inputs was now left.read told said
-    result))
+abbrev pub MakesNamed : {F I M R Y : Type 0} → Files F I M Y → Raw R → Making F → Wanted
+    → (old new : State OpenCalls) → Left F M → Result Unit Fault → Type 0
+MakesNamed files r m wanted old new left result =
+    (IsInPlace wanted.name wanted.temporary × MakesInPlace files m wanted old new left result)
+    ⊎ ((IsInPlace wanted.name wanted.temporary → ⊥) × (new.opened ≡ old.opened)
+    × (left ≡ base_left left.read)
+    × (((new.named ≡ old.named) × (left.read ≡ m.base) × (result ≡ Err NoMemory)
+    × Keeps old.errors new.errors)
+    ⊎ MakesApart files.stores r m (temporary_of wanted.name wanted.temporary) wanted old new
+    left.read result))
 
 -- ---- a create
 
 -- what is read was opened: the base, then the inputs, of which standard input has these bytes
-pub record OpensAll {F I M Y : Type 0} (y : Systems Y F I M) (remaining : I → Option (List ℕ))
-    (base : Option (List ℕ)) (inputs : List (List ℕ)) (standard : Option (List ℕ))
-    (old new : OpenCalls) (file : Option F) (left : InputsLeft) : Type 0 where
+pub record OpensAll {F I M Y : Type 0} (files : Files F I M Y) (base : Option (List ℕ))
+    (inputs : List (List ℕ)) (standard : Option (List ℕ)) (old new : OpenCalls) (file : Option F)
+    (left : InputsLeft) : Type 0 where
   pub turns : List (Turn I)
   pub mid : OpenCalls
-  pub base_is : OpensBase y base file old mid
-  pub inputs_are : OpensInputs y inputs turns mid new
-  pub left_is : left ≡ record { each = map (one_of remaining) turns; shared = standard }
+  pub base_is : OpensBase files.system base file old mid
+  pub inputs_are : OpensInputs files.system inputs turns mid new
+  pub left_is : left ≡ record { each = map (one_of files.remaining) turns; shared = standard }
 
 -- or the base was not, or an input after it, and then that base is handed back
 pub record NotOpened {F I M Y : Type 0} (y : Systems Y F I M) (base : Option (List ℕ))
@@ -305,29 +317,31 @@ pub record NotOpened {F I M Y : Type 0} (y : Systems Y F I M) (base : Option (Li
       × OpensBase y base back old mid × StopsOpening y inputs mid new fault)
 
 -- the database is made, on standard output or under its name, where standard output stays as it is
-abbrev pub MakesAt : {F I M R Y : Type 0} → Systems Y F I M → Ghosts F → Ghosts M → Raw R
-    → Making F → (name : List ℕ) → (base : Option (List ℕ)) → (inputs : List (List ℕ))
-    → (temporary : Option (List ℕ)) → (old new : OpenCalls) → (was now : NameCalls) → Left F M
-    → (start end told said : Option (List ℕ)) → Result Unit Fault → Type 0
-MakesAt y f s r m name base inputs temporary old new was now left start end told said result =
-    (IsStandard name × (new ≡ old) × (now ≡ was) × (left ≡ base_left left.read)
-    × MakesOnOutput f m left.read start end told said result)
-    ⊎ ((IsStandard name → ⊥) × Keeps start end
-    × MakesNamed y f s r m name base inputs temporary old new was now left told said result)
+abbrev pub MakesAt : {F I M R Y : Type 0} → Files F I M Y → Raw R → Making F → Wanted
+    → (old new : State OpenCalls) → Left F M → Result Unit Fault → Type 0
+MakesAt files r m wanted old new left result =
+    (IsStandard wanted.name × (new.opened ≡ old.opened) × (new.named ≡ old.named)
+    × (left ≡ base_left left.read)
+    × MakesOnOutput files.stores m left.read old.output new.output old.errors new.errors result)
+    ⊎ ((IsStandard wanted.name → ⊥) × Keeps old.output new.output
+    × MakesNamed files r m wanted old new left result)
 
 -- all that is read is opened, and then the database is made of it; or nothing is made. A base that was
 -- opened is handed back, as it came if nothing was built; so is a file that was made in place
-abbrev pub Creates : {F I M R Y : Type 0} → (w greatest : ℕ) → Systems Y F I M → Ghosts F → Ghosts M
-    → Raw R → (I → Option (List ℕ)) → MakeOptions → (name : List ℕ) → (base : Option (List ℕ))
-    → (inputs : List (List ℕ)) → (temporary : Option (List ℕ)) → (standard : Option (List ℕ))
-    → (old new : OpenCalls) → (was now : NameCalls) → Left F M
-    → (start end told said : Option (List ℕ)) → Result Unit Fault → Type 0
-Creates {F = F} w greatest y f s r remaining o name base inputs temporary standard old new was now
-    left start end told said result =
-    ((fault : Fault) × (result ≡ Err fault) × NotOpened y base inputs old new left.read fault
-    × (now ≡ was) × (left ≡ base_left left.read) × Keeps start end × Keeps told said)
+abbrev pub Creates : {F I M R Y : Type 0} → Files F I M Y → Raw R → Wanted
+    → (standard : Option (List ℕ)) → (old new : State OpenCalls) → Left F M → Result Unit Fault → Type 0
+Creates {F = F} files r wanted standard old new left result =
+    ((fault : Fault) × (result ≡ Err fault)
+    × NotOpened files.system wanted.base wanted.inputs old.opened new.opened left.read fault
+    × (new.named ≡ old.named) × (left ≡ base_left left.read) × Keeps old.output new.output
+    × Keeps old.errors new.errors)
     ⊎ ((file : Option F) × (items : InputsLeft) × (mid : OpenCalls)
-    × OpensAll y remaining base inputs standard old mid file items
-    × MakesAt y f s r
-    (record { word = w; greatest = greatest; options = o; base = file; inputs = items }) name base
-    inputs temporary mid new was now left start end told said result)
+    × OpensAll files wanted.base wanted.inputs standard old.opened mid file items
+    × MakesAt files r
+    (record {
+      word = wanted.word;
+      greatest = wanted.greatest;
+      options = wanted.options;
+      base = file;
+      inputs = items;
+    }) wanted (record old { opened = mid }) new left result)

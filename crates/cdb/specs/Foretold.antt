@@ -21,7 +21,9 @@ use Rattle.cdb_tool.specs.declared.fault.Fault.TheVariants.{Text, Walk, Output, 
 use Rattle.cdb_tool.specs.declared.output.Output.{Output as Writer}
 use Rattle.cdb.specs.Opening.{OpenCalls}
 use Rattle.cdb.specs.Created.{foretell}
+use Rattle.cdb.specs.Files.{Files}
 use Rattle.cdb.specs.Oracle.{Disk, Outcome, inputs_of, word_size}
+use Rattle.cdb.specs.State.{Given, State}
 use Rattle.cdb.specs.declared.left.Left.{Left}
 use Rattle.cdb.specs.declared.open_trace.OpenCall.{OpenCall}
 use Rattle.cdb.specs.declared.open_trace.OpenCall.TheVariants.{AtPlaces, InTurn, Stream, Emptied}
@@ -110,12 +112,11 @@ AreInOrder disk (asked.Difference old new wide) =
 AreInOrder disk command = ⊤
 
 -- all that a command called and read was as the files and standard input are
-pub record Honest {F I M Y : Type 0} (s : Ghosts F) (remaining : I → Option (List ℕ))
-    (y : Systems Y F I M) (disk : Disk) (input : List ℕ) (command : Asked)
-    (given : Option (List ℕ)) (old new : Y) (left : Left F M) : Type 0 where
+pub record Honest {F I M Y : Type 0} (files : Files F I M Y) (disk : Disk) (input : List ℕ)
+    (command : Asked) (given : Option (List ℕ)) (old new : Y) (left : Left F M) : Type 0 where
   pub calls : OpenCalls
-  pub are : y.calls new ≡ calls ++ y.calls old
-  pub answered : AreAnswered s remaining y disk calls (stores_in left)
+  pub are : files.system.calls new ≡ calls ++ files.system.calls old
+  pub answered : AreAnswered files.stores files.remaining files.system disk calls (stores_in left)
   pub reads : ReadsInput disk command input given
   pub in_order : AreInOrder disk command
 
@@ -182,12 +183,13 @@ AsksNoCreate planned = ⊤
 
 -- a run of such words that explains no fault, and whose output and whose lines were taken came to what
 -- the oracle says, or to a refusal
-abbrev pub IsForetold : {F I M Y : Type 0} → Ghosts F → (I → Option (List ℕ)) → Systems Y F I M
-    → (planned : Result Asked Refused) → (explained : Bool) → (given : Option (List ℕ))
-    → (old new : Y) → Left F M → (start final told said : Option (List ℕ)) → (taken : Type 0)
-    → (status : ℕ) → Type 0
-IsForetold s remaining y planned explained given old new left start final told said taken status =
-    (disk : Disk) → (input : List ℕ) → taken → explained ≡ false → AsksNoCreate planned
-    → IfOk planned (λ command. Honest s remaining y disk input command given old new left)
-    → ComesTrue (foretell planned disk input).outcome start final told said status
-    ⊎ IsRefused planned (foretell planned disk input).outcome start final told said status
+abbrev pub IsForetold : {F I M Y : Type 0} → Files F I M Y → Given (Result Asked Refused)
+    → (old new : State Y) → Left F M → (taken : Type 0) → (status : ℕ) → Type 0
+IsForetold files given old new left taken status =
+    (disk : Disk) → (input : List ℕ) → taken → given.explained ≡ false → AsksNoCreate given.asked
+    → IfOk given.asked
+    (λ command. Honest files disk input command given.input old.opened new.opened left)
+    → ComesTrue (foretell given.asked disk input).outcome old.output new.output old.errors
+    new.errors status
+    ⊎ IsRefused given.asked (foretell given.asked disk input).outcome old.output new.output
+    old.errors new.errors status

@@ -15,16 +15,17 @@ use Rattle.cdb_form.specs.Views.KnownBytes.{AppendsPrefix}
 use Rattle.cdb_store.specs.Calls.{Agrees, Calls, lost}
 use Rattle.cdb_store.specs.declared.store.Store.{Ghosts}
 use Rattle.cdb_tool.specs.Message.{fault_line}
-use Rattle.cdb_tool.specs.Runs.MakesSo.{IsMakeRefusal, KnownFor}
+use Rattle.cdb_tool.specs.Runs.MakesSo.{IsMakeRefusal}
 use Rattle.cdb_tool.specs.declared.fault.Fault.{Fault}
 use Rattle.cdb_tool.specs.declared.fault.Fault.TheVariants.{Open, Rename}
 use Rattle.cdb.specs.Created.{Created, create_of, created_ending, is_in_place}
 use Rattle.cdb.specs.Creating.{temporary_of}
-use Rattle.cdb.specs.Foretold.{IsAnswered, IsOfBytes, if_some}
+use Rattle.cdb.specs.Files.{Files}
+use Rattle.cdb.specs.Foretold.{GivesInputs, IsAnswered, if_some}
 use Rattle.cdb.specs.Opening.{OpenCalls}
-use Rattle.cdb.specs.Oracle.{Disk, greatest_size, inputs_of, is_standard, word_size}
+use Rattle.cdb.specs.Oracle.{Disk, greatest_size, is_standard, word_size}
+use Rattle.cdb.specs.State.{Given, State, with_calls}
 use Rattle.cdb.specs.declared.left.Left.{Left}
-use Rattle.cdb.specs.declared.system.System.{Ghosts as Systems}
 
 -- ---- the calls
 
@@ -40,21 +41,16 @@ abbrev pub place_of : (name : List ℕ) → List ℕ → Bool
 place_of name other = bytes_eq other name
 
 -- each call was answered as the disk is, no call on names came before, and the name has something
-pub record HonestCreate {F I M Y : Type 0} (s : Ghosts F) (remaining : I → Option (List ℕ))
-    (y : Systems Y F I M) (disk : Disk) (input : List ℕ) (inputs : List (List ℕ))
-    (given : Option (List ℕ)) (old new : OpenCalls) (read : Option F) (name : List ℕ)
-    (was now : NameCalls)
-    : Type 0 where
+pub record HonestCreate {F I M Y : Type 0} (files : Files F I M Y) (disk : Disk) (name : List ℕ)
+    (old new : State OpenCalls) (read : Option F) : Type 0 where
   pub calls : OpenCalls
-  pub are : new ≡ calls ++ old
-  pub answered : AllByRecursion (λ c. IsAnswered s remaining y disk (if_some read) c.0 c.1) calls
-  pub reads : (files : List (Option (List ℕ))) → inputs_of disk inputs ≡ Some files
-      → KnownFor files given input
-  pub bytes : IsOfBytes disk input
-  pub first : was ≡ []
-  pub alone : AllByRecursion IsNoAlias now
+  pub are : new.opened ≡ calls ++ old.opened
+  pub answered : AllByRecursion
+      (λ c. IsAnswered files.stores files.remaining files.system disk (if_some read) c.0 c.1) calls
+  pub first : old.named ≡ []
+  pub alone : AllByRecursion IsNoAlias new.named
   pub held : Option (List ℕ)
-  pub has : Has (place_of name) (disk name) now held
+  pub has : Has (place_of name) (disk name) new.named held
 
 -- a file from which the temporary name was taken had some bytes
 abbrev pub HadBytes : (temporary : List ℕ) → NameCalls → Type 0
@@ -125,48 +121,60 @@ SaysPart lines last told said =
     (part : List ℕ) × (more : List ℕ) × (lines ≡ part ++ more) × Appends told said (part ++ last)
 
 -- it was reported, and what was written is a prefix; and so is what was said, unless faults are explained
-pub record IsGivenUp (c : Created) (explained : Bool) (start final told said : Option (List ℕ))
-    (status : ℕ) : Type 0 where
+pub record IsGivenUp {S : Type 0} (c : Created) (explained : Bool) (old new : State S) (status : ℕ)
+    : Type 0 where
   pub fault : Fault
   pub refusal : IsCreateRefusal fault
   pub is_status : status ≡ 111
-  pub output : AppendsPrefix start final c.output
-  pub lines : explained ≡ false → SaysPart c.lines (fault_line fault) told said
+  pub output : AppendsPrefix old.output new.output c.output
+  pub lines : explained ≡ false → SaysPart c.lines (fault_line fault) old.errors new.errors
+
+-- what is expected of a create: of a disk, of the database of this name, by way of this temporary
+-- file
+pub record Expected : Type 0 where
+  pub disk : Disk
+  pub name : List ℕ
+  pub temporary : Option (List ℕ)
+  pub created : Created
+
+abbrev pub expected_of : Disk → (name : List ℕ) → (temporary : Option (List ℕ)) → Created
+    → Expected
+expected_of disk name temporary created =
+    record { disk = disk; name = name; temporary = temporary; created = created }
 
 -- it came to what was said, and so did the disk, and the lines unless faults are explained
-pub record IsCreated {M : Type 0} (m : Ghosts M) (disk : Disk) (name : List ℕ) (c : Created)
-    (explained : Bool) (now : NameCalls) (made : Option M) (start final told said : Option (List ℕ))
-    (status : ℕ) : Type 0 where
-  pub is_status : status ≡ (created_ending c).outcome.status
-  pub output : Appends start final (created_ending c).outcome.output
-  pub lines : explained ≡ false → Appends told said (created_ending c).outcome.lines
-  pub disk_is : AllByRecursion IsNoFailedRemoval now → HoldsAll m disk name made now c
+pub record IsCreated {M S : Type 0} (m : Ghosts M) (x : Expected) (explained : Bool)
+    (made : Option M) (old new : State S) (status : ℕ) : Type 0 where
+  pub is_status : status ≡ (created_ending x.created).outcome.status
+  pub output : Appends old.output new.output (created_ending x.created).outcome.output
+  pub lines : explained ≡ false
+      → Appends old.errors new.errors (created_ending x.created).outcome.lines
+  pub disk_is : AllByRecursion IsNoFailedRemoval new.named
+      → HoldsAll m x.disk x.name made new.named x.created
 
 -- what was foretold, from the words to the exit status: it came true, or a refusal was reported; at
 -- status 0 the disk is as was said, at another as it was; and at each moment a crash leaves what was there
 -- or what was said
-pub record CreateHolds {M : Type 0} (m : Ghosts M) (disk : Disk) (name : List ℕ)
-    (temporary : Option (List ℕ)) (c : Created) (explained : Bool) (was now : NameCalls)
-    (made : Option M) (start final told said : Option (List ℕ)) (status : ℕ) : Type 0 where
-  pub comes : HadBytes (temporary_of name temporary) now → HasBytes m made
-      → IsCreated m disk name c explained now made start final told said status
-      ⊎ IsGivenUp c explained start final told said status
-  pub done : status ≡ 0 → HoldsAll m disk name made now c
-  pub failed : status ≢ 0 → AllByRecursion IsNoFailedRename now
-      → KeepsAll disk (passing name temporary) now
-  pub moments : AtEachMoment (LeavesAll disk (passing name temporary) c.disk) was now
+pub record CreateHolds {M S : Type 0} (m : Ghosts M) (x : Expected) (explained : Bool)
+    (made : Option M) (old new : State S) (status : ℕ) : Type 0 where
+  pub comes : HadBytes (temporary_of x.name x.temporary) new.named → HasBytes m made
+      → IsCreated m x explained made old new status
+      ⊎ IsGivenUp x.created explained old new status
+  pub done : status ≡ 0 → HoldsAll m x.disk x.name made new.named x.created
+  pub failed : status ≢ 0 → AllByRecursion IsNoFailedRename new.named
+      → KeepsAll x.disk (passing x.name x.temporary) new.named
+  pub moments : AtEachMoment
+      (LeavesAll x.disk (passing x.name x.temporary) x.created.disk) old.named new.named
 
 -- a run of these words, which ask for a create
-abbrev pub IsCreateForetold : {F I M Y : Type 0} → Ghosts F → Ghosts M → (I → Option (List ℕ))
-    → Systems Y F I M → (planned : Result Asked Refused) → (explained : Bool)
-    → (given : Option (List ℕ)) → (old new : Y) → (was now : NameCalls) → Left F M → (start final told said : Option (List ℕ))
-    → (taken : Type 0) → (status : ℕ) → Type 0
-IsCreateForetold s m remaining y planned explained given old new was now left start final told said taken
-    status = (disk : Disk) (input name : List ℕ) (base : Option (List ℕ)) (inputs : List (List ℕ))
+abbrev pub IsCreateForetold : {F I M Y : Type 0} → Files F I M Y → Given (Result Asked Refused)
+    → (old new : State Y) → Left F M → (taken : Type 0) → (status : ℕ) → Type 0
+IsCreateForetold files given old new left taken status =
+    (disk : Disk) (input name : List ℕ) (base : Option (List ℕ)) (inputs : List (List ℕ))
     (temporary : Option (List ℕ)) (o : MakeOptions) (wide : Bool)
-    → planned ≡ Ok (Create name base inputs temporary o wide) → taken
-    → HonestCreate s remaining y disk input inputs given (y.calls old) (y.calls new) left.read name was
-    now
-    → CreateHolds m disk name temporary
-    (create_of (word_size wide) (greatest_size wide) disk input name base inputs temporary o) explained was now
-    left.made start final told said status
+    → given.asked ≡ Ok (Create name base inputs temporary o wide) → taken
+    → GivesInputs disk inputs input given.input
+    → HonestCreate files disk name (with_calls files old) (with_calls files new) left.read
+    → CreateHolds files.made (expected_of disk name temporary
+    (create_of (word_size wide) (greatest_size wide) disk input name base inputs temporary o))
+    given.explained left.made old new status

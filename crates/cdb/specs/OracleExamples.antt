@@ -24,6 +24,7 @@ use Rattle.cdb_store.specs.contracts.memory.MemStoreStore.TheImpl.{ghosts as in_
 use Rattle.cdb_store.specs.declared.memory.MemStore.{MemStore}
 use Rattle.cdb_tool.specs.Runs.MakesSo.{KnownFor}
 use Rattle.cdb_tool.specs.Runs.StatsText.{distance_lines, stats_text}
+use Rattle.cdb.specs.Files.{files_of}
 use Rattle.cdb.specs.Foretold.{Honest, Reveals}
 use Rattle.cdb.specs.Opening.{OpenCalls, none_left, read_left}
 use Rattle.cdb.specs.Oracle.{Disk, Outcome, command_outcome, lookups_outcome}
@@ -152,7 +153,8 @@ of_disk disk = record {
 
 -- a query of a file that lies in memory, and a dump
 query_is_honest : (store : MemStore) → two_file ≡ contents store
-    → Honest in_memory Some (of_disk disk) disk [] (Query name (codes "two") None true false) None
+    → Honest (files_of in_memory in_memory Some (of_disk disk)) disk []
+    (Query name (codes "two") None true false) None
     [] ((AtPlaces, name) ∷ []) (read_left {M = MemStore} store)
 unfolding disk name other of_disk
 query_is_honest store has = record {
@@ -163,7 +165,8 @@ query_is_honest store has = record {
   in_order = tt;
 }
 
-dump_is_honest : Honest in_memory Some (of_disk disk) disk [] (Dump (Some name) Native false) None
+dump_is_honest : Honest (files_of in_memory in_memory Some (of_disk disk)) disk []
+    (Dump (Some name) Native false) None
     [] ((InTurn, name) ∷ []) (none_left {F = MemStore} {M = MemStore})
 unfolding of_disk
 dump_is_honest = record {
@@ -191,7 +194,8 @@ of_none : (files : List (Option (List ℕ))) → ◌≡◌ {A = Option (List (Op
 of_none files e = subst (λ (v : Option (List (Option (List ℕ)))). IfSome v (λ fs. KnownFor fs (Some (codes "\n")) (codes "\n"))) e refl
 
 lookups_are_honest : (store : MemStore) → [] ≡ contents store
-    → Honest in_memory Some (of_disk small) small (codes "\n") (Lookups name [] None Native false) (Some (codes "\n"))
+    → Honest (files_of in_memory in_memory Some (of_disk small)) small (codes "\n")
+    (Lookups name [] None Native false) (Some (codes "\n"))
     [] ((AtPlaces, name) ∷ []) (read_left {M = MemStore} store)
 unfolding small name of_disk
 lookups_are_honest store has = record {

@@ -34,16 +34,16 @@ use Rattle.cdb_tool.specs.Status.{exit_status}
 use Rattle.cdb_tool.specs.Views.Inputs.{one_of}
 use Rattle.cdb_tool.specs.declared.fault.Fault.{Fault}
 use Rattle.cdb_tool.specs.declared.fault.Fault.TheVariants.{Open, NoMemory as NoRoom, Output}
-use Rattle.cdb_files.specs.Folder.{NameCalls}
 use Rattle.cdb_files.specs.declared.answer.Answer.TheVariants as looks
 use Rattle.cdb.specs.Creating.{Creates}
 use Rattle.cdb.specs.Causes.{Explains}
+use Rattle.cdb.specs.Files.{Files}
 use Rattle.cdb_tool.specs.declared.inputs.Turn.{Turn}
 use Rattle.cdb.specs.Inputs.{OpensInputs, StopsOpening}
 use Rattle.cdb.specs.Opening.{Misses, OpenCalls, both_left, none_left, read_left}
+use Rattle.cdb.specs.State.{Failed, Given, State, calls_in, given_of, with_calls}
 use Rattle.cdb.specs.declared.left.Left.{Left}
 use Rattle.cdb.specs.declared.open_trace.OpenCall.TheVariants.{AtPlaces, InTurn, Stream}
-use Rattle.cdb.specs.declared.system.System.{Ghosts as Systems}
 
 -- the file of the name was not opened, and nothing was written
 pub record Refuses (name : List ℕ) (old new : OpenCalls) (start end : Option (List ℕ))
@@ -60,22 +60,22 @@ LacksMemory start end result = (result ≡ Err NoRoom) × Keeps start end
 -- ---- query
 
 -- the values of a key of the file that came, which is left so
-pub record QueriesFile {F I M Y : Type 0} (w : ℕ) (s : Ghosts F) (y : Systems Y F I M) (name : List ℕ)
-    (q : Query) (left : Left F M) (start end : Option (List ℕ)) (result : Result Unit Fault)
-    : Type 0 where
+pub record QueriesFile {F I M Y : Type 0} (w : ℕ) (files : Files F I M Y) (name : List ℕ)
+    (q : Query) (old new : State Y) (left : Left F M) (result : Result Unit Fault) : Type 0 where
   pub file : F
-  pub came : y.gives name file
+  pub came : files.system.gives name file
   pub last : F
   pub is_last : left ≡ read_left last
-  pub queries : Queries w s q file last start end result
+  pub queries : Queries w files.stores q file last old.output new.output result
 
 -- that file alone is opened
-abbrev pub PerformsQuery : {F I M Y : Type 0} → ℕ → Ghosts F → Systems Y F I M → (name : List ℕ)
-    → Query → (old new : Y) → Left F M → (start end : Option (List ℕ)) → Result Unit Fault → Type 0
-PerformsQuery w s y name q old new left start end result =
-    ((left ≡ none_left) × Refuses name (y.calls old) (y.calls new) start end result)
-    ⊎ ((y.calls new ≡ (AtPlaces, name) ∷ y.calls old)
-    × QueriesFile w s y name q left start end result)
+abbrev pub PerformsQuery : {F I M Y : Type 0} → ℕ → Files F I M Y → (name : List ℕ) → Query
+    → (old new : State Y) → Left F M → Result Unit Fault → Type 0
+PerformsQuery w files name q old new left result =
+    ((left ≡ none_left)
+    × Refuses name (calls_in files old) (calls_in files new) old.output new.output result)
+    ⊎ ((calls_in files new ≡ (AtPlaces, name) ∷ calls_in files old)
+    × QueriesFile w files name q old new left result)
 
 -- ---- dump and list
 
@@ -86,24 +86,24 @@ pub record WritesText (w : ℕ) (form : Form) (file start end : Option (List ℕ
   pub walk : WritesWalk w form file rest start end result
 
 -- of the file that came
-pub record WritesFile {F I M Y : Type 0} (w : ℕ) (remaining : I → Option (List ℕ)) (y : Systems Y F I M)
-    (form : Form) (name : List ℕ) (start end : Option (List ℕ)) (result : Result Unit Fault)
-    : Type 0 where
+pub record WritesFile {F I M Y : Type 0} (w : ℕ) (files : Files F I M Y) (form : Form)
+    (name : List ℕ) (start end : Option (List ℕ)) (result : Result Unit Fault) : Type 0 where
   pub file : I
-  pub came : y.reads name file
-  pub writes : WritesText w form (remaining file) start end result
+  pub came : files.system.reads name file
+  pub writes : WritesText w form (files.remaining file) start end result
 
 -- that file alone is opened, or none, if standard input is read; if memory for its window is
 -- refused, nothing is written
-abbrev pub PerformsText : {F I M Y : Type 0} → ℕ → (I → Option (List ℕ)) → Systems Y F I M → Form
-    → Option (List ℕ) → (input : Option (List ℕ)) → (old new : Y) → (start end : Option (List ℕ))
-    → Result Unit Fault → Type 0
-PerformsText w remaining y form (Some name) input old new start end result =
-    Refuses name (y.calls old) (y.calls new) start end result
-    ⊎ ((y.calls new ≡ (InTurn, name) ∷ y.calls old)
-    × (LacksMemory start end result ⊎ WritesFile w remaining y form name start end result))
-PerformsText w remaining y form None input old new start end result =
-    (new ≡ old) × (LacksMemory start end result ⊎ WritesText w form input start end result)
+abbrev pub PerformsText : {F I M Y : Type 0} → ℕ → Files F I M Y → Form → Option (List ℕ)
+    → (input : Option (List ℕ)) → (old new : State Y) → Result Unit Fault → Type 0
+PerformsText w files form (Some name) input old new result =
+    Refuses name (calls_in files old) (calls_in files new) old.output new.output result
+    ⊎ ((calls_in files new ≡ (InTurn, name) ∷ calls_in files old)
+    × (LacksMemory old.output new.output result
+    ⊎ WritesFile w files form name old.output new.output result))
+PerformsText w files form None input old new result =
+    (new.opened ≡ old.opened) × (LacksMemory old.output new.output result
+    ⊎ WritesText w form input old.output new.output result)
 
 -- ---- statistics and check
 
@@ -143,115 +143,124 @@ Takes most file start end result done =
     IsNotTaken most file start end result ⊎ IsTaken most file done
 
 -- the file that came is read at places, and is left so
-pub record OfFile {F I M Y : Type 0} (y : Systems Y F I M) (name : List ℕ) (left : Left F M)
+pub record OfFile {F I M Y : Type 0} (files : Files F I M Y) (name : List ℕ) (left : Left F M)
     (done : F → F → Type 0) : Type 0 where
   pub file : F
-  pub came : y.gives name file
+  pub came : files.system.gives name file
   pub last : F
   pub is_last : left ≡ read_left last
   pub does : done file last
 
 -- it is taken into memory
-pub record OfStream {F I M Y : Type 0} (remaining : I → Option (List ℕ)) (y : Systems Y F I M)
-    (name : List ℕ) (most : ℕ) (start end : Option (List ℕ)) (result : Result Unit Fault)
+pub record OfStream {F I M Y : Type 0} (files : Files F I M Y) (name : List ℕ) (most : ℕ)
+    (start end : Option (List ℕ)) (result : Result Unit Fault)
     (done : MemStore → MemStore → Type 0) : Type 0 where
   pub file : I
-  pub came : y.reads name file
-  pub takes : Takes most (remaining file) start end result done
+  pub came : files.system.reads name file
+  pub takes : Takes most (files.remaining file) start end result done
 
 -- that file alone is opened, once it was seen whether it is a stream; or none, if the system did not
 -- say, or if standard input is read
-abbrev pub PerformsOn : {F I M Y : Type 0} → Ghosts F → (I → Option (List ℕ)) → Systems Y F I M
-    → (most : ℕ) → (name : Option (List ℕ)) → (input : Option (List ℕ)) → (old new : Y) → Left F M
-    → (start end : Option (List ℕ)) → Result Unit Fault → (F → F → Type 0)
-    → (MemStore → MemStore → Type 0) → Type 0
-PerformsOn s remaining y most (Some name) input old new left start end result file taken =
-    ((left ≡ none_left)
-    × Refuses name ((Stream looks.No, name) ∷ y.calls old) (y.calls new) start end result)
-    ⊎ ((y.calls new ≡ (AtPlaces, name) ∷ (Stream looks.No, name) ∷ y.calls old)
-    × OfFile y name left file)
-    ⊎ ((left ≡ none_left)
-    × Refuses name ((Stream looks.Yes, name) ∷ y.calls old) (y.calls new) start end result)
-    ⊎ ((y.calls new ≡ (InTurn, name) ∷ (Stream looks.Yes, name) ∷ y.calls old)
-    × (left ≡ none_left) × OfStream remaining y name most start end result taken)
-    ⊎ ((y.calls new ≡ (Stream looks.Unknown, name) ∷ y.calls old) × (left ≡ none_left)
-    × (result ≡ Err Open) × Keeps start end)
-PerformsOn s remaining y most None input old new left start end result file taken =
-    (new ≡ old) × (left ≡ none_left) × Takes most input start end result taken
+abbrev pub PerformsOn : {F I M Y : Type 0} → Files F I M Y → (most : ℕ)
+    → (name : Option (List ℕ)) → (input : Option (List ℕ)) → (old new : State Y) → Left F M
+    → Result Unit Fault → (F → F → Type 0) → (MemStore → MemStore → Type 0) → Type 0
+PerformsOn files most (Some name) input old new left result file taken =
+    ((left ≡ none_left) × Refuses name ((Stream looks.No, name) ∷ calls_in files old)
+    (calls_in files new) old.output new.output result)
+    ⊎ ((calls_in files new ≡ (AtPlaces, name) ∷ (Stream looks.No, name) ∷ calls_in files old)
+    × OfFile files name left file)
+    ⊎ ((left ≡ none_left) × Refuses name ((Stream looks.Yes, name) ∷ calls_in files old)
+    (calls_in files new) old.output new.output result)
+    ⊎ ((calls_in files new ≡ (InTurn, name) ∷ (Stream looks.Yes, name) ∷ calls_in files old)
+    × (left ≡ none_left) × OfStream files name most old.output new.output result taken)
+    ⊎ ((calls_in files new ≡ (Stream looks.Unknown, name) ∷ calls_in files old)
+    × (left ≡ none_left) × (result ≡ Err Open) × Keeps old.output new.output)
+PerformsOn files most None input old new left result file taken =
+    (new.opened ≡ old.opened) × (left ≡ none_left)
+    × Takes most input old.output new.output result taken
 
 -- ---- difference
 
 -- what changed between the files that came for two names, which are left so
-pub record ComparesFiles {F I M Y : Type 0} (w : ℕ) (s : Ghosts F) (y : Systems Y F I M)
-    (first second : List ℕ) (left : Left F M) (start end : Option (List ℕ))
-    (result : Result Unit Fault) : Type 0 where
+pub record ComparesFiles {F I M Y : Type 0} (w : ℕ) (files : Files F I M Y)
+    (first second : List ℕ) (before after : State Y) (left : Left F M) (result : Result Unit Fault)
+    : Type 0 where
   pub old : F
-  pub old_came : y.gives first old
+  pub old_came : files.system.gives first old
   pub new : F
-  pub new_came : y.gives second new
+  pub new_came : files.system.gives second new
   pub old_last : F
   pub new_last : F
   pub are_last : left ≡ both_left old_last new_last
-  pub tells : TellsDifference w s s old old_last new new_last start end result
+  pub tells : TellsDifference w files.stores files.stores old old_last new new_last before.output
+      after.output result
 
 -- the second was not opened, and nothing was written; the first is left as it came
-pub record RefusesSecond {F I M Y : Type 0} (y : Systems Y F I M) (first second : List ℕ)
-    (old new : OpenCalls) (left : Left F M) (start end : Option (List ℕ))
-    (result : Result Unit Fault) : Type 0 where
+pub record RefusesSecond {F I M Y : Type 0} (files : Files F I M Y) (first second : List ℕ)
+    (old new : State Y) (left : Left F M) (result : Result Unit Fault) : Type 0 where
   pub file : F
-  pub came : y.gives first file
+  pub came : files.system.gives first file
   pub is_left : left ≡ read_left file
-  pub refuses : Refuses second ((AtPlaces, first) ∷ old) new start end result
+  pub refuses : Refuses second ((AtPlaces, first) ∷ calls_in files old)
+      (calls_in files new) old.output new.output result
 
 -- both are opened, to be read at places, and no other file is
-abbrev pub PerformsDifference : {F I M Y : Type 0} → ℕ → Ghosts F → Systems Y F I M
-    → (first second : List ℕ) → (old new : Y) → Left F M → (start end : Option (List ℕ))
-    → Result Unit Fault → Type 0
-PerformsDifference w s y first second old new left start end result =
-    ((left ≡ none_left) × Refuses first (y.calls old) (y.calls new) start end result)
-    ⊎ RefusesSecond y first second (y.calls old) (y.calls new) left start end result
-    ⊎ ((y.calls new ≡ (AtPlaces, second) ∷ (AtPlaces, first) ∷ y.calls old)
-    × ComparesFiles w s y first second left start end result)
+abbrev pub PerformsDifference : {F I M Y : Type 0} → ℕ → Files F I M Y → (first second : List ℕ)
+    → (old new : State Y) → Left F M → Result Unit Fault → Type 0
+PerformsDifference w files first second old new left result =
+    ((left ≡ none_left)
+    × Refuses first (calls_in files old) (calls_in files new) old.output new.output result)
+    ⊎ RefusesSecond files first second old new left result
+    ⊎ ((calls_in files new ≡ (AtPlaces, second) ∷ (AtPlaces, first) ∷ calls_in files old)
+    × ComparesFiles w files first second old new left result)
 
 -- ---- many keys
 
+-- what is looked up: in the file of this name the keys of these inputs, of which standard input has
+-- these bytes, by number and style
+pub record Lookups : Type 0 where
+  pub name : List ℕ
+  pub inputs : List (List ℕ)
+  pub standard : Option (List ℕ)
+  pub number : Option ℕ
+  pub style : Style
+
 -- the records of the keys of the inputs that were opened behind the file that came, which is left so
-pub record LooksUpFile {F I M Y : Type 0} (w most : ℕ) (s : Ghosts F) (remaining : I → Option (List ℕ))
-    (y : Systems Y F I M) (name : List ℕ) (inputs : List (List ℕ)) (number : Option ℕ) (style : Style)
-    (input : Option (List ℕ)) (old new : OpenCalls) (left : Left F M) (start end : Option (List ℕ))
-    (result : Result Unit Fault) : Type 0 where
+pub record LooksUpFile {F I M Y : Type 0} (w most : ℕ) (files : Files F I M Y) (l : Lookups)
+    (old new : State Y) (left : Left F M) (result : Result Unit Fault) : Type 0 where
   pub file : F
-  pub came : y.gives name file
+  pub came : files.system.gives l.name file
   pub last : F
   pub is_last : left ≡ read_left last
   pub turns : List (Turn I)
-  pub opens : OpensInputs y inputs turns ((AtPlaces, name) ∷ old) new
+  pub opens : OpensInputs files.system l.inputs turns
+      ((AtPlaces, l.name) ∷ calls_in files old) (calls_in files new)
   pub each : InputsLeft
-  pub each_are : each ≡ record { each = map (one_of remaining) turns; shared = input }
-  pub looks : LooksUp w most s number style each file last start end result
+  pub each_are : each ≡ record { each = map (one_of files.remaining) turns; shared = l.standard }
+  pub looks : LooksUp w most files.stores l.number l.style each file last old.output new.output
+      result
 
 -- an input was not opened, and nothing was written; the file is left as it came
-pub record RefusesInputs {F I M Y : Type 0} (y : Systems Y F I M) (name : List ℕ)
-    (inputs : List (List ℕ)) (old new : OpenCalls) (left : Left F M) (start end : Option (List ℕ))
-    (result : Result Unit Fault) : Type 0 where
+pub record RefusesInputs {F I M Y : Type 0} (files : Files F I M Y) (name : List ℕ)
+    (inputs : List (List ℕ)) (old new : State Y) (left : Left F M) (result : Result Unit Fault)
+    : Type 0 where
   pub file : F
-  pub came : y.gives name file
+  pub came : files.system.gives name file
   pub is_left : left ≡ read_left file
   pub fault : Fault
   pub is : result ≡ Err fault
-  pub stops : StopsOpening y inputs ((AtPlaces, name) ∷ old) new fault
-  pub kept : Keeps start end
+  pub stops : StopsOpening files.system inputs ((AtPlaces, name) ∷ calls_in files old)
+      (calls_in files new) fault
+  pub kept : Keeps old.output new.output
 
--- the file is opened, to be read at places, and then the inputs; standard input has these bytes
-abbrev pub PerformsLookups : {F I M Y : Type 0} → (w most : ℕ) → Ghosts F → (I → Option (List ℕ))
-    → Systems Y F I M → (name : List ℕ) → (inputs : List (List ℕ)) → Option ℕ → Style
-    → (input : Option (List ℕ)) → (old new : Y) → Left F M → (start end : Option (List ℕ))
-    → Result Unit Fault → Type 0
-PerformsLookups w most s remaining y name inputs number style input old new left start end result =
-    ((left ≡ none_left) × Refuses name (y.calls old) (y.calls new) start end result)
-    ⊎ RefusesInputs y name inputs (y.calls old) (y.calls new) left start end result
-    ⊎ LooksUpFile w most s remaining y name inputs number style input (y.calls old) (y.calls new) left
-    start end result
+-- the file is opened, to be read at places, and then the inputs
+abbrev pub PerformsLookups : {F I M Y : Type 0} → (w most : ℕ) → Files F I M Y → Lookups
+    → (old new : State Y) → Left F M → Result Unit Fault → Type 0
+PerformsLookups w most files l old new left result =
+    ((left ≡ none_left)
+    × Refuses l.name (calls_in files old) (calls_in files new) old.output new.output result)
+    ⊎ RefusesInputs files l.name l.inputs old new left result
+    ⊎ LooksUpFile w most files l old new left result
 
 -- ---- help and version
 
@@ -270,58 +279,61 @@ IsShown true inputs options shown =
     × (shown ≡ record options { names = shown.names })
 
 -- ---- each command, in words of w bytes of files of at most so many; what is left open is handed back
-abbrev pub Performs : {F I M R Y : Type 0} → (w most : ℕ) → Ghosts F → Ghosts M → Raw R
-    → (I → Option (List ℕ)) → Systems Y F I M → (explained : Bool) → Asked
-    → (input : Option (List ℕ)) → (old new : Y) → (was now : NameCalls) → Left F M
-    → (start end told said : Option (List ℕ)) → Result Unit Fault → Type 0
-Performs w most s m r remaining y explained (asked.Query name key number lines wide) input old new was now
-    left start end told said result =
-    PerformsQuery w s y name (record { key = key; number = number; shown = value_text lines }) old new
-    left start end result
-Performs w most s m r remaining y explained (asked.Lookups name inputs number style wide) input old new was now
-    left start end told said result =
-    PerformsLookups w most s remaining y name inputs number style input old new left start end result
-Performs w most s m r remaining y explained (asked.Dump name style wide) input old new was now left start end
-    told said result =
-    (left ≡ none_left)
-    × PerformsText w remaining y (dump_form style) name input old new start end result
-Performs w most s m r remaining y explained (asked.Listing name style wide) input old new was now left start
-    end told said result =
-    (left ≡ none_left)
-    × PerformsText w remaining y (list_form style) name input old new start end result
-Performs w most s m r remaining y explained (asked.Stats name wide) input old new was now left start end told
-    said result =
-    PerformsOn s remaining y most name input old new left start end result
-    (TellsStore w start end result s) (TellsStore w start end result in_memory)
-Performs w most s m r remaining y explained (asked.Check name wide) input old new was now left start end told
-    said result =
-    PerformsOn s remaining y most name input old new left start end result
-    (ChecksStore w start end result s) (ChecksStore w start end result in_memory)
-Performs w most s m r remaining y explained (asked.Difference first second wide) input old new was now left
-    start end told said result =
-    PerformsDifference w s y first second old new left start end result
-Performs w most s m r remaining y explained (asked.Create name base inputs temporary options wide) input old new
-    was now left start end told said result =
-    (shown : MakeOptions) × IsShown explained inputs options shown
-    × Creates w most y s m r remaining shown name base inputs temporary input (y.calls old)
-    (y.calls new) was now left start end told said result
-Performs w most s m r remaining y explained asked.Help input old new was now left start end told said result =
-    (new ≡ old) × (left ≡ none_left) × Tells usage_text start end result
-Performs w most s m r remaining y explained asked.Version input old new was now left start end told said
+abbrev pub Performs : {F I M R Y : Type 0} → (w most : ℕ) → Files F I M Y → Raw R
+    → (explained : Bool) → Asked → (input : Option (List ℕ)) → (old new : State Y) → Left F M
+    → Result Unit Fault → Type 0
+Performs w most files r explained (asked.Query name key number lines wide) input old new left
     result =
-    (new ≡ old) × (left ≡ none_left) × Tells version_text start end result
+    PerformsQuery w files name (record { key = key; number = number; shown = value_text lines }) old
+    new left result
+Performs w most files r explained (asked.Lookups name inputs number style wide) input old new left
+    result =
+    PerformsLookups w most files (record {
+      name = name;
+      inputs = inputs;
+      standard = input;
+      number = number;
+      style = style;
+    }) old new left result
+Performs w most files r explained (asked.Dump name style wide) input old new left result =
+    (left ≡ none_left) × PerformsText w files (dump_form style) name input old new result
+Performs w most files r explained (asked.Listing name style wide) input old new left result =
+    (left ≡ none_left) × PerformsText w files (list_form style) name input old new result
+Performs w most files r explained (asked.Stats name wide) input old new left result =
+    PerformsOn files most name input old new left result
+    (TellsStore w old.output new.output result files.stores)
+    (TellsStore w old.output new.output result in_memory)
+Performs w most files r explained (asked.Check name wide) input old new left result =
+    PerformsOn files most name input old new left result
+    (ChecksStore w old.output new.output result files.stores)
+    (ChecksStore w old.output new.output result in_memory)
+Performs w most files r explained (asked.Difference first second wide) input old new left result =
+    PerformsDifference w files first second old new left result
+Performs w most files r explained (asked.Create name base inputs temporary options wide) input old
+    new left result =
+    (shown : MakeOptions) × IsShown explained inputs options shown
+    × Creates files r (record {
+      word = w;
+      greatest = most;
+      options = shown;
+      name = name;
+      base = base;
+      inputs = inputs;
+      temporary = temporary;
+    }) input (with_calls files old) (with_calls files new) left result
+Performs w most files r explained asked.Help input old new left result =
+    (new.opened ≡ old.opened) × (left ≡ none_left) × Tells usage_text old.output new.output result
+Performs w most files r explained asked.Version input old new left result =
+    (new.opened ≡ old.opened) × (left ≡ none_left) × Tells version_text old.output new.output result
 
 -- in words of 8 bytes or of 4
-abbrev pub PerformsIn : {F I M R Y : Type 0} → (wide : Bool) → Ghosts F → Ghosts M → Raw R
-    → (I → Option (List ℕ)) → Systems Y F I M → (explained : Bool) → Asked
-    → (input : Option (List ℕ)) → (old new : Y) → (was now : NameCalls) → Left F M
-    → (start end told said : Option (List ℕ)) → Result Unit Fault → Type 0
-PerformsIn true s m r remaining y explained command input old new was now left start end told said result =
-    Performs 8 9223372036854775807 s m r remaining y explained command input old new was now left start end
-    told said result
-PerformsIn false s m r remaining y explained command input old new was now left start end told said result =
-    Performs 4 4294967295 s m r remaining y explained command input old new was now left start end told said
+abbrev pub PerformsIn : {F I M R Y : Type 0} → (wide : Bool) → Files F I M Y → Raw R → Given Asked
+    → (old new : State Y) → Left F M → Result Unit Fault → Type 0
+PerformsIn true files r given old new left result =
+    Performs 8 9223372036854775807 files r given.explained given.asked given.input old new left
     result
+PerformsIn false files r given old new left result =
+    Performs 4 4294967295 files r given.explained given.asked given.input old new left result
 
 -- ---- the end of a command
 
@@ -337,16 +349,14 @@ pub record HandsOn (end final : Option (List ℕ)) (unwritten : Type 0)
   pub answered : (result ≡ answer) ⊎ (IsWhole answer × (result ≡ Err Output) × unwritten)
 
 -- the command was performed, and what it wrote was handed on
-pub record Does {F I M R Y : Type 0} (s : Ghosts F) (m : Ghosts M) (r : Raw R)
-    (remaining : I → Option (List ℕ)) (y : Systems Y F I M) (explained : Bool) (command : Asked)
-    (input : Option (List ℕ)) (old new : Y) (was now : NameCalls) (left : Left F M)
-    (start final told said : Option (List ℕ)) (unwritten : Type 0) (result : Result Unit Fault)
-    : Type 0 where
+pub record Does {F I M R Y : Type 0} (files : Files F I M Y) (r : Raw R)
+    (given : Given Asked) (old new : State Y) (left : Left F M) (unwritten : Type 0)
+    (result : Result Unit Fault) : Type 0 where
   pub end : Option (List ℕ)
   pub answer : Result Unit Fault
-  pub performs : PerformsIn (has_wide_words command) s m r remaining y explained command input old new was now
-      left start end told said answer
-  pub hands : HandsOn end final unwritten answer result
+  pub performs : PerformsIn (has_wide_words given.asked) files r given old
+      (record new { output = end }) left answer
+  pub hands : HandsOn end new.output unwritten answer result
 
 -- ---- only a create calls anything on names, and says anything before it ends: its duplicates
 abbrev pub IsUntouched : {T : Type 0} → Asked → (old new : T) → Type 0
@@ -386,46 +396,42 @@ status_of command (Ok done) = 0
 status_of command (Err fault) = exit_status command fault
 
 -- the words ask for nothing, or memory for them was refused
-pub record AsksNothing {F M Y : Type 0} (planned : Result Asked Refused) (explained : Bool) (old new : Y)
-    (was now : NameCalls) (left : Left F M) (start end told said : Option (List ℕ)) (unsaid : Type 0) (status : ℕ)
-    : Type 0 where
+pub record AsksNothing {F M Y : Type 0} (given : Given (Result Asked Refused)) (old new : State Y)
+    (left : Left F M) (unsaid : Type 0) (status : ℕ) : Type 0 where
   pub refused : Refused
-  pub why : (refused ≡ words.NoMemory) ⊎ (planned ≡ Err refused)
-  pub line : SaysLine (refused_lines explained refused) told said unsaid
-  pub untouched : new ≡ old
+  pub why : (refused ≡ words.NoMemory) ⊎ (given.asked ≡ Err refused)
+  pub line : SaysLine (refused_lines given.explained refused) old.errors new.errors unsaid
+  pub untouched : new.opened ≡ old.opened
   pub none : left ≡ none_left
-  pub same : now ≡ was
-  pub kept : Keeps start end
+  pub same : new.named ≡ old.named
+  pub kept : Keeps old.output new.output
   pub is_status : status ≡ usage_status (usage_of refused)
 
 -- the command that they ask for was performed, and then its fault was said, and explained if it is to be
-pub record AsksFor {F I M R Y : Type 0} (s : Ghosts F) (m : Ghosts M) (r : Raw R)
-    (remaining : I → Option (List ℕ)) (y : Systems Y F I M) (planned : Result Asked Refused)
-    (explained : Bool) (input : Option (List ℕ)) (old new : Y) (was now : NameCalls) (left : Left F M)
-    (start final told said : Option (List ℕ)) (unwritten unsaid : Type 0) (status : ℕ) : Type 0
+pub record AsksFor {F I M R Y : Type 0} (files : Files F I M Y) (r : Raw R)
+    (given : Given (Result Asked Refused)) (old new : State Y) (left : Left F M)
+    (failed : Failed) (status : ℕ) : Type 0
   where
     pub command : Command
-    pub asks : planned ≡ Ok (asked_in command)
+    pub asks : given.asked ≡ Ok (asked_in command)
     pub result : Result Unit Fault
     pub before : Option (List ℕ)
-    pub does : Does s m r remaining y explained (asked_in command) input old new was now left start final told
-        before unwritten result
-    pub silent : IsUntouched (asked_in command) told before
-    pub same : IsUntouched (asked_in command) was now
+    pub does : Does files r (given_of (asked_in command) given.explained given.input) old
+        (record new { errors = before }) left failed.output result
+    pub silent : IsUntouched (asked_in command) old.errors before
+    pub same : IsUntouched (asked_in command) old.named new.named
     pub more : List ℕ
-    pub explains : Explains explained (asked_in command) result (y.calls new) now more
-    pub says : Says result more before said unsaid
+    pub explains : Explains given.explained (asked_in command) result
+        (calls_in files new) new.named more
+    pub says : Says result more before new.errors failed.errors
     pub is_status : status ≡ status_of command result
 
 -- from its words to its exit status: what was written, what standard output has of it, and what is
 -- said on standard error; whether the one failed, or the other; and which files are handed back
-abbrev pub Runs : {F I M R Y : Type 0} → Ghosts F → Ghosts M → Raw R → (I → Option (List ℕ))
-    → Systems Y F I M → (planned : Result Asked Refused) → (explained : Bool)
-    → (input : Option (List ℕ)) → (old new : Y) → (was now : NameCalls) → Left F M
-    → (start end final told said : Option (List ℕ)) → (unwritten unsaid : Type 0) → (status : ℕ)
+abbrev pub Runs : {F I M R Y : Type 0} → Files F I M Y → Raw R
+    → Given (Result Asked Refused) → (old new : State Y) → (final : Option (List ℕ)) → Left F M
+    → Failed → (status : ℕ)
     → Type 0
-Runs s m r remaining y planned explained input old new was now left start end final told said unwritten unsaid
-    status =
-    AsksNothing planned explained old new was now left start end told said unsaid status
-    ⊎ AsksFor s m r remaining y planned explained input old new was now left start final told said unwritten
-    unsaid status
+Runs files r given old new final left failed status =
+    AsksNothing given old new left failed.errors status
+    ⊎ AsksFor files r given old (record new { output = final }) left failed status

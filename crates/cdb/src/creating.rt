@@ -5,7 +5,9 @@ ghost use Rattle.cdb_form.specs.Format.Pair.{head_size};
 ghost use Rattle.cdb_tool.specs.Views.Inputs.{inputs_left};
 ghost use Rattle.cdb.specs.Creating.{Creates, IsInPlace, MakesOnOutput};
 ghost use Rattle.cdb.specs.Creating.{NotOpened, OpensAll, WritesAll, temporary_of};
-ghost use Rattle.cdb.specs.Contents.{making_of};
+ghost use Rattle.cdb.specs.Files.{files_of};
+ghost use Rattle.cdb.specs.State.{state_of};
+ghost use Rattle.cdb.specs.Contents.{making_of, wanted_of};
 
 use crate::building::make_in;
 use crate::contents::Contents;
@@ -61,13 +63,13 @@ where
     E: Write,
     requires head { head_size L.WORD ≤ creation.options.limit }
     requires words { creation.options.limit ≤ L.GREATEST }
-    ensures { Creates L.WORD L.GREATEST Y.System Y.File.Store Y.Made.Store N.File.RawFile Y.Stream.remaining
-        creation.entry.options creation.entry.name.now
-        (option_map string_bytes creation.entry.base.now) (map string_bytes creation.entry.inputs.now)
-        (option_map string_bytes creation.entry.temporary.now) (I.remaining input)
-        (Y.calls system.old) (Y.calls system.new) (N.calls names.old) (N.calls names.new) result.0
-        (O.contents output.old) (O.contents output.new)
-        (E.contents errors.old) (E.contents errors.new) result.1 }
+    ensures { Creates (files_of Y.File.Store Y.Made.Store Y.Stream.remaining Y.System)
+        N.File.RawFile (wanted_of L.WORD L.GREATEST creation.entry) (I.remaining input)
+        (state_of (Y.calls system.old) (N.calls names.old) (O.contents output.old)
+        (E.contents errors.old))
+        (state_of (Y.calls system.new) (N.calls names.new) (O.contents output.new)
+        (E.contents errors.new))
+        result.0 result.1 }
 {
     let contents = match open_all::<L, Y, I>(alloc, system, creation, input) {
         Ok(contents) => contents,
@@ -116,7 +118,8 @@ where
     I: Read + Drop,
     requires head { head_size L.WORD ≤ creation.options.limit }
     requires words { creation.options.limit ≤ L.GREATEST }
-    ensures ok { IfOk result (λ c. OpensAll Y.System Y.Stream.remaining
+    ensures ok { IfOk result (λ c. OpensAll
+        (files_of Y.File.Store Y.Made.Store Y.Stream.remaining Y.System)
         (option_map string_bytes creation.entry.base.now) (map string_bytes creation.entry.inputs.now)
         (I.remaining input) (Y.calls system.old) (Y.calls system.new) c.base
         (inputs_left Y.Stream.remaining I.remaining c.inputs)) }

@@ -1,5 +1,9 @@
 // The command that compares two files.
+ghost use Rattle.std.specs.Prelude.{List, ℕ, Option};
+ghost use Rattle.cdb_files.specs.Folder.{NameCalls};
+ghost use Rattle.cdb.specs.Files.{files_of};
 ghost use Rattle.cdb.specs.Performs.{PerformsDifference};
+ghost use Rattle.cdb.specs.State.{state_of};
 
 use crate::left::{Left, both_left, none_left, read_left};
 use crate::system::System;
@@ -22,8 +26,10 @@ where
     L: Width,
     Y: System,
     O: Write,
-    ensures { PerformsDifference L.WORD Y.File.Store Y.System old.now new.now system.old system.new
-        result.0 (O.contents output.old) (O.contents output.new) result.1 }
+    ensures { (named : NameCalls) (errors : Option (List ℕ)) → PerformsDifference L.WORD
+        (files_of Y.File.Store Y.Made.Store Y.Stream.remaining Y.System) old.now new.now
+        (state_of system.old named (O.contents output.old) errors)
+        (state_of system.new named (O.contents output.new) errors) result.0 result.1 }
 {
     let first = match system.open_store(old) {
         Ok(file) => file,

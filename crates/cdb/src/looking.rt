@@ -1,6 +1,9 @@
 // The command that looks up the keys that inputs give.
-ghost use Rattle.std.specs.Prelude.{◌≤◌, IfSome, map, string_bytes};
+ghost use Rattle.std.specs.Prelude.{◌≤◌, IfSome, map, string_bytes, List, ℕ, Option};
+ghost use Rattle.cdb_files.specs.Folder.{NameCalls};
+ghost use Rattle.cdb.specs.Files.{files_of};
 ghost use Rattle.cdb.specs.Performs.{PerformsLookups};
+ghost use Rattle.cdb.specs.State.{state_of};
 
 use crate::inputs::open_inputs;
 use crate::left::{Left, none_left, read_left};
@@ -29,9 +32,16 @@ where
     I: Read + Drop,
     O: Write,
     requires { IfSome number (λ n. 1 ≤ n) }
-    ensures { PerformsLookups L.WORD L.GREATEST Y.File.Store Y.Stream.remaining Y.System name.now
-        (map string_bytes inputs.now) number style (I.remaining input) system.old system.new
-        result.0 (O.contents output.old) (O.contents output.new) result.1 }
+    ensures { (named : NameCalls) (errors : Option (List ℕ)) → PerformsLookups L.WORD L.GREATEST
+        (files_of Y.File.Store Y.Made.Store Y.Stream.remaining Y.System)
+        (record {
+          name = name.now;
+          inputs = map string_bytes inputs.now;
+          standard = I.remaining input;
+          number = number;
+          style = style;
+        }) (state_of system.old named (O.contents output.old) errors)
+        (state_of system.new named (O.contents output.new) errors) result.0 result.1 }
 {
     let store = match system.open_store(name) {
         Ok(store) => store,

@@ -3,7 +3,9 @@ ghost use Rattle.cdb_tool.specs.Command.{asked_in, FitsIn};
 ghost use Rattle.cdb_form.specs.Format.Pair.{head_size};
 ghost use Rattle.cdb_tool.specs.Command.{usage_text, version_text};
 ghost use Rattle.std.specs.Prelude.{◌≡◌, map, string_bytes};
+ghost use Rattle.cdb.specs.Files.{files_of};
 ghost use Rattle.cdb.specs.Performs.{IsShown, IsUntouched, Performs, Tells};
+ghost use Rattle.cdb.specs.State.{state_of};
 
 use crate::creating::{Creation, create};
 use crate::differing::difference;
@@ -68,11 +70,12 @@ where
     O: Write,
     E: Write,
     requires { FitsIn (head_size L.WORD) L.GREATEST (asked_in command.now) }
-    ensures performs { Performs L.WORD L.GREATEST Y.File.Store Y.Made.Store N.File.RawFile Y.Stream.remaining
-        Y.System explains (asked_in command.now) (I.remaining input) system.old system.new
-        (N.calls names.old) (N.calls names.new) result.0
-        (O.contents output.old) (O.contents output.new)
-        (E.contents errors.old) (E.contents errors.new) result.1 }
+    ensures performs { Performs L.WORD L.GREATEST
+        (files_of Y.File.Store Y.Made.Store Y.Stream.remaining Y.System) N.File.RawFile explains
+        (asked_in command.now) (I.remaining input)
+        (state_of system.old (N.calls names.old) (O.contents output.old) (E.contents errors.old))
+        (state_of system.new (N.calls names.new) (O.contents output.new) (E.contents errors.new))
+        result.0 result.1 }
     ensures silent { IsUntouched (asked_in command.now)
         (E.contents errors.old) (E.contents errors.new) }
     ensures same { IsUntouched (asked_in command.now) (N.calls names.old) (N.calls names.new) }

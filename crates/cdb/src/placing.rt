@@ -1,15 +1,17 @@
 // A database made under its name: in place, or in a temporary file that replaces it.
 ghost use Rattle.std.specs.Prelude.{◌≡◌, ◌∷◌, [], true, false, map, option_map, string_bytes};
-ghost use Rattle.std.specs.Prelude.{IfOk, IfErr, OnOk};
+ghost use Rattle.std.specs.Prelude.{IfOk, IfErr, OnOk, List, Option, ℕ};
 ghost use Rattle.cdb.specs.Creating.{AsksAll, AsksBase, AsksEach, AsksOne};
 ghost use Rattle.cdb.specs.Creating.{FindsBase, FindsInput, FindsOne, MayBeInput, MayBeOne};
 ghost use Rattle.cdb.specs.Creating.{MayBeStandard};
 ghost use Rattle.cdb.specs.Inputs.{inputs_read};
-ghost use Rattle.cdb.specs.Opening.{Empties, MissesEmptying};
+ghost use Rattle.cdb.specs.Opening.{Empties, MissesEmptying, OpenCalls};
 ghost use Rattle.cdb.specs.Creating.{MakesApart, MakesInPlace, Syncs, answer_of};
+ghost use Rattle.cdb.specs.Files.{files_of};
+ghost use Rattle.cdb.specs.State.{state_of};
 ghost use Rattle.cdb_files.specs.declared.answer.Answer.TheVariants.{No};
 ghost use Rattle.cdb_files.specs.declared.name_trace.NameCall.TheVariants.{Input, Same};
-ghost use Rattle.cdb.specs.Contents.{making_of};
+ghost use Rattle.cdb.specs.Contents.{making_of, wanted_of};
 
 use crate::building::Building;
 use crate::contents::Contents;
@@ -160,12 +162,13 @@ where
     N: Names,
     I: Read + Drop,
     E: Write,
-    ensures { MakesInPlace Y.System Y.File.Store Y.Made.Store
+    ensures { (output : Option (List ℕ)) → MakesInPlace
+        (files_of Y.File.Store Y.Made.Store Y.Stream.remaining Y.System)
         (making_of L.WORD L.GREATEST Y.Stream.remaining I.remaining contents.entry)
-        creation.entry.name.now (option_map string_bytes creation.entry.base.now)
-        (map string_bytes creation.entry.inputs.now)
-        (Y.calls system.old) (Y.calls system.new) (N.calls names.old) (N.calls names.new) result.0
-        (E.contents errors.old) (E.contents errors.new) result.1 }
+        (wanted_of L.WORD L.GREATEST creation.entry)
+        (state_of (Y.calls system.old) (N.calls names.old) output (E.contents errors.old))
+        (state_of (Y.calls system.new) (N.calls names.new) output (E.contents errors.new))
+        result.0 result.1 }
 {
     if may_be_read(names, creation.name, creation) {
         return (base_left(contents.into_base()), Err(Fault::Open));
@@ -220,11 +223,11 @@ where
     N: Names,
     I: Read + Drop,
     E: Write,
-    ensures { MakesApart F.Store N.File.RawFile
-        (making_of L.WORD L.GREATEST J.remaining I.remaining contents.entry)
-        temporary.now creation.entry.name.now (option_map string_bytes creation.entry.base.now)
-        (map string_bytes creation.entry.inputs.now) (N.calls names.old) (N.calls names.new) result.0
-        (E.contents errors.old) (E.contents errors.new) result.1 }
+    ensures { (opened : OpenCalls) (output : Option (List ℕ)) → MakesApart F.Store N.File.RawFile
+        (making_of L.WORD L.GREATEST J.remaining I.remaining contents.entry) temporary.now
+        (wanted_of L.WORD L.GREATEST creation.entry)
+        (state_of opened (N.calls names.old) output (E.contents errors.old))
+        (state_of opened (N.calls names.new) output (E.contents errors.new)) result.0 result.1 }
 {
     if may_be_read(names, temporary, creation) {
         return (contents.into_base(), Err(Fault::Open));

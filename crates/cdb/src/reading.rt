@@ -6,6 +6,9 @@ ghost use Rattle.cdb_store.specs.Contents.{contents};
 ghost use Rattle.cdb_tool.specs.Runs.Form.{form_of};
 ghost use Rattle.cdb_tool.specs.Runs.Load.{IsNotLoaded};
 ghost use Rattle.cdb_tool.specs.Runs.Query.{value_text};
+ghost use Rattle.cdb_files.specs.Folder.{NameCalls};
+ghost use Rattle.cdb.specs.Files.{files_of};
+ghost use Rattle.cdb.specs.State.{state_of};
 ghost use Rattle.cdb.specs.Performs.{PerformsQuery, PerformsText, PerformsOn, LacksMemory, WritesText};
 ghost use Rattle.cdb.specs.Performs.{Takes, TellsStore, ChecksStore};
 
@@ -36,9 +39,11 @@ where
     Y: System,
     O: Write,
     requires { IfSome number (λ n. 1 ≤ n) }
-    ensures { PerformsQuery L.WORD Y.File.Store Y.System name.now
-        (record { key = key.now; number = number; shown = value_text lines }) system.old system.new result.0
-        (O.contents output.old) (O.contents output.new) result.1 }
+    ensures { (named : NameCalls) (errors : Option (List ℕ)) → PerformsQuery L.WORD
+        (files_of Y.File.Store Y.Made.Store Y.Stream.remaining Y.System) name.now
+        (record { key = key.now; number = number; shown = value_text lines })
+        (state_of system.old named (O.contents output.old) errors)
+        (state_of system.new named (O.contents output.new) errors) result.0 result.1 }
 {
     match system.open_store(name) {
         Ok(store) => {
@@ -87,9 +92,11 @@ where
     Y: System,
     I: Read + Drop,
     O: Write,
-    ensures { PerformsText L.WORD Y.Stream.remaining Y.System (form_of content style)
-        (option_map string_bytes name.now) (I.remaining input) system.old system.new
-        (O.contents output.old) (O.contents output.new) result }
+    ensures { (named : NameCalls) (errors : Option (List ℕ)) → PerformsText L.WORD
+        (files_of Y.File.Store Y.Made.Store Y.Stream.remaining Y.System) (form_of content style)
+        (option_map string_bytes name.now) (I.remaining input)
+        (state_of system.old named (O.contents output.old) errors)
+        (state_of system.new named (O.contents output.new) errors) result }
 {
     match name {
         Some(name) => {
@@ -137,9 +144,11 @@ where
     Y: System,
     I: Read + Drop,
     O: Write,
-    ensures { PerformsOn Y.File.Store Y.Stream.remaining Y.System L.GREATEST
-        (option_map string_bytes name.now) (I.remaining input) system.old system.new result.0
-        (O.contents output.old) (O.contents output.new) result.1
+    ensures { (named : NameCalls) (errors : Option (List ℕ)) → PerformsOn
+        (files_of Y.File.Store Y.Made.Store Y.Stream.remaining Y.System) L.GREATEST
+        (option_map string_bytes name.now) (I.remaining input)
+        (state_of system.old named (O.contents output.old) errors)
+        (state_of system.new named (O.contents output.new) errors) result.0 result.1
         (TellsStore L.WORD (O.contents output.old) (O.contents output.new) result.1 Y.File.Store)
         (TellsStore L.WORD (O.contents output.old) (O.contents output.new) result.1 in_memory) }
 {
@@ -186,9 +195,11 @@ where
     L: Width,
     Y: System,
     I: Read + Drop,
-    ensures { (known : Option (List ℕ)) → PerformsOn Y.File.Store Y.Stream.remaining Y.System L.GREATEST
-        (option_map string_bytes name.now) (I.remaining input) system.old system.new result.0
-        known known result.1 (ChecksStore L.WORD known known result.1 Y.File.Store)
+    ensures { (named : NameCalls) (known errors : Option (List ℕ)) → PerformsOn
+        (files_of Y.File.Store Y.Made.Store Y.Stream.remaining Y.System) L.GREATEST
+        (option_map string_bytes name.now) (I.remaining input)
+        (state_of system.old named known errors) (state_of system.new named known errors) result.0
+        result.1 (ChecksStore L.WORD known known result.1 Y.File.Store)
         (ChecksStore L.WORD known known result.1 in_memory) }
 {
     let Some(name) = name else {

@@ -3,9 +3,11 @@ ghost use Rattle.std.specs.Prelude.{◌≡◌, [], Err, map, string_bytes};
 ghost use Rattle.cdb_tool.specs.Command.{asked_in, explains_in, has_wide_words, IsInRange, plan_of};
 ghost use Rattle.cdb_tool.specs.Views.Output.{output_bytes, held_by, HasHandedOn, OutputFailed};
 ghost use Rattle.cdb.specs.Causes.{Explains};
+ghost use Rattle.cdb.specs.Files.{files_of};
 ghost use Rattle.cdb.specs.Foretold.{IsForetold, IsTaken};
 ghost use Rattle.cdb.specs.ForetoldCreate.{IsCreateForetold};
 ghost use Rattle.cdb.specs.Performs.{Does, HandsOn, IsUntouched, Runs};
+ghost use Rattle.cdb.specs.State.{failed_of, given_of, state_of};
 
 use crate::cause_line::cause_line;
 use crate::causes::reason_of;
@@ -36,27 +38,34 @@ where
     I: Read + Drop,
     O: Write,
     E: Write,
-    ensures runs { Runs Y.File.Store Y.Made.Store N.File.RawFile Y.Stream.remaining Y.System
-        (plan_of (map string_bytes words.items)) (explains_in (map string_bytes words.items))
-        (I.remaining input) system.old system.new
-        (N.calls names.old) (N.calls names.new) result.0 (output_bytes O.contents output.old)
-        (output_bytes O.contents output.new) (O.contents output.new.writer)
-        (output_bytes E.contents errors.old) (output_bytes E.contents errors.new)
-        (OutputFailed output.new) (OutputFailed errors.new) result.1 }
+    ensures runs { Runs (files_of Y.File.Store Y.Made.Store Y.Stream.remaining Y.System)
+        N.File.RawFile
+        (given_of (plan_of (map string_bytes words.items))
+        (explains_in (map string_bytes words.items)) (I.remaining input))
+        (state_of system.old (N.calls names.old) (output_bytes O.contents output.old)
+        (output_bytes E.contents errors.old))
+        (state_of system.new (N.calls names.new) (output_bytes O.contents output.new)
+        (output_bytes E.contents errors.new)) (O.contents output.new.writer) result.0
+        (failed_of (OutputFailed output.new) (OutputFailed errors.new)) result.1 }
     ensures handed { held_by output.old ≡ [] → HasHandedOn output.new }
     ensures said { HasHandedOn errors.new }
-    ensures foretold { IsForetold Y.File.Store Y.Stream.remaining Y.System
-        (plan_of (map string_bytes words.items)) (explains_in (map string_bytes words.items))
-        (I.remaining input) system.old system.new
-        result.0 (output_bytes O.contents output.old) (O.contents output.new.writer)
-        (output_bytes E.contents errors.old) (E.contents errors.new.writer)
-        (IsTaken output.old output.new errors.new) result.1 }
-    ensures created { IsCreateForetold Y.File.Store Y.Made.Store Y.Stream.remaining Y.System
-        (plan_of (map string_bytes words.items)) (explains_in (map string_bytes words.items))
-        (I.remaining input) system.old system.new
-        (N.calls names.old) (N.calls names.new) result.0 (output_bytes O.contents output.old)
-        (O.contents output.new.writer) (output_bytes E.contents errors.old)
-        (E.contents errors.new.writer) (IsTaken output.old output.new errors.new) result.1 }
+    ensures foretold { IsForetold (files_of Y.File.Store Y.Made.Store Y.Stream.remaining Y.System)
+        (given_of (plan_of (map string_bytes words.items))
+        (explains_in (map string_bytes words.items)) (I.remaining input))
+        (state_of system.old (N.calls names.old) (output_bytes O.contents output.old)
+        (output_bytes E.contents errors.old))
+        (state_of system.new (N.calls names.new) (O.contents output.new.writer)
+        (E.contents errors.new.writer)) result.0 (IsTaken output.old output.new errors.new)
+        result.1 }
+    ensures created { IsCreateForetold
+        (files_of Y.File.Store Y.Made.Store Y.Stream.remaining Y.System)
+        (given_of (plan_of (map string_bytes words.items))
+        (explains_in (map string_bytes words.items)) (I.remaining input))
+        (state_of system.old (N.calls names.old) (output_bytes O.contents output.old)
+        (output_bytes E.contents errors.old))
+        (state_of system.new (N.calls names.new) (O.contents output.new.writer)
+        (E.contents errors.new.writer)) result.0 (IsTaken output.old output.new errors.new)
+        result.1 }
 {
     let (left, status) = answer::<Y, N, I, O, E>(
         alloc, system, names, words, input, output, errors,
@@ -82,13 +91,15 @@ where
     I: Read + Drop,
     O: Write,
     E: Write,
-    ensures runs { Runs Y.File.Store Y.Made.Store N.File.RawFile Y.Stream.remaining Y.System
-        (plan_of (map string_bytes words.items)) (explains_in (map string_bytes words.items))
-        (I.remaining input) system.old system.new
-        (N.calls names.old) (N.calls names.new) result.0 (output_bytes O.contents output.old)
-        (output_bytes O.contents output.new) (O.contents output.new.writer)
-        (output_bytes E.contents errors.old) (output_bytes E.contents errors.new)
-        (OutputFailed output.new) (OutputFailed errors.new) result.1 }
+    ensures runs { Runs (files_of Y.File.Store Y.Made.Store Y.Stream.remaining Y.System)
+        N.File.RawFile
+        (given_of (plan_of (map string_bytes words.items))
+        (explains_in (map string_bytes words.items)) (I.remaining input))
+        (state_of system.old (N.calls names.old) (output_bytes O.contents output.old)
+        (output_bytes E.contents errors.old))
+        (state_of system.new (N.calls names.new) (output_bytes O.contents output.new)
+        (output_bytes E.contents errors.new)) (O.contents output.new.writer) result.0
+        (failed_of (OutputFailed output.new) (OutputFailed errors.new)) result.1 }
     ensures handed { held_by output.old ≡ [] → HasHandedOn output.new }
 {
     let is_explained = explains(words.as_slice());
@@ -177,10 +188,12 @@ where
     O: Write,
     E: Write,
     requires { IsInRange (asked_in command.now) }
-    ensures does { Does Y.File.Store Y.Made.Store N.File.RawFile Y.Stream.remaining Y.System explains (asked_in command.now)
-        (I.remaining input) system.old system.new (N.calls names.old) (N.calls names.new) result.0
-        (output_bytes O.contents output.old) (O.contents output.new.writer)
-        (E.contents errors.old) (E.contents errors.new) (OutputFailed output.new) result.1 }
+    ensures does { Does (files_of Y.File.Store Y.Made.Store Y.Stream.remaining Y.System)
+        N.File.RawFile (given_of (asked_in command.now) explains (I.remaining input))
+        (state_of system.old (N.calls names.old) (output_bytes O.contents output.old)
+        (E.contents errors.old))
+        (state_of system.new (N.calls names.new) (O.contents output.new.writer)
+        (E.contents errors.new)) result.0 (OutputFailed output.new) result.1 }
     ensures silent { IsUntouched (asked_in command.now)
         (E.contents errors.old) (E.contents errors.new) }
     ensures same { IsUntouched (asked_in command.now) (N.calls names.old) (N.calls names.new) }

@@ -11,7 +11,7 @@ returns-then-is_standard g c =
 pub returns-then-is_in_place : goal.returns-then-is_in_place
 returns-then-is_in_place g c =
     let contents = c.in-Ok.contents in
-    inr (contents.base, inputs_left g.Y.Stream.Read.remaining g.I.Read.remaining contents.inputs, g.Y.System.calls c.open_all.new.system, c.in-Ok.ensures.ok, inr (search rules, Keeps-refl _, inl (search rules, rw c.in-Ok.ensures.options at c.make_in_place.ensures)))
+    inr (contents.base, inputs_left g.Y.Stream.Read.remaining g.I.Read.remaining contents.inputs, g.Y.System.calls c.open_all.new.system, c.in-Ok.ensures.ok, inr (search rules, Keeps-refl _, inl (search rules, rw c.in-Ok.ensures.options at (c.make_in_place.ensures (g.O.Write.contents c.args.output.now)))))
 
 pub returns-in-Err-temporary_name : goal.returns-in-Err-temporary_name
 returns-in-Err-temporary_name g c =
@@ -21,5 +21,5 @@ returns-in-Err-temporary_name g c =
 pub returns : goal.returns
 returns g c =
     let contents = c.in-Ok.contents in
-    let made = rw c.in-Ok-temporary_name.ensures at (rw c.as_str.ensures.value at (rw c.in-Ok.ensures.options at c.replace_database-read.ensures)) in
+    let made = rw c.in-Ok-temporary_name.ensures at (rw c.as_str.ensures.value at (rw c.in-Ok.ensures.options at (c.replace_database-read.ensures (g.Y.System.calls c.open_all.new.system) (g.O.Write.contents c.args.output.now)))) in
     rw c.base_left-2.ensures (inr (contents.base, inputs_left g.Y.Stream.Read.remaining g.I.Read.remaining contents.inputs, g.Y.System.calls c.open_all.new.system, c.in-Ok.ensures.ok, inr (search rules, Keeps-refl _, inr (search rules, refl, refl, inr made))))

@@ -10,7 +10,7 @@ returns g c =
     let back = c.build-store.result.1 in
     let made = c.build-store.result.2 in
     let last = c.synced-answer.new.store in
-    inr (
+    λ output. inr (
       c.may_be_read.ensures.others (search rules),
       inr (
         c.in-Ok.ensures.calls,

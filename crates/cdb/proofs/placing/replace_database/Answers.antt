@@ -9,7 +9,7 @@ returns g c =
     let e = c.replace_file-base.ensures in
     let answer = c.replace_file-base.result.1 in
     let making = making_of g.L.Width.WORD g.L.Width.GREATEST g.J.Read.remaining g.I.Read.remaining c.args.contents in
-    inr (
+    λ opened output. inr (
       g.N.Names.calls c.may_be_read.new.names,
       c.may_be_read.ensures.others (search rules),
       record {
