@@ -55,4 +55,4 @@ pub use walk::fault::WalkFault;
 pub use walk::prefix::record_len;
 pub use walk::record_reader::RecordReader;
 pub use width::{Narrow, Wide, Width};
-pub use writing::{OutFault, flush_whole, write_pieces, write_some, write_whole};
+pub use writing::{OutFault, Sink, flush_whole, write_pieces, write_some, write_whole};

@@ -1,6 +1,6 @@
 // Bytes to a writer.
 ghost use Rattle.std.specs.Prelude.{codes, ◌+◌, ◌<◌, ◌≤◌, length, take, flat_map, ◌≡◌, IfOk, IfSome};
-ghost use Rattle.std.specs.Prelude.{OnErr};
+ghost use Rattle.std.specs.Prelude.{OnErr, Option, List, ℕ};
 ghost use Rattle.std.specs.Io.KnownBytes.{Appends, Keeps};
 ghost use Rattle.cdb_form.specs.Views.KnownBytes.{Writes};
 
@@ -26,35 +26,88 @@ impl fmt::Display for OutFault {
 
 impl Error for OutFault {}
 
+/// What takes bytes: any `Write`, or a type of its own that also says whether it has failed.
+pub trait Sink {
+    /// The bytes that it holds, where they are known.
+    ghost contents: { Self → Option (List ℕ) };
+    /// That it has failed. Of a `Write` nobody knows it.
+    ghost failed: { Self → Type 0 };
+
+    /// Writes some of the bytes, at least one, and answers how many.
+    ///
+    /// After an `OutFault` it holds what it held.
+    fn write_some(&mut self, bytes: &[u8]) -> Result<usize, OutFault>
+        requires { 0 < length bytes.now }
+        ensures count { IfOk result (λ n. (0 < n) × (n ≤ length bytes.now)) }
+        ensures ok { IfOk result (λ n.
+            Appends (contents self.old) (contents self.new) (take n bytes.now)) }
+        ensures err { OnErr result (Keeps (contents self.old) (contents self.new)) }
+        ensures failed { OnErr result (failed self.new) };
+
+    /// Hands on what it holds back.
+    fn flush_whole(&mut self) -> Result<(), OutFault>
+        ensures bytes { Keeps (contents self.old) (contents self.new) }
+        ensures failed { OnErr result (failed self.new) };
+}
+
+/// A call is made again if a signal interrupts it, up to 1000 times in a row.
+impl<W: Write> Sink for W {
+    ghost use Rattle.std.specs.Prelude.{⊤};
+
+    ghost contents = { λ w. W.contents w };
+
+    ghost failed = { λ _. ⊤ };
+
+    #[inline(always)]
+    fn write_some(&mut self, bytes: &[u8]) -> Result<usize, OutFault> {
+        for _ in 0..RETRIES + 1 {
+            match self.write(bytes) {
+                Ok(n) => return if n == 0 { Err(OutFault) } else { Ok(n) },
+                Err(e) => {
+                    if e.kind() != ErrorKind::Interrupted {
+                        return Err(OutFault);
+                    }
+                }
+            }
+        }
+        Err(OutFault)
+    }
+
+    fn flush_whole(&mut self) -> Result<(), OutFault> {
+        for _ in 0..RETRIES + 1 {
+            match self.flush() {
+                Ok(()) => return Ok(()),
+                Err(e) => {
+                    if e.kind() != ErrorKind::Interrupted {
+                        return Err(OutFault);
+                    }
+                }
+            }
+        }
+        Err(OutFault)
+    }
+}
+
 /// Writes some of the bytes, at least one, and answers how many.
 ///
-/// The writer is called again if a signal interrupts it, up to 1000 times in a row. After an
-/// `OutFault` it holds what it held.
+/// After an `OutFault` the writer holds what it held.
 #[inline(always)]
-pub fn write_some<W: Write>(w: &mut W, bytes: &[u8]) -> Result<usize, OutFault>
+pub fn write_some<W: Sink>(w: &mut W, bytes: &[u8]) -> Result<usize, OutFault>
     requires { 0 < length bytes.now }
     ensures count { IfOk result (λ n. (0 < n) × (n ≤ length bytes.now)) }
     ensures ok { IfOk result (λ n.
         Appends (W.contents w.old) (W.contents w.new) (take n bytes.now)) }
     ensures err { OnErr result (Keeps (W.contents w.old) (W.contents w.new)) }
+    ensures failed { OnErr result (W.failed w.new) }
 {
-    for _ in 0..RETRIES + 1 {
-        match w.write(bytes) {
-            Ok(n) => return if n == 0 { Err(OutFault) } else { Ok(n) },
-            Err(e) => {
-                if e.kind() != ErrorKind::Interrupted {
-                    return Err(OutFault);
-                }
-            }
-        }
-    }
-    Err(OutFault)
+    w.write_some(bytes)
 }
 
 /// Writes all the bytes, by as many calls of the writer as it takes.
 #[inline(never)]
-fn write_rest<W: Write>(w: &mut W, bytes: &[u8]) -> Result<(), OutFault>
-    ensures { Writes result (W.contents w.old) (W.contents w.new) bytes.now }
+fn write_rest<W: Sink>(w: &mut W, bytes: &[u8]) -> Result<(), OutFault>
+    ensures writes { Writes result (W.contents w.old) (W.contents w.new) bytes.now }
+    ensures failed { OnErr result (W.failed w.new) }
 {
     let mut done = 0;
     while done < bytes.len() {
@@ -65,8 +118,9 @@ fn write_rest<W: Write>(w: &mut W, bytes: &[u8]) -> Result<(), OutFault>
 
 /// Does what `write_whole` does, where it is called.
 #[inline(always)]
-pub(crate) fn write_at_once<W: Write>(w: &mut W, bytes: &[u8]) -> Result<(), OutFault>
-    ensures { Writes result (W.contents w.old) (W.contents w.new) bytes.now }
+pub(crate) fn write_at_once<W: Sink>(w: &mut W, bytes: &[u8]) -> Result<(), OutFault>
+    ensures writes { Writes result (W.contents w.old) (W.contents w.new) bytes.now }
+    ensures failed { OnErr result (W.failed w.new) }
 {
     if bytes.is_empty() {
         return Ok(());
@@ -81,8 +135,9 @@ pub(crate) fn write_at_once<W: Write>(w: &mut W, bytes: &[u8]) -> Result<(), Out
 
 /// Writes all the bytes. After an `OutFault` the writer holds a prefix of them.
 #[inline(always)]
-pub fn write_whole<W: Write>(w: &mut W, bytes: &[u8]) -> Result<(), OutFault>
-    ensures { Writes result (W.contents w.old) (W.contents w.new) bytes.now }
+pub fn write_whole<W: Sink>(w: &mut W, bytes: &[u8]) -> Result<(), OutFault>
+    ensures writes { Writes result (W.contents w.old) (W.contents w.new) bytes.now }
+    ensures failed { OnErr result (W.failed w.new) }
 {
     write_at_once(w, bytes)
 }
@@ -106,8 +161,9 @@ fn joined(pieces: &[&[u8]], line: &mut [u8]) -> Option<usize>
 
 /// Writes one piece after the other, each by a call of the writer.
 #[inline(never)]
-pub(crate) fn write_each<W: Write>(w: &mut W, pieces: &[&[u8]]) -> Result<(), OutFault>
-    ensures { Writes result (W.contents w.old) (W.contents w.new) (flat_map (λ p. p.now) pieces.now) }
+pub(crate) fn write_each<W: Sink>(w: &mut W, pieces: &[&[u8]]) -> Result<(), OutFault>
+    ensures writes { Writes result (W.contents w.old) (W.contents w.new) (flat_map (λ p. p.now) pieces.now) }
+    ensures failed { OnErr result (W.failed w.new) }
 {
     for piece in pieces {
         write_whole(w, piece)?;
@@ -117,8 +173,9 @@ pub(crate) fn write_each<W: Write>(w: &mut W, pieces: &[&[u8]]) -> Result<(), Ou
 
 /// Writes one piece after the other. After an `OutFault` the writer holds a prefix of them all.
 #[inline(always)]
-pub fn write_pieces<W: Write>(w: &mut W, pieces: &[&[u8]]) -> Result<(), OutFault>
-    ensures { Writes result (W.contents w.old) (W.contents w.new) (flat_map (λ p. p.now) pieces.now) }
+pub fn write_pieces<W: Sink>(w: &mut W, pieces: &[&[u8]]) -> Result<(), OutFault>
+    ensures writes { Writes result (W.contents w.old) (W.contents w.new) (flat_map (λ p. p.now) pieces.now) }
+    ensures failed { OnErr result (W.failed w.new) }
 {
     // Short pieces go as one, since each is a call of the writer.
     let mut line = [0u8; LINE];
@@ -128,19 +185,10 @@ pub fn write_pieces<W: Write>(w: &mut W, pieces: &[&[u8]]) -> Result<(), OutFaul
     }
 }
 
-/// Flushes a writer. It is called again if a signal interrupts it, as in a write.
-pub fn flush_whole<W: Write>(w: &mut W) -> Result<(), OutFault>
-    ensures { Keeps (W.contents w.old) (W.contents w.new) }
+/// Flushes a writer.
+pub fn flush_whole<W: Sink>(w: &mut W) -> Result<(), OutFault>
+    ensures bytes { Keeps (W.contents w.old) (W.contents w.new) }
+    ensures failed { OnErr result (W.failed w.new) }
 {
-    for _ in 0..RETRIES + 1 {
-        match w.flush() {
-            Ok(()) => return Ok(()),
-            Err(e) => {
-                if e.kind() != ErrorKind::Interrupted {
-                    return Err(OutFault);
-                }
-            }
-        }
-    }
-    Err(OutFault)
+    w.flush_whole()
 }

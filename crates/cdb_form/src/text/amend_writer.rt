@@ -1,15 +1,16 @@
 // A removal of an amending text to a writer.
+ghost use Rattle.std.specs.Prelude.{OnErr};
 ghost use Rattle.cdb_form.specs.Text.Amending.{removal_line};
 ghost use Rattle.cdb_form.specs.Views.KnownBytes.{Writes};
 
-use crate::writing::{OutFault, write_pieces};
+use crate::writing::{OutFault, Sink, write_pieces};
 use itoa::Buffer;
-use std::io::Write;
 
 /// Writes a removal of an amending text, with the shortest numeral. After an `OutFault` the writer
 /// holds a prefix of it.
-pub fn write_removal<W: Write>(w: &mut W, key: &[u8]) -> Result<(), OutFault>
-    ensures { Writes result (W.contents w.old) (W.contents w.new) (removal_line key.now) }
+pub fn write_removal<W: Sink>(w: &mut W, key: &[u8]) -> Result<(), OutFault>
+    ensures writes { Writes result (W.contents w.old) (W.contents w.new) (removal_line key.now) }
+    ensures failed { OnErr result (W.failed w.new) }
 {
     let mut klen = Buffer::new();
     let klen = klen.format(key.len()).as_bytes();

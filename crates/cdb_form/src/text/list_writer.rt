@@ -1,12 +1,11 @@
 // The texts of keys to a writer.
-ghost use Rattle.std.specs.Prelude.{◌≡◌, ◌+◌, ◌≤◌, length, take};
+ghost use Rattle.std.specs.Prelude.{OnErr, ◌≡◌, ◌+◌, ◌≤◌, length, take};
 ghost use Rattle.cdb_form.specs.Text.List.{key_line, list_line};
 ghost use Rattle.cdb_form.specs.Views.KnownBytes.{Writes};
 
 use crate::text::line::{LINE, put_mark, put_number, put_piece};
-use crate::writing::{OutFault, write_at_once, write_each};
+use crate::writing::{OutFault, Sink, write_at_once, write_each};
 use itoa::Buffer;
-use std::io::Write;
 
 /// How many bytes a key has at most of which a line has room, beside a numeral of 20 digits and three
 /// marks.
@@ -28,8 +27,9 @@ fn put_list_key(line: &mut [u8], key: &[u8]) -> usize
 
 /// Writes a key of a list text piece by piece.
 #[inline(never)]
-fn write_long_key<W: Write>(w: &mut W, key: &[u8]) -> Result<(), OutFault>
-    ensures { Writes result (W.contents w.old) (W.contents w.new) (list_line key.now) }
+fn write_long_key<W: Sink>(w: &mut W, key: &[u8]) -> Result<(), OutFault>
+    ensures writes { Writes result (W.contents w.old) (W.contents w.new) (list_line key.now) }
+    ensures failed { OnErr result (W.failed w.new) }
 {
     let mut klen = Buffer::new();
     let klen = klen.format(key.len()).as_bytes();
@@ -39,8 +39,9 @@ fn write_long_key<W: Write>(w: &mut W, key: &[u8]) -> Result<(), OutFault>
 /// Writes a key of a list text, with its length in the shortest decimal. After an `OutFault` the
 /// writer holds a prefix of it.
 #[inline(always)]
-pub fn write_list_record<W: Write>(w: &mut W, key: &[u8]) -> Result<(), OutFault>
-    ensures { Writes result (W.contents w.old) (W.contents w.new) (list_line key.now) }
+pub fn write_list_record<W: Sink>(w: &mut W, key: &[u8]) -> Result<(), OutFault>
+    ensures writes { Writes result (W.contents w.old) (W.contents w.new) (list_line key.now) }
+    ensures failed { OnErr result (W.failed w.new) }
 {
     if ROOM < key.len() {
         return write_long_key(w, key);
@@ -63,8 +64,9 @@ fn put_map_key(line: &mut [u8], key: &[u8]) -> usize
 
 /// Writes a key and a newline. After an `OutFault` the writer holds a prefix of them.
 #[inline(always)]
-pub fn write_map_key<W: Write>(w: &mut W, key: &[u8]) -> Result<(), OutFault>
-    ensures { Writes result (W.contents w.old) (W.contents w.new) (key_line key.now) }
+pub fn write_map_key<W: Sink>(w: &mut W, key: &[u8]) -> Result<(), OutFault>
+    ensures writes { Writes result (W.contents w.old) (W.contents w.new) (key_line key.now) }
+    ensures failed { OnErr result (W.failed w.new) }
 {
     if LINE <= key.len() {
         return write_each(w, &[key, b"\n"]);

@@ -1,11 +1,10 @@
 // A map text to a writer.
-ghost use Rattle.std.specs.Prelude.{◌≡◌, ◌+◌, ◌≤◌, length, take};
+ghost use Rattle.std.specs.Prelude.{OnErr, ◌≡◌, ◌+◌, ◌≤◌, length, take};
 ghost use Rattle.cdb_form.specs.Text.Map.{map_line};
 ghost use Rattle.cdb_form.specs.Views.KnownBytes.{Writes};
 
 use crate::text::line::{LINE, put_mark, put_piece};
-use crate::writing::{OutFault, write_at_once, write_each};
-use std::io::Write;
+use crate::writing::{OutFault, Sink, write_at_once, write_each};
 
 /// How many bytes a key and a value have at most of which a line has room.
 const ROOM: usize = LINE - 2;
@@ -25,8 +24,9 @@ fn put_map_record(line: &mut [u8], key: &[u8], value: &[u8]) -> usize
 
 /// Writes the line of a record. After an `OutFault` the writer holds a prefix of it.
 #[inline(always)]
-pub fn write_map_record<W: Write>(w: &mut W, key: &[u8], value: &[u8]) -> Result<(), OutFault>
-    ensures { Writes result (W.contents w.old) (W.contents w.new) (map_line (record { key = key.now; value = value.now })) }
+pub fn write_map_record<W: Sink>(w: &mut W, key: &[u8], value: &[u8]) -> Result<(), OutFault>
+    ensures writes { Writes result (W.contents w.old) (W.contents w.new) (map_line (record { key = key.now; value = value.now })) }
+    ensures failed { OnErr result (W.failed w.new) }
 {
     if ROOM < key.len() || ROOM - key.len() < value.len() {
         return write_each(w, &[key, b" ", value, b"\n"]);

@@ -1,11 +1,10 @@
 // A native text to a writer.
-ghost use Rattle.std.specs.Prelude.{◌≡◌, ◌+◌, ◌≤◌, ◌++◌, codes, decimal, length, take};
+ghost use Rattle.std.specs.Prelude.{OnErr, ◌≡◌, ◌+◌, ◌≤◌, ◌++◌, codes, decimal, length, take};
 ghost use Rattle.cdb_form.specs.Text.Native.{spelling_of};
 ghost use Rattle.cdb_form.specs.Views.KnownBytes.{Writes};
 
 use crate::text::line::{LINE, put_mark, put_number, put_piece};
-use crate::writing::{OutFault, write_at_once, write_each, write_whole};
-use std::io::Write;
+use crate::writing::{OutFault, Sink, write_at_once, write_each, write_whole};
 
 /// How many bytes a line has at most before its key: two numerals of 20 digits, and three marks.
 const LONGEST: usize = 43;
@@ -47,8 +46,9 @@ fn put_record(line: &mut [u8], key: &[u8], value: &[u8]) -> usize
 
 /// Writes a record of a native text piece by piece.
 #[inline(never)]
-fn write_long<W: Write>(w: &mut W, key: &[u8], value: &[u8]) -> Result<(), OutFault>
-    ensures { Writes result (W.contents w.old) (W.contents w.new) (spelling_of (record { key = key.now; value = value.now })) }
+fn write_long<W: Sink>(w: &mut W, key: &[u8], value: &[u8]) -> Result<(), OutFault>
+    ensures writes { Writes result (W.contents w.old) (W.contents w.new) (spelling_of (record { key = key.now; value = value.now })) }
+    ensures failed { OnErr result (W.failed w.new) }
 {
     let mut line = [0u8; LONGEST];
     let lengths = put_lengths(&mut line, key.len(), value.len());
@@ -58,8 +58,9 @@ fn write_long<W: Write>(w: &mut W, key: &[u8], value: &[u8]) -> Result<(), OutFa
 /// Writes a record of a native text, with the shortest numerals. After an `OutFault` the writer
 /// holds a prefix of it.
 #[inline(always)]
-pub fn write_record<W: Write>(w: &mut W, key: &[u8], value: &[u8]) -> Result<(), OutFault>
-    ensures { Writes result (W.contents w.old) (W.contents w.new) (spelling_of (record { key = key.now; value = value.now })) }
+pub fn write_record<W: Sink>(w: &mut W, key: &[u8], value: &[u8]) -> Result<(), OutFault>
+    ensures writes { Writes result (W.contents w.old) (W.contents w.new) (spelling_of (record { key = key.now; value = value.now })) }
+    ensures failed { OnErr result (W.failed w.new) }
 {
     if ROOM < key.len() || ROOM - key.len() < value.len() {
         return write_long(w, key, value);
@@ -71,8 +72,9 @@ pub fn write_record<W: Write>(w: &mut W, key: &[u8], value: &[u8]) -> Result<(),
 }
 
 /// Writes the newline that ends a native text. After an `OutFault` the writer holds a prefix of it.
-pub fn write_end<W: Write>(w: &mut W) -> Result<(), OutFault>
-    ensures { Writes result (W.contents w.old) (W.contents w.new) (codes "\n") }
+pub fn write_end<W: Sink>(w: &mut W) -> Result<(), OutFault>
+    ensures writes { Writes result (W.contents w.old) (W.contents w.new) (codes "\n") }
+    ensures failed { OnErr result (W.failed w.new) }
 {
     write_whole(w, b"\n")
 }

@@ -1,6 +1,6 @@
 use Rattle.std.proofs.lemmas.Grind.{common_steps}
 use Rattle.std.proofs.Common.{rules, arith}
-use Rattle.cdb_form.proofs.writing.flush_whole.Goals as goal
+use Rattle.cdb_form.proofs.writing.AnySink.flush_whole.Goals as goal
 
 pub returns-in-Ok : goal.returns-in-Ok
 returns-in-Ok g c = search rules

@@ -1,6 +1,6 @@
 use Rattle.std.proofs.lemmas.Grind.{common_steps}
 use Rattle.std.proofs.Common.{arith, rules}
-use Rattle.cdb_form.proofs.writing.write_some.Goals as goal
+use Rattle.cdb_form.proofs.writing.AnySink.write_some.Goals as goal
 
 pub returns-then-ne-clause-count : goal.returns-then-ne-clause-count
 returns-then-ne-clause-count g c = omega arith
