@@ -1,13 +1,14 @@
 // The text that says how the program is called.
+ghost use Rattle.std.specs.Prelude.{OnErr};
 ghost use Rattle.cdb_form.specs.Views.KnownBytes.{Writes};
 ghost use Rattle.cdb_command.specs.Usage.{usage_text, version_text};
 
-use cdb_form::{OutFault, write_pieces, write_whole};
-use std::io::Write;
+use cdb_form::{OutFault, Sink, write_pieces, write_whole};
 
 /// Writes the usage text. After an `OutFault` the writer holds a prefix of it.
-pub fn write_usage<W: Write>(w: &mut W) -> Result<(), OutFault>
-    ensures { Writes result (W.contents w.old) (W.contents w.new) usage_text }
+pub fn write_usage<W: Sink>(w: &mut W) -> Result<(), OutFault>
+    ensures writes { Writes result (W.contents w.old) (W.contents w.new) usage_text }
+    ensures failed { OnErr result (W.failed w.new) }
 {
     let lines: [&[u8]; 11] = [
         b"usage: cdb -q [-W] [-m] [-n number] database key\n",
@@ -30,8 +31,9 @@ const VERSION: &[u8] = b"cdb 1.1.0~dev (Pezundrix)\n";
 
 /// Writes the name of the program and its version. After an `OutFault` the writer holds a prefix of
 /// that.
-pub fn write_version<W: Write>(w: &mut W) -> Result<(), OutFault>
-    ensures { Writes result (W.contents w.old) (W.contents w.new) version_text }
+pub fn write_version<W: Sink>(w: &mut W) -> Result<(), OutFault>
+    ensures writes { Writes result (W.contents w.old) (W.contents w.new) version_text }
+    ensures failed { OnErr result (W.failed w.new) }
 {
     write_whole(w, VERSION)
 }

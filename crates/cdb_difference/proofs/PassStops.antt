@@ -18,22 +18,22 @@ use Rattle.cdb_difference.specs.declared.stop.Stop.{Stop}
 use Rattle.cdb_difference.specs.declared.stop.Stop.TheVariants.{Own, Other}
 
 -- what stopped a part of it stopped it, whatever was read before and is known of a damage
-pub stops_since : {S : Type 0} (s : Ghosts S) (old mid new last : S) (P Q : Damage → Type 0) (f : ReadFault) → s.failures old ≤ s.failures mid → s.failures new ≤ s.failures last → ((d : Damage) → P d → Q d) → ReadingStops s mid new P f → ReadingStops s old last Q f
-stops_since s old mid new last P Q Device before after more fails = omega (arith, before, fails, after)
-stops_since s old mid new last P Q NoMemory before after more fails = tt
-stops_since s old mid new last P Q Output before after more fails = tt
-stops_since s old mid new last P Q (Table n) before after more fails = more (damage.Table n) fails
-stops_since s old mid new last P Q (Record place) before after more fails = more (damage.Record place) fails
-stops_since s old mid new last P Q Short before after more fails = absurd fails
-stops_since s old mid new last P Q (Slot n i) before after more fails = absurd fails
-stops_since s old mid new last P Q (Twice place) before after more fails = absurd fails
-stops_since s old mid new last P Q (Unindexed place) before after more fails = absurd fails
+pub stops_since : {S : Type 0} (s : Ghosts S) (old mid new last : S) (P Q : Damage → Type 0) (O O_now : Type 0) (f : ReadFault) → s.failures old ≤ s.failures mid → s.failures new ≤ s.failures last → ((d : Damage) → P d → Q d) → (O → O_now) → ReadingStops s mid new P O f → ReadingStops s old last Q O_now f
+stops_since s old mid new last P Q O O_now Device before after more out fails = omega (arith, before, fails, after)
+stops_since s old mid new last P Q O O_now NoMemory before after more out fails = tt
+stops_since s old mid new last P Q O O_now Output before after more out fails = out fails
+stops_since s old mid new last P Q O O_now (Table n) before after more out fails = more (damage.Table n) fails
+stops_since s old mid new last P Q O O_now (Record place) before after more out fails = more (damage.Record place) fails
+stops_since s old mid new last P Q O O_now Short before after more out fails = absurd fails
+stops_since s old mid new last P Q O O_now (Slot n i) before after more out fails = absurd fails
+stops_since s old mid new last P Q O O_now (Twice place) before after more out fails = absurd fails
+stops_since s old mid new last P Q O O_now (Unindexed place) before after more out fails = absurd fails
 
 -- whichever of two files it was
-pub both_since : {S T : Type 0} (s : Ghosts S) (t : Ghosts T) (own own_mid own_new : S) (other other_mid other_new : T) (P P_now Q Q_now : Damage → Type 0) (stop : Stop) → s.failures own ≤ s.failures own_mid → t.failures other ≤ t.failures other_mid
-    → ((d : Damage) → P d → P_now d) → ((d : Damage) → Q d → Q_now d) → StopsBy s t own_mid own_new other_mid other_new P Q stop → StopsBy s t own own_new other other_new P_now Q_now stop
-both_since s t own own_mid own_new other other_mid other_new P P_now Q Q_now (Own f) mine theirs p q fails = stops_since s own own_mid own_new own_new P P_now f mine (omega arith) p fails
-both_since s t own own_mid own_new other other_mid other_new P P_now Q Q_now (Other f) mine theirs p q fails = stops_since t other other_mid other_new other_new Q Q_now f theirs (omega arith) q fails
+pub both_since : {S T : Type 0} (s : Ghosts S) (t : Ghosts T) (own own_mid own_new : S) (other other_mid other_new : T) (P P_now Q Q_now : Damage → Type 0) (O O_now : Type 0) (stop : Stop) → s.failures own ≤ s.failures own_mid → t.failures other ≤ t.failures other_mid
+    → ((d : Damage) → P d → P_now d) → ((d : Damage) → Q d → Q_now d) → (O → O_now) → StopsBy s t own_mid own_new other_mid other_new P Q O stop → StopsBy s t own own_new other other_new P_now Q_now O_now stop
+both_since s t own own_mid own_new other other_mid other_new P P_now Q Q_now O O_now (Own f) mine theirs p q out fails = stops_since s own own_mid own_new own_new P P_now O O_now f mine (omega arith) p out fails
+both_since s t own own_mid own_new other other_mid other_new P P_now Q Q_now O O_now (Other f) mine theirs p q out fails = stops_since t other other_mid other_new other_new Q Q_now O O_now f theirs (omega arith) q out fails
 
 -- the key of a record that a walk gave is one of its keys
 pub passed_key : (w : ℕ) (b : List ℕ) (done : List KeyValue) (old new : Walked) (r : KeyValue) → walk_of w b ≡ with_records done old → old ≡ with_first r new → HasKey r.key (walk_of w b).records
@@ -47,11 +47,11 @@ passed_key w b done old new r all first none =
     omega (arith, length-append (values_of r.key done) (r.value ∷ values_of r.key new.records), long)
 
 -- what stopped a pass stopped the whole, whatever was read before
-pub whole_since : {S T : Type 0} (w : ℕ) (s : Ghosts S) (t : Ghosts T) (old old_mid old_now : S) (new new_mid new_now : T) (stop : Stop) → OnlyReads s old old_mid → OnlyReads t new new_mid → Stops w s t old_mid old_now new_mid new_now stop → Stops w s t old old_now new new_now stop
-whole_since w s t old old_mid old_now new new_mid new_now stop first second fails =
-    both_since s t old old_mid old_now new new_mid new_now (IsDamaged w s t old_now new_now) (IsDamaged w s t old_now new_now) (IsDamaged w t s new_now old_now) (IsDamaged w t s new_now old_now) stop first.failures second.failures (λ d is. is) (λ d is. is) fails
+pub whole_since : {S T : Type 0} (w : ℕ) (s : Ghosts S) (t : Ghosts T) (old old_mid old_now : S) (new new_mid new_now : T) (O O_now : Type 0) (stop : Stop) → OnlyReads s old old_mid → OnlyReads t new new_mid → (O → O_now) → Stops w s t old_mid old_now new_mid new_now O stop → Stops w s t old old_now new new_now O_now stop
+whole_since w s t old old_mid old_now new new_mid new_now O O_now stop first second out fails =
+    both_since s t old old_mid old_now new new_mid new_now (IsDamaged w s t old_now new_now) (IsDamaged w s t old_now new_now) (IsDamaged w t s new_now old_now) (IsDamaged w t s new_now old_now) O O_now stop first.failures second.failures (λ d is. is) (λ d is. is) out fails
 
 -- and a pass over the new one
-pub flipped_stops : {S T : Type 0} (w : ℕ) (s : Ghosts S) (t : Ghosts T) (old old_now : S) (new new_now : T) (stop : Stop) → Stops w t s new new_now old old_now stop → Stops w s t old old_now new new_now (flipped stop)
-flipped_stops w s t old old_now new new_now (Own f) fails = fails
-flipped_stops w s t old old_now new new_now (Other f) fails = fails
+pub flipped_stops : {S T : Type 0} (w : ℕ) (s : Ghosts S) (t : Ghosts T) (old old_now : S) (new new_now : T) (O : Type 0) (stop : Stop) → Stops w t s new new_now old old_now O stop → Stops w s t old old_now new new_now O (flipped stop)
+flipped_stops w s t old old_now new new_now O (Own f) fails = fails
+flipped_stops w s t old old_now new new_now O (Other f) fails = fails

@@ -100,30 +100,30 @@ pub record WritesPassPrefix (w : ℕ) (kind : ChangeKind) (b c : List ℕ)
       → AppendsPrefix start end (changes_text (pass_of kind w b c))
 
 -- why a file is not read any more, or the writer not written to: the store failed, or it has a
--- damage of some kind
-abbrev pub ReadingStops : {S : Type 0} → Ghosts S → (old new : S) → (Damage → Type 0) → ReadFault
-    → Type 0
-ReadingStops s old new P read.Device = s.failures old < s.failures new
-ReadingStops s old new P (read.Table n) = P (damage.Table n)
-ReadingStops s old new P (read.Record place) = P (damage.Record place)
-ReadingStops s old new P read.NoMemory = ⊤
-ReadingStops s old new P read.Output = ⊤
-ReadingStops s old new P fault = ⊥
+-- damage of some kind; or the writer did
+abbrev pub ReadingStops : {S : Type 0} → Ghosts S → (old new : S) → (Damage → Type 0)
+    → (failed : Type 0) → ReadFault → Type 0
+ReadingStops s old new P failed read.Device = s.failures old < s.failures new
+ReadingStops s old new P failed (read.Table n) = P (damage.Table n)
+ReadingStops s old new P failed (read.Record place) = P (damage.Record place)
+ReadingStops s old new P failed read.NoMemory = ⊤
+ReadingStops s old new P failed read.Output = failed
+ReadingStops s old new P failed fault = ⊥
 
 -- which of the two it is
 abbrev pub StopsBy : {S T : Type 0} → Ghosts S → Ghosts T → (own own_now : S) → (other other_now : T)
-    → (mine theirs : Damage → Type 0) → Stop → Type 0
-StopsBy s t own own_now other other_now mine theirs (Own fault) =
-    ReadingStops s own own_now mine fault
-StopsBy s t own own_now other other_now mine theirs (Other fault) =
-    ReadingStops t other other_now theirs fault
+    → (mine theirs : Damage → Type 0) → (failed : Type 0) → Stop → Type 0
+StopsBy s t own own_now other other_now mine theirs failed (Own fault) =
+    ReadingStops s own own_now mine failed fault
+StopsBy s t own own_now other other_now mine theirs failed (Other fault) =
+    ReadingStops t other other_now theirs failed fault
 
 -- a pass stopped
 abbrev pub Stops : {S T : Type 0} → ℕ → Ghosts S → Ghosts T → (own own_now : S)
-    → (other other_now : T) → Stop → Type 0
-Stops w s t own own_now other other_now =
+    → (other other_now : T) → (failed : Type 0) → Stop → Type 0
+Stops w s t own own_now other other_now failed =
     StopsBy s t own own_now other other_now (IsDamaged w s t own_now other_now)
-    (IsDamaged w t s other_now own_now)
+    (IsDamaged w t s other_now own_now) failed
 
 -- the look-up of a key has a damage in a store
 abbrev pub LookHas : {S : Type 0} → ℕ → Ghosts S → S → (key : List ℕ) → Damage → Type 0
@@ -163,10 +163,11 @@ pub record WritesPrefix (w : ℕ) (b c : List ℕ) (start end : Option (List ℕ
 
 -- what writing it leaves, of two files that were opened
 pub record SaysDifference {S T : Type 0} (w : ℕ) (s : Ghosts S) (t : Ghosts T) (old old_now : S)
-    (new new_now : T) (start end : Option (List ℕ)) (result : Result Unit Stop) : Type 0 where
+    (new new_now : T) (start end : Option (List ℕ)) (failed : Type 0) (result : Result Unit Stop)
+    : Type 0 where
   pub old_reads : OnlyReads s old old_now
   pub new_reads : OnlyReads t new new_now
   pub ok : OnOk result (InBoth s t old_now new_now (λ b c. WritesDifference w b c start end))
-  pub err : IfErr result (Stops w s t old old_now new new_now)
+  pub err : IfErr result (Stops w s t old old_now new new_now failed)
   pub front : IfErr result (λ stop.
       InBoth s t old_now new_now (λ b c. WritesPrefix w b c start end))

@@ -147,7 +147,7 @@ pub(crate) fn is_first_changed<L: Width, S: Store, T: Store>(
         → IfOk result (λ changed. changed ≡ is_first_changed L.WORD b c key.now place) }
     ensures fails { IfErr result (StopsBy S.Store T.Store own.old.store own.new.store
         other.old.store other.new.store (LookHas L.WORD S.Store own.new.store key.now)
-        (LookHas L.WORD T.Store other.new.store key.now)) }
+        (LookHas L.WORD T.Store other.new.store key.now) ⊥) }
 {
     let mut finder = own.find(key);
     let Some(first) = finder.next()? else {

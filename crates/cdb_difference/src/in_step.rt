@@ -121,7 +121,7 @@ fn step<L: Width, S: Store, T: Store>(
         marks.new.words.items at.new) }
     ensures goes_on { IfOk result (λ went. went ≡ true → bytes_ahead at.new < bytes_ahead at.old) }
     ensures fails { IfErr result (Stops L.WORD S.Store T.Store own.old.store own.new.store
-        other.old.store other.new.store) }
+        other.old.store other.new.store ⊥) }
 {
     let mut then = at.own;
     let Some(mine) = next_record(own, &mut then)? else {
@@ -166,7 +166,7 @@ pub(crate) fn mark_changed<L: Width, S: Store, T: Store>(
     ensures agree { OnOk result (InBoth S.Store T.Store own.new.store other.new.store (λ b c.
         AgreeUnmarked marks.new.words.items (walk_of L.WORD b).records (walk_of L.WORD c).records)) }
     ensures fails { IfErr result (Stops L.WORD S.Store T.Store own.old.store own.new.store
-        other.old.store other.new.store) }
+        other.old.store other.new.store ⊥) }
 {
     let mut at = Places {
         own: walk(own).bookmark(),

@@ -1,5 +1,5 @@
 // What the difference says of a key.
-ghost use Rattle.std.specs.Prelude.{◌≡◌, ◌+◌, ◌≤◌, ◌++◌, ℕ, List, IfErr, codes, decimal, length};
+ghost use Rattle.std.specs.Prelude.{◌≡◌, ◌+◌, ◌≤◌, ◌++◌, ℕ, List, IfErr, OnErr, codes, decimal, length};
 ghost use Rattle.cdb_form.specs.Format.Record.{record_of};
 ghost use Rattle.cdb_form.specs.Text.Native.{spelling_of};
 ghost use Rattle.cdb_form.specs.Views.KnownBytes.{Writes};
@@ -7,18 +7,19 @@ ghost use Rattle.cdb_store.specs.Reads.{OnlyReads};
 ghost use Rattle.cdb_read.specs.Lookup.{bytes_of};
 ghost use Rattle.cdb_read.specs.Views.Reads.{CopyingFails};
 ghost use Rattle.cdb_difference.specs.Difference.{changes_at, changes_text, LookHas, ReadingStops};
+ghost use Rattle.cdb_read.specs.declared.fault.ReadFault.TheVariants.{Output};
 ghost use Rattle.cdb_form.specs.declared.change.ChangeKind.TheVariants.{Put};
 
-use cdb_form::{ChangeKind, OutFault, Width, write_pieces, write_removal, write_whole};
+use cdb_form::{ChangeKind, OutFault, Sink, Width, write_pieces, write_removal, write_whole};
 use cdb_read::{Finder, ReadFault, Reader, Span};
 use cdb_store::Store;
 use itoa::Buffer;
-use std::io::Write;
 
 /// Writes what comes before the value of a put. After an `OutFault` the writer holds a prefix of it.
-fn write_put_head<W: Write>(w: &mut W, key: &[u8], vlen: u64) -> Result<(), OutFault>
-    ensures { Writes result (W.contents w.old) (W.contents w.new) (codes "+" ++ decimal (length key.now)
+fn write_put_head<W: Sink>(w: &mut W, key: &[u8], vlen: u64) -> Result<(), OutFault>
+    ensures writes { Writes result (W.contents w.old) (W.contents w.new) (codes "+" ++ decimal (length key.now)
         ++ codes "," ++ decimal vlen ++ codes ":" ++ key.now ++ codes "->") }
+    ensures failed { OnErr result (W.failed w.new) }
 {
     let mut klen = Buffer::new();
     let mut spelled = Buffer::new();
@@ -29,7 +30,7 @@ fn write_put_head<W: Write>(w: &mut W, key: &[u8], vlen: u64) -> Result<(), OutF
 
 /// Writes a put of a key and a value that a finder gave, whose bytes go from the store to the writer
 /// in pieces. After a fault the writer holds a prefix of it.
-pub fn write_put<L: Width, S: Store, W: Write>(
+pub fn write_put<L: Width, S: Store, W: Sink>(
     finder: &mut Finder<'_, S, L>,
     key: &[u8],
     value: Span,
@@ -45,6 +46,7 @@ pub fn write_put<L: Width, S: Store, W: Write>(
         (spelling_of (record_of key.now (bytes_of b value))) }
     ensures fails { IfErr result
         (CopyingFails S.Store finder.old.reader.now.store finder.new.reader.now.store) }
+    ensures failed { IfErr result (λ fault. fault ≡ Output → W.failed w.new) }
 {
     write_put_head(w, key, value.len)?;
     finder.copy(value, w)?;
@@ -54,7 +56,7 @@ pub fn write_put<L: Width, S: Store, W: Write>(
 
 /// Writes a put for each value of a key, in the order in which a look-up gives them. After a fault the
 /// writer holds a prefix of that.
-fn write_puts<L: Width, S: Store, W: Write>(
+fn write_puts<L: Width, S: Store, W: Sink>(
     reader: &mut Reader<S, L>,
     key: &[u8],
     w: &mut W,
@@ -65,7 +67,7 @@ fn write_puts<L: Width, S: Store, W: Write>(
         (changes_text (changes_at Put L.WORD b key.now)) }
     ensures fails { IfErr result
         (ReadingStops S.Store reader.old.store reader.new.store
-        (LookHas L.WORD S.Store reader.new.store key.now)) }
+        (LookHas L.WORD S.Store reader.new.store key.now) (W.failed w.new)) }
 {
     let mut finder = reader.find(key);
     while let Some(value) = finder.next()? {
@@ -76,7 +78,7 @@ fn write_puts<L: Width, S: Store, W: Write>(
 
 /// Writes what the difference says of a changed key: that it is removed, or its puts. After a fault
 /// the writer holds a prefix of that.
-pub(crate) fn write_changes<L: Width, S: Store, W: Write>(
+pub(crate) fn write_changes<L: Width, S: Store, W: Sink>(
     reader: &mut Reader<S, L>,
     kind: ChangeKind,
     key: &[u8],
@@ -88,7 +90,7 @@ pub(crate) fn write_changes<L: Width, S: Store, W: Write>(
         (changes_text (changes_at kind L.WORD b key.now)) }
     ensures fails { IfErr result
         (ReadingStops S.Store reader.old.store reader.new.store
-        (LookHas L.WORD S.Store reader.new.store key.now)) }
+        (LookHas L.WORD S.Store reader.new.store key.now) (W.failed w.new)) }
 {
     match kind {
         ChangeKind::Put => write_puts(reader, key, w),

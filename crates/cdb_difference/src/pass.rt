@@ -14,11 +14,10 @@ use crate::mark_hash::mark_hash;
 use crate::marks::Marks;
 use crate::records::next_record;
 use crate::stop::Stop;
-use cdb_form::{ChangeKind, Width};
+use cdb_form::{ChangeKind, Sink, Width};
 use cdb_read::{PlacedRecord, Reader, walk};
 use cdb_store::Store;
 use std::alloc::Global;
-use std::io::Write;
 
 /// How many bytes of a value are compared at once.
 const PIECE: usize = 4096;
@@ -46,7 +45,7 @@ fn is_change<L: Width, S: Store, T: Store>(
         && is_first_changed L.WORD b c (bytes_of b pair.key) pair.value.place)) }
     ensures fails { IfErr result (StopsBy S.Store T.Store own.old.store own.new.store
         other.old.store other.new.store (OwnLookHas L.WORD S.Store own.new.store pair.key)
-        (OtherLookHas L.WORD S.Store T.Store own.new.store other.new.store pair.key)) }
+        (OtherLookHas L.WORD S.Store T.Store own.new.store other.new.store pair.key) ⊥) }
 {
     let hash = mark_hash(own, pair.key)?;
     if !marks.has(hash) {
@@ -59,7 +58,7 @@ fn is_change<L: Width, S: Store, T: Store>(
 /// Writes what the difference says of each key of a database whose values in the other one are
 /// others, where the first record of the key is: removals or puts. A key whose mark is not set has the
 /// same values in both walks, and is not looked up. After a `Stop` the writer holds a prefix of that.
-pub(crate) fn write_pass<L: Width, S: Store, T: Store, W: Write>(
+pub(crate) fn write_pass<L: Width, S: Store, T: Store, W: Sink>(
     alloc: Global,
     own: &mut Reader<S, L>,
     other: &mut Reader<T, L>,
@@ -76,7 +75,7 @@ pub(crate) fn write_pass<L: Width, S: Store, T: Store, W: Write>(
     ensures front { IfErr result (λ stop. InBoth S.Store T.Store own.new.store other.new.store
         (λ b c. WritesPassPrefix L.WORD kind b c (W.contents w.old) (W.contents w.new))) }
     ensures fails { IfErr result (Stops L.WORD S.Store T.Store own.old.store own.new.store
-        other.old.store other.new.store) }
+        other.old.store other.new.store (W.failed w.new)) }
 {
     let mut key = Vec::new(alloc);
     let mut mine = [0u8; PIECE];

@@ -6,11 +6,10 @@ use crate::in_step::mark_changed;
 use crate::marks::Marks;
 use crate::pass::write_pass;
 use crate::stop::Stop;
-use cdb_form::{ChangeKind, Width, write_end};
+use cdb_form::{ChangeKind, Sink, Width, write_end};
 use cdb_read::Reader;
 use cdb_store::Store;
 use std::alloc::Global;
-use std::io::Write;
 
 /// Writes what changed between two databases, the old one and the new one, as an amending text.
 ///
@@ -25,14 +24,14 @@ use std::io::Write;
 /// KiB and that of the longest key.
 ///
 /// After a `Stop`, whose own database is the old one, a prefix of the text was written.
-pub fn write_difference<L: Width, S: Store, T: Store, W: Write>(
+pub fn write_difference<L: Width, S: Store, T: Store, W: Sink>(
     alloc: Global,
     old: &mut Reader<S, L>,
     new: &mut Reader<T, L>,
     w: &mut W,
 ) -> Result<(), Stop>
     ensures { SaysDifference L.WORD S.Store T.Store old.old.store old.new.store new.old.store
-        new.new.store (W.contents w.old) (W.contents w.new) result }
+        new.new.store (W.contents w.old) (W.contents w.new) (W.failed w.new) result }
 {
     let mut marks = Marks::new(alloc)?;
     mark_changed(old, new, &mut marks)?;

@@ -5,13 +5,13 @@ ghost use Rattle.cdb_form.specs.Views.KnownBytes.{Writes};
 ghost use Rattle.cdb_store.specs.Images.{AfterRead};
 ghost use Rattle.cdb_read.specs.Lookup.{bytes_of};
 ghost use Rattle.cdb_store.specs.Reads.{OnlyReads};
+ghost use Rattle.cdb_read.specs.declared.fault.ReadFault.TheVariants.{Output};
 ghost use Rattle.cdb_read.specs.Views.Reads.{StoreFails, CopyingFails, ValueFails};
 
 use crate::fault::ReadFault;
 use crate::span::Span;
-use cdb_form::write_whole;
+use cdb_form::{Sink, write_whole};
 use cdb_store::Store;
-use std::io::Write;
 
 /// Fills `into` with the bytes from a place on.
 pub(crate) fn read_part<S: Store>(
@@ -31,7 +31,7 @@ pub(crate) fn read_part<S: Store>(
 }
 
 /// Writes the bytes of a span, as many at once as a piece has.
-pub(crate) fn copy_span<S: Store, W: Write>(
+pub(crate) fn copy_span<S: Store, W: Sink>(
     store: &mut S,
     span: Span,
     piece: &mut [u8],
@@ -44,6 +44,7 @@ pub(crate) fn copy_span<S: Store, W: Write>(
     ensures copies { (b : List ℕ) → S.image store.new b
         → Writes result (W.contents w.old) (W.contents w.new) (bytes_of b span) }
     ensures fails { IfErr result (CopyingFails S.Store store.old store.new) }
+    ensures failed { IfErr result (λ fault. fault ≡ Output → W.failed w.new) }
 {
     let mut done = 0;
     while done < span.len {

@@ -7,6 +7,7 @@ ghost use Rattle.cdb_form.specs.Views.KnownBytes.{Writes};
 ghost use Rattle.cdb_read.specs.Lookup.{bytes_of};
 ghost use Rattle.cdb_read.specs.OtherWidth.{lacks_tables};
 ghost use Rattle.cdb_store.specs.Reads.{OnlyReads};
+ghost use Rattle.cdb_read.specs.declared.fault.ReadFault.TheVariants.{Output};
 ghost use Rattle.cdb_read.specs.Views.Reads.{OpeningFails, CopyingFails, ValueFails};
 ghost use Rattle.cdb_read.specs.Views.Window.{Shows};
 
@@ -15,10 +16,9 @@ use crate::pieces::{copy_span, read_part, take_span};
 use crate::span::Span;
 use crate::tables::any_slots;
 use crate::window::{WINDOW, Window};
-use cdb_form::{Head, Width, head_size, read_head, write_whole};
+use cdb_form::{Head, Sink, Width, head_size, read_head, write_whole};
 use cdb_store::Store;
 use std::alloc::Global;
-use std::io::Write;
 use std::marker::PhantomData;
 
 /// A store in which no database was opened, and why.
@@ -93,12 +93,13 @@ impl<S: Store, L: Width> Reader<S, L> {
     /// Writes the bytes of a span, which lies inside the file. What was read ahead is not read
     /// again. After a fault the writer holds a prefix of them.
     #[inline(always)]
-    pub fn copy<W: Write>(&mut self, span: Span, w: &mut W) -> Result<(), ReadFault>
+    pub fn copy<W: Sink>(&mut self, span: Span, w: &mut W) -> Result<(), ReadFault>
         requires inside { span.place + span.len ≤ S.size self.old.store }
         ensures reads { OnlyReads S.Store self.old.store self.new.store }
         ensures copies { (b : List ℕ) → S.image self.new.store b
             → Writes result (W.contents w.old) (W.contents w.new) (bytes_of b span) }
         ensures fails { IfErr result (CopyingFails S.Store self.old.store self.new.store) }
+        ensures failed { IfErr result (λ fault. fault ≡ Output → W.failed w.new) }
     {
         if self.window.covers(span.place, span.len) {
             write_whole(w, self.window.shown(span.place, span.len as usize))?;

@@ -5,6 +5,7 @@ ghost use Rattle.cdb_form.specs.Format.Hash.{key_hash};
 ghost use Rattle.cdb_form.specs.Views.KnownBytes.{Writes};
 ghost use Rattle.cdb_read.specs.Lookup.{bytes_of, lookup_of};
 ghost use Rattle.cdb_store.specs.Reads.{OnlyReads};
+ghost use Rattle.cdb_read.specs.declared.fault.ReadFault.TheVariants.{Output};
 ghost use Rattle.cdb_read.specs.Views.Reads.{StoreFails, CopyingFails};
 ghost use Rattle.cdb_read.specs.Views.Search.{found_ahead, Meets, MetWithin};
 ghost use Rattle.cdb_read.specs.Views.Probing.{ProbeInside, IsSearchInside};
@@ -15,9 +16,8 @@ use crate::lookup::search::{Met, next_met};
 use crate::reader::Reader;
 use crate::span::Span;
 use crate::window::WINDOW;
-use cdb_form::{Width, hash, table_number};
+use cdb_form::{Sink, Width, hash, table_number};
 use cdb_store::Store;
-use std::io::Write;
 
 /// How many bytes are read at once up to the first value: of most records the key and the value.
 const SHORT_RECORD: usize = 256;
@@ -177,7 +177,7 @@ impl<'a, S: Store, L: Width> Finder<'a, S, L> {
     }
 
     /// Writes the bytes of a span, as `Reader::copy` does. What is left of the look-up stays.
-    pub fn copy<W: Write>(&mut self, span: Span, w: &mut W) -> Result<(), ReadFault>
+    pub fn copy<W: Sink>(&mut self, span: Span, w: &mut W) -> Result<(), ReadFault>
         requires inside { span.place + span.len ≤ S.size self.old.reader.now.store }
         ensures same_reader { self.new.reader.ghost_name ≡ self.old.reader.ghost_name }
         ensures key { self.new.key.now ≡ self.old.key.now }
@@ -187,6 +187,7 @@ impl<'a, S: Store, L: Width> Finder<'a, S, L> {
             → Writes result (W.contents w.old) (W.contents w.new) (bytes_of b span) }
         ensures fails { IfErr result
             (CopyingFails S.Store self.old.reader.now.store self.new.reader.now.store) }
+        ensures failed { IfErr result (λ fault. fault ≡ Output → W.failed w.new) }
     {
         self.reader.copy(span, w)
     }

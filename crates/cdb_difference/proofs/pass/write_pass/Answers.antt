@@ -79,7 +79,7 @@ loop-key-preserved g c =
           let theirs = first.other_reads.images d it in
           let key = bytes_of b pair.key in
           let test = sym c.if-branch.false ∙ c.in_ok-is_change.ensures.change b d is it in
-          unchanged w c.args.kind b d _ _ _ _ pair key (is_marked c.args.marks.now.words.items key) _ _ (g.W.Write.contents c.args.w.now) some
+          unchanged w c.args.kind b d _ _ _ _ pair key (is_marked c.args.marks.now.words.items key) _ _ (g.W.Sink.contents c.args.w.now) some
           (λ no. c.requires.agree b d (inv.own_reads.images b earlier) (inv.other_reads.images d theirs) key no)
           (inv.passed b d earlier theirs) (one.first b mine) one.lies one.next
           (subst (λ (n : ℕ). behind pair ≤ n) (sym (g.met.S.Store.image_size c.next_record.new.reader.store b mine)) one.inside) refl test;
@@ -125,10 +125,11 @@ returns-in_err-is_change-clause-fails g c =
     passed_key w b listed.done _ _ (record_in b pair) listed.all (one.first b mine) in
     rw (p.1, p.2)
     (both_since g.S.Store g.T.Store c.args.own.now.store c.next_record.new.reader.store own c.args.other.now.store c.loop-key.other.store other
-    (OwnLookHas w g.S.Store own pair.key) (IsDamaged w g.S.Store g.T.Store own other) (OtherLookHas w g.S.Store g.T.Store own other pair.key) (IsDamaged w g.T.Store g.S.Store other own)
+    (OwnLookHas w g.S.Store own pair.key) (IsDamaged w g.S.Store g.T.Store own other) (OtherLookHas w g.S.Store g.T.Store own other pair.key) (IsDamaged w g.T.Store g.S.Store other own) _ _
     c.in_err-is_change.field-0.0 before.failures inv.other_reads.failures
     (λ damage found b d is it. inr (bytes_of b pair.key, inl (has b d is it), found b is))
     (λ damage found d b it is. inr (bytes_of b pair.key, inr (has b d is it), found b d is it))
+    (λ no. absurd no)
     c.in_err-is_change.ensures.fails)
 
 pub returns-in_err-write_changes-clause-fails : goal.returns-in_err-write_changes-clause-fails
@@ -145,7 +146,7 @@ returns-in_err-write_changes-clause-fails g c =
     let other = c.is_change.new.other.store in
     rw (p.1, p.2)
     (stops_since g.S.Store c.args.own.now.store c.is_change.new.own.store own own
-    (LookHas w g.S.Store own c.deref.result.now) (IsDamaged w g.S.Store g.T.Store own other) c.in_err-write_changes.field-0.0 before.failures (omega arith)
+    (LookHas w g.S.Store own c.deref.result.now) (IsDamaged w g.S.Store g.T.Store own other) _ _ c.in_err-write_changes.field-0.0 before.failures (omega arith)
     (λ damage found b d is it.
     let second = said.reads.images b is in
     let mine = first.own_reads.images b second in
@@ -153,6 +154,7 @@ returns-in_err-write_changes-clause-fails g c =
     let listed = (inv.passed b d earlier (first.other_reads.images d it)).listed in
     let key_is = c.deref.ensures.value ∙ c.in_ok-is_change.ensures.key b second (cc) in
     inr (bytes_of b pair.key, inl (passed_key w b listed.done _ _ (record_in b pair) listed.all (one.first b mine)), ap (λ k. (lookup_of w b k).damage) (sym key_is) ∙ found b is))
+    (λ failed. failed)
     c.in_err-write_changes.ensures.fails)
 
 pub returns-in_err-write_changes-clause-front : goal.returns-in_err-write_changes-clause-front

@@ -14,7 +14,7 @@ invariant-loop-key g l =
       other_reads : OnlyReads g.T.Store l.fn.other.store l.other.store;
       walked : (b : List ℕ) → g.S.Store.image l.own.store b → (walk_of g.L.Width.WORD b).damage ≡ (left_from g.L.Width.WORD b l.bookmark).damage;
       passed : (b c : List ℕ) → g.S.Store.image l.own.store b → g.T.Store.image l.other.store c
-          → PassSoFar g.L.Width.WORD l.kind b c (left_from g.L.Width.WORD b l.bookmark) (next_place g.L.Width.WORD l.bookmark.walking) (g.W.Write.contents l.fn.w) (g.W.Write.contents l.w);
+          → PassSoFar g.L.Width.WORD l.kind b c (left_from g.L.Width.WORD b l.bookmark) (next_place g.L.Width.WORD l.bookmark.walking) (g.W.Sink.contents l.fn.w) (g.W.Sink.contents l.w);
     }
 
 abbrev pub decreases-loop-key : goal.decreases-loop-key

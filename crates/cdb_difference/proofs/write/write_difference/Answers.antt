@@ -37,7 +37,7 @@ returns-in_err-mark_changed g c =
       old_reads = marks.own_reads;
       new_reads = marks.other_reads;
       ok = tt;
-      err = c.in_err-mark_changed.ensures.fails;
+      err = whole_since g.L.Width.WORD g.S.Store g.T.Store _ _ _ _ _ _ _ _ c.in_err-mark_changed.field-0.0 (reads_none g.S.Store c.args.old.now.store) (reads_none g.T.Store c.args.new.now.store) (λ no. absurd no) c.in_err-mark_changed.ensures.fails;
       front = λ b d is it. nothing_written g.L.Width.WORD b d _;
     })
 
@@ -52,7 +52,7 @@ returns-in_err-write_pass g c =
       old_reads = reads_more marks.own_reads pass.own_reads;
       new_reads = reads_more marks.other_reads pass.other_reads;
       ok = tt;
-      err = whole_since g.L.Width.WORD g.S.Store g.T.Store _ _ _ _ _ _ c.in_err-write_pass.field-0.0 marks.own_reads marks.other_reads stop.fails;
+      err = whole_since g.L.Width.WORD g.S.Store g.T.Store _ _ _ _ _ _ _ _ c.in_err-write_pass.field-0.0 marks.own_reads marks.other_reads (λ failed. failed) stop.fails;
       front = λ b d is it. prefix_first g.L.Width.WORD b d _ _ (stop.front b d is it);
     })
 
@@ -68,8 +68,8 @@ returns-in-Err g c =
       old_reads = reads_more old_reads second.other_reads;
       new_reads = reads_more new_reads second.own_reads;
       ok = tt;
-      err = subst (Stops g.L.Width.WORD g.S.Store g.T.Store _ _ _ _) (sym c.flipped.ensures)
-          (whole_since g.L.Width.WORD g.S.Store g.T.Store _ _ _ _ _ _ _ old_reads new_reads (flipped_stops g.L.Width.WORD g.S.Store g.T.Store _ _ _ _ c.in-Err.stop stop.fails));
+      err = subst (Stops g.L.Width.WORD g.S.Store g.T.Store _ _ _ _ _) (sym c.flipped.ensures)
+          (whole_since g.L.Width.WORD g.S.Store g.T.Store _ _ _ _ _ _ _ _ _ old_reads new_reads (λ failed. failed) (flipped_stops g.L.Width.WORD g.S.Store g.T.Store _ _ _ _ _ c.in-Err.stop stop.fails));
       front = λ b d is it. prefix_second g.L.Width.WORD b d _ _ _ (c.in_ok-write_pass.ensures.ok b d (second.other_reads.images b is) (second.own_reads.images d it)) (stop.front d b it is);
     }
 
@@ -84,9 +84,9 @@ returns-in_err-write_end g c =
       old_reads = reads_more (reads_more marks.own_reads first.own_reads) second.other_reads;
       new_reads = reads_more (reads_more marks.other_reads first.other_reads) second.own_reads;
       ok = tt;
-      err = tt;
+      err = c.in_err-write_end.ensures.failed;
       front = λ b d is it.
-          prefix_end g.L.Width.WORD b d _ _ _ _ (c.in_ok-write_pass.ensures.ok b d (second.other_reads.images b is) (second.own_reads.images d it)) (c.in-Ok.ensures.ok d b it is) c.in_err-write_end.ensures.err;
+          prefix_end g.L.Width.WORD b d _ _ _ _ (c.in_ok-write_pass.ensures.ok b d (second.other_reads.images b is) (second.own_reads.images d it)) (c.in-Ok.ensures.ok d b it is) c.in_err-write_end.ensures.writes.err;
     })
 
 pub returns : goal.returns
@@ -98,7 +98,7 @@ returns g c =
       old_reads = reads_more (reads_more marks.own_reads first.own_reads) second.other_reads;
       new_reads = reads_more (reads_more marks.other_reads first.other_reads) second.own_reads;
       ok = λ b d is it.
-          difference_written g.L.Width.WORD b d _ _ _ _ (c.in_ok-write_pass.ensures.ok b d (second.other_reads.images b is) (second.own_reads.images d it)) (c.in-Ok.ensures.ok d b it is) c.in_ok-write_end.ensures.ok;
+          difference_written g.L.Width.WORD b d _ _ _ _ (c.in_ok-write_pass.ensures.ok b d (second.other_reads.images b is) (second.own_reads.images d it)) (c.in-Ok.ensures.ok d b it is) c.in_ok-write_end.ensures.writes.ok;
       err = tt;
       front = tt;
     }

@@ -15,7 +15,7 @@ returns-in_err-write_whole-clause-copies g c = λ b is.
     let p = err_from_is_err_and c.from_residual-in_err-write_whole.result c.from_residual-in_err-write_whole.ensures.1 in
     let l : length c.read_part.new.into ≡ c.min-n.result = search rules in
     let rest : ℕ = c.args.span.len - (c.loop-done.done + c.min-n.result) in
-    writes_prefix _ _ _ _ _ p.1 (copied_piece {place = c.args.span.place} {done = c.loop-done.done} rest (omega arith) refl l c.loop-done.invariant.copied c.in_ok-read_part.ensures.read c.in_err-write_whole.ensures.err b is)
+    writes_prefix _ _ _ _ _ p.1 (copied_piece {place = c.args.span.place} {done = c.loop-done.done} rest (omega arith) refl l c.loop-done.invariant.copied c.in_ok-read_part.ensures.read c.in_err-write_whole.ensures.writes.err b is)
 
 pub loop-done-preserved : goal.loop-done-preserved
 loop-done-preserved g c =
@@ -24,5 +24,5 @@ loop-done-preserved g c =
       within = omega arith;
       piece = simp (length-append, length-drop) (omega (arith, l, c.loop-done.invariant.piece));
       reads = reads_more c.loop-done.invariant.reads c.read_part.ensures.reads;
-      copied = copied_more {place = c.args.span.place} {done = c.loop-done.done} refl l c.loop-done.invariant.copied c.in_ok-read_part.ensures.read c.in_ok-write_whole.ensures.ok;
+      copied = copied_more {place = c.args.span.place} {done = c.loop-done.done} refl l c.loop-done.invariant.copied c.in_ok-read_part.ensures.read c.in_ok-write_whole.ensures.writes.ok;
     }

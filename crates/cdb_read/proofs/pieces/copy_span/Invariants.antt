@@ -8,7 +8,7 @@ invariant-loop-done g l = record {
   within : l.done ≤ l.span.len;
   piece : length l.piece ≡ length l.fn.piece;
   reads : OnlyReads g.S.Store l.fn.store l.store;
-  copied : HasCopied l.span.place l.done (g.W.Write.contents l.fn.w) (g.W.Write.contents l.w) (g.S.Store.image l.store);
+  copied : HasCopied l.span.place l.done (g.W.Sink.contents l.fn.w) (g.W.Sink.contents l.w) (g.S.Store.image l.store);
 }
 
 abbrev pub decreases-loop-done : goal.decreases-loop-done

@@ -11,7 +11,7 @@ invariant-loop-span g l =
       same : l.finder.reader.ghost_name ≡ l.initial.finder.reader.ghost_name;
       key : l.finder.key.now ≡ l.key;
       reads : OnlyReads g.S.Store l.fn.reader.store l.finder.reader.now.store;
-      asked : AskedSoFar g.L.Width.WORD l.key (g.S.Store.image l.fn.reader.store) (g.S.Store.image l.finder.reader.now.store) (λ b. left_in g.L.Width.WORD b l.finder) (g.W.Write.contents l.fn.w) (g.W.Write.contents l.w);
+      asked : AskedSoFar g.L.Width.WORD l.key (g.S.Store.image l.fn.reader.store) (g.S.Store.image l.finder.reader.now.store) (λ b. left_in g.L.Width.WORD b l.finder) (g.W.Sink.contents l.fn.w) (g.W.Sink.contents l.w);
     }
 
 abbrev pub decreases-loop-span : goal.decreases-loop-span

@@ -14,10 +14,10 @@ returns-clause-copies g c = search rules
 pub returns-then-covers-clause-copies : goal.returns-then-covers-clause-copies
 returns-then-covers-clause-copies g c = λ b image.
     let is = c.shown.ensures.is ∙ shown_is c.args.self.now.window (g.S.Store.image c.args.self.now.store) c.args.span.place c.args.span.len c.args.self.now.shows (OnTrue_at c.if-covers.true c.covers.ensures) b image in
-    record { ok = same_appends _ _ _ _ is c.in_ok-write_whole.ensures.ok; err = tt }
+    record { ok = same_appends _ _ _ _ is c.in_ok-write_whole.ensures.writes.ok; err = tt }
 
 pub returns-in_err-write_whole-clause-copies : goal.returns-in_err-write_whole-clause-copies
 returns-in_err-write_whole-clause-copies g c = λ b image.
     let p = err_from_is_err_and c.from_residual.result c.from_residual.ensures.1 in
     let is = c.shown.ensures.is ∙ shown_is c.args.self.now.window (g.S.Store.image c.args.self.now.store) c.args.span.place c.args.span.len c.args.self.now.shows (OnTrue_at c.if-covers.true c.covers.ensures) b image in
-    writes_prefix _ _ _ _ _ p.1 (same_prefix _ _ _ _ is c.in_err-write_whole.ensures.err)
+    writes_prefix _ _ _ _ _ p.1 (same_prefix _ _ _ _ is c.in_err-write_whole.ensures.writes.err)

@@ -16,7 +16,7 @@ loop-fault-init g c = record {
   gave = keys_none g.L.Width.GREATEST g.R.Read.remaining _ c.args.keys c.requires.fresh refl;
   form = refl;
   reads = reads_none g.S.Store c.args.reader.now.store;
-  looked = λ before start h. subst (λ k. HasLooked g.L.Width.WORD g.S.Store c.args.number c.args.style k c.args.reader.now.store start (g.W.Write.contents c.args.w.now) c.args.missing.now) (sym (append-nil before)) h;
+  looked = λ before start h. subst (λ k. HasLooked g.L.Width.WORD g.S.Store c.args.number c.args.style k c.args.reader.now.store start (g.W.Sink.contents c.args.w.now) c.args.missing.now) (sym (append-nil before)) h;
 }
 
 pub returns-in-Err-clause-fails : goal.returns-in-Err-clause-fails
@@ -54,7 +54,7 @@ loop-fault-preserved-in-Ok g c =
       form = same_form greatest remaining c.loop-fault.keys new key one ∙ inv.form;
       reads = reads_more inv.reads query.reads;
       looked = λ before start h.
-          subst (λ k. HasLooked g.L.Width.WORD g.S.Store c.args.number c.args.style k c.look_up_record.new.reader.store start (g.W.Write.contents c.look_up_record.new.w) c.loop-fault.missing)
+          subst (λ k. HasLooked g.L.Width.WORD g.S.Store c.args.number c.args.style k c.look_up_record.new.reader.store start (g.W.Sink.contents c.look_up_record.new.w) c.loop-fault.missing)
           (keys_behind before inv.last more.item key more.has)
           (found_more _ g.S.Store _ _ _ key _ _ start _ _ c.loop-fault.missing (inv.looked before start h) query);
     }
@@ -76,7 +76,7 @@ loop-fault-preserved g c =
       form = same_form greatest remaining c.loop-fault.keys new key one ∙ inv.form;
       reads = reads_more inv.reads query.reads;
       looked = λ before start h.
-          subst (λ k. HasLooked g.L.Width.WORD g.S.Store c.args.number c.args.style k c.look_up_record.new.reader.store start (g.W.Write.contents c.look_up_record.new.w) true)
+          subst (λ k. HasLooked g.L.Width.WORD g.S.Store c.args.number c.args.style k c.look_up_record.new.reader.store start (g.W.Sink.contents c.look_up_record.new.w) true)
           (keys_behind before inv.last more.item key more.has)
           (missing_more _ g.S.Store _ _ _ key _ _ start _ _ c.loop-fault.missing (inv.looked before start h) query);
     }

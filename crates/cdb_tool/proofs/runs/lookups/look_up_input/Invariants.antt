@@ -15,8 +15,8 @@ invariant-loop-fault g l =
       gave : GaveKeys g.L.Width.GREATEST g.R.Read.remaining (unread g.R.Read.remaining l.fn.keys) l.keys last;
       form : form_of l.keys ≡ form_of l.fn.keys;
       reads : OnlyReads g.S.Store l.fn.reader.store l.reader.store;
-      looked : (before : List (List ℕ)) (start : Option (List ℕ)) → HasLooked g.L.Width.WORD g.S.Store l.number l.style before l.fn.reader.store start (g.W.Write.contents l.fn.w) l.fn.missing
-          → HasLooked g.L.Width.WORD g.S.Store l.number l.style (before ++ keys_of last) l.reader.store start (g.W.Write.contents l.w) l.missing;
+      looked : (before : List (List ℕ)) (start : Option (List ℕ)) → HasLooked g.L.Width.WORD g.S.Store l.number l.style before l.fn.reader.store start (g.W.Sink.contents l.fn.w) l.fn.missing
+          → HasLooked g.L.Width.WORD g.S.Store l.number l.style (before ++ keys_of last) l.reader.store start (g.W.Sink.contents l.w) l.missing;
     }
 
 abbrev pub decreases-loop-fault : goal.decreases-loop-fault

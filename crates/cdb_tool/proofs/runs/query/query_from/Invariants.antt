@@ -10,7 +10,7 @@ invariant-loop-value g l =
     record {
       same : l.finder.reader.ghost_name ≡ l.fn.finder.reader.ghost_name;
       key : l.finder.key.now ≡ l.fn.finder.key.now;
-      written : WrittenSoFar g.L.Width.WORD (λ b. left_in g.L.Width.WORD b l.fn.finder) (shown_text l.shown) l.fn.finder.reader.now.store l.finder (g.W.Write.contents l.fn.w) (g.W.Write.contents l.w) l.found;
+      written : WrittenSoFar g.L.Width.WORD (λ b. left_in g.L.Width.WORD b l.fn.finder) (shown_text l.shown) l.fn.finder.reader.now.store l.finder (g.W.Sink.contents l.fn.w) (g.W.Sink.contents l.w) l.found;
     }
 
 abbrev pub decreases-loop-value : goal.decreases-loop-value

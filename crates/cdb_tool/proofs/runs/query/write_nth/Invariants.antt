@@ -9,7 +9,7 @@ invariant-loop-value g l =
     record {
       same : l.finder.reader.ghost_name ≡ l.initial.finder.reader.ghost_name;
       key : l.finder.key.now ≡ l.key;
-      passed : PassedSoFar g.L.Width.WORD l.key l.fn.reader.store l.finder l.number l.left (g.W.Write.contents l.fn.w) (g.W.Write.contents l.w);
+      passed : PassedSoFar g.L.Width.WORD l.key l.fn.reader.store l.finder l.number l.left (g.W.Sink.contents l.fn.w) (g.W.Sink.contents l.w);
     }
 
 abbrev pub decreases-loop-value : goal.decreases-loop-value

@@ -5,7 +5,7 @@ use Rattle.cdb_tool.specs.Runs.Form.{form_of}
 use Rattle.cdb_tool.proofs.runs.walk_text.write_unflushed.Goals as goal
 
 pub loop-peeked-init : goal.loop-peeked-init
-loop-peeked-init g c = written_none g.L.Width.WORD (form_of c.args.content c.args.style) g.R.Read.remaining c.args.records.now (g.W.Write.contents c.args.w.now) c.requires
+loop-peeked-init g c = written_none g.L.Width.WORD (form_of c.args.content c.args.style) g.R.Read.remaining c.args.records.now (g.W.Sink.contents c.args.w.now) c.requires
 
 -- a record that was shown
 pub loop-peeked-preserved-in-Continue-1 : goal.loop-peeked-preserved-in-Continue-1
