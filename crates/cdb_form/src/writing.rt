@@ -30,7 +30,7 @@ impl Error for OutFault {}
 pub trait Sink {
     /// The bytes that it holds, where they are known.
     ghost contents: { Self → Option (List ℕ) };
-    /// That it has failed. Of a `Write` nobody knows it.
+    /// That it has failed, which stays so. Of a `Write` nobody knows it.
     ghost failed: { Self → Type 0 };
 
     /// Writes some of the bytes, at least one, and answers how many.
@@ -42,12 +42,14 @@ pub trait Sink {
         ensures ok { IfOk result (λ n.
             Appends (contents self.old) (contents self.new) (take n bytes.now)) }
         ensures err { OnErr result (Keeps (contents self.old) (contents self.new)) }
-        ensures failed { OnErr result (failed self.new) };
+        ensures failed { OnErr result (failed self.new) }
+        ensures stays { failed self.old → failed self.new };
 
     /// Hands on what it holds back.
     fn flush_whole(&mut self) -> Result<(), OutFault>
         ensures bytes { Keeps (contents self.old) (contents self.new) }
-        ensures failed { OnErr result (failed self.new) };
+        ensures failed { OnErr result (failed self.new) }
+        ensures stays { failed self.old → failed self.new };
 }
 
 /// A call is made again if a signal interrupts it, up to 1000 times in a row.
@@ -99,6 +101,7 @@ pub fn write_some<W: Sink>(w: &mut W, bytes: &[u8]) -> Result<usize, OutFault>
         Appends (W.contents w.old) (W.contents w.new) (take n bytes.now)) }
     ensures err { OnErr result (Keeps (W.contents w.old) (W.contents w.new)) }
     ensures failed { OnErr result (W.failed w.new) }
+    ensures stays { W.failed w.old → W.failed w.new }
 {
     w.write_some(bytes)
 }
@@ -189,6 +192,7 @@ pub fn write_pieces<W: Sink>(w: &mut W, pieces: &[&[u8]]) -> Result<(), OutFault
 pub fn flush_whole<W: Sink>(w: &mut W) -> Result<(), OutFault>
     ensures bytes { Keeps (W.contents w.old) (W.contents w.new) }
     ensures failed { OnErr result (W.failed w.new) }
+    ensures stays { W.failed w.old → W.failed w.new }
 {
     w.flush_whole()
 }
