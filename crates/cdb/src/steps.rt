@@ -16,7 +16,7 @@ use crate::performing::perform_in;
 use crate::system::System;
 use crate::telling::{refuse, tell};
 use cdb_files::Names;
-use cdb_form::{Narrow, Wide};
+use cdb_form::{Narrow, Sink, Wide};
 use cdb_tool::{Command, DONE, Fault, Output, explains, plan, status_of};
 use std::alloc::Global;
 use std::io::{Read, Write};
@@ -70,7 +70,7 @@ where
     let (left, status) = answer::<Y, N, I, O, E>(
         alloc, system, names, words, input, output, errors,
     );
-    let _ = errors.flush();
+    let _ = errors.flush_whole();
     (left, status)
 }
 
@@ -219,7 +219,7 @@ fn handed_on<O: Write>(output: &mut Output<O>, answer: Result<(), Fault>) -> Res
         (OutputFailed output.new) answer result }
     ensures handed { HasHandedOn output.new }
 {
-    match (answer, output.flush()) {
+    match (answer, output.flush_whole()) {
         (answer, Ok(())) => answer,
         (Ok(()), Err(_)) => Err(Fault::Output),
         (Err(Fault::Missing), Err(_)) => Err(Fault::Output),

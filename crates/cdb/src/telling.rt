@@ -6,7 +6,7 @@ ghost use Rattle.cdb_tool.specs.Message.{fault_line};
 ghost use Rattle.cdb_tool.specs.Views.Output.{output_bytes, OutputFailed};
 ghost use Rattle.cdb.specs.Performs.{SaysLine, refused_lines, usage_line, usage_status};
 
-use cdb_form::{OutFault, write_pieces};
+use cdb_form::{OutFault, Sink, write_pieces, write_whole};
 use cdb_tool::{BAD_USAGE, FAILED, Fault, Output, Usage, WordFault, write_fault, write_word_fault};
 use std::io::Write;
 
@@ -17,7 +17,7 @@ fn write_told<E: Write>(fault: &Fault, more: &[u8], errors: &mut Output<E>) -> R
     ensures failed { OnErr result (OutputFailed errors.new) }
 {
     write_fault(fault, errors)?;
-    errors.take_all(more)
+    write_whole(errors, more)
 }
 
 /// Says what a fault is, and more after it, unless `errors` fails.
@@ -50,7 +50,7 @@ fn write_refused<E: Write>(
         (output_bytes E.contents errors.new) (refused_lines explains (refused_in fault.now)) }
     ensures failed { OnErr result (OutputFailed errors.new) }
 {
-    errors.take_pieces(&[b"cdb: ", fault.usage().message().as_bytes(), b"\n"])?;
+    write_pieces(errors, &[b"cdb: ", fault.usage().message().as_bytes(), b"\n"])?;
     if explains {
         write_word_fault(fault, errors)?;
     }
@@ -72,12 +72,13 @@ pub(crate) fn refuse<E: Write>(fault: &WordFault<'_>, explains: bool, errors: &m
 
 /// Says why the program cannot begin, at once, as far as `errors` takes it, and answers the exit
 /// status, and whether `errors` took the line.
-pub(crate) fn refuse_unbuffered<E: Write>(
+pub(crate) fn refuse_unbuffered<E: Sink>(
     usage: &Usage,
     errors: &mut E,
 ) -> (u8, Result<(), OutFault>)
     ensures line { Writes result.1 (E.contents errors.old) (E.contents errors.new)
         (usage_line usage.now) }
+    ensures failed { OnErr result.1 (E.failed errors.new) }
     ensures status { result.0 ≡ usage_status usage.now }
 {
     let written = write_pieces(errors, &[b"cdb: ", usage.message().as_bytes(), b"\n"]);

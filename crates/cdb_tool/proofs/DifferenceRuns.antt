@@ -25,8 +25,8 @@ use Rattle.cdb_tool.proofs.WholeRuns.{keeps_self, keeps_then, not_ok, prefix_kep
 
 -- ---- why it failed
 
-module _ {S T : Type 0} (w : ℕ) (s : Ghosts S) (t : Ghosts T) (old old_now : S) (new new_now : T) (start now : Option (List ℕ)) where
-  old_fails : (f : ReadFault) → ReadingStops s old old_now (IsDamaged w s t old_now new_now) f → DifferenceFails w s t old old_now new new_now start now (old_fault f)
+module _ {S T : Type 0} (w : ℕ) (s : Ghosts S) (t : Ghosts T) (old old_now : S) (new new_now : T) (start now : Option (List ℕ)) (O : Type 0) where
+  old_fails : (f : ReadFault) → ReadingStops s old old_now (IsDamaged w s t old_now new_now) O f → DifferenceFails w s t old old_now new new_now start now (old_fault f)
   old_fails read.Device fails = fails
   old_fails (read.Table n) fails = fails
   old_fails (read.Record place) fails = fails
@@ -37,7 +37,7 @@ module _ {S T : Type 0} (w : ℕ) (s : Ghosts S) (t : Ghosts T) (old old_now : S
   old_fails (read.Twice place) fails = absurd fails
   old_fails (read.Unindexed place) fails = absurd fails
 
-  new_fails : (f : ReadFault) → ReadingStops t new new_now (IsDamaged w t s new_now old_now) f → DifferenceFails w s t old old_now new new_now start now (new_fault f)
+  new_fails : (f : ReadFault) → ReadingStops t new new_now (IsDamaged w t s new_now old_now) O f → DifferenceFails w s t old old_now new new_now start now (new_fault f)
   new_fails read.Device fails = fails
   new_fails (read.Table n) fails = fails
   new_fails (read.Record place) fails = fails
@@ -48,7 +48,7 @@ module _ {S T : Type 0} (w : ℕ) (s : Ghosts S) (t : Ghosts T) (old old_now : S
   new_fails (read.Twice place) fails = absurd fails
   new_fails (read.Unindexed place) fails = absurd fails
 
-  pub writing_fails : (stop : Stop) → Stops w s t old old_now new new_now stop → DifferenceFails w s t old old_now new new_now start now (stop_fault stop)
+  pub writing_fails : (stop : Stop) → Stops w s t old old_now new new_now O stop → DifferenceFails w s t old old_now new new_now start now (stop_fault stop)
   writing_fails (Own f) fails = old_fails f fails
   writing_fails (Other f) fails = new_fails f fails
 
@@ -193,15 +193,15 @@ module _ {S T : Type 0} (w : ℕ) (s : Ghosts S) (t : Ghosts T) (old old_now : S
   still : OnlyReads s old old_now → OnlyReads t new new_now → Lacks w s old false → Lacks w t new false → HaveTables w s t old_now new_now
   still first second one two = record { of_old = λ b is. one b (first.images b is); of_new = λ c it. two c (second.images c it) }
 
-  pub tells_written : Lacks w s old false → Lacks w t new false → SaysDifference w s t old old_now new new_now start end (Ok tt) → TellsDifference w s t old old_now new new_now start end (Ok tt)
+  pub tells_written : {O : Type 0} → Lacks w s old false → Lacks w t new false → SaysDifference w s t old old_now new new_now start end O (Ok tt) → TellsDifference w s t old old_now new new_now start end (Ok tt)
   tells_written one two h = record { old_reads = h.old_reads; new_reads = h.new_reads; ok = h.ok; err = tt; ok_tables = still h.old_reads h.new_reads one two; err_tables = tt; front = tt }
 
-  pub tells_stopped : Lacks w s old false → Lacks w t new false → (stop : Stop) → SaysDifference w s t old old_now new new_now start end (Err stop) → TellsDifference w s t old old_now new new_now start end (Err (stop_fault stop))
-  tells_stopped one two stop h = record {
+  pub tells_stopped : {O : Type 0} → Lacks w s old false → Lacks w t new false → (stop : Stop) → SaysDifference w s t old old_now new new_now start end O (Err stop) → TellsDifference w s t old old_now new new_now start end (Err (stop_fault stop))
+  tells_stopped {O} one two stop h = record {
     old_reads = h.old_reads;
     new_reads = h.new_reads;
     ok = tt;
-    err = writing_fails w s t old old_now new new_now start end stop h.err;
+    err = writing_fails w s t old old_now new new_now start end O stop h.err;
     ok_tables = tt;
     err_tables = λ after. still h.old_reads h.new_reads one two;
     front = h.front;

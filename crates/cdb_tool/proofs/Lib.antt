@@ -14,6 +14,7 @@ pub mod InputRuns
 pub mod RunEnds
 pub mod WholeTexts
 pub mod InputLemmas
+pub mod OutputFaults
 pub mod OutputLemmas
 pub mod RestoreLaws
 pub mod BaseDifferences

@@ -14,6 +14,7 @@ mod message;
 mod noted;
 mod output;
 mod runs;
+mod shown;
 mod status;
 mod word_message;
 

@@ -4,17 +4,14 @@ ghost use Rattle.cdb_form.specs.Views.KnownBytes.{Writes};
 ghost use Rattle.cdb_tool.specs.Message.{fault_message, fault_side, numbered, said_place, fault_place};
 ghost use Rattle.cdb_tool.specs.Message.{read_place};
 ghost use Rattle.cdb_tool.specs.Message.{fault_text, said_line, fault_line, duplicate_line};
-ghost use Rattle.cdb_tool.specs.Views.Output.{output_bytes, OutputFailed};
 
 use crate::fault::Fault;
-use crate::output::Output;
-use cdb_form::{OutFault, TextFault, WalkFault, write_pieces};
+use cdb_form::{OutFault, Sink, TextFault, WalkFault, write_pieces};
 use cdb_make::MakeFault;
 use cdb_read::ReadFault;
 use itoa::Buffer;
 use std::error::Error;
 use std::fmt;
-use std::io::Write;
 
 /// Where a fault is.
 #[derive(Clone, Copy)]
@@ -129,25 +126,21 @@ impl fmt::Display for Fault {
 impl Error for Fault {}
 
 /// Writes what is named by a number.
-fn write_numbered<E: Write>(
-    part: &[u8],
-    number: u64,
-    errors: &mut Output<E>,
-) -> Result<(), OutFault>
-    ensures writes { Writes result (output_bytes E.contents errors.old)
-        (output_bytes E.contents errors.new) (numbered part.now number) }
-    ensures failed { OnErr result (OutputFailed errors.new) }
+fn write_numbered<E: Sink>(part: &[u8], number: u64, errors: &mut E) -> Result<(), OutFault>
+    ensures writes { Writes result (E.contents errors.old)
+        (E.contents errors.new) (numbered part.now number) }
+    ensures failed { OnErr result (E.failed errors.new) }
 {
     let mut digits = Buffer::new();
     let number = digits.format(number).as_bytes();
-    errors.take_pieces(&[part, number, b": "])
+    write_pieces(errors, &[part, number, b": "])
 }
 
 /// Writes where a fault is.
-fn write_place<E: Write>(place: Place, errors: &mut Output<E>) -> Result<(), OutFault>
-    ensures writes { Writes result (output_bytes E.contents errors.old)
-        (output_bytes E.contents errors.new) (said_place place) }
-    ensures failed { OnErr result (OutputFailed errors.new) }
+fn write_place<E: Sink>(place: Place, errors: &mut E) -> Result<(), OutFault>
+    ensures writes { Writes result (E.contents errors.old)
+        (E.contents errors.new) (said_place place) }
+    ensures failed { OnErr result (E.failed errors.new) }
 {
     match place {
         Place::Nowhere => Ok(()),
@@ -166,23 +159,23 @@ fn write_place<E: Write>(place: Place, errors: &mut Output<E>) -> Result<(), Out
 }
 
 /// Writes where a fault is and what it is, in a line.
-fn write_said<E: Write>(fault: &Fault, errors: &mut Output<E>) -> Result<(), OutFault>
-    ensures writes { Writes result (output_bytes E.contents errors.old)
-        (output_bytes E.contents errors.new) (said_line fault.now) }
-    ensures failed { OnErr result (OutputFailed errors.new) }
+fn write_said<E: Sink>(fault: &Fault, errors: &mut E) -> Result<(), OutFault>
+    ensures writes { Writes result (E.contents errors.old)
+        (E.contents errors.new) (said_line fault.now) }
+    ensures failed { OnErr result (E.failed errors.new) }
 {
-    errors.take_pieces(&[b"cdb: ", fault.side().as_bytes()])?;
+    write_pieces(errors, &[b"cdb: ", fault.side().as_bytes()])?;
     write_place(fault.place(), errors)?;
-    errors.take_pieces(&[fault.message().as_bytes(), b"\n"])
+    write_pieces(errors, &[fault.message().as_bytes(), b"\n"])
 }
 
 /// Writes the line that says what a fault is, with its newline. A value that is missing has no
 /// line. After an `OutFault` the output took a prefix of it, and has failed. The output is not
 /// flushed.
-pub fn write_fault<E: Write>(fault: &Fault, errors: &mut Output<E>) -> Result<(), OutFault>
-    ensures writes { Writes result (output_bytes E.contents errors.old)
-        (output_bytes E.contents errors.new) (fault_line fault.now) }
-    ensures failed { OnErr result (OutputFailed errors.new) }
+pub fn write_fault<E: Sink>(fault: &Fault, errors: &mut E) -> Result<(), OutFault>
+    ensures writes { Writes result (E.contents errors.old)
+        (E.contents errors.new) (fault_line fault.now) }
+    ensures failed { OnErr result (E.failed errors.new) }
 {
     match *fault {
         Fault::Missing => Ok(()),
@@ -192,12 +185,13 @@ pub fn write_fault<E: Write>(fault: &Fault, errors: &mut Output<E>) -> Result<()
 
 /// Writes the line of a record whose key was there already: its input, and its number there, both
 /// counted from 1. After an `OutFault` the writer holds a prefix of it.
-pub(crate) fn write_duplicate<E: Write>(
+pub(crate) fn write_duplicate<E: Sink>(
     input: u64,
     number: u64,
     errors: &mut E,
 ) -> Result<(), OutFault>
-    ensures { Writes result (E.contents errors.old) (E.contents errors.new) (duplicate_line input number) }
+    ensures writes { Writes result (E.contents errors.old) (E.contents errors.new) (duplicate_line input number) }
+    ensures failed { OnErr result (E.failed errors.new) }
 {
     let (mut inputs, mut numbers) = (Buffer::new(), Buffer::new());
     let input = inputs.format(input).as_bytes();

@@ -1,13 +1,12 @@
 // Output through a buffer, from which many bytes go at once.
 ghost use Rattle.std.specs.Prelude.{◌≡◌, ℕ, ◌+◌, ◌<◌, ◌≤◌, [], ◌-◌, length, take, min, true, false};
 ghost use Rattle.std.specs.Prelude.{IfOk, OnOk, OnErr, flat_map, vec_len};
-ghost use Rattle.std.specs.Io.{WritesAtMost};
-ghost use Rattle.std.specs.Io.KnownBytes.{Keeps, Appends, WriteAppends};
+ghost use Rattle.std.specs.Io.KnownBytes.{Keeps, Appends};
 ghost use Rattle.cdb_form.specs.Views.KnownBytes.{Writes};
 
-use cdb_form::{OutFault, write_some};
+use cdb_form::{OutFault, Sink, flush_whole, write_some};
 use std::alloc::{AllocError, Global};
-use std::io::{self, ErrorKind, Write};
+use std::io::Write;
 
 /// How many bytes go straight on at once. Of more a file's cache takes memory in larger blocks,
 /// which costs the system more.
@@ -105,82 +104,56 @@ impl<W: Write> Output<W> {
         self.buffer.extend_from_slice(&bytes[..n])?;
         Ok(n)
     }
-
-    /// Takes all of some bytes. After a fault it took a prefix of them, and has failed.
-    pub fn take_all(&mut self, bytes: &[u8]) -> Result<(), OutFault>
-        ensures writes { Writes result (output_bytes W.contents self.old)
-            (output_bytes W.contents self.new) bytes.now }
-        ensures failed { OnErr result (self.new.failed ≡ true) }
-    {
-        let mut done = 0;
-        while done < bytes.len() {
-            match self.write(&bytes[done..]) {
-                Ok(n) => done += n,
-                Err(_) => return Err(OutFault),
-            }
-        }
-        Ok(())
-    }
-
-    /// Takes one piece after the other. After a fault it took a prefix of them all, and has failed.
-    pub fn take_pieces(&mut self, pieces: &[&[u8]]) -> Result<(), OutFault>
-        ensures writes { Writes result (output_bytes W.contents self.old)
-            (output_bytes W.contents self.new) (flat_map (λ p. p.now) pieces.now) }
-        ensures failed { OnErr result (self.new.failed ≡ true) }
-    {
-        for piece in pieces {
-            self.take_all(piece)?;
-        }
-        Ok(())
-    }
 }
 
-impl<W: Write> Write for Output<W> {
+impl<W: Write> Sink for Output<W> {
+    ghost use Rattle.std.specs.Prelude.{◌≡◌, true};
     ghost use Rattle.cdb_tool.specs.Views.Output.{output_bytes, held_by, HasHandedOn};
 
     ghost contents = { output_bytes W.contents };
 
+    ghost failed = { λ output. output.failed ≡ true };
+
     #[inline(always)]
-    fn write(&mut self, buf: &[u8]) -> io::Result<usize>
-        ensures bound { WritesAtMost result buf.now }
-        ensures bytes { WriteAppends (output_bytes W.contents self.old)
-            (output_bytes W.contents self.new) result buf.now }
-        // Some bytes are taken if there are any.
-        ensures some { IfOk result (λ n. 0 < length buf.now → 0 < n) }
-        ensures sound { OnOk result (self.new.failed ≡ self.old.failed) }
+    fn write_some(&mut self, bytes: &[u8]) -> Result<usize, OutFault>
+        requires { 0 < length bytes.now }
+        ensures count { IfOk result (λ n. (0 < n) × (n ≤ length bytes.now)) }
+        ensures ok { IfOk result (λ n. Appends (output_bytes W.contents self.old)
+            (output_bytes W.contents self.new) (take n bytes.now)) }
+        ensures err { OnErr result
+            (Keeps (output_bytes W.contents self.old) (output_bytes W.contents self.new)) }
         ensures failed { OnErr result (self.new.failed ≡ true) }
+        ensures stays { self.old.failed ≡ true → self.new.failed ≡ true }
+        ensures sound { OnOk result (self.new.failed ≡ self.old.failed) }
     {
         // More than the buffer has room for isn't copied.
-        if self.size < buf.len() {
-            let Ok(n) = self.pass_on(buf) else {
-                return Err(io::Error::from(ErrorKind::Other));
-            };
-            return Ok(n);
+        if self.size < bytes.len() {
+            return self.pass_on(bytes);
         }
         if self.buffer.len() == self.size {
-            let Ok(()) = self.hand_on() else {
-                return Err(io::Error::from(ErrorKind::Other));
-            };
+            self.hand_on()?;
         }
-        let taken = self.take(buf);
-        self.failed |= taken.is_err();
-        Ok(taken?)
+        match self.take(bytes) {
+            Ok(n) => Ok(n),
+            Err(_) => {
+                self.failed = true;
+                Err(OutFault)
+            }
+        }
     }
 
-    fn flush(&mut self) -> io::Result<()>
+    fn flush_whole(&mut self) -> Result<(), OutFault>
         ensures bytes { Keeps (output_bytes W.contents self.old)
             (output_bytes W.contents self.new) }
+        ensures failed { OnErr result (self.new.failed ≡ true) }
+        ensures stays { self.old.failed ≡ true → self.new.failed ≡ true }
         // The writer has all that was taken, or it failed.
         ensures empty { OnOk result (held_by self.new ≡ []) }
         ensures handed { HasHandedOn self.new }
-        ensures failed { OnErr result (self.new.failed ≡ true) }
         ensures sound { OnOk result (self.new.failed ≡ self.old.failed) }
     {
-        let handed = self.hand_on();
-        if handed.is_err() {
-            return Err(io::Error::from(ErrorKind::Other));
-        }
-        let flushed = self.writer.flush();
+        self.hand_on()?;
+        let flushed = flush_whole(&mut self.writer);
         self.failed |= flushed.is_err();
         flushed
     }

@@ -3,70 +3,10 @@ ghost use Rattle.std.specs.Prelude.{◌≡◌, ◌++◌, OnErr, [], ◌∷◌, c
 ghost use Rattle.cdb_command.specs.Refused.{parts_line, refused_in, refused_line, said_lacking};
 ghost use Rattle.cdb_command.specs.Shown.{shown, shown_byte};
 ghost use Rattle.cdb_form.specs.Views.KnownBytes.{Writes};
-ghost use Rattle.cdb_tool.specs.Views.Output.{output_bytes, OutputFailed};
 
-use crate::output::Output;
-use cdb_command::{Lacking, WordFault, escaped};
-use cdb_form::OutFault;
-use std::io::Write;
-
-/// Writes a byte as it is shown in a line.
-fn write_byte<E: Write>(byte: u8, errors: &mut Output<E>) -> Result<(), OutFault>
-    ensures writes { Writes result (output_bytes E.contents errors.old)
-        (output_bytes E.contents errors.new) (shown_byte byte) }
-    ensures failed { OnErr result (OutputFailed errors.new) }
-{
-    match escaped(byte) {
-        Some(escaped) => errors.take_all(&escaped),
-        None => errors.take_all(&[byte]),
-    }
-}
-
-/// Writes bytes as they are shown in a line.
-fn write_shown<E: Write>(bytes: &[u8], errors: &mut Output<E>) -> Result<(), OutFault>
-    ensures writes { Writes result (output_bytes E.contents errors.old)
-        (output_bytes E.contents errors.new) (shown bytes.now) }
-    ensures failed { OnErr result (OutputFailed errors.new) }
-{
-    for byte in bytes {
-        write_byte(*byte, errors)?;
-    }
-    Ok(())
-}
-
-/// Writes a part of a line: a text, and then the bytes that are shown after it.
-fn write_part<E: Write>(text: &[u8], bytes: &[u8], errors: &mut Output<E>) -> Result<(), OutFault>
-    ensures writes { Writes result (output_bytes E.contents errors.old)
-        (output_bytes E.contents errors.new) (text.now ++ shown bytes.now) }
-    ensures failed { OnErr result (OutputFailed errors.new) }
-{
-    errors.take_all(text)?;
-    write_shown(bytes, errors)
-}
-
-/// Writes the parts of a line.
-fn write_parts<E: Write>(parts: &[(&[u8], &[u8])], errors: &mut Output<E>) -> Result<(), OutFault>
-    ensures writes { Writes result (output_bytes E.contents errors.old)
-        (output_bytes E.contents errors.new) (flat_map (λ p. p.0.now ++ shown p.1.now) parts.now) }
-    ensures failed { OnErr result (OutputFailed errors.new) }
-{
-    for (text, bytes) in parts {
-        write_part(text, bytes, errors)?;
-    }
-    Ok(())
-}
-
-/// Writes a line of such parts.
-fn write_line<E: Write>(parts: &[(&[u8], &[u8])], errors: &mut Output<E>) -> Result<(), OutFault>
-    ensures writes { Writes result (output_bytes E.contents errors.old)
-        (output_bytes E.contents errors.new)
-        (parts_line (map (λ p. (p.0.now, p.1.now)) parts.now)) }
-    ensures failed { OnErr result (OutputFailed errors.new) }
-{
-    errors.take_all(b"cdb: ")?;
-    write_parts(parts, errors)?;
-    errors.take_all(b"\n")
-}
+use crate::shown::write_line;
+use cdb_command::{Lacking, WordFault};
+use cdb_form::{OutFault, Sink};
 
 /// Which name lacks.
 fn said_lacking(lacking: Lacking) -> &'static str
@@ -81,57 +21,57 @@ fn said_lacking(lacking: Lacking) -> &'static str
 }
 
 /// Writes the line of one text.
-fn write_text<E: Write>(text: &str, errors: &mut Output<E>) -> Result<(), OutFault>
-    ensures writes { Writes result (output_bytes E.contents errors.old)
-        (output_bytes E.contents errors.new) (parts_line ((text.now, []) ∷ [])) }
-    ensures failed { OnErr result (OutputFailed errors.new) }
+fn write_text<E: Sink>(text: &str, errors: &mut E) -> Result<(), OutFault>
+    ensures writes { Writes result (E.contents errors.old)
+        (E.contents errors.new) (parts_line ((text.now, []) ∷ [])) }
+    ensures failed { OnErr result (E.failed errors.new) }
 {
     write_line(&[(text.as_bytes(), b"")], errors)
 }
 
 /// Writes the line of two parts.
-fn write_two<'x, E: Write>(
+fn write_two<'x, E: Sink>(
     first: (&'x [u8], &'x [u8]),
     second: (&'x [u8], &'x [u8]),
-    errors: &mut Output<E>,
+    errors: &mut E,
 ) -> Result<(), OutFault>
-    ensures writes { Writes result (output_bytes E.contents errors.old)
-        (output_bytes E.contents errors.new)
+    ensures writes { Writes result (E.contents errors.old)
+        (E.contents errors.new)
         (parts_line ((first.entry.0.now, first.entry.1.now)
         ∷ (second.entry.0.now, second.entry.1.now) ∷ [])) }
-    ensures failed { OnErr result (OutputFailed errors.new) }
+    ensures failed { OnErr result (E.failed errors.new) }
 {
     write_line(&[first, second], errors)
 }
 
 /// Writes the line of bytes between two texts.
-fn write_between<E: Write>(
+fn write_between<E: Sink>(
     before: &str,
     bytes: &str,
     after: &str,
-    errors: &mut Output<E>,
+    errors: &mut E,
 ) -> Result<(), OutFault>
-    ensures writes { Writes result (output_bytes E.contents errors.old)
-        (output_bytes E.contents errors.new)
+    ensures writes { Writes result (E.contents errors.old)
+        (E.contents errors.new)
         (parts_line ((before.now, bytes.now) ∷ (after.now, []) ∷ [])) }
-    ensures failed { OnErr result (OutputFailed errors.new) }
+    ensures failed { OnErr result (E.failed errors.new) }
 {
     let first = (before.as_bytes(), bytes.as_bytes());
     write_two(first, (after.as_bytes(), b""), errors)
 }
 
 /// Writes the line of two letters, each after a text.
-fn write_letters<E: Write>(
+fn write_letters<E: Sink>(
     before: &str,
     first: char,
     between: &str,
     second: char,
-    errors: &mut Output<E>,
+    errors: &mut E,
 ) -> Result<(), OutFault>
-    ensures writes { Writes result (output_bytes E.contents errors.old)
-        (output_bytes E.contents errors.new)
+    ensures writes { Writes result (E.contents errors.old)
+        (E.contents errors.new)
         (parts_line ((before.now, encode_utf8 first) ∷ (between.now, encode_utf8 second) ∷ [])) }
-    ensures failed { OnErr result (OutputFailed errors.new) }
+    ensures failed { OnErr result (E.failed errors.new) }
 {
     let (mut one, mut other) = ([0; 4], [0; 4]);
     let first = first.encode_utf8(&mut one).as_bytes();
@@ -144,11 +84,11 @@ fn write_letters<E: Write>(
 }
 
 /// Writes the line of a letter before a text.
-fn write_letter<E: Write>(letter: char, after: &str, errors: &mut Output<E>) -> Result<(), OutFault>
-    ensures writes { Writes result (output_bytes E.contents errors.old)
-        (output_bytes E.contents errors.new)
+fn write_letter<E: Sink>(letter: char, after: &str, errors: &mut E) -> Result<(), OutFault>
+    ensures writes { Writes result (E.contents errors.old)
+        (E.contents errors.new)
         (parts_line ((codes "-", encode_utf8 letter) ∷ (after.now, []) ∷ [])) }
-    ensures failed { OnErr result (OutputFailed errors.new) }
+    ensures failed { OnErr result (E.failed errors.new) }
 {
     let mut bytes = [0; 4];
     write_between("-", letter.encode_utf8(&mut bytes), after, errors)
@@ -157,13 +97,10 @@ fn write_letter<E: Write>(letter: char, after: &str, errors: &mut Output<E>) -> 
 /// Writes the line that says which word or letters of a command line have no meaning, and why, with its
 /// newline. Of `NoMemory` there is none. After an `OutFault` the output took a prefix of it, and has
 /// failed. The output is not flushed.
-pub fn write_word_fault<E: Write>(
-    fault: &WordFault<'_>,
-    errors: &mut Output<E>,
-) -> Result<(), OutFault>
-    ensures writes { Writes result (output_bytes E.contents errors.old)
-        (output_bytes E.contents errors.new) (refused_line (refused_in fault.now)) }
-    ensures failed { OnErr result (OutputFailed errors.new) }
+pub fn write_word_fault<E: Sink>(fault: &WordFault<'_>, errors: &mut E) -> Result<(), OutFault>
+    ensures writes { Writes result (E.contents errors.old)
+        (E.contents errors.new) (refused_line (refused_in fault.now)) }
+    ensures failed { OnErr result (E.failed errors.new) }
 {
     match *fault {
         WordFault::Unknown(letter) => write_letter(letter, ": unknown letter", errors),

@@ -1,6 +1,8 @@
 -- What an output holds.
-use Rattle.std.specs.Prelude.{ℕ, ◌≡◌, ◌⊎◌, true, List, [], drop, Option}
+use Rattle.std.specs.Prelude.{ℕ, ◌≡◌, ◌⊎◌, true, List, [], drop, Option, Result, Ok, Err, ⊤}
 use Rattle.std.specs.Io.KnownBytes.{append_known}
+use Rattle.cdb_tool.specs.declared.fault.Fault.{Fault}
+use Rattle.cdb_tool.specs.declared.fault.Fault.TheVariants.{Output as FailedOutput}
 use Rattle.cdb_tool.specs.declared.output.Output.{Output}
 
 -- the bytes in the buffer that the writer hasn't taken yet
@@ -18,3 +20,9 @@ OutputFailed o = o.failed ≡ true
 -- the writer has all that was taken, or it failed
 abbrev pub HasHandedOn : {W : Type 0} → Output W → Type 0
 HasHandedOn o = (held_by o ≡ []) ⊎ OutputFailed o
+
+-- `Output` says that an output has failed
+abbrev pub OutputSays : {A : Type 0} → (failed : Type 0) → Result A Fault → Type 0
+OutputSays failed (Ok value) = ⊤
+OutputSays failed (Err FailedOutput) = failed
+OutputSays failed (Err fault) = ⊤

@@ -1,25 +1,26 @@
 // What changed between two databases, as an amending text.
 ghost use Rattle.std.specs.Prelude.{◌≡◌};
+ghost use Rattle.cdb_tool.specs.Views.Output.{OutputSays};
 ghost use Rattle.cdb_tool.specs.Runs.Difference.{TellsDifference};
 
 use crate::fault::Fault;
 use crate::runs::flushed::flushed;
 use cdb_difference::write_difference;
-use cdb_form::Width;
+use cdb_form::{Sink, Width};
 use cdb_read::Reader;
 use cdb_store::Store;
 use std::alloc::Global;
-use std::io::Write;
 
 /// Writes the difference of two databases that were opened, unless one of them lacks tables.
-fn write_opened<L: Width, S: Store, T: Store, W: Write>(
+fn write_opened<L: Width, S: Store, T: Store, W: Sink>(
     alloc: Global,
     old: &mut Reader<S, L>,
     new: &mut Reader<T, L>,
     w: &mut W,
 ) -> Result<(), Fault>
-    ensures { TellsDifference L.WORD S.Store T.Store old.old.store old.new.store new.old.store
+    ensures tells { TellsDifference L.WORD S.Store T.Store old.old.store old.new.store new.old.store
         new.new.store (W.contents w.old) (W.contents w.new) result }
+    ensures output { OutputSays (W.failed w.new) result }
 {
     if old.lacks_tables() {
         return Err(Fault::NoOldTables);
@@ -34,14 +35,15 @@ fn write_opened<L: Width, S: Store, T: Store, W: Write>(
 }
 
 /// Writes the difference of two databases, which the writer may keep in a buffer.
-fn difference_unflushed<L: Width, S: Store, T: Store, W: Write>(
+fn difference_unflushed<L: Width, S: Store, T: Store, W: Sink>(
     alloc: Global,
     old: S,
     new: T,
     w: &mut W,
 ) -> (S, T, Result<(), Fault>)
-    ensures { TellsDifference L.WORD S.Store T.Store old result.0 new result.1 (W.contents w.old)
+    ensures tells { TellsDifference L.WORD S.Store T.Store old result.0 new result.1 (W.contents w.old)
         (W.contents w.new) result.2 }
+    ensures output { OutputSays (W.failed w.new) result.2 }
 {
     let mut first = match Reader::<S, L>::open(old) {
         Ok(reader) => reader,
@@ -73,14 +75,15 @@ fn difference_unflushed<L: Width, S: Store, T: Store, W: Write>(
 ///
 /// After each of them a prefix of the text was written. Both stores are handed back whatever the
 /// answer, and were only read. The writer is flushed last, after a fault too.
-pub fn difference_run<L: Width, S: Store, T: Store, W: Write>(
+pub fn difference_run<L: Width, S: Store, T: Store, W: Sink>(
     alloc: Global,
     old: S,
     new: T,
     w: &mut W,
 ) -> (S, T, Result<(), Fault>)
-    ensures { TellsDifference L.WORD S.Store T.Store old result.0 new result.1 (W.contents w.old)
+    ensures tells { TellsDifference L.WORD S.Store T.Store old result.0 new result.1 (W.contents w.old)
         (W.contents w.new) result.2 }
+    ensures output { OutputSays (W.failed w.new) result.2 }
 {
     let (old, new, written) = difference_unflushed::<L, S, T, W>(alloc, old, new, w);
     let answer = flushed(w, written);

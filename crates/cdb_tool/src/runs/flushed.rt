@@ -1,14 +1,15 @@
 // The end of each run.
+ghost use Rattle.cdb_tool.specs.Views.Output.{OutputSays};
 ghost use Rattle.cdb_tool.specs.Runs.Flushed.{Flushed, FlushedWhole};
 
 use crate::fault::Fault;
-use cdb_form::flush_whole;
-use std::io::Write;
+use cdb_form::{Sink, flush_whole};
 
 /// Flushes the writer of a run that answered so, after a fault too. A flush that fails is `Output`
 /// if no other fault came.
-pub fn flushed<W: Write>(w: &mut W, answer: Result<(), Fault>) -> Result<(), Fault>
-    ensures { Flushed (W.contents w.old) (W.contents w.new) answer result }
+pub fn flushed<W: Sink>(w: &mut W, answer: Result<(), Fault>) -> Result<(), Fault>
+    ensures flushes { Flushed (W.contents w.old) (W.contents w.new) answer result }
+    ensures output { OutputSays (W.failed w.old) answer → OutputSays (W.failed w.new) result }
 {
     match (answer, flush_whole(w)) {
         (Ok(()), Err(_)) => Err(Fault::Output),
@@ -18,8 +19,9 @@ pub fn flushed<W: Write>(w: &mut W, answer: Result<(), Fault>) -> Result<(), Fau
 
 /// Flushes the writer of a run that goes on after a key without a value. A flush that fails is `Output`
 /// in place of `Missing` too, after which all that was found is written.
-pub(crate) fn flushed_whole<W: Write>(w: &mut W, answer: Result<(), Fault>) -> Result<(), Fault>
-    ensures { FlushedWhole (W.contents w.old) (W.contents w.new) answer result }
+pub(crate) fn flushed_whole<W: Sink>(w: &mut W, answer: Result<(), Fault>) -> Result<(), Fault>
+    ensures flushes { FlushedWhole (W.contents w.old) (W.contents w.new) answer result }
+    ensures output { OutputSays (W.failed w.old) answer → OutputSays (W.failed w.new) result }
 {
     match (answer, flush_whole(w)) {
         (Ok(()), Err(_)) => Err(Fault::Output),

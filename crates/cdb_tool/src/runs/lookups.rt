@@ -1,6 +1,7 @@
 // The records of the keys that some inputs give.
 ghost use Rattle.std.specs.Prelude.{◌≡◌, ◌≢◌, ◌+◌, ◌≤◌, ◌++◌, ℕ, List, Option, IfSome, IfOk, IfErr, OnOk};
 ghost use Rattle.std.specs.Prelude.{length, []};
+ghost use Rattle.cdb_tool.specs.Views.Output.{OutputSays};
 ghost use Rattle.cdb_form.specs.Text.Amending.{Change};
 ghost use Rattle.cdb_form.specs.Views.KnownBytes.{FromTo};
 ghost use Rattle.cdb_store.specs.Reads.{OnlyReads};
@@ -21,15 +22,15 @@ use crate::runs::query::look_up;
 use crate::runs::shown::Shown;
 use crate::runs::walk_text::write_last;
 use cdb_command::Style;
-use cdb_form::{AtHand, Record, Width};
+use cdb_form::{AtHand, Record, Sink, Width};
 use cdb_read::Reader;
 use cdb_store::Store;
 use std::alloc::Global;
-use std::io::{Read, Write};
+use std::io::Read;
 
 /// Writes the records of a key, or the one with a number.
 #[inline(always)]
-fn look_up_record<L: Width, S: Store, W: Write>(
+fn look_up_record<L: Width, S: Store, W: Sink>(
     reader: &mut Reader<S, L>,
     key: &[u8],
     number: Option<u64>,
@@ -37,15 +38,16 @@ fn look_up_record<L: Width, S: Store, W: Write>(
     w: &mut W,
 ) -> Result<(), Fault>
     requires { IfSome number (λ j. 1 ≤ j) }
-    ensures { Queries L.WORD S.Store (key_query number style key.now)
+    ensures queries { Queries L.WORD S.Store (key_query number style key.now)
         reader.old.store reader.new.store (W.contents w.old) (W.contents w.new) result }
+    ensures output { OutputSays (W.failed w.new) result }
 {
     look_up(reader, key, number, Shown::Record { key, style }, w)
 }
 
 /// Writes the records of the keys of an input, whose number is counted from 1, up to its end, and
 /// answers its reader, which goes on after its text. `missing` is set if a key had no value.
-fn look_up_input<L: Width, S: Store, R: Read + Drop, W: Write, A: AtHand<R>>(
+fn look_up_input<L: Width, S: Store, R: Read + Drop, W: Sink, A: AtHand<R>>(
     alloc: Global,
     reader: &mut Reader<S, L>,
     number: Option<u64>,
@@ -71,6 +73,7 @@ fn look_up_input<L: Width, S: Store, R: Read + Drop, W: Write, A: AtHand<R>>(
         (W.contents w.old) missing.old
         → IfErr result (StopsIn L.WORD L.GREATEST S.Store number style (form_of keys) input before
         (unread R.remaining keys) reader.old.store reader.new.store start (W.contents w.new)) }
+    ensures output { OutputSays (W.failed w.new) result }
 {
     let mut item = Record {
         key: Vec::new(alloc),
@@ -94,7 +97,7 @@ fn look_up_input<L: Width, S: Store, R: Read + Drop, W: Write, A: AtHand<R>>(
 
 /// Writes the records of the keys of an input, whose number is counted from 1, and answers what the
 /// inputs share.
-fn look_up_turn<L: Width, S: Store, J: Read + Drop, I: Read + Drop, W: Write>(
+fn look_up_turn<L: Width, S: Store, J: Read + Drop, I: Read + Drop, W: Sink>(
     alloc: Global,
     reader: &mut Reader<S, L>,
     number: Option<u64>,
@@ -121,6 +124,7 @@ fn look_up_turn<L: Width, S: Store, J: Read + Drop, I: Read + Drop, W: Write>(
         → IfErr result (StopsIn L.WORD L.GREATEST S.Store number style (keys_form style) input before
         (bytes_of (one_of J.remaining turn) (shared_bytes I.remaining shared))
         reader.old.store reader.new.store start (W.contents w.new)) }
+    ensures output { OutputSays (W.failed w.new) result }
 {
     match turn {
         Turn::Own(own) => {
@@ -144,7 +148,7 @@ fn look_up_turn<L: Width, S: Store, J: Read + Drop, I: Read + Drop, W: Write>(
 
 /// Writes the records of the keys of some inputs, one after the other. `missing` is set if a key had
 /// no value.
-fn look_up_inputs<L: Width, S: Store, J: Read + Drop, I: Read + Drop, W: Write>(
+fn look_up_inputs<L: Width, S: Store, J: Read + Drop, I: Read + Drop, W: Sink>(
     alloc: Global,
     reader: &mut Reader<S, L>,
     number: Option<u64>,
@@ -169,6 +173,7 @@ fn look_up_inputs<L: Width, S: Store, J: Read + Drop, I: Read + Drop, W: Write>(
         → IfErr result (Stops L.WORD L.GREATEST S.Store number style
         (inputs_left J.remaining I.remaining inputs) reader.old.store reader.new.store
         start (W.contents w.new)) }
+    ensures output { OutputSays (W.failed w.new) result }
 {
     let Inputs { turns, shared } = inputs;
     let mut shared = SharedInput::Unread(shared);
@@ -183,7 +188,7 @@ fn look_up_inputs<L: Width, S: Store, J: Read + Drop, I: Read + Drop, W: Write>(
 }
 
 /// Writes the records of the keys of some inputs, and what ends their text.
-fn look_up_all<L: Width, S: Store, J: Read + Drop, I: Read + Drop, W: Write>(
+fn look_up_all<L: Width, S: Store, J: Read + Drop, I: Read + Drop, W: Sink>(
     alloc: Global,
     reader: &mut Reader<S, L>,
     number: Option<u64>,
@@ -192,9 +197,10 @@ fn look_up_all<L: Width, S: Store, J: Read + Drop, I: Read + Drop, W: Write>(
     w: &mut W,
 ) -> Result<(), Fault>
     requires { IfSome number (λ j. 1 ≤ j) }
-    ensures { Leaves L.WORD L.GREATEST S.Store number style
+    ensures leaves { Leaves L.WORD L.GREATEST S.Store number style
         (inputs_left J.remaining I.remaining inputs) reader.old.store reader.new.store
         (W.contents w.old) (W.contents w.new) result }
+    ensures output { OutputSays (W.failed w.new) result }
 {
     let mut missing = false;
     look_up_inputs::<L, S, J, I, W>(alloc, reader, number, style, inputs, &mut missing, w)?;
@@ -203,7 +209,7 @@ fn look_up_all<L: Width, S: Store, J: Read + Drop, I: Read + Drop, W: Write>(
 }
 
 /// Writes the records, which the writer may keep in a buffer.
-fn lookups_unflushed<L: Width, S: Store, J: Read + Drop, I: Read + Drop, W: Write>(
+fn lookups_unflushed<L: Width, S: Store, J: Read + Drop, I: Read + Drop, W: Sink>(
     alloc: Global,
     store: S,
     inputs: Inputs<J, I>,
@@ -212,9 +218,10 @@ fn lookups_unflushed<L: Width, S: Store, J: Read + Drop, I: Read + Drop, W: Writ
     w: &mut W,
 ) -> (S, Result<(), Fault>)
     requires { IfSome number (λ j. 1 ≤ j) }
-    ensures { Leaves L.WORD L.GREATEST S.Store number style
+    ensures leaves { Leaves L.WORD L.GREATEST S.Store number style
         (inputs_left J.remaining I.remaining inputs) store result.0
         (W.contents w.old) (W.contents w.new) result.1 }
+    ensures output { OutputSays (W.failed w.new) result.1 }
 {
     let mut reader = match Reader::<S, L>::open(store) {
         Ok(reader) => reader,
@@ -246,7 +253,7 @@ fn lookups_unflushed<L: Width, S: Store, J: Read + Drop, I: Read + Drop, W: Writ
 /// Only after `Missing`, and at Ok, is what ends the text written. The store is handed back whatever
 /// the answer, and was only read. The writer is flushed last, after a fault too. If that fails, `Output`
 /// takes the place of Ok and of `Missing`.
-pub fn lookups_run<L: Width, S: Store, J: Read + Drop, I: Read + Drop, W: Write>(
+pub fn lookups_run<L: Width, S: Store, J: Read + Drop, I: Read + Drop, W: Sink>(
     alloc: Global,
     store: S,
     inputs: Inputs<J, I>,
@@ -255,9 +262,10 @@ pub fn lookups_run<L: Width, S: Store, J: Read + Drop, I: Read + Drop, W: Write>
     w: &mut W,
 ) -> (S, Result<(), Fault>)
     requires { IfSome number (λ j. 1 ≤ j) }
-    ensures { LooksUp L.WORD L.GREATEST S.Store number style
+    ensures looks { LooksUp L.WORD L.GREATEST S.Store number style
         (inputs_left J.remaining I.remaining inputs) store result.0
         (W.contents w.old) (W.contents w.new) result.1 }
+    ensures output { OutputSays (W.failed w.new) result.1 }
 {
     let (store, looked) = lookups_unflushed::<L, S, J, I, W>(
         alloc, store, inputs, number, style, w,

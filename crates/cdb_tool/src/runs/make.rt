@@ -1,6 +1,7 @@
 // A database made of the records of a base, if there is one, and of what some inputs say.
 ghost use Rattle.std.specs.Prelude.{◌≡◌, ◌+◌, ◌<◌, ◌≤◌, ℕ, List, [], ◌∷◌, ◌++◌, map, Option, is_some};
 ghost use Rattle.std.specs.Prelude.{length, IfOk, IfErr, OnOk};
+ghost use Rattle.cdb_tool.specs.Views.Output.{OutputSays};
 ghost use Rattle.cdb_form.specs.Format.Pair.{head_size};
 ghost use Rattle.cdb_form.specs.Text.Amending.{Change};
 ghost use Rattle.cdb_form.specs.Views.KnownBytes.{FromTo};
@@ -24,15 +25,15 @@ use crate::runs::item_reader::ItemReader;
 use crate::runs::make_base::add_base;
 use crate::runs::make_input::put_input;
 use cdb_command::MakeOptions;
-use cdb_form::Width;
+use cdb_form::{Sink, Width};
 use cdb_make::Maker;
 use cdb_store::Store;
 use std::alloc::Global;
-use std::io::{Read, Write};
+use std::io::Read;
 
 /// Does what an input says from here on, whose number is counted from 1, and answers it as it goes on
 /// after its text. Its lines are counted if duplicates are explained.
-fn put_text<L: Width, S: Store, R: Read + Drop, E: Write>(
+fn put_text<L: Width, S: Store, R: Read + Drop, E: Sink>(
     alloc: Global,
     maker: &mut Maker<S, L>,
     options: &MakeOptions<'_>,
@@ -66,6 +67,7 @@ fn put_text<L: Width, S: Store, R: Read + Drop, E: Write>(
         (λ f. f ≡ NoMemory → S.failures (store_of maker.new) ≡ S.failures (store_of maker.old)) }
     ensures fine { OnOk result (S.failures (store_of maker.new) ≡ S.failures (store_of maker.old)) }
     ensures own { IfErr result (λ f. IsOfBase f → ⊥) }
+    ensures output { OutputSays (E.failed errors.new) result }
 {
     if options.names.is_some() {
         let lined = LinedInput::new(input, lines);
@@ -81,7 +83,7 @@ fn put_text<L: Width, S: Store, R: Read + Drop, E: Write>(
 
 /// Does what an input says, whose number is counted from 1, and answers what the inputs share, whose lines
 /// are counted too.
-fn put_turn<L: Width, S: Store, J: Read + Drop, I: Read + Drop, E: Write>(
+fn put_turn<L: Width, S: Store, J: Read + Drop, I: Read + Drop, E: Sink>(
     alloc: Global,
     maker: &mut Maker<S, L>,
     options: &MakeOptions<'_>,
@@ -118,6 +120,7 @@ fn put_turn<L: Width, S: Store, J: Read + Drop, I: Read + Drop, E: Write>(
         (λ f. f ≡ NoMemory → S.failures (store_of maker.new) ≡ S.failures (store_of maker.old)) }
     ensures fine { OnOk result (S.failures (store_of maker.new) ≡ S.failures (store_of maker.old)) }
     ensures own { IfErr result (λ f. IsOfBase f → ⊥) }
+    ensures output { OutputSays (E.failed errors.new) result }
 {
     match turn {
         Turn::Own(reader) => {
@@ -140,7 +143,7 @@ fn put_turn<L: Width, S: Store, J: Read + Drop, I: Read + Drop, E: Write>(
 /// The faults are those of `make_run` that an input, the maker or `errors` brings. After `NoMemory`,
 /// `Make(Lookup)` and `Make(Writing)` the maker holds the records of the items that were done,
 /// unless it is broken, and the lines are those of these items. `errors` is not flushed.
-pub fn put_inputs<L: Width, S: Store, J: Read + Drop, I: Read + Drop, E: Write>(
+pub fn put_inputs<L: Width, S: Store, J: Read + Drop, I: Read + Drop, E: Sink>(
     alloc: Global,
     maker: &mut Maker<S, L>,
     options: &MakeOptions<'_>,
@@ -171,6 +174,7 @@ pub fn put_inputs<L: Width, S: Store, J: Read + Drop, I: Read + Drop, E: Write>(
         (λ f. f ≡ NoMemory → S.failures (store_of maker.new) ≡ S.failures (store_of maker.old)) }
     ensures fine { OnOk result (S.failures (store_of maker.new) ≡ S.failures (store_of maker.old)) }
     ensures own { IfErr result (λ f. IsOfBase f → ⊥) }
+    ensures output { OutputSays (E.failed errors.new) result }
 {
     let Inputs { turns, shared } = inputs;
     let mut shared = SharedInput::Unread(shared);
@@ -194,7 +198,7 @@ struct Made<S, B> {
 }
 
 /// Makes the database, whose lines the writer may keep in a buffer.
-fn make_unflushed<L: Width, S: Store, B: Store, J: Read + Drop, I: Read + Drop, E: Write>(
+fn make_unflushed<L: Width, S: Store, B: Store, J: Read + Drop, I: Read + Drop, E: Sink>(
     alloc: Global,
     store: S,
     base: Option<B>,
@@ -214,6 +218,7 @@ fn make_unflushed<L: Width, S: Store, B: Store, J: Read + Drop, I: Read + Drop, 
     ensures memory { IfErr result.answer
         (λ f. f ≡ NoMemory → S.failures result.store ≡ S.failures store) }
     ensures base_failed { IfErr result.answer (λ f. IsOfBase f → HasFailed B.Store base result.base) }
+    ensures output { OutputSays (E.failed errors.new) result.answer }
 {
     let mut maker = match Maker::<S, L>::lazy(alloc, store, options.limit) {
         Ok(maker) => maker,
@@ -285,7 +290,7 @@ fn make_unflushed<L: Width, S: Store, B: Store, J: Read + Drop, I: Read + Drop, 
 /// the answer; the base was only read. At Ok the store holds the file of the records that survive,
 /// and nothing else, and has handed it on to what holds its bytes; after a fault it may hold
 /// anything. `errors` is flushed last, after a fault too.
-pub fn make_run<L: Width, S: Store, B: Store, R: Read + Drop, E: Write>(
+pub fn make_run<L: Width, S: Store, B: Store, R: Read + Drop, E: Sink>(
     alloc: Global,
     store: S,
     base: Option<B>,
@@ -304,6 +309,7 @@ pub fn make_run<L: Width, S: Store, B: Store, R: Read + Drop, E: Write>(
         (λ f. IsOfStore f → S.failures store < S.failures result.0) }
     ensures memory { IfErr result.2 (λ f. f ≡ NoMemory → S.failures result.0 ≡ S.failures store) }
     ensures base_failed { IfErr result.2 (λ f. IsOfBase f → HasFailed B.Store base result.1) }
+    ensures output { OutputSays (E.failed errors.new) result.2 }
 {
     let none: &[u8] = &[];
     match Inputs::each_own(alloc, inputs, none) {
@@ -319,7 +325,7 @@ pub fn make_run<L: Width, S: Store, B: Store, R: Read + Drop, E: Write>(
 
 /// Does what `make_run` does, of inputs of which several may share a reader: each of these begins
 /// where the text of the one before it ended. A map text leaves nothing.
-pub fn make_run_from<L: Width, S: Store, B: Store, J: Read + Drop, I: Read + Drop, E: Write>(
+pub fn make_run_from<L: Width, S: Store, B: Store, J: Read + Drop, I: Read + Drop, E: Sink>(
     alloc: Global,
     store: S,
     base: Option<B>,
@@ -338,6 +344,7 @@ pub fn make_run_from<L: Width, S: Store, B: Store, J: Read + Drop, I: Read + Dro
         (λ f. IsOfStore f → S.failures store < S.failures result.0) }
     ensures memory { IfErr result.2 (λ f. f ≡ NoMemory → S.failures result.0 ≡ S.failures store) }
     ensures base_failed { IfErr result.2 (λ f. IsOfBase f → HasFailed B.Store base result.1) }
+    ensures output { OutputSays (E.failed errors.new) result.2 }
 {
     let made = make_unflushed::<L, S, B, J, I, E>(alloc, store, base, inputs, &options, errors);
     let answer = flushed(errors, made.answer);

@@ -5,6 +5,7 @@ ghost use Rattle.cdb_form.specs.Format.Record.{KeyValue};
 ghost use Rattle.cdb_form.specs.Format.Walk.{with_records};
 ghost use Rattle.cdb_make.specs.Views.Maker.{Follows, Holds, WhereHonest, limit_of, store_of};
 ghost use Rattle.cdb_read.specs.Views.Walk.{left_of, bytes_left};
+ghost use Rattle.cdb_tool.specs.Views.Output.{OutputSays};
 ghost use Rattle.cdb_tool.specs.Runs.Base.{AddsNext, NotAdded};
 ghost use Rattle.cdb_tool.specs.Runs.Make.{BaseFails, HandsBack, HasFailed, IsOfStore};
 ghost use Rattle.cdb_tool.specs.Runs.Make.{IsOfBase, AddsBase, HoldsBase, BaseStopped};
@@ -68,6 +69,7 @@ fn add_next<L: Width, S: Store, B: Store>(
     ensures fine { OnOk result (S.failures (store_of maker.new) ≡ S.failures (store_of maker.old)) }
     ensures base_failed { IfErr result (λ f. IsOfBase f
         → B.failures records.old.reader.now.store < B.failures records.new.reader.now.store) }
+    ensures output { OutputSays ⊥ result }
 {
     let n = records.records_into(&mut room.window)?;
     if n > 0 {
@@ -104,6 +106,7 @@ fn add_records<L: Width, S: Store, B: Store>(
     ensures fine { OnOk result (S.failures (store_of maker.new) ≡ S.failures (store_of maker.old)) }
     ensures base_failed { IfErr result
         (λ f. IsOfBase f → B.failures reader.old.store < B.failures reader.new.store) }
+    ensures output { OutputSays ⊥ result }
 {
     let mut room = Room::new(alloc)?;
     let mut records = walk(reader);
@@ -129,6 +132,7 @@ pub(crate) fn add_base<L: Width, S: Store, B: Store>(
         (λ f. f ≡ NoMemory → S.failures (store_of maker.new) ≡ S.failures (store_of maker.old)) }
     ensures fine { OnOk result.1 (S.failures (store_of maker.new) ≡ S.failures (store_of maker.old)) }
     ensures base_failed { IfErr result.1 (λ f. IsOfBase f → HasFailed B.Store base result.0) }
+    ensures output { OutputSays ⊥ result.1 }
 {
     let Some(base) = base else {
         return (None, Ok(()));

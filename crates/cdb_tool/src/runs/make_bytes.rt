@@ -1,5 +1,6 @@
 // A text made a file.
 ghost use Rattle.std.specs.Prelude.{◌≡◌, ℕ, [], List, Option, IfOk, IfErr};
+ghost use Rattle.cdb_tool.specs.Views.Output.{OutputSays};
 ghost use Rattle.cdb_form.specs.Format.File.{file_bytes};
 ghost use Rattle.cdb_form.specs.Format.Record.{KeyValue};
 ghost use Rattle.cdb_form.specs.Views.TextReader.{unread};
@@ -9,11 +10,11 @@ ghost use Rattle.cdb_tool.specs.Runs.MakeBytes.{IsNewText, ReadsFitting, NotRead
 
 use crate::fault::Fault;
 use crate::runs::flushed::flushed;
-use cdb_form::{Record, TextReader, Width, write_whole};
+use cdb_form::{Record, Sink, TextReader, Width, write_whole};
 use cdb_make::{Maker, Mode};
 use cdb_store::MemStore;
 use std::alloc::Global;
-use std::io::{Read, Write};
+use std::io::Read;
 
 /// The number of the one input.
 const INPUT: u64 = 1;
@@ -71,14 +72,15 @@ fn file_in_memory<L: Width>(maker: Maker<MemStore, L>) -> Result<Vec<u8>, Fault>
 }
 
 /// Writes the file of a text, which the writer may keep in a buffer.
-fn make_bytes_unflushed<L: Width, R: Read, W: Write>(
+fn make_bytes_unflushed<L: Width, R: Read, W: Sink>(
     alloc: Global,
     text: &mut TextReader<R, L>,
     w: &mut W,
 ) -> Result<(), Fault>
     requires { IsNewText text.old }
-    ensures { MakesBytes L.WORD L.GREATEST (unread R.remaining text.old) (unread R.remaining text.new)
+    ensures makes { MakesBytes L.WORD L.GREATEST (unread R.remaining text.old) (unread R.remaining text.new)
         (W.contents w.old) (W.contents w.new) result }
+    ensures output { OutputSays (W.failed w.new) result }
 {
     let maker = fitting_records::<L, R>(alloc, text)?;
     let file = file_in_memory::<L>(maker)?;
@@ -98,13 +100,14 @@ fn make_bytes_unflushed<L: Width, R: Read, W: Write>(
 ///
 /// After any other fault than `Output` nothing was written. The writer is flushed last, after a
 /// fault too.
-pub fn make_bytes<L: Width, R: Read + Drop, W: Write>(
+pub fn make_bytes<L: Width, R: Read + Drop, W: Sink>(
     alloc: Global,
     reader: R,
     w: &mut W,
 ) -> Result<(), Fault>
-    ensures { (rest : Option (List ℕ)) × MakesBytes L.WORD L.GREATEST (R.remaining reader) rest
+    ensures makes { (rest : Option (List ℕ)) × MakesBytes L.WORD L.GREATEST (R.remaining reader) rest
         (W.contents w.old) (W.contents w.new) result }
+    ensures output { OutputSays (W.failed w.new) result }
 {
     let mut text = TextReader::<R, L>::new(alloc, reader);
     let made = make_bytes_unflushed::<L, R, W>(alloc, &mut text, w);

@@ -1,6 +1,7 @@
 // The items of an input, one after the other: records are put, and keys removed.
 ghost use Rattle.std.specs.Prelude.{◌≡◌, ◌+◌, ◌<◌, ◌≤◌, ℕ, List, [], ◌∷◌, ◌++◌, length, Option};
 ghost use Rattle.std.specs.Prelude.{◌||◌, None, OnOk, OnErr, IfOk, IfErr};
+ghost use Rattle.cdb_tool.specs.Views.Output.{OutputSays};
 ghost use Rattle.cdb_form.specs.Format.Record.{KeyValue};
 ghost use Rattle.cdb_form.specs.Text.Amending.{Change, Putting, Removing};
 ghost use Rattle.cdb_form.specs.Views.KnownBytes.{FromTo};
@@ -22,11 +23,11 @@ use crate::key_line::write_duplicates;
 use crate::lines::Lines;
 use crate::runs::item_reader::ItemReader;
 use cdb_command::{MakeOptions, Style};
-use cdb_form::{AtHand, ChangeKind, OutFault, Record, Width};
+use cdb_form::{AtHand, ChangeKind, OutFault, Record, Sink, Width};
 use cdb_make::{Maker, Mode, Put};
 use cdb_store::Store;
 use std::alloc::Global;
-use std::io::{Read, Write};
+use std::io::Read;
 
 /// How each record is put.
 fn put_mode(options: &MakeOptions<'_>) -> Mode
@@ -58,7 +59,7 @@ fn meets_key(put: Put) -> bool
 
 /// Reports a put that met its key, if the options say so. Its record begins at this line of its input.
 #[inline(always)]
-fn write_put<E: Write>(
+fn write_put<E: Sink>(
     options: &MakeOptions<'_>,
     input: u64,
     number: u64,
@@ -71,6 +72,7 @@ fn write_put<E: Write>(
         (E.contents errors.old) (E.contents errors.new)) }
     ensures err { OnErr result (TellsPart options.now.names (told options.now input number key.now (Ok put))
         (E.contents errors.old) (E.contents errors.new)) }
+    ensures failed { OnErr result (E.failed errors.new) }
 {
     if tells(options) && meets_key(put) {
         write_duplicates(options.names, input, number, line, key, errors)
@@ -81,7 +83,7 @@ fn write_put<E: Write>(
 
 /// Reports such a put, and stops the run if the options say so.
 #[inline(always)]
-fn tell_put<E: Write>(
+fn tell_put<E: Sink>(
     options: &MakeOptions<'_>,
     input: u64,
     number: u64,
@@ -95,6 +97,7 @@ fn tell_put<E: Write>(
     ensures goes { OnOk result (ends options.now (Ok put) ≡ None) }
     ensures fails { IfErr result (TellFails options.now input number key.now put
         (E.contents errors.old) (E.contents errors.new)) }
+    ensures output { OutputSays (E.failed errors.new) result }
 {
     write_put(options, input, number, line, key, put, errors)?;
     if options.stop && put == Put::Present {
@@ -105,7 +108,7 @@ fn tell_put<E: Write>(
 
 /// Puts a record of an input, both counted from 1, and then reports it.
 #[inline(always)]
-fn put_record<L: Width, S: Store, E: Write>(
+fn put_record<L: Width, S: Store, E: Sink>(
     maker: &mut Maker<S, L>,
     options: &MakeOptions<'_>,
     mode: Mode,
@@ -147,6 +150,7 @@ fn put_record<L: Width, S: Store, E: Write>(
         (λ f. f ≡ NoMemory → S.failures (store_of maker.new) ≡ S.failures (store_of maker.old)) }
     ensures fine { OnOk result (S.failures (store_of maker.new) ≡ S.failures (store_of maker.old)) }
     ensures own { IfErr result (λ f. IsOfBase f → ⊥) }
+    ensures output { OutputSays (E.failed errors.new) result }
 {
     let put = maker.put(mode, key, value)?;
     tell_put(options, input, number, line, key, put, errors)
@@ -173,6 +177,7 @@ fn remove_key<L: Width, S: Store>(maker: &mut Maker<S, L>, key: &[u8]) -> Result
         (λ f. f ≡ NoMemory → S.failures (store_of maker.new) ≡ S.failures (store_of maker.old)) }
     ensures fine { OnOk result (S.failures (store_of maker.new) ≡ S.failures (store_of maker.old)) }
     ensures own { IfErr result (λ f. IsOfBase f → ⊥) }
+    ensures output { OutputSays ⊥ result }
 {
     maker.remove(key)?;
     Ok(())
@@ -180,7 +185,7 @@ fn remove_key<L: Width, S: Store>(maker: &mut Maker<S, L>, key: &[u8]) -> Result
 
 /// Does what an item of an input says, both counted from 1.
 #[inline(always)]
-fn do_item<L: Width, S: Store, E: Write>(
+fn do_item<L: Width, S: Store, E: Sink>(
     maker: &mut Maker<S, L>,
     options: &MakeOptions<'_>,
     mode: Mode,
@@ -216,6 +221,7 @@ fn do_item<L: Width, S: Store, E: Write>(
         (λ f. f ≡ NoMemory → S.failures (store_of maker.new) ≡ S.failures (store_of maker.old)) }
     ensures fine { OnOk result (S.failures (store_of maker.new) ≡ S.failures (store_of maker.old)) }
     ensures own { IfErr result (λ f. IsOfBase f → ⊥) }
+    ensures output { OutputSays (E.failed errors.new) result }
 {
     match kind {
         ChangeKind::Put => put_record(
@@ -244,7 +250,7 @@ fn line_of_last(style: Style, next: u64, lines: &Lines) -> u64 {
 
 /// Does what the items of an input say, whose number is counted from 1, up to its end, and answers
 /// its reader, which goes on after its text. The lines are those of the reader.
-pub(crate) fn put_input<L: Width, S: Store, R: Read + Drop, E: Write, A: AtHand<R>>(
+pub(crate) fn put_input<L: Width, S: Store, R: Read + Drop, E: Sink, A: AtHand<R>>(
     alloc: Global,
     maker: &mut Maker<S, L>,
     options: &MakeOptions<'_>,
@@ -278,6 +284,7 @@ pub(crate) fn put_input<L: Width, S: Store, R: Read + Drop, E: Write, A: AtHand<
         (λ f. f ≡ NoMemory → S.failures (store_of maker.new) ≡ S.failures (store_of maker.old)) }
     ensures fine { OnOk result (S.failures (store_of maker.new) ≡ S.failures (store_of maker.old)) }
     ensures own { IfErr result (λ f. IsOfBase f → ⊥) }
+    ensures output { OutputSays (E.failed errors.new) result }
 {
     let mut item = Record {
         key: Vec::new(alloc),

@@ -1,5 +1,7 @@
 // The values of a key.
-ghost use Rattle.std.specs.Prelude.{◌≡◌, ◌+◌, ◌≤◌, ◌++◌, ℕ, List, Some, None, IfSome, IfErr, OnOk, codes};
+ghost use Rattle.std.specs.Prelude.{OnErr, ◌≡◌, ◌+◌, ◌≤◌, ◌++◌, ℕ, List, Some, None, IfSome, IfErr, OnOk, codes};
+ghost use Rattle.cdb_read.specs.declared.fault.ReadFault.TheVariants.{Output};
+ghost use Rattle.cdb_tool.specs.Views.Output.{OutputSays};
 ghost use Rattle.cdb_form.specs.Views.KnownBytes.{Writes};
 ghost use Rattle.cdb_read.specs.Lookup.{bytes_of};
 ghost use Rattle.cdb_store.specs.Reads.{OnlyReads};
@@ -13,15 +15,14 @@ use crate::runs::flushed::flushed;
 use crate::runs::shown::Shown;
 use cdb_command::Style;
 use cdb_difference::write_put;
-use cdb_form::{OutFault, Width, write_pieces, write_whole};
+use cdb_form::{OutFault, Sink, Width, write_pieces, write_whole};
 use cdb_read::{Finder, ReadFault, Reader, Span};
 use cdb_store::Store;
-use std::io::Write;
 
 /// Writes a value that a finder gave, with a newline after it in lines. After a fault the writer
 /// holds a prefix of that.
 #[inline(always)]
-fn write_value<L: Width, S: Store, W: Write>(
+fn write_value<L: Width, S: Store, W: Sink>(
     finder: &mut Finder<'_, S, L>,
     value: Span,
     lines: bool,
@@ -37,6 +38,7 @@ fn write_value<L: Width, S: Store, W: Write>(
         (value_text lines (bytes_of b value)) }
     ensures fails { IfErr result
         (CopyingFails S.Store finder.old.reader.now.store finder.new.reader.now.store) }
+    ensures failed { IfErr result (λ fault. fault ≡ Output → W.failed w.new) }
 {
     finder.copy(value, w)?;
     if lines {
@@ -47,15 +49,16 @@ fn write_value<L: Width, S: Store, W: Write>(
 
 /// Writes what comes before the value of a record in a map text. After an `OutFault` the writer holds a
 /// prefix of it.
-fn write_map_head<W: Write>(w: &mut W, key: &[u8]) -> Result<(), OutFault>
-    ensures { Writes result (W.contents w.old) (W.contents w.new) (key.now ++ codes " ") }
+fn write_map_head<W: Sink>(w: &mut W, key: &[u8]) -> Result<(), OutFault>
+    ensures writes { Writes result (W.contents w.old) (W.contents w.new) (key.now ++ codes " ") }
+    ensures failed { OnErr result (W.failed w.new) }
 {
     write_pieces(w, &[key, b" "])
 }
 
 /// Writes a value that a finder gave as a record of a map text. After a fault the writer holds a
 /// prefix of that.
-fn write_map_put<L: Width, S: Store, W: Write>(
+fn write_map_put<L: Width, S: Store, W: Sink>(
     finder: &mut Finder<'_, S, L>,
     key: &[u8],
     value: Span,
@@ -71,6 +74,7 @@ fn write_map_put<L: Width, S: Store, W: Write>(
         (record_text Map key.now (bytes_of b value)) }
     ensures fails { IfErr result
         (CopyingFails S.Store finder.old.reader.now.store finder.new.reader.now.store) }
+    ensures failed { IfErr result (λ fault. fault ≡ Output → W.failed w.new) }
 {
     write_map_head(w, key)?;
     finder.copy(value, w)?;
@@ -80,7 +84,7 @@ fn write_map_put<L: Width, S: Store, W: Write>(
 
 /// Writes a value that a finder gave. After a fault the writer holds a prefix of that.
 #[inline(always)]
-fn write_shown<L: Width, S: Store, W: Write>(
+fn write_shown<L: Width, S: Store, W: Sink>(
     finder: &mut Finder<'_, S, L>,
     value: Span,
     shown: Shown<'_>,
@@ -96,6 +100,7 @@ fn write_shown<L: Width, S: Store, W: Write>(
         (shown_text shown.entry (bytes_of b value)) }
     ensures fails { IfErr result
         (CopyingFails S.Store finder.old.reader.now.store finder.new.reader.now.store) }
+    ensures failed { IfErr result (λ fault. fault ≡ Output → W.failed w.new) }
 {
     match shown {
         Shown::Value { lines } => write_value(finder, value, lines, w),
@@ -121,7 +126,7 @@ fn write_shown<L: Width, S: Store, W: Write>(
 ///
 /// After `Read(Device)` a further call goes on with the values that the finder has left. The writer is
 /// not flushed.
-pub fn query_from<L: Width, S: Store, W: Write>(
+pub fn query_from<L: Width, S: Store, W: Sink>(
     finder: &mut Finder<'_, S, L>,
     shown: Shown<'_>,
     w: &mut W,
@@ -133,6 +138,7 @@ pub fn query_from<L: Width, S: Store, W: Write>(
         (W.contents w.old) (W.contents w.new)) }
     ensures fails { IfErr result (LeftFails L.WORD (shown_text shown.entry) finder.old finder.new
         (W.contents w.old) (W.contents w.new)) }
+    ensures output { OutputSays (W.failed w.new) result }
 {
     let mut found = false;
     while let Some(value) = finder.next()? {
@@ -143,21 +149,22 @@ pub fn query_from<L: Width, S: Store, W: Write>(
 }
 
 /// Writes all values of a key.
-fn write_all<L: Width, S: Store, W: Write>(
+fn write_all<L: Width, S: Store, W: Sink>(
     reader: &mut Reader<S, L>,
     key: &[u8],
     shown: Shown<'_>,
     w: &mut W,
 ) -> Result<(), Fault>
-    ensures { Queries L.WORD S.Store (record { key = key.now; number = None; shown = shown_text shown.entry })
+    ensures queries { Queries L.WORD S.Store (record { key = key.now; number = None; shown = shown_text shown.entry })
         reader.old.store reader.new.store (W.contents w.old) (W.contents w.new) result }
+    ensures output { OutputSays (W.failed w.new) result }
 {
     query_from(&mut reader.find(key), shown, w)
 }
 
 /// Writes the value of a key that has this number, counted from 1. The ones before it are found and
 /// not read, and none after it is looked for.
-fn write_nth<L: Width, S: Store, W: Write>(
+fn write_nth<L: Width, S: Store, W: Sink>(
     reader: &mut Reader<S, L>,
     key: &[u8],
     number: u64,
@@ -165,8 +172,9 @@ fn write_nth<L: Width, S: Store, W: Write>(
     w: &mut W,
 ) -> Result<(), Fault>
     requires { 1 ≤ number }
-    ensures { Queries L.WORD S.Store (record { key = key.now; number = Some number; shown = shown_text shown.entry })
+    ensures queries { Queries L.WORD S.Store (record { key = key.now; number = Some number; shown = shown_text shown.entry })
         reader.old.store reader.new.store (W.contents w.old) (W.contents w.new) result }
+    ensures output { OutputSays (W.failed w.new) result }
 {
     let mut finder = reader.find(key);
     let mut left = number;
@@ -182,7 +190,7 @@ fn write_nth<L: Width, S: Store, W: Write>(
 
 /// Writes values of a key of a database that is open: all, or the one with a number.
 #[inline(always)]
-pub(crate) fn look_up<L: Width, S: Store, W: Write>(
+pub(crate) fn look_up<L: Width, S: Store, W: Sink>(
     reader: &mut Reader<S, L>,
     key: &[u8],
     number: Option<u64>,
@@ -190,9 +198,10 @@ pub(crate) fn look_up<L: Width, S: Store, W: Write>(
     w: &mut W,
 ) -> Result<(), Fault>
     requires { IfSome number (λ j. 1 ≤ j) }
-    ensures { Queries L.WORD S.Store
+    ensures queries { Queries L.WORD S.Store
         (record { key = key.now; number = number; shown = shown_text shown.entry })
         reader.old.store reader.new.store (W.contents w.old) (W.contents w.new) result }
+    ensures output { OutputSays (W.failed w.new) result }
 {
     match number {
         None => write_all(reader, key, shown, w),
@@ -201,7 +210,7 @@ pub(crate) fn look_up<L: Width, S: Store, W: Write>(
 }
 
 /// Writes values of a key, which the writer may keep in a buffer.
-fn query_unflushed<L: Width, S: Store, W: Write>(
+fn query_unflushed<L: Width, S: Store, W: Sink>(
     store: S,
     key: &[u8],
     number: Option<u64>,
@@ -209,8 +218,9 @@ fn query_unflushed<L: Width, S: Store, W: Write>(
     w: &mut W,
 ) -> (S, Result<(), Fault>)
     requires { IfSome number (λ j. 1 ≤ j) }
-    ensures { Queries L.WORD S.Store (record { key = key.now; number = number; shown = value_text lines })
+    ensures queries { Queries L.WORD S.Store (record { key = key.now; number = number; shown = value_text lines })
         store result.0 (W.contents w.old) (W.contents w.new) result.1 }
+    ensures output { OutputSays (W.failed w.new) result.1 }
 {
     let mut reader = match Reader::<S, L>::open(store) {
         Ok(reader) => reader,
@@ -237,7 +247,7 @@ fn query_unflushed<L: Width, S: Store, W: Write>(
 /// Which reads of a store succeeded is not seen. So of `Read(Device)` and `Output` the contract
 /// says that a prefix of the text was written. `query_from`, whose caller keeps the finder, says
 /// that the values that it gave before were written whole.
-pub fn query_run<L: Width, S: Store, W: Write>(
+pub fn query_run<L: Width, S: Store, W: Sink>(
     store: S,
     key: &[u8],
     number: Option<u64>,
@@ -245,8 +255,9 @@ pub fn query_run<L: Width, S: Store, W: Write>(
     w: &mut W,
 ) -> (S, Result<(), Fault>)
     requires { IfSome number (λ j. 1 ≤ j) }
-    ensures { Queries L.WORD S.Store (record { key = key.now; number = number; shown = value_text lines })
+    ensures queries { Queries L.WORD S.Store (record { key = key.now; number = number; shown = value_text lines })
         store result.0 (W.contents w.old) (W.contents w.new) result.1 }
+    ensures output { OutputSays (W.failed w.new) result.1 }
 {
     let (store, queried) = query_unflushed::<L, S, W>(store, key, number, lines, w);
     let answer = flushed(w, queried);

@@ -1,22 +1,23 @@
 // The statistics of a database.
 ghost use Rattle.std.specs.Prelude.{◌≡◌};
+ghost use Rattle.cdb_tool.specs.Views.Output.{OutputSays};
 ghost use Rattle.cdb_tool.specs.Runs.Stats.{TellsStats};
 
 use crate::fault::Fault;
 use crate::runs::flushed::flushed;
 use crate::runs::stats_text::write_stats;
-use cdb_form::Width;
+use cdb_form::{Sink, Width};
 use cdb_read::{Reader, stats};
 use cdb_store::Store;
-use std::io::Write;
 
 /// Writes the statistics of a database that was opened.
-fn write_counted<L: Width, S: Store, W: Write>(
+fn write_counted<L: Width, S: Store, W: Sink>(
     reader: &mut Reader<S, L>,
     w: &mut W,
 ) -> Result<(), Fault>
-    ensures { TellsStats L.WORD S.Store reader.old.store reader.new.store (W.contents w.old)
+    ensures tells { TellsStats L.WORD S.Store reader.old.store reader.new.store (W.contents w.old)
         (W.contents w.new) result }
+    ensures output { OutputSays (W.failed w.new) result }
 {
     let counted = stats(reader)?;
     write_stats(&counted, w)?;
@@ -24,9 +25,10 @@ fn write_counted<L: Width, S: Store, W: Write>(
 }
 
 /// Writes the statistics of a database, which the writer may keep in a buffer.
-fn stats_unflushed<L: Width, S: Store, W: Write>(store: S, w: &mut W) -> (S, Result<(), Fault>)
-    ensures { TellsStats L.WORD S.Store store result.0 (W.contents w.old) (W.contents w.new)
+fn stats_unflushed<L: Width, S: Store, W: Sink>(store: S, w: &mut W) -> (S, Result<(), Fault>)
+    ensures tells { TellsStats L.WORD S.Store store result.0 (W.contents w.old) (W.contents w.new)
         result.1 }
+    ensures output { OutputSays (W.failed w.new) result.1 }
 {
     let mut reader = match Reader::<S, L>::open(store) {
         Ok(reader) => reader,
@@ -49,9 +51,10 @@ fn stats_unflushed<L: Width, S: Store, W: Write>(store: S, w: &mut W) -> (S, Res
 ///
 /// But for `Output` nothing was written then. The store is handed back whatever the answer, and was
 /// only read. The writer is flushed last, after a fault too.
-pub fn stats_run<L: Width, S: Store, W: Write>(store: S, w: &mut W) -> (S, Result<(), Fault>)
-    ensures { TellsStats L.WORD S.Store store result.0 (W.contents w.old) (W.contents w.new)
+pub fn stats_run<L: Width, S: Store, W: Sink>(store: S, w: &mut W) -> (S, Result<(), Fault>)
+    ensures tells { TellsStats L.WORD S.Store store result.0 (W.contents w.old) (W.contents w.new)
         result.1 }
+    ensures output { OutputSays (W.failed w.new) result.1 }
 {
     let (store, told) = stats_unflushed::<L, S, W>(store, w);
     let answer = flushed(w, told);

@@ -1,17 +1,17 @@
 // The text of statistics.
-ghost use Rattle.std.specs.Prelude.{◌++◌, codes, decimal};
+ghost use Rattle.std.specs.Prelude.{OnErr, ◌++◌, codes, decimal};
 ghost use Rattle.cdb_form.specs.Views.KnownBytes.{Writes};
 ghost use Rattle.cdb_tool.specs.Runs.StatsText.{count_line, triple_line, distance_lines};
 ghost use Rattle.cdb_tool.specs.Runs.StatsText.{stats_text};
 
-use cdb_form::{OutFault, write_pieces};
+use cdb_form::{OutFault, Sink, write_pieces};
 use cdb_read::Stats;
 use itoa::Buffer;
-use std::io::Write;
 
 /// Writes a line of a number. After an `OutFault` the writer holds a prefix of it.
-fn write_count<W: Write>(words: &[u8], count: u64, w: &mut W) -> Result<(), OutFault>
-    ensures { Writes result (W.contents w.old) (W.contents w.new) (count_line words.now count) }
+fn write_count<W: Sink>(words: &[u8], count: u64, w: &mut W) -> Result<(), OutFault>
+    ensures writes { Writes result (W.contents w.old) (W.contents w.new) (count_line words.now count) }
+    ensures failed { OnErr result (W.failed w.new) }
 {
     let mut digits = Buffer::new();
     let count = digits.format(count).as_bytes();
@@ -19,14 +19,15 @@ fn write_count<W: Write>(words: &[u8], count: u64, w: &mut W) -> Result<(), OutF
 }
 
 /// Writes a line of three numbers. After an `OutFault` the writer holds a prefix of it.
-fn write_triple<W: Write>(
+fn write_triple<W: Sink>(
     words: &[u8],
     first: u64,
     second: u64,
     third: u64,
     w: &mut W,
 ) -> Result<(), OutFault>
-    ensures { Writes result (W.contents w.old) (W.contents w.new) (triple_line words.now first second third) }
+    ensures writes { Writes result (W.contents w.old) (W.contents w.new) (triple_line words.now first second third) }
+    ensures failed { OnErr result (W.failed w.new) }
 {
     let mut digits = (Buffer::new(), Buffer::new(), Buffer::new());
     let first = digits.0.format(first).as_bytes();
@@ -36,8 +37,9 @@ fn write_triple<W: Write>(
 }
 
 /// Writes the line of a distance below 10. After an `OutFault` the writer holds a prefix of it.
-fn write_distance<W: Write>(distance: usize, count: u64, w: &mut W) -> Result<(), OutFault>
-    ensures { Writes result (W.contents w.old) (W.contents w.new) (count_line (codes "distance " ++ decimal distance) count) }
+fn write_distance<W: Sink>(distance: usize, count: u64, w: &mut W) -> Result<(), OutFault>
+    ensures writes { Writes result (W.contents w.old) (W.contents w.new) (count_line (codes "distance " ++ decimal distance) count) }
+    ensures failed { OnErr result (W.failed w.new) }
 {
     let (mut distances, mut counts) = (Buffer::new(), Buffer::new());
     let distance = distances.format(distance).as_bytes();
@@ -46,8 +48,9 @@ fn write_distance<W: Write>(distance: usize, count: u64, w: &mut W) -> Result<()
 }
 
 /// Writes the lines of all distances. After an `OutFault` the writer holds a prefix of them.
-fn write_distances<W: Write>(counts: &[u64; 11], w: &mut W) -> Result<(), OutFault>
-    ensures { Writes result (W.contents w.old) (W.contents w.new) (distance_lines counts.now) }
+fn write_distances<W: Sink>(counts: &[u64; 11], w: &mut W) -> Result<(), OutFault>
+    ensures writes { Writes result (W.contents w.old) (W.contents w.new) (distance_lines counts.now) }
+    ensures failed { OnErr result (W.failed w.new) }
 {
     for distance in 0..10usize {
         write_distance(distance, counts[distance], w)?;
@@ -56,8 +59,9 @@ fn write_distances<W: Write>(counts: &[u64; 11], w: &mut W) -> Result<(), OutFau
 }
 
 /// Writes the text of statistics. After an `OutFault` the writer holds a prefix of it.
-pub(crate) fn write_stats<W: Write>(stats: &Stats, w: &mut W) -> Result<(), OutFault>
-    ensures { Writes result (W.contents w.old) (W.contents w.new) (stats_text stats.now) }
+pub(crate) fn write_stats<W: Sink>(stats: &Stats, w: &mut W) -> Result<(), OutFault>
+    ensures writes { Writes result (W.contents w.old) (W.contents w.new) (stats_text stats.now) }
+    ensures failed { OnErr result (W.failed w.new) }
 {
     write_count(b"records", stats.records, w)?;
     let words = b"key lengths least/average/greatest";

@@ -1,5 +1,6 @@
 // A file made a text: a dump has its records, a list their keys.
 ghost use Rattle.std.specs.Prelude.{ℕ, List, Option};
+ghost use Rattle.cdb_tool.specs.Views.Output.{OutputSays};
 ghost use Rattle.cdb_tool.specs.Runs.Form.{form_of, dump_form, list_form};
 ghost use Rattle.cdb_tool.specs.Runs.WalkText.{WritesWalk};
 
@@ -7,9 +8,9 @@ use crate::fault::Fault;
 use crate::runs::content::Content;
 use crate::runs::walk_text::write_walk;
 use cdb_command::Style;
-use cdb_form::{AtHand, NoneAtHand, RecordReader, Width};
+use cdb_form::{AtHand, NoneAtHand, RecordReader, Sink, Width};
 use std::alloc::Global;
-use std::io::{Read, Write};
+use std::io::Read;
 
 /// Writes the text of the records of a database file, in one pass over the file.
 ///
@@ -25,43 +26,46 @@ use std::io::{Read, Write};
 ///
 /// The reader is dropped, and what it gave is not seen then. So of `Walk(Input)` and `NoMemory` the
 /// contract says that the texts of some first records of the file were written.
-pub fn dump_run<L: Width, R: Read + Drop, W: Write>(
+pub fn dump_run<L: Width, R: Read + Drop, W: Sink>(
     alloc: Global,
     reader: R,
     style: Style,
     w: &mut W,
 ) -> Result<(), Fault>
-    ensures { (rest : Option (List ℕ)) × WritesWalk L.WORD (dump_form style)
+    ensures writes { (rest : Option (List ℕ)) × WritesWalk L.WORD (dump_form style)
         (R.remaining reader) rest (W.contents w.old) (W.contents w.new) result }
+    ensures output { OutputSays (W.failed w.new) result }
 {
     text_run_buffered::<L, R, W, NoneAtHand>(alloc, Content::Records, reader, style, w)
 }
 
 /// Writes the text of the keys of a database file, as `dump_run` does that of its records. Values are
 /// passed over, so they take no memory.
-pub fn list_run<L: Width, R: Read + Drop, W: Write>(
+pub fn list_run<L: Width, R: Read + Drop, W: Sink>(
     alloc: Global,
     reader: R,
     style: Style,
     w: &mut W,
 ) -> Result<(), Fault>
-    ensures { (rest : Option (List ℕ)) × WritesWalk L.WORD (list_form style)
+    ensures writes { (rest : Option (List ℕ)) × WritesWalk L.WORD (list_form style)
         (R.remaining reader) rest (W.contents w.old) (W.contents w.new) result }
+    ensures output { OutputSays (W.failed w.new) result }
 {
     text_run_buffered::<L, R, W, NoneAtHand>(alloc, Content::Keys, reader, style, w)
 }
 
 /// Does what `dump_run` or `list_run` does, and takes a record that the reader has at hand without
 /// asking for it.
-pub fn text_run_buffered<L: Width, R: Read + Drop, W: Write, A: AtHand<R>>(
+pub fn text_run_buffered<L: Width, R: Read + Drop, W: Sink, A: AtHand<R>>(
     alloc: Global,
     content: Content,
     reader: R,
     style: Style,
     w: &mut W,
 ) -> Result<(), Fault>
-    ensures { (rest : Option (List ℕ)) × WritesWalk L.WORD (form_of content style)
+    ensures writes { (rest : Option (List ℕ)) × WritesWalk L.WORD (form_of content style)
         (R.remaining reader) rest (W.contents w.old) (W.contents w.new) result }
+    ensures output { OutputSays (W.failed w.new) result }
 {
     let mut records = RecordReader::<R, L>::new(alloc, reader);
     write_walk::<L, R, W, A>(alloc, &mut records, content, style, w)

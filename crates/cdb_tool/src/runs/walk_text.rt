@@ -1,5 +1,6 @@
 // The text of the records or of the keys of a file.
-ghost use Rattle.std.specs.Prelude.{◌≡◌, IfOk, IfErr, MatchBool};
+ghost use Rattle.std.specs.Prelude.{OnErr, ◌≡◌, IfOk, IfErr, MatchBool};
+ghost use Rattle.cdb_tool.specs.Views.Output.{OutputSays};
 ghost use Rattle.cdb_form.specs.Format.Record.{KeyValue};
 ghost use Rattle.cdb_form.specs.Views.KnownBytes.{Writes};
 ghost use Rattle.cdb_form.specs.Views.RecordReader.{unread, IsFresh, GivesRecord, GivesEnd, Fails};
@@ -12,11 +13,11 @@ use crate::runs::content::Content;
 use crate::runs::flushed::flushed;
 use cdb_command::Style;
 use cdb_form::{
-    AtHand, OutFault, Record, RecordReader, WalkFault, Width, write_end, write_list_record,
+    AtHand, OutFault, Record, RecordReader, Sink, WalkFault, Width, write_end, write_list_record,
     write_map_key, write_map_record, write_record,
 };
 use std::alloc::Global;
-use std::io::{Read, Write};
+use std::io::Read;
 
 /// Reads what the text has of the next record over another record. A value that it does not have is
 /// passed over, and takes no memory.
@@ -40,15 +41,16 @@ fn read_item<L: Width, R: Read>(
 
 /// Writes what the text has of a record. After an `OutFault` the writer holds a prefix of it.
 #[inline(always)]
-fn write_item<W: Write>(
+fn write_item<W: Sink>(
     w: &mut W,
     content: Content,
     style: Style,
     key: &[u8],
     value: &[u8],
 ) -> Result<(), OutFault>
-    ensures { (r : KeyValue) → IsHeld content key.now value.now r
+    ensures writes { (r : KeyValue) → IsHeld content key.now value.now r
         → Writes result (W.contents w.old) (W.contents w.new) (item_of content style r) }
+    ensures failed { OnErr result (W.failed w.new) }
 {
     match (content, style) {
         (Content::Records, Style::Native) => write_record(w, key, value),
@@ -59,8 +61,9 @@ fn write_item<W: Write>(
 }
 
 /// Writes what ends the text. After an `OutFault` the writer holds a prefix of it.
-pub(crate) fn write_last<W: Write>(w: &mut W, style: Style) -> Result<(), OutFault>
-    ensures { Writes result (W.contents w.old) (W.contents w.new) (end_of style) }
+pub(crate) fn write_last<W: Sink>(w: &mut W, style: Style) -> Result<(), OutFault>
+    ensures writes { Writes result (W.contents w.old) (W.contents w.new) (end_of style) }
+    ensures failed { OnErr result (W.failed w.new) }
 {
     match style {
         Style::Native => write_end(w),
@@ -70,7 +73,7 @@ pub(crate) fn write_last<W: Write>(w: &mut W, style: Style) -> Result<(), OutFau
 
 /// Writes the text of a file, which the writer may keep in a buffer. A record that is whole at hand is
 /// written from where it lies.
-fn write_unflushed<L: Width, R: Read, W: Write, A: AtHand<R>>(
+fn write_unflushed<L: Width, R: Read, W: Sink, A: AtHand<R>>(
     alloc: Global,
     records: &mut RecordReader<R, L>,
     content: Content,
@@ -78,8 +81,9 @@ fn write_unflushed<L: Width, R: Read, W: Write, A: AtHand<R>>(
     w: &mut W,
 ) -> Result<(), Fault>
     requires { IsFresh records.old }
-    ensures { WritesWalk L.WORD (form_of content style) (unread R.remaining records.old)
+    ensures writes { WritesWalk L.WORD (form_of content style) (unread R.remaining records.old)
         (unread R.remaining records.new) (W.contents w.old) (W.contents w.new) result }
+    ensures output { OutputSays (W.failed w.new) result }
 {
     let mut record = Record {
         key: Vec::new(alloc),
@@ -102,7 +106,7 @@ fn write_unflushed<L: Width, R: Read, W: Write, A: AtHand<R>>(
 
 /// Writes the text of a file, of which nothing was read yet, and flushes the writer, after a fault
 /// too.
-pub(crate) fn write_walk<L: Width, R: Read, W: Write, A: AtHand<R>>(
+pub(crate) fn write_walk<L: Width, R: Read, W: Sink, A: AtHand<R>>(
     alloc: Global,
     records: &mut RecordReader<R, L>,
     content: Content,
@@ -110,8 +114,9 @@ pub(crate) fn write_walk<L: Width, R: Read, W: Write, A: AtHand<R>>(
     w: &mut W,
 ) -> Result<(), Fault>
     requires { IsFresh records.old }
-    ensures { WritesWalk L.WORD (form_of content style) (unread R.remaining records.old)
+    ensures writes { WritesWalk L.WORD (form_of content style) (unread R.remaining records.old)
         (unread R.remaining records.new) (W.contents w.old) (W.contents w.new) result }
+    ensures output { OutputSays (W.failed w.new) result }
 {
     let written = write_unflushed::<L, R, W, A>(alloc, records, content, style, w);
     flushed(w, written)

@@ -7,5 +7,5 @@ returns g c = inr (record {
   whole = c.in_ok-store.ensures.ok;
   few = c.in_ok-store.ensures.few;
   left = c.stats_run.result.0;
-  does = c.stats_run.ensures;
+  does = c.stats_run.ensures.tells;
 })

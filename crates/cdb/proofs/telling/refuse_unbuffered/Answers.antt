@@ -5,4 +5,4 @@ use Rattle.cdb.proofs.telling.refuse_unbuffered.Goals as goal
 pub returns-clause-line : goal.returns-clause-line
 returns-clause-line g c =
     let line = ap (λ t. codes "cdb: " ++ (t ++ codes "\n")) (c.as_bytes.ensures.value ∙ c.message.ensures) in
-    same_writes c.write_pieces-written.result _ _ _ _ line c.write_pieces-written.ensures
+    same_writes c.write_pieces-written.result _ _ _ _ line c.write_pieces-written.ensures.writes

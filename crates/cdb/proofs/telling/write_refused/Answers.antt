@@ -12,12 +12,12 @@ first_line : (explained : Bool) (r : Refused) → (more : List ℕ) × (refused_
 first_line true r = (refused_line r, refl)
 first_line false r = ([], sym (append-nil (usage_line (usage_of r))))
 
-pub returns-in_err-take_pieces-clause-writes : goal.returns-in_err-take_pieces-clause-writes
-returns-in_err-take_pieces-clause-writes g c =
+pub returns-in_err-write_pieces-clause-writes : goal.returns-in_err-write_pieces-clause-writes
+returns-in_err-write_pieces-clause-writes g c =
     let p = err_from_is_err_and c.from_residual.result c.from_residual.ensures.1 in
     let r = refused_in c.args.fault.now in
     let line = ap (λ t. codes "cdb: " ++ (t ++ codes "\n")) (c.as_bytes.ensures.value ∙ c.message.ensures ∙ ap usage_message c.usage.ensures) in
-    let first = same_prefix _ _ _ (usage_line (usage_of r)) line c.in_err-take_pieces.ensures.writes.err in
+    let first = same_prefix _ _ _ (usage_line (usage_of r)) line c.in_err-write_pieces.ensures.writes.err in
     let split = first_line c.args.explains r in
     writes_prefix _ _ _ _ _ p.1 (prefix_in _ _ (usage_line (usage_of r)) split.0 _ first split.1)
 
@@ -27,6 +27,6 @@ returns-in_err-write_word_fault-clause-writes g c =
     let p = err_from_is_err_and c.from_residual-in_err-write_word_fault.result c.from_residual-in_err-write_word_fault.ensures.1 in
     let r = refused_in c.args.fault.now in
     let line = ap (λ t. codes "cdb: " ++ (t ++ codes "\n")) (c.as_bytes.ensures.value ∙ c.message.ensures ∙ ap usage_message c.usage.ensures) in
-    let first = same_appends _ _ _ (usage_line (usage_of r)) line c.in_ok-take_pieces.ensures.writes.ok in
+    let first = same_appends _ _ _ (usage_line (usage_of r)) line c.in_ok-write_pieces.ensures.writes.ok in
     writes_prefix _ _ _ _ _ p.1 (prefix_last _ _ _ (usage_line (usage_of r)) (refused_line r) _ first c.in_err-write_word_fault.ensures.writes.err
     (ap (λ b. refused_lines b r) c.if-explains.true))

@@ -11,4 +11,4 @@ returns-in_err-write_fault-clause-writes g c =
 
 pub returns-clause-writes : goal.returns-clause-writes
 returns-clause-writes g c =
-    writes_last c.take_all.result _ _ _ (fault_line c.args.fault.now) c.args.more.now _ c.in_ok-write_fault.ensures.writes.ok c.take_all.ensures.writes refl
+    writes_last c.write_whole.result _ _ _ (fault_line c.args.fault.now) c.args.more.now _ c.in_ok-write_fault.ensures.writes.ok c.write_whole.ensures.writes refl

@@ -18,8 +18,8 @@ line_is x y i j a b =
     ∙ ap (λ t. codes "cdb: input " ++ (decimal i ++ (codes ": record " ++ (t ++ (codes ": duplicate key\n" ++ []))))) b
     ∙ sym (in_five i j)
 
-pub returns : goal.returns
-returns g c =
+pub returns-clause-writes : goal.returns-clause-writes
+returns-clause-writes g c =
     same_writes c.write_pieces.result _ _ _ _
     (line_is _ _ c.args.input c.args.number (c.as_bytes-input.ensures.value ∙ c.format.ensures.text) (c.as_bytes-number.ensures.value ∙ c.format-2.ensures.text))
-    c.write_pieces.ensures
+    c.write_pieces.ensures.writes

@@ -47,7 +47,7 @@ loop-fault-preserved-in-Ok g c =
     let new = c.read_into.new.self in
     let key = c.read_into.new.into.key.items in
     let more = keys_more greatest remaining input c.loop-fault.keys new inv.last key inv.gave one in
-    let query = rw (c.deref.ensures.value, c.in-Ok.is) at c.look_up_record.ensures in
+    let query = rw (c.deref.ensures.value, c.in-Ok.is) at c.look_up_record.ensures.queries in
     record {
       last = inv.last ++ more.item ∷ [];
       gave = more.gave;
@@ -69,7 +69,7 @@ loop-fault-preserved g c =
     let new = c.read_into.new.self in
     let key = c.read_into.new.into.key.items in
     let more = keys_more greatest remaining input c.loop-fault.keys new inv.last key inv.gave one in
-    let query = rw (c.deref.ensures.value, c.in-Err-look_up_record.is, c.in-Missing.is) at c.look_up_record.ensures in
+    let query = rw (c.deref.ensures.value, c.in-Err-look_up_record.is, c.in-Missing.is) at c.look_up_record.ensures.queries in
     record {
       last = inv.last ++ more.item ∷ [];
       gave = more.gave;
@@ -91,7 +91,7 @@ returns-in_default g c =
     let new = c.read_into.new.self in
     let key = c.read_into.new.into.key.items in
     let more = keys_more greatest remaining input c.loop-fault.keys new inv.last key inv.gave one in
-    let query = rw (c.deref.ensures.value, c.in-Err-look_up_record.is) at c.look_up_record.ensures in
+    let query = rw (c.deref.ensures.value, c.in-Err-look_up_record.is) at c.look_up_record.ensures.queries in
     record {
       reads = reads_more inv.reads query.reads;
       ok = tt;
@@ -99,4 +99,5 @@ returns-in_default g c =
           key_stops _ greatest g.S.Store _ _ c.args.input before _ key input (form_of c.args.keys) (inv.last ++ more.item ∷ []) c.args.reader.now.store _ _ start _ _ c.loop-fault.missing c.in-Err-look_up_record.fault
           (subst (λ v. IfSome input (BeginsWithItems v greatest (inv.last ++ more.item ∷ []))) (same_form greatest remaining c.loop-fault.keys new key one ∙ inv.form) (keys_first greatest remaining input new _ more.gave))
           (keys_behind before inv.last more.item key more.has) (inv.looked before start h) inv.reads c.loop-fault.reader.long query c.in_default.not-Missing;
+      output = rw c.in-Err-look_up_record.is at c.look_up_record.ensures.output;
     }

@@ -4,7 +4,7 @@ use Rattle.cdb_tool.proofs.RunEnds.{runs_flushed}
 use Rattle.cdb_tool.proofs.runs.make.make_run_from.Goals as goal
 
 pub returns-clause-runs : goal.returns-clause-runs
-returns-clause-runs g c = runs_flushed g.B.Store _ _ _ _ _ _ _ _ _ _ _ c.make_unflushed-made.ensures.runs c.flushed-answer.ensures
+returns-clause-runs g c = runs_flushed g.B.Store _ _ _ _ _ _ _ _ _ _ _ c.make_unflushed-made.ensures.runs c.flushed-answer.ensures.flushes
 
 pub returns-clause-settled : goal.returns-clause-settled
 returns-clause-settled g c = grind (arith, common_steps)

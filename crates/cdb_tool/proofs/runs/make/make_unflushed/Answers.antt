@@ -21,7 +21,7 @@ returns-in-Err-put-clause-runs g c =
     let holds = (rw c.in_default.is at add.ok) c.in-Ok.ensures.begins.holds in
     let some = hands_some g.B.Store c.args.base base add.hands ∙ sym c.is_some-amends.ensures in
     rw c.into_store-in-Err-put.ensures
-    (runs_stopped {s = g.S.Store} {l = g.L.Width} g.B.Store base g.L.Width.GREATEST c.args.options.now c.is_some-amends.result _ (g.E.Write.contents c.args.errors.now) _ c.add_base-base.new.maker _ c.in-Err-put.fault
+    (runs_stopped {s = g.S.Store} {l = g.L.Width} g.B.Store base g.L.Width.GREATEST c.args.options.now c.is_some-amends.result _ (g.E.Sink.contents c.args.errors.now) _ c.add_base-base.new.maker _ c.in-Err-put.fault
     g.met.L.Width.four_or_eight holds (add.follows.limit ∙ c.in-Ok.ensures.begins.limited) some c.put_inputs-put.ensures.follows.comes
     (λ k same based begins. c.in-Err-put.ensures.fails k _ same based begins))
 
@@ -33,7 +33,7 @@ returns-in-Ok-finish-clause-runs g c =
     let some = hands_some g.B.Store c.args.base base add.hands ∙ sym c.is_some-amends.ensures in
     let put = c.in_default-put.ensures.ok in
     let are = subst (λ (v : Bool). AreAllInputs (input_form c.args.options.now.style v) g.L.Width.GREATEST put.0 (inputs_left g.J.Read.remaining g.I.Read.remaining c.args.inputs)) (sym some) put.1 in
-    runs_whole {s = g.S.Store} {l = g.L.Width} g.B.Store base g.L.Width.GREATEST c.args.options.now _ put.0 (g.E.Write.contents c.args.errors.now) _ c.add_base-base.new.maker c.put_inputs-put.new.maker _
+    runs_whole {s = g.S.Store} {l = g.L.Width} g.B.Store base g.L.Width.GREATEST c.args.options.now _ put.0 (g.E.Sink.contents c.args.errors.now) _ c.add_base-base.new.maker c.put_inputs-put.new.maker _
     g.met.L.Width.four_or_eight holds (add.follows.limit ∙ c.in-Ok.ensures.begins.limited) are (λ k same begins. put.2 k _ same begins) c.put_inputs-put.ensures.follows.comes c.in-Ok-finish.ensures.comes c.in-Ok-finish.ensures.file
 
 pub returns-in-Err-finish-clause-runs : goal.returns-in-Err-finish-clause-runs
@@ -46,7 +46,7 @@ returns-in-Err-finish-clause-runs g c =
     let e = c.in-Err-finish.ensures in
     let are = subst (λ (v : Bool). AreAllInputs (input_form c.args.options.now.style v) g.L.Width.GREATEST put.0 (inputs_left g.J.Read.remaining g.I.Read.remaining c.args.inputs)) (sym some) put.1 in
     rw (c.from-in-Err-finish.ensures, c.into_store-in-Err-finish.ensures)
-    (runs_unfinished {s = g.S.Store} {l = g.L.Width} g.B.Store base g.L.Width.GREATEST c.args.options.now _ put.0 (g.E.Write.contents c.args.errors.now) _ c.add_base-base.new.maker c.put_inputs-put.new.maker c.in-Err-finish.unfinished.maker c.in-Err-finish.unfinished.fault
+    (runs_unfinished {s = g.S.Store} {l = g.L.Width} g.B.Store base g.L.Width.GREATEST c.args.options.now _ put.0 (g.E.Sink.contents c.args.errors.now) _ c.add_base-base.new.maker c.put_inputs-put.new.maker c.in-Err-finish.unfinished.maker c.in-Err-finish.unfinished.fault
     g.met.L.Width.four_or_eight holds (add.follows.limit ∙ c.in-Ok.ensures.begins.limited) are (λ k same begins. put.2 k _ same begins) c.put_inputs-put.ensures.follows.comes e.fails_comes e.fails)
 
 pub returns-in-Err-finish-clause-base_failed : goal.returns-in-Err-finish-clause-base_failed
@@ -60,7 +60,7 @@ returns-in-Err-added-clause-runs g c =
     let add = c.add_base-base.ensures in
     let base = c.add_base-base.result.0 in
     let fails = (rw c.in-Err-added.is at add.fails) c.in-Ok.ensures.begins.holds in
-    rw c.into_store.ensures (runs_unbased g.B.Store base _ _ c.args.options.now _ _ (g.E.Write.contents c.args.errors.now) _ c.in-Err-added.fault c.in-Ok.ensures.begins.limited fails)
+    rw c.into_store.ensures (runs_unbased g.B.Store base _ _ c.args.options.now _ _ (g.E.Sink.contents c.args.errors.now) _ c.in-Err-added.fault c.in-Ok.ensures.begins.limited fails)
 
 pub returns-in-Err-finish-clause-failed : goal.returns-in-Err-finish-clause-failed
 returns-in-Err-finish-clause-failed g c =

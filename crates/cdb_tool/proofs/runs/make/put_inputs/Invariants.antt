@@ -9,6 +9,6 @@ invariant-loop-turn g l =
     record {
       next : (goal.iterator-loop-turn g).can_next l.turn-iterator;
       finite : (goal.iterator-loop-turn g).is_finite l.turn-iterator;
-      put : PutSoFar {s = g.S.Store} {l = g.L.Width} g.L.Width.GREATEST g.J.Read.remaining g.I.Read.remaining l.fn.options (input_form l.fn.options.style l.fn.amends) l.fn.inputs l.turn-iterator.rest.items l.shared l.number (g.E.Write.contents l.fn.errors) (g.E.Write.contents l.errors) l.fn.maker l.maker;
+      put : PutSoFar {s = g.S.Store} {l = g.L.Width} g.L.Width.GREATEST g.J.Read.remaining g.I.Read.remaining l.fn.options (input_form l.fn.options.style l.fn.amends) l.fn.inputs l.turn-iterator.rest.items l.shared l.number (g.E.Sink.contents l.fn.errors) (g.E.Sink.contents l.errors) l.fn.maker l.maker;
       fine : g.S.Store.failures l.maker.store ≡ g.S.Store.failures l.fn.maker.store;
     }

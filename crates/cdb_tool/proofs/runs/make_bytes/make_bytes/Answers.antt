@@ -2,8 +2,8 @@ use Rattle.cdb_form.specs.Views.TextReader.{unread}
 use Rattle.cdb_tool.proofs.WholeRuns.{makes_flushed}
 use Rattle.cdb_tool.proofs.runs.make_bytes.make_bytes.Goals as goal
 
-pub returns : goal.returns
-returns g c = (
+pub returns-clause-makes : goal.returns-clause-makes
+returns-clause-makes g c = (
   unread g.R.Read.remaining c.make_bytes_unflushed-made.new.text,
-  rw c.new-text.ensures.unread at (makes_flushed _ _ _ _ _ _ _ _ _ c.make_bytes_unflushed-made.ensures c.flushed.ensures),
+  rw c.new-text.ensures.unread at (makes_flushed _ _ _ _ _ _ _ _ _ c.make_bytes_unflushed-made.ensures.makes c.flushed.ensures.flushes),
 )

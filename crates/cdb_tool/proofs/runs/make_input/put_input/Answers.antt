@@ -63,7 +63,7 @@ loop-peeked-preserved g c =
       number = sym (length-append inv.last (item ∷ []) ∙ ap (λ (n : ℕ). n + 1) (sym inv.number));
       asks = omega (arith, inv.asks, items_fewer greatest remaining old new item one);
       course = λ t read start o n h.
-          subst (λ cs. InCourse {s = g.S.Store} {l = g.L.Width} t cs start (g.E.Write.contents c.do_item.new.errors) c.do_item.new.maker)
+          subst (λ cs. InCourse {s = g.S.Store} {l = g.L.Width} t cs start (g.E.Sink.contents c.do_item.new.errors) c.do_item.new.maker)
           (sym (came_more c.args.input (c.loop-peeked.number + 1) read inv.last item n (ap (λ (n : ℕ). n + 1) inv.number)))
           (c.in_ok-do_item.ensures.ok t _ start o (inv.course t read start o n h));
       follows = follows_then _ _ _ inv.follows c.do_item.ensures.follows;
@@ -86,7 +86,7 @@ loop-peeked-preserved-in-Continue-1 g c =
       number = sym (length-append inv.last (item ∷ []) ∙ ap (λ (n : ℕ). n + 1) (sym inv.number));
       asks = omega (arith, inv.asks, items_fewer greatest remaining old new item one);
       course = λ t read start o n h.
-          subst (λ cs. InCourse {s = g.S.Store} {l = g.L.Width} t cs start (g.E.Write.contents c.put_record-put.new.errors) c.put_record-put.new.maker)
+          subst (λ cs. InCourse {s = g.S.Store} {l = g.L.Width} t cs start (g.E.Sink.contents c.put_record-put.new.errors) c.put_record-put.new.maker)
           (sym (came_more c.args.input (c.loop-peeked.number + 1) read inv.last item n (ap (λ (n : ℕ). n + 1) inv.number)))
           (c.in_ok-put.ensures.ok t _ start o (inv.course t read start o n h));
       follows = follows_then _ _ _ inv.follows c.put_record-put.ensures.follows;

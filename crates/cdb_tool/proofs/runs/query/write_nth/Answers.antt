@@ -27,8 +27,8 @@ loop-value-preserved g c =
       passed = passed_more {s = g.S.Store} {l = g.L.Width} _ _ _ c.loop-value.finder c.next.new.self _ c.loop-value.left (c.loop-value.left - 1) _ _ c.in-Some.value inv.passed c.next.ensures.reads one less some;
     }
 
-pub returns-in_err-write_shown : goal.returns-in_err-write_shown
-returns-in_err-write_shown g c =
+pub returns-in_err-write_shown-clause-queries : goal.returns-in_err-write_shown-clause-queries
+returns-in_err-write_shown-clause-queries g c =
     let p = err_from_is_err_and c.from_residual-in_err-write_shown.result c.from_residual-in_err-write_shown.ensures.1 in
     let inv = c.loop-value.invariant in
     let one = rw c.in-Some.is at c.in_ok-value.ensures.gives in
@@ -43,8 +43,8 @@ returns-in_err-write_shown g c =
     (copying_fails _ g.S.Store _ _ c.next.new.self.reader.now.store _ _ _ c.in_err-write_shown.field-0.0 next.reads written.reads c.args.reader.now.long c.in_err-write_shown.ensures.fails
     (λ b is. nth_prefix {s = g.S.Store} {l = g.L.Width} _ _ _ _ c.write_shown.new.finder _ _ _ _ inv.passed.spans c.in-Some.value b found count is inv.passed.kept (c.in_err-write_shown.ensures.writes b is).err)))
 
-pub returns-then-left-eq0 : goal.returns-then-left-eq0
-returns-then-left-eq0 g c =
+pub returns-then-left-eq0-clause-queries : goal.returns-then-left-eq0-clause-queries
+returns-then-left-eq0-clause-queries g c =
     let inv = c.loop-value.invariant in
     let one = rw c.in-Some.is at c.in_ok-value.ensures.gives in
     let more = inv.passed.more in
@@ -56,8 +56,8 @@ returns-then-left-eq0 g c =
     handed_back c.write_shown.new.finder.reader.now.store _ (search rules)
     (nth_written {s = g.S.Store} {l = g.L.Width} _ _ _ _ c.write_shown.new.finder _ _ _ _ inv.passed.spans c.in-Some.value found count c.args.reader.now.long inv.passed.kept (λ b is. (c.in_ok-write_shown.ensures.writes b is).ok))
 
-pub returns : goal.returns
-returns g c = grind (arith, common_steps)
+pub returns-clause-queries : goal.returns-clause-queries
+returns-clause-queries g c = grind (arith, common_steps)
 
 pub loop-value-smaller : goal.loop-value-smaller
 loop-value-smaller g c = grind (arith, common_steps)

@@ -16,12 +16,12 @@ pub returns-in_err-write_whole-clause-writes : goal.returns-in_err-write_whole-c
 returns-in_err-write_whole-clause-writes g c = λ b is.
     let p = err_from_is_err_and c.from_residual-in_err-write_whole.result c.from_residual-in_err-write_whole.ensures.1 in
     let copied = c.in_ok-copy.ensures.copies b is in
-    writes_prefix _ _ _ _ _ p.1 (prefix_last _ _ _ (bytes_of b c.args.value) (codes "\n") _ copied.ok c.in_err-write_whole.ensures.err (in_lines c.args.lines (bytes_of b c.args.value) c.if-lines.true))
+    writes_prefix _ _ _ _ _ p.1 (prefix_last _ _ _ (bytes_of b c.args.value) (codes "\n") _ copied.ok c.in_err-write_whole.ensures.writes.err (in_lines c.args.lines (bytes_of b c.args.value) c.if-lines.true))
 
 pub returns-in_ok-write_whole-clause-writes : goal.returns-in_ok-write_whole-clause-writes
 returns-in_ok-write_whole-clause-writes g c = λ b is.
     let copied = c.in_ok-copy.ensures.copies b is in
-    record { ok = same_appends _ _ _ _ (sym (in_lines c.args.lines (bytes_of b c.args.value) c.if-lines.true)) (appends_then _ _ _ (bytes_of b c.args.value) (codes "\n") copied.ok c.in_ok-write_whole.ensures.ok); err = tt }
+    record { ok = same_appends _ _ _ _ (sym (in_lines c.args.lines (bytes_of b c.args.value) c.if-lines.true)) (appends_then _ _ _ (bytes_of b c.args.value) (codes "\n") copied.ok c.in_ok-write_whole.ensures.writes.ok); err = tt }
 
 pub returns-else-lines-clause-writes : goal.returns-else-lines-clause-writes
 returns-else-lines-clause-writes g c = grind (arith, common_steps)

@@ -1,5 +1,5 @@
 use Rattle.cdb_tool.proofs.WholeTexts.{written_flushed}
 use Rattle.cdb_tool.proofs.runs.walk_text.write_walk.Goals as goal
 
-pub returns : goal.returns
-returns g c = written_flushed _ _ _ _ _ _ _ _ _ c.write_unflushed-written.ensures c.flushed.ensures
+pub returns-clause-writes : goal.returns-clause-writes
+returns-clause-writes g c = written_flushed _ _ _ _ _ _ _ _ _ c.write_unflushed-written.ensures.writes c.flushed.ensures.flushes

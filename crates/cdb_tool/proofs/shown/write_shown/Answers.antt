@@ -2,7 +2,7 @@ use Rattle.std.proofs.Common.{arith}
 use Rattle.std.proofs.lemmas.Result.{err_from_is_err_and}
 use Rattle.cdb_form.proofs.Bytes.WritingLemmas.{prefix_then, flat_map_at, writes_prefix}
 use Rattle.cdb_command.specs.Shown.{shown_byte}
-use Rattle.cdb_tool.proofs.word_message.write_shown.Goals as goal
+use Rattle.cdb_tool.proofs.shown.write_shown.Goals as goal
 
 pub returns-in_err-write_byte-clause-writes : goal.returns-in_err-write_byte-clause-writes
 returns-in_err-write_byte-clause-writes g c =
