@@ -111,6 +111,7 @@ pub fn write_some<W: Sink>(w: &mut W, bytes: &[u8]) -> Result<usize, OutFault>
 fn write_rest<W: Sink>(w: &mut W, bytes: &[u8]) -> Result<(), OutFault>
     ensures writes { Writes result (W.contents w.old) (W.contents w.new) bytes.now }
     ensures failed { OnErr result (W.failed w.new) }
+    ensures stays { W.failed w.old → W.failed w.new }
 {
     let mut done = 0;
     while done < bytes.len() {
@@ -124,6 +125,7 @@ fn write_rest<W: Sink>(w: &mut W, bytes: &[u8]) -> Result<(), OutFault>
 pub(crate) fn write_at_once<W: Sink>(w: &mut W, bytes: &[u8]) -> Result<(), OutFault>
     ensures writes { Writes result (W.contents w.old) (W.contents w.new) bytes.now }
     ensures failed { OnErr result (W.failed w.new) }
+    ensures stays { W.failed w.old → W.failed w.new }
 {
     if bytes.is_empty() {
         return Ok(());
@@ -141,6 +143,7 @@ pub(crate) fn write_at_once<W: Sink>(w: &mut W, bytes: &[u8]) -> Result<(), OutF
 pub fn write_whole<W: Sink>(w: &mut W, bytes: &[u8]) -> Result<(), OutFault>
     ensures writes { Writes result (W.contents w.old) (W.contents w.new) bytes.now }
     ensures failed { OnErr result (W.failed w.new) }
+    ensures stays { W.failed w.old → W.failed w.new }
 {
     write_at_once(w, bytes)
 }
@@ -167,6 +170,7 @@ fn joined(pieces: &[&[u8]], line: &mut [u8]) -> Option<usize>
 pub(crate) fn write_each<W: Sink>(w: &mut W, pieces: &[&[u8]]) -> Result<(), OutFault>
     ensures writes { Writes result (W.contents w.old) (W.contents w.new) (flat_map (λ p. p.now) pieces.now) }
     ensures failed { OnErr result (W.failed w.new) }
+    ensures stays { W.failed w.old → W.failed w.new }
 {
     for piece in pieces {
         write_whole(w, piece)?;
@@ -179,6 +183,7 @@ pub(crate) fn write_each<W: Sink>(w: &mut W, pieces: &[&[u8]]) -> Result<(), Out
 pub fn write_pieces<W: Sink>(w: &mut W, pieces: &[&[u8]]) -> Result<(), OutFault>
     ensures writes { Writes result (W.contents w.old) (W.contents w.new) (flat_map (λ p. p.now) pieces.now) }
     ensures failed { OnErr result (W.failed w.new) }
+    ensures stays { W.failed w.old → W.failed w.new }
 {
     // Short pieces go as one, since each is a call of the writer.
     let mut line = [0u8; LINE];

@@ -130,6 +130,7 @@ fn write_numbered<E: Sink>(part: &[u8], number: u64, errors: &mut E) -> Result<(
     ensures writes { Writes result (E.contents errors.old)
         (E.contents errors.new) (numbered part.now number) }
     ensures failed { OnErr result (E.failed errors.new) }
+    ensures stays { E.failed errors.old → E.failed errors.new }
 {
     let mut digits = Buffer::new();
     let number = digits.format(number).as_bytes();
@@ -141,6 +142,7 @@ fn write_place<E: Sink>(place: Place, errors: &mut E) -> Result<(), OutFault>
     ensures writes { Writes result (E.contents errors.old)
         (E.contents errors.new) (said_place place) }
     ensures failed { OnErr result (E.failed errors.new) }
+    ensures stays { E.failed errors.old → E.failed errors.new }
 {
     match place {
         Place::Nowhere => Ok(()),
@@ -163,6 +165,7 @@ fn write_said<E: Sink>(fault: &Fault, errors: &mut E) -> Result<(), OutFault>
     ensures writes { Writes result (E.contents errors.old)
         (E.contents errors.new) (said_line fault.now) }
     ensures failed { OnErr result (E.failed errors.new) }
+    ensures stays { E.failed errors.old → E.failed errors.new }
 {
     write_pieces(errors, &[b"cdb: ", fault.side().as_bytes()])?;
     write_place(fault.place(), errors)?;
@@ -176,6 +179,7 @@ pub fn write_fault<E: Sink>(fault: &Fault, errors: &mut E) -> Result<(), OutFaul
     ensures writes { Writes result (E.contents errors.old)
         (E.contents errors.new) (fault_line fault.now) }
     ensures failed { OnErr result (E.failed errors.new) }
+    ensures stays { E.failed errors.old → E.failed errors.new }
 {
     match *fault {
         Fault::Missing => Ok(()),
