@@ -1,4 +1,5 @@
 -- A command came to what was said of it, or was refused something.
+use Rattle.cdb.proofs.OutputTaken.{MayGiveUp}
 use Rattle.std.proofs.Common.{ℕ, Bool, ◌⊎◌, ◌<◌, ◌≤◌, List, [], ◌∷◌, ◌++◌, length, Option, Some, None, Result, Ok, Err, ◌≡◌, ◌∙◌, ap, inl, inr, refl, subst, sym}
 use Rattle.std.specs.Prelude.{nat_lt, if◌then◌else◌}
 use Rattle.std.proofs.lemmas.Bool.{cond-true, cond-false, lt-ltb, le-ltb}
@@ -14,7 +15,7 @@ use Rattle.cdb_store.specs.declared.store.Store.{Ghosts}
 use Rattle.cdb_tool.specs.Message.{fault_line}
 use Rattle.cdb_tool.specs.declared.fault.Fault.{Fault}
 use Rattle.cdb_tool.specs.declared.fault.Fault.TheVariants.{Open, NoMemory}
-use Rattle.cdb.specs.Foretold.{AreAnswered, IsAnswered, IsRefusal, Reading, Shows}
+use Rattle.cdb.specs.Foretold.{AreAnswered, IsAnswered, Reading, Shows}
 use Rattle.cdb.specs.Opening.{OpenCalls, unopened}
 use Rattle.cdb.specs.Oracle.{Disk, Outcome, ended, of_file}
 use Rattle.cdb.specs.Performs.{Refuses}
@@ -32,7 +33,7 @@ pub record Does (status : Fault → ℕ) (o : Outcome) (start end : Option (List
 pub record GivesUp (writes : Bool) (reads : Reading) (o : Outcome) (start end : Option (List ℕ)) (result : Result Unit Fault) : Type 0 where
   pub fault : Fault
   pub is : result ≡ Err fault
-  pub refusal : IsRefusal writes reads fault
+  pub refusal : MayGiveUp writes reads fault
   pub written : AppendsPrefix start end o.output
 
 abbrev pub Comes : (writes : Bool) (reads : Reading) → (Fault → ℕ) → Outcome → (start end : Option (List ℕ)) → Result Unit Fault → Type 0
@@ -59,13 +60,13 @@ nothing_written None end k = tt
 nothing_written (Some xs) None k = absurd k
 nothing_written (Some xs) (Some ys) k = k ∙ sym (append-nil xs)
 
-pub gives_up : (writes : Bool) (reads : Reading) (status : Fault → ℕ) (o : Outcome) (start end : Option (List ℕ)) (fault : Fault) → IsRefusal writes reads fault → AppendsPrefix start end o.output → Comes writes reads status o start end (Err fault)
+pub gives_up : (writes : Bool) (reads : Reading) (status : Fault → ℕ) (o : Outcome) (start end : Option (List ℕ)) (fault : Fault) → MayGiveUp writes reads fault → AppendsPrefix start end o.output → Comes writes reads status o start end (Err fault)
 gives_up writes reads status o start end fault refusal h = inr (record { fault = fault; is = refl; refusal = refusal; written = h })
 
 pub no_prefix : (o : Outcome) (start end : Option (List ℕ)) → Keeps start end → AppendsPrefix start end o.output
 no_prefix o start end k = record { front = []; more = o.output; split = refl; appended = nothing_written start end k }
 
-pub gives_none : (writes : Bool) (reads : Reading) (status : Fault → ℕ) (o : Outcome) (start end : Option (List ℕ)) (fault : Fault) → IsRefusal writes reads fault → Keeps start end → Comes writes reads status o start end (Err fault)
+pub gives_none : (writes : Bool) (reads : Reading) (status : Fault → ℕ) (o : Outcome) (start end : Option (List ℕ)) (fault : Fault) → MayGiveUp writes reads fault → Keeps start end → Comes writes reads status o start end (Err fault)
 gives_none writes reads status o start end fault refusal k = gives_up writes reads status o start end fault refusal (no_prefix o start end k)
 
 -- ---- the calls

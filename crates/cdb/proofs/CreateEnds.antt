@@ -1,4 +1,5 @@
 -- What a create comes to that makes nothing, and what each name has then.
+use Rattle.cdb.proofs.OutputTaken.{MayGiveUpCreate}
 use Rattle.std.proofs.Common.{ℕ, Bool, true, false, ◌||◌, ◌≢◌, ◌⊎◌, List, [], ◌∷◌, ◌++◌, Option, Some, None, Result, Ok, Err, ◌≡◌, ◌∙◌, ap, inl, inr, refl, subst, sym, append_assoc, length, length-append, arith, bytes_eq, option_map, codes}
 use Rattle.std.specs.Prelude.{OnErr, OnOk}
 use Rattle.std.specs.List.{AllByRecursion}
@@ -26,7 +27,7 @@ use Rattle.cdb_tool.specs.Runs.Made.{Made, made_file, made_lines, made_of}
 use Rattle.cdb.specs.Created.{Created, base_of, create_of, if_opened, in_temporary, is_base, is_in_place, is_input, is_no_name, in_place, is_read, placed, unopened}
 use Rattle.cdb.specs.Creating.{AsksBase, AsksOne, FindsBase, FindsInput, FindsOne, Making, MayBeOne, NotOpened, Replaces, temporary_of}
 use Rattle.cdb.specs.Foretold.{IsAnswered, if_some}
-use Rattle.cdb.specs.ForetoldCreate.{HadBytes, HasBytes, HoldsAll, IsCreateRefusal, IsNoAlias, IsNoFailedRemoval, IsNoFailedRename, KeepsAll, LeavesAll, passing, place_of}
+use Rattle.cdb.specs.ForetoldCreate.{HadBytes, HasBytes, HoldsAll, IsNoAlias, IsNoFailedRemoval, IsNoFailedRename, KeepsAll, LeavesAll, passing, place_of}
 use Rattle.cdb.specs.Inputs.{inputs_read, IsStandard, MissesBase}
 use Rattle.cdb.specs.Opening.{OpenCalls, unopened as unopened_fault}
 use Rattle.cdb.specs.Oracle.{Disk, both, each_of, input_of, inputs_of, is_standard}
@@ -77,7 +78,7 @@ pub record CameTrue (o : MakeOptions) (c : Created) (start end told said : Optio
 pub record GaveUp (o : MakeOptions) (c : Created) (start end told said : Option (List ℕ)) (result : Result Unit Fault) : Type 0 where
   pub fault : Fault
   pub is : result ≡ Err fault
-  pub refusal : IsCreateRefusal fault
+  pub refusal : MayGiveUpCreate fault
   pub output : AppendsPrefix start end c.output
   pub lines : IsPlain o → AppendsPrefix told said c.lines
 
@@ -185,11 +186,11 @@ open_so o c disk start end told said e k = inl (
   e,
 )
 
-pub refused_early : (o : MakeOptions) (c : Created) (disk : Disk) (start end told said : Option (List ℕ)) (fault : Fault) → IsCreateRefusal fault → Keeps start end × Keeps told said → EndsEarly o c disk start end told said fault
+pub refused_early : (o : MakeOptions) (c : Created) (disk : Disk) (start end told said : Option (List ℕ)) (fault : Fault) → MayGiveUpCreate fault → Keeps start end × Keeps told said → EndsEarly o c disk start end told said fault
 refused_early o c disk start end told said fault is k = inr (record { fault = fault; is = refl; refusal = is; output = said_nothing start end c.output k.0; lines = λ plain. said_nothing told said c.lines k.1 })
 
 pub memory_so : (o : MakeOptions) (c : Created) (disk : Disk) (start end told said : Option (List ℕ)) (fault : Fault) → fault ≡ NoMemory → Keeps start end × Keeps told said → EndsEarly o c disk start end told said fault
-memory_so o c disk start end told said fault e k = refused_early o c disk start end told said fault (subst IsCreateRefusal (sym e) tt) k
+memory_so o c disk start end told said fault e k = refused_early o c disk start end told said fault (subst MayGiveUpCreate (sym e) tt) k
 
 missed_why : (o : MakeOptions) (c : Created) (disk : Disk) (start end told said : Option (List ℕ)) (fault : Fault) (cause : NameFault) → fault ≡ unopened_fault cause → (cause ≡ why.Failed → c ≡ unopened disk) → Keeps start end × Keeps told said → EndsEarly o c disk start end told said fault
 missed_why o c disk start end told said fault why.Failed e h k = subst (λ f. EndsEarly o c disk start end told said f) (sym e) (open_so o c disk start end told said (h refl) k)

@@ -1,4 +1,5 @@
 -- A create in place, and one on standard output, come to what the oracle says.
+use Rattle.cdb.proofs.OutputTaken.{MayGiveUpCreate}
 use Rattle.std.proofs.Common.{ℕ, true, false, ◌⊎◌, List, [], ◌∷◌, ◌++◌, Option, Some, None, Result, Ok, Err, ◌≡◌, ◌∙◌, ap, inl, inr, refl, subst, sym, bytes_eq}
 use Rattle.std.specs.List.{AllByRecursion}
 use Rattle.std.specs.Prelude.{OnErr, OnOk, IfErr}
@@ -22,7 +23,7 @@ use Rattle.cdb_tool.specs.Runs.Made.{Made, made_file, made_lines, made_of}
 use Rattle.cdb_tool.specs.Runs.MakesSo.{Known}
 use Rattle.cdb.specs.Created.{Created, base_of, create_of, if_opened, is_in_place, in_place, is_read, on_output, placed, unopened}
 use Rattle.cdb.specs.Creating.{HasDatabase, IsBufferedRun, IsRun, MakesEmptied, MakesOnOutput, Syncs, WritesAll, AsksAll, Making, OpensAll}
-use Rattle.cdb.specs.ForetoldCreate.{HoldsAll, HonestCreate, IsCreateRefusal, IsNoFailedRename, KeepsAll, passing}
+use Rattle.cdb.specs.ForetoldCreate.{HoldsAll, HonestCreate, IsNoFailedRename, KeepsAll, passing}
 use Rattle.cdb.specs.Opening.{Empties, MissesEmptying, OpenCalls, unopened as unopened_fault}
 use Rattle.cdb.specs.Oracle.{Disk, both, inputs_of, is_standard}
 use Rattle.cdb.specs.declared.open_trace.OpenCall.TheVariants.{Emptied, Locked, ToEmpty}
@@ -134,14 +135,14 @@ synced_so s m disk name mk x files input back built last c was now start end tol
     ]
 
 -- the file was not emptied
-opening_refused : (cause : NameFault) → IsCreateRefusal (unopened_fault cause)
+opening_refused : (cause : NameFault) → MayGiveUpCreate (unopened_fault cause)
 opening_refused why.Failed = tt
 opening_refused why.NoMemory = tt
 
-pub emptying_refused : (name : List ℕ) (old new : OpenCalls) (fault : Fault) → MissesEmptying name old new fault → IsCreateRefusal fault
-emptying_refused name old new fault (inl misses) = subst IsCreateRefusal (sym misses.is) (opening_refused misses.why)
-emptying_refused name old new fault (inr (inl held)) = subst IsCreateRefusal (sym held.0) tt
-emptying_refused name old new fault (inr (inr (locked, takes, misses))) = subst IsCreateRefusal (sym misses.is) (opening_refused misses.why)
+pub emptying_refused : (name : List ℕ) (old new : OpenCalls) (fault : Fault) → MissesEmptying name old new fault → MayGiveUpCreate fault
+emptying_refused name old new fault (inl misses) = subst MayGiveUpCreate (sym misses.is) (opening_refused misses.why)
+emptying_refused name old new fault (inr (inl held)) = subst MayGiveUpCreate (sym held.0) tt
+emptying_refused name old new fault (inr (inr (locked, takes, misses))) = subst MayGiveUpCreate (sym misses.is) (opening_refused misses.why)
 
 -- the calls since what is read was opened
 emptying_grows : (name : List ℕ) (old new : OpenCalls) → Empties name old new → (calls : OpenCalls) × (new ≡ calls ++ old)
@@ -221,7 +222,7 @@ written_so w disk o v c bytes start end told said (Ok done) is file ok lines h =
 written_so w disk o v c bytes start end told said (Err f) is file ok lines h = inr (record {
   fault = f;
   is = refl;
-  refusal = subst IsCreateRefusal (sym h.err.0) tt;
+  refusal = subst MayGiveUpCreate (sym h.err.0) tt;
   output = subst (AppendsPrefix start end) (file ∙ sym (ap (λ (v : Created). v.output) is ∙ output_file disk (made_lines v) (made_file w v) v.result ok)) h.err.1;
   lines = λ plain. whole_lines told said c.lines (subst (Appends told said) (sym (ap (λ (v : Created). v.lines) is ∙ output_lines disk (made_lines v) (made_file w v) v.result)) (lines plain));
 })

@@ -12,6 +12,8 @@ use Rattle.cdb_form.specs.Views.KnownBytes.{Writes}
 use Rattle.cdb_store.specs.declared.raw.RawFile.{Ghosts as Raw}
 use Rattle.cdb_store.specs.declared.store.Store.{Ghosts}
 use Rattle.cdb_make.specs.Views.Maker.{WhereHonest}
+use Rattle.cdb_tool.proofs.OutputFaults.{says_more}
+use Rattle.cdb_tool.specs.Views.Output.{OutputSays}
 use Rattle.cdb_tool.specs.Message.{fault_line}
 use Rattle.cdb_tool.specs.Runs.Make.{HandsBack, OfBase, Makes}
 use Rattle.cdb_tool.specs.Runs.Make as run
@@ -58,11 +60,11 @@ run_under f m back images inner told said made ran over in_image = record {
 }
 
 -- what is said of a writer is said of what it has
-pub of_contents : {F R T : Type 0} (contents : T → Option (List ℕ)) (f : Ghosts F) (r : Raw R) (m : Making F) (t n : List ℕ) (old new : NameCalls) (back : Option F) (told said : T) (answer : Result Unit (ReplaceFault Fault))
-    → Tells r (λ base. base ≡ m.base) (λ base before after images made. IsBufferedRun f m base images (contents before) (contents after) made) t n old new back told said answer
+pub of_contents : {F R T : Type 0} (contents : T → Option (List ℕ)) (failed : T → Type 0) (f : Ghosts F) (r : Raw R) (m : Making F) (t n : List ℕ) (old new : NameCalls) (back : Option F) (told said : T) (answer : Result Unit (ReplaceFault Fault))
+    → Tells r (λ base. base ≡ m.base) (λ base before after images made. IsBufferedRun f m base images (contents before) (contents after) made × OutputSays (failed after) made) t n old new back told said answer
     → Tells r (λ base. base ≡ m.base) (λ base before after images made. IsBufferedRun f m base images before after made) t n old new back (contents told) (contents said) answer
-of_contents contents f r m t n old new back told said answer (inl none) = inl (record { gave_up = none.gave_up; same = ap contents none.same; fault = none.fault; is = none.is; stops = none.stops; calls = none.calls; moments = none.moments })
-of_contents contents f r m t n old new back told said answer (inr some) = inr (record { left = some.left; built = some.built; tells_so = some.tells_so; answers = some.answers; sealed = some.sealed; same = some.same; unsynced = some.unsynced; renamed = some.renamed; cleared = some.cleared })
+of_contents contents failed f r m t n old new back told said answer (inl none) = inl (record { gave_up = none.gave_up; same = ap contents none.same; fault = none.fault; is = none.is; stops = none.stops; calls = none.calls; moments = none.moments })
+of_contents contents failed f r m t n old new back told said answer (inr some) = inr (record { left = some.left; built = some.built; tells_so = some.tells_so.0; answers = some.answers; sealed = some.sealed; same = some.same; unsynced = some.unsynced; renamed = some.renamed; cleared = some.cleared })
 
 -- ---- a store that was flushed
 
@@ -71,6 +73,14 @@ IsDone (Ok done) = Unit {0}
 IsDone (Err fault) = ⊥
 
 -- the database that a run made is there once the store was flushed
+
+-- a flush that fails is no fault of an output
+pub synced_says : {M : Type 0} {s : Ghosts M} {built left : M} (O : Type 0) (made result : Result Unit Fault) → Syncs s built left made result → OutputSays O made → OutputSays O result
+synced_says O made result h says = elim h.answered [
+  | inl same ↦ subst (OutputSays O) (sym same) says
+  | inr failed ↦ subst (OutputSays O) (sym failed.1) tt
+]
+
 pub database_synced : {F M : Type 0} (f : Ghosts F) (s : Ghosts M) (m : Making F) (back : Option F) (built left : M) (made result : Result Unit Fault) → Syncs s built left made result
     → OnOk made (HasDatabase f m back (s.image built)) → OnOk result (HasDatabase f m back (s.image left))
 database_synced f s m back built left made (Err fault) syncs has = tt
@@ -110,6 +120,7 @@ run_kept s m r remaining y planned explained input old new was now left start en
         result = some.result;
         before = some.before;
         does = some.does;
+        output = says_more some.result (λ failed. elim failed [ inl output ↦ inl output | inr errors ↦ inr (stays errors) ]) some.output;
         silent = some.silent;
         same = some.same;
         more = some.more;

@@ -12,3 +12,4 @@ mod CreatePlaced
 mod Creates
 mod NamedCreates
 mod RunCreates
+pub mod OutputTaken

@@ -1,4 +1,5 @@
 -- A query of the keys that inputs give comes to what the oracle says.
+use Rattle.cdb.proofs.OutputTaken.{MayGiveUp}
 use Rattle.std.proofs.Common.{ℕ, true, ◌<◌, ◌≤◌, List, [], ◌∷◌, ◌++◌, length, Option, Some, None, Result, Err, ◌≡◌, ◌∙◌, ap, inl, inr, refl, subst, sym, append_assoc}
 use Rattle.std.specs.List.{AllByRecursion}
 use Rattle.std.specs.Io.KnownBytes.{Keeps}
@@ -20,7 +21,7 @@ use Rattle.cdb_tool.specs.declared.fault.Fault.TheVariants.{Text, Read, Output, 
 use Rattle.cdb_tool.specs.declared.inputs.Turn.{Turn}
 use Rattle.cdb_tool.specs.declared.inputs.Turn.TheVariants.{Own, Shared}
 use Rattle.cdb_tool.proofs.LookedUp.{IsLookupRefusal, LooksOrShort, lookups_asked}
-use Rattle.cdb.specs.Foretold.{AreAnswered, GivesInputs, IsAnswered, IsRefusal, Texts, stores_before, stores_in}
+use Rattle.cdb.specs.Foretold.{AreAnswered, GivesInputs, IsAnswered, Texts, stores_before, stores_in}
 use Rattle.cdb.specs.Inputs.{OpensEach, OpensInput, OpensInputs}
 use Rattle.cdb.specs.Opening.{OpenCalls, unopened}
 use Rattle.cdb.specs.Oracle.{Disk, Outcome, ended, inputs_of, lookups_outcome, of_file, of_inputs}
@@ -100,7 +101,7 @@ inputs_refused w g s m remaining y name inputs disk stores outcome old new left 
 
 -- ---- the run
 
-may_refuse : (f : Fault) → IsLookupRefusal f → IsRefusal true Texts f
+may_refuse : (f : Fault) → IsLookupRefusal f → MayGiveUp true Texts f
 may_refuse (Text n text.Input) h = refl
 may_refuse (Text n text.Endless) h = refl
 may_refuse Output h = refl

@@ -1,4 +1,5 @@
 -- That a run comes to what the oracle says, from what each command does.
+use Rattle.cdb.proofs.OutputTaken.{MayGiveUp, taken, writes_output}
 use Rattle.std.proofs.Common.{ℕ, Bool, ◌⊎◌, true, false, ◌<◌, ◌≤◌, List, [], ◌∷◌, ◌++◌, length, flat_map, Option, Some, None, IfSome, Result, Ok, Err, ◌≡◌, ◌∙◌, ap, inl, inr, refl, subst, sym, arith, append_assoc}
 use Rattle.std.specs.Prelude.{map, nat_lt, IfOk, if◌then◌else◌, string_bytes}
 use Rattle.std.proofs.lemmas.Bool.{cond-true, cond-false, lt-ltb, le-ltb}
@@ -45,7 +46,7 @@ use Rattle.cdb_tool.specs.Runs.Form.{Form, dump_form, list_form}
 use Rattle.cdb_tool.specs.Runs.Load.{IsNotLoaded}
 use Rattle.cdb_tool.specs.Runs.Stats.{HasDamage, TellingFails, TellsStats, statistics_text}
 use Rattle.cdb_tool.specs.Runs.WalkText.{Writes, WritesFirst, WritesPrefix, WritingFails, closing, walk_text}
-use Rattle.cdb_tool.specs.Views.Output.{HasHandedOn, held_by, OutputFailed, output_bytes}
+use Rattle.cdb_tool.specs.Views.Output.{HasHandedOn, held_by, OutputFailed, OutputSays, output_bytes}
 use Rattle.cdb_tool.specs.declared.output.Output.{Output as Writer}
 use Rattle.cdb_tool.specs.Runs.Query.{Answers, Query, Queries, QueryFails, query_text, query_answer}
 use Rattle.cdb_tool.specs.Status.{plain_status, check_status, exit_status}
@@ -53,7 +54,7 @@ use Rattle.cdb_tool.proofs.WholeRuns.{prefix_kept}
 use Rattle.cdb_tool.specs.declared.fault.Fault.{Fault}
 use Rattle.cdb_tool.specs.declared.fault.Fault.TheVariants.{Text, Make, Duplicate, Missing, Read, Walk, Output, Long, Open, Rename, NoMemory, Old, New, NoOldTables, NoNewTables}
 use Rattle.cdb.specs.Created.{foretell}
-use Rattle.cdb.specs.Foretold.{IsInOrder, AsksNoCreate, ComesTrue, Database, Honest, IsForetold, IsRefusal, IsRefused, IsTaken, MayFail, Nothing, Reading, Reveals, Shows, reads_in_turn, stores_in, writes_output}
+use Rattle.cdb.specs.Foretold.{IsInOrder, AsksNoCreate, ComesTrue, Database, Honest, IsForetold, IsRefused, IsTaken, MayFail, Nothing, Reading, Reveals, Shows, reads_in_turn, stores_in}
 use Rattle.cdb.proofs.Coming.{Comes, EachAnswered, IsSized, comes_so, each_answered, gives_none, gives_up, long_is, no_prefix, nothing_written, of_shown, output_of, refused_so, short_is}
 use Rattle.cdb.proofs.ManyKeys.{lookups_foretold}
 use Rattle.cdb.specs.Oracle.{Disk, Outcome, check_outcome, command_outcome, difference_outcome, ended, met, of_file, oracle, query_outcome, short_or, stats_outcome, text_outcome, unless_damaged}
@@ -395,7 +396,7 @@ old_lacks w b c lacks = cond-true (lacks_tables w b) _ _ lacks
 new_lacks : (w : ℕ) (b c : List ℕ) → lacks_tables w b ≡ false → lacks_tables w c ≡ true → difference_outcome w b c ≡ ended plain_status [] (Err NoNewTables)
 new_lacks w b c has lacks = cond-false (lacks_tables w b) _ _ has ∙ cond-true (lacks_tables w c) _ _ lacks
 
-difference_refused : {S : Type 0} (w : ℕ) (s : Ghosts S) (old_last new_last : S) (b c : List ℕ) (start end : Option (List ℕ)) (fault : Fault) → Compared w s old_last b → Compared w s new_last c → HaveTables w s s old_last new_last → IsRefusal true Nothing fault → AppendsPrefix start end (amending_text (difference_of w b c)) → Comes true Nothing plain_status (difference_outcome w b c) start end (Err fault)
+difference_refused : {S : Type 0} (w : ℕ) (s : Ghosts S) (old_last new_last : S) (b c : List ℕ) (start end : Option (List ℕ)) (fault : Fault) → Compared w s old_last b → Compared w s new_last c → HaveTables w s s old_last new_last → MayGiveUp true Nothing fault → AppendsPrefix start end (amending_text (difference_of w b c)) → Comes true Nothing plain_status (difference_outcome w b c) start end (Err fault)
 difference_refused w s old_last new_last b c start end fault x y tables refusal part =
     gives_up true Nothing plain_status _ start end fault refusal (subst (AppendsPrefix start end) (sym (ap (λ (o : Outcome). o.output) (differs_so w b c (tables.of_old b x.is) (tables.of_new c y.is)))) part)
 
@@ -470,7 +471,7 @@ lines_said : (status : Fault → ℕ) (text : List ℕ) (result : Result Unit Fa
 lines_said status text (Ok done) told said unsaid taken h = nothing_written told said h
 lines_said status text (Err fault) told said unsaid taken h = line_said (fault_line fault) told said unsaid taken h
 
-refusal_status : (command : Command) (fault : Fault) → IsRefusal (writes_output (asked_in command)) (reads_in_turn (asked_in command)) fault → exit_status command fault ≡ 111
+refusal_status : (command : Command) (fault : Fault) → MayGiveUp (writes_output (asked_in command)) (reads_in_turn (asked_in command)) fault → exit_status command fault ≡ 111
 refusal_status (command.Check name wide) NoMemory h = refl
 refusal_status (command.Check name wide) Output h = refl
 refusal_status (command.Check name wide) (Walk walk.Input) h = refl
@@ -495,18 +496,18 @@ handed_all end final unwritten answer result taken h = (
   elim h.answered [ inl same ↦ same | inr failed ↦ absurd (taken failed.2) ],
 )
 
-ends_so : (command : Command) (o : Outcome) (start end final told said : Option (List ℕ)) (unsaid : Type 0) (result : Result Unit Fault) (status : ℕ) → (unsaid → ⊥) → Keeps end final → SaysOnly result told said unsaid → status ≡ status_of command result → Comes (writes_output (asked_in command)) (reads_in_turn (asked_in command)) (exit_status command) o start end result → Foretold (Ok (asked_in command)) o start final told said status
-ends_so command o start end final told said unsaid result status taken k says is (inl does) = inl (record {
+ends_so : (command : Command) (o : Outcome) (start end final told said : Option (List ℕ)) (unwritten unsaid : Type 0) (result : Result Unit Fault) (status : ℕ) → (unwritten → ⊥) → OutputSays (unwritten ⊎ unsaid) result → (unsaid → ⊥) → Keeps end final → SaysOnly result told said unsaid → status ≡ status_of command result → Comes (writes_output (asked_in command)) (reads_in_turn (asked_in command)) (exit_status command) o start end result → Foretold (Ok (asked_in command)) o start final told said status
+ends_so command o start end final told said unwritten unsaid result status writes tells speaks k says is (inl does) = inl (record {
   is_status = is ∙ status_is command o.output result ∙ ap (λ (o : Outcome). o.status) does.is;
   output = Appends-kept start end final o.output does.written k;
-  lines = same_appends told said _ _ (ap (λ (o : Outcome). o.lines) does.is) (lines_said (exit_status command) o.output result told said unsaid taken says);
+  lines = same_appends told said _ _ (ap (λ (o : Outcome). o.lines) does.is) (lines_said (exit_status command) o.output result told said unsaid speaks says);
 })
-ends_so command o start end final told said unsaid result status taken k says is (inr stops) = inr (record {
+ends_so command o start end final told said unwritten unsaid result status writes tells speaks k says is (inr stops) = inr (record {
   fault = stops.fault;
-  refusal = stops.refusal;
+  refusal = taken (writes_output (asked_in command)) (reads_in_turn (asked_in command)) stops.fault result (λ failed. elim failed [ inl output ↦ writes output | inr errors ↦ speaks errors ]) tells stops.is stops.refusal;
   is_status = is ∙ ap (status_of command) stops.is ∙ refusal_status command stops.fault stops.refusal;
   output = prefix_kept start end final o.output stops.written k;
-  lines = line_said (fault_line stops.fault) told said unsaid taken (subst (λ r. SaysOnly r told said unsaid) stops.is says);
+  lines = line_said (fault_line stops.fault) told said unsaid speaks (subst (λ r. SaysOnly r told said unsaid) stops.is says);
 })
 
 -- ---- each command
@@ -620,7 +621,7 @@ run_foretold s m r remaining y planned explained given old new was now left star
     let handed = handed_all some.does.end final unwritten some.does.answer some.result writes some.does.hands in
     subst (λ p. IfSome (oracle p disk input) (λ o. Foretold p o start final told said status)) (sym some.asks)
     (some_so (command_outcome (asked_in command) disk input) (λ o. Comes (writes_output (asked_in command)) (reads_in_turn (asked_in command)) (exit_status command) o start some.does.end some.does.answer) (λ o. some.before ≡ told) (λ o. Foretold (Ok (asked_in command)) o start final told said status)
-    (λ o comes silent. ends_so command o start some.does.end final told said unsaid some.result status speaks handed.0 (subst (λ t. SaysOnly some.result t said unsaid) silent (says_only explained (asked_in command) some.result (y.calls new) now some.more some.before said unsaid plain some.explains some.says)) some.is_status (subst (Comes (writes_output (asked_in command)) (reads_in_turn (asked_in command)) (exit_status command) o start some.does.end) (sym handed.1) comes))
+    (λ o comes silent. ends_so command o start some.does.end final told said unwritten unsaid some.result status writes some.output speaks handed.0 (subst (λ t. SaysOnly some.result t said unsaid) silent (says_only explained (asked_in command) some.result (y.calls new) now some.more some.before said unsaid plain some.explains some.says)) some.is_status (subst (Comes (writes_output (asked_in command)) (reads_in_turn (asked_in command)) (exit_status command) o start some.does.end) (sym handed.1) comes))
     (command_comes s m r remaining y explained command disk input given (state_of old was start told) (state_of new now some.does.end some.before) left some.does.answer sized (each_answered s remaining y disk (stores_in left) (y.calls old) (y.calls new) honest.calls honest.are honest.answered) honest some.does.performs)
     (is_silent command disk input told some.before some.silent))
 

@@ -1,4 +1,5 @@
 -- A create in a temporary file comes to what the function of its bytes says.
+use Rattle.cdb.proofs.OutputTaken.{MayGiveUpCreate}
 use Rattle.std.proofs.Common.{ℕ, true, false, ◌+◌, ◌≢◌, ◌⊎◌, List, [], ◌∷◌, ◌++◌, take, Option, Some, None, Result, Ok, Err, ◌≡◌, ◌∙◌, ap, inl, inr, refl, subst, sym, arith, append-nil, bytes_eq}
 use Rattle.std.specs.Prelude.{OnErr, OnOk, IfErr, ⊤}
 use Rattle.std.specs.List.{AllByRecursion}
@@ -21,6 +22,7 @@ use Rattle.cdb_store.specs.FileStore.{calls_of, images_of}
 use Rattle.cdb_store.specs.declared.file.FileStore.{FileStore}
 use Rattle.cdb_store.specs.declared.raw.RawFile.{Ghosts as Raw}
 use Rattle.cdb_store.specs.declared.store.Store.{Ghosts}
+use Rattle.cdb_tool.specs.Views.Output.{OutputSays}
 use Rattle.cdb_tool.specs.Runs.Make.{OfBase}
 use Rattle.cdb_tool.specs.Runs.Make as run
 use Rattle.cdb_tool.specs.declared.fault.Fault.{Fault}
@@ -30,7 +32,7 @@ use Rattle.cdb_tool.specs.Runs.MakesSo.{ComesOf, IsMakeRefusal, Known}
 use Rattle.cdb_tool.proofs.MadeOf.{made_so, run_comes}
 use Rattle.cdb_tool.proofs.ToldLines.{part_plain, tells_plain}
 use Rattle.cdb.specs.Creating.{IsBufferedRun, IsDatabase, IsRun, Making, Replaces, answer_of, fault_of}
-use Rattle.cdb.specs.ForetoldCreate.{HadBytes, IsCreateRefusal, IsNoFailedRename, place_of}
+use Rattle.cdb.specs.ForetoldCreate.{HadBytes, IsNoFailedRename, place_of}
 use Rattle.cdb.specs.State.{state_of}
 use Rattle.cdb.specs.Opening.{OpenCalls}
 
@@ -71,7 +73,7 @@ pub record EndsSo (o : MakeOptions) (made : Made) (told said : Option (List ℕ)
   pub lines : IsPlain o → Appends told said (made_lines made)
 
 pub record WasRefused (o : MakeOptions) (made : Made) (told said : Option (List ℕ)) (fault : Fault) : Type 0 where
-  pub refusal : IsCreateRefusal fault
+  pub refusal : MayGiveUpCreate fault
   pub lines : IsPlain o → AppendsPrefix told said (made_lines made)
 
 -- the last call was to take the name from its file
@@ -275,7 +277,7 @@ replaced_ok f r m back x files input temporary name old new told said none has k
 
 -- ---- it failed
 
-may_be : (f : Fault) → IsMakeRefusal f → IsCreateRefusal f
+may_be : (f : Fault) → IsMakeRefusal f → MayGiveUpCreate f
 may_be Open h = tt
 may_be Rename h = tt
 may_be (Text n g) h = h
@@ -316,7 +318,7 @@ pub ran_err : {F : Type 0} (f : Ghosts F) (m : Making F) (back : Option F) (x : 
     → EndsSo m.options (made_here m x files input) told said (Err fault) ⊎ WasRefused m.options (made_here m x files input) told said fault
 ran_err f m back x files input images b told said fault has known is (inl ran) = ended_so m.word m.options (made_here m x files input) images told said fault (run_is f m back x files input images b told said (Err fault) has known is ran)
 ran_err f m back x files input images b told said fault has known is (inr none) =
-    inr (record { refusal = subst IsCreateRefusal (sym (same_fault fault NoMemory none.1)) tt; lines = λ plain. said_nothing told said _ none.2 })
+    inr (record { refusal = subst MayGiveUpCreate (sym (same_fault fault NoMemory none.1)) tt; lines = λ plain. said_nothing told said _ none.2 })
 
 -- all lines of what was built
 ran_lines : {F : Type 0} (f : Ghosts F) (m : Making F) (back : Option F) (x : Option (List ℕ)) (files : List (Option (List ℕ))) (input : List ℕ) (images : List ℕ → Type 0) (b : List ℕ) (told said : Option (List ℕ)) → BaseHas f back x → Known files input m.inputs → images b → IsBufferedRun f m back images told said (Ok tt)
@@ -324,19 +326,41 @@ ran_lines : {F : Type 0} (f : Ghosts F) (m : Making F) (back : Option F) (x : Op
 ran_lines f m back x files input images b told said has known is ran plain =
     whole_lines told said _ ((ran_ok f m back x files input images b (Some b) told said has known is refl ran).lines plain)
 
-refusal_of : (e : ReplaceFault Fault) → Answers (Ok tt) (Err e) → IsCreateRefusal (fault_of e)
+refusal_of : (e : ReplaceFault Fault) → Answers (Ok tt) (Err e) → MayGiveUpCreate (fault_of e)
 refusal_of replace.Open h = tt
 refusal_of replace.NoMemory h = tt
 refusal_of replace.Write h = tt
 refusal_of replace.Rename h = tt
 refusal_of (replace.Build fault) h = absurd h
 
-unbuilt_refusal : (temporary name : List ℕ) (old new : NameCalls) (e : ReplaceFault Fault) → StopsUnbuilt temporary name old new e → IsCreateRefusal (fault_of e)
+unbuilt_refusal : (temporary name : List ℕ) (old new : NameCalls) (e : ReplaceFault Fault) → StopsUnbuilt temporary name old new e → MayGiveUpCreate (fault_of e)
 unbuilt_refusal t n old new replace.Open h = tt
 unbuilt_refusal t n old new replace.NoMemory h = tt
 unbuilt_refusal t n old new replace.Rename h = tt
 unbuilt_refusal t n old new replace.Write h = absurd h
 unbuilt_refusal t n old new (replace.Build fault) h = absurd h
+
+answered_says : (O : Type 0) (built : Result Unit Fault) (answer : Result Unit (ReplaceFault Fault)) → Answers built answer → OutputSays O built → OutputSays O (answer_of answer)
+answered_says O (Ok done) (Ok all) is says = tt
+answered_says O (Ok done) (Err replace.Open) is says = tt
+answered_says O (Ok done) (Err replace.NoMemory) is says = tt
+answered_says O (Ok done) (Err replace.Write) is says = tt
+answered_says O (Ok done) (Err replace.Rename) is says = tt
+answered_says O (Ok done) (Err (replace.Build fault)) is says = absurd is
+answered_says O (Err fault) answer is says = subst (λ r. OutputSays O (answer_of r)) (sym is) says
+
+unbuilt_says : (O : Type 0) (temporary name : List ℕ) (old new : NameCalls) (e : ReplaceFault Fault) → StopsUnbuilt temporary name old new e → OutputSays O (answer_of (Err e))
+unbuilt_says O t n old new replace.Open h = tt
+unbuilt_says O t n old new replace.NoMemory h = tt
+unbuilt_says O t n old new replace.Rename h = tt
+unbuilt_says O t n old new replace.Write h = absurd h
+unbuilt_says O t n old new (replace.Build fault) h = absurd h
+
+-- a replacement tells of an output that failed if its builder does
+pub replaced_says : {F R T : Type 0} (contents : T → Option (List ℕ)) (failed : T → Type 0) (f : Ghosts F) (r : Raw R) (m : Making F) (t n : List ℕ) (old new : NameCalls) (back : Option F) (told said : T) (answer : Result Unit (ReplaceFault Fault))
+    → Tells r (λ base. base ≡ m.base) (λ base before after images made. IsBufferedRun f m base images (contents before) (contents after) made × OutputSays (failed after) made) t n old new back told said answer → OutputSays (failed said) (answer_of answer)
+replaced_says contents failed f r m t n old new back told said answer (inl none) = subst (λ a. OutputSays (failed said) (answer_of a)) (sym none.is) (unbuilt_says (failed said) t n old new none.fault none.stops)
+replaced_says contents failed f r m t n old new back told said answer (inr some) = answered_says (failed said) some.built answer some.answers some.tells_so.1
 
 same_replace : (e g : ReplaceFault Fault) → ◌≡◌ {A = Result Unit (ReplaceFault Fault)} (Err e) (Err g) → e ≡ g
 same_replace e g h = cc
@@ -363,7 +387,7 @@ replaced_err : {F R : Type 0} (f : Ghosts F) (r : Raw R) (m : Making F) (back : 
 replaced_err f r m back x files input temporary name old new told said e has known had (inl none) =
     let same : e ≡ none.fault = same_replace e none.fault none.is in
     inr (record {
-      refusal = subst (λ (g : ReplaceFault Fault). IsCreateRefusal (fault_of g)) (sym same) (unbuilt_refusal temporary name old new none.fault none.stops);
+      refusal = subst (λ (g : ReplaceFault Fault). MayGiveUpCreate (fault_of g)) (sym same) (unbuilt_refusal temporary name old new none.fault none.stops);
       lines = λ plain. said_nothing told said _ (subst (λ s. Keeps told s) (sym none.same) (Keeps-refl told));
     })
 replaced_err f r m back x files input temporary name old new told said e has known had (inr t) =

@@ -1,4 +1,6 @@
 -- A run whose words ask for a create comes to what the oracle says.
+use Rattle.cdb_tool.specs.Views.Output.{OutputSays}
+use Rattle.cdb.proofs.OutputTaken.{MayGiveUpCreate, taken_create}
 use Rattle.std.proofs.Common.{ℕ, Bool, true, false, ◌⊎◌, List, [], ◌++◌, Option, Result, Ok, Err, ◌≡◌, ◌∙◌, ap, inl, inr, refl, subst, sym, append-nil, option_map, arith, string_bytes}
 use Rattle.std.specs.Prelude.{OnErr, OnOk}
 use Rattle.std.specs.Io.KnownBytes.{Appends, Keeps}
@@ -20,7 +22,7 @@ use Rattle.cdb_tool.specs.declared.fault.Fault.TheVariants.{Missing, NoMemory}
 use Rattle.cdb.specs.Created.{Created, create_of}
 use Rattle.cdb.specs.Creating.{Creates}
 use Rattle.cdb.specs.Foretold.{GivesInputs, IsTaken}
-use Rattle.cdb.specs.ForetoldCreate.{CreateHolds, HonestCreate, IsCreateForetold, IsCreateRefusal, IsCreated, IsGivenUp, expected_of, passing}
+use Rattle.cdb.specs.ForetoldCreate.{CreateHolds, HonestCreate, IsCreateForetold, IsCreated, IsGivenUp, expected_of, passing}
 use Rattle.cdb.specs.Oracle.{Disk, ended, greatest_size, word_size}
 use Rattle.cdb.specs.Performs.{IsShown, PerformsIn, Runs, SaysLine, refused_lines, status_of, usage_line, usage_status}
 use Rattle.cdb.specs.declared.left.Left.{Left}
@@ -84,7 +86,7 @@ said_end : (result : Result Unit Fault) (told before said : Option (List ℕ)) (
 said_end (Ok done) told before said unsaid lines speaks h k = subst (Appends told said) (sym (append-nil lines)) (Appends-kept told before said lines h k)
 said_end (Err fault) told before said unsaid lines speaks h k = appends_then told before said lines (fault_line fault) h (said_all (fault_line fault) before said unsaid speaks k)
 
-refused_plain : (fault : Fault) → IsCreateRefusal fault → plain_status fault ≡ 111
+refused_plain : (fault : Fault) → MayGiveUpCreate fault → plain_status fault ≡ 111
 refused_plain Missing h = absurd h
 refused_plain fault h = refl
 
@@ -111,9 +113,9 @@ if_not_done : (P : Type 0) (answer : Result Unit Fault) → OnErr answer P → (
 if_not_done P (Ok done) h some = absurd (some refl)
 if_not_done P (Err fault) h some = h
 
-comes_so : {M S : Type 0} {old new : S} {was : NameCalls} (m : Ghosts M) (disk : Disk) (shown : MakeOptions) (c : Created) (explained : Bool) (now : NameCalls) (made : Option M) (command : Command) (name : List ℕ) (base : Option (List ℕ)) (inputs : List (List ℕ)) (temporary : Option (List ℕ)) (o : MakeOptions) (wide : Bool) (start end final told before said : Option (List ℕ)) (unsaid : Type 0) (answer result : Result Unit Fault) (status : ℕ) → asked_in command ≡ asked.Create name base inputs temporary o wide → Keeps end final → result ≡ answer → (unsaid → ⊥)
+comes_so : {M S : Type 0} {old new : S} {was : NameCalls} (m : Ghosts M) (disk : Disk) (shown : MakeOptions) (c : Created) (explained : Bool) (now : NameCalls) (made : Option M) (command : Command) (name : List ℕ) (base : Option (List ℕ)) (inputs : List (List ℕ)) (temporary : Option (List ℕ)) (o : MakeOptions) (wide : Bool) (start end final told before said : Option (List ℕ)) (unwritten unsaid : Type 0) (answer result : Result Unit Fault) (status : ℕ) → asked_in command ≡ asked.Create name base inputs temporary o wide → Keeps end final → result ≡ answer → (unwritten → ⊥) → OutputSays (unwritten ⊎ unsaid) result → (unsaid → ⊥)
     → (explained ≡ false → SaysOnly result before said unsaid) → status ≡ status_of command result → (explained ≡ false → IsPlain shown) → Came m disk name shown c now made start end told before answer → IsCreated m (expected_of disk name temporary c) explained made (state_of old was start told) (state_of new now final said) status ⊎ IsGivenUp c explained (state_of old was start told) (state_of new now final said) status
-comes_so m disk shown c explained now made command name base inputs temporary o wide start end final told before said unsaid answer result status a kept same speaks says is unnamed (inl h) =
+comes_so m disk shown c explained now made command name base inputs temporary o wide start end final told before said unwritten unsaid answer result status a kept same writes tells speaks says is unnamed (inl h) =
     let whole : result ≡ c.result = same ∙ h.0.is in
     inl (record {
       is_status = is ∙ status_create command name base inputs temporary o wide result a ∙ ap plain whole ∙ sym (status_plain c.output c.result);
@@ -121,11 +123,11 @@ comes_so m disk shown c explained now made command name base inputs temporary o 
       lines = λ unexplained. subst (λ l. Appends told said (c.lines ++ l)) (ap line_of whole ∙ sym (line_plain c.output c.result)) (said_end result told before said unsaid c.lines speaks (h.0.lines (unnamed unexplained)) (says unexplained));
       disk_is = h.1;
     })
-comes_so m disk shown c explained now made command name base inputs temporary o wide start end final told before said unsaid answer result status a kept same speaks says is unnamed (inr h) =
+comes_so m disk shown c explained now made command name base inputs temporary o wide start end final told before said unwritten unsaid answer result status a kept same writes tells speaks says is unnamed (inr h) =
     let whole : result ≡ Err h.fault = same ∙ h.is in
     inr (record {
       fault = h.fault;
-      refusal = h.refusal;
+      refusal = taken_create h.fault result (λ failed. elim failed [ inl output ↦ writes output | inr errors ↦ speaks errors ]) tells whole h.refusal;
       is_status = is ∙ status_create command name base inputs temporary o wide result a ∙ ap plain whole ∙ refused_plain h.fault h.refusal;
       output = prefix_kept start end final c.output h.output kept;
       lines = λ unexplained. (let part = h.lines (unnamed unexplained) in (part.front, part.more, part.split, subst (λ l. Appends told said (part.front ++ l)) (ap line_of whole) (said_end result told before said unsaid part.front speaks part.appended (says unexplained))));
@@ -170,7 +172,7 @@ run_holds s m r remaining y planned explained given old new was now left start e
     let some_is : status ≡ plain does.answer = some.is_status ∙ status_create command name base inputs temporary o wide some.result a ∙ ap plain handed.1 in
     named_holds m (word_size wide) (greatest_size wide) disk input name base inputs temporary o shown explained left.made (state_of old was start told) (state_of new now final said) status shows.1
     (record {
-      comes = λ had has. comes_so m disk shown c explained now left.made command name base inputs temporary o wide start does.end final told some.before said unsaid does.answer some.result status a handed.0 handed.1 speaks (λ unexplained. says_only explained (asked_in command) some.result (y.calls new) now some.more some.before said unsaid unexplained some.explains some.says) some.is_status (λ unexplained. shown_plain explained inputs o shown shows.1 unexplained) (so.answer had has);
+      comes = λ had has. comes_so m disk shown c explained now left.made command name base inputs temporary o wide start does.end final told some.before said unwritten unsaid does.answer some.result status a handed.0 handed.1 writes some.output speaks (λ unexplained. says_only explained (asked_in command) some.result (y.calls new) now some.more some.before said unsaid unexplained some.explains some.says) some.is_status (λ unexplained. shown_plain explained inputs o shown shows.1 unexplained) (so.answer had has);
       done = λ zero. if_done _ does.answer so.done (sym some_is ∙ zero);
       failed = λ other. if_not_done _ does.answer so.failed (λ zero. other (some_is ∙ zero));
       moments = so.moments;

@@ -17,7 +17,7 @@ use Rattle.cdb_tool.specs.Message.{fault_line}
 use Rattle.cdb_tool.specs.Runs.MakesSo.{KnownFor}
 use Rattle.cdb_tool.specs.Views.Output.{held_by, OutputFailed}
 use Rattle.cdb_tool.specs.declared.fault.Fault.{Fault}
-use Rattle.cdb_tool.specs.declared.fault.Fault.TheVariants.{Text, Walk, Output, NoMemory}
+use Rattle.cdb_tool.specs.declared.fault.Fault.TheVariants.{Text, Walk, NoMemory}
 use Rattle.cdb_tool.specs.declared.output.Output.{Output as Writer}
 use Rattle.cdb.specs.Opening.{OpenCalls}
 use Rattle.cdb.specs.Created.{foretell}
@@ -129,11 +129,6 @@ pub record ComesTrue (o : Outcome) (start final told said : Option (List ℕ)) (
     pub output : Appends start final o.output
     pub lines : Appends told said o.lines
 
--- whether a command writes on standard output
-abbrev pub writes_output : Asked → Bool
-writes_output (asked.Check name wide) = false
-writes_output command = true
-
 -- what it reads from its start: nothing, a database, or the texts of some inputs
 pub data Reading : Type 0 where
   Nothing : Reading
@@ -148,18 +143,17 @@ reads_in_turn (asked.Stats None wide) = Database
 reads_in_turn (asked.Check None wide) = Database
 reads_in_turn command = Nothing
 
--- an allocation failed; standard output, where it is written; or a reader, where one is read
-abbrev pub IsRefusal : (writes : Bool) → (reads : Reading) → Fault → Type 0
-IsRefusal writes reads NoMemory = ⊤
-IsRefusal writes reads Output = writes ≡ true
-IsRefusal writes reads (Walk walk.Input) = reads ≡ Database
-IsRefusal writes reads (Text n text.Input) = reads ≡ Texts
-IsRefusal writes reads (Text n text.Endless) = reads ≡ Texts
-IsRefusal writes reads fault = ⊥
+-- an allocation failed; or a reader, where one is read
+abbrev pub IsRefusal : (reads : Reading) → Fault → Type 0
+IsRefusal reads NoMemory = ⊤
+IsRefusal reads (Walk walk.Input) = reads ≡ Database
+IsRefusal reads (Text n text.Input) = reads ≡ Texts
+IsRefusal reads (Text n text.Endless) = reads ≡ Texts
+IsRefusal reads fault = ⊥
 
 -- a refusal of what the words ask for
 abbrev pub MayFail : (planned : Result Asked Refused) → Fault → Type 0
-MayFail (Ok command) fault = IsRefusal (writes_output command) (reads_in_turn command) fault
+MayFail (Ok command) fault = IsRefusal (reads_in_turn command) fault
 MayFail (Err refused) fault = fault ≡ NoMemory
 
 -- that was reported, and what was written is a prefix

@@ -17,7 +17,7 @@ use Rattle.cdb_store.specs.declared.store.Store.{Ghosts}
 use Rattle.cdb_tool.specs.Message.{fault_line}
 use Rattle.cdb_tool.specs.Runs.MakesSo.{IsMakeRefusal}
 use Rattle.cdb_tool.specs.declared.fault.Fault.{Fault}
-use Rattle.cdb_tool.specs.declared.fault.Fault.TheVariants.{Open, Rename}
+use Rattle.cdb_tool.specs.declared.fault.Fault.TheVariants.{Open, Output, Rename}
 use Rattle.cdb.specs.Created.{Created, create_of, created_ending, is_in_place}
 use Rattle.cdb.specs.Creating.{temporary_of}
 use Rattle.cdb.specs.Files.{Files}
@@ -113,6 +113,7 @@ KeepsAll disk passing now = (other : List ℕ) (held : Option (List ℕ)) → pa
 abbrev pub IsCreateRefusal : Fault → Type 0
 IsCreateRefusal Open = ⊤
 IsCreateRefusal Rename = ⊤
+IsCreateRefusal Output = ⊥
 IsCreateRefusal fault = IsMakeRefusal fault
 
 -- of these lines a part was said, and then the last one

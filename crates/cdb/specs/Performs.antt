@@ -32,6 +32,7 @@ use Rattle.cdb_tool.specs.Runs.WalkText.{WritesWalk}
 use Rattle.cdb_tool.specs.Message.{fault_line}
 use Rattle.cdb_tool.specs.Status.{exit_status}
 use Rattle.cdb_tool.specs.Views.Inputs.{one_of}
+use Rattle.cdb_tool.specs.Views.Output.{OutputSays}
 use Rattle.cdb_tool.specs.declared.fault.Fault.{Fault}
 use Rattle.cdb_tool.specs.declared.fault.Fault.TheVariants.{Open, NoMemory as NoRoom, Output}
 use Rattle.cdb_files.specs.declared.answer.Answer.TheVariants as looks
@@ -418,6 +419,7 @@ pub record AsksFor {F I M R Y : Type 0} (files : Files F I M Y) (r : Raw R)
     pub before : Option (List ℕ)
     pub does : Does files r (given_of (asked_in command) given.explained given.input) old
         (record new { errors = before }) left failed.output result
+    pub output : OutputSays (failed.output ⊎ failed.errors) result
     pub silent : IsUntouched (asked_in command) old.errors before
     pub same : IsUntouched (asked_in command) old.named new.named
     pub more : List ℕ

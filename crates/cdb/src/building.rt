@@ -1,15 +1,16 @@
 // What builds the database of what was opened.
 ghost use Rattle.std.specs.Prelude.{◌≡◌, ◌<◌};
+ghost use Rattle.cdb_tool.specs.Views.Output.{OutputSays};
 ghost use Rattle.cdb.specs.Creating.{IsBufferedRun, IsCaused, IsDatabase, MakesIn};
 ghost use Rattle.cdb.specs.Contents.{making_of};
 
 use crate::contents::Contents;
 use cdb_files::{Builder, Unsynced};
-use cdb_form::{PIPE, Width};
+use cdb_form::{PIPE, Sink, Width};
 use cdb_store::{BufferedStore, Store};
 use cdb_tool::{Fault, make_run_from};
 use std::alloc::Global;
-use std::io::{Read, Write};
+use std::io::Read;
 use std::marker::PhantomData;
 
 /// Makes it in a store, which is handed back, and the base too.
@@ -25,9 +26,10 @@ where
     F: Store + Drop,
     J: Read + Drop,
     I: Read + Drop,
-    E: Write,
-    ensures { MakesIn S.Store F.Store (making_of L.WORD L.GREATEST J.remaining I.remaining contents.entry)
+    E: Sink,
+    ensures makes { MakesIn S.Store F.Store (making_of L.WORD L.GREATEST J.remaining I.remaining contents.entry)
         store result.0 result.1 (E.contents errors.old) (E.contents errors.new) result.2 }
+    ensures output { OutputSays (E.failed errors.new) result.2 }
 {
     let Contents {
         base,
@@ -56,7 +58,7 @@ where
     F: Store + Drop,
     J: Read + Drop,
     I: Read + Drop,
-    E: Write,
+    E: Sink,
 {
     type Fault = Fault;
 
@@ -71,7 +73,8 @@ where
 
     ghost tells = { λ b back told said images made. IsBufferedRun F.Store
         (making_of L.WORD L.GREATEST J.remaining I.remaining b.contents) back images
-        (E.contents told) (E.contents said) made };
+        (E.contents told) (E.contents said) made
+        × OutputSays (E.failed said) made };
 
     ghost gives_up = { λ b back. back ≡ b.contents.base };
 

@@ -1,6 +1,7 @@
 // A create: its base and inputs are opened, and then the database is made of them.
-ghost use Rattle.std.specs.Prelude.{◌≡◌, ◌↔◌, ◌≤◌, IsTrue, IfOk, IfErr, map, option_map};
+ghost use Rattle.std.specs.Prelude.{◌⊎◌, ◌≡◌, ◌↔◌, ◌≤◌, IsTrue, IfOk, IfErr, map, option_map};
 ghost use Rattle.std.specs.Prelude.{string_bytes};
+ghost use Rattle.cdb_tool.specs.Views.Output.{OutputSays};
 ghost use Rattle.cdb_form.specs.Format.Pair.{head_size};
 ghost use Rattle.cdb_tool.specs.Views.Inputs.{inputs_left};
 ghost use Rattle.cdb.specs.Creating.{Creates, IsInPlace, MakesOnOutput};
@@ -16,11 +17,11 @@ use crate::left::{Left, base_left};
 use crate::placing::{make_in_place, replace_database};
 use crate::system::System;
 use cdb_files::Names;
-use cdb_form::{Width, write_whole};
+use cdb_form::{Sink, Width, write_whole};
 use cdb_store::{MemStore, Store};
 use cdb_tool::{Fault, MakeOptions, flushed};
 use std::alloc::{AllocError, Global};
-use std::io::{Read, Write};
+use std::io::Read;
 use std::marker::PhantomData;
 
 /// With this name as temporary file there is none.
@@ -59,17 +60,18 @@ where
     Y: System,
     N: Names,
     I: Read + Drop,
-    O: Write,
-    E: Write,
+    O: Sink,
+    E: Sink,
     requires head { head_size L.WORD ≤ creation.options.limit }
     requires words { creation.options.limit ≤ L.GREATEST }
-    ensures { Creates (files_of Y.File.Store Y.Made.Store Y.Stream.remaining Y.System)
+    ensures creates { Creates (files_of Y.File.Store Y.Made.Store Y.Stream.remaining Y.System)
         N.File.RawFile (wanted_of L.WORD L.GREATEST creation.entry) (I.remaining input)
         (state_of (Y.calls system.old) (N.calls names.old) (O.contents output.old)
         (E.contents errors.old))
         (state_of (Y.calls system.new) (N.calls names.new) (O.contents output.new)
         (E.contents errors.new))
         result.0 result.1 }
+    ensures output { OutputSays (O.failed output.new ⊎ E.failed errors.new) result.1 }
 {
     let contents = match open_all::<L, Y, I>(alloc, system, creation, input) {
         Ok(contents) => contents,
@@ -156,12 +158,13 @@ where
     F: Store + Drop,
     J: Read + Drop,
     I: Read + Drop,
-    O: Write,
-    E: Write,
-    ensures { MakesOnOutput F.Store
+    O: Sink,
+    E: Sink,
+    ensures makes { MakesOnOutput F.Store
         (making_of L.WORD L.GREATEST J.remaining I.remaining contents.entry) result.0
         (O.contents output.old) (O.contents output.new)
         (E.contents errors.old) (E.contents errors.new) result.1 }
+    ensures output { OutputSays (O.failed output.new ⊎ E.failed errors.new) result.1 }
 {
     let empty = MemStore::new(alloc);
     let (store, base, made) = make_in::<L, MemStore, F, J, I, E>(alloc, empty, contents, errors);
@@ -172,8 +175,9 @@ where
 }
 
 /// Writes bytes, and flushes the output.
-fn write_bytes<O: Write>(bytes: &[u8], output: &mut O) -> Result<(), Fault>
-    ensures { WritesAll (O.contents output.old) (O.contents output.new) bytes.now result }
+fn write_bytes<O: Sink>(bytes: &[u8], output: &mut O) -> Result<(), Fault>
+    ensures writes { WritesAll (O.contents output.old) (O.contents output.new) bytes.now result }
+    ensures output { OutputSays (O.failed output.new) result }
 {
     let written = write_whole(output, bytes);
     flushed(output, written.map_err(Fault::from))

@@ -1,5 +1,6 @@
 // The command that compares two files.
 ghost use Rattle.std.specs.Prelude.{List, ℕ, Option};
+ghost use Rattle.cdb_tool.specs.Views.Output.{OutputSays};
 ghost use Rattle.cdb_files.specs.Folder.{NameCalls};
 ghost use Rattle.cdb.specs.Files.{files_of};
 ghost use Rattle.cdb.specs.Performs.{PerformsDifference};
@@ -7,10 +8,9 @@ ghost use Rattle.cdb.specs.State.{state_of};
 
 use crate::left::{Left, both_left, none_left, read_left};
 use crate::system::System;
-use cdb_form::Width;
+use cdb_form::{Sink, Width};
 use cdb_tool::{Fault, difference_run};
 use std::alloc::Global;
-use std::io::Write;
 
 /// Writes what changed between the databases of two names, as a text that amends the old one. Both are
 /// opened before anything is written.
@@ -25,11 +25,12 @@ pub(crate) fn difference<L, Y, O>(
 where
     L: Width,
     Y: System,
-    O: Write,
-    ensures { (named : NameCalls) (errors : Option (List ℕ)) → PerformsDifference L.WORD
+    O: Sink,
+    ensures performs { (named : NameCalls) (errors : Option (List ℕ)) → PerformsDifference L.WORD
         (files_of Y.File.Store Y.Made.Store Y.Stream.remaining Y.System) old.now new.now
         (state_of system.old named (O.contents output.old) errors)
         (state_of system.new named (O.contents output.new) errors) result.0 result.1 }
+    ensures output { OutputSays (O.failed output.new) result.1 }
 {
     let first = match system.open_store(old) {
         Ok(file) => file,

@@ -1,6 +1,7 @@
 // What a create reads: its base and its inputs, which are opened before anything is made.
 ghost use Rattle.std.specs.Prelude.{◌≡◌, ◌≢◌, ◌↔◌, [], map, option_map, string_bytes, codes};
 ghost use Rattle.std.specs.Prelude.{IfOk, IfErr, IsTrue};
+ghost use Rattle.cdb_tool.specs.Views.Output.{OutputSays};
 ghost use Rattle.cdb.specs.Inputs.{IsStandard, OpensBase, MissesBase, OpensInput, OpensEach};
 ghost use Rattle.cdb.specs.Inputs.{OpensInputs, StopsOpening, MissesInput};
 
@@ -28,6 +29,7 @@ pub(crate) fn open_base<Y: System>(
         (Y.calls system.old) (Y.calls system.new)) }
     ensures missed { IfErr result (MissesBase (option_map string_bytes name.now)
         (Y.calls system.old) (Y.calls system.new)) }
+    ensures output { OutputSays ⊥ result }
 {
     match name {
         Some(name) => Ok(Some(system.open_store(name.as_str())?)),
@@ -79,6 +81,7 @@ pub(crate) fn open_inputs<Y: System, I: Read + Drop>(
     ensures shared { IfOk result (λ i. i.shared ≡ input) }
     ensures stops { IfErr result (StopsOpening Y.System (map string_bytes names.now)
         (Y.calls system.old) (Y.calls system.new)) }
+    ensures output { OutputSays ⊥ result }
 {
     let mut turns = open_each::<Y>(alloc, system, names)?;
     if names.is_empty() {

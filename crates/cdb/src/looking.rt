@@ -1,5 +1,6 @@
 // The command that looks up the keys that inputs give.
 ghost use Rattle.std.specs.Prelude.{◌≤◌, IfSome, map, string_bytes, List, ℕ, Option};
+ghost use Rattle.cdb_tool.specs.Views.Output.{OutputSays};
 ghost use Rattle.cdb_files.specs.Folder.{NameCalls};
 ghost use Rattle.cdb.specs.Files.{files_of};
 ghost use Rattle.cdb.specs.Performs.{PerformsLookups};
@@ -8,10 +9,10 @@ ghost use Rattle.cdb.specs.State.{state_of};
 use crate::inputs::open_inputs;
 use crate::left::{Left, none_left, read_left};
 use crate::system::System;
-use cdb_form::Width;
+use cdb_form::{Sink, Width};
 use cdb_tool::{Fault, Style, lookups_run};
 use std::alloc::Global;
-use std::io::{Read, Write};
+use std::io::Read;
 
 /// Writes the records of the keys of some inputs, whose values are counted from 1. The database is
 /// opened first, and then all inputs, before anything is written.
@@ -30,9 +31,9 @@ where
     L: Width,
     Y: System,
     I: Read + Drop,
-    O: Write,
+    O: Sink,
     requires { IfSome number (λ n. 1 ≤ n) }
-    ensures { (named : NameCalls) (errors : Option (List ℕ)) → PerformsLookups L.WORD L.GREATEST
+    ensures performs { (named : NameCalls) (errors : Option (List ℕ)) → PerformsLookups L.WORD L.GREATEST
         (files_of Y.File.Store Y.Made.Store Y.Stream.remaining Y.System)
         (record {
           name = name.now;
@@ -42,6 +43,7 @@ where
           style = style;
         }) (state_of system.old named (O.contents output.old) errors)
         (state_of system.new named (O.contents output.new) errors) result.0 result.1 }
+    ensures output { OutputSays (O.failed output.new) result.1 }
 {
     let store = match system.open_store(name) {
         Ok(store) => store,

@@ -1,8 +1,9 @@
 // Each command, with words of one width.
+ghost use Rattle.cdb_tool.specs.Views.Output.{OutputSays};
 ghost use Rattle.cdb_tool.specs.Command.{asked_in, FitsIn};
 ghost use Rattle.cdb_form.specs.Format.Pair.{head_size};
 ghost use Rattle.cdb_tool.specs.Command.{usage_text, version_text};
-ghost use Rattle.std.specs.Prelude.{◌≡◌, map, string_bytes};
+ghost use Rattle.std.specs.Prelude.{◌⊎◌, ◌≡◌, map, string_bytes};
 ghost use Rattle.cdb.specs.Files.{files_of};
 ghost use Rattle.cdb.specs.Performs.{IsShown, IsUntouched, Performs, Tells};
 ghost use Rattle.cdb.specs.State.{state_of};
@@ -14,22 +15,24 @@ use crate::looking::lookups;
 use crate::reading::{check, query, stats, text};
 use crate::system::System;
 use cdb_files::Names;
-use cdb_form::Width;
+use cdb_form::{Sink, Width};
 use cdb_tool::{Command, Content, Fault, MakeOptions, flushed, write_usage, write_version};
 use std::alloc::Global;
-use std::io::{Read, Write};
+use std::io::Read;
 
 /// Writes how the program is called.
-fn help<O: Write>(output: &mut O) -> Result<(), Fault>
-    ensures { Tells usage_text (O.contents output.old) (O.contents output.new) result }
+fn help<O: Sink>(output: &mut O) -> Result<(), Fault>
+    ensures tells { Tells usage_text (O.contents output.old) (O.contents output.new) result }
+    ensures output { OutputSays (O.failed output.new) result }
 {
     let written = write_usage(output);
     flushed(output, written.map_err(Fault::from))
 }
 
 /// Writes which version the program is.
-fn version<O: Write>(output: &mut O) -> Result<(), Fault>
-    ensures { Tells version_text (O.contents output.old) (O.contents output.new) result }
+fn version<O: Sink>(output: &mut O) -> Result<(), Fault>
+    ensures tells { Tells version_text (O.contents output.old) (O.contents output.new) result }
+    ensures output { OutputSays (O.failed output.new) result }
 {
     let written = write_version(output);
     flushed(output, written.map_err(Fault::from))
@@ -67,8 +70,8 @@ where
     Y: System,
     N: Names,
     I: Read + Drop,
-    O: Write,
-    E: Write,
+    O: Sink,
+    E: Sink,
     requires { FitsIn (head_size L.WORD) L.GREATEST (asked_in command.now) }
     ensures performs { Performs L.WORD L.GREATEST
         (files_of Y.File.Store Y.Made.Store Y.Stream.remaining Y.System) N.File.RawFile explains
@@ -79,6 +82,7 @@ where
     ensures silent { IsUntouched (asked_in command.now)
         (E.contents errors.old) (E.contents errors.new) }
     ensures same { IsUntouched (asked_in command.now) (N.calls names.old) (N.calls names.new) }
+    ensures output { OutputSays (O.failed output.new ⊎ E.failed errors.new) result.1 }
 {
     match command {
         Command::Query {

@@ -1,6 +1,7 @@
 // A database made under its name: in place, or in a temporary file that replaces it.
 ghost use Rattle.std.specs.Prelude.{◌≡◌, ◌∷◌, [], true, false, map, option_map, string_bytes};
 ghost use Rattle.std.specs.Prelude.{IfOk, IfErr, OnOk, List, Option, ℕ};
+ghost use Rattle.cdb_tool.specs.Views.Output.{OutputSays};
 ghost use Rattle.cdb.specs.Creating.{AsksAll, AsksBase, AsksEach, AsksOne};
 ghost use Rattle.cdb.specs.Creating.{FindsBase, FindsInput, FindsOne, MayBeInput, MayBeOne};
 ghost use Rattle.cdb.specs.Creating.{MayBeStandard};
@@ -20,12 +21,12 @@ use crate::inputs::{STANDARD_INPUT, is_standard};
 use crate::left::{Left, base_left};
 use crate::system::System;
 use cdb_files::{Answer, Builder, Lock, Names, ReplaceFault, replace_file};
-use cdb_form::Width;
+use cdb_form::{Sink, Width};
 use cdb_make::MakeFault;
 use cdb_store::Store;
 use cdb_tool::Fault;
 use std::alloc::Global;
-use std::io::{Read, Write};
+use std::io::Read;
 use std::marker::PhantomData;
 
 /// Whether a file that is read may be the one of this name, which is not followed as a link: it is, or
@@ -133,6 +134,7 @@ where
     ensures makes { IfOk result (Y.makes name.now) }
     ensures fails { IfErr result
         (MissesEmptying name.now (Y.calls system.old) (Y.calls system.new)) }
+    ensures output { OutputSays ⊥ result }
 {
     let file = system.open_to_empty(name)?;
     match system.lock(name, &file) {
@@ -161,14 +163,15 @@ where
     Y: System,
     N: Names,
     I: Read + Drop,
-    E: Write,
-    ensures { (output : Option (List ℕ)) → MakesInPlace
+    E: Sink,
+    ensures makes { (output : Option (List ℕ)) → MakesInPlace
         (files_of Y.File.Store Y.Made.Store Y.Stream.remaining Y.System)
         (making_of L.WORD L.GREATEST Y.Stream.remaining I.remaining contents.entry)
         (wanted_of L.WORD L.GREATEST creation.entry)
         (state_of (Y.calls system.old) (N.calls names.old) output (E.contents errors.old))
         (state_of (Y.calls system.new) (N.calls names.new) output (E.contents errors.new))
         result.0 result.1 }
+    ensures output { OutputSays (E.failed errors.new) result.1 }
 {
     if may_be_read(names, creation.name, creation) {
         return (base_left(contents.into_base()), Err(Fault::Open));
@@ -222,12 +225,13 @@ where
     J: Read + Drop,
     N: Names,
     I: Read + Drop,
-    E: Write,
-    ensures { (opened : OpenCalls) (output : Option (List ℕ)) → MakesApart F.Store N.File.RawFile
+    E: Sink,
+    ensures replaces { (opened : OpenCalls) (output : Option (List ℕ)) → MakesApart F.Store N.File.RawFile
         (making_of L.WORD L.GREATEST J.remaining I.remaining contents.entry) temporary.now
         (wanted_of L.WORD L.GREATEST creation.entry)
         (state_of opened (N.calls names.old) output (E.contents errors.old))
         (state_of opened (N.calls names.new) output (E.contents errors.new)) result.0 result.1 }
+    ensures output { OutputSays (E.failed errors.new) result.1 }
 {
     if may_be_read(names, temporary, creation) {
         return (contents.into_base(), Err(Fault::Open));

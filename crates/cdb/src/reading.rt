@@ -1,6 +1,7 @@
 // The commands that read one file: its values, its text, its statistics, and whether it is sound.
 ghost use Rattle.std.specs.Prelude.{◌≡◌, ◌≤◌, ◌⊎◌, IfSome, IfOk, IfErr, length, option_map};
 ghost use Rattle.std.specs.Prelude.{string_bytes, List, ℕ, Option};
+ghost use Rattle.cdb_tool.specs.Views.Output.{OutputSays};
 ghost use Rattle.cdb_store.specs.contracts.memory.MemStoreStore.TheImpl.{ghosts as in_memory};
 ghost use Rattle.cdb_store.specs.Contents.{contents};
 ghost use Rattle.cdb_tool.specs.Runs.Form.{form_of};
@@ -15,14 +16,14 @@ ghost use Rattle.cdb.specs.Performs.{Takes, TellsStore, ChecksStore};
 use crate::left::{Left, none_left, read_left};
 use crate::system::System;
 use cdb_files::Answer;
-use cdb_form::{PIPE, Width};
+use cdb_form::{PIPE, Sink, Width};
 use cdb_store::{MemStore, Store};
 use cdb_tool::{
     Content, Fault, InWindow, Input, Style, check_run, load, query_run, stats_run,
     text_run_buffered,
 };
 use std::alloc::Global;
-use std::io::{Read, Write};
+use std::io::Read;
 
 /// Writes the values of a key, which are counted from 1.
 #[inline(never)]
@@ -37,13 +38,14 @@ pub(crate) fn query<L, Y, O>(
 where
     L: Width,
     Y: System,
-    O: Write,
+    O: Sink,
     requires { IfSome number (λ n. 1 ≤ n) }
-    ensures { (named : NameCalls) (errors : Option (List ℕ)) → PerformsQuery L.WORD
+    ensures performs { (named : NameCalls) (errors : Option (List ℕ)) → PerformsQuery L.WORD
         (files_of Y.File.Store Y.Made.Store Y.Stream.remaining Y.System) name.now
         (record { key = key.now; number = number; shown = value_text lines })
         (state_of system.old named (O.contents output.old) errors)
         (state_of system.new named (O.contents output.new) errors) result.0 result.1 }
+    ensures output { OutputSays (O.failed output.new) result.1 }
 {
     match system.open_store(name) {
         Ok(store) => {
@@ -61,16 +63,17 @@ where
 }
 
 /// Writes the records of a database that is read in one pass, or their keys.
-fn write_text<L: Width, I: Read + Drop, O: Write>(
+fn write_text<L: Width, I: Read + Drop, O: Sink>(
     alloc: Global,
     content: Content,
     style: Style,
     input: I,
     output: &mut O,
 ) -> Result<(), Fault>
-    ensures { LacksMemory (O.contents output.old) (O.contents output.new) result
+    ensures writes { LacksMemory (O.contents output.old) (O.contents output.new) result
         ⊎ WritesText L.WORD (form_of content style) (I.remaining input)
         (O.contents output.old) (O.contents output.new) result }
+    ensures output { OutputSays (O.failed output.new) result }
 {
     let input = Input::new(alloc, input, PIPE)?;
     text_run_buffered::<L, _, O, InWindow>(alloc, content, input, style, output)
@@ -91,12 +94,13 @@ where
     L: Width,
     Y: System,
     I: Read + Drop,
-    O: Write,
-    ensures { (named : NameCalls) (errors : Option (List ℕ)) → PerformsText L.WORD
+    O: Sink,
+    ensures performs { (named : NameCalls) (errors : Option (List ℕ)) → PerformsText L.WORD
         (files_of Y.File.Store Y.Made.Store Y.Stream.remaining Y.System) (form_of content style)
         (option_map string_bytes name.now) (I.remaining input)
         (state_of system.old named (O.contents output.old) errors)
         (state_of system.new named (O.contents output.new) errors) result }
+    ensures output { OutputSays (O.failed output.new) result }
 {
     match name {
         Some(name) => {
@@ -112,19 +116,21 @@ fn taken<L: Width, I: Read + Drop>(alloc: Global, input: I) -> Result<MemStore, 
     ensures ok { IfOk result (λ store. IfSome (I.remaining input) (λ file. contents store ≡ file)) }
     ensures few { IfOk result (λ store. length (contents store) ≤ L.GREATEST) }
     ensures fails { IfErr result (IsNotLoaded L.GREATEST (I.remaining input)) }
+    ensures output { OutputSays ⊥ result }
 {
     load(alloc, Input::new(alloc, input, PIPE)?, L::GREATEST)
 }
 
 /// Writes the statistics of a stream.
-fn stats_of_stream<L: Width, I: Read + Drop, O: Write>(
+fn stats_of_stream<L: Width, I: Read + Drop, O: Sink>(
     alloc: Global,
     input: I,
     output: &mut O,
 ) -> Result<(), Fault>
-    ensures { Takes L.GREATEST (I.remaining input) (O.contents output.old) (O.contents output.new)
+    ensures takes { Takes L.GREATEST (I.remaining input) (O.contents output.old) (O.contents output.new)
         result
         (TellsStore L.WORD (O.contents output.old) (O.contents output.new) result in_memory) }
+    ensures output { OutputSays (O.failed output.new) result }
 {
     let store = taken::<L, I>(alloc, input)?;
     stats_run::<L, MemStore, O>(store, output).1
@@ -143,14 +149,15 @@ where
     L: Width,
     Y: System,
     I: Read + Drop,
-    O: Write,
-    ensures { (named : NameCalls) (errors : Option (List ℕ)) → PerformsOn
+    O: Sink,
+    ensures performs { (named : NameCalls) (errors : Option (List ℕ)) → PerformsOn
         (files_of Y.File.Store Y.Made.Store Y.Stream.remaining Y.System) L.GREATEST
         (option_map string_bytes name.now) (I.remaining input)
         (state_of system.old named (O.contents output.old) errors)
         (state_of system.new named (O.contents output.new) errors) result.0 result.1
         (TellsStore L.WORD (O.contents output.old) (O.contents output.new) result.1 Y.File.Store)
         (TellsStore L.WORD (O.contents output.old) (O.contents output.new) result.1 in_memory) }
+    ensures output { OutputSays (O.failed output.new) result.1 }
 {
     let Some(name) = name else {
         return (
@@ -176,8 +183,9 @@ where
 
 /// Checks a stream.
 fn check_of_stream<L: Width, I: Read + Drop>(alloc: Global, input: I) -> Result<(), Fault>
-    ensures { (known : Option (List ℕ)) → Takes L.GREATEST (I.remaining input) known known result
+    ensures takes { (known : Option (List ℕ)) → Takes L.GREATEST (I.remaining input) known known result
         (ChecksStore L.WORD known known result in_memory) }
+    ensures output { OutputSays ⊥ result }
 {
     let store = taken::<L, I>(alloc, input)?;
     check_run::<L, MemStore>(alloc, store).1
@@ -195,12 +203,13 @@ where
     L: Width,
     Y: System,
     I: Read + Drop,
-    ensures { (named : NameCalls) (known errors : Option (List ℕ)) → PerformsOn
+    ensures performs { (named : NameCalls) (known errors : Option (List ℕ)) → PerformsOn
         (files_of Y.File.Store Y.Made.Store Y.Stream.remaining Y.System) L.GREATEST
         (option_map string_bytes name.now) (I.remaining input)
         (state_of system.old named known errors) (state_of system.new named known errors) result.0
         result.1 (ChecksStore L.WORD known known result.1 Y.File.Store)
         (ChecksStore L.WORD known known result.1 in_memory) }
+    ensures output { OutputSays ⊥ result.1 }
 {
     let Some(name) = name else {
         return (none_left(), check_of_stream::<L, I>(alloc, input));

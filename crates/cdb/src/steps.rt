@@ -1,7 +1,7 @@
 // What the program does: the command of its words, and its exit status.
-ghost use Rattle.std.specs.Prelude.{◌≡◌, [], Err, map, string_bytes};
+ghost use Rattle.std.specs.Prelude.{◌≡◌, ◌⊎◌, [], Err, map, string_bytes};
 ghost use Rattle.cdb_tool.specs.Command.{asked_in, explains_in, has_wide_words, IsInRange, plan_of};
-ghost use Rattle.cdb_tool.specs.Views.Output.{output_bytes, held_by, HasHandedOn, OutputFailed};
+ghost use Rattle.cdb_tool.specs.Views.Output.{output_bytes, held_by, HasHandedOn, OutputFailed, OutputSays};
 ghost use Rattle.cdb.specs.Causes.{Explains};
 ghost use Rattle.cdb.specs.Files.{files_of};
 ghost use Rattle.cdb.specs.Foretold.{IsForetold, IsTaken};
@@ -186,7 +186,7 @@ where
     N: Names,
     I: Read + Drop,
     O: Write,
-    E: Write,
+    E: Sink,
     requires { IsInRange (asked_in command.now) }
     ensures does { Does (files_of Y.File.Store Y.Made.Store Y.Stream.remaining Y.System)
         N.File.RawFile (given_of (asked_in command.now) explains (I.remaining input))
@@ -198,6 +198,7 @@ where
         (E.contents errors.old) (E.contents errors.new) }
     ensures same { IsUntouched (asked_in command.now) (N.calls names.old) (N.calls names.new) }
     ensures handed { HasHandedOn output.new }
+    ensures output { OutputSays (OutputFailed output.new ⊎ E.failed errors.new) result.1 }
 {
     let performed = if is_wide(command) {
         perform_in::<Wide, Y, N, I, Output<O>, E>(
@@ -218,6 +219,7 @@ fn handed_on<O: Write>(output: &mut Output<O>, answer: Result<(), Fault>) -> Res
     ensures hands { HandsOn (output_bytes O.contents output.old) (O.contents output.new.writer)
         (OutputFailed output.new) answer result }
     ensures handed { HasHandedOn output.new }
+    ensures stays { OutputFailed output.old → OutputFailed output.new }
 {
     match (answer, output.flush_whole()) {
         (answer, Ok(())) => answer,

@@ -15,6 +15,7 @@ fn write_told<E: Write>(fault: &Fault, more: &[u8], errors: &mut Output<E>) -> R
     ensures writes { Writes result (output_bytes E.contents errors.old)
         (output_bytes E.contents errors.new) (fault_line fault.now ++ more.now) }
     ensures failed { OnErr result (OutputFailed errors.new) }
+    ensures stays { OutputFailed errors.old → OutputFailed errors.new }
 {
     write_fault(fault, errors)?;
     write_whole(errors, more)
@@ -24,8 +25,9 @@ fn write_told<E: Write>(fault: &Fault, more: &[u8], errors: &mut Output<E>) -> R
 #[cold]
 #[inline(never)]
 pub(crate) fn tell<E: Write>(fault: &Fault, more: &[u8], errors: &mut Output<E>)
-    ensures { SaysLine (fault_line fault.now ++ more.now) (output_bytes E.contents errors.old)
+    ensures says { SaysLine (fault_line fault.now ++ more.now) (output_bytes E.contents errors.old)
         (output_bytes E.contents errors.new) (OutputFailed errors.new) }
+    ensures stays { OutputFailed errors.old → OutputFailed errors.new }
 {
     let _ = write_told(fault, more, errors);
 }
@@ -50,7 +52,10 @@ fn write_refused<E: Write>(
         (output_bytes E.contents errors.new) (refused_lines explains (refused_in fault.now)) }
     ensures failed { OnErr result (OutputFailed errors.new) }
 {
-    write_pieces(errors, &[b"cdb: ", fault.usage().message().as_bytes(), b"\n"])?;
+    write_pieces(
+        errors,
+        &[b"cdb: ", fault.usage().message().as_bytes(), b"\n"],
+    )?;
     if explains {
         write_word_fault(fault, errors)?;
     }

@@ -1,11 +1,13 @@
 -- A fault that is not `Output`, or that says that the output has failed.
-use Rattle.std.proofs.Common.{◌≡◌, refl, Result, Err}
+use Rattle.std.proofs.Common.{◌≡◌, refl, Result, Ok, Err}
 use Rattle.cdb_read.specs.declared.fault.ReadFault.{ReadFault}
 use Rattle.cdb_read.specs.declared.fault.ReadFault.TheVariants as read
 use Rattle.cdb_make.specs.declared.fault.MakeFault.{MakeFault}
 use Rattle.cdb_make.specs.declared.fault.MakeFault.TheVariants as make
 use Rattle.cdb_tool.specs.Views.Fault.{make_fault, read_fault}
 use Rattle.cdb_tool.specs.Views.Output.{OutputSays}
+use Rattle.cdb_tool.specs.declared.fault.Fault.{Fault}
+use Rattle.cdb_tool.specs.declared.fault.Fault.TheVariants.{Output}
 
 -- of a reader of a store
 pub read_says : (A O : Type 0) (f : ReadFault) → (f ≡ read.Output → O) → OutputSays {A = A} O (Err (read_fault f))
@@ -26,3 +28,9 @@ make_says A O make.TooBig = tt
 make_says A O make.Lookup = tt
 make_says A O make.Writing = tt
 make_says A O make.Broken = tt
+
+-- what says so whatever failed
+pub says_more : {O P : Type 0} (result : Result Unit Fault) → (O → P) → OutputSays O result → OutputSays P result
+says_more (Ok done) more says = tt
+says_more (Err Output) more says = more says
+says_more (Err fault) more says = tt

@@ -1,10 +1,10 @@
 use Rattle.std.proofs.Common.{inr, refl, rules}
 use Rattle.cdb.specs.Contents.{making_of}
-use Rattle.cdb.proofs.Databases.{database_synced}
+use Rattle.cdb.proofs.Databases.{database_synced, synced_says}
 use Rattle.cdb.proofs.placing.make_in_place.Goals as goal
 
-pub returns : goal.returns
-returns g c =
+pub returns-clause-makes : goal.returns-clause-makes
+returns-clause-makes g c =
     let making = making_of g.L.Width.WORD g.L.Width.GREATEST g.Y.Stream.Read.remaining g.I.Read.remaining c.args.contents in
     let built = c.build-store.result.0 in
     let back = c.build-store.result.1 in
@@ -22,10 +22,13 @@ returns g c =
           last = last;
           is_last = refl;
           alone = refl;
-          run = c.build-store.ensures.tells;
+          run = c.build-store.ensures.tells.0;
           cause = c.build-store.ensures.fails;
           syncs = c.synced-answer.ensures;
           has = database_synced g.Y.File.Store g.Y.Made.Store making back built last made c.synced-answer.result c.synced-answer.ensures c.build-store.ensures.built;
         },
       ),
     )
+
+pub returns-clause-output : goal.returns-clause-output
+returns-clause-output g c = synced_says _ c.build-store.result.2 c.synced-answer.result c.synced-answer.ensures c.build-store.ensures.tells.1

@@ -2,10 +2,11 @@ use Rattle.std.proofs.Common.{inr, rules}
 use Rattle.cdb.specs.Contents.{making_of}
 use Rattle.cdb.proofs.Databases.{of_contents}
 use Rattle.cdb.proofs.Opens.{ok_and}
+use Rattle.cdb.proofs.Replaced.{replaced_says}
 use Rattle.cdb.proofs.placing.replace_database.Goals as goal
 
-pub returns : goal.returns
-returns g c =
+pub returns-clause-replaces : goal.returns-clause-replaces
+returns-clause-replaces g c =
     let e = c.replace_file-base.ensures in
     let answer = c.replace_file-base.result.1 in
     let making = making_of g.L.Width.WORD g.L.Width.GREATEST g.J.Read.remaining g.I.Read.remaining c.args.contents in
@@ -24,6 +25,11 @@ returns g c =
         renamed = e.renames_ok;
         unrenamed = e.renames_err;
         build = e.build;
-        lines = of_contents g.E.Write.contents g.F.Store g.N.File.RawFile making _ _ _ _ _ _ _ answer e.told;
+        lines = of_contents g.E.Sink.contents g.E.Sink.failed g.F.Store g.N.File.RawFile making _ _ _ _ _ _ _ answer e.told;
       },
     )
+
+pub returns-clause-output : goal.returns-clause-output
+returns-clause-output g c =
+    let making = making_of g.L.Width.WORD g.L.Width.GREATEST g.J.Read.remaining g.I.Read.remaining c.args.contents in
+    rw c.answer_to_program.ensures (replaced_says g.E.Sink.contents g.E.Sink.failed g.F.Store g.N.File.RawFile making _ _ _ _ _ _ _ c.replace_file-base.result.1 c.replace_file-base.ensures.told)

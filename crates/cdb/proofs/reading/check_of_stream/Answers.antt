@@ -2,8 +2,8 @@ use Rattle.std.proofs.Common.{inr}
 use Rattle.std.proofs.KnownBytes.{Keeps-refl}
 use Rattle.cdb.proofs.reading.check_of_stream.Goals as goal
 
-pub returns : goal.returns
-returns g c = λ known. inr (record {
+pub returns-clause-takes : goal.returns-clause-takes
+returns-clause-takes g c = λ known. inr (record {
   store = c.in_ok-store.store;
   whole = c.in_ok-store.ensures.ok;
   few = c.in_ok-store.ensures.few;

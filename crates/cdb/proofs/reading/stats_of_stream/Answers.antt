@@ -1,8 +1,8 @@
 use Rattle.std.proofs.Common.{inr}
 use Rattle.cdb.proofs.reading.stats_of_stream.Goals as goal
 
-pub returns : goal.returns
-returns g c = inr (record {
+pub returns-clause-takes : goal.returns-clause-takes
+returns-clause-takes g c = inr (record {
   store = c.in_ok-store.store;
   whole = c.in_ok-store.ensures.ok;
   few = c.in_ok-store.ensures.few;

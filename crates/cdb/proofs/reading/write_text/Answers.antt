@@ -1,5 +1,5 @@
 use Rattle.std.proofs.Common.{rules}
 use Rattle.cdb.proofs.reading.write_text.Goals as goal
 
-pub returns : goal.returns
-returns g c = search rules
+pub returns-clause-writes : goal.returns-clause-writes
+returns-clause-writes g c = search rules

@@ -2,6 +2,7 @@ use Rattle.std.proofs.Common.{[], ap, inl, inr, refl, Ok, Err}
 use Rattle.std.proofs.KnownBytes.{Keeps-refl}
 use Rattle.cdb_command.specs.Refused.{refused_in}
 use Rattle.cdb_tool.specs.Views.Output.{output_bytes}
+use Rattle.cdb_tool.proofs.OutputFaults.{says_more}
 use Rattle.cdb.proofs.Explained.{none_said}
 use Rattle.cdb.proofs.steps.answer.Goals as goal
 
@@ -27,6 +28,7 @@ returns-in-Ok-performed-clause-runs g c = inr (record {
   result = Ok c.in-Ok-performed.field-0;
   before = output_bytes g.E.Write.contents c.perform-left.new.errors;
   does = rw c.as_slice.ensures.value at (rw c.explains-is_explained.ensures at (rw c.in-Ok-performed.is at c.perform-left.ensures.does));
+  output = tt;
   silent = c.perform-left.ensures.silent;
   same = c.perform-left.ensures.same;
   more = [];
@@ -42,10 +44,11 @@ returns-clause-runs g c = inr (record {
   result = Err c.in-Err-performed.fault;
   before = output_bytes g.E.Write.contents c.perform-left.new.errors;
   does = rw c.as_slice.ensures.value at (rw c.explains-is_explained.ensures at (rw c.in-Err-performed.is at c.perform-left.ensures.does));
+  output = says_more (Err c.in-Err-performed.fault) (λ failed. elim failed [ inl output ↦ inl output | inr errors ↦ inr (c.tell.ensures.stays errors) ]) (rw c.in-Err-performed.is at c.perform-left.ensures.output);
   silent = c.perform-left.ensures.silent;
   same = c.perform-left.ensures.same;
   more = c.cause_of-more.result.items;
   explains = rw c.as_slice.ensures.value at (rw c.explains-is_explained.ensures at c.cause_of-more.ensures);
-  says = rw c.as_slice-in-Err-performed.ensures.value at c.tell.ensures;
+  says = rw c.as_slice-in-Err-performed.ensures.value at c.tell.ensures.says;
   is_status = c.status_of.ensures;
 })

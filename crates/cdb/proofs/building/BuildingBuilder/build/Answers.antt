@@ -10,7 +10,7 @@ use Rattle.cdb.proofs.building.BuildingBuilder.build.Goals as goal
 
 pub returns-in-Ok-clause-built : goal.returns-in-Ok-clause-built
 returns-in-Ok-clause-built g c =
-    let e = c.make_in-buffered.ensures in
+    let e = c.make_in-buffered.ensures.makes in
     let left = c.make_in-buffered.result.0 in
     rw (c.into_inner.ensures ∙ ap inner_of c.discard.ensures)
     (database_made g.F.Store (making_of g.L.Width.WORD g.L.Width.GREATEST g.J.Read.remaining g.I.Read.remaining c.args.self.contents) c.make_in-buffered.result.1 _ (g.S.Store.image left.inner.inner) _ _ c.make_in-buffered.result.2 e.run.hands e.run.runs
@@ -24,12 +24,12 @@ returns-in-Ok-clause-fails g c =
     (IfErr-weaker c.make_in-buffered.result.2 _ _ (λ f fails. (
       (λ is. let rose : g.S.Store.failures c.in-Ok.buffered.inner.inner < g.S.Store.failures left.inner.inner = fails.0 is in omega (arith, rose, c.in-Ok.ensures.failures, over)),
       (λ is. fails.1 is ∙ (c.in-Ok.ensures.failures ∙ over)),
-    )) c.make_in-buffered.ensures.failed)
+    )) c.make_in-buffered.ensures.makes.failed)
 
 pub returns-in-Ok-clause-tells : goal.returns-in-Ok-clause-tells
 returns-in-Ok-clause-tells g c =
-    let e = c.make_in-buffered.ensures in
+    let e = c.make_in-buffered.ensures.makes in
     let left = c.make_in-buffered.result.0 in
     rw (c.into_inner.ensures ∙ ap inner_of c.discard.ensures)
     (inl (run_under g.F.Store (making_of g.L.Width.WORD g.L.Width.GREATEST g.J.Read.remaining g.I.Read.remaining c.args.self.contents) c.make_in-buffered.result.1 _ (g.S.Store.image left.inner.inner) _ _ c.make_in-buffered.result.2 e.run (λ b is. (overwrite b left.pos (bytes_of left), (b, is, refl)))
-    (on_ok_weaker c.make_in-buffered.result.2 (λ settled. (over_emptied left.pos (bytes_of left) (g.S.Store.image left.inner.inner) (ap (λ n. take n left.buffer.items) settled.0)).no_other) e.settled)))
+    (on_ok_weaker c.make_in-buffered.result.2 (λ settled. (over_emptied left.pos (bytes_of left) (g.S.Store.image left.inner.inner) (ap (λ n. take n left.buffer.items) settled.0)).no_other) e.settled)), c.make_in-buffered.ensures.output)

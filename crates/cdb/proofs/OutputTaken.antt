@@ -1,0 +1,59 @@
+-- What may be refused, standard output too; and an output that was taken was not.
+use Rattle.std.proofs.Common.{◌≡◌, ℕ, Bool, true, false, subst, Result, Err}
+use Rattle.cdb_command.specs.Asked.{Asked}
+use Rattle.cdb_command.specs.Asked as asked
+use Rattle.cdb_tool.specs.Views.Output.{OutputSays}
+use Rattle.cdb_tool.specs.declared.fault.Fault.{Fault}
+use Rattle.cdb_tool.specs.declared.fault.Fault.TheVariants.{Text, Make, Duplicate, Missing, Read, Walk, Output, Long, Open, Rename, NoMemory, Old, New, NoOldTables, NoNewTables}
+use Rattle.cdb.specs.Foretold.{IsRefusal, Reading}
+use Rattle.cdb.specs.ForetoldCreate.{IsCreateRefusal}
+
+-- whether a command writes on standard output
+abbrev pub writes_output : Asked → Bool
+writes_output (asked.Check name wide) = false
+writes_output command = true
+
+-- a refusal; or standard output failed, where it is written
+abbrev pub MayGiveUp : (writes : Bool) → Reading → Fault → Type 0
+MayGiveUp writes reads Output = writes ≡ true
+MayGiveUp writes reads fault = IsRefusal reads fault
+
+-- of a create; or an output failed
+abbrev pub MayGiveUpCreate : Fault → Type 0
+MayGiveUpCreate Output = Unit {0}
+MayGiveUpCreate fault = IsCreateRefusal fault
+
+-- an output that did not fail was not refused
+pub taken : {O : Type 0} (writes : Bool) (reads : Reading) (fault : Fault) (result : Result Unit Fault) → (O → ⊥) → OutputSays O result → result ≡ Err fault → MayGiveUp writes reads fault → IsRefusal reads fault
+taken writes reads Output result works says is h = absurd (works (subst (OutputSays _) is says))
+taken writes reads (Text n g) result works says is h = h
+taken writes reads (Make g) result works says is h = h
+taken writes reads Duplicate result works says is h = h
+taken writes reads Missing result works says is h = h
+taken writes reads (Read g) result works says is h = h
+taken writes reads (Walk g) result works says is h = h
+taken writes reads Long result works says is h = h
+taken writes reads Open result works says is h = h
+taken writes reads Rename result works says is h = h
+taken writes reads NoMemory result works says is h = h
+taken writes reads (Old g) result works says is h = h
+taken writes reads (New g) result works says is h = h
+taken writes reads NoOldTables result works says is h = h
+taken writes reads NoNewTables result works says is h = h
+
+pub taken_create : {O : Type 0} (fault : Fault) (result : Result Unit Fault) → (O → ⊥) → OutputSays O result → result ≡ Err fault → MayGiveUpCreate fault → IsCreateRefusal fault
+taken_create Output result works says is h = absurd (works (subst (OutputSays _) is says))
+taken_create (Text n g) result works says is h = h
+taken_create (Make g) result works says is h = h
+taken_create Duplicate result works says is h = h
+taken_create Missing result works says is h = h
+taken_create (Read g) result works says is h = h
+taken_create (Walk g) result works says is h = h
+taken_create Long result works says is h = h
+taken_create Open result works says is h = h
+taken_create Rename result works says is h = h
+taken_create NoMemory result works says is h = h
+taken_create (Old g) result works says is h = h
+taken_create (New g) result works says is h = h
+taken_create NoOldTables result works says is h = h
+taken_create NoNewTables result works says is h = h
