@@ -23,7 +23,7 @@ use Rattle.cdb_make.specs.Marks.{is_gone, gone_of, found_of, taken, AreNone, Hav
 use Rattle.cdb_make.specs.Rolls.{Sees}
 use Rattle.cdb_make.specs.Spans.{left, picked, number, behind, or_each}
 use Rattle.cdb_make.specs.Survivors.{has_key, is_there, count_of, behind_first, put_list, put_answer}
-use Rattle.cdb_make.specs.Views.Roll.{HasRoom}
+use Rattle.cdb_make.specs.Views.Roll.{searched, HasRoom}
 use Rattle.cdb_make.specs.Views.Maker.{gone_in, found_in, Holds, Rests, Stays, Seeks, Meets, Settles, Puts, Follows, IsOver, IsWithin, IsTooBig, WouldPut, WantsRoom, OnlyAdds, PassesRoom, DoesNothing, WritesNothing, HasFailedToWrite, HasNotFailed, HasStoreFailed, HasGone, HasGoneOr, IsTorn, FailsSettling, FailsPutting, IsAlone, IsShort, put_bytes, lone_bytes, goes_with, is_present}
 use Rattle.cdb_make.proofs.Ends.{end_passed}
 use Rattle.cdb_make.proofs.Finishing.{gone_lazy}
@@ -92,7 +92,7 @@ pub meets_by : {S L : Type 0} {s : Ghosts S} {l : Widths L} (i j : Maker S L s l
 meets_by {s = s} {l = l} i j hash mode r put other rests none plain = record {
   rests = rests;
   replaces = λ some. absurd (omega (arith, some, j.roll.sought.count, number_none (found_in j) none));
-  have = have_none hash j.roll.hashes.items j.roll.marks.items none;
+  have = have_none hash (searched j.roll) j.roll.marks.items none;
   each = λ rs h b is.
       let p = plain rs h b is in
       let held = h.each b (rests.reads.images b is) in

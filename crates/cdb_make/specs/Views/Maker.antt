@@ -24,7 +24,7 @@ use Rattle.cdb_form.specs.declared.mode.Mode.{Mode}
 use Rattle.cdb_form.specs.declared.mode.Mode.TheVariants.{Add, Warn, Insert, Replace}
 use Rattle.cdb_make.specs.declared.answer.Put.{Put}
 use Rattle.cdb_make.specs.declared.answer.Put.TheVariants.{Added, AddedAgain, Present, Replaced}
-use Rattle.cdb_make.specs.Views.Roll.{HasRoom, SameRecords}
+use Rattle.cdb_make.specs.Views.Roll.{searched, sought_in, HasRoom, SameRecords}
 
 -- its store, the greatest size that its file may have, whether it takes records out later, and
 -- whether an earlier call broke it
@@ -101,6 +101,7 @@ pub record Adds {S L : Type 0} {s : Ghosts S} {l : Widths L} (old new : Maker S 
   pub gone : gone_in new ≡ gone_in old ++ false ∷ []
   pub found : found_in new ≡ found_in old ++ false ∷ []
   pub hashes : new.roll.hashes.items ≡ old.roll.hashes.items ++ hash ∷ []
+  pub searched : searched new.roll ≡ searched old.roll ++ sought_in old.roll r.key ∷ []
   pub gone_size : new.roll.gone.size ≡ old.roll.gone.size
   pub found_size : new.roll.found.size ≡ old.roll.found.size
   pub end : new.roll.end ≡ old.roll.end + record_size l.WORD r
@@ -217,10 +218,10 @@ FailsLooking old new fault = ⊥
 
 -- the records of a key that do not go were found, and are so many
 pub record Seeks {S L : Type 0} {s : Ghosts S} {l : Widths L} (old new : Maker S L s l)
-    (hash : ℕ) (key : List ℕ) (n : ℕ) : Type 0 where
+    (number : ℕ) (key : List ℕ) (n : ℕ) : Type 0 where
   pub rests : Rests old new
   pub fine : HasNotFailed old new
-  pub have : HaveHash hash new.roll.hashes.items new.roll.marks.items
+  pub have : HaveHash number (searched new.roll) new.roll.marks.items
   pub looks : LooksAll key new.roll (s.image new.store)
   pub count : n ≡ new.roll.found.count
 
@@ -510,9 +511,9 @@ pub record MeetsIn {S L : Type 0} {s : Ghosts S} {l : Widths L} (m : Maker S L s
 
 -- a put of this record will answer so, unless it fails: those that were found are to go
 pub record Meets {S L : Type 0} {s : Ghosts S} {l : Widths L} (old new : Maker S L s l)
-    (hash : ℕ) (mode : Mode) (r : KeyValue) (put : Put) : Type 0 where
+    (number : ℕ) (mode : Mode) (r : KeyValue) (put : Put) : Type 0 where
   pub rests : Rests old new
-  pub have : HaveHash hash new.roll.hashes.items new.roll.marks.items
+  pub have : HaveHash number (searched new.roll) new.roll.marks.items
   pub replaces : 0 < new.roll.found.count → mode ≡ Replace
   pub each : (rs : List KeyValue) → Holds old rs → (b : List ℕ) → s.image new.store b
       → MeetsIn new mode r put rs b
