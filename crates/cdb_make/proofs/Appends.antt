@@ -17,7 +17,7 @@ use Rattle.cdb_make.specs.declared.fault.MakeFault.{MakeFault}
 use Rattle.cdb_make.specs.declared.fault.MakeFault.TheVariants.{Broken, Lookup, TooBig, NoMemory, Writing}
 use Rattle.cdb_make.specs.declared.maker.Maker.{Maker}
 use Rattle.cdb_make.specs.declared.roll.Roll.{Roll}
-use Rattle.cdb_make.specs.Views.Appending.{full_size, AppendsAll, AppendsSome, Enters, FailsAppending, FailsWriting, KeepsLimit, PassesLimit}
+use Rattle.cdb_make.specs.Views.Appending.{full_size, AppendsAll, AppendsSome, Enters, FailsAppending, FailsWriting, IsCrowded, KeepsLimit, PassesLimit}
 use Rattle.cdb_make.specs.Marks.{is_gone, gone_of}
 use Rattle.cdb_make.specs.Spans.{left, AreOf}
 use Rattle.cdb_make.specs.Views.Places.{places_in}
@@ -238,7 +238,10 @@ fails_wider old new rs more Broken fails = fails
 fails_wider old new rs more Lookup fails = fails
 fails_wider old new rs more TooBig fails = (some_wider old new rs more (PassesLimit old new) fails.0, fails.1)
 fails_wider old new rs more NoMemory fails = (some_wider old new rs more (KeepsLimit old new) fails.0, fails.1)
-fails_wider old new rs more Writing fails = elim fails [ inl f ↦ inl (some_wider old new rs more (KeepsLimit old new) f.0, f.1, f.2) | inr t ↦ inr t ]
+fails_wider {l = l} old new rs more Writing fails = elim fails [
+  | inl f ↦ inl (some_wider old new rs more (KeepsLimit old new) f.0, f.1, f.2)
+  | inr t ↦ inr (t.0, t.1, t.2, t.3, omega (arith, t.4, sum_by-append (whole_size l.WORD) rs more))
+]
 
 -- the next one passes the limit
 pub appends_until : {S L : Type 0} {s : Ghosts S} {l : Widths L} (old new : Maker S L s l) (rs done later : List KeyValue) (r : KeyValue) (n : ℕ) → rs ≡ done ++ r ∷ later → AppendsAll old new done n
@@ -277,8 +280,8 @@ keeps_after {l = l} old mid new stays limit v k = λ before h. record { each = �
 passes_after : {S L : Type 0} {s : Ghosts S} {l : Widths L} (old mid new : Maker S L s l) → StaysWhole old mid → mid.limit ≡ old.limit → (v : List KeyValue) → PassesLimit mid new v → PassesLimit old new v
 passes_after {l = l} old mid new stays limit v k = λ before h. record { each = λ b is. (let le : mid.limit < file_size l.WORD (before ++ v) = (k before (stays.holds before h)).each b is in omega arith) }
 
-pub appends_after : {S L : Type 0} {s : Ghosts S} {l : Widths L} (old mid new : Maker S L s l) (rs : List KeyValue) (n : ℕ) → ClosesAll old mid → SameCounts old mid → HasNotFailed old mid → ComesFrom (s.image mid.store) (s.image new.store) → AppendsAll mid new rs n → AppendsAll old new rs n
-appends_after {s = s} old mid new rs n closes counts fine comes appends =
+pub appends_after : {S L : Type 0} {s : Ghosts S} {l : Widths L} (old mid new : Maker S L s l) (rs : List KeyValue) (n : ℕ) → IsCrowded old rs → ClosesAll old mid → SameCounts old mid → HasNotFailed old mid → ComesFrom (s.image mid.store) (s.image new.store) → AppendsAll mid new rs n → AppendsAll old new rs n
+appends_after {s = s} old mid new rs n crowded closes counts fine comes appends =
     let none : HasGone mid → ⊥ = λ some. omega (arith, some.1, closes.none) in
     let wrote : s.written new.store ≡ s.written mid.store + n = appends.written none in
     record {
@@ -290,7 +293,7 @@ appends_after {s = s} old mid new rs n closes counts fine comes appends =
       each = λ b is.
           let c = comes.each b is in
           let g = closes.goes.each c.0 c.1 in
-          (g.0, g.1, λ all sees. (let q = g.2 all sees in inr (omega (arith, wrote, q.2.1))));
+          (g.0, g.1, λ all sees. (let q = g.2 all sees in inr (omega (arith, wrote, q.2.1), crowded)));
       count = appends.count ∙ ap (λ (k : ℕ). k + length rs) (left_same old mid closes.stays.was closes.stays.whole counts).0;
       failures = appends.failures ∙ fine;
     }

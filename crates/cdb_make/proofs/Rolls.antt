@@ -31,7 +31,7 @@ use Rattle.cdb_store.specs.declared.store.StoreFault.TheVariants.{NoMemory as Re
 use Rattle.cdb_make.specs.declared.fault.MakeFault.{MakeFault}
 use Rattle.cdb_make.specs.declared.fault.MakeFault.TheVariants.{Broken, Lookup, TooBig, NoMemory, Writing}
 use Rattle.cdb_make.specs.Views.MakeFault.{fault_of}
-use Rattle.cdb_make.specs.Views.Maker.{Goes, ComesFrom, AddFails, Follows, Stays, FailsExchanging, FailsClosing, FailsLooking, HasStoreFailed, gone_in, found_in, is_foreign, look_fault}
+use Rattle.cdb_make.specs.Views.Maker.{Goes, ComesFrom, AddFails, Follows, Stays, IsMarked, FailsExchanging, FailsClosing, FailsLooking, HasStoreFailed, gone_in, found_in, is_foreign, look_fault}
 use Rattle.cdb_make.specs.Views.Places.{places_in}
 use Rattle.cdb_make.proofs.Spans.{left-map, joined_more, joined_end, kept_then}
 use Rattle.cdb_make.proofs.Looking.{sizes_of, sees_long, sees_same, same_self}
@@ -254,9 +254,9 @@ exchange_fails i j k (Err Writing) wants room whole none follows goes stays fail
   goes_then i j k (λ all mid rest p q. q ∙ p) goes stays.goes,
 )
 
-pub torn_fails : {S L : Type 0} {s : Ghosts S} {l : Widths L} (i k : Maker S L s l) (result : Result (Unit {0}) MakeFault) (f : MakeFault) → f ≡ Writing → k.broken ≡ true → HasStoreFailed i k → IsErrAnd result (λ v. v ≡ f) → IfErr result (FailsExchanging i k)
-torn_fails i k (Ok x) f is broken failed e = tt
-torn_fails i k (Err v) f is broken failed e = subst (FailsExchanging i k) (sym (e ∙ is)) (inl (broken, failed))
+pub torn_fails : {S L : Type 0} {s : Ghosts S} {l : Widths L} (i k : Maker S L s l) (result : Result (Unit {0}) MakeFault) (f : MakeFault) → f ≡ Writing → k.broken ≡ true → HasStoreFailed i k → IsMarked k → IsErrAnd result (λ v. v ≡ f) → IfErr result (FailsExchanging i k)
+torn_fails i k (Ok x) f is broken failed marked e = tt
+torn_fails i k (Err v) f is broken failed marked e = subst (FailsExchanging i k) (sym (e ∙ is)) (inl (broken, failed, marked))
 
 -- ---- what a maker holds
 
@@ -306,9 +306,9 @@ closing_fails {s = s} i j k n r Writing roll images roll₁ store failures unwri
     let same : s.failures n.store ≡ s.failures k.store = ap s.failures store in
     let same₁ : s.unwritten n.store ≡ s.unwritten k.store = ap s.unwritten store in
     elim h [
-      | inl t ↦ inl (torn t.0, omega (arith, t.1, failures, same))
+      | inl t ↦ inl (torn t.0, omega (arith, t.1, failures, same), inl (omega (arith, t.2, ap (λ v. v.gone.count) roll₁)))
       | inr w ↦ elim (cases_lt 0 i.roll.found.count) [
-        | inl some ↦ inl (lost some, omega (arith, w.2.failed, failures, same))
+        | inl some ↦ inl (lost some, omega (arith, w.2.failed, failures, same), inr some)
         | inr le ↦
             let zero₁ : i.roll.found.count ≡ 0 = omega (arith, le) in
             inr (

@@ -83,9 +83,9 @@ fn measure<L: Width>(bytes: &[u8], room: u64) -> Fitting
 }
 
 impl<S: Store, L: Width> Maker<S, L> {
-    ghost use Rattle.cdb_make.specs.Views.Maker.{Holds, StaysWhole, Follows, HasNotFailed, HasGone, KeepsAll};
+    ghost use Rattle.cdb_make.specs.Views.Maker.{Holds, StaysWhole, Follows, HasNotFailed, HasGone, KeepsAll, SameCounts};
     ghost use Rattle.cdb_make.specs.Views.Appending.{AppendsAll, AppendsSome, FailsAppending};
-    ghost use Rattle.cdb_make.specs.Views.Appending.{Enters, KeepsLimit, FailsWriting, full_size};
+    ghost use Rattle.cdb_make.specs.Views.Appending.{Enters, KeepsLimit, IsCrowded, FailsWriting, full_size};
 
     /// Notes a record whose bytes are in the store, behind the others.
     ///
@@ -136,6 +136,7 @@ impl<S: Store, L: Width> Maker<S, L> {
         ensures memory { IfErr result (λ fault. fault ≡ NoMemory) }
         ensures limit { self.new.limit ≡ self.old.limit }
         ensures lazy { self.new.lazy ≡ self.old.lazy }
+        ensures whole { self.new.broken ≡ false }
         ensures gone { self.new.roll.gone.count ≡ self.old.roll.gone.count }
         ensures store { self.new.store ≡ self.old.store }
     {
@@ -186,6 +187,7 @@ impl<S: Store, L: Width> Maker<S, L> {
             (take count (records_at L.WORD bytes.now)) size) }
         ensures fails { IfErr result
             (FailsAppending self.old self.new (take count (records_at L.WORD bytes.now))) }
+        ensures whole { self.new.broken ≡ false }
         ensures gone { self.new.roll.gone.count ≡ self.old.roll.gone.count }
         ensures follows { Follows self.old self.new }
     {
@@ -198,8 +200,10 @@ impl<S: Store, L: Width> Maker<S, L> {
 
     /// Whether some records go, and beside them there is no room for all whole records of some bytes.
     fn crowds(&self, bytes: &[u8]) -> bool
-        ensures { result ≡ false → (self.now.roll.gone.count ≡ 0) ⊎ (full_size self.now
+        ensures beside { result ≡ false → (self.now.roll.gone.count ≡ 0) ⊎ (full_size self.now
             + sum_by (whole_size L.WORD) (records_at L.WORD bytes.now) ≤ self.now.limit) }
+        ensures crowded { result ≡ true
+            → (0 < self.now.roll.gone.count) × IsCrowded self.now (records_at L.WORD bytes.now) }
     {
         self.roll.gone.count > 0 && measure::<L>(bytes, self.limit - self.full_size()).passes
     }
@@ -214,6 +218,7 @@ impl<S: Store, L: Width> Maker<S, L> {
             AppendsAll self.old self.new (whole_records L.WORD (length bytes.now) bytes.now) n) }
         ensures fails { IfErr result
             (FailsAppending self.old self.new (whole_records L.WORD (length bytes.now) bytes.now)) }
+        ensures whole { self.new.broken ≡ false }
         ensures gone { self.new.roll.gone.count ≡ self.old.roll.gone.count }
         ensures follows { Follows self.old self.new }
     {
@@ -242,6 +247,7 @@ impl<S: Store, L: Width> Maker<S, L> {
         ensures fails { IfErr result
             (FailsAppending self.old self.new (whole_records L.WORD (length bytes.now) bytes.now)) }
         ensures keeps { KeepsAll self.old self.new }
+        ensures counts { self.new.broken ≡ true → SameCounts self.old self.new }
         ensures follows { Follows self.old self.new }
     {
         if self.broken {
