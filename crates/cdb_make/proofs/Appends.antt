@@ -240,7 +240,7 @@ fails_wider old new rs more TooBig fails = (some_wider old new rs more (PassesLi
 fails_wider old new rs more NoMemory fails = (some_wider old new rs more (KeepsLimit old new) fails.0, fails.1)
 fails_wider {l = l} old new rs more Writing fails = elim fails [
   | inl f ↦ inl (some_wider old new rs more (KeepsLimit old new) f.0, f.1, f.2)
-  | inr t ↦ inr (t.0, t.1, t.2, t.3, omega (arith, t.4, sum_by-append (whole_size l.WORD) rs more))
+  | inr t ↦ inr (t.0, t.1, t.2, t.3, omega (arith, t.4, sum_by-append (whole_size l.WORD) rs more), t.5)
 ]
 
 -- the next one passes the limit

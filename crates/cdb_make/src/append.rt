@@ -83,7 +83,7 @@ fn measure<L: Width>(bytes: &[u8], room: u64) -> Fitting
 }
 
 impl<S: Store, L: Width> Maker<S, L> {
-    ghost use Rattle.cdb_make.specs.Views.Maker.{Holds, StaysWhole, Follows, HasNotFailed, HasGone, KeepsAll, SameCounts};
+    ghost use Rattle.cdb_make.specs.Views.Maker.{Holds, StaysWhole, Follows, HasNotFailed, HasGone, KeepsAll};
     ghost use Rattle.cdb_make.specs.Views.Appending.{AppendsAll, AppendsSome, FailsAppending};
     ghost use Rattle.cdb_make.specs.Views.Appending.{Enters, KeepsLimit, IsCrowded, FailsWriting, full_size};
 
@@ -136,7 +136,6 @@ impl<S: Store, L: Width> Maker<S, L> {
         ensures memory { IfErr result (λ fault. fault ≡ NoMemory) }
         ensures limit { self.new.limit ≡ self.old.limit }
         ensures lazy { self.new.lazy ≡ self.old.lazy }
-        ensures whole { self.new.broken ≡ false }
         ensures gone { self.new.roll.gone.count ≡ self.old.roll.gone.count }
         ensures store { self.new.store ≡ self.old.store }
     {
@@ -187,7 +186,6 @@ impl<S: Store, L: Width> Maker<S, L> {
             (take count (records_at L.WORD bytes.now)) size) }
         ensures fails { IfErr result
             (FailsAppending self.old self.new (take count (records_at L.WORD bytes.now))) }
-        ensures whole { self.new.broken ≡ false }
         ensures gone { self.new.roll.gone.count ≡ self.old.roll.gone.count }
         ensures follows { Follows self.old self.new }
     {
@@ -218,7 +216,6 @@ impl<S: Store, L: Width> Maker<S, L> {
             AppendsAll self.old self.new (whole_records L.WORD (length bytes.now) bytes.now) n) }
         ensures fails { IfErr result
             (FailsAppending self.old self.new (whole_records L.WORD (length bytes.now) bytes.now)) }
-        ensures whole { self.new.broken ≡ false }
         ensures gone { self.new.roll.gone.count ≡ self.old.roll.gone.count }
         ensures follows { Follows self.old self.new }
     {
@@ -247,7 +244,6 @@ impl<S: Store, L: Width> Maker<S, L> {
         ensures fails { IfErr result
             (FailsAppending self.old self.new (whole_records L.WORD (length bytes.now) bytes.now)) }
         ensures keeps { KeepsAll self.old self.new }
-        ensures counts { self.new.broken ≡ true → SameCounts self.old self.new }
         ensures follows { Follows self.old self.new }
     {
         if self.broken {

@@ -12,7 +12,7 @@ use Rattle.cdb_make.specs.declared.fault.MakeFault.TheVariants.{Writing}
 use Rattle.cdb_make.specs.declared.maker.Maker.{Maker}
 use Rattle.cdb_make.specs.Rolls.{Sees}
 use Rattle.cdb_make.specs.Views.Maker.{Holds, WhereHonest, HasStoreFailed, HasNotFailed, HasGone}
-use Rattle.cdb_make.specs.Views.Maker.{StaysWhole, Passes, gone_in, count_in}
+use Rattle.cdb_make.specs.Views.Maker.{SameCounts, StaysWhole, Passes, gone_in, count_in}
 
 -- all whole records at the start of some bytes
 abbrev pub records_at : ℕ → List ℕ → List KeyValue
@@ -90,7 +90,7 @@ FailsAppending old new rs NoMemory =
 FailsAppending old new rs Writing =
     (AppendsSome old new rs (KeepsLimit old new) × HasStoreFailed old new × StaysWhole old new)
     ⊎ (HasGone old × (old.broken ≡ false) × (new.broken ≡ true) × HasStoreFailed old new
-    × IsCrowded old rs)
+    × IsCrowded old rs × SameCounts old new)
 
 -- bytes were not written behind the records, since memory was refused or the store failed
 abbrev pub FailsWriting : {S L : Type 0} {s : Ghosts S} {l : Widths L} → Maker S L s l
