@@ -16,14 +16,15 @@ use Rattle.cdb_form.proofs.Files.Sizes.{size_split}
 use Rattle.cdb_make.specs.declared.fault.MakeFault.{MakeFault}
 use Rattle.cdb_make.specs.declared.fault.MakeFault.TheVariants.{Broken, Lookup, TooBig, NoMemory, Writing}
 use Rattle.cdb_make.specs.declared.maker.Maker.{Maker}
-use Rattle.cdb_make.specs.Views.Appending.{full_size, AppendsAll, AppendsSome, Enters, FailsAppending, FailsWriting, KeepsLimit, PassesLimit}
-use Rattle.cdb_make.specs.Marks.{is_gone}
+use Rattle.cdb_make.specs.declared.roll.Roll.{Roll}
+use Rattle.cdb_make.specs.Views.Appending.{full_size, AppendsAll, AppendsSome, Enters, FailsAppending, FailsWriting, IsCrowded, KeepsLimit, PassesLimit}
+use Rattle.cdb_make.specs.Marks.{is_gone, gone_of}
 use Rattle.cdb_make.specs.Spans.{left, AreOf}
 use Rattle.cdb_make.specs.Views.Places.{places_in}
-use Rattle.cdb_make.specs.Views.Roll.{SameRecords}
+use Rattle.cdb_make.specs.Views.Roll.{searched, sought_in, SameRecords}
 use Rattle.cdb_make.specs.Views.Maker.{gone_in, count_in, made_size, ComesFrom, Holds, HasGone, HasNotFailed, ClosesAll, SameCounts, StaysWhole}
 use Rattle.cdb_make.proofs.Finishing.{left_same}
-use Rattle.cdb_make.proofs.Looking.{sees_long}
+use Rattle.cdb_make.proofs.Looking.{sees_long, sees_same}
 use Rattle.cdb_make.proofs.Picking.{both_few, both_within}
 use Rattle.cdb_make.proofs.Rolls.{left_every, left_file, sees_entered}
 use Rattle.cdb_make.proofs.Spans.{left-append}
@@ -37,28 +38,45 @@ stored_written {end = end} {ys = ys} size sized inside written = record {
       ap (part end (length ys)) o.2 ∙ part-overwrite end o.0 ys (omega arith);
 }
 
+-- the same records are held
+pub stays_noted : {S L : Type 0} {s : Ghosts S} {l : Widths L} (old new : Maker S L s l) → old.broken ≡ false → new.broken ≡ false → SameRecords old.roll new.roll → new.roll.marks.items ≡ old.roll.marks.items → new.store ≡ old.store → StaysWhole old new
+stays_noted {s = s} old new was whole kept marks same = record {
+  was = was;
+  whole = whole;
+  holds = λ rs h. record {
+    whole = whole;
+    each = λ b is.
+        let held = h.each b (subst (λ (v : _). s.image v b) same is) in
+        record {
+          all = held.all;
+          sees = sees_same old.roll new.roll held.all b kept held.sees;
+          left = held.left ∙ ap (λ v. left (gone_of v) held.all) (sym marks);
+        };
+  };
+}
+
 -- a record whose bytes are behind the others is held once it is noted
-pub entered : {S L : Type 0} {s : Ghosts S} {l : Widths L} (old new : Maker S L s l) (r : KeyValue) → IsRecord r → old.broken ≡ false → new.broken ≡ false → new.roll.hashes.items ≡ old.roll.hashes.items ++ key_hash r.key ∷ []
-    → ((sizes : List ℕ) → AreOf (head_size l.WORD) (places_in old.roll.places) old.roll.end sizes → AreOf (head_size l.WORD) (places_in new.roll.places) new.roll.end (sizes ++ record_size l.WORD r ∷ []))
+pub entered : {S L : Type 0} {s : Ghosts S} {l : Widths L} (old new : Maker S L s l) (m : Roll L l) (r : KeyValue) → SameRecords old.roll m → IsRecord r → old.broken ≡ false → new.broken ≡ false → new.roll.hashes.items ≡ m.hashes.items ++ key_hash r.key ∷ [] → new.roll.tagged ≡ m.tagged → searched new.roll ≡ searched m ++ sought_in m r.key ∷ []
+    → ((sizes : List ℕ) → AreOf (head_size l.WORD) (places_in m.places) m.end sizes → AreOf (head_size l.WORD) (places_in new.roll.places) new.roll.end (sizes ++ record_size l.WORD r ∷ []))
     → gone_in new ≡ gone_in old ++ false ∷ [] → new.roll.end ≡ old.roll.end + record_size l.WORD r → new.roll.gone.count ≡ old.roll.gone.count → new.roll.gone.size ≡ old.roll.gone.size → new.limit ≡ old.limit → new.store ≡ old.store
     → Stored old.roll.end (record_bytes l.WORD r) (s.image old.store) → Enters old new (r ∷ [])
-entered {s = s} {l = l} old new r is_record was whole hashes of marks end gone size limit same stored = record {
+entered {s = s} {l = l} old new m r kept is_record was whole hashes tagged numbers of marks end gone size limit same stored = record {
   whole = whole;
   holds = λ before h. record {
     whole = whole;
     each = λ b is.
         let there : s.image old.store b = subst (λ (v : _). s.image v b) same is in
         let held = h.each b there in
-        let m = old.roll in
-        let many : length (gone_in old) ≡ length held.all = omega (arith, length-map m.marks.items is_gone, m.marked, sees_long m held.all b held.sees) in
+        let many : length (gone_in old) ≡ length held.all = omega (arith, length-map old.roll.marks.items is_gone, old.roll.marked, sees_long old.roll held.all b held.sees) in
+        let behind = subst (λ (n : ℕ). part n (length (record_bytes l.WORD r)) b ≡ record_bytes l.WORD r) (sym kept.end) (stored.each b there) in
         record {
           all = held.all ++ r ∷ [];
-          sees = sees_entered m new.roll r held.all b is_record hashes of (stored.each b there) held.sees;
+          sees = sees_entered m new.roll r held.all b is_record hashes tagged numbers of behind (sees_same old.roll m held.all b kept held.sees);
           left = ap (λ v. v ++ r ∷ []) held.left ∙ sym (ap (λ (v : List Bool). left v (held.all ++ r ∷ [])) marks ∙ left-append (gone_in old) (false ∷ []) held.all (r ∷ []) many);
         };
   };
   end = (let e : sum_by (record_size l.WORD) (r ∷ []) ≡ record_size l.WORD r = omega (arith, sum_by_push (record_size l.WORD) [] r) in omega (arith, end, e));
-  count = ap length hashes ∙ length-append old.roll.hashes.items (key_hash r.key ∷ []);
+  count = ap length hashes ∙ length-append m.hashes.items (key_hash r.key ∷ []) ∙ ap (λ (v : List ℕ). length v + 1) kept.hashes;
   gone = gone;
   gone_size = size;
   limit = limit;
@@ -220,7 +238,10 @@ fails_wider old new rs more Broken fails = fails
 fails_wider old new rs more Lookup fails = fails
 fails_wider old new rs more TooBig fails = (some_wider old new rs more (PassesLimit old new) fails.0, fails.1)
 fails_wider old new rs more NoMemory fails = (some_wider old new rs more (KeepsLimit old new) fails.0, fails.1)
-fails_wider old new rs more Writing fails = elim fails [ inl f ↦ inl (some_wider old new rs more (KeepsLimit old new) f.0, f.1, f.2) | inr t ↦ inr t ]
+fails_wider {l = l} old new rs more Writing fails = elim fails [
+  | inl f ↦ inl (some_wider old new rs more (KeepsLimit old new) f.0, f.1, f.2)
+  | inr t ↦ inr (t.0, t.1, t.2, t.3, omega (arith, t.4, sum_by-append (whole_size l.WORD) rs more), t.5)
+]
 
 -- the next one passes the limit
 pub appends_until : {S L : Type 0} {s : Ghosts S} {l : Widths L} (old new : Maker S L s l) (rs done later : List KeyValue) (r : KeyValue) (n : ℕ) → rs ≡ done ++ r ∷ later → AppendsAll old new done n
@@ -259,8 +280,8 @@ keeps_after {l = l} old mid new stays limit v k = λ before h. record { each = �
 passes_after : {S L : Type 0} {s : Ghosts S} {l : Widths L} (old mid new : Maker S L s l) → StaysWhole old mid → mid.limit ≡ old.limit → (v : List KeyValue) → PassesLimit mid new v → PassesLimit old new v
 passes_after {l = l} old mid new stays limit v k = λ before h. record { each = λ b is. (let le : mid.limit < file_size l.WORD (before ++ v) = (k before (stays.holds before h)).each b is in omega arith) }
 
-pub appends_after : {S L : Type 0} {s : Ghosts S} {l : Widths L} (old mid new : Maker S L s l) (rs : List KeyValue) (n : ℕ) → ClosesAll old mid → SameCounts old mid → HasNotFailed old mid → ComesFrom (s.image mid.store) (s.image new.store) → AppendsAll mid new rs n → AppendsAll old new rs n
-appends_after {s = s} old mid new rs n closes counts fine comes appends =
+pub appends_after : {S L : Type 0} {s : Ghosts S} {l : Widths L} (old mid new : Maker S L s l) (rs : List KeyValue) (n : ℕ) → IsCrowded old rs → ClosesAll old mid → SameCounts old mid → HasNotFailed old mid → ComesFrom (s.image mid.store) (s.image new.store) → AppendsAll mid new rs n → AppendsAll old new rs n
+appends_after {s = s} old mid new rs n crowded closes counts fine comes appends =
     let none : HasGone mid → ⊥ = λ some. omega (arith, some.1, closes.none) in
     let wrote : s.written new.store ≡ s.written mid.store + n = appends.written none in
     record {
@@ -272,7 +293,7 @@ appends_after {s = s} old mid new rs n closes counts fine comes appends =
       each = λ b is.
           let c = comes.each b is in
           let g = closes.goes.each c.0 c.1 in
-          (g.0, g.1, λ all sees. (let q = g.2 all sees in inr (omega (arith, wrote, q.2.1))));
+          (g.0, g.1, λ all sees. (let q = g.2 all sees in inr (omega (arith, wrote, q.2.1), crowded)));
       count = appends.count ∙ ap (λ (k : ℕ). k + length rs) (left_same old mid closes.stays.was closes.stays.whole counts).0;
       failures = appends.failures ∙ fine;
     }

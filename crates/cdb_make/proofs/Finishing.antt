@@ -248,6 +248,7 @@ sees_part {l = l} m all a b same h =
       are = h.are;
       stand = ap (λ (k : ℕ). part (head_size w) k b) (sym n) ∙ same ∙ ap (λ (k : ℕ). part (head_size w) k a) n ∙ h.stand;
       hashes = h.hashes;
+      searched = h.searched;
       of = h.of;
     }
 

@@ -6,6 +6,7 @@ use Rattle.std.proofs.lemmas.Slice.Eq.{bytes_eq-Decides}
 use Rattle.cdb_store.specs.Images.{part}
 use Rattle.cdb_form.specs.declared.width.Width.{Ghosts as Widths}
 use Rattle.cdb_form.specs.Format.Hash.{key_hash}
+use Rattle.cdb_make.specs.Tags.{sought_by}
 use Rattle.cdb_form.specs.Format.Pair.{head_size}
 use Rattle.cdb_form.specs.Format.Record.{KeyValue, record_bytes, record_size}
 use Rattle.cdb_form.specs.Views.Pairs.{PairFits}
@@ -20,7 +21,7 @@ use Rattle.cdb_make.specs.Rolls.{Sees, fresh, IsFresh}
 use Rattle.cdb_make.specs.Spans.{Stand}
 use Rattle.cdb_make.specs.Survivors.{has_key}
 use Rattle.cdb_make.specs.Views.Places.{places_in}
-use Rattle.cdb_make.specs.Views.Roll.{SameRecords}
+use Rattle.cdb_make.specs.Views.Roll.{searched, sought_in, SameRecords}
 use Rattle.cdb_make.proofs.Spans.{piece_at, place_is, place_high, place_size}
 
 -- what a record that stands somewhere says
@@ -73,21 +74,21 @@ fresh_at key (m ∷ ms) [] k r e lt = absurd (omega arith)
 fresh_at key (m ∷ ms) (q ∷ rs) zero r e lt = refl
 fresh_at key (m ∷ ms) (q ∷ rs) (suc k) r e lt = fresh_at key ms rs k r (omega arith) (omega arith)
 
--- ---- with the hash of the key
+-- ---- with the number of the key
 
 both_of : (m has : Bool) → cond m false has ≡ true → (m ≡ false) × (has ≡ true)
 both_of true has e = absurd (let t : false ≡ true = e in cc)
 both_of false has e = (refl, e)
 
-pub fresh_has : {L : Type 0} {l : Widths L} (m : Roll L l) (all : List KeyValue) (b key : List ℕ) (hash k : ℕ) → hash ≡ key_hash key → k < length all → length (gone_of m.marks.items) ≡ length all → Sees m all b → IsFresh key (gone_of m.marks.items) all k
-    → Has hash m.hashes.items (gone_of m.marks.items) k
-fresh_has {l = l} m all b key hash k hashed lt long h is =
+pub fresh_has : {L : Type 0} {l : Widths L} (m : Roll L l) (all : List KeyValue) (b key : List ℕ) (number k : ℕ) → number ≡ sought_in m key → k < length all → length (gone_of m.marks.items) ≡ length all → Sees m all b → IsFresh key (gone_of m.marks.items) all k
+    → Has number (searched m) (gone_of m.marks.items) k
+fresh_has {l = l} m all b key number k is_sought lt long h is =
     let gone : List Bool = gone_of m.marks.items in
     let d : KeyValue = record { key = []; value = [] } in
     let both = both_of (get_or gone k true) (has_key key (get_or all k d)) (sym (fresh_at key gone all k d long lt) ∙ is) in
     let same : (get_or all k d).key ≡ key = (bytes_eq-Decides (get_or all k d).key key).0 both.1 in
     record {
-      same = ap (λ (v : List ℕ). slice_index v k) h.hashes ∙ get_or-map (λ r. key_hash r.key) all k d 0 lt ∙ ap key_hash same ∙ sym hashed;
+      same = ap (λ (v : List ℕ). slice_index v k) h.searched ∙ get_or-map (λ r. sought_in m r.key) all k d 0 lt ∙ ap (sought_in m) same ∙ sym is_sought;
       stays = both.0;
     }
 
@@ -131,20 +132,40 @@ pub has_it_not : {w p end : ℕ} {key : List ℕ} {images : List ℕ → Type 0}
 has_it_not (Some n) e l b is = absurd (let k : true ≡ false = e in cc)
 has_it_not None e l b is = (l.each b is).1
 
--- the same records
+-- the same records have the same numbers
+same_numbers : {L : Type 0} {l : Widths L} (old new : Roll L l) (all : List KeyValue) → (0 < length all → new.tagged ≡ old.tagged) → map (λ r. sought_in old r.key) all ≡ map (λ r. sought_in new r.key) all
+same_numbers old new [] same = refl
+same_numbers old new (r ∷ rs) same = ap (λ (v : Bool). map (λ q. sought_by v q.key) (r ∷ rs)) (sym (same (omega arith)))
+
 pub sees_same : {L : Type 0} {l : Widths L} (old new : Roll L l) (all : List KeyValue) (b : List ℕ) → SameRecords old new → Sees old all b → Sees new all b
 sees_same old new all b same h = record {
   are = h.are;
   stand = h.stand;
   hashes = same.hashes ∙ h.hashes;
+  searched = same.searched ∙ h.searched ∙ same_numbers old new all (λ some. same.tagged (omega (arith, some, sees_long old all b h)));
   of = record { are = same.places ∙ h.of.are; ends = same.end ∙ h.of.ends };
 }
 
+pub same_self : {L : Type 0} {l : Widths L} (m : Roll L l) → SameRecords m m
+same_self m = record { hashes = refl; searched = refl; tagged = λ some. refl; places = refl; end = refl }
+
 pub same_back : {L : Type 0} {l : Widths L} (old new : Roll L l) → SameRecords old new → SameRecords new old
-same_back old new same = record { hashes = sym same.hashes; places = sym same.places; end = sym same.end }
+same_back old new same = record {
+  hashes = sym same.hashes;
+  searched = sym same.searched;
+  tagged = λ some. sym (same.tagged (omega (arith, some, ap length same.hashes)));
+  places = sym same.places;
+  end = sym same.end;
+}
 
 pub same_then : {L : Type 0} {l : Widths L} (i j k : Roll L l) → SameRecords i j → SameRecords j k → SameRecords i k
-same_then i j k f h = record { hashes = h.hashes ∙ f.hashes; places = h.places ∙ f.places; end = h.end ∙ f.end }
+same_then i j k f h = record {
+  hashes = h.hashes ∙ f.hashes;
+  searched = h.searched ∙ f.searched;
+  tagged = λ some. h.tagged (omega (arith, some, ap length f.hashes)) ∙ f.tagged some;
+  places = h.places ∙ f.places;
+  end = h.end ∙ f.end;
+}
 
 pub length-fresh : (key : List ℕ) (ms : List Bool) (rs : List KeyValue) → length ms ≡ length rs → length (fresh key ms rs) ≡ length rs
 length-fresh key [] [] e = refl

@@ -23,8 +23,8 @@ use Rattle.cdb_make.specs.Marks.{is_gone, gone_of, found_of, taken, AreNone, Hav
 use Rattle.cdb_make.specs.Rolls.{Sees}
 use Rattle.cdb_make.specs.Spans.{left, picked, number, behind, or_each}
 use Rattle.cdb_make.specs.Survivors.{has_key, is_there, count_of, behind_first, put_list, put_answer}
-use Rattle.cdb_make.specs.Views.Roll.{HasRoom}
-use Rattle.cdb_make.specs.Views.Maker.{gone_in, found_in, Holds, Rests, Stays, Seeks, Meets, Settles, Puts, Follows, IsOver, IsWithin, IsTooBig, WouldPut, WantsRoom, OnlyAdds, PassesRoom, DoesNothing, WritesNothing, HasFailedToWrite, HasNotFailed, HasStoreFailed, HasGone, HasGoneOr, IsTorn, FailsSettling, FailsPutting, IsAlone, IsShort, put_bytes, lone_bytes, goes_with, is_present}
+use Rattle.cdb_make.specs.Views.Roll.{searched, HasRoom}
+use Rattle.cdb_make.specs.Views.Maker.{gone_in, found_in, Holds, Rests, Stays, Seeks, Meets, Settles, Puts, Follows, IsOver, IsWithin, IsTooBig, WouldPut, WantsRoom, OnlyAdds, PassesRoom, DoesNothing, WritesNothing, HasFailedToWrite, HasNotFailed, HasStoreFailed, HasGone, HasGoneOr, IsTorn, IsMarked, IsHalfway, FailsSettling, FailsPutting, IsAlone, IsShort, put_bytes, lone_bytes, goes_with, is_present}
 use Rattle.cdb_make.proofs.Ends.{end_passed}
 use Rattle.cdb_make.proofs.Finishing.{gone_lazy}
 use Rattle.cdb_make.proofs.Looking.{sees_long, sees_same, same_back}
@@ -92,7 +92,7 @@ pub meets_by : {S L : Type 0} {s : Ghosts S} {l : Widths L} (i j : Maker S L s l
 meets_by {s = s} {l = l} i j hash mode r put other rests none plain = record {
   rests = rests;
   replaces = λ some. absurd (omega (arith, some, j.roll.sought.count, number_none (found_in j) none));
-  have = have_none hash j.roll.hashes.items j.roll.marks.items none;
+  have = have_none hash (searched j.roll) j.roll.marks.items none;
   each = λ rs h b is.
       let p = plain rs h b is in
       let held = h.each b (rests.reads.images b is) in
@@ -352,8 +352,8 @@ only_adds i j k hash mode r put np m follows zero = λ rs h. record {
       e.adds np ∙ ap (λ (v : List Bool). left v e.all ++ r ∷ []) (or_none (gone_in j) (found_in j) (same_marks j.roll) none) ∙ ap (λ (v : List KeyValue). v ++ r ∷ []) (sym e.held);
 }
 
-torn_put : {S L : Type 0} {s : Ghosts S} {l : Widths L} (i j k : Maker S L s l) (hash : ℕ) (mode : Mode) (r : KeyValue) (put : Put) → Meets i j hash mode r put → Follows j k → k.broken ≡ true → HasStoreFailed j k → 0 < j.roll.gone.count + j.roll.found.count → IsTorn i k (HasGoneOr i r.key) × (HasGone i ⊎ (mode ≡ Replace))
-torn_put {s = s} i j k hash mode r put m follows torn failed some =
+torn_put : {S L : Type 0} {s : Ghosts S} {l : Widths L} (i j k : Maker S L s l) (hash : ℕ) (mode : Mode) (r : KeyValue) (put : Put) → Meets i j hash mode r put → Follows j k → k.broken ≡ true → HasStoreFailed j k → 0 < j.roll.gone.count + j.roll.found.count → IsMarked k ⊎ (0 < j.roll.found.count) → IsTorn i k (HasGoneOr i r.key) × (HasGone i ⊎ (mode ≡ Replace)) × IsHalfway i k mode r
+torn_put {s = s} i j k hash mode r put m follows torn failed some half =
     let fails : HasStoreFailed i k = omega (arith, failed, m.rests.reads.failures) in
     elim (cases_lt 0 j.roll.found.count) [
       | inl found ↦ (
@@ -364,11 +364,12 @@ torn_put {s = s} i j k hash mode r put m follows torn failed some =
           found = λ rs h. record { each = λ b is. inr (let a = follows.comes.each b is in (m.each rs h a.0 a.1).there found) };
         },
         inr (m.replaces found),
+        inr (m.replaces found, λ rs h. record { each = λ b is. (let a = follows.comes.each b is in (m.each rs h a.0 a.1).there found) }),
       )
       | inr le ↦
           let goes : 0 < i.roll.gone.count = omega (arith, some, le, ap (λ q. q.count) m.rests.picked) in
           let gone : HasGone i = (gone_lazy i m.rests.was goes, goes) in
-          (record { was = m.rests.was; broken = torn; failed = fails; found = λ rs h. record { each = λ b is. inl gone } }, inl gone)
+          (record { was = m.rests.was; broken = torn; failed = fails; found = λ rs h. record { each = λ b is. inl gone } }, inl gone, elim half [ inl marked ↦ inl marked | inr found ↦ absurd (omega (arith, found, le)) ])
     ]
 
 nothing_put : {S L : Type 0} {s : Ghosts S} {l : Widths L} (i j k : Maker S L s l) (hash : ℕ) (mode : Mode) (r : KeyValue) (put : Put) → Meets i j hash mode r put → DoesNothing j k → WritesNothing i k
@@ -394,7 +395,7 @@ put_fails i j k hash mode r put Writing w np m fine follows h =
         would,
       )
       | inr t ↦ elim t [
-        | inl u ↦ (inr (torn_put i j k hash mode r put m follows u.0 u.1 u.2), would)
+        | inl u ↦ (inr (torn_put i j k hash mode r put m follows u.0 u.1 u.2 u.3), would)
         | inr u ↦ (
           inl (
             record {

@@ -11,13 +11,14 @@ use Rattle.cdb_store.specs.Images.{part, overwrite, AfterTornWrite, KeepsPart, S
 use Rattle.cdb_store.proofs.Parts.{part_add, part_from_take, part-overwrite, take-overwrite}
 use Rattle.cdb_form.specs.declared.width.Width.{Ghosts as Widths}
 use Rattle.cdb_form.specs.Format.Hash.{key_hash}
+use Rattle.cdb_make.specs.Tags.{second_hash, sought_by}
 use Rattle.cdb_form.specs.Format.File.{file_size, whole_size}
 use Rattle.cdb_form.specs.Format.Pair.{head_size}
 use Rattle.cdb_form.specs.Format.Record.{KeyValue, IsRecord, record_bytes, record_size}
 use Rattle.cdb_store.specs.Reads.{OnlyReads}
 use Rattle.cdb_make.specs.declared.key_at.LookFault.{LookFault}
 use Rattle.cdb_make.specs.declared.key_at.LookFault.TheVariants.{Failed, Foreign}
-use Rattle.cdb_make.specs.Views.Roll.{SameRecords}
+use Rattle.cdb_make.specs.Views.Roll.{searched, sought_in, SameRecords}
 use Rattle.cdb_make.specs.declared.roll.Roll.{Roll}
 use Rattle.cdb_make.specs.declared.maker.Maker.{Maker}
 use Rattle.cdb_make.specs.Marks.{gone_of, found_of, AreNone}
@@ -30,10 +31,10 @@ use Rattle.cdb_store.specs.declared.store.StoreFault.TheVariants.{NoMemory as Re
 use Rattle.cdb_make.specs.declared.fault.MakeFault.{MakeFault}
 use Rattle.cdb_make.specs.declared.fault.MakeFault.TheVariants.{Broken, Lookup, TooBig, NoMemory, Writing}
 use Rattle.cdb_make.specs.Views.MakeFault.{fault_of}
-use Rattle.cdb_make.specs.Views.Maker.{Goes, ComesFrom, AddFails, Follows, Stays, FailsExchanging, FailsClosing, FailsLooking, HasStoreFailed, gone_in, found_in, is_foreign, look_fault}
+use Rattle.cdb_make.specs.Views.Maker.{Goes, ComesFrom, AddFails, Follows, Stays, IsMarked, FailsExchanging, FailsClosing, FailsLooking, HasStoreFailed, gone_in, found_in, is_foreign, look_fault}
 use Rattle.cdb_make.specs.Views.Places.{places_in}
 use Rattle.cdb_make.proofs.Spans.{left-map, joined_more, joined_end, kept_then}
-use Rattle.cdb_make.proofs.Looking.{sizes_of, sees_long, sees_same}
+use Rattle.cdb_make.proofs.Looking.{sizes_of, sees_long, sees_same, same_self}
 use Rattle.cdb_make.proofs.Picking.{left_sum, left_number, end_sum}
 
 pub left_every : (P : KeyValue → Type 0) (ms : List Bool) (rs : List KeyValue) → All P rs → All P (left ms rs)
@@ -47,21 +48,28 @@ pub end_joined : {L : Type 0} {l : Widths L} (m : Roll L l) (all : List KeyValue
 end_joined {l = l} m all b h = h.of.ends ∙ ap (end_from (head_size l.WORD)) (sym (sizes_of l.WORD all)) ∙ joined_end (head_size l.WORD) (map (record_bytes l.WORD) all)
 
 -- the same records with the same bytes
-pub sees_kept : {L : Type 0} {l : Widths L} (old new : Roll L l) (all : List KeyValue) (a b : List ℕ) → new.hashes.items ≡ old.hashes.items → places_in new.places ≡ places_in old.places → new.end ≡ old.end → take old.end b ≡ take old.end a → Sees old all a → Sees new all b
-sees_kept {l = l} old new all a b hashes places end kept h =
+pub sees_kept : {L : Type 0} {l : Widths L} (old new : Roll L l) (all : List KeyValue) (a b : List ℕ) → SameRecords old new → take old.end b ≡ take old.end a → Sees old all a → Sees new all b
+sees_kept {l = l} old new all a b same kept h =
     let w : ℕ = l.WORD in
     let n : ℕ = length (joined (map (record_bytes w) all)) in
+    let moved = sees_same old new all a same h in
     record {
       are = h.are;
       stand = part_from_take (head_size w) n old.end a b (sym (end_joined old all a h)) kept ∙ h.stand;
-      hashes = hashes ∙ h.hashes;
-      of = record { are = places ∙ h.of.are; ends = end ∙ h.of.ends };
+      hashes = moved.hashes;
+      searched = moved.searched;
+      of = moved.of;
     }
 
+-- the number of one more
+pub number_is : (tagged : Bool) (key : List ℕ) (hash tag : ℕ) → hash ≡ key_hash key → (tagged ≡ true → tag ≡ second_hash key) → cond tagged tag hash ≡ sought_by tagged key
+number_is true key hash tag hashed tags = tags refl
+number_is false key hash tag hashed tags = hashed
+
 -- one record more, whose bytes stand behind them
-pub sees_entered : {L : Type 0} {l : Widths L} (old new : Roll L l) (r : KeyValue) (all : List KeyValue) (b : List ℕ) → IsRecord r → new.hashes.items ≡ old.hashes.items ++ key_hash r.key ∷ []
+pub sees_entered : {L : Type 0} {l : Widths L} (old new : Roll L l) (r : KeyValue) (all : List KeyValue) (b : List ℕ) → IsRecord r → new.hashes.items ≡ old.hashes.items ++ key_hash r.key ∷ [] → new.tagged ≡ old.tagged → searched new ≡ searched old ++ sought_in old r.key ∷ []
     → ((sizes : List ℕ) → AreOf (head_size l.WORD) (places_in old.places) old.end sizes → AreOf (head_size l.WORD) (places_in new.places) new.end (sizes ++ record_size l.WORD r ∷ [])) → part old.end (length (record_bytes l.WORD r)) b ≡ record_bytes l.WORD r → Sees old all b → Sees new (all ++ r ∷ []) b
-sees_entered {l = l} old new r all b is_record hashes of behind h =
+sees_entered {l = l} old new r all b is_record hashes tagged numbers of behind h =
     let w : ℕ = l.WORD in
     let x : List ℕ = record_bytes w r in
     let js : List ℕ = joined (map (record_bytes w) all) in
@@ -78,22 +86,23 @@ sees_entered {l = l} old new r all b is_record hashes of behind h =
           ∙ ap (λ (v : List ℕ). js ++ v) back
           ∙ sym all_is;
       hashes = hashes ∙ ap (λ (v : List ℕ). v ++ key_hash r.key ∷ []) h.hashes ∙ sym (map-append (λ q. key_hash q.key) all (r ∷ []));
+      searched = numbers ∙ ap (λ (v : List ℕ). v ++ sought_in old r.key ∷ []) h.searched ∙ sym (map-append (λ q. sought_in old q.key) all (r ∷ [])) ∙ ap (λ (v : Bool). map (λ q. sought_by v q.key) (all ++ r ∷ [])) (sym tagged);
       of = subst (AreOf (head_size w) (places_in new.places) new.end) (sym (map-append (record_size w) all (r ∷ []))) (of (map (record_size w) all) h.of);
     }
 
 -- or are written there
-pub sees_added : {L : Type 0} {l : Widths L} (old new : Roll L l) (r : KeyValue) (all : List KeyValue) (a b : List ℕ) → IsRecord r → old.end ≤ length a → new.hashes.items ≡ old.hashes.items ++ key_hash r.key ∷ []
+pub sees_added : {L : Type 0} {l : Widths L} (old new : Roll L l) (r : KeyValue) (all : List KeyValue) (a b : List ℕ) → IsRecord r → old.end ≤ length a → new.hashes.items ≡ old.hashes.items ++ key_hash r.key ∷ [] → new.tagged ≡ old.tagged → searched new ≡ searched old ++ sought_in old r.key ∷ []
     → ((sizes : List ℕ) → AreOf (head_size l.WORD) (places_in old.places) old.end sizes → AreOf (head_size l.WORD) (places_in new.places) new.end (sizes ++ record_size l.WORD r ∷ [])) → b ≡ overwrite a old.end (record_bytes l.WORD r) → Sees old all a → Sees new (all ++ r ∷ []) b
-sees_added {l = l} old new r all a b is_record inside hashes of written h =
+sees_added {l = l} old new r all a b is_record inside hashes tagged numbers of written h =
     let x : List ℕ = record_bytes l.WORD r in
     let same : take old.end b ≡ take old.end a = ap (take old.end) written ∙ take-overwrite old.end old.end a x (omega arith) inside in
-    sees_entered old new r all b is_record hashes of (ap (part old.end (length x)) written ∙ part-overwrite old.end a x inside) (sees_kept old old all a b refl refl refl same h)
+    sees_entered old new r all b is_record hashes tagged numbers of (ap (part old.end (length x)) written ∙ part-overwrite old.end a x inside) (sees_kept old old all a b (same_self old) same h)
 
 -- those without a mark
-pub sees_closed : {L : Type 0} {l : Widths L} (old new : Roll L l) (all : List KeyValue) (a b : List ℕ) → new.hashes.items ≡ left (gone_of old.marks.items) old.hashes.items
+pub sees_closed : {L : Type 0} {l : Widths L} (old new : Roll L l) (all : List KeyValue) (a b : List ℕ) → new.hashes.items ≡ left (gone_of old.marks.items) old.hashes.items → new.tagged ≡ old.tagged → searched new ≡ left (gone_of old.marks.items) (searched old)
     → ((sizes : List ℕ) → AreOf (head_size l.WORD) (places_in old.places) old.end sizes → AreOf (head_size l.WORD) (places_in new.places) new.end (left (gone_of old.marks.items) sizes))
     → ((ps : List (List ℕ)) → AreOf (head_size l.WORD) (places_in old.places) old.end (map length ps) → Stand (head_size l.WORD) ps a → Stand (head_size l.WORD) (left (gone_of old.marks.items) ps) b) → Sees old all a → Sees new (left (gone_of old.marks.items) all) b
-sees_closed {l = l} old new all a b hashes of stands h =
+sees_closed {l = l} old new all a b hashes tagged numbers of stands h =
     let w : ℕ = l.WORD in
     let ms : List Bool = gone_of old.marks.items in
     let sized : AreOf (head_size w) (places_in old.places) old.end (map length (map (record_bytes w) all)) = subst (AreOf (head_size w) (places_in old.places) old.end) (sym (sizes_of w all)) h.of in
@@ -101,6 +110,7 @@ sees_closed {l = l} old new all a b hashes of stands h =
       are = left_every IsRecord ms all h.are;
       stand = subst (λ (v : List (List ℕ)). Stand (head_size w) v b) (sym (left-map (record_bytes w) ms all)) (stands (map (record_bytes w) all) sized h.stand);
       hashes = hashes ∙ ap (left ms) h.hashes ∙ sym (left-map (λ r. key_hash r.key) ms all);
+      searched = numbers ∙ ap (left ms) h.searched ∙ sym (left-map (λ r. sought_in old r.key) ms all) ∙ ap (λ (v : Bool). map (λ q. sought_by v q.key) (left ms all)) (sym tagged);
       of = subst (AreOf (head_size w) (places_in new.places) new.end) (sym (left-map (record_size w) ms all)) (of (map (record_size w) all) h.of);
     }
 
@@ -244,9 +254,9 @@ exchange_fails i j k (Err Writing) wants room whole none follows goes stays fail
   goes_then i j k (λ all mid rest p q. q ∙ p) goes stays.goes,
 )
 
-pub torn_fails : {S L : Type 0} {s : Ghosts S} {l : Widths L} (i k : Maker S L s l) (result : Result (Unit {0}) MakeFault) (f : MakeFault) → f ≡ Writing → k.broken ≡ true → HasStoreFailed i k → IsErrAnd result (λ v. v ≡ f) → IfErr result (FailsExchanging i k)
-torn_fails i k (Ok x) f is broken failed e = tt
-torn_fails i k (Err v) f is broken failed e = subst (FailsExchanging i k) (sym (e ∙ is)) (inl (broken, failed))
+pub torn_fails : {S L : Type 0} {s : Ghosts S} {l : Widths L} (i k : Maker S L s l) (result : Result (Unit {0}) MakeFault) (f : MakeFault) → f ≡ Writing → k.broken ≡ true → HasStoreFailed i k → IsMarked k → IsErrAnd result (λ v. v ≡ f) → IfErr result (FailsExchanging i k)
+torn_fails i k (Ok x) f is broken failed marked e = tt
+torn_fails i k (Err v) f is broken failed marked e = subst (FailsExchanging i k) (sym (e ∙ is)) (inl (broken, failed, marked))
 
 -- ---- what a maker holds
 
@@ -296,9 +306,9 @@ closing_fails {s = s} i j k n r Writing roll images roll₁ store failures unwri
     let same : s.failures n.store ≡ s.failures k.store = ap s.failures store in
     let same₁ : s.unwritten n.store ≡ s.unwritten k.store = ap s.unwritten store in
     elim h [
-      | inl t ↦ inl (torn t.0, omega (arith, t.1, failures, same))
+      | inl t ↦ inl (torn t.0, omega (arith, t.1, failures, same), inl (omega (arith, t.2, ap (λ v. v.gone.count) roll₁)))
       | inr w ↦ elim (cases_lt 0 i.roll.found.count) [
-        | inl some ↦ inl (lost some, omega (arith, w.2.failed, failures, same))
+        | inl some ↦ inl (lost some, omega (arith, w.2.failed, failures, same), inr some)
         | inr le ↦
             let zero₁ : i.roll.found.count ≡ 0 = omega (arith, le) in
             inr (

@@ -14,22 +14,22 @@ use Rattle.cdb_make.specs.declared.roll.Roll.{Roll}
 use Rattle.cdb_make.specs.Marks.{is_gone, is_found, gone_of, found_of, AreNone, HaveHash}
 use Rattle.cdb_make.specs.Spans.{left, behind, or_each}
 use Rattle.cdb_make.specs.Views.Roll.{SameRecords}
-use Rattle.cdb_make.specs.Views.Maker.{gone_in, found_in, Stays, Adds, AddFails, Waits, Settles, FailsClosing, FailsSettling, IsWithin}
-use Rattle.cdb_make.proofs.Looking.{sees_same, sees_long, same_then}
+use Rattle.cdb_make.specs.Views.Maker.{gone_in, found_in, Stays, Adds, Waits, Settles, FailsClosing, FailsSettling, IsWithin}
+use Rattle.cdb_make.proofs.Looking.{sees_same, sees_long, same_self, same_then}
 use Rattle.cdb_make.proofs.Spans.{left-append, or_append}
 use Rattle.cdb_make.proofs.Survive.{or_none, number_zero}
 use Rattle.cdb_make.proofs.Ends.{end_more}
 use Rattle.cdb_make.proofs.Rolls.{none_more, goes_then}
 
-pub have_more : (hash : ℕ) (hs hs₁ : List ℕ) (ms ms₁ : List Mark) → hs₁ ≡ hs ++ hash ∷ [] → found_of ms₁ ≡ found_of ms ++ false ∷ [] → length ms ≡ length hs → HaveHash hash hs ms → HaveHash hash hs₁ ms₁
-have_more hash hs hs₁ ms ms₁ hashes found long h = record {
+pub have_more : (hash x : ℕ) (hs hs₁ : List ℕ) (ms ms₁ : List Mark) → hs₁ ≡ hs ++ x ∷ [] → found_of ms₁ ≡ found_of ms ++ false ∷ [] → length ms ≡ length hs → HaveHash hash hs ms → HaveHash hash hs₁ ms₁
+have_more hash x hs hs₁ ms ms₁ hashes found long h = record {
   each = λ k is.
       let many : length (found_of ms) ≡ length hs = length-map ms is_found ∙ long in
       let yes : get_or (found_of ms ++ false ∷ []) k false ≡ true = ap (λ (v : List Bool). get_or v k false) (sym found) ∙ is in
       ap (λ (v : List ℕ). slice_index v k) hashes ∙ elim (cases_lt k (length hs)) [
-        | inl lt ↦ get_or_append_left hs (hash ∷ []) 0 k lt ∙ h.each k (sym (get_or_append_left (found_of ms) (false ∷ []) false k (omega arith)) ∙ yes)
+        | inl lt ↦ get_or_append_left hs (x ∷ []) 0 k lt ∙ h.each k (sym (get_or_append_left (found_of ms) (false ∷ []) false k (omega arith)) ∙ yes)
         | inr le ↦ elim (cases_eq k (length hs)) [
-          | inl e ↦ get_or_push hs hash 0 k (sym e)
+          | inl e ↦ absurd (let t : false ≡ true = sym (get_or_push (found_of ms) false false k (omega (arith, e, many))) ∙ yes in cc)
           | inr apart ↦ absurd (let t : false ≡ true = sym (get_or_past (found_of ms ++ false ∷ []) k false (omega (arith, length_push (found_of ms) false))) ∙ yes in cc)
         ]
       ];
@@ -97,15 +97,7 @@ settles_later {s = s} {l = l} i j k hash r first whole a store broken same gone 
 pub settles_alone : {S L : Type 0} {s : Ghosts S} {l : Widths L} (i j : Maker S L s l) (hash : ℕ) (r : KeyValue) → i.roll.gone.count + i.roll.found.count ≡ 0 → i.broken ≡ false → Adds i j hash r → Settles i j r
 settles_alone i j hash r none whole a =
     let found : AreNone (found_in i) = number_zero (found_in i) (omega (arith, i.roll.sought.count, none)) in
-    settles_later i j j hash r (inr none) whole a refl refl (record { hashes = refl; places = refl; end = refl }) (sym (or_none (gone_in j) (found_in j) (same_marks j.roll) (none_more (found_in i) (found_in j) a.found found)))
-
-pub fails_alone : {S L : Type 0} {s : Ghosts S} {l : Widths L} (i j : Maker S L s l) (r : KeyValue) (wants : Type 0) (fault : MakeFault) → i.roll.gone.count + i.roll.found.count ≡ 0 → IsWithin i r → Stays i j
-    → AddFails (s.written i.store) (s.written j.store) (s.failures i.store) (s.failures j.store) (s.unwritten i.store) (s.unwritten j.store) wants fault → FailsSettling i j r fault
-fails_alone i j r wants Broken none fits stays h = h
-fails_alone i j r wants Lookup none fits stays h = h
-fails_alone i j r wants TooBig none fits stays h = absurd h
-fails_alone i j r wants NoMemory none fits stays h = (record { stays = stays; written = h.0; fine = h.1 }, fits, λ found. absurd (omega (arith, found, none)))
-fails_alone i j r wants Writing none fits stays h = (fits, inl (stays, record { failed = h.0; unwritten = h.1 }, λ eager. omega (arith, none)))
+    settles_later i j j hash r (inr none) whole a refl refl (same_self j.roll) (sym (or_none (gone_in j) (found_in j) (same_marks j.roll) (none_more (found_in i) (found_in j) a.found found)))
 
 -- nothing was done first
 pub settles_after : {S L : Type 0} {s : Ghosts S} {l : Widths L} (i j k : Maker S L s l) (r : KeyValue) → Waits i j r → j.lazy ≡ i.lazy → Settles j k r → Settles i k r
@@ -157,7 +149,12 @@ fails_after i j k r NoMemory w room unwritten fits some h = (
 fails_after {s = s} i j k r Writing w room unwritten fits some h = (
   fits,
   inr (elim h [
-    | inl t ↦ inl (t.0, omega (arith, t.1, w.fine), omega (arith, some, ap (λ q. q.count) w.stays.gone, ap (λ q. q.count) w.stays.found))
+    | inl t ↦ inl (
+      t.0,
+      omega (arith, t.1, w.fine),
+      omega (arith, some, ap (λ q. q.count) w.stays.gone, ap (λ q. q.count) w.stays.found),
+      elim t.2 [ inl marked ↦ inl marked | inr found ↦ inr (omega (arith, found, ap (λ q. q.count) w.stays.found)) ],
+    )
     | inr t ↦ inr (
       t.0,
       t.1,

@@ -8,6 +8,7 @@ pub mod Finished
 pub mod Tables
 pub mod Marks
 pub mod Spans
+pub mod Tags
 pub mod Chains
 pub mod Rolls
 pub mod Laws

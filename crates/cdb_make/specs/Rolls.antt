@@ -9,6 +9,7 @@ use Rattle.cdb_make.specs.Marks.{gone_of, found_of}
 use Rattle.cdb_make.specs.Spans.{AreOf, Stand}
 use Rattle.cdb_make.specs.Survivors.{has_key}
 use Rattle.cdb_make.specs.Views.Places.{places_in}
+use Rattle.cdb_make.specs.Views.Roll.{searched, sought_in}
 use Rattle.cdb_make.specs.declared.roll.Roll.{Roll}
 
 -- an image has these records one after another behind the head, and the roll notes them
@@ -17,6 +18,7 @@ pub record Sees {L : Type 0} {l : Widths L} (m : Roll L l) (all : List KeyValue)
   pub are : All IsRecord all
   pub stand : Stand (head_size l.WORD) (map (record_bytes l.WORD) all) b
   pub hashes : m.hashes.items ≡ map (λ r. key_hash r.key) all
+  pub searched : searched m ≡ map (λ r. sought_in m r.key) all
   pub of : AreOf (head_size l.WORD) (places_in m.places) m.end (map (record_size l.WORD) all)
 
 -- no image has records that the roll notes

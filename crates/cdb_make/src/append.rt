@@ -8,7 +8,7 @@ ghost use Rattle.cdb_form.specs.Format.Record.{KeyValue, IsRecord, record_bytes,
 ghost use Rattle.cdb_form.specs.Format.Walk.{prefix_size, prefix_record, whole_records};
 ghost use Rattle.cdb_make.specs.declared.fault.MakeFault.TheVariants.{NoMemory};
 ghost use Rattle.cdb_make.specs.Views.Appending.{records_at, first_size, AreFirst};
-ghost use Rattle.cdb_make.specs.Views.Roll.{SameRecords};
+ghost use Rattle.cdb_make.specs.Views.Roll.{IsSought, SameRecords};
 
 use crate::fault::MakeFault;
 use crate::maker::Maker;
@@ -85,16 +85,17 @@ fn measure<L: Width>(bytes: &[u8], room: u64) -> Fitting
 impl<S: Store, L: Width> Maker<S, L> {
     ghost use Rattle.cdb_make.specs.Views.Maker.{Holds, StaysWhole, Follows, HasNotFailed, HasGone, KeepsAll};
     ghost use Rattle.cdb_make.specs.Views.Appending.{AppendsAll, AppendsSome, FailsAppending};
-    ghost use Rattle.cdb_make.specs.Views.Appending.{Enters, KeepsLimit, FailsWriting, full_size};
+    ghost use Rattle.cdb_make.specs.Views.Appending.{Enters, KeepsLimit, IsCrowded, FailsWriting, full_size};
 
     /// Notes a record whose bytes are in the store, behind the others.
     ///
     /// `NoMemory`: the records are what they were.
-    fn enter(&mut self, hash: u32, size: u64) -> Result<(), MakeFault>
+    fn enter(&mut self, hash: u32, sought: u32, size: u64) -> Result<(), MakeFault>
         requires whole { self.old.broken ≡ false }
         requires inside { self.old.roll.end + size ≤ S.size self.old.store }
         requires within { full_size self.old + size + 4 * L.WORD ≤ self.old.limit }
         ensures enters { (r : KeyValue) → IsRecord r → hash ≡ key_hash r.key
+            → IsSought self.old.roll r.key sought
             → size ≡ record_size L.WORD r
             → AreIn self.old.roll.end (record_bytes L.WORD r) (S.image self.old.store)
             → OnOk result (Enters self.old self.new (r ∷ [])) }
@@ -107,8 +108,9 @@ impl<S: Store, L: Width> Maker<S, L> {
         ensures gone { self.new.roll.gone.count ≡ self.old.roll.gone.count }
         ensures store { self.new.store ≡ self.old.store }
     {
+        self.roll.tag(self.lazy);
         self.roll.reserve()?;
-        self.roll.push(hash, size);
+        self.roll.push(hash, sought, size);
         Ok(())
     }
 
@@ -140,7 +142,9 @@ impl<S: Store, L: Width> Maker<S, L> {
         let mut place = 0;
         for _ in 0..count {
             let first = first_record::<L>(&bytes[place..]);
-            self.enter(hash(first.key), first.size as u64)?;
+            let hash = hash(first.key);
+            let sought = self.roll.sought_by_look(hash, first.key);
+            self.enter(hash, sought, first.size as u64)?;
             place += first.size;
         }
         Ok(())
@@ -194,8 +198,10 @@ impl<S: Store, L: Width> Maker<S, L> {
 
     /// Whether some records go, and beside them there is no room for all whole records of some bytes.
     fn crowds(&self, bytes: &[u8]) -> bool
-        ensures { result ≡ false → (self.now.roll.gone.count ≡ 0) ⊎ (full_size self.now
+        ensures beside { result ≡ false → (self.now.roll.gone.count ≡ 0) ⊎ (full_size self.now
             + sum_by (whole_size L.WORD) (records_at L.WORD bytes.now) ≤ self.now.limit) }
+        ensures crowded { result ≡ true
+            → (0 < self.now.roll.gone.count) × IsCrowded self.now (records_at L.WORD bytes.now) }
     {
         self.roll.gone.count > 0 && measure::<L>(bytes, self.limit - self.full_size()).passes
     }

@@ -22,6 +22,7 @@ mod put;
 mod reading;
 mod remove;
 mod roll;
+mod tags;
 mod write;
 
 pub use answer::Put;

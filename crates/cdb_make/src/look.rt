@@ -1,12 +1,11 @@
 // The records of a key, found in a roll.
 ghost use Rattle.std.specs.Prelude.{◌≡◌, ℕ, ◌+◌, ◌-◌, ◌<◌, ◌≤◌, ◌^◌, length, IfOk, OnOk, OnErr, Err};
 ghost use Rattle.cdb_store.specs.Reads.{OnlyReads};
-ghost use Rattle.cdb_form.specs.Format.Hash.{key_hash};
 ghost use Rattle.cdb_make.specs.declared.key_at.LookFault.TheVariants.{Failed, Foreign};
 ghost use Rattle.cdb_make.specs.Chains.{Has};
 ghost use Rattle.cdb_make.specs.Marks.{gone_of, HaveHash};
 ghost use Rattle.cdb_make.specs.Rolls.{LooksLast, LooksAll, SeesNone};
-ghost use Rattle.cdb_make.specs.Views.Roll.{HasRoom, SameRecords};
+ghost use Rattle.cdb_make.specs.Views.Roll.{searched, sought_in, HasRoom, SameRecords};
 
 use crate::close::place_at;
 use crate::key_at::{LookFault, look_at};
@@ -21,30 +20,30 @@ use cdb_store::Store;
 pub(crate) fn last_with_key<S: Store, L: Width>(
     store: &mut S,
     roll: &Roll<L>,
-    hash: u32,
+    sought: u32,
     key: &[u8],
     end: usize,
 ) -> Result<usize, LookFault>
-    requires hash { hash ≡ key_hash key.now }
+    requires hash { sought ≡ sought_in roll.now key.now }
     requires inside { roll.now.end ≤ S.size store.old }
     requires end { end ≤ length roll.now.hashes.items }
     ensures last { IfOk result (λ n. LooksLast key.now roll.now end n (S.image store.new)) }
     ensures within { IfOk result (λ n. n ≤ end) }
     ensures here { IfOk result (λ n. 0 < n
-        → Has hash roll.now.hashes.items (gone_of roll.now.marks.items) (n - 1)) }
+        → Has sought (searched roll.now) (gone_of roll.now.marks.items) (n - 1)) }
     ensures foreign { result ≡ Err Foreign → SeesNone roll.now (S.image store.new) }
     ensures ok_failures { OnOk result (S.failures store.new ≡ S.failures store.old) }
     ensures failed { result ≡ Err Failed → S.failures store.old < S.failures store.new }
     ensures reads { OnlyReads S.Store store.old store.new }
 {
-    let mut at = roll.last(hash, end);
+    let mut at = roll.last(sought, end);
     while at > 0 {
         let place = roll.places.at(at - 1);
         let next = place_at(&roll.places, at, roll.end);
         if look_at::<S, L>(store, place, next, key)?.is_some() {
             return Ok(at);
         }
-        at = roll.last(hash, at - 1);
+        at = roll.last(sought, at - 1);
     }
     Ok(0)
 }
@@ -55,14 +54,15 @@ pub(crate) fn last_with_key<S: Store, L: Width>(
 pub(crate) fn find<S: Store, L: Width>(
     store: &mut S,
     roll: &mut Roll<L>,
-    hash: u32,
+    sought: u32,
     key: &[u8],
 ) -> Result<(), LookFault>
-    requires hash { hash ≡ key_hash key.now }
+    requires hash { sought ≡ sought_in roll.old key.now }
     requires inside { roll.old.end ≤ S.size store.old }
     ensures all { OnOk result (LooksAll key.now roll.new (S.image store.new)) }
-    ensures hash { OnOk result (HaveHash hash roll.new.hashes.items roll.new.marks.items) }
+    ensures hash { OnOk result (HaveHash sought (searched roll.new) roll.new.marks.items) }
     ensures same { SameRecords roll.old roll.new }
+    ensures tagged { roll.new.tagged ≡ roll.old.tagged }
     ensures gone { gone_of roll.new.marks.items ≡ gone_of roll.old.marks.items }
     ensures kept { roll.new.gone ≡ roll.old.gone }
     ensures room { HasRoom roll.old → HasRoom roll.new }
@@ -72,10 +72,10 @@ pub(crate) fn find<S: Store, L: Width>(
     ensures reads { OnlyReads S.Store store.old store.new }
 {
     roll.put_back();
-    let mut at = last_with_key::<S, L>(store, roll, hash, key, roll.len())?;
+    let mut at = last_with_key::<S, L>(store, roll, sought, key, roll.len())?;
     while at > 0 {
         roll.find(at - 1);
-        at = last_with_key::<S, L>(store, roll, hash, key, at - 1)?;
+        at = last_with_key::<S, L>(store, roll, sought, key, at - 1)?;
     }
     Ok(())
 }

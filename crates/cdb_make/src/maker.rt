@@ -4,7 +4,8 @@ ghost use Rattle.cdb_form.specs.Format.File.{whole_size};
 ghost use Rattle.cdb_form.specs.Format.Hash.{key_hash};
 ghost use Rattle.cdb_form.specs.Format.Record.{record_of, record_size};
 ghost use Rattle.cdb_make.specs.Marks.{gone_of, found_of, AreNone, HaveHash};
-ghost use Rattle.cdb_make.specs.Views.Roll.{HasRoom, SameRecords};
+ghost use Rattle.cdb_make.specs.Tags.{second_hash};
+ghost use Rattle.cdb_make.specs.Views.Roll.{searched, HasRoom, SameRecords};
 ghost use Rattle.cdb_make.specs.declared.fault.MakeFault.TheVariants.{Writing};
 
 use crate::close::close_bytes;
@@ -27,7 +28,8 @@ pub(crate) struct Counts {
 /// Makes a database in a store: each record is written as it is put.
 ///
 /// The store holds the records one after another, from the end of the head on. Of each the maker
-/// keeps the hash of its key, its place and its mark: 9 bytes, or 13 if words are wide. Of the bytes
+/// keeps the hash of its key, its place and its mark: 9 bytes, or 13 if words are wide. If a look came
+/// before the first, it keeps a tag of its key too, of 4 bytes. Of the bytes
 /// of all records at most half, and 2 MiB, are of records that go with a later pass.
 #[derive(Drop)]
 pub struct Maker<S: Store, L: Width> {
@@ -59,8 +61,15 @@ impl<S: Store, L: Width> Maker<S, L> {
     ///
     /// `NoMemory`: nothing was written. `Writing`: the store failed. The records are what they were.
     #[inline(always)]
-    pub(crate) fn add(&mut self, hash: u32, key: &[u8], value: &[u8]) -> Result<(), MakeFault>
+    pub(crate) fn add(
+        &mut self,
+        hash: u32,
+        sought: u32,
+        key: &[u8],
+        value: &[u8],
+    ) -> Result<(), MakeFault>
         requires hash { hash ≡ key_hash key.now }
+        requires tag { self.old.roll.tagged ≡ true → sought ≡ second_hash key.now }
         requires fits { self.old.roll.end + whole_size L.WORD (record_of key.now value.now)
             + 4 * L.WORD * length self.old.roll.hashes.items ≤ self.old.limit }
         ensures adds { OnOk result (Adds self.old self.new hash (record_of key.now value.now)) }
@@ -68,6 +77,7 @@ impl<S: Store, L: Width> Maker<S, L> {
         ensures stays { OnErr result (Stays self.old self.new) }
         ensures counts { OnErr result (SameCounts self.old self.new) }
         ensures counted { self.new.counted ≡ self.old.counted }
+        ensures tagged { self.new.roll.tagged ≡ self.old.roll.tagged }
         ensures fails { IfErr result (AddFails
             (S.written self.old.store) (S.written self.new.store)
             (S.failures self.old.store) (S.failures self.new.store)
@@ -79,7 +89,7 @@ impl<S: Store, L: Width> Maker<S, L> {
         self.roll.reserve()?;
         append_record::<S, L>(&mut self.store, self.roll.end, key, value)?;
         let size = pair_size::<L>() as u64 + key.len() as u64 + value.len() as u64;
-        self.roll.push(hash, size);
+        self.roll.push(hash, sought, size);
         Ok(())
     }
 
@@ -100,6 +110,7 @@ impl<S: Store, L: Width> Maker<S, L> {
         ensures kept { OnErr result (SameRecords self.old.roll self.new.roll) }
         ensures kept_gone { OnErr result (self.new.roll.gone ≡ self.old.roll.gone) }
         ensures counts { OnErr result (SameCounts self.old self.new) }
+        ensures tagged { self.new.roll.tagged ≡ self.old.roll.tagged }
         ensures told { self.new.counted.count ≡ told_count self.old }
         ensures told_size { self.new.counted.size ≡ told_size self.old }
         ensures broken { OnErr result (self.new.broken ≡ true) }
@@ -117,14 +128,21 @@ impl<S: Store, L: Width> Maker<S, L> {
         Ok(())
     }
 
-    /// Takes out the records that go and those that a look for the hash has found, which are some,
+    /// Takes out the records that go and those that a look for the number has found, which are some,
     /// and adds one behind the others. There is room for it.
     ///
     /// `Writing`: the store failed. Amid the pass that breaks the maker, else the records are gone.
     #[inline(never)]
-    pub(crate) fn exchange(&mut self, hash: u32, key: &[u8], value: &[u8]) -> Result<(), MakeFault>
+    pub(crate) fn exchange(
+        &mut self,
+        hash: u32,
+        sought: u32,
+        key: &[u8],
+        value: &[u8],
+    ) -> Result<(), MakeFault>
         requires hash { hash ≡ key_hash key.now }
-        requires have { HaveHash hash self.old.roll.hashes.items self.old.roll.marks.items }
+        requires tag { self.old.roll.tagged ≡ true → sought ≡ second_hash key.now }
+        requires have { HaveHash sought (searched self.old.roll) self.old.roll.marks.items }
         requires some { 0 < self.old.roll.gone.count + self.old.roll.found.count }
         requires fits { self.old.roll.end + whole_size L.WORD (record_of key.now value.now)
             + 4 * L.WORD * length self.old.roll.hashes.items
@@ -141,8 +159,8 @@ impl<S: Store, L: Width> Maker<S, L> {
     {
         self.counted = self.counts();
         self.broken = true;
-        self.roll.take(hash);
+        self.roll.take(sought);
         self.pass()?;
-        self.add(hash, key, value)
+        self.add(hash, sought, key, value)
     }
 }

@@ -1,10 +1,10 @@
 // A record, put by one of four modes.
-ghost use Rattle.std.specs.Prelude.{◌≡◌, ◌≢◌, ℕ, List, IfOk, IfErr, OnOk, OnErr};
+ghost use Rattle.std.specs.Prelude.{◌≡◌, ◌≢◌, ℕ, List, true, IfOk, IfErr, OnOk, OnErr};
 ghost use Rattle.cdb_form.specs.declared.mode.Mode.TheVariants.{Add};
 ghost use Rattle.cdb_make.specs.declared.fault.MakeFault.TheVariants.{Lookup};
-ghost use Rattle.cdb_form.specs.Format.Hash.{key_hash};
 ghost use Rattle.cdb_form.specs.Format.Record.{record_of};
-ghost use Rattle.cdb_make.specs.Views.Roll.{HasRoom};
+ghost use Rattle.cdb_make.specs.Tags.{second_hash};
+ghost use Rattle.cdb_make.specs.Views.Roll.{IsSought, HasRoom};
 
 use crate::answer::Put;
 use crate::fault::MakeFault;
@@ -18,10 +18,11 @@ impl<S: Store, L: Width> Maker<S, L> {
     /// Looks at the key of a record that is to be put, and answers what the put will answer unless
     /// it fails. The records that are to be taken out are noted as found, and no others.
     #[inline(always)]
-    fn meet(&mut self, mode: Mode, hash: u32, key: &[u8]) -> Result<Put, MakeFault>
-        requires hash { hash ≡ key_hash key.now }
+    fn meet(&mut self, mode: Mode, sought: u32, key: &[u8]) -> Result<Put, MakeFault>
+        requires { IsSought self.old.roll key.now sought }
         ensures meets { (value : List ℕ) → IfOk result (λ put.
-            Meets self.old self.new hash mode (record { key = key.now; value = value }) put) }
+            Meets self.old self.new sought mode (record { key = key.now; value = value }) put) }
+        ensures tagged { OnOk result (self.new.roll.tagged ≡ true → sought ≡ second_hash key.now) }
         ensures fails { IfErr result (FailsLooking self.old self.new) }
         ensures looks { IfErr result (λ f. f ≡ Lookup → mode ≢ Add) }
         ensures follows { Follows self.old self.new }
@@ -38,19 +39,19 @@ impl<S: Store, L: Width> Maker<S, L> {
                 Ok(Put::Added)
             }
             Mode::Warn => {
-                if self.look(hash, key)? {
+                if self.look(sought, key)? {
                     return Ok(Put::AddedAgain);
                 }
                 Ok(Put::Added)
             }
             Mode::Insert => {
-                if self.look(hash, key)? {
+                if self.look(sought, key)? {
                     return Ok(Put::Present);
                 }
                 Ok(Put::Added)
             }
             Mode::Replace => {
-                let taken = self.seek(hash, key)?;
+                let taken = self.seek(sought, key)?;
                 if taken == 0 {
                     return Ok(Put::Added);
                 }
@@ -76,9 +77,10 @@ impl<S: Store, L: Width> Maker<S, L> {
         ensures counts { OnErr result (SameCounts self.old self.new) }
     {
         let hash = hash(key);
-        let put = self.meet(mode, hash, key)?;
+        let sought = self.roll.sought_by_look(hash, key);
+        let put = self.meet(mode, sought, key)?;
         if !put.is_present() {
-            self.settle(hash, key, value)?;
+            self.settle(hash, sought, key, value)?;
         }
         Ok(put)
     }

@@ -1,17 +1,17 @@
 // What a maker says of its records, and its looks at a key.
-ghost use Rattle.std.specs.Prelude.{◌≡◌, ℕ, ◌+◌, ◌≤◌, false, List, length, IfOk, IfErr, OnOk};
+ghost use Rattle.std.specs.Prelude.{◌≡◌, ℕ, ◌+◌, ◌≤◌, true, false, List, length, IfOk, IfErr, OnOk};
 ghost use Rattle.cdb_form.specs.Format.File.{file_size};
-ghost use Rattle.cdb_form.specs.Format.Hash.{key_hash};
+ghost use Rattle.cdb_make.specs.Tags.{second_hash};
 ghost use Rattle.cdb_form.specs.Format.Record.{KeyValue};
 ghost use Rattle.cdb_make.specs.Looks.{NoNewImage};
 ghost use Rattle.cdb_make.specs.Views.Maker.{look_fault, is_foreign, WhereHonest, IsThere};
-ghost use Rattle.cdb_make.specs.Views.Roll.{HasRoom};
+ghost use Rattle.cdb_make.specs.Views.Roll.{IsSought, HasRoom};
 
 use crate::fault::MakeFault;
 use crate::key_at::LookFault;
 use crate::look::{find, last_with_key};
 use crate::maker::{Counts, Maker};
-use cdb_form::{Width, hash, pair_size};
+use cdb_form::{Width, pair_size};
 use cdb_store::Store;
 
 impl<S: Store, L: Width> Maker<S, L> {
@@ -116,7 +116,8 @@ impl<S: Store, L: Width> Maker<S, L> {
         if self.broken {
             return Err(MakeFault::Broken);
         }
-        match last_with_key::<S, L>(&mut self.store, &self.roll, hash(key), key, self.roll.len()) {
+        let number = self.roll.sought(key);
+        match last_with_key::<S, L>(&mut self.store, &self.roll, number, key, self.roll.len()) {
             Ok(last) => Ok(last > 0),
             Err(fault) => Err(self.failed_look(fault)),
         }
@@ -126,9 +127,10 @@ impl<S: Store, L: Width> Maker<S, L> {
     ///
     /// The faults are those of `exists`.
     #[inline(always)]
-    pub(crate) fn seek(&mut self, hash: u32, key: &[u8]) -> Result<u64, MakeFault>
-        requires { hash ≡ key_hash key.now }
-        ensures seeks { IfOk result (λ n. Seeks self.old self.new hash key.now n) }
+    pub(crate) fn seek(&mut self, sought: u32, key: &[u8]) -> Result<u64, MakeFault>
+        requires { IsSought self.old.roll key.now sought }
+        ensures seeks { IfOk result (λ n. Seeks self.old self.new sought key.now n) }
+        ensures tagged { OnOk result (self.new.roll.tagged ≡ true → sought ≡ second_hash key.now) }
         ensures fails { IfErr result (FailsLooking self.old self.new) }
         ensures follows { Follows self.old self.new }
         ensures room { OnOk result (HasRoom self.old.roll → HasRoom self.new.roll) }
@@ -138,17 +140,18 @@ impl<S: Store, L: Width> Maker<S, L> {
             return Err(MakeFault::Broken);
         }
         self.roll.link();
-        match find::<S, L>(&mut self.store, &mut self.roll, hash, key) {
+        match find::<S, L>(&mut self.store, &mut self.roll, sought, key) {
             Ok(()) => Ok(self.roll.found.count),
             Err(fault) => Err(self.failed_look(fault)),
         }
     }
 
-    /// Whether some record has a key of this hash, as `exists` says it. It makes room in the chains
+    /// Whether some record has a key of this number, as `exists` says it. It makes room in the chains
     /// before, if memory is given, and leaves no record noted as found.
     #[inline(always)]
-    pub(crate) fn look(&mut self, hash: u32, key: &[u8]) -> Result<bool, MakeFault>
-        requires { hash ≡ key_hash key.now }
+    pub(crate) fn look(&mut self, sought: u32, key: &[u8]) -> Result<bool, MakeFault>
+        requires { IsSought self.old.roll key.now sought }
+        ensures tagged { OnOk result (self.new.roll.tagged ≡ true → sought ≡ second_hash key.now) }
         ensures looks { IfOk result (λ there. Looks self.old self.new key.now there) }
         ensures fine { OnOk result (HasNotFailed self.old self.new) }
         ensures fails { IfErr result (FailsLooking self.old self.new) }
@@ -161,7 +164,7 @@ impl<S: Store, L: Width> Maker<S, L> {
         }
         self.roll.link();
         self.roll.put_back();
-        match last_with_key::<S, L>(&mut self.store, &self.roll, hash, key, self.roll.len()) {
+        match last_with_key::<S, L>(&mut self.store, &self.roll, sought, key, self.roll.len()) {
             Ok(last) => Ok(last > 0),
             Err(fault) => Err(self.failed_look(fault)),
         }

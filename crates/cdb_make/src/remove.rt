@@ -1,6 +1,7 @@
 // The records of a key, removed.
 ghost use Rattle.std.specs.Prelude.{◌≡◌, ◌+◌, ◌*◌, ◌<◌, ◌≤◌, true, false, IfOk, IfErr, OnOk, OnErr};
 ghost use Rattle.cdb_make.specs.Marks.{HaveHash};
+ghost use Rattle.cdb_make.specs.Views.Roll.{searched};
 
 use crate::fault::MakeFault;
 use crate::maker::Maker;
@@ -38,13 +39,13 @@ impl<S: Store, L: Width> Maker<S, L> {
         self.lazy && !self.is_due()
     }
 
-    /// Takes out the records that go and those that a look for the hash has found: by a pass, or
+    /// Takes out the records that go and those that a look for the number has found: by a pass, or
     /// by marks if the maker is lazy and no pass is due. It takes no memory.
     ///
     /// `Writing`: the store failed, and the maker is broken.
-    fn take_out(&mut self, hash: u32) -> Result<(), MakeFault>
+    fn take_out(&mut self, sought: u32) -> Result<(), MakeFault>
         requires whole { self.old.broken ≡ false }
-        requires have { HaveHash hash self.old.roll.hashes.items self.old.roll.marks.items }
+        requires have { HaveHash sought (searched self.old.roll) self.old.roll.marks.items }
         ensures takes { OnOk result (TakesOut self.old self.new) }
         ensures fails { IfErr result (Tears self.old self.new) }
         ensures fine { OnOk result (HasNotFailed self.old self.new) }
@@ -52,12 +53,12 @@ impl<S: Store, L: Width> Maker<S, L> {
         ensures follows { Follows self.old self.new }
     {
         if self.waits() {
-            self.roll.take(hash);
+            self.roll.take(sought);
             return Ok(());
         }
         self.counted = self.counts();
         self.broken = true;
-        self.roll.take(hash);
+        self.roll.take(sought);
         self.pass()
     }
 
@@ -74,12 +75,12 @@ impl<S: Store, L: Width> Maker<S, L> {
         ensures counts { OnErr result (SameCounts self.old self.new) }
         ensures follows { Follows self.old self.new }
     {
-        let hash = hash(key);
-        let taken = self.seek(hash, key)?;
+        let sought = self.roll.sought_by_look(hash(key), key);
+        let taken = self.seek(sought, key)?;
         if taken == 0 {
             return Ok(0);
         }
-        self.take_out(hash)?;
+        self.take_out(sought)?;
         Ok(taken)
     }
 

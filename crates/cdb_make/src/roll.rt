@@ -1,6 +1,8 @@
 // What is noted of the records on a store.
-ghost use Rattle.std.specs.Prelude.{◌≡◌, ◌≢◌, ℕ, ◌+◌, ◌<◌, ◌≤◌, ◌^◌, List, Bool, [], ◌∷◌, ◌++◌, true, false, get_or, slice_set, length, min, vec_capacity, OnOk, OnErr};
+ghost use Rattle.std.specs.Prelude.{◌≡◌, ◌≢◌, ℕ, ◌+◌, ◌<◌, ◌≤◌, ◌^◌, ◌⊎◌, List, Bool, [], ◌∷◌, ◌++◌, true, false, get_or, slice_set, length, min, cond, vec_capacity, OnOk, OnErr};
 ghost use Rattle.cdb_form.specs.Format.Pair.{head_size};
+ghost use Rattle.cdb_form.specs.Format.Hash.{key_hash};
+ghost use Rattle.cdb_make.specs.Tags.{second_hash, searched_by};
 ghost use Rattle.cdb_make.specs.Chains.{AreChained, Has, IsLast};
 ghost use Rattle.cdb_make.specs.Marks.{gone_of, found_of, HaveHash, IsPutBackFrom, AreNone};
 ghost use Rattle.cdb_make.specs.declared.mark.Mark.TheVariants.{Stays, Gone};
@@ -12,7 +14,8 @@ use crate::close::{close_entries, place_at};
 use crate::growth::reserve_one;
 use crate::mark::{Mark, is_found_at};
 use crate::places::Places;
-use cdb_form::{Width, head_size};
+use crate::tags::{close_tags, push_tag, reserve_tag, searched, second_hash};
+use cdb_form::{Width, hash, head_size};
 use std::alloc::{AllocError, Global};
 use std::marker::PhantomData;
 
@@ -78,15 +81,22 @@ fn close_marks(marks: &mut Vec<Mark>, first: usize, count: usize)
 }
 
 /// The hash of each record's key and where it lies, in the order of the file, and which records go.
+///
+/// If a look or an append of a lazy maker came before the first record, each has a tag too: then keys
+/// that all have one hash are found as fast as others.
 #[derive(Drop)]
 pub(crate) struct Roll<L: Width> {
     /// The hash of each record's key.
     pub(crate) hashes: Vec<u32>,
+    /// The second hash of each record's key, if they are tagged.
+    pub(crate) tags: Vec<u32>,
+    /// Each record has a tag, by which it is found, and not by its hash.
+    pub(crate) tagged: bool,
     /// Where each record lies, in bytes from the file's start.
     pub(crate) places: Places<L>,
     /// What becomes of each.
     pub(crate) marks: Vec<Mark>,
-    /// Those that stay, by their hashes.
+    /// Those that stay, by their tags or their hashes.
     pub(crate) chains: Chains,
     /// Those that go with the next pass.
     pub(crate) gone: Picked,
@@ -97,18 +107,20 @@ pub(crate) struct Roll<L: Width> {
     pub(crate) width: PhantomData<L>,
     ghost paired: { length (places_in places) ≡ length hashes.items },
     ghost marked: { length marks.items ≡ length hashes.items },
-    ghost chained: { AreChained chains.heads.items chains.before.items hashes.items (gone_of marks.items) },
+    ghost numbered: { length (searched_by tagged tags.items hashes.items) ≡ length hashes.items },
+    ghost chained: { AreChained chains.heads.items chains.before.items (searched_by tagged tags.items hashes.items) (gone_of marks.items) },
     ghost spans: { AreRising (head_size L.WORD) (places_in places) end },
     ghost picked: { IsPicked (head_size L.WORD) (places_in places) end (gone_of marks.items) gone },
     ghost sought: { IsPicked (head_size L.WORD) (places_in places) end (found_of marks.items) found },
     ghost hash_room: { length hashes.items ≤ vec_capacity hashes },
+    ghost tag_room: { length tags.items ≤ vec_capacity tags },
     ghost place_room: { length (places_in places) ≤ places_room places },
     ghost room: { length marks.items ≤ vec_capacity marks },
     ghost fits: { end ≤ L.GREATEST },
 }
 
 impl<L: Width> Roll<L> {
-    ghost use Rattle.cdb_make.specs.Views.Roll.{HasRoom, SameRecords};
+    ghost use Rattle.cdb_make.specs.Views.Roll.{searched, sought_in, IsSought, HasRoom, SameRecords};
 
     /// No records.
     pub(crate) fn new(alloc: Global) -> Roll<L>
@@ -120,6 +132,8 @@ impl<L: Width> Roll<L> {
     {
         Roll {
             hashes: Vec::new(alloc),
+            tags: Vec::new(alloc),
+            tagged: false,
             places: Places::new(alloc),
             marks: Vec::new(alloc),
             chains: Chains::new(alloc),
@@ -174,14 +188,58 @@ impl<L: Width> Roll<L> {
         self.gone.count == 0 && self.found.count == 0
     }
 
-    /// The number after the last of the first `end` records that has a hash and does not go, or 0. If
-    /// `end` is the number of such a record, the search goes on from it.
-    #[inline(always)]
-    pub(crate) fn last(&self, hash: u32, end: usize) -> usize
-        requires { end ≤ length self.now.hashes.items }
-        ensures { IsLast (Has hash self.now.hashes.items (gone_of self.now.marks.items)) end result }
+    /// The number by which the records of a key are found.
+    pub(crate) fn sought(&self, key: &[u8]) -> u32
+        ensures { result ≡ sought_in self.now key.now }
     {
-        self.chains.last(&self.hashes, &self.marks, hash, end)
+        if self.tagged {
+            second_hash(key)
+        } else {
+            hash(key)
+        }
+    }
+
+    /// The same once a look has begun the tags if no record was noted before. This is the key's hash.
+    #[inline(always)]
+    pub(crate) fn sought_by_look(&self, hash: u32, key: &[u8]) -> u32
+        requires { hash ≡ key_hash key.now }
+        ensures { IsSought self.now key.now result }
+    {
+        if self.tagged || self.hashes.capacity() == 0 {
+            second_hash(key)
+        } else {
+            hash
+        }
+    }
+
+    /// Has the records tagged from now on if that is wanted, unless some were noted before.
+    #[inline(always)]
+    pub(crate) fn tag(&mut self, wanted: bool)
+        ensures sought { wanted ≡ true → (key : List ℕ) (n : ℕ) → IsSought self.old key n
+            → n ≡ sought_in self.new key }
+        ensures tagged { self.new.tagged ≡ true
+            → (self.old.tagged ≡ true) ⊎ (vec_capacity self.old.hashes ≡ 0) }
+        ensures same { SameRecords self.old self.new }
+        ensures marks { self.new.marks ≡ self.old.marks }
+        ensures gone { self.new.gone ≡ self.old.gone }
+        ensures found { self.new.found ≡ self.old.found }
+        ensures room { HasRoom self.old → HasRoom self.new }
+    {
+        if wanted && self.hashes.capacity() == 0 {
+            self.tags.clear();
+            self.tagged = true;
+        }
+    }
+
+    /// The number after the last of the first `end` records that has a number and does not go, or 0.
+    /// If `end` is the number of such a record, the search goes on from it.
+    #[inline(always)]
+    pub(crate) fn last(&self, sought: u32, end: usize) -> usize
+        requires { end ≤ length self.now.hashes.items }
+        ensures { IsLast (Has sought (searched self.now) (gone_of self.now.marks.items)) end result }
+    {
+        let searched = searched(self.tagged, &self.tags, &self.hashes);
+        self.chains.last(searched, &self.marks, sought, end)
     }
 
     /// Makes room for one more record. If memory is refused, nothing has changed.
@@ -190,21 +248,26 @@ impl<L: Width> Roll<L> {
         ensures room { OnOk result (HasRoom self.new) }
         ensures full { OnErr result (HasRoom self.old → ⊥) }
         ensures same { SameRecords self.old self.new }
+        ensures tagged { self.new.tagged ≡ self.old.tagged }
         ensures marks { self.new.marks.items ≡ self.old.marks.items }
         ensures gone { self.new.gone ≡ self.old.gone }
         ensures found { self.new.found ≡ self.old.found }
     {
         reserve_one(&mut self.hashes)?;
+        reserve_tag(self.tagged, &mut self.tags)?;
         self.places.reserve()?;
         reserve_one(&mut self.marks)
     }
 
-    /// Notes one more record, of so many bytes, for which there is room.
+    /// Notes one more record, of so many bytes, for which there is room. Its tag is noted if the
+    /// others have one.
     #[inline(always)]
-    pub(crate) fn push(&mut self, hash: u32, size: u64)
+    pub(crate) fn push(&mut self, hash: u32, tag: u32, size: u64)
         requires room { HasRoom self.old }
         requires fits { self.old.end + size ≤ L.GREATEST }
         ensures hashes { self.new.hashes.items ≡ self.old.hashes.items ++ hash ∷ [] }
+        ensures searched { searched self.new ≡ searched self.old ++ cond self.old.tagged tag hash ∷ [] }
+        ensures tagged { self.new.tagged ≡ self.old.tagged }
         ensures of { (sizes : List ℕ)
             → AreOf (head_size L.WORD) (places_in self.old.places) self.old.end sizes
             → AreOf (head_size L.WORD) (places_in self.new.places) self.new.end (sizes ++ size ∷ []) }
@@ -219,6 +282,7 @@ impl<L: Width> Roll<L> {
         self.gone.first = first_after(self.gone.first, self.marks.len());
         self.found.first = first_after(self.found.first, self.marks.len());
         self.hashes.push_reserved(hash);
+        push_tag(self.tagged, &mut self.tags, tag);
         self.places.push(self.end);
         self.marks.push_reserved(Mark::Stays);
         self.end += size;
@@ -227,6 +291,8 @@ impl<L: Width> Roll<L> {
     /// Takes the records that go out.
     pub(crate) fn close(&mut self)
         ensures hashes { self.new.hashes.items ≡ left (gone_of self.old.marks.items) self.old.hashes.items }
+        ensures searched { searched self.new ≡ left (gone_of self.old.marks.items) (searched self.old) }
+        ensures tagged { self.new.tagged ≡ self.old.tagged }
         ensures of { (sizes : List ℕ)
             → AreOf (head_size L.WORD) (places_in self.old.places) self.old.end sizes
             → AreOf (head_size L.WORD) (places_in self.new.places) self.new.end
@@ -243,7 +309,9 @@ impl<L: Width> Roll<L> {
         self.put_back();
         let start = head_size::<L>() as u64;
         let first = self.gone.first;
-        self.chains.cut(&self.hashes, &self.marks, first);
+        let searched = searched(self.tagged, &self.tags, &self.hashes);
+        self.chains.cut(searched, &self.marks, first);
+        close_tags(self.tagged, &mut self.tags, &self.marks, first);
         let (hashes, places) = (&mut self.hashes, &mut self.places);
         let kept = close_entries(start, hashes, places, &self.marks, first, self.end);
         self.hashes.truncate(kept.count);
@@ -264,6 +332,7 @@ impl<L: Width> Roll<L> {
         ensures first { self.new.found.first ≡ n }
         ensures gone { gone_of self.new.marks.items ≡ gone_of self.old.marks.items }
         ensures same { SameRecords self.old self.new }
+        ensures tagged { self.new.tagged ≡ self.old.tagged }
         ensures kept { self.new.gone ≡ self.old.gone }
         ensures room { HasRoom self.old → HasRoom self.new }
     {
@@ -276,10 +345,11 @@ impl<L: Width> Roll<L> {
         };
     }
 
-    /// Marks that the records go that a look for a hash has found.
-    pub(crate) fn take(&mut self, hash: u32)
-        requires hash { HaveHash hash self.old.hashes.items self.old.marks.items }
+    /// Marks that the records go that a look for a number has found.
+    pub(crate) fn take(&mut self, sought: u32)
+        requires hash { HaveHash sought (searched self.old) self.old.marks.items }
         ensures same { SameRecords self.old self.new }
+        ensures tagged { self.new.tagged ≡ self.old.tagged }
         ensures gone { gone_of self.new.marks.items
             ≡ or_each (gone_of self.old.marks.items) (found_of self.old.marks.items) }
         ensures count { self.new.gone.count ≡ self.old.gone.count + self.old.found.count }
@@ -289,7 +359,8 @@ impl<L: Width> Roll<L> {
         if self.found.count == 0 {
             return;
         }
-        self.chains.take(&self.hashes, &mut self.marks, hash);
+        let searched = searched(self.tagged, &self.tags, &self.hashes);
+        self.chains.take(searched, &mut self.marks, sought);
         self.gone = Picked {
             first: self.gone.first.min(self.found.first),
             count: self.gone.count + self.found.count,
@@ -301,6 +372,7 @@ impl<L: Width> Roll<L> {
     /// Leaves the records that a look has found as if none had.
     pub(crate) fn put_back(&mut self)
         ensures same { SameRecords self.old self.new }
+        ensures tagged { self.new.tagged ≡ self.old.tagged }
         ensures gone { gone_of self.new.marks.items ≡ gone_of self.old.marks.items }
         ensures found { AreNone (found_of self.new.marks.items) }
         ensures picked { self.new.gone ≡ self.old.gone }
@@ -313,14 +385,18 @@ impl<L: Width> Roll<L> {
         self.found = none(self.marks.len());
     }
 
-    /// Puts the entries into chains before a look, if memory is given for it.
+    /// Puts the entries into chains before a look, if memory is given for it. If no record was noted so
+    /// far, all that come are tagged.
     pub(crate) fn link(&mut self)
+        ensures sought { (key : List ℕ) (n : ℕ) → IsSought self.old key n → n ≡ sought_in self.new key }
         ensures same { SameRecords self.old self.new }
         ensures marks { self.new.marks ≡ self.old.marks }
         ensures gone { self.new.gone ≡ self.old.gone }
         ensures found { self.new.found ≡ self.old.found }
         ensures room { HasRoom self.old → HasRoom self.new }
     {
-        self.chains.link_all(&self.hashes, &self.marks);
+        self.tag(true);
+        let searched = searched(self.tagged, &self.tags, &self.hashes);
+        self.chains.link_all(searched, &self.marks);
     }
 }

@@ -3,7 +3,7 @@ use Rattle.std.specs.Prelude.{ℕ, ◌≡◌, ◌+◌, ◌*◌, ◌<◌, ◌≤�
 use Rattle.std.specs.Prelude.{flat_map, sum_by}
 use Rattle.cdb_store.specs.declared.store.Store.{Ghosts}
 use Rattle.cdb_form.specs.declared.width.Width.{Ghosts as Widths}
-use Rattle.cdb_form.specs.Format.File.{file_size}
+use Rattle.cdb_form.specs.Format.File.{file_size, whole_size}
 use Rattle.cdb_form.specs.Format.Record.{KeyValue, record_bytes, record_size}
 use Rattle.cdb_form.specs.Format.Walk.{whole_records}
 use Rattle.cdb_make.specs.declared.fault.MakeFault.{MakeFault}
@@ -12,7 +12,7 @@ use Rattle.cdb_make.specs.declared.fault.MakeFault.TheVariants.{Writing}
 use Rattle.cdb_make.specs.declared.maker.Maker.{Maker}
 use Rattle.cdb_make.specs.Rolls.{Sees}
 use Rattle.cdb_make.specs.Views.Maker.{Holds, WhereHonest, HasStoreFailed, HasNotFailed, HasGone}
-use Rattle.cdb_make.specs.Views.Maker.{StaysWhole, Passes, gone_in, count_in}
+use Rattle.cdb_make.specs.Views.Maker.{SameCounts, StaysWhole, Passes, gone_in, count_in}
 
 -- all whole records at the start of some bytes
 abbrev pub records_at : ℕ → List ℕ → List KeyValue
@@ -34,8 +34,13 @@ pub record AreFirst (w : ℕ) (bytes : List ℕ) (count size : ℕ) : Type 0 whe
 abbrev pub full_size : {S L : Type 0} {s : Ghosts S} {l : Widths L} → Maker S L s l → ℕ
 full_size {l = l} m = m.roll.end + 4 * l.WORD * length m.roll.hashes.items
 
+-- beside the records that go, there is no room for all of these
+abbrev pub IsCrowded : {S L : Type 0} {s : Ghosts S} {l : Widths L} → Maker S L s l → List KeyValue
+    → Type 0
+IsCrowded {l = l} m rs = m.limit < full_size m + sum_by (whole_size l.WORD) rs
+
 -- all these records were written behind the others, and take so many bytes: no more were written, or
--- those of a pass before them, if records go
+-- those of a pass before them, if records go beside which they have no room
 pub record AppendsAll {S L : Type 0} {s : Ghosts S} {l : Widths L} (old new : Maker S L s l)
     (rs : List KeyValue) (n : ℕ) : Type 0 where
   pub was : old.broken ≡ false
@@ -45,7 +50,8 @@ pub record AppendsAll {S L : Type 0} {s : Ghosts S} {l : Widths L} (old new : Ma
   pub written : (HasGone old → ⊥) → s.written new.store ≡ s.written old.store + n
   pub each : (b : List ℕ) → s.image new.store b → (a : List ℕ) × s.image old.store a
       × ((all : List KeyValue) → Sees old.roll all a
-      → (s.written new.store ≡ s.written old.store + n) ⊎ Passes old new (gone_in old) n all)
+      → (s.written new.store ≡ s.written old.store + n)
+      ⊎ (Passes old new (gone_in old) n all × IsCrowded old rs))
   pub count : count_in new ≡ count_in old + length rs
   pub failures : HasNotFailed old new
 
@@ -83,7 +89,8 @@ FailsAppending old new rs NoMemory =
     AppendsSome old new rs (KeepsLimit old new) × HasNotFailed old new
 FailsAppending old new rs Writing =
     (AppendsSome old new rs (KeepsLimit old new) × HasStoreFailed old new × StaysWhole old new)
-    ⊎ (HasGone old × (old.broken ≡ false) × (new.broken ≡ true) × HasStoreFailed old new)
+    ⊎ (HasGone old × (old.broken ≡ false) × (new.broken ≡ true) × HasStoreFailed old new
+    × IsCrowded old rs × SameCounts old new)
 
 -- bytes were not written behind the records, since memory was refused or the store failed
 abbrev pub FailsWriting : {S L : Type 0} {s : Ghosts S} {l : Widths L} → Maker S L s l

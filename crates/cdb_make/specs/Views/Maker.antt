@@ -24,7 +24,7 @@ use Rattle.cdb_form.specs.declared.mode.Mode.{Mode}
 use Rattle.cdb_form.specs.declared.mode.Mode.TheVariants.{Add, Warn, Insert, Replace}
 use Rattle.cdb_make.specs.declared.answer.Put.{Put}
 use Rattle.cdb_make.specs.declared.answer.Put.TheVariants.{Added, AddedAgain, Present, Replaced}
-use Rattle.cdb_make.specs.Views.Roll.{HasRoom, SameRecords}
+use Rattle.cdb_make.specs.Views.Roll.{searched, sought_in, HasRoom, SameRecords}
 
 -- its store, the greatest size that its file may have, whether it takes records out later, and
 -- whether an earlier call broke it
@@ -101,6 +101,7 @@ pub record Adds {S L : Type 0} {s : Ghosts S} {l : Widths L} (old new : Maker S 
   pub gone : gone_in new ≡ gone_in old ++ false ∷ []
   pub found : found_in new ≡ found_in old ++ false ∷ []
   pub hashes : new.roll.hashes.items ≡ old.roll.hashes.items ++ hash ∷ []
+  pub searched : searched new.roll ≡ searched old.roll ++ sought_in old.roll r.key ∷ []
   pub gone_size : new.roll.gone.size ≡ old.roll.gone.size
   pub found_size : new.roll.found.size ≡ old.roll.found.size
   pub end : new.roll.end ≡ old.roll.end + record_size l.WORD r
@@ -139,11 +140,15 @@ pub record Exchanges {S L : Type 0} {s : Ghosts S} {l : Widths L} (old new : Mak
       (rest ≡ left (or_each (gone_in old) (found_in old)) all ++ r ∷ [])
       × Passes old new (or_each (gone_in old) (found_in old)) (record_size l.WORD r) all)
 
--- it is broken, or those that go and those that were found were taken out
+-- some of its records are marked, as they are while no pass was made to its end
+abbrev pub IsMarked : {S L : Type 0} {s : Ghosts S} {l : Widths L} → Maker S L s l → Type 0
+IsMarked m = 0 < m.roll.gone.count
+
+-- it is broken amid a pass, or those that go and those that were found were taken out
 abbrev pub FailsExchanging : {S L : Type 0} {s : Ghosts S} {l : Widths L} → Maker S L s l
     → Maker S L s l → MakeFault → Type 0
 FailsExchanging old new Writing =
-    ((new.broken ≡ true) × HasStoreFailed old new)
+    ((new.broken ≡ true) × HasStoreFailed old new × IsMarked new)
     ⊎ ((new.broken ≡ false) × AreNone (gone_in new) × HasFailedToWrite old new
     × Goes old new (λ all rest. rest ≡ left (or_each (gone_in old) (found_in old)) all))
 FailsExchanging old new fault = ⊥
@@ -217,10 +222,10 @@ FailsLooking old new fault = ⊥
 
 -- the records of a key that do not go were found, and are so many
 pub record Seeks {S L : Type 0} {s : Ghosts S} {l : Widths L} (old new : Maker S L s l)
-    (hash : ℕ) (key : List ℕ) (n : ℕ) : Type 0 where
+    (number : ℕ) (key : List ℕ) (n : ℕ) : Type 0 where
   pub rests : Rests old new
   pub fine : HasNotFailed old new
-  pub have : HaveHash hash new.roll.hashes.items new.roll.marks.items
+  pub have : HaveHash number (searched new.roll) new.roll.marks.items
   pub looks : LooksAll key new.roll (s.image new.store)
   pub count : n ≡ new.roll.found.count
 
@@ -433,12 +438,13 @@ pub record DoesNothing {S L : Type 0} {s : Ghosts S} {l : Widths L} (old new : M
   pub written : s.written new.store ≡ s.written old.store
   pub fine : HasNotFailed old new
 
--- what is left where records were to be taken out by a pass, and one was to be added
+-- what is left where records were to be taken out by a pass, and one was to be added. It is broken only
+-- if the store failed amid the pass, or if records were found
 abbrev pub FailsClosing : {S L : Type 0} {s : Ghosts S} {l : Widths L} → Maker S L s l
     → Maker S L s l → KeyValue → MakeFault → Type 0
 FailsClosing old new r NoMemory = DoesNothing old new × PassesRoom old r
 FailsClosing old new r Writing =
-    ((new.broken ≡ true) × HasStoreFailed old new)
+    ((new.broken ≡ true) × HasStoreFailed old new × (IsMarked new ⊎ (0 < old.roll.found.count)))
     ⊎ ((new.broken ≡ false) × AreNone (gone_in new) × HasFailedToWrite old new
     × (old.roll.found.count ≡ 0)
     × Goes old new (λ all rest. rest ≡ left (or_each (gone_in old) (found_in old)) all))
@@ -455,7 +461,8 @@ FailsSettling old new r Writing = IsWithin old r
     × ((Stays old new × HasFailedToWrite old new
     × (old.lazy ≡ false → old.roll.found.count ≡ 0))
     ⊎ (((new.broken ≡ true) × HasStoreFailed old new
-    × (0 < old.roll.gone.count + old.roll.found.count))
+    × (0 < old.roll.gone.count + old.roll.found.count)
+    × (IsMarked new ⊎ (0 < old.roll.found.count)))
     ⊎ ((new.broken ≡ false) × AreNone (gone_in new) × HasFailedToWrite old new
     × (old.roll.found.count ≡ 0)
     × Goes old new (λ all rest. rest ≡ left (or_each (gone_in old) (found_in old)) all))))
@@ -510,9 +517,9 @@ pub record MeetsIn {S L : Type 0} {s : Ghosts S} {l : Widths L} (m : Maker S L s
 
 -- a put of this record will answer so, unless it fails: those that were found are to go
 pub record Meets {S L : Type 0} {s : Ghosts S} {l : Widths L} (old new : Maker S L s l)
-    (hash : ℕ) (mode : Mode) (r : KeyValue) (put : Put) : Type 0 where
+    (number : ℕ) (mode : Mode) (r : KeyValue) (put : Put) : Type 0 where
   pub rests : Rests old new
-  pub have : HaveHash hash new.roll.hashes.items new.roll.marks.items
+  pub have : HaveHash number (searched new.roll) new.roll.marks.items
   pub replaces : 0 < new.roll.found.count → mode ≡ Replace
   pub each : (rs : List KeyValue) → Holds old rs → (b : List ℕ) → s.image new.store b
       → MeetsIn new mode r put rs b
@@ -569,6 +576,12 @@ abbrev pub OnlyAdds : {S L : Type 0} {s : Ghosts S} {l : Widths L} → Maker S L
 OnlyAdds {s = s} old new mode r = (rs : List KeyValue) → Holds old rs
     → WhereHonest (s.image new.store) (put_list mode r rs ≡ rs ++ r ∷ [])
 
+-- the store failed amid a pass, or was to take records of the key out
+abbrev pub IsHalfway : {S L : Type 0} {s : Ghosts S} {l : Widths L} → Maker S L s l → Maker S L s l
+    → Mode → KeyValue → Type 0
+IsHalfway {s = s} old new mode r = IsMarked new ⊎ ((mode ≡ Replace)
+    × ((rs : List KeyValue) → Holds old rs → WhereHonest (s.image new.store) (HasKey r.key rs)))
+
 -- what a put that failed leaves
 abbrev pub FailsPutting : {S L : Type 0} {s : Ghosts S} {l : Widths L} → Maker S L s l
     → Maker S L s l → Mode → KeyValue → MakeFault → Type 0
@@ -582,7 +595,8 @@ FailsPutting old new mode r NoMemory =
 FailsPutting old new mode r Writing =
     ((StaysWhole old new × HasFailedToWrite old new
     × (old.lazy ≡ false → OnlyAdds old new mode r))
-    ⊎ (IsTorn old new (HasGoneOr old r.key) × (HasGone old ⊎ (mode ≡ Replace))))
+    ⊎ (IsTorn old new (HasGoneOr old r.key) × (HasGone old ⊎ (mode ≡ Replace))
+    × IsHalfway old new mode r))
     × WouldPut old new mode r
 
 -- a pass was made if records go: none goes then, and its store has the others alone

@@ -4,6 +4,7 @@ use Rattle.std.proofs.lemmas.List.{length-map, ext_get_or, get_or-set_same, get_
 use Rattle.cdb_store.proofs.Reading.{reads_more}
 use Rattle.cdb_make.specs.Marks.{gone_of, found_of, is_found, is_gone}
 use Rattle.cdb_make.specs.Rolls.{fresh}
+use Rattle.cdb_make.specs.Views.Roll.{searched}
 use Rattle.cdb_make.proofs.Looking.{sees_long, sees_same, same_back, same_then, length-fresh}
 use Rattle.cdb_make.proofs.Picking.{found_hash, not_fresh}
 use Rattle.cdb_make.proofs.look.find.Goals as goal
@@ -23,6 +24,7 @@ loop-at-init g c =
       below = λ k lt. c.put_back.ensures.found k;
       hash = record { each = λ k is. absurd (let t : false ≡ true = sym (c.put_back.ensures.found k) ∙ is in cc) };
       same = c.put_back.ensures.same;
+      tagged = c.put_back.ensures.tagged;
       room = c.put_back.ensures.has;
       gone = c.put_back.ensures.gone;
       kept = c.put_back.ensures.picked;
@@ -44,6 +46,9 @@ find-requires-clause-before g c =
 
 pub returns-in_err-at-2-clause-reads : goal.returns-in_err-at-2-clause-reads
 returns-in_err-at-2-clause-reads g c = reads_more c.loop-at.invariant.reads c.last_with_key-in-loop-at.ensures.reads
+
+pub returns-in_err-at-2-clause-same : goal.returns-in_err-at-2-clause-same
+returns-in_err-at-2-clause-same g c = same_then c.args.roll.now c.loop-at.roll c.find.new.self c.loop-at.invariant.same c.find.ensures.same
 
 pub loop-at-preserved : goal.loop-at-preserved
 loop-at-preserved g c =
@@ -77,8 +82,9 @@ loop-at-preserved g c =
             ],
           );
       below = λ k lt. ap (λ (v : List Bool). get_or v k false) f.found ∙ get_or-set_other ms n k true false (λ e. omega (arith, h.within)) ∙ inv.below k (omega (arith, h.within));
-      hash = found_hash c.args.hash old.hashes.items m.hashes.items old.marks.items m.marks.items n f.same.hashes f.found here.same inv.hash;
+      hash = found_hash c.args.sought (searched old) (searched m) old.marks.items m.marks.items n f.same.searched f.found here.same inv.hash;
       same = same_then c.args.roll.now old m inv.same f.same;
+      tagged = f.tagged ∙ inv.tagged;
       room = λ has. f.room (inv.room has);
       gone = f.gone ∙ inv.gone;
       kept = f.kept ∙ inv.kept;

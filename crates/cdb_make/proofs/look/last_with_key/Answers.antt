@@ -20,7 +20,7 @@ loop-at-init g c =
       here = h.here;
       none = λ b is all sees k low high fresh.
           let long = sees_long m all b sees in
-          h.none k low high (fresh_has m all b c.args.key.now c.args.hash k c.requires.hash (omega (arith, long, c.requires.end)) (omega (arith, long, length-map m.marks.items is_gone, m.marked)) sees fresh);
+          h.none k low high (fresh_has m all b c.args.key.now c.args.sought k c.requires.hash (omega (arith, long, c.requires.end)) (omega (arith, long, length-map m.marks.items is_gone, m.marked)) sees fresh);
       failures = refl;
       reads = reads_nothing _ _ refl;
     }
@@ -85,7 +85,7 @@ loop-at-preserved g c =
           let long = sees_long m all b sees in
           let place : c.at-place.result ≡ get_or (places_in m.places) n m.end = c.at-place.ensures.at ∙ get_or_default (places_in m.places) n c.at-place.result m.end (omega (arith, c.loop-at-test.true, c.loop-at.invariant.within, c.requires.end, m.paired)) in
           elim (cases_lt k n) [
-            | inl below ↦ h.none k low below (fresh_has m all b c.args.key.now c.args.hash k c.requires.hash (omega (arith, long, c.requires.end)) (omega (arith, long, length-map m.marks.items is_gone, m.marked)) sees fresh)
+            | inl below ↦ h.none k low below (fresh_has m all b c.args.key.now c.args.sought k c.requires.hash (omega (arith, long, c.requires.end)) (omega (arith, long, length-map m.marks.items is_gone, m.marked)) sees fresh)
             | inr over ↦ elim (cases_eq k n) [
               | inl e ↦ looked_none m all b c.args.key.now k c.at-place.result g.met.L.Width.top_is g.met.L.Width.greatest_fits.0 (omega (arith, long, c.requires.end)) (omega (arith, long, length-map m.marks.items is_gone, m.marked)) (place ∙ ap (λ (v : ℕ). get_or (places_in m.places) v m.end) (sym e)) sees
                   (has_it_not c.in_ok-look_at.field-0 (sym c.if-is_some.ensures) c.in_ok-look_at.ensures.looks b is) fresh

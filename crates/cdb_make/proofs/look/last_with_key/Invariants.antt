@@ -3,13 +3,14 @@ use Rattle.cdb_store.specs.Reads.{OnlyReads}
 use Rattle.cdb_form.specs.Format.Record.{KeyValue}
 use Rattle.cdb_make.specs.Chains.{Has}
 use Rattle.cdb_make.specs.Marks.{gone_of}
+use Rattle.cdb_make.specs.Views.Roll.{searched}
 use Rattle.cdb_make.specs.Rolls.{Sees, IsFresh}
 use Rattle.cdb_make.proofs.look.last_with_key.Given as goal
 
 abbrev pub invariant-loop-at : goal.invariant-loop-at
 invariant-loop-at g l = record {
   within : l.at ≤ l.end;
-  here : 0 < l.at → Has l.hash l.roll.hashes.items (gone_of l.roll.marks.items) (l.at - 1);
+  here : 0 < l.at → Has l.sought (searched l.roll) (gone_of l.roll.marks.items) (l.at - 1);
   none : (b : List ℕ) → g.S.Store.image l.store b → (all : List KeyValue) → Sees l.roll all b
       → (k : ℕ) → l.at ≤ k → k < l.end → IsFresh l.key (gone_of l.roll.marks.items) all k → ⊥;
   failures : g.S.Store.failures l.store ≡ g.S.Store.failures l.fn.store;

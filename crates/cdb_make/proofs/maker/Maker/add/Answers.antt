@@ -1,4 +1,4 @@
-use Rattle.std.proofs.Common.{◌≡◌, ◌+◌, ◌*◌, ◌∷◌, ◌++◌, [], ℕ, false, List, length, take, inl, inr, Err, refl, ap, subst, ◌∙◌, arith}
+use Rattle.std.proofs.Common.{◌≡◌, ◌+◌, ◌*◌, ◌∷◌, ◌++◌, [], ℕ, Bool, false, cond, List, length, take, inl, inr, Err, refl, ap, sym, subst, ◌∙◌, arith}
 use Rattle.std.proofs.lemmas.List.{length_push}
 use Rattle.cdb_store.proofs.Moves.{kept_torn}
 use Rattle.cdb_form.specs.Format.Pair.{head_size}
@@ -6,12 +6,26 @@ use Rattle.cdb_form.specs.Format.Record.{KeyValue, IsRecord, record_size}
 use Rattle.cdb_form.proofs.Files.Sizes.{length-record_bytes}
 use Rattle.cdb_make.specs.Marks.{gone_of, found_of}
 use Rattle.cdb_make.specs.Spans.{AreOf}
+use Rattle.cdb_make.specs.Tags.{sought_by}
+use Rattle.cdb_make.specs.Views.Roll.{searched}
 use Rattle.cdb_make.specs.Views.Places.{places_in}
 use Rattle.cdb_make.proofs.Bytes.Written.{on_any_err}
 use Rattle.cdb_make.proofs.Looking.{sees_same}
 use Rattle.cdb_make.proofs.Spans.{spans_of, place_low}
-use Rattle.cdb_make.proofs.Rolls.{add_fails, none_more, sees_kept, sees_added, more_slots, comes_write}
+use Rattle.cdb_make.proofs.Rolls.{add_fails, number_is, none_more, sees_kept, sees_added, more_slots, comes_write}
 use Rattle.cdb_make.proofs.maker.Maker.add.Goals as goal
+
+pub returns-in_err-reserve-clause-stays : goal.returns-in_err-reserve-clause-stays
+returns-in_err-reserve-clause-stays g c =
+    let k = c.reserve.ensures in
+    on_any_err c.from_residual.result (record {
+      same = k.same;
+      marks = k.marks;
+      gone = k.gone;
+      found = k.found;
+      broken = refl;
+      goes = record { each = λ b is. (b, is, λ all sees. (all, sees_same c.args.self.now.roll c.reserve.new.self all b k.same sees, refl)) };
+    })
 
 pub returns-in_err-append_record-clause-fails : goal.returns-in_err-append_record-clause-fails
 returns-in_err-append_record-clause-fails g c =
@@ -38,7 +52,7 @@ returns-in_err-append_record-clause-stays g c =
               h.1,
               λ all sees. (
                 all,
-                sees_kept m c.reserve.new.self all h.0 b same.hashes same.places same.end (subst (λ (n : ℕ). take n b ≡ take n h.0) same.end h.2.before) sees,
+                sees_kept m c.reserve.new.self all h.0 b same (subst (λ (n : ℕ). take n b ≡ take n h.0) same.end h.2.before) sees,
                 refl,
               ),
             );
@@ -82,6 +96,7 @@ returns-clause-adds g c =
     let r : KeyValue = record { key = c.args.key.now; value = c.args.value.now } in
     let same = c.reserve.ensures.same in
     let size : c.pair_size.result + length c.args.key.now + length c.args.value.now ≡ record_size w r = omega (arith, c.pair_size.ensures) in
+    let number : cond c.reserve.new.self.tagged c.args.sought c.args.hash ≡ sought_by c.reserve.new.self.tagged r.key = number_is c.reserve.new.self.tagged r.key c.args.hash c.args.sought c.requires.hash (λ e. c.requires.tag (sym c.reserve.ensures.tagged ∙ e)) in
     let is_record : IsRecord r = record { key = λ k. omega (arith, c.type_inv.key k); value = λ k. omega (arith, c.type_inv.value k) } in
     record {
       goes = record {
@@ -92,7 +107,7 @@ returns-clause-adds g c =
               h.1,
               λ all sees. (
                 all ++ r ∷ [],
-                sees_added c.reserve.new.self c.push.new.self r all h.0 b is_record (omega (arith, m.inside, same.end)) (c.push.ensures.hashes ∙ ap (λ (v : ℕ). c.reserve.new.self.hashes.items ++ v ∷ []) c.requires.hash)
+                sees_added c.reserve.new.self c.push.new.self r all h.0 b is_record (omega (arith, m.inside, same.end)) (c.push.ensures.hashes ∙ ap (λ (v : ℕ). c.reserve.new.self.hashes.items ++ v ∷ []) c.requires.hash) c.push.ensures.tagged (c.push.ensures.searched ∙ ap (λ (v : ℕ). searched c.reserve.new.self ++ v ∷ []) number)
                     (λ sizes of. subst (λ (n : ℕ). AreOf (head_size w) (places_in c.push.new.self.places) c.push.new.self.end (sizes ++ n ∷ [])) size (c.push.ensures.of sizes of)) h.2
                     (sees_same m.roll c.reserve.new.self all h.0 same sees),
                 refl,
@@ -102,6 +117,7 @@ returns-clause-adds g c =
       gone = c.push.ensures.gone ∙ ap (λ v. gone_of v ++ _) c.reserve.ensures.marks;
       found = c.push.ensures.found ∙ ap (λ v. found_of v ++ _) c.reserve.ensures.marks;
       hashes = c.push.ensures.hashes ∙ ap (λ (v : List ℕ). v ++ c.args.hash ∷ []) same.hashes;
+      searched = c.push.ensures.searched ∙ ap (λ (v : List ℕ). v ++ cond c.reserve.new.self.tagged c.args.sought c.args.hash ∷ []) same.searched ∙ ap (λ (v : ℕ). searched m.roll ++ v ∷ []) (number ∙ ap (λ (v : Bool). sought_by v r.key) c.reserve.ensures.tagged);
       gone_size = c.push.ensures.size ∙ ap (λ q. q.size) c.reserve.ensures.gone;
       found_size = c.push.ensures.found_size ∙ ap (λ q. q.size) c.reserve.ensures.found;
       end = omega (arith, c.push.ensures.end, size, same.end);

@@ -2,6 +2,7 @@ use Rattle.std.proofs.Common.{inl, inr, refl, sym, subst, ap, arith, ◌∙◌}
 use Rattle.std.proofs.lemmas.Result.{on_ok_weaker}
 use Rattle.cdb_form.specs.Format.Record.{KeyValue}
 use Rattle.cdb_make.specs.Marks.{AreNone}
+use Rattle.cdb_make.specs.Views.Roll.{searched}
 use Rattle.cdb_make.proofs.Bytes.Written.{on_any_ok}
 use Rattle.cdb_make.proofs.Rolls.{follows_then, if_err_weaker}
 use Rattle.cdb_make.proofs.Settling.{have_more, taken_clear, settles_later, settles_after, fails_after}
@@ -11,7 +12,7 @@ pub take-requires : goal.take-requires
 take-requires g c =
     let m = c.args.self.now.roll in
     let a = c.in_ok-add_before.ensures.done c.if-branch.true in
-    record { hash = have_more c.args.hash m.hashes.items c.add_before.new.self.roll.hashes.items m.marks.items c.add_before.new.self.roll.marks.items a.hashes a.found m.marked c.requires.have }
+    record { hash = have_more c.args.sought _ (searched m) (searched c.add_before.new.self.roll) m.marks.items c.add_before.new.self.roll.marks.items a.searched a.found (m.marked ∙ sym m.numbered) c.requires.have }
 
 pub invariant_of-self-clause-eager : goal.invariant_of-self-clause-eager
 invariant_of-self-clause-eager g c = λ eager whole.

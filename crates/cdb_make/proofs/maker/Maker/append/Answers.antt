@@ -8,7 +8,7 @@ pub returns-clause-ok : goal.returns-clause-ok
 returns-clause-ok g c =
     let k = c.in_ok-close_all.ensures in
     if_ok_weaker c.append_beside-2.result
-    (λ n appends. appends_after c.args.self.now c.close_all.new.self c.append_beside-2.new.self (whole_records g.L.Width.WORD (length c.args.bytes.now) c.args.bytes.now) n k.closes_all k.counts k.fine c.append_beside-2.ensures.follows.comes appends)
+    (λ n appends. appends_after c.args.self.now c.close_all.new.self c.append_beside-2.new.self (whole_records g.L.Width.WORD (length c.args.bytes.now) c.args.bytes.now) n (c.crowds.ensures.crowded c.if-not-crowds.false).1 k.closes_all k.counts k.fine c.append_beside-2.ensures.follows.comes appends)
     c.append_beside-2.ensures.ok
 
 pub returns-clause-fails : goal.returns-clause-fails

@@ -1,38 +1,52 @@
-use Rattle.std.proofs.Common.{◌≡◌, ◌+◌, ◌*◌, ◌∷◌, ◌++◌, [], ℕ, false, List, length, refl, ap, subst, ◌∙◌, arith}
+use Rattle.std.proofs.Common.{◌≡◌, ◌+◌, ◌*◌, ◌∷◌, ◌++◌, [], ℕ, false, List, length, refl, inl, inr, ap, sym, subst, ◌∙◌, arith, true}
 use Rattle.std.proofs.lemmas.List.{length_push}
 use Rattle.cdb_form.specs.Format.Pair.{head_size}
 use Rattle.cdb_make.specs.Marks.{gone_of}
 use Rattle.cdb_make.specs.Spans.{AreOf}
 use Rattle.cdb_make.specs.Views.Places.{places_in}
-use Rattle.cdb_make.proofs.Appends.{entered}
-use Rattle.cdb_make.proofs.Rolls.{more_slots, none_more}
+use Rattle.cdb_make.specs.Tags.{second_hash}
+use Rattle.cdb_make.specs.Views.Roll.{searched}
+use Rattle.cdb_make.proofs.Bytes.Written.{on_any_err}
+use Rattle.cdb_make.proofs.Looking.{same_then}
+use Rattle.cdb_make.proofs.Appends.{entered, stays_noted}
+use Rattle.cdb_make.proofs.Rolls.{number_is, more_slots, none_more}
 use Rattle.cdb_make.proofs.maker.Maker.enter.Goals as goal
 
+pub returns-in_err-reserve-clause-stays : goal.returns-in_err-reserve-clause-stays
+returns-in_err-reserve-clause-stays g c =
+    let m = c.args.self.now in
+    let all = same_then m.roll c.tag.new.self c.reserve.new.self c.tag.ensures.same c.reserve.ensures.same in
+    on_any_err c.from_residual.result (stays_noted m _ c.requires.whole c.requires.whole all (c.reserve.ensures.marks ∙ ap (λ v. v.items) c.tag.ensures.marks) refl)
+
 pub returns-clause-enters : goal.returns-clause-enters
-returns-clause-enters g c = λ r is_record hashed sized stored.
+returns-clause-enters g c = λ r is_record hashed numbered sized stored.
     let m = c.args.self.now in
     let w : ℕ = g.L.Width.WORD in
     let k = c.reserve.ensures in
     let same = k.same in
     let now = c.push.new.self in
-    entered m _ r is_record c.requires.whole c.requires.whole
-    (c.push.ensures.hashes ∙ ap (λ (v : List ℕ). v ++ c.args.hash ∷ []) same.hashes ∙ ap (λ (v : ℕ). m.roll.hashes.items ++ v ∷ []) hashed)
-    (λ sizes of. subst (λ (n : ℕ). AreOf (head_size w) (places_in now.places) now.end (sizes ++ n ∷ [])) sized (c.push.ensures.of sizes (record { are = same.places ∙ of.are; ends = same.end ∙ of.ends })))
-    (c.push.ensures.gone ∙ ap (λ v. gone_of v ++ false ∷ []) k.marks)
-    (omega (arith, c.push.ensures.end, same.end, sized))
-    (c.push.ensures.count ∙ ap (λ q. q.count) k.gone)
-    (c.push.ensures.size ∙ ap (λ q. q.size) k.gone)
+    let tag = c.tag.ensures in
+    let all = same_then m.roll c.tag.new.self c.reserve.new.self tag.same same in
+    let tagged : c.reserve.new.self.tagged ≡ true → c.args.sought ≡ second_hash r.key = λ e. elim (tag.tagged (sym k.tagged ∙ e)) [ inl was ↦ numbered.tagged was | inr none ↦ numbered.first none ] in
+    let number = number_is c.reserve.new.self.tagged r.key c.args.hash c.args.sought hashed tagged in
+    entered m _ c.reserve.new.self r all is_record c.requires.whole c.requires.whole
+    (c.push.ensures.hashes ∙ ap (λ (v : ℕ). c.reserve.new.self.hashes.items ++ v ∷ []) hashed) c.push.ensures.tagged (c.push.ensures.searched ∙ ap (λ (v : ℕ). searched c.reserve.new.self ++ v ∷ []) number)
+    (λ sizes of. subst (λ (n : ℕ). AreOf (head_size w) (places_in now.places) now.end (sizes ++ n ∷ [])) sized (c.push.ensures.of sizes of))
+    (c.push.ensures.gone ∙ ap (λ v. gone_of v ++ false ∷ []) (k.marks ∙ ap (λ v. v.items) tag.marks))
+    (omega (arith, c.push.ensures.end, all.end, sized))
+    (c.push.ensures.count ∙ ap (λ q. q.count) (k.gone ∙ tag.gone))
+    (c.push.ensures.size ∙ ap (λ q. q.size) (k.gone ∙ tag.gone))
     refl refl stored
 
 pub invariant_of-self-2-clause-inside : goal.invariant_of-self-2-clause-inside
-invariant_of-self-2-clause-inside g c = omega (arith, c.push.ensures.end, c.reserve.ensures.same.end, c.requires.inside)
+invariant_of-self-2-clause-inside g c = omega (arith, c.push.ensures.end, c.reserve.ensures.same.end, c.tag.ensures.same.end, c.requires.inside)
 
 pub invariant_of-self-2-clause-within : goal.invariant_of-self-2-clause-within
 invariant_of-self-2-clause-within g c =
     let m = c.args.self.now in
     let w : ℕ = g.L.Width.WORD in
     let n : ℕ = length m.roll.hashes.items in
-    let same = c.reserve.ensures.same in
+    let same = same_then m.roll c.tag.new.self c.reserve.new.self c.tag.ensures.same c.reserve.ensures.same in
     let len : length c.push.new.self.hashes.items ≡ n + 1 = ap length c.push.ensures.hashes ∙ length_push c.reserve.new.self.hashes.items c.args.hash ∙ ap (λ (v : List ℕ). length v + 1) same.hashes in
     let all : 4 * w * length c.push.new.self.hashes.items ≡ 4 * w * (n + 1) = ap (λ (v : ℕ). 4 * w * v) len in
     omega (arith, all, more_slots w n g.met.L.Width.four_or_eight, c.requires.within, c.push.ensures.end, same.end)
@@ -40,4 +54,4 @@ invariant_of-self-2-clause-within g c =
 pub invariant_of-self-2-clause-eager : goal.invariant_of-self-2-clause-eager
 invariant_of-self-2-clause-eager g c = λ eager whole.
     let m = c.args.self.now in
-    none_more (gone_of m.roll.marks.items) (gone_of c.push.new.self.marks.items) (c.push.ensures.gone ∙ ap (λ v. gone_of v ++ false ∷ []) c.reserve.ensures.marks) (m.eager eager whole)
+    none_more (gone_of m.roll.marks.items) (gone_of c.push.new.self.marks.items) (c.push.ensures.gone ∙ ap (λ v. gone_of v ++ false ∷ []) (c.reserve.ensures.marks ∙ ap (λ v. v.items) c.tag.ensures.marks)) (m.eager eager whole)

@@ -7,6 +7,7 @@ use Rattle.cdb_form.specs.Format.Record.{AreBytes, KeyValue, record_bytes, recor
 use Rattle.cdb_form.specs.Format.Walk.{prefix_record, prefix_size}
 use Rattle.cdb_form.proofs.Bytes.HeadLemmas.{rest_of}
 use Rattle.cdb_form.proofs.Files.Standing.{AreBytes-drop}
+use Rattle.cdb_make.specs.Views.Roll.{IsSought}
 use Rattle.cdb_make.specs.Views.Appending.{Enters, first_size, records_at}
 use Rattle.cdb_make.proofs.Appends.{entered_size, enters_more, stops_entering}
 use Rattle.cdb_make.proofs.Bytes.Fitting.{first_more, prefix_is_record, prefix_sized, next_fits, next_of, next_splits, next_stored, next_sums, next_within, sum_take}
@@ -86,7 +87,9 @@ loop-preserved g c =
     let is : c.first_record-first.result.size ≡ prefix_size w (drop place bytes) = c.first_record-first.ensures.size ∙ ap (prefix_size w) (rest_of place (length bytes) bytes refl) in
     let sized : c.first_record-first.result.size ≡ record_size w r = is ∙ sym (prefix_sized w (drop place bytes) fits) in
     let cut = next_splits w bytes k place some i.first fits in
-    let hashed : c.hash.result ≡ key_hash r.key = c.hash.ensures ∙ ap key_hash (c.first_record-first.ensures.key ∙ ap (λ (v : List ℕ). (prefix_record w v).key) (rest_of place (length bytes) bytes refl)) in
+    let hashed : c.hash-hash.result ≡ key_hash r.key = c.hash-hash.ensures ∙ ap key_hash (c.first_record-first.ensures.key ∙ ap (λ (v : List ℕ). (prefix_record w v).key) (rest_of place (length bytes) bytes refl)) in
+    let key : c.first_record-first.result.key.now ≡ r.key = c.first_record-first.ensures.key ∙ ap (λ (v : List ℕ). (prefix_record w v).key) (rest_of place (length bytes) bytes refl) in
+    let numbered : IsSought c.loop.self.roll r.key c.sought_by_look-sought.result = subst (λ (v : List ℕ). IsSought c.loop.self.roll v c.sought_by_look-sought.result) key c.sought_by_look-sought.ensures in
     let here : c.loop.self.roll.end ≡ m.roll.end + place = i.entered.end ∙ ap (λ (n : ℕ). m.roll.end + n) (sym i.first.sum) in
     let was = next_stored w m.roll.end bytes k place c.args.count (first_size w bytes c.args.count) some are i.first c.requires.first c.loop-test.true c.requires.written in
     let stored : Stored c.loop.self.roll.end (record_bytes w r) (g.S.Store.image c.loop.self.store) =
@@ -94,7 +97,7 @@ loop-preserved g c =
     record {
       first = first_more w bytes k place c.first_record-first.result.size some are i.first is (omega arith);
       entered = subst (λ (v : List KeyValue). Enters m c.enter.new.self v) (sym cut.1)
-          (enters_more m c.loop.self c.enter.new.self (take k all) r i.entered (e.enters r (prefix_is_record w (drop place bytes) (AreBytes-drop place bytes are)) hashed sized stored));
+          (enters_more m c.loop.self c.enter.new.self (take k all) r i.entered (e.enters r (prefix_is_record w (drop place bytes) (AreBytes-drop place bytes are)) hashed numbered sized stored));
       store = c.enter.ensures.store ∙ i.store;
       lazy = c.enter.ensures.lazy ∙ i.lazy;
     }

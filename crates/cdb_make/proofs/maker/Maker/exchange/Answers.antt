@@ -79,7 +79,7 @@ returns-clause-follows g c = follows_then c.args.self.now c.pass.new.self c.add.
 pub returns-in_err-pass-clause-fails : goal.returns-in_err-pass-clause-fails
 returns-in_err-pass-clause-fails g c =
     let p = c.in_err-pass.ensures in
-    torn_fails c.args.self.now c.pass.new.self c.from_residual.result c.in_err-pass.field-0.0 p.fails p.broken p.cause c.from_residual.ensures.1
+    torn_fails c.args.self.now c.pass.new.self c.from_residual.result c.in_err-pass.field-0.0 p.fails p.broken p.cause (omega (arith, ap (λ q. q.count) p.kept_gone, c.take.ensures.count, c.requires.some)) c.from_residual.ensures.1
 
 pub returns-in_err-pass-clause-follows : goal.returns-in_err-pass-clause-follows
 returns-in_err-pass-clause-follows g c = (let f = c.pass.ensures.follows in record { comes = f.comes; head = f.head; limit = f.limit; lazy = f.lazy; room = f.room; failures = f.failures; unwritten = f.unwritten })

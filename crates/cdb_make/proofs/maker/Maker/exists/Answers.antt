@@ -8,7 +8,7 @@ use Rattle.cdb_make.specs.Views.Roll.{SameRecords}
 use Rattle.cdb_make.specs.Survivors.{is_there}
 use Rattle.cdb_make.specs.Views.Maker.{gone_in, FailsLooking}
 use Rattle.cdb_make.proofs.Finishing.{rests_nothing}
-use Rattle.cdb_make.proofs.Looking.{sees_long}
+use Rattle.cdb_make.proofs.Looking.{sees_long, same_self}
 use Rattle.cdb_make.proofs.Survive.{last_there}
 use Rattle.cdb_make.proofs.Rolls.{look_fails, follows_read}
 use Rattle.cdb_make.proofs.maker.Maker.exists.Goals as goal
@@ -32,7 +32,7 @@ returns-in-Err-clause-fails g c =
     let f = c.failed_look.ensures in
     let h = c.in-Err.ensures in
     subst (FailsLooking i k) (sym f.fault)
-    (look_fails i k c.in-Err.fault c.if-self.false (subst (λ v. SameRecords i.roll v) (sym f.roll) (record { hashes = refl; places = refl; end = refl }))
+    (look_fails i k c.in-Err.fault c.if-self.false (subst (λ v. SameRecords i.roll v) (sym f.roll) (same_self c.args.self.now.roll))
     (ap (λ v. gone_of v.marks.items) f.roll) (ap (λ v. v.gone) f.roll) f.limit f.lazy f.broken
     (subst (λ v. OnlyReads g.S.Store i.store v) (sym f.store) c.last_with_key.ensures.reads)
     (λ e. subst (λ v. SeesNone v (g.S.Store.image k.store)) (sym f.roll) (subst (λ v. SeesNone i.roll (g.S.Store.image v)) (sym f.store) (h.foreign (ap Err e))))
@@ -52,4 +52,4 @@ returns-in-Err-clause-follows g c =
 pub returns-in-Ok-clause-ok : goal.returns-in-Ok-clause-ok
 returns-in-Ok-clause-ok g c =
     rests_nothing c.args.self.now _
-    (record { was = c.if-self.false; whole = c.if-self.false; same = record { hashes = refl; places = refl; end = refl }; gone = refl; picked = refl; limit = refl; lazy = refl; reads = c.last_with_key.ensures.reads })
+    (record { was = c.if-self.false; whole = c.if-self.false; same = same_self c.args.self.now.roll; gone = refl; picked = refl; limit = refl; lazy = refl; reads = c.last_with_key.ensures.reads })

@@ -51,7 +51,7 @@ returns-clause-closes g c =
                   let of : AreOf c.head_size.result (places_in m.places) m.end ns = subst (λ (v : ℕ). AreOf v (places_in m.places) m.end ns) (sym c.head_size.ensures) sees.of in
                   let written = k.written ns of ∙ ap (λ (v : List Mark). g.S.Store.written c.args.self.now.store + sum (behind (gone_of v) ns)) c.deref.ensures.value in (
                     left ms all,
-                    sees_closed m c.close.new.self all h.0 b c.close.ensures.hashes c.close.ensures.of h.3 sees,
+                    sees_closed m c.close.new.self all h.0 b c.close.ensures.hashes c.close.ensures.tagged c.close.ensures.searched c.close.ensures.of h.3 sees,
                     (refl, omega (arith, written)),
                   ),
             );

@@ -1,4 +1,4 @@
-use Rattle.std.proofs.Common.{◌≡◌, ℕ, Bool, List, length, map, inr, ap, ◌∙◌, arith}
+use Rattle.std.proofs.Common.{◌≡◌, ℕ, Bool, true, false, List, length, map, inl, inr, refl, ap, sym, ◌∙◌, arith}
 use Rattle.std.specs.Prelude.{sum}
 use Rattle.std.proofs.lemmas.List.{length-map}
 use Rattle.cdb_form.specs.Format.Pair.{head_size}
@@ -14,6 +14,25 @@ use Rattle.cdb_make.proofs.maker.Maker.take_out.Goals as goal
 
 pub returns-clause-follows : goal.returns-clause-follows
 returns-clause-follows g c = (let f = c.pass.ensures.follows in record { comes = f.comes; head = f.head; limit = f.limit; lazy = f.lazy; room = f.room; failures = f.failures; unwritten = f.unwritten })
+
+pub returns-then-waits-clause-takes : goal.returns-then-waits-clause-takes
+returns-then-waits-clause-takes g c =
+    let old = c.args.self.now in
+    let t = c.take.ensures in
+    record {
+      whole = c.requires.whole;
+      goes = record {
+        each = λ b is. (
+          b,
+          is,
+          λ all sees. (
+            all,
+            sees_same old.roll c.take.new.self all b t.same sees,
+            (ap (λ (v : List Bool). left v all) t.gone, λ eager. absurd (let e : true ≡ false = sym (c.waits.ensures.lazy c.if-waits.true) ∙ eager in cc), λ lazy. omega (arith, t.same.end), inl refl),
+          ),
+        );
+      };
+    }
 
 pub returns-clause-takes : goal.returns-clause-takes
 returns-clause-takes g c =

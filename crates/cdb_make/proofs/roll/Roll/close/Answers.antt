@@ -7,6 +7,8 @@ use Rattle.cdb_make.specs.declared.roll.Picked.{Picked}
 use Rattle.cdb_make.specs.Chains.{AreChained}
 use Rattle.cdb_make.specs.Marks.{gone_of, found_of, is_gone, is_found}
 use Rattle.cdb_make.specs.Spans.{AreSpans, AreRising, AreOf, left, number}
+use Rattle.cdb_make.specs.Tags.{searched_by}
+use Rattle.cdb_make.specs.Views.Roll.{searched}
 use Rattle.cdb_make.specs.Views.Places.{places_in}
 use Rattle.cdb_make.proofs.Spans.{rising_of, spans_of}
 use Rattle.cdb_make.proofs.Linking.{chained_same}
@@ -29,11 +31,11 @@ returns-clause-of g c = λ sizes of.
     let kept = c.close_entries-kept in
     let moved : AreOf (head_size w) (places_in m.places) m.end sizes = record { are = same.places ∙ of.are; ends = same.end ∙ of.ends } in
     let at : AreOf c.head_size-start.result (places_in m.places) m.end sizes = subst (λ (v : ℕ). AreOf v (places_in m.places) m.end sizes) (sym c.head_size-start.ensures) moved in
-    let marks : left (gone_of c.deref-3.result.now) sizes ≡ left (gone_of c.args.self.now.marks.items) sizes =
-    ap (λ (v : List Mark). left (gone_of v) sizes) c.deref-3.ensures.value ∙ ap (λ (v : List Bool). left v sizes) c.put_back.ensures.gone in
+    let marks : left (gone_of c.deref-5.result.now) sizes ≡ left (gone_of c.args.self.now.marks.items) sizes =
+    ap (λ (v : List Mark). left (gone_of v) sizes) c.deref-5.ensures.value ∙ ap (λ (v : List Bool). left v sizes) c.put_back.ensures.gone in
     subst (λ (v : List ℕ). AreOf (head_size w) (places_in c.truncate-2.new.self) kept.result.end v) marks
-    (subst (λ (v : List ℕ). AreOf (head_size w) v kept.result.end (left (gone_of c.deref-3.result.now) sizes)) (sym c.truncate-2.ensures.places)
-    (subst (λ (v : ℕ). AreOf v (take kept.result.count (places_in kept.new.places)) kept.result.end (left (gone_of c.deref-3.result.now) sizes)) c.head_size-start.ensures (kept.ensures.of sizes at)))
+    (subst (λ (v : List ℕ). AreOf (head_size w) v kept.result.end (left (gone_of c.deref-5.result.now) sizes)) (sym c.truncate-2.ensures.places)
+    (subst (λ (v : ℕ). AreOf v (take kept.result.count (places_in kept.new.places)) kept.result.end (left (gone_of c.deref-5.result.now) sizes)) c.head_size-start.ensures (kept.ensures.of sizes at)))
 
 pub returns-clause-gone : goal.returns-clause-gone
 returns-clause-gone g c = none_gone c.close_marks.new.marks.items c.close_entries-kept.result.count c.close_marks.ensures.long c.close_marks.ensures.stay
@@ -56,6 +58,34 @@ invariant_of-self-clause-spans g c =
     subst (λ (v : List ℕ). AreRising (head_size g.L.Width.WORD) v kept.result.end) (sym c.truncate-2.ensures.places)
     (subst (λ (v : ℕ). AreRising v (take kept.result.count (places_in kept.new.places)) kept.result.end) c.head_size-start.ensures (rising_of (kept.ensures.of spans.sizes of)))
 
+pub returns-clause-searched : goal.returns-clause-searched
+returns-clause-searched g c =
+    let m = c.put_back.new.self in
+    let kept = c.close_entries-kept in
+    let ms : List Bool = gone_of m.marks.items in
+    let long : length kept.new.hashes ≡ m.hashes.len = omega (arith, kept.ensures.long, ap length c.deref_mut.ensures.value, m.hashes.ok.0) in
+    let hashes : c.truncate.new.self.items ≡ left ms m.hashes.items =
+    c.truncate.ensures.items ∙ ap (take kept.result.count) (take_at kept.new.hashes _ m.hashes.len long) ∙ kept.ensures.hashes
+    ∙ ap (λ (v : List Mark). left (gone_of v) c.deref_mut.result.now) c.deref-5.ensures.value ∙ ap (left ms) c.deref_mut.ensures.value in
+    let tags : searched_by m.tagged c.close_tags.new.tags.items (left ms m.hashes.items) ≡ left ms (searched m) =
+    subst (λ (v : List Mark). searched_by m.tagged c.close_tags.new.tags.items (left (gone_of v) m.hashes.items) ≡ left (gone_of v) (searched m)) c.deref-4.ensures.value (c.close_tags.ensures.left m.hashes.items) in
+    ap (searched_by m.tagged c.close_tags.new.tags.items) hashes ∙ tags ∙ ap (λ (v : List Bool). left v (searched m)) c.put_back.ensures.gone ∙ ap (left (gone_of c.args.self.now.marks.items)) c.put_back.ensures.same.searched
+
+pub invariant_of-self-clause-numbered : goal.invariant_of-self-clause-numbered
+invariant_of-self-clause-numbered g c =
+    let m = c.put_back.new.self in
+    let kept = c.close_entries-kept in
+    let ms : List Bool = gone_of m.marks.items in
+    let long : length kept.new.hashes ≡ m.hashes.len = omega (arith, kept.ensures.long, ap length c.deref_mut.ensures.value, m.hashes.ok.0) in
+    let hashes : c.truncate.new.self.items ≡ left ms m.hashes.items =
+    c.truncate.ensures.items ∙ ap (take kept.result.count) (take_at kept.new.hashes _ m.hashes.len long) ∙ kept.ensures.hashes
+    ∙ ap (λ (v : List Mark). left (gone_of v) c.deref_mut.result.now) c.deref-5.ensures.value ∙ ap (left ms) c.deref_mut.ensures.value in
+    let tags : searched_by m.tagged c.close_tags.new.tags.items (left ms m.hashes.items) ≡ left ms (searched m) =
+    subst (λ (v : List Mark). searched_by m.tagged c.close_tags.new.tags.items (left (gone_of v) m.hashes.items) ≡ left (gone_of v) (searched m)) c.deref-4.ensures.value (c.close_tags.ensures.left m.hashes.items) in
+    let many : length ms ≡ length m.hashes.items = length-map m.marks.items is_gone ∙ m.marked in
+    let all = ap (searched_by m.tagged c.close_tags.new.tags.items) hashes ∙ tags in
+    omega (arith, ap length all, left_number ms (searched m) (many ∙ sym m.numbered), left_number ms m.hashes.items many, m.numbered, ap length hashes)
+
 pub invariant_of-self-clause-chained : goal.invariant_of-self-clause-chained
 invariant_of-self-clause-chained g c =
     let m = c.put_back.new.self in
@@ -65,15 +95,21 @@ invariant_of-self-clause-chained g c =
     let long : length kept.new.hashes ≡ m.hashes.len = omega (arith, kept.ensures.long, ap length c.deref_mut.ensures.value, m.hashes.ok.0) in
     let hashes : c.truncate.new.self.items ≡ left ms m.hashes.items =
     c.truncate.ensures.items ∙ ap (take kept.result.count) (take_at kept.new.hashes _ m.hashes.len long) ∙ kept.ensures.hashes
-    ∙ ap (λ (v : List Mark). left (gone_of v) c.deref_mut.result.now) c.deref-3.ensures.value ∙ ap (left ms) c.deref_mut.ensures.value in
+    ∙ ap (λ (v : List Mark). left (gone_of v) c.deref_mut.result.now) c.deref-5.ensures.value ∙ ap (left ms) c.deref_mut.ensures.value in
+    let tags : searched_by m.tagged c.close_tags.new.tags.items (left ms m.hashes.items) ≡ left ms (searched m) =
+    subst (λ (v : List Mark). searched_by m.tagged c.close_tags.new.tags.items (left (gone_of v) m.hashes.items) ≡ left (gone_of v) (searched m)) c.deref-4.ensures.value (c.close_tags.ensures.left m.hashes.items) in
+    let news : List ℕ = searched_by m.tagged c.close_tags.new.tags.items c.truncate.new.self.items in
+    let all : news ≡ left ms (searched m) = ap (searched_by m.tagged c.close_tags.new.tags.items) hashes ∙ tags in
     let first : ℕ = m.gone.first in
-    let same : length ms ≡ length m.hashes.items = omega (arith, length-map m.marks.items is_gone, m.marked) in
-    let chained : AreChained s.heads.items s.before.items m.hashes.items ms =
-    subst (λ (v : List Mark). AreChained s.heads.items s.before.items m.hashes.items (gone_of v)) c.deref-2.ensures.value (subst (λ (v : List ℕ). AreChained s.heads.items s.before.items v (gone_of c.deref-2.result.now)) c.deref.ensures.value c.cut.ensures.chained) in
+    let many : length ms ≡ length m.hashes.items = length-map m.marks.items is_gone ∙ m.marked in
+    let same : length ms ≡ length (searched m) = many ∙ sym m.numbered in
+    let numbers : c.searched-searched.result.now ≡ searched m = c.searched-searched.ensures ∙ ap (λ (v : List ℕ). searched_by m.tagged v c.deref-2.result.now) c.deref.ensures.value ∙ ap (searched_by m.tagged m.tags.items) c.deref-2.ensures.value in
+    let chained : AreChained s.heads.items s.before.items (searched m) ms =
+    subst (λ (v : List Mark). AreChained s.heads.items s.before.items (searched m) (gone_of v)) c.deref-3.ensures.value (subst (λ (v : List ℕ). AreChained s.heads.items s.before.items v (gone_of c.deref-3.result.now)) numbers c.cut.ensures.chained) in
     let none = none_gone c.close_marks.new.marks.items kept.result.count c.close_marks.ensures.long c.close_marks.ensures.stay in
-    chained_same s.heads.items s.before.items m.hashes.items c.truncate.new.self.items ms (gone_of c.close_marks.new.marks.items)
-    (omega (arith, c.truncate.ensures.len, c.truncate.new.self.ok.0, kept.ensures.past, kept.ensures.within, c.cut.ensures.left, m.paired, m.hashes.ok.0, long))
-    (λ k lt. ap (λ (v : List ℕ). slice_index v k) hashes ∙ left_front ms m.hashes.items first k 0 m.picked.first.before (omega (arith, lt, c.cut.ensures.left)) same)
+    chained_same s.heads.items s.before.items (searched m) news ms (gone_of c.close_marks.new.marks.items)
+    (omega (arith, ap length all, left_number ms (searched m) same, left_number ms m.hashes.items many, m.numbered, ap length hashes, c.truncate.ensures.len, c.truncate.new.self.ok.0, kept.ensures.past, kept.ensures.within, c.cut.ensures.left, m.paired, m.hashes.ok.0, long))
+    (λ k lt. ap (λ (v : List ℕ). slice_index v k) all ∙ left_front ms (searched m) first k 0 m.picked.first.before (omega (arith, lt, c.cut.ensures.left)) same)
     (λ k lt.
     let low : k < first = omega (arith, lt, c.cut.ensures.left) in
     get_or_default (gone_of c.close_marks.new.marks.items) k true false (omega (arith, low, kept.ensures.past, length-map c.close_marks.new.marks.items is_gone, c.close_marks.ensures.long)) ∙ none k ∙ sym (m.picked.first.before k low))
@@ -93,8 +129,8 @@ returns-clause-end g c =
     let spans = spans_of (head_size g.L.Width.WORD) m.end (places_in m.places) m.spans in
     let of : AreOf c.head_size-start.result (places_in m.places) m.end spans.sizes = subst (λ (v : ℕ). AreOf v (places_in m.places) m.end spans.sizes) (sym c.head_size-start.ensures) spans.of in
     let after : AreOf (head_size g.L.Width.WORD) (take kept.result.count (places_in kept.new.places)) kept.result.end (left ms spans.sizes) =
-    subst (λ (v : List Mark). AreOf (head_size g.L.Width.WORD) (take kept.result.count (places_in kept.new.places)) kept.result.end (left (gone_of v) spans.sizes)) c.deref-3.ensures.value
-    (subst (λ (v : ℕ). AreOf v (take kept.result.count (places_in kept.new.places)) kept.result.end (left (gone_of c.deref-3.result.now) spans.sizes)) c.head_size-start.ensures (kept.ensures.of spans.sizes of)) in
+    subst (λ (v : List Mark). AreOf (head_size g.L.Width.WORD) (take kept.result.count (places_in kept.new.places)) kept.result.end (left (gone_of v) spans.sizes)) c.deref-5.ensures.value
+    (subst (λ (v : ℕ). AreOf v (take kept.result.count (places_in kept.new.places)) kept.result.end (left (gone_of c.deref-5.result.now) spans.sizes)) c.head_size-start.ensures (kept.ensures.of spans.sizes of)) in
     let all = end_left spans.sizes ms m.gone (omega (arith, length-map m.marks.items is_gone, m.marked, m.paired)) m.picked spans.of after in
     omega (arith, all, c.put_back.ensures.same.end, ap (λ (p : Picked). p.size) c.put_back.ensures.picked)
 
@@ -110,7 +146,7 @@ returns-clause-count g c =
     let n : ℕ = kept.result.count in
     let long : length kept.new.hashes ≡ length m.hashes.items = omega (arith, kept.ensures.long, ap length c.deref_mut.ensures.value) in
     let is : take n kept.new.hashes ≡ left (gone_of m.marks.items) m.hashes.items =
-    kept.ensures.hashes ∙ ap (λ (v : List Mark). left (gone_of v) c.deref_mut.result.now) c.deref-3.ensures.value ∙ ap (left (gone_of m.marks.items)) c.deref_mut.ensures.value in
+    kept.ensures.hashes ∙ ap (λ (v : List Mark). left (gone_of v) c.deref_mut.result.now) c.deref-5.ensures.value ∙ ap (left (gone_of m.marks.items)) c.deref_mut.ensures.value in
     let all : n + m.gone.count ≡ length m.hashes.items = kept_count m.marks.items m.hashes.items kept.new.hashes n m.gone.count m.marked (omega (arith, long, kept.ensures.within, m.paired)) is m.picked.count in
     omega (arith, all, long, c.truncate.ensures.len, c.truncate.new.self.ok.0, m.hashes.ok.0, kept.ensures.within, m.paired, ap length c.put_back.ensures.same.hashes, ap (λ (p : Picked). p.count) c.put_back.ensures.picked)
 
@@ -121,11 +157,18 @@ returns-clause-room g c = λ some.
     let n : ℕ = kept.result.count in
     let long : length kept.new.hashes ≡ length m.hashes.items = omega (arith, kept.ensures.long, ap length c.deref_mut.ensures.value) in
     let is : take n kept.new.hashes ≡ left (gone_of m.marks.items) m.hashes.items =
-    kept.ensures.hashes ∙ ap (λ (v : List Mark). left (gone_of v) c.deref_mut.result.now) c.deref-3.ensures.value ∙ ap (left (gone_of m.marks.items)) c.deref_mut.ensures.value in
+    kept.ensures.hashes ∙ ap (λ (v : List Mark). left (gone_of v) c.deref_mut.result.now) c.deref-5.ensures.value ∙ ap (left (gone_of m.marks.items)) c.deref_mut.ensures.value in
     let all : n + m.gone.count ≡ length m.hashes.items = kept_count m.marks.items m.hashes.items kept.new.hashes n m.gone.count m.marked (omega (arith, long, kept.ensures.within, m.paired)) is m.picked.count in
     let fewer : n < length m.hashes.items = omega (arith, all, some, ap (λ (p : Picked). p.count) c.put_back.ensures.picked) in
     let places : length (places_in c.truncate-2.new.self) ≡ n = ap length c.truncate-2.ensures.places ∙ length-take-le n (places_in kept.new.places) (omega (arith, kept.ensures.places, kept.ensures.within)) in
     record {
+      tags = λ tagged.
+          let ms : List Bool = gone_of m.marks.items in
+          let tags : searched_by m.tagged c.close_tags.new.tags.items (left ms m.hashes.items) ≡ left ms (searched m) =
+          subst (λ (v : List Mark). searched_by m.tagged c.close_tags.new.tags.items (left (gone_of v) m.hashes.items) ≡ left (gone_of v) (searched m)) c.deref-4.ensures.value (c.close_tags.ensures.left m.hashes.items) in
+          let now : length c.close_tags.new.tags.items ≡ length (left ms (searched m)) = ap length (ap (λ (v : Bool). searched_by v c.close_tags.new.tags.items (left ms m.hashes.items)) (sym tagged) ∙ tags) in
+          let was : length m.tags.items ≡ length (searched m) = ap (λ (v : Bool). length (searched_by v m.tags.items m.hashes.items)) (sym tagged) in
+          omega (arith, now, was, left_number ms (searched m) (length-map m.marks.items is_gone ∙ m.marked ∙ sym m.numbered), m.picked.count, some, ap (λ (p : Picked). p.count) c.put_back.ensures.picked, m.tag_room, c.close_tags.ensures.room);
       hashes = omega (arith, fewer, long, c.truncate.ensures.len, c.truncate.new.self.ok.0, m.hashes.ok.0, c.truncate.ensures.capacity, m.hash_room);
       places = omega (arith, fewer, places, c.truncate-2.ensures.room, kept.ensures.room, m.place_room, m.paired);
       marks = omega (arith, fewer, c.close_marks.ensures.long, c.close_marks.ensures.room, m.room, m.marked);

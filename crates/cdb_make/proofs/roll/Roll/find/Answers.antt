@@ -6,6 +6,7 @@ use Rattle.cdb_make.specs.declared.roll.Picked.{Picked}
 use Rattle.cdb_make.specs.Chains.{AreChained}
 use Rattle.cdb_make.specs.Marks.{found_of, is_found}
 use Rattle.cdb_make.specs.Spans.{IsPicked}
+use Rattle.cdb_make.specs.Views.Roll.{searched}
 use Rattle.cdb_make.specs.Views.Places.{places_in}
 use Rattle.cdb_make.proofs.Spans.{spans_of, long_as}
 use Rattle.cdb_make.proofs.Picking.{picks_set, gone_set, number_most, picked_within}
@@ -42,7 +43,7 @@ overflow_add-self-2 g c =
 pub invariant_of-self-clause-chained : goal.invariant_of-self-clause-chained
 invariant_of-self-clause-chained g c =
     let m = c.args.self.now in
-    subst (AreChained m.chains.heads.items m.chains.before.items m.hashes.items) (sym (gone_set m.marks.items c.args.n c.requires.stays)) m.chained
+    subst (AreChained m.chains.heads.items m.chains.before.items (searched m)) (sym (gone_set m.marks.items c.args.n c.requires.stays)) m.chained
 
 pub invariant_of-self-clause-picked : goal.invariant_of-self-clause-picked
 invariant_of-self-clause-picked g c =

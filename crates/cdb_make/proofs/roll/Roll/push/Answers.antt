@@ -1,10 +1,12 @@
-use Rattle.std.proofs.Common.{◌≡◌, ◌∷◌, ◌++◌, [], ℕ, ◌+◌, List, Bool, true, false, length, get_or, refl, ap, sym, subst, ◌∙◌, arith}
+use Rattle.std.proofs.Common.{◌≡◌, ◌∷◌, ◌++◌, [], ℕ, ◌+◌, List, Bool, true, false, cond, length, get_or, refl, ap, sym, subst, ◌∙◌, arith}
 use Rattle.std.specs.Prelude.{slice_index}
 use Rattle.std.proofs.lemmas.List.{length-map, map-append, length_push, get_or_append_left}
 use Rattle.cdb_form.specs.Format.Pair.{head_size}
 use Rattle.cdb_make.specs.declared.mark.Mark.TheVariants.{Stays}
 use Rattle.cdb_make.specs.Marks.{is_gone, is_found, gone_of, found_of}
 use Rattle.cdb_make.specs.Spans.{IsPicked}
+use Rattle.cdb_make.specs.Tags.{searched_by}
+use Rattle.cdb_make.specs.Views.Roll.{searched}
 use Rattle.cdb_make.specs.Views.Places.{places_in}
 use Rattle.cdb_make.proofs.Linking.{chained_same}
 use Rattle.cdb_make.proofs.Picking.{picks_push}
@@ -36,12 +38,22 @@ invariant_of-self-clause-chained g c =
     let m = c.args.self.now in
     let ms : List Bool = gone_of m.marks.items in
     let items : gone_of c.push_reserved-2.new.self.items ≡ ms ++ false ∷ [] = ap gone_of c.push_reserved-2.ensures.items ∙ map-append is_gone m.marks.items (Stays ∷ []) in
-    let hashes = c.push_reserved.ensures.items in
-    chained_same m.chains.heads.items m.chains.before.items m.hashes.items c.push_reserved.new.self.items ms (gone_of c.push_reserved-2.new.self.items)
-    (omega (arith, m.chained.within, ap length hashes, length_push m.hashes.items c.args.hash))
-    (λ k lt. ap (λ (v : List ℕ). slice_index v k) hashes ∙ get_or_append_left m.hashes.items (c.args.hash ∷ []) 0 k (omega (arith, m.chained.within)))
-    (λ k lt. ap (λ (v : List Bool). get_or v k true) items ∙ get_or_append_left ms (false ∷ []) true k (omega (arith, m.chained.within, m.marked, length-map m.marks.items is_gone)))
+    let news : List ℕ = searched_by m.tagged c.push_tag.new.tags.items c.push_reserved.new.self.items in
+    let more : news ≡ searched m ++ _ ∷ [] = ap (searched_by m.tagged c.push_tag.new.tags.items) c.push_reserved.ensures.items ∙ c.push_tag.ensures.more m.hashes.items c.args.hash in
+    chained_same m.chains.heads.items m.chains.before.items (searched m) news ms (gone_of c.push_reserved-2.new.self.items)
+    (omega (arith, m.chained.within, ap length more, length_push (searched m) (cond m.tagged c.args.tag c.args.hash)))
+    (λ k lt. ap (λ (v : List ℕ). slice_index v k) more ∙ get_or_append_left (searched m) (_ ∷ []) 0 k (omega (arith, m.chained.within)))
+    (λ k lt. ap (λ (v : List Bool). get_or v k true) items ∙ get_or_append_left ms (false ∷ []) true k (omega (arith, m.chained.within, m.numbered, m.marked, length-map m.marks.items is_gone)))
     m.chained
+
+pub returns-clause-searched : goal.returns-clause-searched
+returns-clause-searched g c = ap (searched_by c.args.self.now.tagged c.push_tag.new.tags.items) c.push_reserved.ensures.items ∙ c.push_tag.ensures.more c.args.self.now.hashes.items c.args.hash
+
+pub invariant_of-self-clause-numbered : goal.invariant_of-self-clause-numbered
+invariant_of-self-clause-numbered g c =
+    let m = c.args.self.now in
+    let more = ap (searched_by m.tagged c.push_tag.new.tags.items) c.push_reserved.ensures.items ∙ c.push_tag.ensures.more m.hashes.items c.args.hash in
+    omega (arith, ap length more, length_push (searched m) (cond m.tagged c.args.tag c.args.hash), m.numbered, ap length c.push_reserved.ensures.items, length_push m.hashes.items c.args.hash)
 
 pub invariant_of-self-clause-sought : goal.invariant_of-self-clause-sought
 invariant_of-self-clause-sought g c =

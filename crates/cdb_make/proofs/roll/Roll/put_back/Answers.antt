@@ -6,6 +6,7 @@ use Rattle.cdb_make.specs.declared.mark.Mark.{Mark}
 use Rattle.cdb_make.specs.Chains.{AreChained}
 use Rattle.cdb_make.specs.Marks.{gone_of, found_of, is_found, put_back, AreNone}
 use Rattle.cdb_make.specs.Spans.{IsPicked}
+use Rattle.cdb_make.specs.Views.Roll.{searched}
 use Rattle.cdb_make.specs.Views.Places.{places_in}
 use Rattle.cdb_make.proofs.Picking.{back_items, gone_put_back, found_put_back, picks_none}
 use Rattle.cdb_make.proofs.roll.Roll.put_back.Goals as goal
@@ -26,7 +27,7 @@ pub invariant_of-self-clause-chained : goal.invariant_of-self-clause-chained
 invariant_of-self-clause-chained g c =
     let m = c.args.self.now in
     let h = c.put_each_back.ensures in
-    subst (AreChained m.chains.heads.items m.chains.before.items m.hashes.items)
+    subst (AreChained m.chains.heads.items m.chains.before.items (searched m))
     (sym (ap gone_of (back_items c.deref_mut.result.now m.marks.items c.put_each_back.new.marks _ m.marks.len m.found.first c.deref_mut.ensures.value m.marks.ok.0 m.sought.first h.long h.back) ∙ gone_put_back m.marks.items)) m.chained
 
 pub invariant_of-self-clause-picked : goal.invariant_of-self-clause-picked

@@ -6,6 +6,8 @@ use Rattle.cdb_make.specs.declared.mark.Mark.{Mark}
 use Rattle.cdb_make.specs.Chains.{AreChained}
 use Rattle.cdb_make.specs.Marks.{gone_of, found_of, is_gone, is_found, taken}
 use Rattle.cdb_make.specs.Spans.{IsPicked, picked}
+use Rattle.cdb_make.specs.Tags.{searched_by}
+use Rattle.cdb_make.specs.Views.Roll.{searched}
 use Rattle.cdb_make.specs.Views.Places.{places_in}
 use Rattle.cdb_make.proofs.Spans.{spans_of, long_as}
 use Rattle.cdb_make.proofs.Picking.{picks_none, picks_taken, gone_taken, found_taken, taken_items, number_taken, number_most, picked_taken, picked_within, picked_none}
@@ -51,9 +53,10 @@ invariant_of-self-clause-chained g c =
     let m = c.args.self.now in
     let new = c.take.new.self in
     let e = taken_items c.deref_mut.result.now m.marks.items c.take.new.marks _ m.marks.len c.deref_mut.ensures.value m.marks.ok.0 c.take.ensures.marks in
+    let numbers : c.searched-searched.result.now ≡ searched m = c.searched-searched.ensures ∙ ap (λ (v : List ℕ). searched_by m.tagged v c.deref-2.result.now) c.deref.ensures.value ∙ ap (searched_by m.tagged m.tags.items) c.deref-2.ensures.value in
     let same = c.take.ensures.marks ∙ ap (map taken) c.deref_mut.ensures.value ∙ sym e in
-    subst (λ (v : List Mark). AreChained new.heads.items new.before.items m.hashes.items (gone_of v)) same
-    (subst (λ (v : List ℕ). AreChained new.heads.items new.before.items v (gone_of c.take.new.marks)) c.deref.ensures.value c.take.ensures.chained)
+    subst (λ (v : List Mark). AreChained new.heads.items new.before.items (searched m) (gone_of v)) same
+    (subst (λ (v : List ℕ). AreChained new.heads.items new.before.items v (gone_of c.take.new.marks)) numbers c.take.ensures.chained)
 
 pub invariant_of-self-clause-marked : goal.invariant_of-self-clause-marked
 invariant_of-self-clause-marked g c =

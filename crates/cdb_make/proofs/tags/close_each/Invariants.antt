@@ -1,0 +1,13 @@
+use Rattle.std.proofs.Common.{◌≡◌, ℕ, ◌≤◌, get_or, take, length}
+use Rattle.cdb_make.specs.Marks.{gone_of}
+use Rattle.cdb_make.specs.Spans.{left}
+use Rattle.cdb_make.proofs.tags.close_each.Given as goal
+
+abbrev pub invariant-loop-n : goal.invariant-loop-n
+invariant-loop-n l = record {
+  behind : l.count ≤ l.n;
+  up : l.n ≤ length l.marks;
+  long : length l.tags ≡ length l.fn.tags;
+  later : (k : ℕ) → l.n ≤ k → get_or l.tags k 0 ≡ get_or l.fn.tags k 0;
+  tags : take l.count l.tags ≡ left (take l.n (gone_of l.marks)) (take l.n l.fn.tags);
+}
