@@ -10,11 +10,10 @@ ghost use Rattle.cdb_uses.specs.Asks.{AskingFails};
 ghost use Rattle.cdb_uses.specs.declared.ask.AskFault.TheVariants.{Make};
 
 use crate::read::write_values;
-use cdb_form::Width;
+use cdb_form::{Sink, Width};
 use cdb_make::{MakeFault, Maker};
 use cdb_read::{ReadFault, Reader};
 use cdb_store::MemStore;
-use std::io::Write;
 
 /// Why the values of a key were not written.
 #[derive(Clone, Copy, Debug, PartialEq, Eq)]
@@ -38,7 +37,7 @@ impl From<MakeFault> for AskFault {
 ///
 /// It fails by `Make(NoMemory)`, and then nothing was written, or by `Read(Output)`, and then the
 /// writer holds a prefix of the values.
-pub fn write_finished<L: Width, W: Write>(
+pub fn write_finished<L: Width, W: Sink>(
     maker: Maker<MemStore, L>,
     key: &[u8],
     w: &mut W,

@@ -1,5 +1,5 @@
 // A caller of cdb_read.
-ghost use Rattle.std.specs.Prelude.{ℕ, ◌≤◌, List, All, IfErr};
+ghost use Rattle.std.specs.Prelude.{◌≡◌, ℕ, ◌≤◌, List, All, IfErr};
 ghost use Rattle.std.specs.List.{concat};
 ghost use Rattle.cdb_form.specs.Format.File.{file_size};
 ghost use Rattle.cdb_form.specs.Format.Record.{KeyValue, IsRecord};
@@ -7,18 +7,18 @@ ghost use Rattle.cdb_form.specs.Views.KnownBytes.{Writes};
 ghost use Rattle.cdb_make.specs.Views.Maker.{IsFile};
 ghost use Rattle.cdb_read.specs.Values.{values_of};
 ghost use Rattle.cdb_store.specs.Reads.{OnlyReads};
+ghost use Rattle.cdb_read.specs.declared.fault.ReadFault.TheVariants.{Output};
 ghost use Rattle.cdb_read.specs.Views.Reads.{CopyingFails};
 
-use cdb_form::Width;
+use cdb_form::{Sink, Width};
 use cdb_read::{ReadFault, Reader};
 use cdb_store::Store;
-use std::io::Write;
 
 /// Writes the values of a key in a database, one after the other.
 ///
 /// Of a file that was made nothing is damaged: it fails by `Device` if the store did, and by
 /// `Output` if the writer did. Either way the writer then holds a prefix of the values.
-pub fn write_values<L: Width, S: Store, W: Write>(
+pub fn write_values<L: Width, S: Store, W: Sink>(
     reader: &mut Reader<S, L>,
     key: &[u8],
     w: &mut W,
@@ -32,6 +32,7 @@ pub fn write_values<L: Width, S: Store, W: Write>(
         → IsFile L.WORD rs (S.image reader.old.store)
         → (b : List ℕ) → S.image reader.new.store b
         → IfErr result (CopyingFails S.Store reader.old.store reader.new.store) }
+    ensures failed { IfErr result (λ fault. fault ≡ Output → W.failed w.new) }
 {
     let mut finder = reader.find(key);
     while let Some(span) = finder.next()? {

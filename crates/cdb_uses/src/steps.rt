@@ -11,12 +11,11 @@ ghost use Rattle.cdb_uses.specs.declared.ask.AskFault.TheVariants.{Make};
 use crate::ask::AskFault;
 use crate::edits::{Edit, make_edit};
 use crate::read::write_values;
-use cdb_form::Width;
+use cdb_form::{Sink, Width};
 use cdb_make::{MakeFault, Maker};
 use cdb_read::{Reader, Unread};
 use cdb_store::Store;
 use std::alloc::Global;
-use std::io::Write;
 
 /// A step in which a database is built.
 #[derive(Debug, Drop)]
@@ -147,7 +146,7 @@ pub fn build<S: Store + Drop, L: Width>(
 ///
 /// By `Make` it fails as `build` does, and nothing was written. By `Read` it fails if the store
 /// failed while it was read, or the writer did; then a prefix of the values was written.
-pub fn build_and_ask<S: Store + Drop, L: Width, W: Write>(
+pub fn build_and_ask<S: Store + Drop, L: Width, W: Sink>(
     alloc: Global,
     store: S,
     limit: u64,
