@@ -1,3 +1,4 @@
+pub mod Traces
 pub mod Parts
 pub mod Moves
 pub mod OverLemmas
