@@ -108,10 +108,8 @@ impl<R: Read> MapReader<R> {
         ensures failed { (fault : _) → HasFailed self.old fault
             → Repeats (Err fault) self.old self.new result }
     {
-        match self.going {
-            Going::On => {}
-            Going::AtEnd => return Ok(false),
-            Going::Failed(fault) => return Err(fault),
+        if !self.going.reads_on()? {
+            return Ok(false);
         }
         match self.source.map_entry::<A>(into) {
             Ok(Entry::Closed) => Ok(true),
