@@ -1,5 +1,9 @@
 // A record in memory.
+ghost use Rattle.std.specs.Prelude.{◌≡◌, []};
 ghost use Rattle.cdb_form.specs.Format.Record.{AreBytes};
+
+use std::alloc::Global;
+
 /// A key with its value. Both are bytes of any content, and may be empty.
 #[derive(Debug, Drop)]
 pub struct Record {
@@ -7,4 +11,17 @@ pub struct Record {
     pub value: Vec<u8>,
     pub ghost key_bytes: { AreBytes key.items },
     pub ghost value_bytes: { AreBytes value.items },
+}
+
+impl Record {
+    /// A record of an empty key and an empty value. It takes no memory.
+    pub fn empty(alloc: Global) -> Record
+        ensures key { result.key.items ≡ [] }
+        ensures value { result.value.items ≡ [] }
+    {
+        Record {
+            key: Vec::new(alloc),
+            value: Vec::new(alloc),
+        }
+    }
 }

@@ -1,4 +1,6 @@
+pub mod Traces
 pub mod Parts
+pub mod Compared
 pub mod Moves
 pub mod OverLemmas
 pub mod FuseLemmas

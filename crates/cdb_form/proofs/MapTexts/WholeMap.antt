@@ -20,7 +20,7 @@ use Rattle.cdb_form.proofs.MapTexts.MapLines.{map_lines-last, map_lines-line}
 
 -- ---- lines with their newlines
 
-lines_then : (lines : List (List ℕ)) (x : List ℕ) → AllByRecursion (Lacks is_newline) lines → map_lines (with_newlines lines ++ x) ≡ flat_map line_records lines ++ map_lines x
+pub lines_then : (lines : List (List ℕ)) (x : List ℕ) → AllByRecursion (Lacks is_newline) lines → map_lines (with_newlines lines ++ x) ≡ flat_map line_records lines ++ map_lines x
 lines_then [] x are = refl
 lines_then (line ∷ lines) x are =
     let whole : with_newlines (line ∷ lines) ++ x ≡ line ++ 10 ∷ (with_newlines lines ++ x) = simp append_assoc refl in
@@ -41,7 +41,7 @@ read_none : (text : List ℕ) → ReadLines text text []
 read_none text = record { lines = []; whole = All-nil _; split = refl; records = refl }
 
 -- the records that are left are those of the rest
-read_rest : (text rest : List ℕ) (rs : List KeyValue) → ReadLines text rest rs → map_lines text ≡ rs ++ map_lines rest
+pub read_rest : (text rest : List ℕ) (rs : List KeyValue) → ReadLines text rest rs → map_lines text ≡ rs ++ map_lines rest
 read_rest text rest rs g =
     ap map_lines g.split ∙ lines_then g.lines rest (recursion_from_All (Lacks is_newline) g.lines g.whole)
     ∙ ap (λ t. t ++ map_lines rest) g.records

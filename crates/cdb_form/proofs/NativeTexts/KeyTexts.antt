@@ -1,8 +1,9 @@
 -- List texts: how a key is spelled, where its spelling stops, and what a reader answered.
-use Rattle.std.proofs.Common.{◌≡◌, ◌≢◌, ℕ, ◌≤◌, ◌+◌, List, [], ◌∷◌, ◌++◌, length, refl, sym, ap, subst, ◌∙◌, arith, append_assoc, length-append, lit≤, codes, Option, Some, None, IfSome}
+use Rattle.std.proofs.Common.{◌≡◌, ◌≢◌, ℕ, ◌≤◌, ◌+◌, List, [], ◌∷◌, ◌++◌, length, refl, sym, ap, subst, ◌∙◌, arith, append_assoc, lit≤, codes, Option, Some, None, IfSome}
 use Rattle.std.specs.Str.Parse.{digits_value}
 use Rattle.std.specs.Io.KnownBytes.{Consumes, IsAtEnd}
 use Rattle.cdb_form.specs.Format.Record.{AreBytes}
+use Rattle.cdb_form.specs.Text.Amending.{SpellsRemoval}
 use Rattle.cdb_form.specs.Text.List.{SpellsKey}
 use Rattle.cdb_form.specs.Text.Native.{IsNumeral}
 use Rattle.cdb_form.specs.Views.ListReader.{Fails, HasFailed}
@@ -13,7 +14,7 @@ use Rattle.cdb_form.specs.declared.text.list_reader.ListReader.{ListReader}
 use Rattle.cdb_form.proofs.NativeTexts.Grammar.{same_digits, same_prefixes}
 use Rattle.cdb_form.proofs.NativeTexts.Spelling.{IsSpelling}
 use Rattle.cdb_form.proofs.NativeTexts.Stops.{Form, Any, BehindMinus, Starts, StopsAt, IsMark, from_cases, behind_tail, item_fails, ended_item, syntax_item, met}
-use Rattle.cdb_form.proofs.Sources.SourceLemmas.{consumes_then}
+use Rattle.cdb_form.proofs.Sources.SourceLemmas.{removal_behind}
 
 -- ---- how a key is spelled
 
@@ -99,19 +100,20 @@ no_key_read g from = ended_item SpellsKey keys g from [] refl
 
 -- ---- a key that was read
 
+tails : (x y : ℕ) (s t : List ℕ) → x ∷ s ≡ y ∷ t → s ≡ t
+tails x y s t e = cc
+
+-- behind its mark it is spelled as a removal is
+pub key_of_removal : {g : ℕ} {x key : List ℕ} → SpellsRemoval g (45 ∷ x) key → SpellsKey g (43 ∷ x) key
+key_of_removal sp = record { klen = sp.klen; klen_is = sp.klen_is; key_fits = sp.key_fits; bytes = sp.bytes; text_is = ap (λ z. 43 ∷ z) (tails _ _ _ _ sp.text_is) }
+
 pub listed_behind : (o m n : Option (List ℕ)) (greatest from to : ℕ) (a key : List ℕ)
     → IsNumeral a (length key) → length key ≤ greatest → AreBytes key
     → Consumes o m (a ++ 58 ∷ []) → Consumes m n (key ++ 10 ∷ []) → to ≡ from + (length a + 1) + (length key + 1)
     → ReadsBehind SpellsKey (codes "+") greatest o n from to key
 listed_behind o m n greatest from to a key ia fits bytes c₁ c₂ counted =
-    let text : List ℕ = a ++ 58 ∷ (key ++ 10 ∷ []) in
-    let all = consumes_then o m n _ _ c₁ c₂ in
-    record {
-      text = text;
-      spells = record { klen = a; klen_is = ia; key_fits = fits; bytes = bytes; text_is = simp append_assoc refl };
-      read = simp append_assoc at all;
-      counted = simp length-append (omega (arith, counted));
-    }
+    let r = removal_behind o m n greatest from to a key ia fits bytes c₁ c₂ counted in
+    record { text = r.text; spells = key_of_removal r.spells; read = r.read; counted = r.counted }
 
 -- a fault of the parser
 pub list_fails : {R L : Type 0} (g : ℕ) (remaining : R → Option (List ℕ)) (old new : ListReader R L) (f : TextFault) → HasFailed new f

@@ -17,7 +17,7 @@ use Rattle.cdb_form.specs.Text.Amending.{Change, Putting, Removing, SpellsRemova
 use Rattle.cdb_form.specs.Text.List.{SpellsKey}
 use Rattle.cdb_form.specs.Text.Parse.{Part, Found, Stuck, followed, byte_part, field_part, number_part, record_part, removal_part, item_part, key_part, listed, Parsed, going_on, text_from, parse, parse_list}
 use Rattle.cdb_form.proofs.Bytes.ByteLemmas.{AreBytes-take}
-use Rattle.cdb_form.proofs.NativeTexts.KeyTexts.{key_ended, key_fails, key_syntax, keys}
+use Rattle.cdb_form.proofs.NativeTexts.KeyTexts.{key_ended, key_fails, key_syntax, keys, key_of_removal}
 use Rattle.cdb_form.proofs.NativeTexts.Spelling.{IsSpelling, records, changes}
 use Rattle.cdb_form.proofs.NativeTexts.WholeForm.{fault_behind}
 use Rattle.cdb_form.proofs.NativeTexts.Stops.{StopsAt, Starts, Any, prefix_any, Behind, BehindMinus, Rest1, Rest2, Rest4, Rest5, lift_klen, lift_vlen, lift_key, lift_angle, lift_length, base_klen, base_vlen, base_key, base_angle, base_value, base_length, record_fails, removal_fails, ended_first, syntax_first}
@@ -268,18 +268,6 @@ minus_spells g key x (k, x1, x2, (a, ia, la, ea), (lk, bk, ek), e2) =
       text_is = ap (λ z. 45 ∷ z) whole ∙ (let flat : 45 ∷ ((a ++ 58 ∷ []) ++ (key ++ 10 ∷ [])) ≡ codes "-" ++ a ++ codes ":" ++ key ++ codes "\n" = simp append_assoc refl in flat);
     }
 
--- a key behind its plus is spelled so too
-plus_spells_key : (g : ℕ) (key x : List ℕ) → IsBehindMinus g key x → SpellsKey g (43 ∷ x) key
-plus_spells_key g key x (k, x1, x2, (a, ia, la, ea), (lk, bk, ek), e2) =
-    let whole : x ≡ (a ++ 58 ∷ []) ++ (key ++ 10 ∷ []) = e2 ∙ ap (λ z. z ++ x2) ea ∙ ap (λ z. (a ++ 58 ∷ []) ++ z) ek in
-    record {
-      klen = a;
-      klen_is = subst (IsNumeral a) (sym lk) ia;
-      key_fits = omega (arith, la, lk);
-      bytes = bk;
-      text_is = ap (λ z. 43 ∷ z) whole ∙ (let flat : 43 ∷ ((a ++ 58 ∷ []) ++ (key ++ 10 ∷ [])) ≡ codes "+" ++ a ++ codes ":" ++ key ++ codes "\n" = simp append_assoc refl in flat);
-    }
-
 -- ---- an item
 
 -- an item was found, or the newline that ends the text
@@ -348,7 +336,7 @@ listed_key : (g from : ℕ) (text : List ℕ) → AreBytes text
     → PartIs (ItemIs SpellsKey listed g from (43 ∷ text)) (FailsItem SpellsKey g from (43 ∷ text)) (followed (removal_part g (from + 1) text) (λ key at rest. Found (Some (listed key)) at rest))
 listed_key g from text are =
     whatever (λ key to rest. Took (IsBehindMinus g key) (from + 1) text to rest) BehindMinus g (from + 1) text _ _ (removal_part g (from + 1) text) _ (λ F s. removal_is F s g (from + 1) text are)
-    (λ key to rest t. let m = marked (IsBehindMinus g key) (λ first. SpellsKey g first key) 43 from to text rest t (plus_spells_key g key) in (key, refl, m.0, m.1))
+    (λ key to rest t. let m = marked (IsBehindMinus g key) (λ first. SpellsKey g first key) 43 from to text rest t (λ x says. key_of_removal (minus_spells g key x says)) in (key, refl, m.0, m.1))
     (λ f h. key_fails g from (from + 1) (Some text) f refl h)
 
 list_item : (g from : ℕ) (text : List ℕ) → AreBytes text → PartIs (ItemIs SpellsKey listed g from text) (FailsItem SpellsKey g from text) (key_part g from text)

@@ -87,12 +87,15 @@ pub record GivesItem {R L X : Type 0} (spelling : ℕ → List ℕ → X → Typ
   pub spends : budget old.source ≤ budget new.source
 
 -- a call told the end: the first such call took the newline that ends the text
-pub record GivesEnd {R L : Type 0} (remaining : R → Option (List ℕ)) (old new : FormReader R L) :
+pub record Ends {R : Type 0} (remaining : R → Option (List ℕ)) (Going Ended : Type 0) (old new : Source R) :
     Type 0 where
-  pub ended : HasEnded new
-  pub newline : IsGoing old → Consumes (unread remaining old) (unread remaining new) (codes "\n")
-  pub counted : IsGoing old → taken_of new ≡ taken_of old + 1
-  pub spends : budget old.source ≤ budget new.source
+  pub ended : Ended
+  pub newline : Going → Consumes (remaining old.reader) (remaining new.reader) (codes "\n")
+  pub counted : Going → new.taken ≡ old.taken + 1
+  pub spends : budget old ≤ budget new
+
+abbrev pub GivesEnd : {R L : Type 0} → (R → Option (List ℕ)) → FormReader R L → FormReader R L → Type 0
+GivesEnd remaining old new = Ends remaining (IsGoing old) (HasEnded new) old.source new.source
 
 -- a call answered a fault, as every later one will
 pub record Fails {R L X : Type 0} (spelling : ℕ → List ℕ → X → Type 0) (greatest : ℕ)

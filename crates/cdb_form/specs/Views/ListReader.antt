@@ -1,8 +1,7 @@
 -- What a clause reads of a reader of a list text.
-use Rattle.std.specs.Io.KnownBytes.{Consumes}
-use Rattle.std.specs.Prelude.{ℕ, List, ◌+◌, ◌<◌, ◌≤◌, Option, ◌≡◌, codes}
+use Rattle.std.specs.Prelude.{ℕ, List, ◌<◌, ◌≤◌, Option, ◌≡◌}
 use Rattle.cdb_form.specs.Text.List.{SpellsKey}
-use Rattle.cdb_form.specs.Views.FormReader.{MeetsFault, ReadsItem}
+use Rattle.cdb_form.specs.Views.FormReader.{Ends, MeetsFault, ReadsItem}
 use Rattle.cdb_form.specs.Views.Source.{budget}
 use Rattle.cdb_form.specs.declared.text.fault.TextFault.{TextFault}
 use Rattle.cdb_form.specs.declared.text.going.Going.TheVariants.{On, AtEnd, Failed}
@@ -43,12 +42,8 @@ pub record GivesKey {R L : Type 0} (greatest : ℕ) (remaining : R → Option (L
   pub spends : budget old.source ≤ budget new.source
 
 -- a call told the end: the first such call took the newline that ends the text
-pub record GivesEnd {R L : Type 0} (remaining : R → Option (List ℕ)) (old new : ListReader R L) :
-    Type 0 where
-  pub ended : HasEnded new
-  pub newline : IsGoing old → Consumes (unread remaining old) (unread remaining new) (codes "\n")
-  pub counted : IsGoing old → taken_of new ≡ taken_of old + 1
-  pub spends : budget old.source ≤ budget new.source
+abbrev pub GivesEnd : {R L : Type 0} → (R → Option (List ℕ)) → ListReader R L → ListReader R L → Type 0
+GivesEnd remaining old new = Ends remaining (IsGoing old) (HasEnded new) old.source new.source
 
 -- a call answered a fault, as every later one will
 pub record Fails {R L : Type 0} (greatest : ℕ) (remaining : R → Option (List ℕ))

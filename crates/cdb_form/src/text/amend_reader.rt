@@ -75,10 +75,7 @@ impl<R: Read, L: Width> AmendReader<R, L> {
         ensures failed { (fault : _) → HasFailed self.old fault
             → Repeats (Err fault) self.old self.new result }
     {
-        let mut record = Record {
-            key: Vec::new(self.alloc),
-            value: Vec::new(self.alloc),
-        };
+        let mut record = Record::empty(self.alloc);
         match self.read_into(&mut record)? {
             None => Ok(None),
             Some(ChangeKind::Put) => Ok(Some(Change::Put(record))),

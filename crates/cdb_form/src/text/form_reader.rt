@@ -95,10 +95,8 @@ impl<R: Read, L: Width> FormReader<R, L> {
         ensures failed { (fault : _) → HasFailed self.old fault
             → Repeats (Err fault) self.old self.new result }
     {
-        match self.going {
-            Going::On => {}
-            Going::AtEnd => return Ok(None),
-            Going::Failed(fault) => return Err(fault),
+        if !self.going.reads_on()? {
+            return Ok(None);
         }
         match self.source.entry(into, L::GREATEST, removals) {
             Ok(Some(kind)) => Ok(Some(kind)),

@@ -73,10 +73,8 @@ impl<R: Read, L: Width> ListReader<R, L> {
         ensures failed { (fault : _) → HasFailed self.old fault
             → Repeats (Err fault) self.old self.new result }
     {
-        match self.going {
-            Going::On => {}
-            Going::AtEnd => return Ok(false),
-            Going::Failed(fault) => return Err(fault),
+        if !self.going.reads_on()? {
+            return Ok(false);
         }
         match self.source.list_entry(into, L::GREATEST) {
             Ok(true) => Ok(true),

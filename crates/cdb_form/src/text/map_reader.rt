@@ -79,12 +79,8 @@ impl<R: Read> MapReader<R> {
         ensures failed { (fault : _) → HasFailed self.old fault
             → Repeats (Err fault) self.old self.new result }
     {
-        let mut record = Record {
-            key: Vec::new(self.alloc),
-            value: Vec::new(self.alloc),
-        };
-        let given = self.read_into(&mut record)?;
-        if given { Ok(Some(record)) } else { Ok(None) }
+        let mut record = Record::empty(self.alloc);
+        Ok(self.read_into(&mut record)?.then_some(record))
     }
 
     /// Reads the next record over another one, whose memory it takes, and answers whether there is
@@ -112,10 +108,8 @@ impl<R: Read> MapReader<R> {
         ensures failed { (fault : _) → HasFailed self.old fault
             → Repeats (Err fault) self.old self.new result }
     {
-        match self.going {
-            Going::On => {}
-            Going::AtEnd => return Ok(false),
-            Going::Failed(fault) => return Err(fault),
+        if !self.going.reads_on()? {
+            return Ok(false);
         }
         match self.source.map_entry::<A>(into) {
             Ok(Entry::Closed) => Ok(true),

@@ -82,12 +82,8 @@ impl<R: Read, L: Width> RecordReader<R, L> {
         ensures failed { (fault : _) → HasFailed self.old fault
             → Repeats (Err fault) self.old self.new result }
     {
-        let mut record = Record {
-            key: Vec::new(self.alloc),
-            value: Vec::new(self.alloc),
-        };
-        let given = self.read_into(&mut record)?;
-        if given { Ok(Some(record)) } else { Ok(None) }
+        let mut record = Record::empty(self.alloc);
+        Ok(self.read_into(&mut record)?.then_some(record))
     }
 
     /// Reads the next record over another one, whose memory it takes, and answers whether there is

@@ -1,8 +1,8 @@
 -- The records that a walk has given, as a check keeps them.
-use Rattle.std.proofs.Common.{◌≡◌, ℕ, ◌+◌, ◌<◌, ◌≤◌, List, [], ◌∷◌, ◌++◌, length, sym, ap, ◌∙◌, subst, append_assoc, arith}
+use Rattle.std.proofs.Common.{◌≡◌, ℕ, ◌+◌, ◌<◌, ◌≤◌, List, [], ◌∷◌, ◌++◌, length, sym, ap, ◌∙◌, subst, arith}
 use Rattle.std.specs.Prelude.{sum_by}
 use Rattle.std.proofs.lemmas.List.{append-nil}
-use Rattle.std.proofs.lemmas.List.Sums.{sum_by-append, sum_by-cons}
+use Rattle.std.proofs.lemmas.List.Sums.{sum_by-cons}
 use Rattle.cdb_form.specs.Format.Hash.{key_hash}
 use Rattle.cdb_form.specs.Format.Pair.{WordPair, head_size}
 use Rattle.cdb_form.specs.Format.Record.{KeyValue, record_size}
@@ -15,7 +15,7 @@ use Rattle.cdb_read.specs.Views.Walking.{record_in, behind, LiesAt}
 use Rattle.cdb_read.specs.declared.checking.table_records.TableRecords.{TableRecords}
 use Rattle.cdb_read.specs.declared.span.PlacedRecord.{PlacedRecord}
 use Rattle.cdb_read.proofs.Lists.Rising.{rising_entries, rising_from_one}
-use Rattle.cdb_read.proofs.Walked.WalkedLengths.{length_of}
+use Rattle.cdb_read.proofs.Walked.WalkedLengths.{given_one, ends_behind}
 
 -- some records were given, which are kept, and then what is left of the walk, from a place on
 pub record EnteredSoFar (w : ℕ) (b : List ℕ) (left : Walked) (place : ℕ) (lists : List TableRecords) : Type 0 where
@@ -50,24 +50,15 @@ pub entered_more : (w place next : ℕ) (b : List ℕ) (old new : Walked) (pair 
 entered_more w place next b old new pair hash kept now some so_far first lies ends inside hashed more =
     let r = record_in b pair in
     let done = so_far.done in
-    let after = lies.value in
-    let key_at = lies.key in
-    let at = lies.here in
-    let was = so_far.here in
-    let key : length (bytes_of b pair.key) ≡ pair.key.len = length_of b pair.key (omega arith) in
-    let value : length (bytes_of b pair.value) ≡ pair.value.len = length_of b pair.value inside in
-    let sum : sum_by (record_size w) (done ++ r ∷ []) ≡ sum_by (record_size w) done + record_size w r = omega (arith, sum_by-append (record_size w) done (r ∷ []), sum_by-cons (record_size w) r []) in
-    let there : pair.place ≡ head_size w + sum_by (record_size w) done = omega arith in
+    let there : pair.place ≡ head_size w + sum_by (record_size w) done = lies.here ∙ so_far.here in
     let entry : file_entries w done ++ record { first = hash; second = pair.place } ∷ [] ≡ file_entries w (done ++ r ∷ []) =
     ap (λ (h : ℕ). let e : WordPair = record { first = h; second = pair.place } in file_entries w done ++ e ∷ []) hashed
     ∙ ap (λ (p : ℕ). let e : WordPair = record { first = key_hash r.key; second = p } in file_entries w done ++ e ∷ []) there
     ∙ sym (entries_push w (head_size w) done r) in
     record {
       done = done ++ r ∷ [];
-      all = so_far.all
-          ∙ ap (with_records done) first
-          ∙ ap (λ rs. let walk : Walked = record { records = rs; damage = new.damage } in walk) (sym (append_assoc done (r ∷ []) new.records));
-      here = omega arith;
+      all = given_one w b done old new r so_far.all first;
+      here = ends_behind b done so_far.here lies ends inside;
       marks = subst (λ t. ListsMark now t []) entry (more (file_entries w done) so_far.marks
           (subst (IsRising 1) (sym entry) (rising_from_one (head_size w) (file_entries w (done ++ r ∷ [])) (omega arith) (rising_entries w (head_size w) (done ++ r ∷ []) some))));
     }

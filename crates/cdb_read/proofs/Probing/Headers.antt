@@ -1,5 +1,5 @@
 -- What a header that was read says of the record at its place.
-use Rattle.std.proofs.Common.{◌≡◌, ◌≢◌, ℕ, ◌+◌, ◌*◌, ◌<◌, ◌≤◌, Bool, true, false, List, length, take, drop, refl, sym, ap, ◌∙◌, arith, inl, inr}
+use Rattle.std.proofs.Common.{◌≡◌, ◌≢◌, ℕ, ◌+◌, ◌-◌, ◌*◌, ◌<◌, ◌≤◌, Bool, true, false, List, length, take, drop, refl, sym, ap, ◌∙◌, arith, inl, inr}
 use Rattle.std.specs.Prelude.{bytes_eq, nat_le}
 use Rattle.std.proofs.lemmas.Bool.{le-leb, leb-true, and_from, cases_Bool, cases_lt, both_ways}
 use Rattle.std.specs.Bool.{Decides}
@@ -13,11 +13,16 @@ use Rattle.cdb_form.specs.Format.Walk.{prefix_size, prefix_record}
 use Rattle.cdb_form.specs.Views.Pairs.{header_pair}
 use Rattle.cdb_form.specs.declared.header.Header.{Header}
 use Rattle.cdb_form.proofs.Bytes.WordLemmas.{pair_at-take}
+use Rattle.cdb_read.proofs.Bytes.Windows.{holds_shown}
 use Rattle.cdb_read.proofs.Probing.Beginnings.{and_true}
 use Rattle.cdb_read.specs.Lookup.{is_whole, value_span}
 use Rattle.cdb_read.specs.Views.Search.{TellsSame, LooksAt}
 use Rattle.cdb_read.specs.declared.lookup.key_at.Look.TheVariants as look
+use Rattle.cdb_read.specs.Views.Spans.{HasSpans}
+use Rattle.cdb_read.specs.declared.span.PlacedRecord.{PlacedRecord}
 use Rattle.cdb_read.specs.declared.span.Span.{Span}
+use Rattle.cdb_read.specs.Views.Window.{Shows, Covers}
+use Rattle.cdb_read.specs.declared.window.Window.{Window}
 
 -- in each image, of n bytes, the record at a place has lengths k and v
 pub record HasLengths (w p k v n : ℕ) (images : List ℕ → Type 0) : Type 0 where
@@ -44,6 +49,11 @@ has_lengths {w = w} {p = p} {bytes = bytes} h l e r long =
       value = λ b is. ap (λ (q : WordPair). let s : Span = record { place = p + 2 * w + q.first; len = q.second } in s) (same b is);
       long = long;
     }
+
+-- the header that was read of a window
+pub lengths_shown : {w p size n : ℕ} {window : Window} {bytes : List ℕ} {images : List ℕ → Type 0} (h : Header) → Shows window images → Covers window p size → bytes ≡ part (p - window.place) size window.bytes → length bytes ≡ size → size ≡ 2 * w
+    → header_pair h ≡ pair_at w bytes → ((b : List ℕ) → images b → length b ≡ n) → HasLengths w p h.klen h.vlen n images
+lengths_shown h shows covers is long pair read size = has_lengths h (long ∙ pair) read (holds_shown shows covers is long) size
 
 pub fewer_lengths : {w p k v n : ℕ} {old new : List ℕ → Type 0} → ((b : List ℕ) → new b → old b) → HasLengths w p k v n old → HasLengths w p k v n new
 fewer_lengths few h = record {
@@ -97,35 +107,62 @@ no_room {w = w} {p = p} key h lt = record {
 whole_here : {w p k v n : ℕ} {images : List ℕ → Type 0} → HasLengths w p k v n images → head_size w ≤ p → p + (2 * w + k + v) ≤ n → (b : List ℕ) → images b → is_whole w b p ≡ true
 whole_here {w = w} {p = p} h low fits b is = whole w b p low (let m = h.long b is in let s = h.size b is in omega arith)
 
+key_behind : {w place limit : ℕ} {h : Header} {pair : PlacedRecord} → HasSpans w place h limit pair → pair.key.place ≡ place + 2 * w
+key_behind has =
+    let lies = has.lies in
+    let here = lies.here in
+    let key = lies.key in
+    omega arith
+
+-- the record ends before the limit
+spans_fit : {w place limit : ℕ} {h : Header} {pair : PlacedRecord} → HasSpans w place h limit pair → place + (2 * w + h.klen + h.vlen) ≤ limit
+spans_fit has =
+    let at = key_behind has in
+    let value = has.lies.value in
+    let klen = has.klen in
+    let vlen = has.vlen in
+    let before = has.before in
+    omega arith
+
 -- another length, another key
-pub other_length : {w p k v n : ℕ} {images : List ℕ → Type 0} (key : List ℕ) → HasLengths w p k v n images → head_size w ≤ p → p + (2 * w + k + v) ≤ n → k ≢ length key → LooksAt w key p look.Other images
-other_length {w = w} {p = p} {k = k} key h low fits ne = record {
+pub other_length : {w p n : ℕ} {head : Header} {pair : PlacedRecord} {images : List ℕ → Type 0} (key : List ℕ) → HasLengths w p head.klen head.vlen n images → head_size w ≤ p → HasSpans w p head n pair → pair.key.len ≢ length key → LooksAt w key p look.Other images
+other_length {w = w} {p = p} {head = head} key h low has ne = record {
   each = λ b is.
-      let l = h.long b is in (
+      let l = h.long b is in
+      let fits = spans_fit has in (
         whole_here h low fits b is,
         unequal ((prefix_record w (drop p b)).key) key
             (λ same.
-            let y : length (part (p + 2 * w) k b) ≡ k = length-part (p + 2 * w) k b (omega arith) in
-            ne (sym y ∙ ap length (sym (h.key b is) ∙ same))),
+            let y : length (part (p + 2 * w) head.klen b) ≡ head.klen = length-part (p + 2 * w) head.klen b (omega arith) in
+            ne (has.klen ∙ sym y ∙ ap length (sym (h.key b is) ∙ same))),
       );
 }
 
-pub other_key : {w p k v n : ℕ} {images : List ℕ → Type 0} (place : ℕ) (key : List ℕ) → place ≡ p + 2 * w → k ≡ length key → HasLengths w p k v n images → head_size w ≤ p → p + (2 * w + k + v) ≤ n → TellsSame false place key images → LooksAt w key p look.Other images
-other_key {w = w} {p = p} {k = k} place key at same h low fits tells = record {
+-- the key that stands there
+key_here : {w p n : ℕ} {head : Header} {pair : PlacedRecord} {images : List ℕ → Type 0} (key : List ℕ) → HasLengths w p head.klen head.vlen n images → HasSpans w p head n pair → pair.key.len ≡ length key → (b : List ℕ) → images b → (prefix_record w (drop p b)).key ≡ part pair.key.place (length key) b
+key_here {w = w} {p = p} key h has same b is = h.key b is ∙ ap (λ v. part (p + 2 * w) v b) (sym has.klen ∙ same) ∙ ap (λ v. part v (length key) b) (sym (key_behind has))
+
+pub other_key : {w p n : ℕ} {head : Header} {pair : PlacedRecord} {images : List ℕ → Type 0} (key : List ℕ) → HasLengths w p head.klen head.vlen n images → head_size w ≤ p → HasSpans w p head n pair → pair.key.len ≡ length key → TellsSame false pair.key.place key images → LooksAt w key p look.Other images
+other_key {w = w} {p = p} key h low has same tells = record {
   each = λ b is. (
-    whole_here h low fits b is,
+    whole_here h low (spans_fit has) b is,
     unequal ((prefix_record w (drop p b)).key) key
         (λ eq.
-        let both = (tells.each b is).1 (ap (λ v. part v (length key) b) at ∙ ap (λ v. part (p + 2 * w) v b) (sym same) ∙ sym (h.key b is) ∙ eq) in
+        let both = (tells.each b is).1 (sym (key_here key h has same b is) ∙ eq) in
         cc),
   );
 }
 
-pub same_key : {w p k v n : ℕ} {images : List ℕ → Type 0} (place : ℕ) (key : List ℕ) (span : Span) → place ≡ p + 2 * w → span.place ≡ p + 2 * w + k → span.len ≡ v → k ≡ length key → HasLengths w p k v n images → head_size w ≤ p → p + (2 * w + k + v) ≤ n → TellsSame true place key images → LooksAt w key p (look.Value span) images
-same_key {w = w} {p = p} {k = k} place key span at here long same h low fits tells = record {
-  each = λ b is. (
-    whole_here h low fits b is,
-    (bytes_eq-Decides ((prefix_record w (drop p b)).key) key).1 (h.key b is ∙ ap (λ v. part (p + 2 * w) v b) same ∙ ap (λ v. part v (length key) b) (sym at) ∙ (tells.each b is).0 refl),
-    ap (λ q. let s : Span = record { place = q; len = span.len } in s) here ∙ ap (λ q. let s : Span = record { place = p + 2 * w + k; len = q } in s) long ∙ sym (h.value b is),
-  );
-}
+pub same_key : {w p n : ℕ} {head : Header} {pair : PlacedRecord} {images : List ℕ → Type 0} (key : List ℕ) → HasLengths w p head.klen head.vlen n images → head_size w ≤ p → HasSpans w p head n pair → pair.key.len ≡ length key → TellsSame true pair.key.place key images → LooksAt w key p (look.Value pair.value) images
+same_key {w = w} {p = p} {head = head} {pair = pair} key h low has same tells =
+    let at = key_behind has in
+    let behind = has.lies.value in
+    let klen = has.klen in
+    let here : pair.value.place ≡ p + 2 * w + head.klen = omega arith in
+    record {
+      each = λ b is. (
+        whole_here h low (spans_fit has) b is,
+        (bytes_eq-Decides ((prefix_record w (drop p b)).key) key).1 (key_here key h has same b is ∙ (tells.each b is).0 refl),
+        ap (λ q. let s : Span = record { place = q; len = pair.value.len } in s) here ∙ ap (λ q. let s : Span = record { place = p + 2 * w + head.klen; len = q } in s) has.vlen ∙ sym (h.value b is),
+      );
+    }

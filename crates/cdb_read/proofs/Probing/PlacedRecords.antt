@@ -134,15 +134,3 @@ spans_within rest w h {n = n} (Some pair) least same has =
     let right = min-le_right n rest.end in
     let early = has.before in
     record { lies = has.lies; before = omega arith; inside = omega arith }
-
--- the record ends before the limit
-pub spans_fit : {w place limit : ℕ} {h : Header} {pair : PlacedRecord} → HasSpans w place h limit pair → place + (2 * w + h.klen + h.vlen) ≤ limit
-spans_fit has =
-    let lies = has.lies in
-    let here = lies.here in
-    let key = lies.key in
-    let value = lies.value in
-    let klen = has.klen in
-    let vlen = has.vlen in
-    let before = has.before in
-    omega arith

@@ -1,12 +1,14 @@
 -- The lengths of the records that a walk has given.
 use Rattle.std.proofs.Common.{◌≡◌, ℕ, ◌+◌, ◌<◌, ◌≤◌, ◌⊎◌, inl, inr, List, [], ◌∷◌, ◌++◌, length, sym, ap, ◌∙◌, subst, append_assoc, arith}
-use Rattle.std.specs.Prelude.{Some}
+use Rattle.std.specs.Prelude.{Some, sum_by}
+use Rattle.std.proofs.lemmas.List.Sums.{sum_by-append, sum_by-cons}
+use Rattle.cdb_form.specs.Format.Pair.{head_size}
 use Rattle.cdb_store.specs.declared.store.Store.{Ghosts}
 use Rattle.cdb_form.specs.declared.width.Width.{Ghosts as Widths}
 use Rattle.cdb_form.specs.declared.damage.Damage.TheVariants as damage
 use Rattle.std.proofs.lemmas.List.{map-append, append-nil}
 use Rattle.cdb_store.proofs.Parts.{length-part}
-use Rattle.cdb_form.specs.Format.Record.{KeyValue}
+use Rattle.cdb_form.specs.Format.Record.{KeyValue, record_size}
 use Rattle.cdb_form.specs.Format.Walk.{Walked, walk_of, no_walk, damaged, with_first, with_records}
 use Rattle.cdb_form.specs.declared.damage.Damage.{Damage}
 use Rattle.cdb_read.specs.Lookup.{bytes_of}
@@ -39,6 +41,24 @@ walked_none w b left keys values is no_keys no_values = record { done = []; all 
 pub length_of : (b : List ℕ) (span : Span) → span.place + span.len ≤ length b → length (bytes_of b span) ≡ span.len
 length_of b span inside = length-part span.place span.len b inside
 
+-- one record more was given
+pub given_one : (w : ℕ) (b : List ℕ) (done : List KeyValue) (old new : Walked) (r : KeyValue) → walk_of w b ≡ with_records done old → old ≡ with_first r new → walk_of w b ≡ with_records (done ++ r ∷ []) new
+given_one w b done old new r all first =
+    all ∙ ap (with_records done) first ∙ ap (λ rs. let walk : Walked = record { records = rs; damage = new.damage } in walk) (sym (append_assoc done (r ∷ []) new.records))
+
+-- where it ends
+pub ends_behind : {w place next : ℕ} {pair : PlacedRecord} (b : List ℕ) (done : List KeyValue) → place ≡ head_size w + sum_by (record_size w) done → LiesAt w place pair → next ≡ behind pair → behind pair ≤ length b
+    → next ≡ head_size w + sum_by (record_size w) (done ++ record_in b pair ∷ [])
+ends_behind {w = w} {pair = pair} b done was lies ends inside =
+    let r = record_in b pair in
+    let after = lies.value in
+    let key_at = lies.key in
+    let at = lies.here in
+    let key : length (bytes_of b pair.key) ≡ pair.key.len = length_of b pair.key (omega arith) in
+    let value : length (bytes_of b pair.value) ≡ pair.value.len = length_of b pair.value inside in
+    let sum : sum_by (record_size w) (done ++ r ∷ []) ≡ sum_by (record_size w) done + record_size w r = omega (arith, sum_by-append (record_size w) done (r ∷ []), sum_by-cons (record_size w) r []) in
+    omega arith
+
 pub walked_more : (w place : ℕ) (b : List ℕ) (old new : Walked) (keys values keys_now values_now : Spread) (pair : PlacedRecord) → WalkedSoFar w b old keys values → old ≡ with_first (record_in b pair) new → LiesAt w place pair → behind pair ≤ length b
     → ((ns : List ℕ) → Spreads keys ns → Spreads keys_now (ns ++ pair.key.len ∷ [])) → ((ns : List ℕ) → Spreads values ns → Spreads values_now (ns ++ pair.value.len ∷ [])) → WalkedSoFar w b new keys_now values_now
 walked_more w place b old new keys values keys_now values_now pair so_far first lies inside add_key add_value =
@@ -49,9 +69,7 @@ walked_more w place b old new keys values keys_now values_now pair so_far first 
     let value : length (bytes_of b pair.value) ≡ pair.value.len = length_of b pair.value inside in
     record {
       done = done ++ r ∷ [];
-      all = so_far.all
-          ∙ ap (with_records done) first
-          ∙ ap (λ rs. let walk : Walked = record { records = rs; damage = new.damage } in walk) (sym (append_assoc done (r ∷ []) new.records));
+      all = given_one w b done old new r so_far.all first;
       keys = subst (Spreads keys_now) (ap (λ n. key_lengths done ++ n ∷ []) (sym key) ∙ sym (map-append (λ (x : KeyValue). length x.key) done (r ∷ []))) (add_key (key_lengths done) so_far.keys);
       values = subst (Spreads values_now) (ap (λ n. value_lengths done ++ n ∷ []) (sym value) ∙ sym (map-append (λ (x : KeyValue). length x.value) done (r ∷ []))) (add_value (value_lengths done) so_far.values);
     }

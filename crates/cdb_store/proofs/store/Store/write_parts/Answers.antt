@@ -29,7 +29,6 @@ returns-clause-ok g c =
     let first : List ℕ = c.args.first.now in
     let second : List ℕ = c.args.second.now in
     let third : List ℕ = c.args.third.now in
-    let before = c.reserve.new.self in
     let next = c.write_at-2.new.self in
     let last = c.write_at-4.new.self in
     let sized : (s : _) → AreSized (g.Self.Store.size s) (g.Self.Store.image s) = λ s. record { each = g.met.Self.Store.image_size s } in
@@ -37,7 +36,7 @@ returns-clause-ok g c =
     let rest : AfterWrite (c.args.pos + length first) (second ++ third) (g.Self.Store.image next) (g.Self.Store.image last) =
     write_more (omega arith) (omega (arith, c.in_ok-write_at.ensures.ok_size)) (sized next) c.in_ok-write_at-2.ensures.ok w in
     write_between c.reserve.ensures.images
-    (write_more (omega arith) (omega arith) (sized before) c.in_ok-write_at.ensures.ok rest)
+    (write_more (omega arith) (omega arith) (sized c.reserve.new.self) c.in_ok-write_at.ensures.ok rest)
     (same_refl (g.Self.Store.image last)))
     c.write_at-4.ensures.ok
 
@@ -46,12 +45,10 @@ returns-clause-torn g c =
     let first : List ℕ = c.args.first.now in
     let second : List ℕ = c.args.second.now in
     let third : List ℕ = c.args.third.now in
-    let before = c.reserve.new.self in
-    let next = c.write_at-2.new.self in
     let last = c.write_at-4.new.self in
     let sized : (s : _) → AreSized (g.Self.Store.size s) (g.Self.Store.image s) = λ s. record { each = g.met.Self.Store.image_size s } in
-    let rest : AfterTornWrite (c.args.pos + length first) (length second + length third) (g.Self.Store.image next) (g.Self.Store.image last) =
-    torn_behind (omega arith) (omega arith) (omega (arith, c.in_ok-write_at.ensures.ok_size)) (sized next) c.in_ok-write_at-2.ensures.ok c.write_at-4.ensures.torn in
+    let rest : AfterTornWrite (c.args.pos + length first) (length second + length third) (g.Self.Store.image c.write_at-2.new.self) (g.Self.Store.image last) =
+    torn_behind (omega arith) (omega arith) (omega (arith, c.in_ok-write_at.ensures.ok_size)) (sized c.write_at-2.new.self) c.in_ok-write_at-2.ensures.ok c.write_at-4.ensures.torn in
     torn_between c.reserve.ensures.images
-    (torn_behind (omega arith) (omega (arith, length-append first (second ++ third), length-append second third)) (omega arith) (sized before) c.in_ok-write_at.ensures.ok rest)
+    (torn_behind (omega arith) (omega (arith, length-append first (second ++ third), length-append second third)) (omega arith) (sized c.reserve.new.self) c.in_ok-write_at.ensures.ok rest)
     (same_refl (g.Self.Store.image last))

@@ -52,12 +52,11 @@ returns-then-not-has-clause-are g c =
 pub returns-then-not-has-clause-run : goal.returns-then-not-has-clause-run
 returns-then-not-has-clause-run g c =
     let e = c.in_ok-byte.ensures in
-    let b = c.in-Some.byte in
     let so = c.loop-self.invariant in
     let m = c.in_ok-keep_at_hand.ensures.moved in
     let read = rw c.in-Some.is at e.bytes in
     let counted = rw c.in-Some.is at e.counted in
-    let other : is_of c.args.kind b ≡ false = grind arith in
+    let other : is_of c.args.kind c.in-Some.byte ≡ false = grind arith in
     let run = run_at_hand _ _ _ _ _ so.run.0 _ _ so.run.2 m in
     let kept = kept_at_hand _ _ so.run.0 m.bytes _ m.moved so.run.1 in
     (so.run.0 ++ m.bytes, kept, run_stopped _ _ _ _ _ _ _ run read counted e.spends other)
