@@ -152,7 +152,8 @@ impl<W: Write> Sink for Output<W> {
         ensures handed { HasHandedOn self.new }
         ensures sound { OnOk result (self.new.failed ≡ self.old.failed) }
     {
-        self.hand_on()?;
+        let handed = self.hand_on();
+        handed?;
         let flushed = flush_whole(&mut self.writer);
         self.failed |= flushed.is_err();
         flushed
