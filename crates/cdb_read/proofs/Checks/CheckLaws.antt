@@ -1,5 +1,5 @@
 -- What the parts of a check come to.
-use Rattle.std.proofs.Common.{◌≡◌, ℕ, ◌<◌, ◌≤◌, true, false, List, length, map, get_or, refl, sym, ap, ◌∙◌, arith}
+use Rattle.std.proofs.Common.{◌≡◌, ℕ, ◌<◌, ◌≤◌, true, false, List, length, map, get_or, refl, sym, ap, subst, ◌∙◌, arith}
 use Rattle.std.specs.Prelude.{All, Option, Some, None, option_map, position}
 use Rattle.std.specs.List.{range_with_len}
 use Rattle.std.specs.Option.{option_or}
@@ -64,47 +64,59 @@ pub record IsWhole (w : ℕ) (b : List ℕ) (ps : List Pointer) : Type 0 where
   pub many : length ps ≡ 256
   pub known : head_at w b ≡ map pointer_pair ps
 
+-- and they do
+pub record HasTables (w : ℕ) (b : List ℕ) (ps : List Pointer) : Type 0 where
+  pub whole : IsWhole w b ps
+  pub inside : All (StandsInside w (length b)) (map pointer_pair ps)
+
+-- in an image of a store of n bytes, m of which are seen
+pub has_tables : {w n m : ℕ} {b : List ℕ} (ps : List Pointer) → head_size w ≤ n → length ps ≡ 256 → head_at w b ≡ map pointer_pair ps → length b ≡ n → m ≡ n → All (StandsInside w m) (map pointer_pair ps) → HasTables w b ps
+has_tables {w = w} ps long many known size seen inside = record {
+  whole = record { head = omega (arith, long, size); many = many; known = known };
+  inside = subst (λ (k : ℕ). All (StandsInside w k) (map pointer_pair ps)) (seen ∙ sym size) inside;
+}
+
 -- a fault, or none, by the parts of a file in turn
 pub first_is_table : (w n : ℕ) (b : List ℕ) (ps : List Pointer) → IsWhole w b ps → Some n ≡ position (is_outside w b) (map pointer_pair ps) → IsFirst w b (Table n)
 first_is_table w n b ps whole is =
     first_fault-whole w b whole.head
     ∙ ap (λ x. option_or x (option_or (walk_of w b).damage (option_or (first_of (slots_fault w b (walk_entries w b)) (range_with_len 0 256)) (first_of (entry_fault w b) (walk_entries w b))))) (table_first w n b ps whole.many whole.known (sym is))
 
-behind_tables : (w : ℕ) (b : List ℕ) (ps : List Pointer) → IsWhole w b ps → All (StandsInside w (length b)) (map pointer_pair ps)
+behind_tables : (w : ℕ) (b : List ℕ) (ps : List Pointer) → HasTables w b ps
     → first_fault w b ≡ option_or (walk_of w b).damage (option_or (first_of (slots_fault w b (walk_entries w b)) (range_with_len 0 256)) (first_of (entry_fault w b) (walk_entries w b)))
-behind_tables w b ps whole inside =
-    first_fault-whole w b whole.head
-    ∙ ap (λ x. option_or x (option_or (walk_of w b).damage (option_or (first_of (slots_fault w b (walk_entries w b)) (range_with_len 0 256)) (first_of (entry_fault w b) (walk_entries w b))))) (tables_inside w b ps whole.many whole.known inside)
+behind_tables w b ps tables =
+    first_fault-whole w b tables.whole.head
+    ∙ ap (λ x. option_or x (option_or (walk_of w b).damage (option_or (first_of (slots_fault w b (walk_entries w b)) (range_with_len 0 256)) (first_of (entry_fault w b) (walk_entries w b))))) (tables_inside w b ps tables.whole.many tables.whole.known tables.inside)
 
-pub first_in_walk : (w : ℕ) (b : List ℕ) (ps : List Pointer) (d : Damage) → IsWhole w b ps → All (StandsInside w (length b)) (map pointer_pair ps) → WalkHas w b d → IsFirst w b d
-first_in_walk w b ps d whole inside has =
-    behind_tables w b ps whole inside
+pub first_in_walk : (w : ℕ) (b : List ℕ) (ps : List Pointer) (d : Damage) → HasTables w b ps → WalkHas w b d → IsFirst w b d
+first_in_walk w b ps d tables has =
+    behind_tables w b ps tables
     ∙ ap (λ x. option_or x (option_or (first_of (slots_fault w b (walk_entries w b)) (range_with_len 0 256)) (first_of (entry_fault w b) (walk_entries w b)))) has
 
-behind_walk : (w : ℕ) (b : List ℕ) (ps : List Pointer) (kept : List TableRecords) → IsWhole w b ps → All (StandsInside w (length b)) (map pointer_pair ps) → HasEntries w b kept
+behind_walk : (w : ℕ) (b : List ℕ) (ps : List Pointer) (kept : List TableRecords) → HasTables w b ps → HasEntries w b kept
     → first_fault w b ≡ option_or (first_of (slots_fault w b (walk_entries w b)) (range_with_len 0 256)) (first_of (entry_fault w b) (walk_entries w b))
-behind_walk w b ps kept whole inside has =
-    behind_tables w b ps whole inside
+behind_walk w b ps kept tables has =
+    behind_tables w b ps tables
     ∙ ap (λ x. option_or x (option_or (first_of (slots_fault w b (walk_entries w b)) (range_with_len 0 256)) (first_of (entry_fault w b) (walk_entries w b)))) has.whole
 
-pub first_in_slots : (w : ℕ) (b : List ℕ) (ps : List Pointer) (kept : List TableRecords) (d : Damage) → IsWhole w b ps → All (StandsInside w (length b)) (map pointer_pair ps) → HasEntries w b kept → TablesHave w kept b d → IsFirst w b d
-first_in_slots w b ps kept d whole inside has slots =
-    behind_walk w b ps kept whole inside has
+pub first_in_slots : (w : ℕ) (b : List ℕ) (ps : List Pointer) (kept : List TableRecords) (d : Damage) → HasTables w b ps → HasEntries w b kept → TablesHave w kept b d → IsFirst w b d
+first_in_slots w b ps kept d tables has slots =
+    behind_walk w b ps kept tables has
     ∙ ap (λ x. option_or x (first_of (entry_fault w b) (walk_entries w b))) (slots (walk_entries w b) has.marks)
 
-behind_slots : (w : ℕ) (b : List ℕ) (ps : List Pointer) (kept marked : List TableRecords) (lost : Option ℕ) → IsWhole w b ps → All (StandsInside w (length b)) (map pointer_pair ps) → HasEntries w b kept → TablesAreClear w b kept marked
+behind_slots : (w : ℕ) (b : List ℕ) (ps : List Pointer) (kept marked : List TableRecords) (lost : Option ℕ) → HasTables w b ps → HasEntries w b kept → TablesAreClear w b kept marked
     → ((entries slots : List WordPair) → ListsMark marked entries slots → option_map (λ place. Unindexed place) lost ≡ first_of (lost_fault slots) entries) → first_fault w b ≡ option_map (λ place. Unindexed place) lost
-behind_slots w b ps kept marked lost whole inside has clear unmarked =
-    behind_walk w b ps kept whole inside has
+behind_slots w b ps kept marked lost tables has clear unmarked =
+    behind_walk w b ps kept tables has
     ∙ ap (λ x. option_or x (first_of (entry_fault w b) (walk_entries w b))) (clear.none (walk_entries w b) has.marks)
     ∙ sym (unmarked (walk_entries w b) (all_slots w b) (clear.marks (walk_entries w b) has.marks))
 
-pub first_is_lost : (w place : ℕ) (b : List ℕ) (ps : List Pointer) (kept marked : List TableRecords) (lost : Option ℕ) → lost ≡ Some place → IsWhole w b ps → All (StandsInside w (length b)) (map pointer_pair ps) → HasEntries w b kept → TablesAreClear w b kept marked
+pub first_is_lost : (w place : ℕ) (b : List ℕ) (ps : List Pointer) (kept marked : List TableRecords) (lost : Option ℕ) → lost ≡ Some place → HasTables w b ps → HasEntries w b kept → TablesAreClear w b kept marked
     → ((entries slots : List WordPair) → ListsMark marked entries slots → option_map (λ place. Unindexed place) lost ≡ first_of (lost_fault slots) entries) → IsFirst w b (Unindexed place)
-first_is_lost w place b ps kept marked lost e whole inside has clear unmarked =
-    behind_slots w b ps kept marked lost whole inside has clear unmarked ∙ ap (option_map (λ place. Unindexed place)) e
+first_is_lost w place b ps kept marked lost e tables has clear unmarked =
+    behind_slots w b ps kept marked lost tables has clear unmarked ∙ ap (option_map (λ place. Unindexed place)) e
 
-pub sound_is : (w : ℕ) (b : List ℕ) (ps : List Pointer) (kept marked : List TableRecords) (lost : Option ℕ) → lost ≡ None → 0 < w → IsWhole w b ps → All (StandsInside w (length b)) (map pointer_pair ps) → HasEntries w b kept → TablesAreClear w b kept marked
+pub sound_is : (w : ℕ) (b : List ℕ) (ps : List Pointer) (kept marked : List TableRecords) (lost : Option ℕ) → lost ≡ None → 0 < w → HasTables w b ps → HasEntries w b kept → TablesAreClear w b kept marked
     → ((entries slots : List WordPair) → ListsMark marked entries slots → option_map (λ place. Unindexed place) lost ≡ first_of (lost_fault slots) entries) → IsSound w b
-sound_is w b ps kept marked lost e some whole inside has clear unmarked =
-    (sound_is_no_damage w b some).1 (behind_slots w b ps kept marked lost whole inside has clear unmarked ∙ ap (option_map (λ place. Unindexed place)) e)
+sound_is w b ps kept marked lost e some tables has clear unmarked =
+    (sound_is_no_damage w b some).1 (behind_slots w b ps kept marked lost tables has clear unmarked ∙ ap (option_map (λ place. Unindexed place)) e)

@@ -48,41 +48,9 @@ fn check_slot(
     Ok(())
 }
 
-/// Checks the slots of table `n`, one after the other, against the records of its list, and marks these.
-/// The run of used slots before each slot is known as the slots pass, so no way to a slot is gone twice.
-fn check_each<S: Store, L: Width>(
-    alloc: Global,
-    store: &mut S,
-    n: u64,
-    table: Pointer,
-    window: &mut Window,
-    entries: &mut TableRecords,
-) -> Result<(), ReadFault>
-    requires inside { StandsInside L.WORD (S.size store.old) (pointer_pair table) }
-    requires fits { S.size store.old < 2 ^ 64 }
-    requires shows { Shows window.old (S.image store.old) }
-    ensures shows { Shows window.new (S.image store.new) }
-    ensures clear { (b : List ℕ) → S.image store.new b → OnOk result
-        (TableIsClear L.WORD n (pointer_pair table) b entries.old entries.new) }
-    ensures reads { OnlyReads S.Store store.old store.new }
-    ensures fails { IfErr result (ReadTells S.Store
-        (TableHas L.WORD n (pointer_pair table) entries.old) store.old store.new) }
-{
-    let directory = entries.directory(alloc);
-    let mut run = last_run::<S, L>(store, table, window)?;
-    for i in 0..table.slots {
-        let slot = slot_at::<S, L>(store, table, i, window, WINDOW)?;
-        if slot.place != 0 {
-            let is_reached = distance_of(table.slots, slot.hash, i) <= run;
-            check_slot(entries, &directory, n, i, slot, is_reached)?;
-        }
-        run = run_with(run, slot);
-    }
-    Ok(())
-}
-
 /// Checks table `n` against the records of its list, and marks these: at once if the table is what they
-/// make of it, else slot by slot.
+/// make of it, else slot by slot. The run of used slots before each slot is known as the slots pass, so no
+/// way to a slot is gone twice.
 fn check_table<S: Store, L: Width>(
     alloc: Global,
     store: &mut S,
@@ -105,7 +73,17 @@ fn check_table<S: Store, L: Width>(
         entries.mark_all();
         return Ok(());
     }
-    check_each::<S, L>(alloc, store, n, table, window, entries)
+    let directory = entries.directory(alloc);
+    let mut run = last_run::<S, L>(store, table, window)?;
+    for i in 0..table.slots {
+        let slot = slot_at::<S, L>(store, table, i, window, WINDOW)?;
+        if slot.place != 0 {
+            let is_reached = distance_of(table.slots, slot.hash, i) <= run;
+            check_slot(entries, &directory, n, i, slot, is_reached)?;
+        }
+        run = run_with(run, slot);
+    }
+    Ok(())
 }
 
 /// Checks the slots of all tables, each against the records of its list alone, and marks these.

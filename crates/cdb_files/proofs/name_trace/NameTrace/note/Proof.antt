@@ -50,14 +50,14 @@ note_spec 𝓤 𝓛 𝓜 𝓡 wired =
     let at : List Val × (List Val × (List Val × (List Val × (List Val × Unit {0})))) =
     (vptr b o ∷ [], (vptr a.1.0.ref_ptr.0 a.1.0.ref_ptr.1 ∷ [], (slice_val s.ref_ptr (length s.now) ∷ [], (slice_val t.ref_ptr (length t.now) ∷ [], (vptr a.1.1.1.1.0.ref_ptr.0 a.1.1.1.1.0.ref_ptr.1 ∷ [], tt))))) in
     via 𝓤 _ (fst∗ 𝓤 _ (emp 𝓤)) (
-      qed 𝓛 ((‵ (flft κs.0 qs.0) ⊛ (‵ (flft κs.1.0 qs.1.0) ⊛ (‵ (flft κs.1.1.0 qs.1.1.0) ⊛ (‵ (flft κs.1.1.1.0 qs.1.1.1.0) ⊛ (‵ (flft κs.1.1.1.1.0 qs.1.1.1.1.0) ⊛ ‵ ftrue)))))
-          ∷ ‵ (owns (MutRef (named 0) κs.0 T.the_row ∷ ShrRef (named 1) κs.1.0 K.the_row ∷ ShrSlice (named 2) κs.1.1.0 u8 ∷ ShrSlice (named 3) κs.1.1.1.0 u8 ∷ ShrRef (named 4) κs.1.1.1.1.0 F.the_row ∷ []) a at) ∷ []) ∵ split ! $
-      move ! (2 ∷ []) $ fsplit ! $ fsplit3 ! $ drop ! $ move ! (0 ∷ 1 ∷ 3 ∷ []) $ enter ! _ _ _ _ _ $
-      alloc_all ! (λ l. pass_all ! refl ((tt, tt), ((tt, tt), ((tt, (tt, (record { fits = are.1.1.0.0.1.0 }, tt))), ((tt, (tt, (record { fits = are.1.1.1.0.0.1.0 }, tt))), ((tt, tt), tt))))) $
-      move ! (0 ∷ 1 ∷ 2 ∷ []) $ opens ! tt T.the_row {h = a.0.now} b o (λ vs. sets ! (of_opd ! (unit_lit !)) refl (tt, tt) $
-      move ! (1 ∷ []) $ use1 𝓛 (‵ (T.the_row.own_val h' vs)) (id⊢ 𝓤 _) $ move ! (1 ∷ 0 ∷ []) $ closes ! tt T.the_row h' vs b o $
-      returns ! (look_at ! 0 refl) $ free_all ! refl $ keep ! (0 ∷ 1 ∷ 2 ∷ 3 ∷ 4 ∷ []) $
-      suffices ! _ (ends_at 𝓛 it.ended stayed c ((κs, qs, bounds, a, at), g) vunit tt (h', (tt, (tt, (tt, (tt, tt))))) (tt, (tt, (tt, (tt, (tt, tt)))))) $ says ! refl $
-      move ! (2 ∷ 4 ∷ []) $ join ! $ frame ! $ feq_i ! (List Val) (vptr b o ∷ []) (vptr b o ∷ []) refl $ fjoin3 ! $ fjoin ! $
-      feq_i ! (List Val) (vunit ∷ []) (vunit ∷ []) refl $ move ! (1 ∷ 0 ∷ []) $ done !))
+    qed 𝓛 ((‵ (flft κs.0 qs.0) ⊛ (‵ (flft κs.1.0 qs.1.0) ⊛ (‵ (flft κs.1.1.0 qs.1.1.0) ⊛ (‵ (flft κs.1.1.1.0 qs.1.1.1.0) ⊛ (‵ (flft κs.1.1.1.1.0 qs.1.1.1.1.0) ⊛ ‵ ftrue)))))
+    ∷ ‵ (owns (MutRef (named 0) κs.0 T.the_row ∷ ShrRef (named 1) κs.1.0 K.the_row ∷ ShrSlice (named 2) κs.1.1.0 u8 ∷ ShrSlice (named 3) κs.1.1.1.0 u8 ∷ ShrRef (named 4) κs.1.1.1.1.0 F.the_row ∷ []) a at) ∷ []) ∵ split ! $
+    move ! (2 ∷ []) $ fsplit ! $ fsplit3 ! $ drop ! $ move ! (0 ∷ 1 ∷ 3 ∷ []) $ enter ! _ _ _ _ _ $
+    alloc_all ! (λ l. pass_all ! refl ((tt, tt), ((tt, tt), ((tt, (tt, (record { fits = are.1.1.0.0.1.0 }, tt))), ((tt, (tt, (record { fits = are.1.1.1.0.0.1.0 }, tt))), ((tt, tt), tt))))) $
+    move ! (0 ∷ 1 ∷ 2 ∷ []) $ opens ! tt T.the_row {h = a.0.now} b o (λ vs. sets ! (of_opd ! (unit_lit !)) refl (tt, tt) $
+    move ! (1 ∷ []) $ use1 𝓛 (‵ (T.the_row.own_val h' vs)) (id⊢ 𝓤 _) $ move ! (1 ∷ 0 ∷ []) $ closes ! tt T.the_row h' vs b o $
+    returns ! (look_at ! 0 refl) $ free_all ! refl $ keep ! (0 ∷ 1 ∷ 2 ∷ 3 ∷ 4 ∷ []) $
+    suffices ! _ (ends_at 𝓛 it.ended stayed c ((κs, qs, bounds, a, at), g) vunit tt (h', (tt, (tt, (tt, (tt, tt))))) (tt, (tt, (tt, (tt, (tt, tt)))))) $ says ! refl $
+    move ! (2 ∷ 4 ∷ []) $ join ! $ frame ! $ feq_i ! (List Val) (vptr b o ∷ []) (vptr b o ∷ []) refl $ fjoin3 ! $ fjoin ! $
+    feq_i ! (List Val) (vunit ∷ []) (vunit ∷ []) refl $ move ! (1 ∷ 0 ∷ []) $ done !))
     ))

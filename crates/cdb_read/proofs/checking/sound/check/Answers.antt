@@ -1,13 +1,10 @@
-use Rattle.std.proofs.Common.{◌≡◌, ℕ, List, length, take, ◌++◌, map, ap, sym, ◌∙◌, subst, arith}
-use Rattle.std.specs.Prelude.{All}
+use Rattle.std.proofs.Common.{◌≡◌, ℕ, List, length, take, ◌++◌, ap, sym, ◌∙◌, subst, arith}
 use Rattle.std.proofs.Math.Seq.{take-append_seam}
 use Rattle.std.proofs.lemmas.Result.{err_from_is_err_and}
-use Rattle.cdb_form.specs.Views.Pairs.{pointer_pair}
 use Rattle.cdb_read.specs.Views.Check.{CheckFails, IsFirst}
 use Rattle.cdb_read.specs.Views.Checked.{HasEntries, WalkHas, TablesAreClear, TablesHave}
-use Rattle.cdb_read.specs.Views.Inside.{StandsInside}
 use Rattle.cdb_read.specs.declared.checking.table_records.TableRecords.{TableRecords}
-use Rattle.cdb_read.proofs.Checks.CheckLaws.{IsWhole, first_is_table, first_in_walk, first_in_slots, first_is_lost, sound_is}
+use Rattle.cdb_read.proofs.Checks.CheckLaws.{IsWhole, has_tables, first_is_table, first_in_walk, first_in_slots, first_is_lost, sound_is}
 use Rattle.cdb_read.proofs.Checks.Tells.{read_tells, check_tells, check_tells_more}
 use Rattle.cdb_read.proofs.Walked.WalkedLengths.{some_word}
 use Rattle.std.proofs.lemmas.Grind.{common_steps}
@@ -34,9 +31,8 @@ returns-in_err-lists-clause-fails g c =
     check_tells_more g.S.Store (WalkHas w) (IsFirst w) r.store c.walk_entries.new.reader.store c.in_err-lists.field-0.0
     (λ b d is has.
     let was = c.walk_entries.ensures.reads.images b is in
-    let size = g.met.S.Store.image_size r.store b was in
-    let whole : IsWhole w b r.head.pointers = record { head = omega (arith, r.long, size); many = omega arith; known = r.known b was } in
-    first_in_walk w b r.head.pointers d whole (subst (λ (n : ℕ). All (StandsInside w n) (map pointer_pair r.head.pointers)) (c.len.ensures ∙ sym size) c.in_default.ensures.inside) has)
+    let tables = has_tables r.head.pointers r.long (omega arith) (r.known b was) (g.met.S.Store.image_size r.store b was) c.len.ensures c.in_default.ensures.inside in
+    first_in_walk w b r.head.pointers d tables has)
     c.in_err-lists.ensures.fails in
     rw (q.1, q.2) fails
 
@@ -53,38 +49,31 @@ returns-in_err-check_slots-clause-fails g c =
     (λ b d is has.
     let walked = c.check_slots.ensures.reads.images b is in
     let was = c.walk_entries.ensures.reads.images b walked in
-    let size = g.met.S.Store.image_size r.store b was in
-    let whole : IsWhole w b r.head.pointers = record { head = omega (arith, r.long, size); many = omega arith; known = r.known b was } in
-    first_in_slots w b r.head.pointers c.deref_mut.result.now d whole (subst (λ (n : ℕ). All (StandsInside w n) (map pointer_pair r.head.pointers)) (c.len.ensures ∙ sym size) c.in_default.ensures.inside)
+    let tables = has_tables r.head.pointers r.long (omega arith) (r.known b was) (g.met.S.Store.image_size r.store b was) c.len.ensures c.in_default.ensures.inside in
+    first_in_slots w b r.head.pointers c.deref_mut.result.now d tables
     (subst (HasEntries w b) (sym c.deref_mut.ensures.value) (c.in_ok-lists.ensures.entries b walked)) has)
     c.in_err-check_slots.ensures.fails) in
     rw (q.1, q.2) fails
 
 pub returns-in-Some-first_unmarked-clause-fails : goal.returns-in-Some-first_unmarked-clause-fails
 returns-in-Some-first_unmarked-clause-fails g c = λ b is.
-    let w = g.L.Width.WORD in
     let r = c.args.reader.now in
     let walked = c.check_slots.ensures.reads.images b is in
     let was = c.walk_entries.ensures.reads.images b walked in
-    let size = g.met.S.Store.image_size r.store b was in
-    let whole : IsWhole w b r.head.pointers = record { head = omega (arith, r.long, size); many = omega arith; known = r.known b was } in
+    let tables = has_tables r.head.pointers r.long (omega arith) (r.known b was) (g.met.S.Store.image_size r.store b was) c.len.ensures c.in_default.ensures.inside in
     let same : c.deref.result.now ≡ c.check_slots.new.lists = c.deref.ensures.value ∙ written c.in_ok-lists.lists.len c.check_slots.new.lists _ (omega (arith, c.check_slots.auto.lists, c.deref_mut.ensures.len, c.in_ok-lists.lists.ok.0)) in
-    first_is_lost w c.in-Some-first_unmarked.place b r.head.pointers c.deref_mut.result.now c.deref.result.now c.first_unmarked.result c.in-Some-first_unmarked.is whole
-    (subst (λ (n : ℕ). All (StandsInside w n) (map pointer_pair r.head.pointers)) (c.len.ensures ∙ sym size) c.in_default.ensures.inside)
-    (subst (HasEntries w b) (sym c.deref_mut.ensures.value) (c.in_ok-lists.ensures.entries b walked)) (subst (TablesAreClear w b c.deref_mut.result.now) (sym same) (c.in_ok-check_slots.ensures.clear b is)) c.first_unmarked.ensures
+    first_is_lost g.L.Width.WORD c.in-Some-first_unmarked.place b r.head.pointers c.deref_mut.result.now c.deref.result.now c.first_unmarked.result c.in-Some-first_unmarked.is tables
+    (subst (HasEntries g.L.Width.WORD b) (sym c.deref_mut.ensures.value) (c.in_ok-lists.ensures.entries b walked)) (subst (TablesAreClear g.L.Width.WORD b c.deref_mut.result.now) (sym same) (c.in_ok-check_slots.ensures.clear b is)) c.first_unmarked.ensures
 
 pub returns-clause-sound : goal.returns-clause-sound
 returns-clause-sound g c = λ b is.
-    let w = g.L.Width.WORD in
     let r = c.args.reader.now in
     let walked = c.check_slots.ensures.reads.images b is in
     let was = c.walk_entries.ensures.reads.images b walked in
-    let size = g.met.S.Store.image_size r.store b was in
-    let whole : IsWhole w b r.head.pointers = record { head = omega (arith, r.long, size); many = omega arith; known = r.known b was } in
+    let tables = has_tables r.head.pointers r.long (omega arith) (r.known b was) (g.met.S.Store.image_size r.store b was) c.len.ensures c.in_default.ensures.inside in
     let same : c.deref.result.now ≡ c.check_slots.new.lists = c.deref.ensures.value ∙ written c.in_ok-lists.lists.len c.check_slots.new.lists _ (omega (arith, c.check_slots.auto.lists, c.deref_mut.ensures.len, c.in_ok-lists.lists.ok.0)) in
-    sound_is w b r.head.pointers c.deref_mut.result.now c.deref.result.now c.first_unmarked.result c.in-None.is (some_word w g.met.L.Width.four_or_eight) whole
-    (subst (λ (n : ℕ). All (StandsInside w n) (map pointer_pair r.head.pointers)) (c.len.ensures ∙ sym size) c.in_default.ensures.inside)
-    (subst (HasEntries w b) (sym c.deref_mut.ensures.value) (c.in_ok-lists.ensures.entries b walked)) (subst (TablesAreClear w b c.deref_mut.result.now) (sym same) (c.in_ok-check_slots.ensures.clear b is)) c.first_unmarked.ensures
+    sound_is g.L.Width.WORD b r.head.pointers c.deref_mut.result.now c.deref.result.now c.first_unmarked.result c.in-None.is (some_word g.L.Width.WORD g.met.L.Width.four_or_eight) tables
+    (subst (HasEntries g.L.Width.WORD b) (sym c.deref_mut.ensures.value) (c.in_ok-lists.ensures.entries b walked)) (subst (TablesAreClear g.L.Width.WORD b c.deref_mut.result.now) (sym same) (c.in_ok-check_slots.ensures.clear b is)) c.first_unmarked.ensures
 
 pub returns-in-Some-first_unmarked-clause-reads : goal.returns-in-Some-first_unmarked-clause-reads
 returns-in-Some-first_unmarked-clause-reads g c = grind (arith, common_steps)

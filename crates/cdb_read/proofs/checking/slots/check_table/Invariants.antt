@@ -5,7 +5,7 @@ use Rattle.cdb_read.specs.SlotRuns.{run_of}
 use Rattle.cdb_store.specs.Reads.{OnlyReads}
 use Rattle.cdb_read.specs.Views.Window.{Shows}
 use Rattle.cdb_read.proofs.Checks.SlotChecks.{IsClearTo}
-use Rattle.cdb_read.proofs.checking.slots.check_each.Given as goal
+use Rattle.cdb_read.proofs.checking.slots.check_table.Given as goal
 
 -- the slots so far have no fault, and the run before the next is known
 abbrev pub invariant-loop-i : goal.invariant-loop-i
