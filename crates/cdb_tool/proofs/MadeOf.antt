@@ -1,4 +1,5 @@
 -- A run that makes a database comes to what the function of its bytes says, or to a refusal.
+use Rattle.cdb_form.proofs.MapTexts.WholeMap.{read_rest}
 use Rattle.std.proofs.Common.{◌≡◌, ◌+◌, ◌<◌, ◌≤◌, true, false, Bool, ℕ, inl, inr, List, [], ◌∷◌, ◌++◌, length, refl, sym, ap, subst, ◌∙◌, arith, append_assoc, append-nil, Option, Some, None, Result, Ok, Err, is_some, flat_map, IfSome, nat_lt, if◌then◌else◌}
 use Rattle.std.specs.Prelude.{option_map, fold}
 use Rattle.std.proofs.lemmas.Bool.{cond-true, cond-false, lt-ltb, le-ltb}
@@ -199,20 +200,6 @@ spelled_behind : {X : Type 0} (S : ℕ → List ℕ → X → Type 0) (g : ℕ) 
 spelled_behind S g [] t rest more input split e = split ∙ ap (λ z. z ++ more) e
 spelled_behind S g (x ∷ xs) t rest more input split (first, left, sp, e, spelled) =
     (first, left ++ more, sp, split ∙ ap (λ z. z ++ more) e ∙ append_assoc first left more, spelled_behind S g xs left rest more (left ++ more) refl spelled)
-
-lines_then : (lines : List (List ℕ)) (x : List ℕ) → AllByRecursion (Lacks is_newline) lines → map_lines (with_newlines lines ++ x) ≡ flat_map line_records lines ++ map_lines x
-lines_then [] x are = refl
-lines_then (line ∷ lines) x are =
-    let whole : with_newlines (line ∷ lines) ++ x ≡ line ++ 10 ∷ (with_newlines lines ++ x) = simp append_assoc refl in
-    ap map_lines whole ∙ map_lines-line line (with_newlines lines ++ x) are.0
-    ∙ ap (λ t. line_records line ++ t) (lines_then lines x are.1)
-    ∙ sym (append_assoc (line_records line) (flat_map line_records lines) (map_lines x))
-
--- the records that are left are those of the rest
-read_rest : (text rest : List ℕ) (rs : List KeyValue) → ReadLines text rest rs → map_lines text ≡ rs ++ map_lines rest
-read_rest text rest rs g =
-    ap map_lines g.split ∙ lines_then g.lines rest (recursion_from_All (Lacks is_newline) g.lines g.whole)
-    ∙ ap (λ t. t ++ map_lines rest) g.records
 
 lines_behind : (t input more : List ℕ) (rs : List KeyValue) → input ≡ t ++ more → (h : ReadAmid t [] rs) → map_lines input ≡ rs ++ map_lines ((h.part ++ []) ++ more)
 lines_behind t input more rs split h =

@@ -25,7 +25,7 @@ loop-done-preserved g c =
     record {
       inside = omega arith;
       piece = simp (length-append, length-drop) (omega (arith, l, c.loop-done.invariant.piece));
-      agrees = agrees_piece c.loop-done.done c.min-n.result c.args.key.now (omega arith) l c.loop-done.invariant.agrees c.in_ok-read_at.ensures.ok (agrees c.min-n.result c.loop-done.done c.read_at.new.into c.loop-done.piece c.args.key.now l c.if-ne.ensures);
+      agrees = agrees_piece c.loop-done.done c.min-n.result c.args.key.now (omega arith) l c.loop-done.invariant.agrees c.in_ok-read_at.ensures.ok.no_other (record { each = c.in_ok-read_at.ensures.ok.read }) (agrees c.min-n.result c.loop-done.done c.read_at.new.into c.loop-done.piece c.args.key.now l c.if-ne.ensures);
       reads = reads_more c.loop-done.invariant.reads read;
       fine = c.in_ok-read_at.ensures.ok_failures ∙ c.loop-done.invariant.fine;
     }
