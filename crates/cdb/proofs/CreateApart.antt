@@ -10,7 +10,7 @@ use Rattle.cdb_files.specs.declared.replace.ReplaceFault.{ReplaceFault}
 use Rattle.cdb_files.specs.declared.replace.ReplaceFault.TheVariants as replace
 use Rattle.cdb_store.specs.FileStore.{calls_of}
 use Rattle.std.proofs.KnownBytes.{Keeps-refl}
-use Rattle.cdb_files.specs.Replacing.{AtEach, AtEachMoment, ClearsFile, IsNoName, Tells, IsRenamed, renames}
+use Rattle.cdb_files.specs.Replacing.{AtEach, AtEachMoment, ClearsFile, IsNoName, BuilderTells, IsRenamed, renames}
 use Rattle.cdb_files.specs.declared.name_trace.NameCall.{NameCall}
 use Rattle.cdb_store.specs.Calls.{Calls}
 use Rattle.cdb_files.specs.declared.name_trace.NameCall.TheVariants as name_call
@@ -227,7 +227,7 @@ not_cleared t file asked now same (before, (since, on), (gone, removal, are)) =
     omega (arith, ap length same, ap length on, ap length are, length-append since asked)
 
 silent_so : {F R : Type 0} (s : Ghosts F) (r : Raw R) (mk : Making F) (temporary name : List ℕ) (asked now : NameCalls) (back : Option F) (told said : Option (List ℕ)) (answer : Result Unit (ReplaceFault Fault)) → now ≡ asked → answer ≡ Err replace.Open
-    → Tells r (λ base. base ≡ mk.base) (λ base before after images made. IsBufferedRun s mk base images before after made) temporary name asked now back told said answer → Keeps told said
+    → BuilderTells r (λ base. base ≡ mk.base) (λ base before after images made. IsBufferedRun s mk base images before after made) temporary name asked now back told said answer → Keeps told said
 silent_so s r mk t name asked now back told said answer same is (inl none) = subst (λ v. Keeps told v) (sym none.same) (Keeps-refl told)
 silent_so s r mk t name asked now back told said answer same is (inr some) =
     absurd (not_cleared t (calls_of some.sealed) asked now same (subst (λ v. OnErr v (ClearsFile t (calls_of some.sealed) asked now)) is some.cleared))

@@ -22,7 +22,7 @@ use Rattle.cdb_tool.specs.declared.fault.Fault.TheVariants.{Make}
 use Rattle.cdb_tool.specs.Runs.Made.{Made, made_file, made_lines, made_of}
 use Rattle.cdb_tool.specs.Runs.MakesSo.{Known}
 use Rattle.cdb.specs.Created.{Created, base_of, create_of, if_opened, is_in_place, in_place, is_read, on_output, placed, unopened}
-use Rattle.cdb.specs.Creating.{HasDatabase, IsBufferedRun, IsRun, MakesEmptied, MakesOnOutput, Syncs, WritesAll, AsksAll, Making, OpensAll}
+use Rattle.cdb.specs.Creating.{HasDatabase, IsBufferedRun, IsMakeRun, MakesEmptied, MakesOnOutput, Syncs, WritesAll, AsksAll, Making, OpensAll}
 use Rattle.cdb.specs.ForetoldCreate.{HoldsAll, HonestCreate, IsNoFailedRename, KeepsAll, passing}
 use Rattle.cdb.specs.Opening.{Empties, MissesEmptying, OpenCalls, unopened as unopened_fault}
 use Rattle.cdb.specs.Oracle.{Disk, both, inputs_of, is_standard}
@@ -245,7 +245,7 @@ some_bytes : (a b : List ℕ) → ◌≡◌ {A = Option (List ℕ)} (Some a) (So
 some_bytes a b e = cc
 
 made_written : {F : Type 0} (s : Ghosts F) (mk : Making F) (x : Option (List ℕ)) (files : List (Option (List ℕ))) (input : List ℕ) (back : Option F) (disk : Disk) (c : Created) (store : MemStore) (start end told said : Option (List ℕ)) (made result : Result Unit Fault) → BaseHas s back x → Known files input mk.inputs
-    → c ≡ on_output disk (made_lines (made_here mk x files input)) (made_file mk.word (made_here mk x files input)) (made_here mk x files input).result → IsRun s mk back (in_memory.image store) told said made → OnOk made (WritesAll start end (contents store) result) → IfErr made (λ fault. (result ≡ Err fault) × Keeps start end)
+    → c ≡ on_output disk (made_lines (made_here mk x files input)) (made_file mk.word (made_here mk x files input)) (made_here mk x files input).result → IsMakeRun s mk back (in_memory.image store) told said made → OnOk made (WritesAll start end (contents store) result) → IfErr made (λ fault. (result ≡ Err fault) × Keeps start end)
     → Wrote mk.options c start end told said result
 made_written s mk x files input back disk c store start end told said (Ok done) result has known is run written failed =
     let h = ran_ok s mk back x files input (in_memory.image store) (contents store) (Some (contents store)) told said has known refl refl (inl run) in

@@ -6,7 +6,7 @@ use Rattle.std.proofs.KnownBytes.{Appends-kept, Keeps-trans}
 use Rattle.cdb_command.specs.Asked.{Asked}
 use Rattle.cdb_command.specs.Refused.{Refused}
 use Rattle.cdb_files.specs.Folder.{NameCalls}
-use Rattle.cdb_files.specs.Replacing.{Tells}
+use Rattle.cdb_files.specs.Replacing.{BuilderTells}
 use Rattle.cdb_files.specs.declared.replace.ReplaceFault.{ReplaceFault}
 use Rattle.cdb_form.specs.Views.KnownBytes.{Writes}
 use Rattle.cdb_store.specs.declared.raw.RawFile.{Ghosts as Raw}
@@ -19,7 +19,7 @@ use Rattle.cdb_tool.specs.Runs.Make.{HandsBack, OfBase, Makes}
 use Rattle.cdb_tool.specs.Runs.Make as run
 use Rattle.cdb_tool.specs.declared.fault.Fault.{Fault}
 use Rattle.cdb_tool.proofs.WholeRuns.{prefix_kept}
-use Rattle.cdb.specs.Creating.{Making, HasDatabase, IsBufferedRun, IsDatabase, IsRun, Syncs}
+use Rattle.cdb.specs.Creating.{Making, HasDatabase, IsBufferedRun, IsDatabase, IsMakeRun, Syncs}
 use Rattle.cdb.specs.Performs.{Says, SaysLine, Runs, refused_lines}
 use Rattle.cdb.specs.declared.left.Left.{Left}
 use Rattle.cdb.specs.declared.system.System.{Ghosts as Systems}
@@ -30,29 +30,29 @@ of_weaker : {F : Type 0} (f : Ghosts F) (base : Option F) (P Q : Option (List �
 of_weaker f None P Q g h = g None h
 of_weaker f (Some base) P Q g h = λ b is. g (Some b) (h b is)
 
-made_here : {F : Type 0} (m : Making F) (images : List ℕ → Type 0) (told said : Option (List ℕ)) (b : List ℕ) → images b → (x : Option (List ℕ)) → run.Runs m.word m.greatest m.options x m.inputs images told said (Ok tt)
+made_here : {F : Type 0} (m : Making F) (images : List ℕ → Type 0) (told said : Option (List ℕ)) (b : List ℕ) → images b → (x : Option (List ℕ)) → run.MakeRuns m.word m.greatest m.options x m.inputs images told said (Ok tt)
     → Makes m.word m.greatest m.options x m.inputs (λ c. c ≡ b) told said
 made_here m images told said b is x runs =
     let made = runs.ok.made in
     record { based = runs.ok.based; made = record { read = made.read; are = made.are; goes = made.goes; file = record { each = λ c e. e ∙ made.file.each b is } } }
 
 pub database_made : {F : Type 0} (f : Ghosts F) (m : Making F) (back : Option F) (images inner : List ℕ → Type 0) (told said : Option (List ℕ)) (made : Result Unit Fault) → HandsBack f m.base back
-    → WhereHonest images (OfBase f back (λ x. run.Runs m.word m.greatest m.options x m.inputs images told said made)) → OnOk made ((b : List ℕ) → inner b → images b) → OnOk made (HasDatabase f m back inner)
+    → WhereHonest images (OfBase f back (λ x. run.MakeRuns m.word m.greatest m.options x m.inputs images told said made)) → OnOk made ((b : List ℕ) → inner b → images b) → OnOk made (HasDatabase f m back inner)
 database_made f m back images inner told said (Ok done) hands runs in_image = λ b is.
     let at : images b = in_image b is in
     record { hands = hands; told = told; said = said; is = of_weaker f back _ _ (made_here m images told said b at) (runs.each b at) }
 database_made f m back images inner told said (Err fault) hands runs in_image = tt
 
-runs_under : {F : Type 0} (m : Making F) (images inner : List ℕ → Type 0) (told said : Option (List ℕ)) (made : Result Unit Fault) → OnOk made ((b : List ℕ) → inner b → images b) → (x : Option (List ℕ)) → run.Runs m.word m.greatest m.options x m.inputs images told said made
-    → run.Runs m.word m.greatest m.options x m.inputs inner told said made
+runs_under : {F : Type 0} (m : Making F) (images inner : List ℕ → Type 0) (told said : Option (List ℕ)) (made : Result Unit Fault) → OnOk made ((b : List ℕ) → inner b → images b) → (x : Option (List ℕ)) → run.MakeRuns m.word m.greatest m.options x m.inputs images told said made
+    → run.MakeRuns m.word m.greatest m.options x m.inputs inner told said made
 runs_under m images inner told said (Ok done) in_image x runs =
     let made = runs.ok.made in
     record { ok = record { based = runs.ok.based; made = record { read = made.read; are = made.are; goes = made.goes; file = record { each = λ b is. made.file.each b (in_image b is) } } }; err = tt }
 runs_under m images inner told said (Err fault) in_image x runs = record { ok = tt; err = runs.err }
 
 -- a run in a store over another one is one of the other's images too
-pub run_under : {F : Type 0} (f : Ghosts F) (m : Making F) (back : Option F) (images inner : List ℕ → Type 0) (told said : Option (List ℕ)) (made : Result Unit Fault) → IsRun f m back images told said made
-    → ((b : List ℕ) → inner b → (a : List ℕ) × images a) → OnOk made ((b : List ℕ) → inner b → images b) → IsRun f m back inner told said made
+pub run_under : {F : Type 0} (f : Ghosts F) (m : Making F) (back : Option F) (images inner : List ℕ → Type 0) (told said : Option (List ℕ)) (made : Result Unit Fault) → IsMakeRun f m back images told said made
+    → ((b : List ℕ) → inner b → (a : List ℕ) × images a) → OnOk made ((b : List ℕ) → inner b → images b) → IsMakeRun f m back inner told said made
 run_under f m back images inner told said made ran over in_image = record {
   hands = ran.hands;
   base_failed = ran.base_failed;
@@ -61,8 +61,8 @@ run_under f m back images inner told said made ran over in_image = record {
 
 -- what is said of a writer is said of what it has
 pub of_contents : {F R T : Type 0} (contents : T → Option (List ℕ)) (failed : T → Type 0) (f : Ghosts F) (r : Raw R) (m : Making F) (t n : List ℕ) (old new : NameCalls) (back : Option F) (told said : T) (answer : Result Unit (ReplaceFault Fault))
-    → Tells r (λ base. base ≡ m.base) (λ base before after images made. IsBufferedRun f m base images (contents before) (contents after) made × OutputSays (failed after) made) t n old new back told said answer
-    → Tells r (λ base. base ≡ m.base) (λ base before after images made. IsBufferedRun f m base images before after made) t n old new back (contents told) (contents said) answer
+    → BuilderTells r (λ base. base ≡ m.base) (λ base before after images made. IsBufferedRun f m base images (contents before) (contents after) made × OutputSays (failed after) made) t n old new back told said answer
+    → BuilderTells r (λ base. base ≡ m.base) (λ base before after images made. IsBufferedRun f m base images before after made) t n old new back (contents told) (contents said) answer
 of_contents contents failed f r m t n old new back told said answer (inl none) = inl (record { gave_up = none.gave_up; same = ap contents none.same; fault = none.fault; is = none.is; stops = none.stops; calls = none.calls; moments = none.moments })
 of_contents contents failed f r m t n old new back told said answer (inr some) = inr (record { left = some.left; built = some.built; tells_so = some.tells_so.0; answers = some.answers; sealed = some.sealed; same = some.same; unsynced = some.unsynced; renamed = some.renamed; cleared = some.cleared })
 

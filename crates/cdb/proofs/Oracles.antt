@@ -41,14 +41,14 @@ use Rattle.cdb_store.specs.declared.store.Store.{Ghosts}
 use Rattle.cdb_tool.specs.Message.{fault_line}
 use Rattle.cdb_tool.specs.Runs.Check.{CheckingFails}
 use Rattle.cdb_read.specs.OtherWidth.{lacks_tables}
-use Rattle.cdb_tool.specs.Runs.Difference.{DifferenceFails, HasDamage as HasAny, HaveTables, NotRead, TellsDifference, comes_after_heads, difference_of}
+use Rattle.cdb_tool.specs.Runs.Difference.{DifferenceFails, StatsMeetDamage as HasAny, HaveTables, DifferenceNotRead, TellsDifference, comes_after_heads, difference_of}
 use Rattle.cdb_tool.specs.Runs.Form.{Form, dump_form, list_form}
 use Rattle.cdb_tool.specs.Runs.Load.{IsNotLoaded}
-use Rattle.cdb_tool.specs.Runs.Stats.{HasDamage, TellingFails, TellsStats, statistics_text}
-use Rattle.cdb_tool.specs.Runs.WalkText.{Writes, WritesFirst, WritesPrefix, WritingFails, closing, walk_text}
+use Rattle.cdb_tool.specs.Runs.Stats.{StatsMeetDamage, TellingFails, TellsStats, statistics_text}
+use Rattle.cdb_tool.specs.Runs.WalkText.{WritesItems, WritesFirst, WritesTextPrefix, WritingFails, closing, walk_text}
 use Rattle.cdb_tool.specs.Views.Output.{HasHandedOn, held_by, OutputFailed, OutputSays, output_bytes}
 use Rattle.cdb_tool.specs.declared.output.Output.{Output as Writer}
-use Rattle.cdb_tool.specs.Runs.Query.{Answers, Query, Queries, QueryFails, query_text, query_answer}
+use Rattle.cdb_tool.specs.Runs.Query.{QueryAnswers, Query, Queries, QueryFails, query_text, query_answer}
 use Rattle.cdb_tool.specs.Status.{plain_status, check_status, exit_status}
 use Rattle.cdb_tool.proofs.WholeRuns.{prefix_kept}
 use Rattle.cdb_tool.specs.declared.fault.Fault.{Fault}
@@ -69,7 +69,7 @@ use Rattle.cdb.specs.Files.{files_of}
 -- ---- query
 
 -- a look-up answered
-query_answered : {S : Type 0} (w : ℕ) (s : Ghosts S) (q : Query) (store : S) (bytes : List ℕ) (start end : Option (List ℕ)) (answer : Result Unit Fault) → s.image store bytes → length bytes ≡ s.size store → Answers w s q store start end answer → Comes true Nothing plain_status (query_outcome w q bytes) start end answer
+query_answered : {S : Type 0} (w : ℕ) (s : Ghosts S) (q : Query) (store : S) (bytes : List ℕ) (start end : Option (List ℕ)) (answer : Result Unit Fault) → s.image store bytes → length bytes ≡ s.size store → QueryAnswers w s q store start end answer → Comes true Nothing plain_status (query_outcome w q bytes) start end answer
 query_answered w s q store bytes start end answer is size h =
     let long = subst (λ n. head_size w ≤ n) (sym size) h.long in
     comes_so true Nothing plain_status _ (query_text w bytes q) start end answer
@@ -131,7 +131,7 @@ first_written form records first more ending e =
 text_output : (w : ℕ) (form : Form) (bytes : List ℕ) → (text_outcome w form bytes).output ≡ walk_text form (walk_of w bytes)
 text_output w form bytes = output_of plain_status (walk_text form (walk_of w bytes)) (met (walk_of w bytes).damage)
 
-text_walked : (w : ℕ) (form : Form) (bytes : List ℕ) (damage : Option Damage) (start end : Option (List ℕ)) (result : Result Unit Fault) → ((text : List ℕ) → ended plain_status text (met damage) ≡ ended plain_status text result) → Writes w form (Some bytes) damage start end → Comes true Database plain_status (text_outcome w form bytes) start end result
+text_walked : (w : ℕ) (form : Form) (bytes : List ℕ) (damage : Option Damage) (start end : Option (List ℕ)) (result : Result Unit Fault) → ((text : List ℕ) → ended plain_status text (met damage) ≡ ended plain_status text result) → WritesItems w form (Some bytes) damage start end → Comes true Database plain_status (text_outcome w form bytes) start end result
 text_walked w form bytes damage start end result same h =
     let text = walk_text form h.walked in
     comes_so true Database plain_status _ text start end result
@@ -148,7 +148,7 @@ text_first w form bytes rest start end h =
       appended = h.appended;
     }
 
-text_prefix : (w : ℕ) (form : Form) (bytes : List ℕ) (start end : Option (List ℕ)) → WritesPrefix w form (Some bytes) start end → AppendsPrefix start end (text_outcome w form bytes).output
+text_prefix : (w : ℕ) (form : Form) (bytes : List ℕ) (start end : Option (List ℕ)) → WritesTextPrefix w form (Some bytes) start end → AppendsPrefix start end (text_outcome w form bytes).output
 text_prefix w form bytes start end h = subst (AppendsPrefix start end) (sym (text_output w form bytes ∙ ap (walk_text form) h.is)) h.appended
 
 text_ended : (w : ℕ) (form : Form) (bytes : List ℕ) (rest start end : Option (List ℕ)) (fault : Fault) → WritingFails w form (Some bytes) rest start end fault → Comes true Database plain_status (text_outcome w form bytes) start end (Err fault)
@@ -210,7 +210,7 @@ stats_met w bytes damage e = ap (λ d. ended plain_status (unless_damaged d (sta
 stats_whole : (w : ℕ) (bytes : List ℕ) (damage : Option Damage) → head_size w ≤ length bytes → statistics_damage w bytes ≡ damage → stats_outcome w bytes ≡ ended plain_status (unless_damaged damage (statistics_text w bytes)) (met damage)
 stats_whole w bytes damage long e = stats_met w bytes damage (long_is w bytes _ _ long ∙ e)
 
-stats_damaged : {S : Type 0} (reads : Reading) (w : ℕ) (s : Ghosts S) (last : S) (bytes : List ℕ) (damage : Damage) (start end : Option (List ℕ)) → s.image last bytes → length bytes ≡ s.size last → HasDamage w s last damage start end → Comes true reads plain_status (stats_outcome w bytes) start end (met (Some damage))
+stats_damaged : {S : Type 0} (reads : Reading) (w : ℕ) (s : Ghosts S) (last : S) (bytes : List ℕ) (damage : Damage) (start end : Option (List ℕ)) → s.image last bytes → length bytes ≡ s.size last → StatsMeetDamage w s last damage start end → Comes true reads plain_status (stats_outcome w bytes) start end (met (Some damage))
 stats_damaged reads w s last bytes damage start end is size h =
     let long = subst (λ n. head_size w ≤ n) (sym size) h.long in
     comes_so true reads plain_status _ [] start end (met (Some damage)) (stats_whole w bytes (Some damage) long (h.is bytes is)) (nothing_written start end h.kept)
@@ -364,7 +364,7 @@ not_met : (w : ℕ) (bytes beside : List ℕ) (damage : Damage) → (walk_of w b
 not_met w bytes beside damage whole finds (inl walked) = (let e = sym whole ∙ walked in cc)
 not_met w bytes beside damage whole finds (inr looked) = (let e = sym (finds.sound looked.0) ∙ looked.2 in cc)
 
-not_read : {S : Type 0} (w : ℕ) (s : Ghosts S) (file last other : S) (bytes beside : List ℕ) (start end : Option (List ℕ)) (fault : ReadFault) → s.image last bytes → s.image other beside → length bytes ≡ s.size last → s.failures last ≡ 0 → (walk_of w bytes).damage ≡ None → FindsInOrder w bytes → NotRead w s s file last other start end fault → ⊥
+not_read : {S : Type 0} (w : ℕ) (s : Ghosts S) (file last other : S) (bytes beside : List ℕ) (start end : Option (List ℕ)) (fault : ReadFault) → s.image last bytes → s.image other beside → length bytes ≡ s.size last → s.failures last ≡ 0 → (walk_of w bytes).damage ≡ None → FindsInOrder w bytes → DifferenceNotRead w s s file last other start end fault → ⊥
 not_read w s file last other bytes beside start end read.Short is it size works whole finds h =
     let long = (walk_head w bytes whole).whole in
     let short = subst (λ n. n < head_size w) (sym (size ∙ ap s.size h.unread)) h.short in

@@ -10,7 +10,7 @@ use Rattle.std.specs.Io.KnownBytes.{Appends, Keeps}
 use Rattle.std.proofs.KnownBytes.{Keeps-refl}
 use Rattle.cdb_command.specs.declared.options.MakeOptions.{MakeOptions}
 use Rattle.cdb_files.specs.Folder.{Has, LeavesFile, MayHave, NameCalls}
-use Rattle.cdb_files.specs.Replacing.{Answers, AreOfReplacing, AtEach, ClearsFile, HasCleared, IsNew, IsOfReplacing, IsReady, IsRenamed, LeavesOldOrNew, NameEvent, Tells, TellsOfFile, StopsUnbuilt, renames}
+use Rattle.cdb_files.specs.Replacing.{BuilderAnswers, AreOfReplacing, AtEach, ClearsFile, HasCleared, IsNew, IsOfReplacing, IsReady, IsRenamed, LeavesOldOrNew, NameEvent, BuilderTells, TellsOfFile, StopsUnbuilt, renames}
 use Rattle.cdb_files.specs.declared.name_trace.NameCall.{NameCall}
 use Rattle.cdb_files.specs.declared.name_trace.NameCall.TheVariants.{NotRemoved, NotRenamed, NotSynced, Removed, Renamed, Synced}
 use Rattle.cdb_files.specs.declared.name_trace.NameCall.TheVariants as name_call
@@ -31,7 +31,7 @@ use Rattle.cdb_tool.specs.Runs.Made.{Made, made_file, made_lines, made_of}
 use Rattle.cdb_tool.specs.Runs.MakesSo.{ComesOf, IsMakeRefusal, Known}
 use Rattle.cdb_tool.proofs.MadeOf.{made_so, run_comes}
 use Rattle.cdb_tool.proofs.ToldLines.{part_plain, tells_plain}
-use Rattle.cdb.specs.Creating.{IsBufferedRun, IsDatabase, IsRun, Making, Replaces, answer_of, fault_of}
+use Rattle.cdb.specs.Creating.{IsBufferedRun, IsDatabase, IsMakeRun, Making, Replaces, answer_of, fault_of}
 use Rattle.cdb.specs.ForetoldCreate.{HadBytes, IsNoFailedRename, place_of}
 use Rattle.cdb.specs.State.{state_of}
 use Rattle.cdb.specs.Opening.{OpenCalls}
@@ -227,10 +227,10 @@ renamed_has t n sync len file before first held passes synced h = elim (passes h
 -- ---- the run
 
 -- its bytes, its answer and its lines
-run_is : {F : Type 0} (f : Ghosts F) (m : Making F) (back : Option F) (x : Option (List ℕ)) (files : List (Option (List ℕ))) (input : List ℕ) (images : List ℕ → Type 0) (b : List ℕ) (told said : Option (List ℕ)) (built : Result Unit Fault) → BaseHas f back x → Known files input m.inputs → images b → IsRun f m back images told said built
+run_is : {F : Type 0} (f : Ghosts F) (m : Making F) (back : Option F) (x : Option (List ℕ)) (files : List (Option (List ℕ))) (input : List ℕ) (images : List ℕ → Type 0) (b : List ℕ) (told said : Option (List ℕ)) (built : Result Unit Fault) → BaseHas f back x → Known files input m.inputs → images b → IsMakeRun f m back images told said built
     → ComesOf m.word m.options (made_here m x files input) images told said built
 run_is f m back x files input images b told said built has known is h =
-    run_comes m.word m.greatest m.options x files input m.inputs images told said built known (of_known f back x (λ y. run.Runs m.word m.greatest m.options y m.inputs images told said built) has (h.runs.each b is))
+    run_comes m.word m.greatest m.options x files input m.inputs images told said built known (of_known f back x (λ y. run.MakeRuns m.word m.greatest m.options y m.inputs images told said built) has (h.runs.each b is))
 
 made_ok : (w : ℕ) (o : MakeOptions) (made : Made) (images : List ℕ → Type 0) (b : List ℕ) (held told said : Option (List ℕ)) → images b → held ≡ Some b → ComesOf w o made images told said (Ok tt) → HasMade w o made told said held
 made_ok w o made images b held told said is e (inl so) = record { file = e ∙ ap (λ (z : List ℕ). Some z) (so.file.each b is); result = sym so.is; lines = λ plain. tells_plain o.names made.told told said plain so.lines }
@@ -238,7 +238,7 @@ made_ok w o made images b held told said is e (inr refused) = absurd (let no : �
 
 -- ---- it ended well
 
-built_ok : (built : Result Unit Fault) → Answers built (Ok tt) → built ≡ Ok tt
+built_ok : (built : Result Unit Fault) → BuilderAnswers built (Ok tt) → built ≡ Ok tt
 built_ok (Ok done) h = refl
 built_ok (Err fault) h = absurd (let no : ◌≡◌ {A = Result Unit (ReplaceFault Fault)} (Ok tt) (Err (replace.Build fault)) = h in cc)
 
@@ -326,7 +326,7 @@ ran_lines : {F : Type 0} (f : Ghosts F) (m : Making F) (back : Option F) (x : Op
 ran_lines f m back x files input images b told said has known is ran plain =
     whole_lines told said _ ((ran_ok f m back x files input images b (Some b) told said has known is refl ran).lines plain)
 
-refusal_of : (e : ReplaceFault Fault) → Answers (Ok tt) (Err e) → MayGiveUpCreate (fault_of e)
+refusal_of : (e : ReplaceFault Fault) → BuilderAnswers (Ok tt) (Err e) → MayGiveUpCreate (fault_of e)
 refusal_of replace.Open h = tt
 refusal_of replace.NoMemory h = tt
 refusal_of replace.Write h = tt
@@ -340,7 +340,7 @@ unbuilt_refusal t n old new replace.Rename h = tt
 unbuilt_refusal t n old new replace.Write h = absurd h
 unbuilt_refusal t n old new (replace.Build fault) h = absurd h
 
-answered_says : (O : Type 0) (built : Result Unit Fault) (answer : Result Unit (ReplaceFault Fault)) → Answers built answer → OutputSays O built → OutputSays O (answer_of answer)
+answered_says : (O : Type 0) (built : Result Unit Fault) (answer : Result Unit (ReplaceFault Fault)) → BuilderAnswers built answer → OutputSays O built → OutputSays O (answer_of answer)
 answered_says O (Ok done) (Ok all) is says = tt
 answered_says O (Ok done) (Err replace.Open) is says = tt
 answered_says O (Ok done) (Err replace.NoMemory) is says = tt
@@ -358,7 +358,7 @@ unbuilt_says O t n old new (replace.Build fault) h = absurd h
 
 -- a replacement tells of an output that failed if its builder does
 pub replaced_says : {F R T : Type 0} (contents : T → Option (List ℕ)) (failed : T → Type 0) (f : Ghosts F) (r : Raw R) (m : Making F) (t n : List ℕ) (old new : NameCalls) (back : Option F) (told said : T) (answer : Result Unit (ReplaceFault Fault))
-    → Tells r (λ base. base ≡ m.base) (λ base before after images made. IsBufferedRun f m base images (contents before) (contents after) made × OutputSays (failed after) made) t n old new back told said answer → OutputSays (failed said) (answer_of answer)
+    → BuilderTells r (λ base. base ≡ m.base) (λ base before after images made. IsBufferedRun f m base images (contents before) (contents after) made × OutputSays (failed after) made) t n old new back told said answer → OutputSays (failed said) (answer_of answer)
 replaced_says contents failed f r m t n old new back told said answer (inl none) = subst (λ a. OutputSays (failed said) (answer_of a)) (sym none.is) (unbuilt_says (failed said) t n old new none.fault none.stops)
 replaced_says contents failed f r m t n old new back told said answer (inr some) = answered_says (failed said) some.built answer some.answers some.tells_so.1
 
@@ -373,7 +373,7 @@ some_image r store temporary old new had cleared =
     (take store.len h.1.0, (h.1.0, h.1.1, long, refl))
 
 built_err : {F R : Type 0} (f : Ghosts F) (r : Raw R) (m : Making F) (back : Option F) (x : Option (List ℕ)) (files : List (Option (List ℕ))) (input temporary name : List ℕ) (new : NameCalls) (told said : Option (List ℕ)) (e : ReplaceFault Fault) (built : Result Unit Fault) (images : List ℕ → Type 0) (b : List ℕ) → BaseHas f back x → Known files input m.inputs → images b
-    → Answers built (Err e) → IsBufferedRun f m back images told said built → EndsSo m.options (made_here m x files input) told said (Err (fault_of e)) ⊎ WasRefused m.options (made_here m x files input) told said (fault_of e)
+    → BuilderAnswers built (Err e) → IsBufferedRun f m back images told said built → EndsSo m.options (made_here m x files input) told said (Err (fault_of e)) ⊎ WasRefused m.options (made_here m x files input) told said (fault_of e)
 built_err f r m back x files input temporary name new told said e (Ok done) images b has known is answers ran =
     inr (record { refusal = refusal_of e answers; lines = ran_lines f m back x files input images b told said has known is ran })
 built_err f r m back x files input temporary name new told said e (Err fault) images b has known is answers ran =
@@ -382,7 +382,7 @@ built_err f r m back x files input temporary name new told said e (Err fault) im
     (ran_err f m back x files input images b told said fault has known is ran)
 
 replaced_err : {F R : Type 0} (f : Ghosts F) (r : Raw R) (m : Making F) (back : Option F) (x : Option (List ℕ)) (files : List (Option (List ℕ))) (input temporary name : List ℕ) (old new : NameCalls) (told said : Option (List ℕ)) (e : ReplaceFault Fault) → BaseHas f back x → Known files input m.inputs → HadBytes temporary new
-    → Tells r (λ base. base ≡ m.base) (λ base before after images made. IsBufferedRun f m base images before after made) temporary name old new back told said (Err e)
+    → BuilderTells r (λ base. base ≡ m.base) (λ base before after images made. IsBufferedRun f m base images before after made) temporary name old new back told said (Err e)
     → (EndsSo m.options (made_here m x files input) told said (Err (fault_of e)) × IsGone temporary new) ⊎ WasRefused m.options (made_here m x files input) told said (fault_of e)
 replaced_err f r m back x files input temporary name old new told said e has known had (inl none) =
     let same : e ≡ none.fault = same_replace e none.fault none.is in
@@ -399,7 +399,7 @@ replaced_err f r m back x files input temporary name old new told said e has kno
 
 -- ---- a replacement
 
-no_file : {F R : Type 0} (f : Ghosts F) (r : Raw R) (m : Making F) (temporary name : List ℕ) (old new : NameCalls) (back : Option F) (told said : Option (List ℕ)) → Tells r (λ base. base ≡ m.base) (λ base before after images made. IsBufferedRun f m base images before after made) temporary name old new back told said (Ok tt)
+no_file : {F R : Type 0} (f : Ghosts F) (r : Raw R) (m : Making F) (temporary name : List ℕ) (old new : NameCalls) (back : Option F) (told said : Option (List ℕ)) → BuilderTells r (λ base. base ≡ m.base) (λ base before after images made. IsBufferedRun f m base images before after made) temporary name old new back told said (Ok tt)
     → FileTold f r m temporary name old new back told said (Ok tt)
 no_file f r m temporary name old new back told said (inl none) = absurd (let no : ◌≡◌ {A = Result Unit (ReplaceFault Fault)} (Ok tt) (Err none.fault) = none.is in cc)
 no_file f r m temporary name old new back told said (inr t) = t
@@ -421,7 +421,7 @@ record Moments (w : ℕ) (temporary name : List ℕ) (made : Made) (old new : Na
 
 answered : {F R : Type 0} (f : Ghosts F) (r : Raw R) (m : Making F) (x : Option (List ℕ)) (files : List (Option (List ℕ))) (input temporary name : List ℕ) (old new : NameCalls) (back : Option F) (told said : Option (List ℕ)) (answer : Result Unit (ReplaceFault Fault)) → renames old ≡ 0 → BaseHas f back x → Known files input m.inputs
     → Moments m.word temporary name (made_here m x files input) old new → AreOfReplacing temporary name (IsDatabase f m back) old new → OnOk answer (IsRenamed temporary name new) → OnErr answer (KeepsName name old new)
-    → Tells r (λ base. base ≡ m.base) (λ base before after images made. IsBufferedRun f m base images before after made) temporary name old new back told said answer
+    → BuilderTells r (λ base. base ≡ m.base) (λ base before after images made. IsBufferedRun f m base images before after made) temporary name old new back told said answer
     → ReplacesSo m.word m.options temporary name (made_here m x files input) old new told said (answer_of answer)
 answered f r m x files input temporary name old new back told said (Ok done) none has known k calls renamed keeps lines = record {
   since = k.since;

@@ -59,9 +59,9 @@ IsRefusedFor opened named why name other =
     (refused_open why opened ≡ Some (name, other, why))
     ⊎ (refused_for why named ≡ Some (name, other))
 
-abbrev pub IsRefused : Asked → (opened : OpenCalls) → (named : NameCalls) → (name : List ℕ)
+abbrev pub IsRefusedOpening : Asked → (opened : OpenCalls) → (named : NameCalls) → (name : List ℕ)
     → (said : Option (List ℕ)) → Type 0
-IsRefused command opened named name said = (why : Cause) × (other : List ℕ)
+IsRefusedOpening command opened named name said = (why : Cause) × (other : List ℕ)
     × IsRefusedFor opened named why name other × (said ≡ cause_words command why name other)
 
 -- the name of a database, on which no call was made: it is empty or ends in a slash
@@ -85,12 +85,12 @@ abbrev pub IsOfLine : (said : Option (List ℕ)) → Type 0
 IsOfLine said = (line : Option ℕ) × (said ≡ option_map line_words line)
 
 -- of an input: the line of the fault's place, or why it was not read
-abbrev pub IsOfText : TextFault → (said : Option (List ℕ)) → Type 0
-IsOfText (text.Syntax at) said = IsOfLine said
-IsOfText (text.Ended at) said = IsOfLine said
-IsOfText (text.Large at) said = IsOfLine said
-IsOfText text.Input said = IsOfSystem said
-IsOfText fault said = said ≡ None
+abbrev pub IsOfTextOf : TextFault → (said : Option (List ℕ)) → Type 0
+IsOfTextOf (text.Syntax at) said = IsOfLine said
+IsOfTextOf (text.Ended at) said = IsOfLine said
+IsOfTextOf (text.Large at) said = IsOfLine said
+IsOfTextOf text.Input said = IsOfSystem said
+IsOfTextOf fault said = said ≡ None
 
 -- of a database: why it was not read, and of damage nothing
 abbrev pub IsOfRead : ReadFault → (said : Option (List ℕ)) → Type 0
@@ -156,11 +156,11 @@ IsOfDatabase command fault name said = ⊥
 abbrev pub IsCause : Asked → Fault → (opened : OpenCalls) → (named : NameCalls) → (name : List ℕ)
     → (said : Option (List ℕ)) → Type 0
 IsCause command Open opened named name said =
-    IsRefused command opened named name said ⊎ IsNoNameOf command name said
-IsCause command Rename opened named name said = IsRefused command opened named name said
-IsCause command NoMemory opened named name said = IsRefused command opened named name said
+    IsRefusedOpening command opened named name said ⊎ IsNoNameOf command name said
+IsCause command Rename opened named name said = IsRefusedOpening command opened named name said
+IsCause command NoMemory opened named name said = IsRefusedOpening command opened named name said
 IsCause command (Text input fault) opened named name said =
-    (name ≡ input_name command input) × IsOfText fault said
+    (name ≡ input_name command input) × IsOfTextOf fault said
 IsCause command (Make fault) opened named name said = IsMadeName command name × IsOfSystem said
 IsCause command Output opened named name said =
     ((name ≡ codes "standard output") ⊎ (name ≡ codes "standard error")) × IsOfSystem said

@@ -5,7 +5,7 @@ use Rattle.std.specs.Io.KnownBytes.{Keeps, Appends}
 use Rattle.cdb_command.specs.declared.options.MakeOptions.{MakeOptions}
 use Rattle.cdb_files.specs.Folder.{AreGuarded, NameCalls}
 use Rattle.cdb_files.specs.Replacing.{AreOfReplacing, AtEachMoment, EndsIn, IsRenamed, LeavesNew}
-use Rattle.cdb_files.specs.Replacing.{FailsToBuild, IsNoName, IsOfBuilder, LeavesOldOrNew, Tells, renames}
+use Rattle.cdb_files.specs.Replacing.{FailsToBuild, IsNoName, IsOfBuilder, LeavesOldOrNew, BuilderTells, renames}
 use Rattle.cdb_files.specs.declared.answer.Answer.{Answer}
 use Rattle.cdb_files.specs.declared.answer.Answer.TheVariants as looks
 use Rattle.cdb_files.specs.declared.name_trace.NameCall.TheVariants as name_call
@@ -21,7 +21,7 @@ use Rattle.cdb_store.specs.declared.raw.RawFile.{Ghosts as Raw}
 use Rattle.cdb_store.specs.declared.store.Store.{Ghosts}
 use Rattle.cdb_make.specs.Views.Maker.{WhereHonest}
 use Rattle.cdb_tool.specs.Runs.Inputs.{InputsLeft}
-use Rattle.cdb_tool.specs.Runs.Make.{HandsBack, HasFailed, IsOfBase, IsOfStore, Makes, OfBase, Runs}
+use Rattle.cdb_tool.specs.Runs.Make.{HandsBack, BaseHasFailed, IsOfBase, IsOfStore, Makes, OfBase, MakeRuns}
 use Rattle.cdb_tool.specs.declared.fault.Fault.{Fault}
 use Rattle.cdb_tool.specs.declared.fault.Fault.TheVariants.{Open, NoMemory, Output, Rename}
 use Rattle.cdb_tool.specs.declared.fault.Fault.TheVariants.{Make}
@@ -78,32 +78,32 @@ abbrev pub IsCaused : Fault → (before after : ℕ) → Type 0
 IsCaused fault before after =
     (IsOfStore fault → before < after) × (fault ≡ NoMemory → after ≡ before)
 
-abbrev pub HasCause : {S : Type 0} → Ghosts S → (store left : S) → Result Unit Fault → Type 0
-HasCause s store left made =
+abbrev pub HasCauseInStore : {S : Type 0} → Ghosts S → (store left : S) → Result Unit Fault → Type 0
+HasCauseInStore s store left made =
     IfErr made (λ fault. IsCaused fault (s.failures store) (s.failures left))
 
 -- a run made it, or failed to: the base as it is then, the images that are left, the lines that were
 -- said, and the answer. A fault of the base's store comes only if that store failed
-pub record IsRun {F : Type 0} (f : Ghosts F) (m : Making F) (back : Option F)
+pub record IsMakeRun {F : Type 0} (f : Ghosts F) (m : Making F) (back : Option F)
     (images : List ℕ → Type 0) (told said : Option (List ℕ)) (made : Result Unit Fault) : Type 0
   where
     pub hands : HandsBack f m.base back
-    pub base_failed : IfErr made (λ fault. IsOfBase fault → HasFailed f m.base back)
+    pub base_failed : IfErr made (λ fault. IsOfBase fault → BaseHasFailed f m.base back)
     pub runs : WhereHonest images (OfBase f back (λ x.
-        Runs m.word m.greatest m.options x m.inputs images told said made))
+        MakeRuns m.word m.greatest m.options x m.inputs images told said made))
 
 -- one did in a store, which has this then
 pub record MakesIn {S F : Type 0} (s : Ghosts S) (f : Ghosts F) (m : Making F) (store left : S)
     (back : Option F) (told said : Option (List ℕ)) (made : Result Unit Fault) : Type 0 where
-  pub run : IsRun f m back (s.image left) told said made
-  pub failed : HasCause s store left made
+  pub run : IsMakeRun f m back (s.image left) told said made
+  pub failed : HasCauseInStore s store left made
   pub settled : OnOk made (s.settled left)
 
 -- one did through a buffer; or memory for that was refused, and no line was said
 abbrev pub IsBufferedRun : {F : Type 0} → Ghosts F → Making F → (back : Option F)
     → (images : List ℕ → Type 0) → (told said : Option (List ℕ)) → Result Unit Fault → Type 0
 IsBufferedRun f m back images told said made =
-    IsRun f m back images told said made
+    IsMakeRun f m back images told said made
     ⊎ ((back ≡ m.base) × (made ≡ Err NoMemory) × Keeps told said)
 
 -- ---- on standard output
@@ -207,7 +207,7 @@ pub record MakesEmptied {F I M Y : Type 0} (files : Files F I M Y) (m : Making F
   pub alone : left.other ≡ None
   pub run : IsBufferedRun files.stores m left.read (files.made.image built) old.errors new.errors
       made
-  pub cause : HasCause files.made store built made
+  pub cause : HasCauseInStore files.made store built made
   pub syncs : Syncs files.made built last made result
   pub has : OnOk result (HasDatabase files.stores m left.read (files.made.image last))
 
@@ -261,7 +261,7 @@ pub record Replaces {F R : Type 0} (f : Ghosts F) (r : Raw R) (m : Making F)
   pub build : IfErr answer (IsOfBuilder (FailsToBuild {file = r}
       (λ store left fault. IsCaused fault (failures_of store) (failures_of left)) temporary
       old.named new.named))
-  pub lines : Tells r (λ base. base ≡ m.base)
+  pub lines : BuilderTells r (λ base. base ≡ m.base)
       (λ base before after images made. IsBufferedRun f m base images before after made)
       temporary name old.named new.named back old.errors new.errors answer
 

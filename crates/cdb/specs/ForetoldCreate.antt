@@ -76,10 +76,10 @@ IsNoFailedRename (call, name, other, file) = ⊤
 
 -- what a name has then: what the calls on names left, and the name of the database, if that was made in
 -- place, what the store has
-abbrev pub Holds : {M : Type 0} → Ghosts M → Disk → (name : List ℕ) → Option M → NameCalls
+abbrev pub NameHolds : {M : Type 0} → Ghosts M → Disk → (name : List ℕ) → Option M → NameCalls
     → (other : List ℕ) → (held : Option (List ℕ)) → Type 0
-Holds m disk name None now other held = Has (place_of other) (disk other) now held
-Holds m disk name (Some store) now other held =
+NameHolds m disk name None now other held = Has (place_of other) (disk other) now held
+NameHolds m disk name (Some store) now other held =
     ((bytes_eq other name ≡ true) × IsNew (m.image store) held)
     ⊎ ((bytes_eq other name ≡ false) × Has (place_of other) (disk other) now held)
 
@@ -87,7 +87,7 @@ Holds m disk name (Some store) now other held =
 abbrev pub HoldsAll : {M : Type 0} → Ghosts M → Disk → (name : List ℕ) → Option M → NameCalls
     → Created → Type 0
 HoldsAll m disk name made now c = (other : List ℕ) (held : Option (List ℕ)) → c.unsure ≢ Some other
-    → Holds m disk name made now other held → held ≡ c.disk other
+    → NameHolds m disk name made now other held → held ≡ c.disk other
 
 -- the name whose file may have any bytes amid a create: the temporary one, or the one that is made in
 -- place

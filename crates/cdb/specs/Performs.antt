@@ -130,7 +130,7 @@ pub record IsNotTaken (most : ℕ) (file start end : Option (List ℕ)) (result 
   pub kept : Keeps start end
 
 -- they are, and this is done with them
-pub record IsTaken (most : ℕ) (file : Option (List ℕ)) (done : MemStore → MemStore → Type 0)
+pub record IsTakenInMemory (most : ℕ) (file : Option (List ℕ)) (done : MemStore → MemStore → Type 0)
     : Type 0 where
   pub store : MemStore
   pub whole : IfSome file (λ f. contents store ≡ f)
@@ -141,7 +141,7 @@ pub record IsTaken (most : ℕ) (file : Option (List ℕ)) (done : MemStore → 
 abbrev pub Takes : ℕ → (file start end : Option (List ℕ)) → Result Unit Fault
     → (MemStore → MemStore → Type 0) → Type 0
 Takes most file start end result done =
-    IsNotTaken most file start end result ⊎ IsTaken most file done
+    IsNotTaken most file start end result ⊎ IsTakenInMemory most file done
 
 -- the file that came is read at places, and is left so
 pub record OfFile {F I M Y : Type 0} (files : Files F I M Y) (name : List ℕ) (left : Left F M)

@@ -3,7 +3,7 @@ ghost use Rattle.std.specs.Prelude.{◌≡◌, IfSome, option_map, string_bytes}
 ghost use Rattle.cdb_tool.specs.Command.{asked_in};
 ghost use Rattle.cdb.specs.CauseLine.{error_words, reason_name, said_of};
 ghost use Rattle.cdb.specs.Causes.{IsCause, IsMadeName, IsNoNameOf, IsOfDatabase, IsOfRead};
-ghost use Rattle.cdb.specs.Causes.{IsOfLine, IsOfSystem, IsOfText, IsRefused};
+ghost use Rattle.cdb.specs.Causes.{IsOfLine, IsOfSystem, IsOfTextOf, IsRefusedOpening};
 ghost use Rattle.cdb.specs.Causes.{cause_words, input_name, new_name, read_name, same_words};
 
 use crate::creating::is_in_place;
@@ -135,7 +135,7 @@ fn of_refusals<'a, Y, N>(command: &'a Command, system: &'a Y, names: &'a N) -> O
 where
     Y: System,
     N: Names,
-    ensures { IfSome result (λ r. IsRefused (asked_in command.now) (Y.calls system.now)
+    ensures { IfSome result (λ r. IsRefusedOpening (asked_in command.now) (Y.calls system.now)
         (N.calls names.now) (reason_name r) (said_of r.told)) }
 {
     if let Some(refusal) = system.refusal() {
@@ -255,7 +255,7 @@ where
 fn of_fault<Y>(command: &Command, number: u64, fault: TextFault, system: &Y) -> Told
 where
     Y: System,
-    ensures { IsOfText fault (said_of result) }
+    ensures { IsOfTextOf fault (said_of result) }
 {
     match fault {
         TextFault::Syntax(at) | TextFault::Ended(at) | TextFault::Large(at) => {
@@ -271,7 +271,7 @@ fn of_text<'a, Y>(command: &'a Command, number: u64, fault: TextFault, system: &
 where
     Y: System,
     ensures name { reason_name result ≡ input_name (asked_in command.now) number }
-    ensures told { IsOfText fault (said_of result.told) }
+    ensures told { IsOfTextOf fault (said_of result.told) }
 {
     of_name(
         input_name(command, number),

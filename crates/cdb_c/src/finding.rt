@@ -4,8 +4,8 @@ ghost use Rattle.cdb_form.specs.Format.Hash.{key_hash};
 ghost use Rattle.cdb_form.specs.Format.Pair.{head_size};
 ghost use Rattle.cdb_read.specs.Lookup.{lookup_of, nothing_found};
 ghost use Rattle.cdb_read.specs.Views.Probing.{ProbeInside};
-ghost use Rattle.cdb_memory.specs.Searches.{probe_of, ahead, IsInside, Begins};
-ghost use Rattle.cdb_memory.specs.Searches.{GivesSpan, GivesNone, Advances, HasFirst};
+ghost use Rattle.cdb_memory.specs.Searches.{probe_of, ahead, IsSearchWithin, SearchBegins};
+ghost use Rattle.cdb_memory.specs.Searches.{SearchGivesSpan, SearchGivesNone, Advances, HasFirst};
 ghost use Rattle.cdb_c.specs.Answers.{Says, IsDamaged, span_of, search_of};
 
 use cdb_form::Narrow;
@@ -98,13 +98,13 @@ pub extern "C" fn cdb_c_find(file: &[u8], key: &[u8], found: &mut Found) -> i32
     }
 }
 
-/// Begins the search of a key in a file, which has at least a head. 0 says that it ends at once.
+/// SearchBegins the search of a key in a file, which has at least a head. 0 says that it ends at once.
 #[unsafe(no_mangle)]
 pub extern "C" fn cdb_c_begin(file: &[u8], key: &[u8], state: &mut State) -> i32
     requires { head_size 4 ≤ length file.now }
     ensures begins { Says result
-        (Begins 4 file.now key.now (search_of state.new))
-        (Begins 4 file.now key.now (search_of state.new))
+        (SearchBegins 4 file.now key.now (search_of state.new))
+        (SearchBegins 4 file.now key.now (search_of state.new))
         (IsDamaged (lookup_of 4 file.now key.now)) }
     ensures left { Says result (0 < state.new.left) (state.new.left ≡ 0)
         (state.new ≡ state.old) }
@@ -126,11 +126,11 @@ pub extern "C" fn cdb_c_begin(file: &[u8], key: &[u8], state: &mut State) -> i32
 pub extern "C" fn cdb_c_next(file: &[u8], key: &[u8], state: &mut State, found: &mut Found) -> i32
     requires { length file.now ≤ 4294967295 }
     ensures gives { state.old.hash ≡ key_hash key.now
-        → IsInside 4 (length file.now) (search_of state.old)
+        → IsSearchWithin 4 (length file.now) (search_of state.old)
         → Says result
-        (GivesSpan 4 file.now key.now (search_of state.old) (search_of state.new)
+        (SearchGivesSpan 4 file.now key.now (search_of state.old) (search_of state.new)
         (span_of found.new))
-        (GivesNone 4 file.now key.now (search_of state.old) (search_of state.new))
+        (SearchGivesNone 4 file.now key.now (search_of state.old) (search_of state.new))
         (IsDamaged (ahead 4 file.now key.now (search_of state.old))) }
     ensures advances { Says result
         (Advances 4 (length file.now) (search_of state.old) (search_of state.new)

@@ -3,13 +3,13 @@ ghost use Rattle.cdb_form.specs.Format.Record.{record_of};
 ghost use Rattle.std.specs.Prelude.{◌≡◌, None, Err, IfOk, IfErr, negsuc, length};
 ghost use Rattle.cdb_make.specs.Views.Maker.{Puts, FailsPutting, Follows};
 ghost use Rattle.cdb_make.specs.Views.Maker.{Removes, FailsRemoving, FailsFinishing};
-ghost use Rattle.cdb_make.specs.Views.Maker.{WritesNothing, FailsLooking, SameCounts, KeepsAll};
+ghost use Rattle.cdb_make.specs.Views.Maker.{WritesNothing, FailsLooking, SameCounts, MakerKeepsAll};
 ghost use Rattle.cdb_make.specs.declared.fault.MakeFault.TheVariants.{Broken};
 ghost use Rattle.cdb_make.specs.Views.Appending.{AppendsAll, FailsAppending};
 ghost use Rattle.cdb_form.specs.Format.Walk.{whole_records};
 ghost use Rattle.cdb_handle.specs.Kept.{kept_in};
-ghost use Rattle.cdb_handle.specs.Calls.{Between, HasNoMaker, HasNewMaker, IsFinished};
-ghost use Rattle.cdb_handle.specs.Calls.{FindsKey, Counts};
+ghost use Rattle.cdb_handle.specs.Calls.{BetweenCalls, HasNoMaker, HasNewMaker, IsHandleFinished};
+ghost use Rattle.cdb_handle.specs.Calls.{FindsKey, HandleCounts};
 ghost use Rattle.cdb_c.specs.Codes.{put_code, done_code, found_code, removed_code, mode_of};
 ghost use Rattle.cdb_c.specs.Codes.{Answers, appended_code};
 
@@ -28,12 +28,12 @@ fn put_by(
     key: &[u8],
     value: &[u8],
 ) -> Result<Put, MakeFault>
-    ensures puts { IfOk result (λ p. Between (kept_in handle.old) (kept_in handle.new) (λ m n.
+    ensures puts { IfOk result (λ p. BetweenCalls (kept_in handle.old) (kept_in handle.new) (λ m n.
         Puts m.maker n.maker (mode_of mode) (record_of key.now value.now) p)) }
-    ensures fails { IfErr result (λ f. Between (kept_in handle.old) (kept_in handle.new) (λ m n.
+    ensures fails { IfErr result (λ f. BetweenCalls (kept_in handle.old) (kept_in handle.new) (λ m n.
         FailsPutting m.maker n.maker (mode_of mode)
         (record_of key.now value.now) f)) }
-    ensures follows { Between (kept_in handle.old) (kept_in handle.new) (λ m n.
+    ensures follows { BetweenCalls (kept_in handle.old) (kept_in handle.new) (λ m n.
         Follows m.maker n.maker) }
     ensures no_maker { HasNoMaker (kept_in handle.old) → result ≡ Err Broken }
 {
@@ -66,12 +66,12 @@ pub extern "C" fn cdb_c_make_put(
     value: &[u8],
 ) -> i32
     ensures puts { Answers put_code result
-        (λ p. Between (kept_in handle.old) (kept_in handle.new) (λ m n.
+        (λ p. BetweenCalls (kept_in handle.old) (kept_in handle.new) (λ m n.
         Puts m.maker n.maker (mode_of mode) (record_of key.now value.now) p))
-        (λ f. Between (kept_in handle.old) (kept_in handle.new) (λ m n.
+        (λ f. BetweenCalls (kept_in handle.old) (kept_in handle.new) (λ m n.
         FailsPutting m.maker n.maker (mode_of mode)
         (record_of key.now value.now) f)) }
-    ensures follows { Between (kept_in handle.old) (kept_in handle.new) (λ m n.
+    ensures follows { BetweenCalls (kept_in handle.old) (kept_in handle.new) (λ m n.
         Follows m.maker n.maker) }
     ensures no_maker { HasNoMaker (kept_in handle.old) → result ≡ negsuc 0 }
 {
@@ -83,13 +83,13 @@ pub extern "C" fn cdb_c_make_put(
 #[unsafe(no_mangle)]
 pub extern "C" fn cdb_c_make_append(alloc: Global, handle: &mut Handle, bytes: &[u8]) -> i32
     ensures appends { Answers appended_code result
-        (λ k. Between (kept_in handle.old) (kept_in handle.new) (λ m n.
+        (λ k. BetweenCalls (kept_in handle.old) (kept_in handle.new) (λ m n.
         AppendsAll m.maker n.maker (whole_records 4 (length bytes.now) bytes.now) k))
-        (λ f. Between (kept_in handle.old) (kept_in handle.new) (λ m n.
+        (λ f. BetweenCalls (kept_in handle.old) (kept_in handle.new) (λ m n.
         FailsAppending m.maker n.maker (whole_records 4 (length bytes.now) bytes.now) f)) }
-    ensures keeps { Between (kept_in handle.old) (kept_in handle.new) (λ m n.
-        KeepsAll m.maker n.maker) }
-    ensures follows { Between (kept_in handle.old) (kept_in handle.new) (λ m n.
+    ensures keeps { BetweenCalls (kept_in handle.old) (kept_in handle.new) (λ m n.
+        MakerKeepsAll m.maker n.maker) }
+    ensures follows { BetweenCalls (kept_in handle.old) (kept_in handle.new) (λ m n.
         Follows m.maker n.maker) }
     ensures no_maker { HasNoMaker (kept_in handle.old) → result ≡ negsuc 0 }
 {
@@ -99,7 +99,7 @@ pub extern "C" fn cdb_c_make_append(alloc: Global, handle: &mut Handle, bytes: &
 /// How many records a maker holds. 0: the handle has none.
 #[unsafe(no_mangle)]
 pub extern "C" fn cdb_c_make_count(alloc: Global, handle: &mut Handle) -> u64
-    ensures count { Counts (kept_in handle.old) result }
+    ensures count { HandleCounts (kept_in handle.old) result }
     ensures kept { kept_in handle.new ≡ kept_in handle.old }
 {
     count(alloc, handle)
@@ -109,17 +109,17 @@ pub extern "C" fn cdb_c_make_count(alloc: Global, handle: &mut Handle) -> u64
 #[unsafe(no_mangle)]
 pub extern "C" fn cdb_c_make_exists(alloc: Global, handle: &mut Handle, key: &[u8]) -> i32
     ensures finds { Answers found_code result
-        (λ there. Between (kept_in handle.old) (kept_in handle.new) (FindsKey there key.now))
-        (λ f. Between (kept_in handle.old) (kept_in handle.new) (λ m n.
+        (λ there. BetweenCalls (kept_in handle.old) (kept_in handle.new) (FindsKey there key.now))
+        (λ f. BetweenCalls (kept_in handle.old) (kept_in handle.new) (λ m n.
         FailsLooking m.maker n.maker f)) }
     ensures stays { Answers found_code result
-        (λ _. Between (kept_in handle.old) (kept_in handle.new) (λ m n.
+        (λ _. BetweenCalls (kept_in handle.old) (kept_in handle.new) (λ m n.
         WritesNothing m.maker n.maker))
-        (λ f. Between (kept_in handle.old) (kept_in handle.new) (λ m n.
+        (λ f. BetweenCalls (kept_in handle.old) (kept_in handle.new) (λ m n.
         FailsLooking m.maker n.maker f)) }
-    ensures follows { Between (kept_in handle.old) (kept_in handle.new) (λ m n.
+    ensures follows { BetweenCalls (kept_in handle.old) (kept_in handle.new) (λ m n.
         Follows m.maker n.maker) }
-    ensures counts { Between (kept_in handle.old) (kept_in handle.new) (λ m n.
+    ensures counts { BetweenCalls (kept_in handle.old) (kept_in handle.new) (λ m n.
         SameCounts m.maker n.maker) }
     ensures no_maker { HasNoMaker (kept_in handle.old) → result ≡ negsuc 0 }
 {
@@ -131,11 +131,11 @@ pub extern "C" fn cdb_c_make_exists(alloc: Global, handle: &mut Handle, key: &[u
 #[unsafe(no_mangle)]
 pub extern "C" fn cdb_c_make_remove(alloc: Global, handle: &mut Handle, key: &[u8]) -> i32
     ensures removes { Answers removed_code result
-        (λ k. Between (kept_in handle.old) (kept_in handle.new) (λ m n.
+        (λ k. BetweenCalls (kept_in handle.old) (kept_in handle.new) (λ m n.
         Removes m.maker n.maker key.now k))
-        (λ f. Between (kept_in handle.old) (kept_in handle.new) (λ m n.
+        (λ f. BetweenCalls (kept_in handle.old) (kept_in handle.new) (λ m n.
         FailsRemoving m.maker n.maker key.now f)) }
-    ensures follows { Between (kept_in handle.old) (kept_in handle.new) (λ m n.
+    ensures follows { BetweenCalls (kept_in handle.old) (kept_in handle.new) (λ m n.
         Follows m.maker n.maker) }
     ensures no_maker { HasNoMaker (kept_in handle.old) → result ≡ negsuc 0 }
 {
@@ -147,8 +147,8 @@ pub extern "C" fn cdb_c_make_remove(alloc: Global, handle: &mut Handle, key: &[u
 #[unsafe(no_mangle)]
 pub extern "C" fn cdb_c_make_finish(alloc: Global, handle: &mut Handle) -> i32
     ensures finishes { Answers done_code result
-        (λ _. IsFinished (kept_in handle.old) (kept_in handle.new))
-        (λ f. Between (kept_in handle.old) (kept_in handle.new) (λ m n.
+        (λ _. IsHandleFinished (kept_in handle.old) (kept_in handle.new))
+        (λ f. BetweenCalls (kept_in handle.old) (kept_in handle.new) (λ m n.
         FailsFinishing m.maker n.maker f)) }
     ensures no_maker { HasNoMaker (kept_in handle.old) → result ≡ negsuc 0 }
 {

@@ -4,7 +4,7 @@ ghost use Rattle.cdb_form.specs.Format.Pair.{head_size};
 ghost use Rattle.cdb_form.specs.Format.Walk.{walk_of, damaged};
 ghost use Rattle.cdb_form.specs.declared.damage.Damage.TheVariants.{Record};
 ghost use Rattle.cdb_read.specs.Views.Walking.{behind, LiesAt};
-ghost use Rattle.cdb_memory.specs.Walks.{rest_of, Begins, GivesRecord};
+ghost use Rattle.cdb_memory.specs.Walks.{rest_of, WalkBegins, WalkGivesRecord};
 ghost use Rattle.cdb_c.specs.Answers.{Says, IsWalkDamaged, pair_of, rest_at};
 
 use cdb_form::Narrow;
@@ -46,7 +46,7 @@ impl Placed {
 #[unsafe(no_mangle)]
 pub extern "C" fn cdb_c_record_end(file: &[u8]) -> u64
     requires { head_size 4 ≤ length file.now }
-    ensures begins { 0 < result → Begins 4 file.now (rest_at (head_size 4) result) }
+    ensures begins { 0 < result → WalkBegins 4 file.now (rest_at (head_size 4) result) }
     ensures damaged { result ≡ 0 → IsWalkDamaged (walk_of 4 file.now) }
 {
     match first_record::<Narrow>(file) {
@@ -69,7 +69,7 @@ pub extern "C" fn cdb_c_next_record(
 ) -> i32
     requires { length file.now ≤ 4294967295 }
     ensures gives { head_size 4 ≤ end → Says result
-        (GivesRecord 4 file.now (rest_at place.old end) (rest_at place.new end) (pair_of found.new))
+        (WalkGivesRecord 4 file.now (rest_at place.old end) (rest_at place.new end) (pair_of found.new))
         (end ≤ place.old)
         (rest_of 4 file.now (rest_at place.old end) ≡ damaged (Record place.old)) }
     ensures ended { head_size 4 ≤ end → end ≤ place.old → result ≡ pos 0 }

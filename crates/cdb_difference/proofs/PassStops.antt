@@ -12,7 +12,7 @@ use Rattle.cdb_read.specs.Values.{values_of}
 use Rattle.cdb_read.specs.declared.fault.ReadFault.{ReadFault}
 use Rattle.cdb_read.specs.declared.fault.ReadFault.TheVariants.{Short, Table, Record, Slot, Twice, Unindexed, Device, NoMemory, Output}
 use Rattle.cdb_read.proofs.Differences.{values_of-append}
-use Rattle.cdb_difference.specs.Difference.{HasKey, IsDamaged, ReadingStops, Stops, StopsBy}
+use Rattle.cdb_difference.specs.Difference.{WalkHasKey, IsOneDamaged, ReadingStops, DifferenceStops, StopsBy}
 use Rattle.cdb_difference.specs.Views.Stop.{flipped}
 use Rattle.cdb_difference.specs.declared.stop.Stop.{Stop}
 use Rattle.cdb_difference.specs.declared.stop.Stop.TheVariants.{Own, Other}
@@ -36,7 +36,7 @@ both_since s t own own_mid own_new other other_mid other_new P P_now Q Q_now O O
 both_since s t own own_mid own_new other other_mid other_new P P_now Q Q_now O O_now (Other f) mine theirs p q out fails = stops_since t other other_mid other_new other_new Q Q_now O O_now f theirs (omega arith) q out fails
 
 -- the key of a record that a walk gave is one of its keys
-pub passed_key : (w : ℕ) (b : List ℕ) (done : List KeyValue) (old new : Walked) (r : KeyValue) → walk_of w b ≡ with_records done old → old ≡ with_first r new → HasKey r.key (walk_of w b).records
+pub passed_key : (w : ℕ) (b : List ℕ) (done : List KeyValue) (old new : Walked) (r : KeyValue) → walk_of w b ≡ with_records done old → old ≡ with_first r new → WalkHasKey r.key (walk_of w b).records
 passed_key w b done old new r all first none =
     let records : (walk_of w b).records ≡ done ++ r ∷ new.records = ap (λ (x : Walked). x.records) (all ∙ ap (with_records done) first) in
     let mine : values_of r.key (r ∷ new.records) ≡ r.value ∷ values_of r.key new.records =
@@ -47,11 +47,11 @@ passed_key w b done old new r all first none =
     omega (arith, length-append (values_of r.key done) (r.value ∷ values_of r.key new.records), long)
 
 -- what stopped a pass stopped the whole, whatever was read before
-pub whole_since : {S T : Type 0} (w : ℕ) (s : Ghosts S) (t : Ghosts T) (old old_mid old_now : S) (new new_mid new_now : T) (O O_now : Type 0) (stop : Stop) → OnlyReads s old old_mid → OnlyReads t new new_mid → (O → O_now) → Stops w s t old_mid old_now new_mid new_now O stop → Stops w s t old old_now new new_now O_now stop
+pub whole_since : {S T : Type 0} (w : ℕ) (s : Ghosts S) (t : Ghosts T) (old old_mid old_now : S) (new new_mid new_now : T) (O O_now : Type 0) (stop : Stop) → OnlyReads s old old_mid → OnlyReads t new new_mid → (O → O_now) → DifferenceStops w s t old_mid old_now new_mid new_now O stop → DifferenceStops w s t old old_now new new_now O_now stop
 whole_since w s t old old_mid old_now new new_mid new_now O O_now stop first second out fails =
-    both_since s t old old_mid old_now new new_mid new_now (IsDamaged w s t old_now new_now) (IsDamaged w s t old_now new_now) (IsDamaged w t s new_now old_now) (IsDamaged w t s new_now old_now) O O_now stop first.failures second.failures (λ d is. is) (λ d is. is) out fails
+    both_since s t old old_mid old_now new new_mid new_now (IsOneDamaged w s t old_now new_now) (IsOneDamaged w s t old_now new_now) (IsOneDamaged w t s new_now old_now) (IsOneDamaged w t s new_now old_now) O O_now stop first.failures second.failures (λ d is. is) (λ d is. is) out fails
 
 -- and a pass over the new one
-pub flipped_stops : {S T : Type 0} (w : ℕ) (s : Ghosts S) (t : Ghosts T) (old old_now : S) (new new_now : T) (O : Type 0) (stop : Stop) → Stops w t s new new_now old old_now O stop → Stops w s t old old_now new new_now O (flipped stop)
+pub flipped_stops : {S T : Type 0} (w : ℕ) (s : Ghosts S) (t : Ghosts T) (old old_now : S) (new new_now : T) (O : Type 0) (stop : Stop) → DifferenceStops w t s new new_now old old_now O stop → DifferenceStops w s t old old_now new new_now O (flipped stop)
 flipped_stops w s t old old_now new new_now O (Own f) fails = fails
 flipped_stops w s t old old_now new new_now O (Other f) fails = fails

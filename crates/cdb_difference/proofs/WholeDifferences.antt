@@ -8,7 +8,7 @@ use Rattle.cdb_form.specs.Views.KnownBytes.{AppendsPrefix}
 use Rattle.cdb_form.specs.declared.change.ChangeKind.TheVariants.{Put, Remove}
 use Rattle.cdb_form.proofs.Bytes.WritingLemmas.{appends_none, appends_then, prefix_in, prefix_last, prefix_then, same_appends}
 use Rattle.cdb_read.specs.Difference.{changed_keys, difference, puts_of}
-use Rattle.cdb_difference.specs.Difference.{changes_text, difference_of, key_changes, pass_changes, pass_of, WritesDifference, WritesPass, WritesPassPrefix, WritesPrefix}
+use Rattle.cdb_difference.specs.Difference.{changes_text, difference_of, key_changes, pass_changes, pass_of, WritesDifference, WritesPass, WritesPassPrefix, WritesDifferencePrefix}
 use Rattle.cdb_difference.proofs.Passes.{text_append}
 
 removals_are : (rs : List KeyValue) (ks : List (List ℕ)) → map Removing ks ≡ flat_map (key_changes Remove rs) ks
@@ -46,7 +46,7 @@ difference_written w b c start mid end now first second last = record {
 }
 
 -- a prefix of the first pass
-pub prefix_first : (w : ℕ) (b c : List ℕ) (start now : Option (List ℕ)) → WritesPassPrefix w Remove b c start now → WritesPrefix w b c start now
+pub prefix_first : (w : ℕ) (b c : List ℕ) (start now : Option (List ℕ)) → WritesPassPrefix w Remove b c start now → WritesDifferencePrefix w b c start now
 prefix_first w b c start now first = record {
   changes = first.changes;
   written = prefix_in start now (changes_text first.changes) (codes "\n") _ first.written refl;
@@ -54,7 +54,7 @@ prefix_first w b c start now first = record {
 }
 
 -- the first one, and a prefix of the second
-pub prefix_second : (w : ℕ) (b c : List ℕ) (start mid now : Option (List ℕ)) → WritesPass w Remove b c start mid → WritesPassPrefix w Put c b mid now → WritesPrefix w b c start now
+pub prefix_second : (w : ℕ) (b c : List ℕ) (start mid now : Option (List ℕ)) → WritesPass w Remove b c start mid → WritesPassPrefix w Put c b mid now → WritesDifferencePrefix w b c start now
 prefix_second w b c start mid now first second = record {
   changes = first.changes ++ second.changes;
   written = prefix_then start mid now (changes_text first.changes) (changes_text second.changes) (codes "\n") _ first.written second.written (text_of_two first.changes second.changes);
@@ -64,7 +64,7 @@ prefix_second w b c start mid now first second = record {
 }
 
 -- both, and a prefix of what ends the text
-pub prefix_end : (w : ℕ) (b c : List ℕ) (start mid end now : Option (List ℕ)) → WritesPass w Remove b c start mid → WritesPass w Put c b mid end → AppendsPrefix end now (codes "\n") → WritesPrefix w b c start now
+pub prefix_end : (w : ℕ) (b c : List ℕ) (start mid end now : Option (List ℕ)) → WritesPass w Remove b c start mid → WritesPass w Put c b mid end → AppendsPrefix end now (codes "\n") → WritesDifferencePrefix w b c start now
 prefix_end w b c start mid end now first second last =
     let both = appends_then start mid end _ _ first.written second.written in
     record {
@@ -78,7 +78,7 @@ prefix_end w b c start mid end now first second last =
     }
 
 -- nothing of it was written
-pub nothing_written : (w : ℕ) (b c : List ℕ) (start : Option (List ℕ)) → WritesPrefix w b c start start
+pub nothing_written : (w : ℕ) (b c : List ℕ) (start : Option (List ℕ)) → WritesDifferencePrefix w b c start start
 nothing_written w b c start = record {
   changes = [];
   written = record { front = []; more = amending_text []; split = refl; appended = appends_none start };

@@ -45,14 +45,14 @@ changes_at kind.Put w b key = map (λ value. Putting (record_of key value)) (val
 changes_at kind.Remove w b key = Removing key ∷ []
 
 -- some record has a key
-abbrev pub HasKey : List ℕ → List KeyValue → Type 0
-HasKey key rs = (values_of key rs ≡ []) → ⊥
+abbrev pub WalkHasKey : List ℕ → List KeyValue → Type 0
+WalkHasKey key rs = (values_of key rs ≡ []) → ⊥
 
 -- a file beside another has a damage, which its walk meets or its look-up of the key of a record of
 -- either file
 abbrev pub HasDamage : ℕ → (b c : List ℕ) → Damage → Type 0
 HasDamage w b c damage = ((walk_of w b).damage ≡ Some damage)
-    ⊎ ((key : List ℕ) × (HasKey key (walk_of w b).records ⊎ HasKey key (walk_of w c).records)
+    ⊎ ((key : List ℕ) × (WalkHasKey key (walk_of w b).records ⊎ WalkHasKey key (walk_of w c).records)
     × ((lookup_of w b key).damage ≡ Some damage))
 
 -- in each image of both
@@ -61,8 +61,8 @@ abbrev pub InBoth : {S T : Type 0} → Ghosts S → Ghosts T → S → T
 InBoth s t old new P = (b c : List ℕ) → s.image old b → t.image new c → P b c
 
 -- the first of two files has a damage
-abbrev pub IsDamaged : {S T : Type 0} → ℕ → Ghosts S → Ghosts T → S → T → Damage → Type 0
-IsDamaged w s t store beside damage =
+abbrev pub IsOneDamaged : {S T : Type 0} → ℕ → Ghosts S → Ghosts T → S → T → Damage → Type 0
+IsOneDamaged w s t store beside damage =
     InBoth s t store beside (λ b c. HasDamage w b c damage)
 
 -- ---- one pass over a file, beside another
@@ -119,11 +119,11 @@ StopsBy s t own own_now other other_now mine theirs failed (Other fault) =
     ReadingStops t other other_now theirs failed fault
 
 -- a pass stopped
-abbrev pub Stops : {S T : Type 0} → ℕ → Ghosts S → Ghosts T → (own own_now : S)
+abbrev pub DifferenceStops : {S T : Type 0} → ℕ → Ghosts S → Ghosts T → (own own_now : S)
     → (other other_now : T) → (failed : Type 0) → Stop → Type 0
-Stops w s t own own_now other other_now failed =
-    StopsBy s t own own_now other other_now (IsDamaged w s t own_now other_now)
-    (IsDamaged w t s other_now own_now) failed
+DifferenceStops w s t own own_now other other_now failed =
+    StopsBy s t own own_now other other_now (IsOneDamaged w s t own_now other_now)
+    (IsOneDamaged w t s other_now own_now) failed
 
 -- the look-up of a key has a damage in a store
 abbrev pub LookHas : {S : Type 0} → ℕ → Ghosts S → S → (key : List ℕ) → Damage → Type 0
@@ -155,7 +155,7 @@ pub record WritesDifference (w : ℕ) (b c : List ℕ) (start end : Option (List
   pub are : FindsInOrder w b → FindsInOrder w c → changes ≡ difference_of w b c
 
 -- or a prefix of one
-pub record WritesPrefix (w : ℕ) (b c : List ℕ) (start end : Option (List ℕ)) : Type 0 where
+pub record WritesDifferencePrefix (w : ℕ) (b c : List ℕ) (start end : Option (List ℕ)) : Type 0 where
   pub changes : List Change
   pub written : AppendsPrefix start end (amending_text changes)
   pub are : FindsInOrder w b → FindsInOrder w c
@@ -168,6 +168,6 @@ pub record SaysDifference {S T : Type 0} (w : ℕ) (s : Ghosts S) (t : Ghosts T)
   pub old_reads : OnlyReads s old old_now
   pub new_reads : OnlyReads t new new_now
   pub ok : OnOk result (InBoth s t old_now new_now (λ b c. WritesDifference w b c start end))
-  pub err : IfErr result (Stops w s t old old_now new new_now failed)
+  pub err : IfErr result (DifferenceStops w s t old old_now new new_now failed)
   pub front : IfErr result (λ stop.
-      InBoth s t old_now new_now (λ b c. WritesPrefix w b c start end))
+      InBoth s t old_now new_now (λ b c. WritesDifferencePrefix w b c start end))

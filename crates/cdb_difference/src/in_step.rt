@@ -4,7 +4,7 @@ ghost use Rattle.cdb_form.specs.Format.Walk.{walk_of};
 ghost use Rattle.cdb_store.specs.Reads.{OnlyReads};
 ghost use Rattle.cdb_read.specs.Lookup.{bytes_of};
 ghost use Rattle.cdb_read.specs.Views.Reads.{StoreFails};
-ghost use Rattle.cdb_difference.specs.Difference.{InBoth, Stops};
+ghost use Rattle.cdb_difference.specs.Difference.{InBoth, DifferenceStops};
 ghost use Rattle.cdb_difference.specs.Views.InStep.{AgreeUnmarked, AllMarked, AreInStep, LeftStops, OtherMarkFails, OtherNextStops, bytes_ahead};
 ghost use Rattle.cdb_difference.specs.Views.Marks.{Grows, is_marked};
 ghost use Rattle.cdb_difference.specs.Views.NextRecord.{GivesNext, GivesNoNext, NextStops, left_from};
@@ -120,7 +120,7 @@ fn step<L: Width, S: Store, T: Store>(
     ensures in_step { OnOk result (AreInStep L.WORD S.Store T.Store own.new.store other.new.store
         marks.new.words.items at.new) }
     ensures goes_on { IfOk result (λ went. went ≡ true → bytes_ahead at.new < bytes_ahead at.old) }
-    ensures fails { IfErr result (Stops L.WORD S.Store T.Store own.old.store own.new.store
+    ensures fails { IfErr result (DifferenceStops L.WORD S.Store T.Store own.old.store own.new.store
         other.old.store other.new.store ⊥) }
 {
     let mut then = at.own;
@@ -165,7 +165,7 @@ pub(crate) fn mark_changed<L: Width, S: Store, T: Store>(
     ensures other_reads { OnlyReads T.Store other.old.store other.new.store }
     ensures agree { OnOk result (InBoth S.Store T.Store own.new.store other.new.store (λ b c.
         AgreeUnmarked marks.new.words.items (walk_of L.WORD b).records (walk_of L.WORD c).records)) }
-    ensures fails { IfErr result (Stops L.WORD S.Store T.Store own.old.store own.new.store
+    ensures fails { IfErr result (DifferenceStops L.WORD S.Store T.Store own.old.store own.new.store
         other.old.store other.new.store ⊥) }
 {
     let mut at = Places {

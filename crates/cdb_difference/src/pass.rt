@@ -3,7 +3,7 @@ ghost use Rattle.std.specs.Prelude.{◌≡◌, ◌+◌, ◌<◌, ◌≤◌, ◌&
 ghost use Rattle.cdb_form.specs.Format.Walk.{walk_of};
 ghost use Rattle.cdb_store.specs.Reads.{OnlyReads};
 ghost use Rattle.cdb_read.specs.Lookup.{bytes_of};
-ghost use Rattle.cdb_difference.specs.Difference.{InBoth, OtherLookHas, OwnLookHas, Stops, StopsBy};
+ghost use Rattle.cdb_difference.specs.Difference.{InBoth, OtherLookHas, OwnLookHas, DifferenceStops, StopsBy};
 ghost use Rattle.cdb_difference.specs.Difference.{is_first_changed, WritesPass, WritesPassPrefix};
 ghost use Rattle.cdb_difference.specs.Views.InStep.{AgreeUnmarked};
 ghost use Rattle.cdb_difference.specs.Views.Marks.{is_marked};
@@ -74,7 +74,7 @@ pub(crate) fn write_pass<L: Width, S: Store, T: Store, W: Sink>(
         (λ b c. WritesPass L.WORD kind b c (W.contents w.old) (W.contents w.new))) }
     ensures front { IfErr result (λ stop. InBoth S.Store T.Store own.new.store other.new.store
         (λ b c. WritesPassPrefix L.WORD kind b c (W.contents w.old) (W.contents w.new))) }
-    ensures fails { IfErr result (Stops L.WORD S.Store T.Store own.old.store own.new.store
+    ensures fails { IfErr result (DifferenceStops L.WORD S.Store T.Store own.old.store own.new.store
         other.old.store other.new.store (W.failed w.new)) }
 {
     let mut key = Vec::new(alloc);

@@ -6,7 +6,7 @@ use Rattle.cdb_files.specs.declared.answer.Lock.TheVariants.{Taken, Unsupported,
 use Rattle.cdb_files.specs.declared.name_trace.NameCall.TheVariants.{Same, Opened, Made, Locked, Own, NotRenamed}
 use Rattle.cdb_files.specs.declared.name_fault.NameFault.{NameFault}
 use Rattle.cdb_store.specs.Calls.{Calls}
-use Rattle.cdb_files.specs.Folder.{NameCalls, AreApart, HasLock, HasMade, MayRemove, MayUndo}
+use Rattle.cdb_files.specs.Folder.{NameCalls, AreNamesApart, HasLock, HasMade, MayRemove, MayUndo}
 use Rattle.cdb_files.specs.Replacing.{IsMadeApart, TakesLock}
 
 -- the lock of a file was taken
@@ -16,10 +16,10 @@ has_lock t Unsupported mid free = inl refl
 has_lock t Held mid free = absurd (free refl)
 
 -- an old file of another name may be removed then
-pub old_removable : (t n : List ℕ) (old mid new : NameCalls) → AreApart t n old → mid ≡ (Opened, t, [], []) ∷ old → TakesLock t mid new
+pub old_removable : (t n : List ℕ) (old mid new : NameCalls) → AreNamesApart t n old → mid ≡ (Opened, t, [], []) ∷ old → TakesLock t mid new
     → MayRemove t n new
 old_removable t n old mid new apart is takes =
-    let seen : AreApart t n mid = subst (λ (cs : NameCalls). AreApart t n cs) (sym is) apart in
+    let seen : AreNamesApart t n mid = subst (λ (cs : NameCalls). AreNamesApart t n cs) (sym is) apart in
     let may : MayRemove t n ((Locked takes.lock, t, [], []) ∷ mid) = record { lock = has_lock t takes.lock mid takes.free; other = inr seen } in
     subst (λ (cs : NameCalls). MayRemove t n cs) (sym takes.are) may
 

@@ -7,7 +7,7 @@ use Rattle.cdb_files.specs.declared.name_trace.NameCall.{NameCall}
 use Rattle.cdb_files.specs.declared.name_trace.NameCall.TheVariants.{Special, Same, Looked, Opened, NotOpened, Made, NotMade, Locked, Own, Input, Bits, Seen, Set}
 use Rattle.cdb_files.specs.declared.name_trace.NameCall.TheVariants.{Removed, NotRemoved, Renamed, NotRenamed, Synced, NotSynced}
 use Rattle.cdb_files.specs.declared.wanted.Wanted.{Wanted}
-use Rattle.cdb_files.specs.Folder.{NameCalls, IsRemoval, IsCleared, MayHave, Has, LeavesFile, AreApart, MayRemove, IsGuarded, EachIsGuarded, AreGuarded}
+use Rattle.cdb_files.specs.Folder.{NameCalls, IsRemoval, IsCleared, MayHave, Has, LeavesFile, AreNamesApart, MayRemove, IsGuarded, EachIsGuarded, AreGuarded}
 use Rattle.cdb_files.specs.Replacing.{NameEvent, IsReady, IsOfReplacing, AreOfReplacing, EachIsStep, AreSteps, AtEach, AtEachMoment, IsNew, IsTrueOf, LeavesOldOrNew, LeavesNew}
 
 -- ---- steps
@@ -150,7 +150,7 @@ all_keep t n whole place old (call ∷ since) all =
 
 unseen : (t n : List ℕ) (whole : List ℕ → Type 0) (place : List ℕ → Bool) (old now : NameCalls) (first held : Option (List ℕ))
     → IsTrueOf place t n now → MayHave place first old held ⊎ IsNew whole held ⊎ (place t ≡ true)
-    → MayHave place first old held ⊎ IsNew whole held ⊎ ((place t ≡ true) × (AreApart t n now → ⊥))
+    → MayHave place first old held ⊎ IsNew whole held ⊎ ((place t ≡ true) × (AreNamesApart t n now → ⊥))
 unseen t n whole place old now first held is_true (inl was) = inl was
 unseen t n whole place old now first held is_true (inr (inl new)) = inr (inl new)
 unseen t n whole place old now first held is_true (inr (inr leads)) = inr (inr (leads, λ seen. false≢true (sym (is_true seen) ∙ leads)))

@@ -16,7 +16,7 @@ use Rattle.cdb_files.specs.declared.replace.ReplaceFault.TheVariants as replacin
 use Rattle.cdb_store.specs.Calls.{Calls}
 use Rattle.cdb_store.specs.declared.trace.Call.TheVariants.{Made as FileMade}
 use Rattle.cdb_files.specs.Folder.{NameCalls, IsCleared}
-use Rattle.cdb_files.specs.Replacing.{AreSteps, FailsRename, GoesOn, IsFound, IsFree, IsNotGiven, IsStop, IsUndoing, LacksBits, LacksMemory, NameEvent, StopsAt, StopsMaking, StopsUnbuilt, of_open}
+use Rattle.cdb_files.specs.Replacing.{AreSteps, FailsRename, GoesOn, IsFound, IsFree, IsNotGiven, IsStop, IsUndoing, LacksBits, LacksMemoryForLock, NameEvent, ReplacingStopsAt, StopsMaking, StopsUnbuilt, of_open}
 
 -- ---- calls that go on
 
@@ -77,12 +77,12 @@ making_since t n old mid new on (stop, before, since, inl (is, are)) =
     (stop, before, further old mid before on since, inl (stop_since t n old mid before stop on is, are))
 making_since t n old mid new on (stop, before, since, inr undone) = (stop, before, further old mid before on since, inr undone)
 
-memory_since : (t : List ℕ) (old mid new : NameCalls) → GoesOn old mid → LacksMemory t mid new → LacksMemory t old new
+memory_since : (t : List ℕ) (old mid new : NameCalls) → GoesOn old mid → LacksMemoryForLock t mid new → LacksMemoryForLock t old new
 memory_since t old mid new on (before, since, inl is) = (before, further old mid before on since, inl is)
 memory_since t old mid new on (before, since, inr (is, free)) =
     (before, further old mid before on since, inr (is, free_since t old mid before on free))
 
-pub stops_since : {E : Type 0} (t n : List ℕ) (old mid new : NameCalls) (fault : ReplaceFault E) → GoesOn old mid → StopsAt t n mid new fault → StopsAt t n old new fault
+pub stops_since : {E : Type 0} (t n : List ℕ) (old mid new : NameCalls) (fault : ReplaceFault E) → GoesOn old mid → ReplacingStopsAt t n mid new fault → ReplacingStopsAt t n old new fault
 stops_since t n old mid new replacing.Open on stops = making_since t n old mid new on stops
 stops_since t n old mid new replacing.NoMemory on stops = memory_since t old mid new on stops
 stops_since t n old mid new replacing.Rename on stops = absurd stops
@@ -123,13 +123,13 @@ rename_since t n old mid new fault on (len, file, before, since, is) = (len, fil
 
 -- the old file was not opened
 pub not_opened : (E : Type 0) (t n : List ℕ) (old new : NameCalls) (fault : NameFault) → new ≡ (NotOpened fault, t, [], []) ∷ old
-    → StopsAt t n old new (of_open {E = E} fault)
+    → ReplacingStopsAt t n old new (of_open {E = E} fault)
 not_opened E t n old new Failed is = ((NotOpened Failed, t, [], []), old, no_more old, inl (refl, is))
 not_opened E t n old new NoMemory is = (old, no_more old, inl is)
 
 -- no file was made
 pub not_made : (E : Type 0) (t n : List ℕ) (old mid new : NameCalls) (fault : NameFault) → GoesOn old mid → IsFree t old mid
-    → new ≡ (NotMade fault, t, [], []) ∷ mid → StopsAt t n old new (of_open {E = E} fault)
+    → new ≡ (NotMade fault, t, [], []) ∷ mid → ReplacingStopsAt t n old new (of_open {E = E} fault)
 not_made E t n old mid new Failed on free is = ((NotMade Failed, t, [], []), mid, on, inl ((refl, free), is))
 not_made E t n old mid new NoMemory on free is = (mid, on, inr (is, free))
 
@@ -156,7 +156,7 @@ pub free_goes_on : (t : List ℕ) (old calls : NameCalls) → IsFree t old calls
 free_goes_on t old calls (before, on, inl is) = one_more old before calls _ on is
 free_goes_on t old calls (before, on, inr cleared) = one_more old before calls _ on cleared.1.2
 
-pub unbuilt : {E : Type 0} (t n : List ℕ) (old new : NameCalls) (fault : ReplaceFault E) → StopsAt t n old new fault → StopsUnbuilt t n old new fault
+pub unbuilt : {E : Type 0} (t n : List ℕ) (old new : NameCalls) (fault : ReplaceFault E) → ReplacingStopsAt t n old new fault → StopsUnbuilt t n old new fault
 unbuilt t n old new replacing.Open stops = inr stops
 unbuilt t n old new replacing.NoMemory stops = stops
 unbuilt t n old new replacing.Rename stops = absurd stops

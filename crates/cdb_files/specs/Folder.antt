@@ -33,9 +33,9 @@ LeavesFile len file None = ⊥
 LeavesFile len file (Some b) = IsSynced file → FileImage len file b
 
 -- a file is there, of any bytes
-abbrev pub IsThere : Option (List ℕ) → Type 0
-IsThere None = ⊥
-IsThere (Some b) = Unit {0}
+abbrev pub IsFileThere : Option (List ℕ) → Type 0
+IsFileThere None = ⊥
+IsFileThere (Some b) = Unit {0}
 
 -- what a place has if no crash comes, but for bytes that are not sure: nothing, or a file with these
 -- bytes. A place is given by which names lead to it
@@ -43,7 +43,7 @@ abbrev pub Has : (place : List ℕ → Bool) (first : Option (List ℕ)) → Nam
     → Option (List ℕ) → Type 0
 Has place first [] held = held ≡ first
 Has place first ((Made, made, other, file) ∷ calls) held =
-    ((place made ≡ true) × IsThere held) ⊎ ((place made ≡ false) × Has place first calls held)
+    ((place made ≡ true) × IsFileThere held) ⊎ ((place made ≡ false) × Has place first calls held)
 Has place first ((Removed, gone, other, file) ∷ calls) held =
     ((place gone ≡ true) × (held ≡ None)) ⊎ ((place gone ≡ false) × Has place first calls held)
 Has place first ((NotRemoved, gone, other, file) ∷ calls) held =
@@ -63,7 +63,7 @@ abbrev pub MayHave : (place : List ℕ → Bool) (first : Option (List ℕ)) →
     → Option (List ℕ) → Type 0
 MayHave place first [] held = held ≡ first
 MayHave place first ((Made, made, other, file) ∷ calls) held =
-    ((place made ≡ true) × IsThere held) ⊎ MayHave place first calls held
+    ((place made ≡ true) × IsFileThere held) ⊎ MayHave place first calls held
 MayHave place first ((Removed, gone, other, file) ∷ calls) held =
     ((place gone ≡ true) × (held ≡ None)) ⊎ MayHave place first calls held
 MayHave place first ((NotRemoved, gone, other, file) ∷ calls) held =
@@ -102,14 +102,14 @@ IsOwn name ((NotRemoved, one, other, file) ∷ calls) = (one ≢ name) × IsOwn 
 IsOwn name ((_, one, other, file) ∷ calls) = IsOwn name calls
 
 -- two names were seen to be of two files, and no file was made under the first since
-abbrev pub AreApart : (name other : List ℕ) → NameCalls → Type 0
-AreApart name other [] = ⊥
-AreApart name other ((Same No, one, two, file) ∷ calls) =
-    ((one ≡ name) × (two ≡ other)) ⊎ AreApart name other calls
-AreApart name other ((Same answer, one, two, file) ∷ calls) =
-    (one ≢ name) × AreApart name other calls
-AreApart name other ((Made, one, two, file) ∷ calls) = (one ≢ name) × AreApart name other calls
-AreApart name other ((_, one, two, file) ∷ calls) = AreApart name other calls
+abbrev pub AreNamesApart : (name other : List ℕ) → NameCalls → Type 0
+AreNamesApart name other [] = ⊥
+AreNamesApart name other ((Same No, one, two, file) ∷ calls) =
+    ((one ≡ name) × (two ≡ other)) ⊎ AreNamesApart name other calls
+AreNamesApart name other ((Same answer, one, two, file) ∷ calls) =
+    (one ≢ name) × AreNamesApart name other calls
+AreNamesApart name other ((Made, one, two, file) ∷ calls) = (one ≢ name) × AreNamesApart name other calls
+AreNamesApart name other ((_, one, two, file) ∷ calls) = AreNamesApart name other calls
 
 -- a name was seen to lead to a regular file or to nothing
 abbrev pub IsPlain : (name : List ℕ) → NameCalls → Type 0
@@ -153,7 +153,7 @@ pub record HasBits (from to : List ℕ) (file : Calls) (old new : NameCalls) : T
 pub record MayReplace (from to : List ℕ) (file : Calls) (before : NameCalls) : Type 0 where
   pub lock : HasLock from before
   pub own : IsOwn from before
-  pub apart : AreApart from to before
+  pub apart : AreNamesApart from to before
   pub earlier : NameCalls
   pub bits : HasBits from to file earlier before
   pub plain : IsPlain to before
@@ -174,7 +174,7 @@ pub record MayUndo (gone : List ℕ) (before : NameCalls) : Type 0 where
 -- not the file of the name that is replaced
 pub record MayRemove (gone name : List ℕ) (before : NameCalls) : Type 0 where
   pub lock : HasLock gone before
-  pub other : HasMade gone before ⊎ AreApart gone name before
+  pub other : HasMade gone before ⊎ AreNamesApart gone name before
 
 -- a replacement of the file of a name takes a name from a file, or tries to, only if it may; and gives
 -- the file another name only if it may get it

@@ -94,6 +94,6 @@ refused_for why ((call, name, other, file) ∷ calls) =
     refused_with (refused_for why calls) (may_be_for call why) other (refused_name call name other)
 
 -- a refusal is that of the newest call that refused a name
-abbrev pub IsRefusal : Refusal → NameCalls → Type 0
-IsRefusal refusal calls =
+abbrev pub IsNameRefusal : Refusal → NameCalls → Type 0
+IsNameRefusal refusal calls =
     refused_for refusal.cause calls ≡ Some (string_bytes refusal.name, string_bytes refusal.other)

@@ -25,7 +25,7 @@ use Rattle.cdb_files.specs.declared.replace.ReplaceFault.{ReplaceFault}
 use Rattle.cdb_files.specs.declared.replace.ReplaceFault.TheVariants.{Open, NoMemory, Rename, Write}
 use Rattle.cdb_files.specs.declared.replace.ReplaceFault.TheVariants.{Build}
 use Rattle.cdb_files.specs.declared.wanted.Wanted.{Wanted}
-use Rattle.cdb_files.specs.Folder.{NameCalls, IsCleared, MayHave, AreApart, IsGuarded, IsPlain}
+use Rattle.cdb_files.specs.Folder.{NameCalls, IsCleared, MayHave, AreNamesApart, IsGuarded, IsPlain}
 use Rattle.cdb_files.specs.Folder.{asked_for}
 use Rattle.cdb_files.specs.Wanted.{Suits}
 
@@ -166,25 +166,25 @@ StopsMaking temporary name old calls = (stop : NameEvent) × (before : NameCalls
     × IsCleared temporary ((file_call.Made, []) ∷ []) (stop ∷ before) calls))
 
 -- the system had no memory for the temporary file, since the old calls
-abbrev pub LacksMemory : (temporary : List ℕ) (old calls : NameCalls) → Type 0
-LacksMemory temporary old calls = (before : NameCalls) × GoesOn old before
+abbrev pub LacksMemoryForLock : (temporary : List ℕ) (old calls : NameCalls) → Type 0
+LacksMemoryForLock temporary old calls = (before : NameCalls) × GoesOn old before
     × ((calls ≡ (NotOpened name_fault.NoMemory, temporary, [], []) ∷ before)
     ⊎ ((calls ≡ (NotMade name_fault.NoMemory, temporary, [], []) ∷ before)
     × IsFree temporary old before))
 
 -- which calls since the old ones end in this fault once the names were seen
-abbrev pub StopsAt : {E : Type 0} → (temporary name : List ℕ) (old new : NameCalls)
+abbrev pub ReplacingStopsAt : {E : Type 0} → (temporary name : List ℕ) (old new : NameCalls)
     → ReplaceFault E → Type 0
-StopsAt temporary name old new Open = StopsMaking temporary name old new
-StopsAt temporary name old new NoMemory = LacksMemory temporary old new
-StopsAt temporary name old new fault = ⊥
+ReplacingStopsAt temporary name old new Open = StopsMaking temporary name old new
+ReplacingStopsAt temporary name old new NoMemory = LacksMemoryForLock temporary old new
+ReplacingStopsAt temporary name old new fault = ⊥
 
 -- which calls since the old ones end in this fault before anything is built
 abbrev pub StopsUnbuilt : {E : Type 0} → (temporary name : List ℕ) (old new : NameCalls)
     → ReplaceFault E → Type 0
 StopsUnbuilt temporary name old new Open =
     ((new ≡ old) × (IsNoName name ⊎ (temporary ≡ name))) ⊎ StopsMaking temporary name old new
-StopsUnbuilt temporary name old new NoMemory = LacksMemory temporary old new
+StopsUnbuilt temporary name old new NoMemory = LacksMemoryForLock temporary old new
 StopsUnbuilt temporary name old new Rename = new ≡ (Special answer.Yes, name, [], []) ∷ old
 StopsUnbuilt temporary name old new Write = ⊥
 StopsUnbuilt temporary name old new (Build fault) = ⊥
@@ -288,7 +288,7 @@ IsNew whole (Some b) = whole b
 
 -- no more than one of both names leads to a place, if they were seen to be of two files
 abbrev pub IsTrueOf : (place : List ℕ → Bool) (temporary name : List ℕ) → NameCalls → Type 0
-IsTrueOf place temporary name calls = AreApart temporary name calls → place temporary ≡ false
+IsTrueOf place temporary name calls = AreNamesApart temporary name calls → place temporary ≡ false
 
 -- a crash now leaves in the place of the name what one before would have left, or a whole new file;
 -- or the temporary name leads there too, and the two were not seen to be of two files
@@ -297,7 +297,7 @@ abbrev pub LeavesOldOrNew : (temporary name : List ℕ) (whole : List ℕ → Ty
 LeavesOldOrNew temporary name whole old now = (place : List ℕ → Bool) → place name ≡ true
     → IsTrueOf place temporary name now → (first held : Option (List ℕ))
     → MayHave place first now held → MayHave place first old held ⊎ IsNew whole held
-    ⊎ ((place temporary ≡ true) × (AreApart temporary name now → ⊥))
+    ⊎ ((place temporary ≡ true) × (AreNamesApart temporary name now → ⊥))
 
 -- a crash now leaves a whole new file in the place of the name, if the folder's sync has answered
 abbrev pub LeavesNew : (name : List ℕ) (whole : List ℕ → Type 0) (now : NameCalls) → Type 0
@@ -322,10 +322,10 @@ IsOfBuilder P (Build fault) = P fault
 IsOfBuilder P fault = Unit {0}
 
 -- what a replacement answers whose builder answered so: a fault is told, and a rename may fail
-abbrev pub Answers : {E : Type 0} → Result Unit E → Result Unit (ReplaceFault E) → Type 0
-Answers (Ok done) (Ok all) = Unit {0}
-Answers (Ok done) (Err fault) = IsOfBuilder (λ _. ⊥) fault
-Answers (Err fault) result = result ≡ Err (Build fault)
+abbrev pub BuilderAnswers : {E : Type 0} → Result Unit E → Result Unit (ReplaceFault E) → Type 0
+BuilderAnswers (Ok done) (Ok all) = Unit {0}
+BuilderAnswers (Ok done) (Err fault) = IsOfBuilder (λ _. ⊥) fault
+BuilderAnswers (Err fault) result = result ≡ Err (Build fault)
 
 -- a builder built a file, or failed to, and left this in what it writes to beside; the file's bytes
 -- stayed as it was sealed; and if all went well, that very file was renamed, else the temporary name
@@ -337,7 +337,7 @@ pub record TellsOfFile {F B T E : Type 0} (file : Raw F)
   pub left : FileStore F file
   pub built : Result Unit E
   pub tells_so : tells back told said (images_of left) built
-  pub answers : Answers built result
+  pub answers : BuilderAnswers built result
   pub sealed : FileStore F file
   pub same : SameImages (images_of left) (images_of sealed)
   pub unsynced : result ≡ Err Write → failures_of left < failures_of sealed
@@ -358,10 +358,10 @@ pub record TellsOfNone {B T E : Type 0} (gives_up : B → Type 0) (temporary nam
     pub moments : AtEachMoment (LeavesOldOrNew temporary name (λ _. ⊥) old) old new
 
 -- nothing was built, or something was
-abbrev pub Tells : {F B T E : Type 0} → Raw F → (B → Type 0)
+abbrev pub BuilderTells : {F B T E : Type 0} → Raw F → (B → Type 0)
     → (B → T → T → (List ℕ → Type 0) → Result Unit E → Type 0) → (temporary name : List ℕ)
     → (old new : NameCalls) → (back : B) → (told said : T)
     → Result Unit (ReplaceFault E) → Type 0
-Tells file gives_up tells temporary name old new back told said result =
+BuilderTells file gives_up tells temporary name old new back told said result =
     TellsOfNone gives_up temporary name old new back told said result
     ⊎ TellsOfFile file tells temporary name old new back told said result

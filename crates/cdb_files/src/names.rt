@@ -2,7 +2,7 @@
 ghost use Rattle.std.specs.Prelude.{◌≡◌, [], ◌∷◌, IfOk, IfErr, IfSome, OnOk};
 ghost use Rattle.cdb_store.specs.declared.trace.Call.TheVariants.{Made as FileMade};
 ghost use Rattle.cdb_files.specs.Folder.{IsCleared, HasLock, NameCalls};
-ghost use Rattle.cdb_files.specs.Refusals.{IsRefusal};
+ghost use Rattle.cdb_files.specs.Refusals.{IsNameRefusal};
 ghost use Rattle.cdb_files.specs.declared.name_trace.NameCall.TheVariants.{
   Special,
   Same,
@@ -50,7 +50,7 @@ pub trait Names {
 
     /// The name that was refused last, and why. `None`: none was, or it is not known.
     fn refusal(&self) -> Option<&Refusal>
-        ensures { IfSome result (λ refusal. IsRefusal refusal.now (calls self.now)) };
+        ensures { IfSome result (λ refusal. IsNameRefusal refusal.now (calls self.now)) };
 
     /// The number of the error of the last call that failed on the file from which a name was taken last,
     /// if the system gave one.

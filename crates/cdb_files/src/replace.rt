@@ -6,16 +6,7 @@ ghost use Rattle.cdb_store.specs.FileStore.{calls_of, failures_of, images_of};
 ghost use Rattle.cdb_store.specs.Images.{SameImages};
 ghost use Rattle.cdb_store.specs.declared.trace.Call.TheVariants.{Made as FileMade};
 ghost use Rattle.cdb_store.specs.declared.trace.Call.TheVariants.{Synced as FileSynced};
-ghost use Rattle.cdb_files.specs.Folder.{
-  AreApart,
-  AreGuarded,
-  HasBits,
-  IsPlain,
-  MayRemove,
-  MayReplace,
-  MayUndo,
-  NameCalls,
-};
+ghost use Rattle.cdb_files.specs.Folder.{AreNamesApart, AreGuarded, HasBits, IsPlain, MayRemove, MayReplace, MayUndo, NameCalls, };
 ghost use Rattle.cdb_files.specs.declared.answer.Answer.TheVariants.{Yes, No};
 ghost use Rattle.cdb_files.specs.declared.answer.Lock.TheVariants.{Held};
 ghost use Rattle.cdb_files.specs.declared.name_trace.NameCall.TheVariants.{Same, Locked, Own};
@@ -26,33 +17,7 @@ ghost use Rattle.cdb_files.specs.declared.replace.ReplaceFault.TheVariants.{
   Rename,
   Write,
 };
-ghost use Rattle.cdb_files.specs.Replacing.{
-  AreOfReplacing,
-  AreSteps,
-  AtEachMoment,
-  ClearsFile,
-  EndsIn,
-  FailsRename,
-  FailsToBuild,
-  FailsToSeal,
-  IsFree,
-  IsMadeApart,
-  IsNoName,
-  IsOfBuilder,
-  IsReadyToBuild,
-  IsRenamed,
-  IsUndoing,
-  LeavesNew,
-  LeavesOldOrNew,
-  RenamesFile,
-  StopsAt,
-  StopsUnbuilt,
-  TakesLock,
-  Tells,
-  of_name,
-  of_open,
-  renames,
-};
+ghost use Rattle.cdb_files.specs.Replacing.{AreOfReplacing, AreSteps, AtEachMoment, ClearsFile, EndsIn, FailsRename, FailsToBuild, FailsToSeal, IsFree, IsMadeApart, IsNoName, IsOfBuilder, IsReadyToBuild, IsRenamed, IsUndoing, LeavesNew, LeavesOldOrNew, RenamesFile, ReplacingStopsAt, StopsUnbuilt, TakesLock, BuilderTells, of_name, of_open, renames, };
 
 use crate::answer::{Answer, Found, Lock};
 use crate::name_fault::NameFault;
@@ -188,14 +153,14 @@ fn remove_old<N: Names, E: Drop>(
     name: &str,
     temporary: &str,
 ) -> Result<(), ReplaceFault<E>>
-    requires seen { AreApart temporary.now name.now (N.calls names.old) }
+    requires seen { AreNamesApart temporary.now name.now (N.calls names.old) }
     ensures steps { AreSteps temporary.now name.now (λ _. ⊥) (N.calls names.old)
         (N.calls names.new) }
     ensures free { OnOk result (IsFree temporary.now (N.calls names.old) (N.calls names.new)) }
     ensures plain { IsPlain name.now (N.calls names.old) → IsPlain name.now (N.calls names.new) }
     ensures renames { renames (N.calls names.new) ≡ renames (N.calls names.old) }
     ensures err { IfErr result
-        (StopsAt temporary.now name.now (N.calls names.old) (N.calls names.new)) }
+        (ReplacingStopsAt temporary.now name.now (N.calls names.old) (N.calls names.new)) }
     ensures not_built { IfErr result (IsOfBuilder (λ _. ⊥)) }
 {
     let old = match names.open_old(temporary) {
@@ -223,7 +188,7 @@ fn clear<N: Names, E: Drop>(
     ensures plain { IsPlain name.now (N.calls names.old) → IsPlain name.now (N.calls names.new) }
     ensures renames { renames (N.calls names.new) ≡ renames (N.calls names.old) }
     ensures err { IfErr result
-        (StopsAt temporary.now name.now (N.calls names.old) (N.calls names.new)) }
+        (ReplacingStopsAt temporary.now name.now (N.calls names.old) (N.calls names.new)) }
     ensures not_built { IfErr result (IsOfBuilder (λ _. ⊥)) }
 {
     match names.look(temporary) {
@@ -277,7 +242,7 @@ fn make_own<N: Names, E: Drop>(
         (IsMadeApart temporary.now name.now (N.calls names.old) (N.calls names.new)) }
     ensures renames { renames (N.calls names.new) ≡ renames (N.calls names.old) }
     ensures err { (first : NameCalls) → IsFree temporary.now first (N.calls names.old)
-        → IfErr result (StopsAt temporary.now name.now first (N.calls names.new)) }
+        → IfErr result (ReplacingStopsAt temporary.now name.now first (N.calls names.new)) }
     ensures not_built { IfErr result (IsOfBuilder (λ _. ⊥)) }
     ensures empty { IfOk result (λ s. calls_of s ≡ (FileMade, []) ∷ []) }
 {
@@ -473,7 +438,7 @@ pub fn replace_file<N: Names, B: Builder<FileStore<N::File>>>(
         (N.calls names.old) (N.calls names.new))) }
     // If nothing was built, no file is whole, the builder gave up, and what it writes to beside is as
     // it was. Else that is as the builder left it, and at Ok the file that it built then was renamed.
-    ensures told { Tells N.File.RawFile (B.gives_up builder) (B.tells builder) temporary.now name.now
+    ensures told { BuilderTells N.File.RawFile (B.gives_up builder) (B.tells builder) temporary.now name.now
         (N.calls names.old) (N.calls names.new) result.0 told.old told.new result.1 }
     // With one text for both names nothing is done.
     ensures one_name { (temporary.now ≢ name.now) ⊎ (N.calls names.new ≡ N.calls names.old) }

@@ -19,11 +19,11 @@ Follow m new P = ⊥
 
 -- the maker before a call and the maker after it are in this relation; if there was no maker,
 -- nothing changed
-abbrev pub Between : Option Database → Option Database → (Making → Making → Type 0) → Type 0
-Between None new P = new ≡ None
-Between (Some Lent) new P = new ≡ Some Lent
-Between (Some (Made f)) new P = new ≡ Some (Made f)
-Between (Some (Open m)) new P = Follow m new P
+abbrev pub BetweenCalls : Option Database → Option Database → (Making → Making → Type 0) → Type 0
+BetweenCalls None new P = new ≡ None
+BetweenCalls (Some Lent) new P = new ≡ Some Lent
+BetweenCalls (Some (Made f)) new P = new ≡ Some (Made f)
+BetweenCalls (Some (Open m)) new P = Follow m new P
 
 -- so many records are what a maker holds, and what it tells
 pub record IsCount (m : Making) (n : ℕ) : Type 0 where
@@ -32,9 +32,9 @@ pub record IsCount (m : Making) (n : ℕ) : Type 0 where
   pub told : n ≡ told_count m.maker
 
 -- how many records a maker holds; of any other database none is said
-abbrev pub Counts : Option Database → ℕ → Type 0
-Counts (Some (Open m)) n = IsCount m n
-Counts old n = n ≡ 0
+abbrev pub HandleCounts : Option Database → ℕ → Type 0
+HandleCounts (Some (Open m)) n = IsCount m n
+HandleCounts old n = n ≡ 0
 
 -- there is no maker
 abbrev pub HasNoMaker : Option Database → Type 0
@@ -65,11 +65,11 @@ pub record FindsKey (there : Bool) (key : List ℕ) (m n : Making) : Type 0 wher
       → IsThere there key rs (images_of (store_of n.maker))
 
 -- the finished file is that of the records which the maker held, and the system was asked to sync it
-pub record IsFileOf (m : Making) (f : Finished) : Type 0 where
+pub record IsFileOfHandle (m : Making) (f : Finished) : Type 0 where
   pub file : (rs : List KeyValue) → Holds m.maker rs → IsFile 4 rs (images_of f.store)
   pub synced : IsSynced (calls_of (inner_of f.store))
 
 -- there was a maker, and now there is its finished file
-abbrev pub IsFinished : Option Database → Option Database → Type 0
-IsFinished (Some (Open m)) (Some (Made f)) = IsFileOf m f
-IsFinished old new = ⊥
+abbrev pub IsHandleFinished : Option Database → Option Database → Type 0
+IsHandleFinished (Some (Open m)) (Some (Made f)) = IsFileOfHandle m f
+IsHandleFinished old new = ⊥

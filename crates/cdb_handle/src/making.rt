@@ -4,12 +4,12 @@ ghost use Rattle.std.specs.Prelude.{◌≡◌, ◌⊎◌, Some, None, Err, IfOk,
 ghost use Rattle.cdb_make.specs.declared.fault.MakeFault.TheVariants.{Broken, NoMemory, Writing};
 ghost use Rattle.cdb_make.specs.Views.Maker.{Puts, FailsPutting, Follows};
 ghost use Rattle.cdb_make.specs.Views.Maker.{Removes, FailsRemoving, FailsFinishing};
-ghost use Rattle.cdb_make.specs.Views.Maker.{WritesNothing, FailsLooking, SameCounts, KeepsAll};
+ghost use Rattle.cdb_make.specs.Views.Maker.{WritesNothing, FailsLooking, SameCounts, MakerKeepsAll};
 ghost use Rattle.cdb_make.specs.Views.Appending.{AppendsAll, FailsAppending};
 ghost use Rattle.cdb_form.specs.Format.Walk.{whole_records};
 ghost use Rattle.cdb_handle.specs.Kept.{kept_in};
-ghost use Rattle.cdb_handle.specs.Calls.{Between, HasNoMaker, HasNewMaker, IsFinished};
-ghost use Rattle.cdb_handle.specs.Calls.{FindsKey, IsNew, Counts};
+ghost use Rattle.cdb_handle.specs.Calls.{BetweenCalls, HasNoMaker, HasNewMaker, IsHandleFinished};
+ghost use Rattle.cdb_handle.specs.Calls.{FindsKey, IsNew, HandleCounts};
 
 use crate::database::{Database, Finished, Making};
 use crate::file::GivenFile;
@@ -97,13 +97,13 @@ pub fn start(alloc: Global, handle: &mut Handle, file: GivenFile) -> Result<(), 
 
 /// Appends the whole records at the start of some bytes, if the database has an open maker.
 fn append_in(database: &mut Database, bytes: &[u8]) -> Result<usize, MakeFault>
-    ensures ok { IfOk result (λ k. Between (Some database.old) (Some database.new) (λ m n.
+    ensures ok { IfOk result (λ k. BetweenCalls (Some database.old) (Some database.new) (λ m n.
         AppendsAll m.maker n.maker (whole_records 4 (length bytes.now) bytes.now) k)) }
-    ensures fails { IfErr result (λ f. Between (Some database.old) (Some database.new) (λ m n.
+    ensures fails { IfErr result (λ f. BetweenCalls (Some database.old) (Some database.new) (λ m n.
         FailsAppending m.maker n.maker (whole_records 4 (length bytes.now) bytes.now) f)) }
-    ensures keeps { Between (Some database.old) (Some database.new) (λ m n.
-        KeepsAll m.maker n.maker) }
-    ensures follows { Between (Some database.old) (Some database.new) (λ m n.
+    ensures keeps { BetweenCalls (Some database.old) (Some database.new) (λ m n.
+        MakerKeepsAll m.maker n.maker) }
+    ensures follows { BetweenCalls (Some database.old) (Some database.new) (λ m n.
         Follows m.maker n.maker) }
     ensures no_maker { HasNoMaker (Some database.old) → result ≡ Err Broken }
 {
@@ -116,13 +116,13 @@ fn append_in(database: &mut Database, bytes: &[u8]) -> Result<usize, MakeFault>
 /// Appends the whole records at the start of some bytes, as `Maker::append` does. `Broken`: the
 /// handle has no maker, or a broken one.
 pub fn append(alloc: Global, handle: &mut Handle, bytes: &[u8]) -> Result<usize, MakeFault>
-    ensures ok { IfOk result (λ k. Between (kept_in handle.old) (kept_in handle.new) (λ m n.
+    ensures ok { IfOk result (λ k. BetweenCalls (kept_in handle.old) (kept_in handle.new) (λ m n.
         AppendsAll m.maker n.maker (whole_records 4 (length bytes.now) bytes.now) k)) }
-    ensures fails { IfErr result (λ f. Between (kept_in handle.old) (kept_in handle.new) (λ m n.
+    ensures fails { IfErr result (λ f. BetweenCalls (kept_in handle.old) (kept_in handle.new) (λ m n.
         FailsAppending m.maker n.maker (whole_records 4 (length bytes.now) bytes.now) f)) }
-    ensures keeps { Between (kept_in handle.old) (kept_in handle.new) (λ m n.
-        KeepsAll m.maker n.maker) }
-    ensures follows { Between (kept_in handle.old) (kept_in handle.new) (λ m n.
+    ensures keeps { BetweenCalls (kept_in handle.old) (kept_in handle.new) (λ m n.
+        MakerKeepsAll m.maker n.maker) }
+    ensures follows { BetweenCalls (kept_in handle.old) (kept_in handle.new) (λ m n.
         Follows m.maker n.maker) }
     ensures no_maker { HasNoMaker (kept_in handle.old) → result ≡ Err Broken }
 {
@@ -136,7 +136,7 @@ pub fn append(alloc: Global, handle: &mut Handle, bytes: &[u8]) -> Result<usize,
 
 /// How many records a maker holds.
 fn count_in(database: &Database) -> u64
-    ensures { Counts (Some database.now) result }
+    ensures { HandleCounts (Some database.now) result }
 {
     match database {
         Database::Open(making) => making.maker.count(),
@@ -146,7 +146,7 @@ fn count_in(database: &Database) -> u64
 
 /// How many records a maker holds. 0: the handle has none.
 pub fn count(alloc: Global, handle: &mut Handle) -> u64
-    ensures count { Counts (kept_in handle.old) result }
+    ensures count { HandleCounts (kept_in handle.old) result }
     ensures kept { kept_in handle.new ≡ kept_in handle.old }
 {
     let Some(database) = handle.take(alloc) else {
@@ -159,11 +159,11 @@ pub fn count(alloc: Global, handle: &mut Handle) -> u64
 
 /// Puts a record, if the database has an open maker.
 fn put_in(database: &mut Database, mode: Mode, key: &[u8], value: &[u8]) -> Result<Put, MakeFault>
-    ensures puts { IfOk result (λ p. Between (Some database.old) (Some database.new) (λ m n.
+    ensures puts { IfOk result (λ p. BetweenCalls (Some database.old) (Some database.new) (λ m n.
         Puts m.maker n.maker mode (record_of key.now value.now) p)) }
-    ensures fails { IfErr result (λ f. Between (Some database.old) (Some database.new) (λ m n.
+    ensures fails { IfErr result (λ f. BetweenCalls (Some database.old) (Some database.new) (λ m n.
         FailsPutting m.maker n.maker mode (record_of key.now value.now) f)) }
-    ensures follows { Between (Some database.old) (Some database.new) (λ m n.
+    ensures follows { BetweenCalls (Some database.old) (Some database.new) (λ m n.
         Follows m.maker n.maker) }
     ensures no_maker { HasNoMaker (Some database.old) → result ≡ Err Broken }
 {
@@ -181,11 +181,11 @@ pub fn put(
     key: &[u8],
     value: &[u8],
 ) -> Result<Put, MakeFault>
-    ensures puts { IfOk result (λ p. Between (kept_in handle.old) (kept_in handle.new) (λ m n.
+    ensures puts { IfOk result (λ p. BetweenCalls (kept_in handle.old) (kept_in handle.new) (λ m n.
         Puts m.maker n.maker mode (record_of key.now value.now) p)) }
-    ensures fails { IfErr result (λ f. Between (kept_in handle.old) (kept_in handle.new) (λ m n.
+    ensures fails { IfErr result (λ f. BetweenCalls (kept_in handle.old) (kept_in handle.new) (λ m n.
         FailsPutting m.maker n.maker mode (record_of key.now value.now) f)) }
-    ensures follows { Between (kept_in handle.old) (kept_in handle.new) (λ m n.
+    ensures follows { BetweenCalls (kept_in handle.old) (kept_in handle.new) (λ m n.
         Follows m.maker n.maker) }
     ensures no_maker { HasNoMaker (kept_in handle.old) → result ≡ Err Broken }
 {
@@ -210,15 +210,15 @@ fn look(making: &mut Making, key: &[u8]) -> Result<bool, MakeFault>
 
 /// Whether some record has a key, if the database has an open maker.
 fn look_in(database: &mut Database, key: &[u8]) -> Result<bool, MakeFault>
-    ensures there { IfOk result (λ there. Between (Some database.old) (Some database.new)
+    ensures there { IfOk result (λ there. BetweenCalls (Some database.old) (Some database.new)
         (FindsKey there key.now)) }
-    ensures ok { OnOk result (Between (Some database.old) (Some database.new) (λ m n.
+    ensures ok { OnOk result (BetweenCalls (Some database.old) (Some database.new) (λ m n.
         WritesNothing m.maker n.maker)) }
-    ensures fails { IfErr result (λ f. Between (Some database.old) (Some database.new) (λ m n.
+    ensures fails { IfErr result (λ f. BetweenCalls (Some database.old) (Some database.new) (λ m n.
         FailsLooking m.maker n.maker f)) }
-    ensures follows { Between (Some database.old) (Some database.new) (λ m n.
+    ensures follows { BetweenCalls (Some database.old) (Some database.new) (λ m n.
         Follows m.maker n.maker) }
-    ensures counts { Between (Some database.old) (Some database.new) (λ m n.
+    ensures counts { BetweenCalls (Some database.old) (Some database.new) (λ m n.
         SameCounts m.maker n.maker) }
     ensures no_maker { HasNoMaker (Some database.old) → result ≡ Err Broken }
 {
@@ -231,15 +231,15 @@ fn look_in(database: &mut Database, key: &[u8]) -> Result<bool, MakeFault>
 /// Whether some record has a key, as `Maker::exists` says. `Broken`: the handle has no maker, or a
 /// broken one.
 pub fn exists(alloc: Global, handle: &mut Handle, key: &[u8]) -> Result<bool, MakeFault>
-    ensures there { IfOk result (λ there. Between (kept_in handle.old) (kept_in handle.new)
+    ensures there { IfOk result (λ there. BetweenCalls (kept_in handle.old) (kept_in handle.new)
         (FindsKey there key.now)) }
-    ensures ok { OnOk result (Between (kept_in handle.old) (kept_in handle.new) (λ m n.
+    ensures ok { OnOk result (BetweenCalls (kept_in handle.old) (kept_in handle.new) (λ m n.
         WritesNothing m.maker n.maker)) }
-    ensures fails { IfErr result (λ f. Between (kept_in handle.old) (kept_in handle.new) (λ m n.
+    ensures fails { IfErr result (λ f. BetweenCalls (kept_in handle.old) (kept_in handle.new) (λ m n.
         FailsLooking m.maker n.maker f)) }
-    ensures follows { Between (kept_in handle.old) (kept_in handle.new) (λ m n.
+    ensures follows { BetweenCalls (kept_in handle.old) (kept_in handle.new) (λ m n.
         Follows m.maker n.maker) }
-    ensures counts { Between (kept_in handle.old) (kept_in handle.new) (λ m n.
+    ensures counts { BetweenCalls (kept_in handle.old) (kept_in handle.new) (λ m n.
         SameCounts m.maker n.maker) }
     ensures no_maker { HasNoMaker (kept_in handle.old) → result ≡ Err Broken }
 {
@@ -253,11 +253,11 @@ pub fn exists(alloc: Global, handle: &mut Handle, key: &[u8]) -> Result<bool, Ma
 
 /// Takes out every record of a key, if the database has an open maker.
 fn remove_in(database: &mut Database, key: &[u8]) -> Result<u64, MakeFault>
-    ensures removes { IfOk result (λ n. Between (Some database.old) (Some database.new) (λ m o.
+    ensures removes { IfOk result (λ n. BetweenCalls (Some database.old) (Some database.new) (λ m o.
         Removes m.maker o.maker key.now n)) }
-    ensures fails { IfErr result (λ f. Between (Some database.old) (Some database.new) (λ m n.
+    ensures fails { IfErr result (λ f. BetweenCalls (Some database.old) (Some database.new) (λ m n.
         FailsRemoving m.maker n.maker key.now f)) }
-    ensures follows { Between (Some database.old) (Some database.new) (λ m n.
+    ensures follows { BetweenCalls (Some database.old) (Some database.new) (λ m n.
         Follows m.maker n.maker) }
     ensures no_maker { HasNoMaker (Some database.old) → result ≡ Err Broken }
 {
@@ -270,11 +270,11 @@ fn remove_in(database: &mut Database, key: &[u8]) -> Result<u64, MakeFault>
 /// Takes out every record of a key, as `Maker::remove` does. `Broken`: the handle has no maker, or
 /// a broken one.
 pub fn remove(alloc: Global, handle: &mut Handle, key: &[u8]) -> Result<u64, MakeFault>
-    ensures removes { IfOk result (λ n. Between (kept_in handle.old) (kept_in handle.new) (λ m o.
+    ensures removes { IfOk result (λ n. BetweenCalls (kept_in handle.old) (kept_in handle.new) (λ m o.
         Removes m.maker o.maker key.now n)) }
-    ensures fails { IfErr result (λ f. Between (kept_in handle.old) (kept_in handle.new) (λ m n.
+    ensures fails { IfErr result (λ f. BetweenCalls (kept_in handle.old) (kept_in handle.new) (λ m n.
         FailsRemoving m.maker n.maker key.now f)) }
-    ensures follows { Between (kept_in handle.old) (kept_in handle.new) (λ m n.
+    ensures follows { BetweenCalls (kept_in handle.old) (kept_in handle.new) (λ m n.
         Follows m.maker n.maker) }
     ensures no_maker { HasNoMaker (kept_in handle.old) → result ≡ Err Broken }
 {
@@ -288,8 +288,8 @@ pub fn remove(alloc: Global, handle: &mut Handle, key: &[u8]) -> Result<u64, Mak
 
 /// Finishes a database: what it is then, and whether that failed.
 fn finished(database: Database) -> (Database, Result<(), MakeFault>)
-    ensures ok { OnOk result.1 (IsFinished (Some database) (Some result.0)) }
-    ensures fails { IfErr result.1 (λ f. Between (Some database) (Some result.0) (λ m n.
+    ensures ok { OnOk result.1 (IsHandleFinished (Some database) (Some result.0)) }
+    ensures fails { IfErr result.1 (λ f. BetweenCalls (Some database) (Some result.0) (λ m n.
         FailsFinishing m.maker n.maker f)) }
     ensures no_maker { HasNoMaker (Some database) → result.1 ≡ Err Broken }
 {
@@ -309,8 +309,8 @@ fn finished(database: Database) -> (Database, Result<(), MakeFault>)
 /// Finishes the file of its records, as `Maker::finish` does. `Broken`: an earlier call broke the
 /// maker, or the handle has none.
 pub fn finish(alloc: Global, handle: &mut Handle) -> Result<(), MakeFault>
-    ensures ok { OnOk result (IsFinished (kept_in handle.old) (kept_in handle.new)) }
-    ensures fails { IfErr result (λ f. Between (kept_in handle.old) (kept_in handle.new) (λ m n.
+    ensures ok { OnOk result (IsHandleFinished (kept_in handle.old) (kept_in handle.new)) }
+    ensures fails { IfErr result (λ f. BetweenCalls (kept_in handle.old) (kept_in handle.new) (λ m n.
         FailsFinishing m.maker n.maker f)) }
     ensures no_maker { HasNoMaker (kept_in handle.old) → result ≡ Err Broken }
 {

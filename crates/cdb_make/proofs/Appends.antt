@@ -4,7 +4,7 @@ use Rattle.std.specs.Prelude.{All, sum_by}
 use Rattle.std.proofs.Math.Nat.{mul-add, mul-le-mul_left}
 use Rattle.std.proofs.lemmas.List.{append-nil, length-map}
 use Rattle.std.proofs.lemmas.List.Sums.{sum_by_push, sum_by-append}
-use Rattle.cdb_store.specs.Images.{part, AreSized, AfterWrite, Holds as Stored}
+use Rattle.cdb_store.specs.Images.{part, AreSized, AfterWrite, ImagesHold as Stored}
 use Rattle.cdb_store.proofs.Parts.{part-overwrite}
 use Rattle.cdb_store.specs.declared.store.Store.{Ghosts}
 use Rattle.cdb_form.specs.declared.width.Width.{Ghosts as Widths}

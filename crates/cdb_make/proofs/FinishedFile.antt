@@ -9,7 +9,7 @@ use Rattle.cdb_form.specs.Format.Record.{KeyValue, record_bytes, records_end}
 use Rattle.cdb_form.specs.Format.Table.{file_tables, slots_of, table_entries}
 use Rattle.cdb_form.proofs.Bytes.HeadLemmas.{length-flat_map_words}
 use Rattle.cdb_form.proofs.Files.Sizes.{length-pointers_from, tables_are}
-use Rattle.cdb_store.specs.Images.{Holds, SameImages}
+use Rattle.cdb_store.specs.Images.{ImagesHold, SameImages}
 use Rattle.cdb_make.specs.Finished.{EndsWith, IsFinished, HeadIsLast}
 use Rattle.cdb_make.specs.Parts.{head_bytes, table_bytes}
 use Rattle.cdb_make.proofs.Bytes.Written.{flat_map-map}
@@ -68,7 +68,7 @@ finished {w = w} {end = end} {ls = ls} long start inside sized ends head same = 
 pub head_kept : {w end : ℕ} {ls : List (List WordPair)} {i j : List ℕ → Type 0} → KeepsPart 0 (head_size w) i j → HeadIsLast w end ls i j
 head_kept k = record { each = λ b is. inl (k.each b is) }
 
-pub tables_held : {w end : ℕ} {ls : List (List WordPair)} {i j : List ℕ → Type 0} → Holds end (flat_map (table_bytes w) ls) j → HeadIsLast w end ls i j
+pub tables_held : {w end : ℕ} {ls : List (List WordPair)} {i j : List ℕ → Type 0} → ImagesHold end (flat_map (table_bytes w) ls) j → HeadIsLast w end ls i j
 tables_held h = record { each = λ b is. inr (h.each b is) }
 
 pub head_then : {w end : ℕ} {ls : List (List WordPair)} {i j k : List ℕ → Type 0} → SameImages i j → HeadIsLast w end ls j k → HeadIsLast w end ls i k

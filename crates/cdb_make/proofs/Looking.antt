@@ -15,9 +15,9 @@ use Rattle.cdb_form.proofs.Files.Standing.{Begins-record_bytes}
 use Rattle.cdb_form.proofs.Files.Sizes.{length-record_bytes}
 use Rattle.cdb_make.specs.declared.roll.Roll.{Roll}
 use Rattle.cdb_make.specs.Chains.{Has}
-use Rattle.cdb_make.specs.Looks.{key_at, size_at, has_key_at, LooksAt}
+use Rattle.cdb_make.specs.Looks.{key_at, size_at, has_key_at, LooksAtImages}
 use Rattle.cdb_make.specs.Marks.{gone_of}
-use Rattle.cdb_make.specs.Rolls.{Sees, fresh, IsFresh}
+use Rattle.cdb_make.specs.Rolls.{Sees, fresh, IsFreshRecord}
 use Rattle.cdb_make.specs.Spans.{Stand}
 use Rattle.cdb_make.specs.Survivors.{has_key}
 use Rattle.cdb_make.specs.Views.Places.{places_in}
@@ -80,7 +80,7 @@ both_of : (m has : Bool) → cond m false has ≡ true → (m ≡ false) × (has
 both_of true has e = absurd (let t : false ≡ true = e in cc)
 both_of false has e = (refl, e)
 
-pub fresh_has : {L : Type 0} {l : Widths L} (m : Roll L l) (all : List KeyValue) (b key : List ℕ) (number k : ℕ) → number ≡ sought_in m key → k < length all → length (gone_of m.marks.items) ≡ length all → Sees m all b → IsFresh key (gone_of m.marks.items) all k
+pub fresh_has : {L : Type 0} {l : Widths L} (m : Roll L l) (all : List KeyValue) (b key : List ℕ) (number k : ℕ) → number ≡ sought_in m key → k < length all → length (gone_of m.marks.items) ≡ length all → Sees m all b → IsFreshRecord key (gone_of m.marks.items) all k
     → Has number (searched m) (gone_of m.marks.items) k
 fresh_has {l = l} m all b key number k is_sought lt long h is =
     let gone : List Bool = gone_of m.marks.items in
@@ -94,7 +94,7 @@ fresh_has {l = l} m all b key number k is_sought lt long h is =
 
 -- a look at its place
 pub looked_none : {L : Type 0} {l : Widths L} (m : Roll L l) (all : List KeyValue) (b key : List ℕ) (k place : ℕ) → l.TOP + 1 ≡ 256 ^ l.WORD → l.GREATEST ≤ l.TOP → k < length all → length (gone_of m.marks.items) ≡ length all → place ≡ get_or (places_in m.places) k m.end → Sees m all b
-    → has_key_at l.WORD key b place ≡ false → IsFresh key (gone_of m.marks.items) all k → ⊥
+    → has_key_at l.WORD key b place ≡ false → IsFreshRecord key (gone_of m.marks.items) all k → ⊥
 looked_none {l = l} m all b key k place words top lt long at h none is =
     let gone : List Bool = gone_of m.marks.items in
     let d : KeyValue = record { key = []; value = [] } in
@@ -105,7 +105,7 @@ looked_none {l = l} m all b key k place words top lt long at h none is =
     (let t : true ≡ false = sym both.1 ∙ no in cc)
 
 pub looked_some : {L : Type 0} {l : Widths L} (m : Roll L l) (all : List KeyValue) (b key : List ℕ) (k place : ℕ) → l.TOP + 1 ≡ 256 ^ l.WORD → l.GREATEST ≤ l.TOP → k < length all → length (gone_of m.marks.items) ≡ length all → place ≡ get_or (places_in m.places) k m.end → Sees m all b
-    → has_key_at l.WORD key b place ≡ true → get_or (gone_of m.marks.items) k true ≡ false → IsFresh key (gone_of m.marks.items) all k
+    → has_key_at l.WORD key b place ≡ true → get_or (gone_of m.marks.items) k true ≡ false → IsFreshRecord key (gone_of m.marks.items) all k
 looked_some {l = l} m all b key k place words top lt long at h some stays =
     let gone : List Bool = gone_of m.marks.items in
     let d : KeyValue = record { key = []; value = [] } in
@@ -124,11 +124,11 @@ looked_foreign {l = l} m all b k place next words top lt at behind h past =
     omega (arith, at, behind, q.1, size)
 
 -- what a look that answered says of the key
-pub has_it : {w p end : ℕ} {key : List ℕ} {images : List ℕ → Type 0} (o : Option ℕ) → is_some o ≡ true → LooksAt w p end key (Ok o) images → (b : List ℕ) → images b → has_key_at w key b p ≡ true
+pub has_it : {w p end : ℕ} {key : List ℕ} {images : List ℕ → Type 0} (o : Option ℕ) → is_some o ≡ true → LooksAtImages w p end key (Ok o) images → (b : List ℕ) → images b → has_key_at w key b p ≡ true
 has_it (Some n) e l b is = (l.each b is).1
 has_it None e l b is = absurd (let k : false ≡ true = e in cc)
 
-pub has_it_not : {w p end : ℕ} {key : List ℕ} {images : List ℕ → Type 0} (o : Option ℕ) → is_some o ≡ false → LooksAt w p end key (Ok o) images → (b : List ℕ) → images b → has_key_at w key b p ≡ false
+pub has_it_not : {w p end : ℕ} {key : List ℕ} {images : List ℕ → Type 0} (o : Option ℕ) → is_some o ≡ false → LooksAtImages w p end key (Ok o) images → (b : List ℕ) → images b → has_key_at w key b p ≡ false
 has_it_not (Some n) e l b is = absurd (let k : true ≡ false = e in cc)
 has_it_not None e l b is = (l.each b is).1
 

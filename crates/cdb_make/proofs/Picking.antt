@@ -13,7 +13,7 @@ use Rattle.cdb_form.specs.Format.Pair.{head_size}
 use Rattle.cdb_make.specs.Views.Places.{places_in}
 use Rattle.cdb_make.specs.declared.roll.Roll.{Roll}
 use Rattle.cdb_make.specs.declared.roll.Picked.{Picked}
-use Rattle.cdb_make.specs.Marks.{is_gone, is_found, gone_of, found_of, taken, put_back, IsFirst, AreNone, HaveHash, IsPutBackFrom}
+use Rattle.cdb_make.specs.Marks.{is_gone, is_found, gone_of, found_of, taken, put_back, IsFirstMarked, AreNone, HaveHash, IsPutBackFrom}
 use Rattle.cdb_make.specs.Spans.{left, picked, number, or_each, AreOf, IsPicked, places_from, end_from}
 use Rattle.cdb_make.proofs.Spans.{long_as, place_size, spans_of}
 use Rattle.cdb_make.proofs.Marking.{gone_or, found_or}
@@ -158,7 +158,7 @@ put_back_all old new first long none within h = ext_get_or Gone new (map put_bac
 
 -- ---- the first of them
 
-pub first_push : (ms : List Bool) (n m : ℕ) → (n ≡ length ms → m ≡ length ms + 1) → (n ≢ length ms → m ≡ n) → IsFirst ms n → IsFirst (ms ++ false ∷ []) m
+pub first_push : (ms : List Bool) (n m : ℕ) → (n ≡ length ms → m ≡ length ms + 1) → (n ≢ length ms → m ≡ n) → IsFirstMarked ms n → IsFirstMarked (ms ++ false ∷ []) m
 first_push ms n m all some h =
     let long : length (ms ++ false ∷ []) ≡ length ms + 1 = length_push ms false in
     let old : (k : ℕ) (d : Bool) → k < length ms → get_or (ms ++ false ∷ []) k d ≡ get_or ms k d = λ k d lt. get_or_append_left ms (false ∷ []) d k lt in
@@ -199,7 +199,7 @@ goes_found Stays e = absurd (let t : false ≡ true = e in cc)
 goes_found Found e = refl
 goes_found Gone e = absurd (let t : false ≡ true = e in cc)
 
-pub first_taken : (ms : List Mark) (a b : ℕ) → IsFirst (gone_of ms) a → IsFirst (found_of ms) b → IsFirst (gone_of (map taken ms)) (min a b)
+pub first_taken : (ms : List Mark) (a b : ℕ) → IsFirstMarked (gone_of ms) a → IsFirstMarked (found_of ms) b → IsFirstMarked (gone_of (map taken ms)) (min a b)
 first_taken ms a b g f =
     let long : length (gone_of (map taken ms)) ≡ length ms = length-map (map taken ms) is_gone ∙ length-map ms taken in
     let at : (k : ℕ) → get_or (gone_of (map taken ms)) k true ≡ is_gone (taken (get_or ms k Gone)) = λ k. gone_or (map taken ms) k ∙ ap is_gone (get_or-map taken ms k Gone) in
@@ -225,7 +225,7 @@ first_taken ms a b g f =
           ];
     }
 
-pub first_none : (ms : List Bool) → AreNone ms → IsFirst ms (length ms)
+pub first_none : (ms : List Bool) → AreNone ms → IsFirstMarked ms (length ms)
 first_none ms none = record {
   within = omega arith;
   before = λ k lt. get_or_default ms k true false lt ∙ none k;
@@ -254,7 +254,7 @@ picks_push {from = from} {sizes = sizes} ms p q n long of of₁ all some count s
 
 pub picks_none : (from end : ℕ) (places : List ℕ) (ms : List Bool) (p : Picked) → AreNone ms → p.first ≡ length ms → p.count ≡ 0 → p.size ≡ 0 → IsPicked from places end ms p
 picks_none from end places ms p none first count size = record {
-  first = subst (IsFirst ms) (sym first) (first_none ms none);
+  first = subst (IsFirstMarked ms) (sym first) (first_none ms none);
   count = count ∙ sym (number_none ms none);
   size = λ ns of. size ∙ sym (ap sum (picked_none ms ns none));
 }
@@ -262,14 +262,14 @@ picks_none from end places ms p none first count size = record {
 pub picks_taken : {from end : ℕ} {places : List ℕ} (ms : List Mark) (p q r : Picked) → length ms ≡ length places → r.first ≡ min p.first q.first → r.count ≡ p.count + q.count → r.size ≡ p.size + q.size → IsPicked from places end (gone_of ms) p → IsPicked from places end (found_of ms) q
     → IsPicked from places end (gone_of (map taken ms)) r
 picks_taken ms p q r long first count size g f = record {
-  first = subst (IsFirst (gone_of (map taken ms))) (sym first) (first_taken ms p.first q.first g.first f.first);
+  first = subst (IsFirstMarked (gone_of (map taken ms))) (sym first) (first_taken ms p.first q.first g.first f.first);
   count = omega (arith, count, g.count, f.count, number_taken ms);
   size = λ ns of. omega (arith, size, g.size ns of, f.size ns of, picked_taken ms ns (long ∙ long_as of));
 }
 
 -- ---- the marks of a vector
 
-pub back_items : (now old new rest : List Mark) (len first : ℕ) → now ≡ old → len ≡ length old → IsFirst (found_of old) first → length new ≡ length now → IsPutBackFrom first (length now) now new → take len (new ++ rest) ≡ map put_back old
+pub back_items : (now old new rest : List Mark) (len first : ℕ) → now ≡ old → len ≡ length old → IsFirstMarked (found_of old) first → length new ≡ length now → IsPutBackFrom first (length now) now new → take len (new ++ rest) ≡ map put_back old
 back_items now old new rest len first value long h same back =
     let all : length new ≡ length old = same ∙ ap length value in
     take_at new rest len (all ∙ sym long) ∙ put_back_all old new first all h.before (omega (arith, h.within, length-map old is_found)) (subst (λ (v : List Mark). IsPutBackFrom first (length v) v new) value back)
@@ -284,7 +284,7 @@ stays_mark Stays g f = refl
 stays_mark Found g f = absurd (let t : true ≡ false = f in cc)
 stays_mark Gone g f = absurd (let t : true ≡ false = g in cc)
 
-pub stays_at : (ms : List Mark) (first k : ℕ) → IsFirst (gone_of ms) first → AreNone (found_of ms) → k < first → get_or ms k Gone ≡ Stays
+pub stays_at : (ms : List Mark) (first k : ℕ) → IsFirstMarked (gone_of ms) first → AreNone (found_of ms) → k < first → get_or ms k Gone ≡ Stays
 stays_at ms first k h none lt = stays_mark (get_or ms k Gone) (sym (gone_or ms k) ∙ h.before k lt) (sym (found_or ms k) ∙ none k)
 
 stay_by : (f : Mark → Bool) (ms : List Mark) (n : ℕ) → f Stays ≡ false → length ms ≡ n → ((k : ℕ) → k < n → get_or ms k Gone ≡ Stays) → AreNone (map f ms)
@@ -324,7 +324,7 @@ picked_set (true ∷ ms) (x ∷ xs) (suc n) e lt off =
     let f : sum (x ∷ a) ≡ sum (x ∷ b) + get_or xs n 0 = omega (arith, h, sum-cons x a, sum-cons x b) in f
 picked_set (false ∷ ms) (x ∷ xs) (suc n) e lt off = picked_set ms xs n (omega arith) (omega arith) off
 
-first_set : (ms : List Bool) (n first : ℕ) → n < first → IsFirst ms first → IsFirst (set ms n true) n
+first_set : (ms : List Bool) (n first : ℕ) → n < first → IsFirstMarked ms first → IsFirstMarked (set ms n true) n
 first_set ms n first lt h =
     let in_ms : n < length ms = omega (arith, h.within) in
     record {
@@ -339,7 +339,7 @@ picks_set {end = end} {places = places} ms p q n long lt first count size h =
     let in_ms : n < length ms = omega (arith, h.first.within) in
     let off : get_or ms n false ≡ false = get_or_default ms n false true in_ms ∙ h.first.before n lt in
     record {
-      first = subst (IsFirst (set ms n true)) (sym first) (first_set ms n p.first lt h.first);
+      first = subst (IsFirstMarked (set ms n true)) (sym first) (first_set ms n p.first lt h.first);
       count = omega (arith, count, h.count, number_set ms n in_ms off);
       size = λ ns of. omega (arith, size, h.size ns of, picked_set ms ns n (long ∙ long_as of) in_ms off, place_size n of (omega (arith, long, long_as of)));
     }

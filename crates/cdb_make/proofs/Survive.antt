@@ -7,11 +7,11 @@ use Rattle.std.proofs.lemmas.List.Sums.{sum_by-cons}
 use Rattle.cdb_form.specs.Format.Record.{KeyValue}
 use Rattle.cdb_make.specs.Chains.{IsLast}
 use Rattle.cdb_make.specs.Marks.{AreNone}
-use Rattle.cdb_make.specs.Rolls.{fresh, IsFresh}
+use Rattle.cdb_make.specs.Rolls.{fresh, IsFreshRecord}
 use Rattle.cdb_make.specs.Spans.{left, number, or_each}
 use Rattle.cdb_make.specs.Survivors.{has_key, is_there, count_of}
 
-there_at : (key : List ℕ) (ms : List Bool) (rs : List KeyValue) (k : ℕ) → IsFresh key ms rs k → is_there key (left ms rs) ≡ true
+there_at : (key : List ℕ) (ms : List Bool) (rs : List KeyValue) (k : ℕ) → IsFreshRecord key ms rs k → is_there key (left ms rs) ≡ true
 there_at key [] rs k is = absurd (let t : false ≡ true = is in cc)
 there_at key (m ∷ ms) [] k is = absurd (let t : false ≡ true = is in cc)
 there_at key (true ∷ ms) (r ∷ rs) zero is = absurd (let t : false ≡ true = is in cc)
@@ -19,7 +19,7 @@ there_at key (true ∷ ms) (r ∷ rs) (suc k) is = there_at key ms rs k is
 there_at key (false ∷ ms) (r ∷ rs) zero is = ap (λ (v : Bool). v || is_there key (left ms rs)) is
 there_at key (false ∷ ms) (r ∷ rs) (suc k) is = elim (has_key key r) as (λ v. (v || is_there key (left ms rs)) ≡ true) [ true ↦ refl | false ↦ there_at key ms rs k is ]
 
-there_none : (key : List ℕ) (ms : List Bool) (rs : List KeyValue) → length ms ≡ length rs → ((k : ℕ) → IsFresh key ms rs k → ⊥) → is_there key (left ms rs) ≡ false
+there_none : (key : List ℕ) (ms : List Bool) (rs : List KeyValue) → length ms ≡ length rs → ((k : ℕ) → IsFreshRecord key ms rs k → ⊥) → is_there key (left ms rs) ≡ false
 there_none key [] [] e none = refl
 there_none key [] (r ∷ rs) e none = absurd (omega arith)
 there_none key (m ∷ ms) [] e none = absurd (omega arith)
@@ -28,7 +28,7 @@ there_none key (false ∷ ms) (r ∷ rs) e none =
     let here : has_key key r ≡ false = false_from_ne_true (has_key key r) (λ t. none 0 t) in
     ap (λ (v : Bool). v || is_there key (left ms rs)) here ∙ there_none key ms rs (omega arith) (λ k. none (suc k))
 
-fresh_past : (key : List ℕ) (ms : List Bool) (rs : List KeyValue) (k : ℕ) → length rs ≤ k → IsFresh key ms rs k → ⊥
+fresh_past : (key : List ℕ) (ms : List Bool) (rs : List KeyValue) (k : ℕ) → length rs ≤ k → IsFreshRecord key ms rs k → ⊥
 fresh_past key [] rs k le is = (let t : false ≡ true = is in cc)
 fresh_past key (m ∷ ms) [] k le is = (let t : false ≡ true = is in cc)
 fresh_past key (m ∷ ms) (r ∷ rs) zero le is = absurd (omega arith)
@@ -41,7 +41,7 @@ none_test : (n : ℕ) → n ≤ 0 → nat_lt 0 n ≡ false
 none_test n h = grind (arith, nat_tests)
 
 -- whether a search for the last one has found one
-pub last_there : (key : List ℕ) (ms : List Bool) (rs : List KeyValue) (end n : ℕ) → length ms ≡ length rs → length rs ≤ end → IsLast (IsFresh key ms rs) end n → nat_lt 0 n ≡ is_there key (left ms rs)
+pub last_there : (key : List ℕ) (ms : List Bool) (rs : List KeyValue) (end n : ℕ) → length ms ≡ length rs → length rs ≤ end → IsLast (IsFreshRecord key ms rs) end n → nat_lt 0 n ≡ is_there key (left ms rs)
 last_there key ms rs end n long all h = elim (cases_lt 0 n) [
   | inl some ↦ some_test n some ∙ sym (there_at key ms rs (n - 1) (h.here some))
   | inr le ↦ none_test n le ∙ sym (there_none key ms rs long (λ k is. elim (cases_lt k end) [

@@ -27,26 +27,26 @@ pub record HoldAt (place : ℕ) (bytes : List ℕ) (images : List ℕ → Type 0
   pub each : (b : List ℕ) → images b → part place (length bytes) b ≡ bytes
 
 -- in each image the record at a place has a key of k bytes and a value of v
-pub record HasLengths (w p k v : ℕ) (images : List ℕ → Type 0) : Type 0 where
+pub record HasLengthsInImages (w p k v : ℕ) (images : List ℕ → Type 0) : Type 0 where
   pub size : (b : List ℕ) → images b → size_at w p b ≡ 2 * w + k + v
   pub key : (b : List ℕ) → images b → key_at w p b ≡ part (p + 2 * w) k b
 
 -- in each image the bytes from a place on are the key exactly where the answer is true
-pub record TellsSame (same : Bool) (place : ℕ) (key : List ℕ) (images : List ℕ → Type 0)
+pub record TellsSameInImages (same : Bool) (place : ℕ) (key : List ℕ) (images : List ℕ → Type 0)
     : Type 0 where
   pub each : (b : List ℕ) → images b → Decides same (part place (length key) b ≡ key)
 
 -- what a look at one place tells of an image
-abbrev pub LookTells : ℕ → ℕ → ℕ → List ℕ → Result (Option ℕ) LookFault → List ℕ → Type 0
-LookTells w p end key (Ok None) b = (p + size_at w p b ≤ end) × (has_key_at w key b p ≡ false)
-LookTells w p end key (Ok (Some n)) b =
+abbrev pub LookTellsOfImage : ℕ → ℕ → ℕ → List ℕ → Result (Option ℕ) LookFault → List ℕ → Type 0
+LookTellsOfImage w p end key (Ok None) b = (p + size_at w p b ≤ end) × (has_key_at w key b p ≡ false)
+LookTellsOfImage w p end key (Ok (Some n)) b =
     (p + size_at w p b ≤ end) × (has_key_at w key b p ≡ true) × (n ≡ size_at w p b)
-LookTells w p end key (Err Failed) b = Unit {0}
-LookTells w p end key (Err Foreign) b = end < p + size_at w p b
+LookTellsOfImage w p end key (Err Failed) b = Unit {0}
+LookTellsOfImage w p end key (Err Foreign) b = end < p + size_at w p b
 
-pub record LooksAt (w p end : ℕ) (key : List ℕ) (answer : Result (Option ℕ) LookFault)
+pub record LooksAtImages (w p end : ℕ) (key : List ℕ) (answer : Result (Option ℕ) LookFault)
     (images : List ℕ → Type 0) : Type 0 where
-  pub each : (b : List ℕ) → images b → LookTells w p end key answer b
+  pub each : (b : List ℕ) → images b → LookTellsOfImage w p end key answer b
 
 -- a record that was found ends at `end` or before
 abbrev pub SizeWithin : ℕ → ℕ → Result (Option ℕ) LookFault → Type 0

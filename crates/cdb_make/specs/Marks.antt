@@ -32,7 +32,7 @@ put_back Found = Stays
 put_back Gone = Gone
 
 -- n is the number of the first that is true, or of all
-pub record IsFirst (ms : List Bool) (n : ℕ) : Type 0 where
+pub record IsFirstMarked (ms : List Bool) (n : ℕ) : Type 0 where
   pub within : n ≤ length ms
   pub before : (k : ℕ) → k < n → get_or ms k true ≡ false
   pub here : n < length ms → get_or ms n false ≡ true

@@ -33,15 +33,15 @@ fresh k (m ∷ ms) [] = []
 fresh k (m ∷ ms) (r ∷ rs) = cond m false (has_key k r) ∷ fresh k ms rs
 
 -- record n of some has the key and does not go
-abbrev pub IsFresh : List ℕ → List Bool → List KeyValue → ℕ → Type 0
-IsFresh k ms rs n = get_or (fresh k ms rs) n false ≡ true
+abbrev pub IsFreshRecord : List ℕ → List Bool → List KeyValue → ℕ → Type 0
+IsFreshRecord k ms rs n = get_or (fresh k ms rs) n false ≡ true
 
 -- in each image, n is the number after the last of the first `end` records that has the key and does
 -- not go, or 0
 pub record LooksLast {L : Type 0} {l : Widths L} (key : List ℕ) (m : Roll L l) (end n : ℕ)
     (images : List ℕ → Type 0) : Type 0 where
   pub each : (b : List ℕ) → images b → (all : List KeyValue) → Sees m all b
-      → IsLast (IsFresh key (gone_of m.marks.items) all) end n
+      → IsLast (IsFreshRecord key (gone_of m.marks.items) all) end n
 
 -- in each image, those are found that have the key and do not go
 pub record LooksAll {L : Type 0} {l : Widths L} (key : List ℕ) (m : Roll L l)

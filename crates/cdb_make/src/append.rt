@@ -1,7 +1,7 @@
 // Whole records, as they are in a file, are written behind the others at once.
 ghost use Rattle.std.specs.Prelude.{◌≡◌, ℕ, ◌+◌, ◌*◌, ◌<◌, ◌≤◌, ◌⊎◌, ◌++◌, ◌∷◌, [], true, false, List};
 ghost use Rattle.std.specs.Prelude.{length, take, sum_by, IfOk, IfErr, OnOk, OnErr};
-ghost use Rattle.cdb_store.specs.Images.{Holds as AreIn};
+ghost use Rattle.cdb_store.specs.Images.{ImagesHold as AreIn};
 ghost use Rattle.cdb_form.specs.Format.File.{whole_size};
 ghost use Rattle.cdb_form.specs.Format.Hash.{key_hash};
 ghost use Rattle.cdb_form.specs.Format.Record.{KeyValue, IsRecord, record_bytes, record_size};
@@ -83,7 +83,7 @@ fn measure<L: Width>(bytes: &[u8], room: u64) -> Fitting
 }
 
 impl<S: Store, L: Width> Maker<S, L> {
-    ghost use Rattle.cdb_make.specs.Views.Maker.{Holds, StaysWhole, Follows, HasNotFailed, HasGone, KeepsAll};
+    ghost use Rattle.cdb_make.specs.Views.Maker.{Holds, StaysWhole, Follows, HasNotFailed, HasGone, MakerKeepsAll};
     ghost use Rattle.cdb_make.specs.Views.Appending.{AppendsAll, AppendsSome, FailsAppending};
     ghost use Rattle.cdb_make.specs.Views.Appending.{Enters, KeepsLimit, IsCrowded, FailsWriting, full_size};
 
@@ -243,7 +243,7 @@ impl<S: Store, L: Width> Maker<S, L> {
             AppendsAll self.old self.new (whole_records L.WORD (length bytes.now) bytes.now) n) }
         ensures fails { IfErr result
             (FailsAppending self.old self.new (whole_records L.WORD (length bytes.now) bytes.now)) }
-        ensures keeps { KeepsAll self.old self.new }
+        ensures keeps { MakerKeepsAll self.old self.new }
         ensures follows { Follows self.old self.new }
     {
         if self.broken {

@@ -3,7 +3,7 @@ ghost use Rattle.std.specs.Prelude.{◌≡◌, ℕ, ◌+◌, ◌<◌, ◌≤◌,
 ghost use Rattle.std.specs.Prelude.{take, OnOk, IfOk, IsErrOf};
 ghost use Rattle.cdb_store.specs.declared.store.StoreFault.TheVariants.{NoMemory};
 ghost use Rattle.cdb_store.specs.Images.{KeepsPart, HasCause};
-ghost use Rattle.cdb_make.specs.Marks.{gone_of, IsFirst};
+ghost use Rattle.cdb_make.specs.Marks.{gone_of, IsFirstMarked};
 ghost use Rattle.cdb_make.specs.Spans.{AreSpans, AreOf, Turns, left, behind};
 ghost use Rattle.cdb_make.specs.Views.Places.{places_in, places_room};
 
@@ -35,7 +35,7 @@ pub(crate) fn close_bytes<S: Store, L: Width>(
 ) -> Result<(), StoreFault>
     requires spans { AreSpans start (places_in places.now) end }
     requires long { length marks.now ≡ length (places_in places.now) }
-    requires first { IsFirst (gone_of marks.now) first }
+    requires first { IsFirstMarked (gone_of marks.now) first }
     requires inside { end ≤ S.size store.old }
     requires fits { end < 2 ^ 63 }
     ensures turns { OnOk result (Turns start (places_in places.now) end (gone_of marks.now)
@@ -87,7 +87,7 @@ pub(crate) fn close_entries<L: Width>(
     requires spans { AreSpans start (places_in places.old) end }
     requires paired { length hashes.old ≡ length (places_in places.old) }
     requires long { length marks.now ≡ length (places_in places.old) }
-    requires first { IsFirst (gone_of marks.now) first }
+    requires first { IsFirstMarked (gone_of marks.now) first }
     requires fits { end ≤ L.TOP }
     ensures within { result.count ≤ length (places_in places.old) }
     ensures past { first ≤ result.count }

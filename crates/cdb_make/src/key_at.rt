@@ -4,7 +4,7 @@ ghost use Rattle.std.specs.Prelude.{OnOk, OnErr, IfOk, IsErrOf};
 ghost use Rattle.cdb_store.specs.declared.store.StoreFault.TheVariants.{NoMemory};
 ghost use Rattle.cdb_store.specs.Reads.{OnlyReads};
 ghost use Rattle.cdb_make.specs.declared.key_at.LookFault.TheVariants.{Failed, Foreign};
-ghost use Rattle.cdb_make.specs.Looks.{TellsSame, HoldAt, HasLengths, LooksAt, SizeWithin};
+ghost use Rattle.cdb_make.specs.Looks.{TellsSameInImages, HoldAt, HasLengthsInImages, LooksAtImages, SizeWithin};
 
 use cdb_form::{GREATEST_PAIR, Header, Width, pair_size, read_header};
 use cdb_store::{Store, StoreFault};
@@ -45,7 +45,7 @@ fn is_read_at<S: Store>(
     requires piece { 0 < length piece.old }
     requires inside { place + length key.now ≤ S.size store.old }
     requires fits { place + length key.now < 2 ^ 63 }
-    ensures same { IfOk result (λ same. TellsSame same place key.now (S.image store.new)) }
+    ensures same { IfOk result (λ same. TellsSameInImages same place key.now (S.image store.new)) }
     ensures reads { OnlyReads S.Store store.old store.new }
     ensures ok_failures { OnOk result (S.failures store.new ≡ S.failures store.old) }
     ensures failed { OnErr result (S.failures store.old < S.failures store.new) }
@@ -68,7 +68,7 @@ fn is_read_at<S: Store>(
 pub(crate) fn key_is_at<S: Store>(store: &mut S, place: u64, key: &[u8]) -> Result<bool, StoreFault>
     requires inside { place + length key.now ≤ S.size store.old }
     requires fits { place + length key.now < 2 ^ 63 }
-    ensures same { IfOk result (λ same. TellsSame same place key.now (S.image store.new)) }
+    ensures same { IfOk result (λ same. TellsSameInImages same place key.now (S.image store.new)) }
     ensures reads { OnlyReads S.Store store.old store.new }
     ensures ok_failures { OnOk result (S.failures store.new ≡ S.failures store.old) }
     ensures failed { OnErr result (S.failures store.old < S.failures store.new) }
@@ -107,7 +107,7 @@ fn key_follows<S: Store>(
     requires fits { place + length key.now < 2 ^ 63 }
     requires all { 0 < length bytes.now → length bytes.now ≡ length key.now }
     ensures same { HoldAt place bytes.now (S.image store.old)
-        → IfOk result (λ same. TellsSame same place key.now (S.image store.new)) }
+        → IfOk result (λ same. TellsSameInImages same place key.now (S.image store.new)) }
     ensures reads { OnlyReads S.Store store.old store.new }
     ensures ok_failures { OnOk result (S.failures store.new ≡ S.failures store.old) }
     ensures failed { OnErr result (S.failures store.old < S.failures store.new) }
@@ -130,7 +130,7 @@ fn read_prefix<S: Store, L: Width>(
     requires inside { place + length front.old ≤ S.size store.old }
     requires fits { place + length front.old < 2 ^ 63 }
     ensures lengths { IfOk result
-        (λ h. HasLengths L.WORD place h.klen h.vlen (S.image store.new)) }
+        (λ h. HasLengthsInImages L.WORD place h.klen h.vlen (S.image store.new)) }
     ensures held { OnOk result (HoldAt (place + 2 * L.WORD) (drop (2 * L.WORD) front.new)
         (S.image store.new)) }
     ensures long { length front.new ≡ length front.old }
@@ -155,7 +155,7 @@ pub(crate) fn look_at<S: Store, L: Width>(
 ) -> Result<Option<u64>, LookFault>
     requires inside { end ≤ S.size store.old }
     requires fits { end < 2 ^ 63 }
-    ensures looks { LooksAt L.WORD place end key.now result (S.image store.new) }
+    ensures looks { LooksAtImages L.WORD place end key.now result (S.image store.new) }
     ensures within { SizeWithin place end result }
     ensures reads { OnlyReads S.Store store.old store.new }
     ensures ok_failures { OnOk result (S.failures store.new ≡ S.failures store.old) }

@@ -1,6 +1,6 @@
 // The tags of keys: a second hash, that keys of one hash do not share.
 ghost use Rattle.std.specs.Prelude.{◌≡◌, ◌<◌, ◌≤◌, ◌∷◌, ◌++◌, [], ℕ, List, true, fold, length, take, cond, vec_capacity, OnOk, OnErr};
-ghost use Rattle.cdb_make.specs.Marks.{gone_of, IsFirst};
+ghost use Rattle.cdb_make.specs.Marks.{gone_of, IsFirstMarked};
 ghost use Rattle.cdb_make.specs.Spans.{left};
 ghost use Rattle.cdb_make.specs.Tags.{tag_step, second_hash, searched_by};
 
@@ -74,7 +74,7 @@ pub(crate) fn push_tag(tagged: bool, tags: &mut Vec<u32>, tag: u32)
 /// is the number of the first that goes, or of all.
 fn close_each(tags: &mut [u32], marks: &[Mark], first: usize) -> usize
     requires long { length marks.now ≡ length tags.old }
-    requires first { IsFirst (gone_of marks.now) first }
+    requires first { IsFirstMarked (gone_of marks.now) first }
     ensures within { result ≤ length tags.old }
     ensures tags { take result tags.new ≡ left (gone_of marks.now) tags.old }
     ensures long { length tags.new ≡ length tags.old }
@@ -93,7 +93,7 @@ fn close_each(tags: &mut [u32], marks: &[Mark], first: usize) -> usize
 /// Takes out the tags of the records that go, if there are tags.
 pub(crate) fn close_tags(tagged: bool, tags: &mut Vec<u32>, marks: &[Mark], first: usize)
     requires long { tagged ≡ true → length marks.now ≡ length tags.old.items }
-    requires first { IsFirst (gone_of marks.now) first }
+    requires first { IsFirstMarked (gone_of marks.now) first }
     ensures left { (hashes : List ℕ) → searched_by tagged tags.new.items (left (gone_of marks.now) hashes)
         ≡ left (gone_of marks.now) (searched_by tagged tags.old.items hashes) }
     ensures few { length tags.new.items ≤ length tags.old.items }

@@ -1,12 +1,12 @@
 // A record is written to a store.
 ghost use Rattle.std.specs.Prelude.{◌≡◌, ◌+◌, ◌<◌, ◌≤◌, ◌^◌, length, OnOk};
 ghost use Rattle.cdb_form.specs.Format.Record.{record_of, record_bytes, record_size};
-ghost use Rattle.cdb_make.specs.Views.Writing.{Writes, WritesWithin};
+ghost use Rattle.cdb_make.specs.Views.Writing.{WritesBehind, WritesWithin};
 
 use cdb_form::{GREATEST_PAIR, Header, Width, pair_size, write_header};
 use cdb_store::{Store, StoreFault};
 
-/// Writes a record's header, key and value from `pos` on, one after another, as one
+/// WritesBehind a record's header, key and value from `pos` on, one after another, as one
 /// write would: over what is there, and past the end.
 ///
 /// `pos` is at most the store's length. The store's room is made first, so if memory is refused
@@ -22,7 +22,7 @@ pub(crate) fn append_record<S: Store, L: Width>(
     requires inside { pos ≤ S.size store.old }
     requires end { pos + record_size L.WORD (record_of key.now value.now) < 2 ^ 63 }
     requires fits { length key.now + length value.now ≤ L.TOP }
-    ensures ok { OnOk result (Writes S.Store pos
+    ensures ok { OnOk result (WritesBehind S.Store pos
         (record_bytes L.WORD (record_of key.now value.now)) store.old store.new) }
     ensures fine { OnOk result (S.failures store.new ≡ S.failures store.old) }
     ensures within { WritesWithin S.Store pos

@@ -5,7 +5,7 @@ use Rattle.std.proofs.lemmas.Slice.Eq.{bytes_eq-Decides}
 use Rattle.std.proofs.lemmas.List.{take-append-drop, length-take-le}
 use Rattle.std.proofs.Math.Nat.{mod-lt}
 use Rattle.cdb_form.proofs.RecordReading.RecordAreas.{head_at-append}
-use Rattle.cdb_store.specs.Images.{part, Holds}
+use Rattle.cdb_store.specs.Images.{part, ImagesHold}
 use Rattle.cdb_store.proofs.Parts.{length-part}
 use Rattle.cdb_form.specs.Format.Hash.{key_hash, table_number}
 use Rattle.cdb_form.specs.Format.Pair.{WordPair, head_size}
@@ -30,7 +30,7 @@ pub header_here : {w p n : ℕ} (file : List ℕ) (h : Header) → n ≡ 2 * w �
 header_here {w = w} {p = p} {n = n} file h e inside read =
     let m : (p + n) - p ≡ n = omega arith in
     let l : length (take ((p + n) - p) (drop p file)) ≡ n = ap (λ k. length (take k (drop p file))) m ∙ length-part p n file inside in
-    let held : Holds p (take ((p + n) - p) (drop p file)) (λ b. b ≡ file) =
+    let held : ImagesHold p (take ((p + n) - p) (drop p file)) (λ b. b ≡ file) =
     record { each = λ b is. ap (λ k. take k (drop p b)) (l ∙ sym m) ∙ ap (λ k. take ((p + n) - p) (drop p k)) is } in
     has_lengths h (l ∙ e) read held (λ b is. ap length is)
 

@@ -18,17 +18,17 @@ abbrev pub ahead : ℕ → List ℕ → List ℕ → Search → Found
 ahead w file key s = found_ahead w file key (At (probe_of s))
 
 -- its table and its slot lie in a file of so many bytes, if it has slots left
-abbrev pub IsInside : ℕ → ℕ → Search → Type 0
-IsInside w size s = 0 < s.left → ProbeInside w size (probe_of s)
+abbrev pub IsSearchWithin : ℕ → ℕ → Search → Type 0
+IsSearchWithin w size s = 0 < s.left → ProbeInside w size (probe_of s)
 
 -- a search of a key in a file begins
-pub record Begins (w : ℕ) (file key : List ℕ) (s : Search) : Type 0 where
+pub record SearchBegins (w : ℕ) (file key : List ℕ) (s : Search) : Type 0 where
   pub hash : s.hash ≡ key_hash key
   pub finds : ahead w file key s ≡ lookup_of w file key
-  pub inside : IsInside w (length file) s
+  pub inside : IsSearchWithin w (length file) s
 
 -- a call gave the first value of what was left; the search goes on after it, with fewer slots
-pub record GivesSpan (w : ℕ) (file key : List ℕ) (old new : Search) (span : Span) : Type 0 where
+pub record SearchGivesSpan (w : ℕ) (file key : List ℕ) (old new : Search) (span : Span) : Type 0 where
   pub first : ahead w file key old ≡ with_span span (ahead w file key new)
 
 pub record Advances (w size : ℕ) (old new : Search) (span : Span) : Type 0 where
@@ -38,7 +38,7 @@ pub record Advances (w size : ℕ) (old new : Search) (span : Span) : Type 0 whe
   pub fewer : new.left < old.left
 
 -- or none, since nothing was left
-pub record GivesNone (w : ℕ) (file key : List ℕ) (old new : Search) : Type 0 where
+pub record SearchGivesNone (w : ℕ) (file key : List ℕ) (old new : Search) : Type 0 where
   pub none : ahead w file key old ≡ nothing_found
   pub ended : new.left ≡ 0
   pub hash : new.hash ≡ old.hash

@@ -18,12 +18,12 @@ pub record StandsRecord (w : ℕ) (file : List ℕ) (place end : ℕ) (pair : Pl
   pub inside : behind pair ≤ length file
 
 -- a walk over a file begins
-pub record Begins (w : ℕ) (file : List ℕ) (r : RecordArea) : Type 0 where
+pub record WalkBegins (w : ℕ) (file : List ℕ) (r : RecordArea) : Type 0 where
   pub walks : rest_of w file r ≡ walk_of w file
   pub ordered : r.place ≤ r.end
 
 -- a call gave the record at the next place, which lies before the record end and inside the file
-pub record GivesRecord (w : ℕ) (file : List ℕ) (old new : RecordArea) (pair : PlacedRecord) : Type 0 where
+pub record WalkGivesRecord (w : ℕ) (file : List ℕ) (old new : RecordArea) (pair : PlacedRecord) : Type 0 where
   pub first : rest_of w file old ≡ with_first (record_in file pair) (rest_of w file new)
   pub lies : LiesAt w old.place pair
   pub next : new.place ≡ behind pair

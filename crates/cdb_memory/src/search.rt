@@ -7,8 +7,8 @@ ghost use Rattle.cdb_form.specs.declared.damage.Damage.TheVariants.{Table};
 ghost use Rattle.cdb_read.specs.Lookup.{lookup_of, nothing_found, found_damaged};
 ghost use Rattle.cdb_read.specs.Views.Search.{found_ahead};
 ghost use Rattle.cdb_read.specs.Views.Probing.{ProbeInside, IsSearchInside};
-ghost use Rattle.cdb_memory.specs.Searches.{probe_of, ahead, IsInside, Begins};
-ghost use Rattle.cdb_memory.specs.Searches.{GivesSpan, GivesNone, Advances, HasFirst};
+ghost use Rattle.cdb_memory.specs.Searches.{probe_of, ahead, IsSearchWithin, SearchBegins};
+ghost use Rattle.cdb_memory.specs.Searches.{SearchGivesSpan, SearchGivesNone, Advances, HasFirst};
 
 use crate::meeting::meet;
 use cdb_form::{Damage, Pointer, Width, hash, pair_size, read_pointer, table_number};
@@ -81,10 +81,10 @@ fn first_of<L: Width>(file: &[u8], hash: u64) -> Searching
     first_probe::<L>(table, hash, file.len() as u64)
 }
 
-/// Begins the search of a key in a file, which has at least a head. `next` goes on with it.
+/// SearchBegins the search of a key in a file, which has at least a head. `next` goes on with it.
 pub fn begin<L: Width>(file: &[u8], key: &[u8]) -> Result<Search, Damage>
     requires { head_size L.WORD ≤ length file.now }
-    ensures begins { IfOk result (Begins L.WORD file.now key.now) }
+    ensures begins { IfOk result (SearchBegins L.WORD file.now key.now) }
     ensures damaged { IfErr result (λ d.
         lookup_of L.WORD file.now key.now ≡ found_damaged d) }
 {
@@ -110,10 +110,10 @@ pub fn begin<L: Width>(file: &[u8], key: &[u8]) -> Result<Search, Damage>
 /// lies inside the file, is none, or is a damage.
 pub fn next<L: Width>(file: &[u8], key: &[u8], search: &mut Search) -> Result<Option<Span>, Damage>
     ensures gives { search.old.hash ≡ key_hash key.now → IfOk result (λ found. MatchOption found
-        (GivesNone L.WORD file.now key.now search.old search.new)
-        (GivesSpan L.WORD file.now key.now search.old search.new)) }
+        (SearchGivesNone L.WORD file.now key.now search.old search.new)
+        (SearchGivesSpan L.WORD file.now key.now search.old search.new)) }
     ensures damaged { search.old.hash ≡ key_hash key.now
-        → IsInside L.WORD (length file.now) search.old
+        → IsSearchWithin L.WORD (length file.now) search.old
         → IfErr result (λ d. ahead L.WORD file.now key.now search.old ≡ found_damaged d) }
     ensures advances { IfOk result (λ found. MatchOption found
         (search.new.left ≡ 0)

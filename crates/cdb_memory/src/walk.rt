@@ -3,7 +3,7 @@ ghost use Rattle.std.specs.Prelude.{◌≡◌, ◌+◌, ◌<◌, ◌≤◌, leng
 ghost use Rattle.cdb_form.specs.Format.Pair.{head_size};
 ghost use Rattle.cdb_form.specs.Format.Walk.{walk_of, walk_from, damaged};
 ghost use Rattle.cdb_form.specs.declared.damage.Damage.TheVariants.{Record};
-ghost use Rattle.cdb_memory.specs.Walks.{rest_of, Begins, StandsRecord, GivesRecord};
+ghost use Rattle.cdb_memory.specs.Walks.{rest_of, WalkBegins, StandsRecord, WalkGivesRecord};
 
 use cdb_form::{Damage, Width, head_size, pair_size, read_head, read_header};
 use cdb_read::{PlacedRecord, has_bytes, spans};
@@ -36,10 +36,10 @@ fn record_at<L: Width>(file: &[u8], place: u64, end: u64) -> Option<PlacedRecord
     spans::<L>(place, header, limit)
 }
 
-/// Begins a walk over the records of a file, which has at least a head.
+/// WalkBegins a walk over the records of a file, which has at least a head.
 pub fn first_record<L: Width>(file: &[u8]) -> Result<RecordArea, Damage>
     requires { head_size L.WORD ≤ length file.now }
-    ensures begins { IfOk result (Begins L.WORD file.now) }
+    ensures begins { IfOk result (WalkBegins L.WORD file.now) }
     ensures first { IfOk result (λ r. r.place ≡ head_size L.WORD) }
     ensures damaged { IfErr result (λ d. walk_of L.WORD file.now ≡ damaged d) }
 {
@@ -66,7 +66,7 @@ pub fn next_record<L: Width>(
 ) -> Result<Option<PlacedRecord>, Damage>
     ensures gives { IfOk result (λ found. MatchOption found
         (rest.old.end ≤ rest.old.place)
-        (GivesRecord L.WORD file.now rest.old rest.new)) }
+        (WalkGivesRecord L.WORD file.now rest.old rest.new)) }
     ensures damaged { IfErr result (λ d.
         (rest_of L.WORD file.now rest.old ≡ damaged d) × (d ≡ Record rest.old.place)
         × (rest.new ≡ rest.old)) }

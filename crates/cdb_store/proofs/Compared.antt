@@ -2,7 +2,7 @@
 use Rattle.std.proofs.Common.{◌≡◌, ℕ, ◌+◌, ◌-◌, ◌≤◌, List, ◌++◌, length, take, drop, sym, ap, ◌∙◌, arith}
 use Rattle.std.proofs.lemmas.List.{take-take, drop-take, drop-drop, length-take-le}
 use Rattle.std.proofs.Math.Seq.{take-add}
-use Rattle.cdb_store.specs.Images.{part, Holds}
+use Rattle.cdb_store.specs.Images.{part, ImagesHold}
 use Rattle.cdb_store.proofs.Parts.{part_add}
 
 -- each image has these bytes from `at` on
@@ -29,7 +29,7 @@ agrees_more at done n key p b inside l e f same =
     ∙ ap (λ v. take done key ++ v) (ap (λ k. part (at + done) k b) (sym l) ∙ f ∙ same)
     ∙ sym (take-add done n key)
 
-pub agrees_piece : {at : ℕ} (done n : ℕ) (key : List ℕ) {p : List ℕ} {old new : List ℕ → Type 0} → done + n ≤ length key → length p ≡ n → AgreesSoFar at (take done key) old → ((b : List ℕ) → new b → old b) → Holds (at + done) p new → p ≡ take n (drop done key)
+pub agrees_piece : {at : ℕ} (done n : ℕ) (key : List ℕ) {p : List ℕ} {old new : List ℕ → Type 0} → done + n ≤ length key → length p ≡ n → AgreesSoFar at (take done key) old → ((b : List ℕ) → new b → old b) → ImagesHold (at + done) p new → p ≡ take n (drop done key)
     → AgreesSoFar at (take (done + n) key) new
 agrees_piece {at = at} done n key {p = p} inside l a few held same = record {
   each = λ b is. agrees_more at done n key p b inside l (a.each b (few b is)) (held.each b is) same;

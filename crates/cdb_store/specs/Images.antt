@@ -61,7 +61,7 @@ pub record AreSized (n : ℕ) (images : List ℕ → Type 0) : Type 0 where
   pub each : (b : List ℕ) → images b → length b ≡ n
 
 -- each image has these bytes from pos on
-pub record Holds (pos : ℕ) (bytes : List ℕ) (images : List ℕ → Type 0) : Type 0 where
+pub record ImagesHold (pos : ℕ) (bytes : List ℕ) (images : List ℕ → Type 0) : Type 0 where
   pub each : (b : List ℕ) → images b → part pos (length bytes) b ≡ bytes
 
 -- each image has the same n bytes from pos on as an old one

@@ -1,10 +1,10 @@
 -- What follows for the images of a store from several calls, or from one.
 use Rattle.std.specs.Prelude.{◌≡◌, ℕ, List, ◌++◌}
-use Rattle.cdb_store.specs.Images.{overwrite, part, Holds}
+use Rattle.cdb_store.specs.Images.{overwrite, part, ImagesHold}
 
 -- bytes that were held from pos on still are
 abbrev pub StaysHeld : ℕ → List ℕ → (old new : List ℕ → Type 0) → Type 0
-StaysHeld pos bytes old new = Holds pos bytes old → Holds pos bytes new
+StaysHeld pos bytes old new = ImagesHold pos bytes old → ImagesHold pos bytes new
 
 -- no byte list is an image
 abbrev pub HasNoImage : (List ℕ → Type 0) → Type 0

@@ -1,17 +1,7 @@
 //! What follows from the contract of a store for those that call one. Each law is the contract of a
 //! function whose parameters are what it ranges over, the store before and after a call among them.
 ghost use Rattle.std.specs.Prelude.{◌≡◌, ◌+◌, ◌≤◌, ◌++◌, length};
-ghost use Rattle.cdb_store.specs.Images.{
-  SameImages,
-  AfterRead,
-  AfterWrite,
-  AfterTornWrite,
-  AfterCut,
-  TornWithin,
-  AreApart,
-  Holds,
-  Copied,
-};
+ghost use Rattle.cdb_store.specs.Images.{SameImages, AfterRead, AfterWrite, AfterTornWrite, AfterCut, TornWithin, AreApart, ImagesHold, Copied};
 ghost use Rattle.cdb_store.specs.Laws.{StaysHeld, HasNoImage, Gathered};
 
 use crate::Store;
@@ -52,10 +42,10 @@ pub fn written_bytes_are_held<S: Store>(
 )
     ensures write { _pos ≤ S.size _before.now
         → AfterWrite _pos _bytes.now (S.image _before.now) (S.image _after.now)
-        → Holds _pos _bytes.now (S.image _after.now) }
-    ensures join { Holds _pos _bytes.now (S.image _after.now)
-        → Holds (_pos + length _bytes.now) _more.now (S.image _after.now)
-        → Holds _pos (_bytes.now ++ _more.now) (S.image _after.now) }
+        → ImagesHold _pos _bytes.now (S.image _after.now) }
+    ensures join { ImagesHold _pos _bytes.now (S.image _after.now)
+        → ImagesHold (_pos + length _bytes.now) _more.now (S.image _after.now)
+        → ImagesHold _pos (_bytes.now ++ _more.now) (S.image _after.now) }
 {}
 
 /// If other bytes come back than are held, no image is left.
@@ -68,7 +58,7 @@ pub fn other_bytes_leave_no_image<S: Store>(
 )
     ensures { length _given.now ≡ length _held.now
         → (_given.now ≡ _held.now → ⊥)
-        → Holds _pos _held.now (S.image _before.now)
+        → ImagesHold _pos _held.now (S.image _before.now)
         → AfterRead _pos _given.now (S.image _before.now) (S.image _after.now)
         → HasNoImage (S.image _after.now) }
 {}
@@ -87,8 +77,8 @@ pub fn moved_bytes_are_held<S: Store>(
         → _from + _n ≤ S.size _before.now
         → _offset + length _held.now ≤ _n
         → Copied _from _to _n (S.image _before.now) (S.image _after.now)
-        → Holds (_from + _offset) _held.now (S.image _before.now)
-        → Holds (_to + _offset) _held.now (S.image _after.now) }
+        → ImagesHold (_from + _offset) _held.now (S.image _before.now)
+        → ImagesHold (_to + _offset) _held.now (S.image _after.now) }
 {}
 
 /// Two pieces that were moved down one after the other are there as one.

@@ -3,14 +3,7 @@ ghost use Rattle.std.specs.Prelude.{◌≡◌, ℕ, ◌+◌, ◌<◌, ◌≤◌,
 ghost use Rattle.std.specs.Prelude.{◌++◌};
 ghost use Rattle.std.specs.Prelude.{IsErrOf};
 ghost use Rattle.cdb_store.specs.declared.store.StoreFault.TheVariants.{Device, NoMemory};
-ghost use Rattle.cdb_store.specs.Images.{
-  SameImages,
-  AfterRead,
-  AfterWrite,
-  AfterTornWrite,
-  AfterCut,
-  HasCause,
-};
+ghost use Rattle.cdb_store.specs.Images.{SameImages, AfterRead, AfterWrite, AfterTornWrite, AfterCut, HasCause};
 ghost use Rattle.cdb_store.specs.Faults.{fault_number, fault_message};
 
 use crate::bytes::join;

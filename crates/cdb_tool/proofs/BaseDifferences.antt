@@ -14,7 +14,7 @@ use Rattle.cdb_read.specs.Difference.{after_change, amended, changed_keys, diffe
 use Rattle.cdb_read.specs.Laws.{brought_up}
 use Rattle.cdb_read.specs.Values.{values_of}
 use Rattle.cdb_command.specs.declared.options.MakeOptions.{MakeOptions}
-use Rattle.cdb_tool.specs.Laws.{HoldsAll}
+use Rattle.cdb_tool.specs.Laws.{MakerHoldsAll}
 use Rattle.cdb_tool.specs.Runs.Course.{Course, Incoming, ends, from_input, is_going, mode_of, with_change, with_next}
 
 -- the run goes on, and holds these records
@@ -115,7 +115,7 @@ difference_room w limit rs ss room =
     (puts_room w limit (amended rs gone) new (key_puts ss (changed_keys ss rs)) (subst (λ xs. file_size w xs ≤ limit) (fold-append after_change rs gone new) room))
 
 -- the law
-pub holds_all : (w : ℕ) (o : MakeOptions) (rs ss : List KeyValue) → mode_of o ≡ Add → file_size w (brought_up rs ss) ≤ o.limit → HoldsAll w o rs ss
+pub holds_all : (w : ℕ) (o : MakeOptions) (rs ss : List KeyValue) → mode_of o ≡ Add → file_size w (brought_up rs ss) ≤ o.limit → MakerHoldsAll w o rs ss
 holds_all w o rs ss mode room =
     let start : Course = record { records = rs; told = []; ended = None } in
     let h : Holds (fold (with_next w o) start (from_input 1 1 (difference rs ss))) (brought_up rs ss) = does_all w o start 1 1 rs (difference rs ss) mode (difference_room w o.limit rs ss room) (record { records = refl; going = refl }) in

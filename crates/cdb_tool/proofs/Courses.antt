@@ -22,7 +22,7 @@ use Rattle.cdb_make.proofs.Finishing.{rests_nothing}
 use Rattle.cdb_tool.specs.Message.{TellsEach, TellsPart}
 use Rattle.cdb_tool.specs.Views.Fault.{make_fault}
 use Rattle.cdb_tool.specs.Runs.Course.{Task, Incoming, Course, from_input, from_inputs, mode_of, told, ends, is_going, with_put, with_change, with_next, at_start, course_of, TellFails, Goes, StopsSo}
-use Rattle.cdb_tool.specs.Runs.Make.{InCourse, PutStops, IsOfStore, StandsAt, IsHalt, TakesNext}
+use Rattle.cdb_tool.specs.Runs.Make.{InCourse, PutStops, IsOfStore, MakeStandsAt, IsHalt, TakesNext}
 use Rattle.cdb_tool.specs.declared.fault.Fault.{Fault}
 use Rattle.cdb_tool.specs.declared.fault.Fault.TheVariants.{Text, Make, Duplicate, Missing, Read, Walk, Output, Long, Open, Rename, NoMemory, Old, New, NoOldTables, NoNewTables}
 use Rattle.cdb_command.specs.declared.options.MakeOptions.{MakeOptions}
@@ -193,7 +193,7 @@ refused_store old new mode r make.Writing x is = elim x.0 [ inl stays ↦ stays.
 -- ---- where a run came to that was halted
 
 stands_so : {S L : Type 0} {s : Ghosts S} {l : Widths L} (t : Task) (cs : List Incoming) (start mid : Option (List ℕ)) (old new : Maker S L s l) → InCourse t cs start mid old → ComesFrom (s.image old.store) (s.image new.store) → told_count new ≡ told_count old
-    → (IsUsable new → Holds new (course_of l.WORD t cs).records) → StandsAt t cs start mid new
+    → (IsUsable new → Holds new (course_of l.WORD t cs).records) → MakeStandsAt t cs start mid new
 stands_so {l = l} t cs start mid old new h comes count holds = record {
   holds = holds;
   count = record { each = λ b is. let a = comes.each b is in count ∙ (holds_count old (course_of l.WORD t cs).records h.holds).each a.0 a.1 };
@@ -201,18 +201,18 @@ stands_so {l = l} t cs start mid old new h comes count holds = record {
 }
 
 stands_whole : {S L : Type 0} {s : Ghosts S} {l : Widths L} (t : Task) (cs : List Incoming) (start mid : Option (List ℕ)) (old new : Maker S L s l) → InCourse t cs start mid old → ComesFrom (s.image old.store) (s.image new.store) → told_count new ≡ told_count old → StaysWhole old new
-    → StandsAt t cs start mid new
+    → MakeStandsAt t cs start mid new
 stands_whole {l = l} t cs start mid old new h comes count stays = stands_so t cs start mid old new h comes count (λ usable. stays.holds (course_of l.WORD t cs).records h.holds)
 
 stands_broken : {S L : Type 0} {s : Ghosts S} {l : Widths L} (t : Task) (cs : List Incoming) (start mid : Option (List ℕ)) (old new : Maker S L s l) → InCourse t cs start mid old → ComesFrom (s.image old.store) (s.image new.store) → told_count new ≡ told_count old → new.broken ≡ true
-    → StandsAt t cs start mid new
+    → MakeStandsAt t cs start mid new
 stands_broken t cs start mid old new h comes count broken = stands_so t cs start mid old new h comes count (λ usable. absurd (let k : true ≡ false = sym broken ∙ usable in cc))
 
-pub course_stands : {S L : Type 0} {s : Ghosts S} {l : Widths L} (t : Task) (cs : List Incoming) (start now : Option (List ℕ)) (m : Maker S L s l) → InCourse t cs start now m → StandsAt t cs start now m
+pub course_stands : {S L : Type 0} {s : Ghosts S} {l : Widths L} (t : Task) (cs : List Incoming) (start now : Option (List ℕ)) (m : Maker S L s l) → InCourse t cs start now m → MakeStandsAt t cs start now m
 course_stands t cs start now m h = stands_so t cs start now m m h (record { each = λ b is. (b, is) }) refl (λ usable. h.holds)
 
 put_halted : {S L : Type 0} {s : Ghosts S} {l : Widths L} (t : Task) (cs : List Incoming) (r : KeyValue) (start mid : Option (List ℕ)) (old new : Maker S L s l) (f : MakeFault) → InCourse t cs start mid old → FailsPutting old new (mode_of t.options) r f
-    → ComesFrom (s.image old.store) (s.image new.store) → told_count new ≡ told_count old → IsHalt (make_fault f) → StandsAt t cs start mid new
+    → ComesFrom (s.image old.store) (s.image new.store) → told_count new ≡ told_count old → IsHalt (make_fault f) → MakeStandsAt t cs start mid new
 put_halted t cs r start mid old new make.Broken h x comes count is = absurd is
 put_halted t cs r start mid old new make.Lookup h x comes count is = stands_whole t cs start mid old new h comes count (rests_nothing old new x.0).stays
 put_halted t cs r start mid old new make.TooBig h x comes count is = absurd is
@@ -223,11 +223,11 @@ put_halted t cs r start mid old new make.Writing h x comes count is = elim x.0 [
 ]
 
 pub put_halted_so : {S L : Type 0} {s : Ghosts S} {l : Widths L} (t : Task) (o : MakeOptions) (cs : List Incoming) (r : KeyValue) (start mid : Option (List ℕ)) (old new : Maker S L s l) (f : MakeFault) → t.options ≡ o → InCourse t cs start mid old → FailsPutting old new (mode_of o) r f
-    → ComesFrom (s.image old.store) (s.image new.store) → told_count new ≡ told_count old → IsHalt (make_fault f) → StandsAt t cs start mid new
+    → ComesFrom (s.image old.store) (s.image new.store) → told_count new ≡ told_count old → IsHalt (make_fault f) → MakeStandsAt t cs start mid new
 put_halted_so t o cs r start mid old new f same h x comes count is = put_halted t cs r start mid old new f h (subst (λ v. FailsPutting old new (mode_of v) r f) (sym same) x) comes count is
 
 pub removal_halted : {S L : Type 0} {s : Ghosts S} {l : Widths L} (t : Task) (cs : List Incoming) (key : List ℕ) (start now : Option (List ℕ)) (old new : Maker S L s l) (f : MakeFault) → InCourse t cs start now old → FailsRemoving old new key f
-    → ComesFrom (s.image old.store) (s.image new.store) → told_count new ≡ told_count old → IsHalt (make_fault f) → StandsAt t cs start now new
+    → ComesFrom (s.image old.store) (s.image new.store) → told_count new ≡ told_count old → IsHalt (make_fault f) → MakeStandsAt t cs start now new
 removal_halted t cs key start now old new make.Broken h x comes count is = absurd is
 removal_halted t cs key start now old new make.Lookup h x comes count is = stands_whole t cs start now old new h comes count (rests_nothing old new x.0).stays
 removal_halted t cs key start now old new make.TooBig h x comes count is = absurd is

@@ -11,9 +11,9 @@ use Rattle.cdb_form.proofs.Bytes.WritingLemmas.{appends_kept, same_appends}
 use Rattle.cdb_read.specs.Views.Reads.{OpeningFails}
 use Rattle.cdb_read.specs.declared.fault.ReadFault.{ReadFault}
 use Rattle.cdb_read.specs.declared.fault.ReadFault.TheVariants as read
-use Rattle.cdb_difference.specs.Difference.{IsDamaged, ReadingStops, SaysDifference, Stops, WritesDifference, WritesPrefix}
+use Rattle.cdb_difference.specs.Difference.{IsOneDamaged, ReadingStops, SaysDifference, DifferenceStops, WritesDifference, WritesDifferencePrefix}
 use Rattle.cdb_difference.proofs.WholeDifferences.{nothing_written}
-use Rattle.cdb_tool.specs.Runs.Difference.{DifferenceFails, HaveTables, Lacks, NotRead, TellsDifference, comes_after_heads}
+use Rattle.cdb_tool.specs.Runs.Difference.{DifferenceFails, HaveTables, DifferenceLacks, DifferenceNotRead, TellsDifference, comes_after_heads}
 use Rattle.cdb_tool.specs.Runs.Flushed.{Flushed}
 use Rattle.cdb_tool.specs.Views.Fault.{old_fault, new_fault, stop_fault}
 use Rattle.cdb_tool.specs.declared.fault.Fault.{Fault}
@@ -26,7 +26,7 @@ use Rattle.cdb_tool.proofs.WholeRuns.{keeps_self, keeps_then, not_ok, prefix_kep
 -- ---- why it failed
 
 module _ {S T : Type 0} (w : ℕ) (s : Ghosts S) (t : Ghosts T) (old old_now : S) (new new_now : T) (start now : Option (List ℕ)) (O : Type 0) where
-  old_fails : (f : ReadFault) → ReadingStops s old old_now (IsDamaged w s t old_now new_now) O f → DifferenceFails w s t old old_now new new_now start now (old_fault f)
+  old_fails : (f : ReadFault) → ReadingStops s old old_now (IsOneDamaged w s t old_now new_now) O f → DifferenceFails w s t old old_now new new_now start now (old_fault f)
   old_fails read.Device fails = fails
   old_fails (read.Table n) fails = fails
   old_fails (read.Record place) fails = fails
@@ -37,7 +37,7 @@ module _ {S T : Type 0} (w : ℕ) (s : Ghosts S) (t : Ghosts T) (old old_now : S
   old_fails (read.Twice place) fails = absurd fails
   old_fails (read.Unindexed place) fails = absurd fails
 
-  new_fails : (f : ReadFault) → ReadingStops t new new_now (IsDamaged w t s new_now old_now) O f → DifferenceFails w s t old old_now new new_now start now (new_fault f)
+  new_fails : (f : ReadFault) → ReadingStops t new new_now (IsOneDamaged w t s new_now old_now) O f → DifferenceFails w s t old old_now new new_now start now (new_fault f)
   new_fails read.Device fails = fails
   new_fails (read.Table n) fails = fails
   new_fails (read.Record place) fails = fails
@@ -48,7 +48,7 @@ module _ {S T : Type 0} (w : ℕ) (s : Ghosts S) (t : Ghosts T) (old old_now : S
   new_fails (read.Twice place) fails = absurd fails
   new_fails (read.Unindexed place) fails = absurd fails
 
-  pub writing_fails : (stop : Stop) → Stops w s t old old_now new new_now O stop → DifferenceFails w s t old old_now new new_now start now (stop_fault stop)
+  pub writing_fails : (stop : Stop) → DifferenceStops w s t old old_now new new_now O stop → DifferenceFails w s t old old_now new new_now start now (stop_fault stop)
   writing_fails (Own f) fails = old_fails f fails
   writing_fails (Other f) fails = new_fails f fails
 
@@ -133,7 +133,7 @@ new_unopened w s t old old_now new new_now start f reads fails = record {
 
 -- ---- two that were opened
 
-since : {S T : Type 0} (w : ℕ) (s : Ghosts S) (t : Ghosts T) (old mid now : S) (beside : T) (start end : Option (List ℕ)) (f : ReadFault) → OnlyReads s old mid → head_size w ≤ s.size mid → NotRead w s t mid now beside start end f → NotRead w s t old now beside start end f
+since : {S T : Type 0} (w : ℕ) (s : Ghosts S) (t : Ghosts T) (old mid now : S) (beside : T) (start end : Option (List ℕ)) (f : ReadFault) → OnlyReads s old mid → head_size w ≤ s.size mid → DifferenceNotRead w s t mid now beside start end f → DifferenceNotRead w s t old now beside start end f
 since w s t old mid now beside start end read.Short reads long fails = absurd (let short = fails.short in omega (arith, short, long))
 since w s t old mid now beside start end read.Device reads long fails = let p = reads.failures in omega (arith, p, fails)
 since w s t old mid now beside start end (read.Table n) reads long fails = fails
@@ -168,7 +168,7 @@ module _ {S T : Type 0} (w : ℕ) (s : Ghosts S) (t : Ghosts T) (old mid now : S
 
 -- whether they have tables
 module _ {S T : Type 0} (w : ℕ) (s : Ghosts S) (t : Ghosts T) (old old_now : S) (new new_now : T) (start end : Option (List ℕ)) where
-  pub old_lacks : Lacks w s old true → TellsDifference w s t old old new new start start (Err NoOldTables)
+  pub old_lacks : DifferenceLacks w s old true → TellsDifference w s t old old new new start start (Err NoOldTables)
   old_lacks lacks = record {
     old_reads = reads_none s old;
     new_reads = reads_none t new;
@@ -179,7 +179,7 @@ module _ {S T : Type 0} (w : ℕ) (s : Ghosts S) (t : Ghosts T) (old old_now : S
     front = λ b c is it. nothing_written w b c start;
   }
 
-  pub new_lacks : Lacks w s old false → Lacks w t new true → TellsDifference w s t old old new new start start (Err NoNewTables)
+  pub new_lacks : DifferenceLacks w s old false → DifferenceLacks w t new true → TellsDifference w s t old old new new start start (Err NoNewTables)
   new_lacks has lacks = record {
     old_reads = reads_none s old;
     new_reads = reads_none t new;
@@ -190,13 +190,13 @@ module _ {S T : Type 0} (w : ℕ) (s : Ghosts S) (t : Ghosts T) (old old_now : S
     front = λ b c is it. nothing_written w b c start;
   }
 
-  still : OnlyReads s old old_now → OnlyReads t new new_now → Lacks w s old false → Lacks w t new false → HaveTables w s t old_now new_now
+  still : OnlyReads s old old_now → OnlyReads t new new_now → DifferenceLacks w s old false → DifferenceLacks w t new false → HaveTables w s t old_now new_now
   still first second one two = record { of_old = λ b is. one b (first.images b is); of_new = λ c it. two c (second.images c it) }
 
-  pub tells_written : {O : Type 0} → Lacks w s old false → Lacks w t new false → SaysDifference w s t old old_now new new_now start end O (Ok tt) → TellsDifference w s t old old_now new new_now start end (Ok tt)
+  pub tells_written : {O : Type 0} → DifferenceLacks w s old false → DifferenceLacks w t new false → SaysDifference w s t old old_now new new_now start end O (Ok tt) → TellsDifference w s t old old_now new new_now start end (Ok tt)
   tells_written one two h = record { old_reads = h.old_reads; new_reads = h.new_reads; ok = h.ok; err = tt; ok_tables = still h.old_reads h.new_reads one two; err_tables = tt; front = tt }
 
-  pub tells_stopped : {O : Type 0} → Lacks w s old false → Lacks w t new false → (stop : Stop) → SaysDifference w s t old old_now new new_now start end O (Err stop) → TellsDifference w s t old old_now new new_now start end (Err (stop_fault stop))
+  pub tells_stopped : {O : Type 0} → DifferenceLacks w s old false → DifferenceLacks w t new false → (stop : Stop) → SaysDifference w s t old old_now new new_now start end O (Err stop) → TellsDifference w s t old old_now new new_now start end (Err (stop_fault stop))
   tells_stopped {O} one two stop h = record {
     old_reads = h.old_reads;
     new_reads = h.new_reads;
@@ -213,17 +213,17 @@ module _ {S T : Type 0} (w : ℕ) (s : Ghosts S) (t : Ghosts T) (old now : S) (n
   written_kept : (b c : List ℕ) → WritesDifference w b c start mid → WritesDifference w b c start end
   written_kept b c h = record { old_whole = h.old_whole; new_whole = h.new_whole; changes = h.changes; written = appends_kept start mid end _ h.written kept; are = h.are }
 
-  front_kept : (b c : List ℕ) → WritesPrefix w b c start mid → WritesPrefix w b c start end
+  front_kept : (b c : List ℕ) → WritesDifferencePrefix w b c start mid → WritesDifferencePrefix w b c start end
   front_kept b c h = record { changes = h.changes; written = prefix_kept start mid end _ h.written kept; are = λ one two. prefix_kept start mid end _ (h.are one two) kept }
 
-  written_front : (b c : List ℕ) → WritesDifference w b c start end → WritesPrefix w b c start end
+  written_front : (b c : List ℕ) → WritesDifference w b c start end → WritesDifferencePrefix w b c start end
   written_front b c h = record {
     changes = h.changes;
     written = whole_prefix start end _ h.written;
     are = λ one two. whole_prefix start end _ (same_appends start end _ _ (ap amending_text (h.are one two)) h.written);
   }
 
-  short_kept : {X Z : Type 0} (x : Ghosts X) (z : Ghosts Z) (before after : X) (beside : Z) (f : ReadFault) → NotRead w x z before after beside start mid f → NotRead w x z before after beside start end f
+  short_kept : {X Z : Type 0} (x : Ghosts X) (z : Ghosts Z) (before after : X) (beside : Z) (f : ReadFault) → DifferenceNotRead w x z before after beside start mid f → DifferenceNotRead w x z before after beside start end f
   short_kept x z before after beside read.Short h = record { short = h.short; unread = h.unread; kept = keeps_then start mid end h.kept kept }
   short_kept x z before after beside read.Device h = h
   short_kept x z before after beside (read.Table n) h = h

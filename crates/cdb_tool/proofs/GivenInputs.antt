@@ -13,7 +13,7 @@ use Rattle.cdb_form.specs.Views.TextFault.{IsOfText}
 use Rattle.cdb_form.specs.declared.text.fault.TextFault.{TextFault}
 use Rattle.cdb_form.proofs.NativeTexts.Parsing.{native_is, native_fault_is, native_begins, amending_is, amending_fault_is, amending_begins, bytes_left}
 use Rattle.cdb_tool.specs.Runs.Course.{Incoming, from_input, from_inputs}
-use Rattle.cdb_tool.specs.Runs.Inputs.{InputForm, HasFaults, Puts, Changes, Lists, input_form, keys_of, OneInput, InputsLeft, IsInputOf, BeginsWithItems, HasItemFault, ReadsOne, ReadsFirst, AreInputs, AreAllInputs, OneBegins, FirstBegins, FirstHas, bytes_of}
+use Rattle.cdb_tool.specs.Runs.Inputs.{InputForm, HasFaults, Puts, Changes, Lists, input_form, keys_of, OneInput, InputsLeft, IsInputOf, BeginsWithItems, HasItemFault, ReadsOne, ReadsFirstInputs, AreInputs, AreAllInputs, OneBegins, FirstBegins, FirstHas, bytes_of}
 use Rattle.cdb_tool.specs.Runs.Inputs as form
 use Rattle.cdb_tool.specs.Runs.Make.{came}
 use Rattle.cdb_tool.specs.Runs.MakesSo.{one_input, KnownFor, Known}
@@ -103,7 +103,7 @@ reads_shared : (f : InputForm) (g : ℕ) (items : List Change) (one : OneInput) 
 reads_shared f g items one shared old None e k h = absurd (subst (λ o. FromTo o None (IsInputOf f g items)) k (subst (λ o. ReadsOne f g items o old None) e h))
 reads_shared f g items one shared old (Some rest) e k h = (rest, refl, subst (λ o. FromTo o (Some rest) (IsInputOf f g items)) k (subst (λ o. ReadsOne f g items o old (Some rest)) e h))
 
-first_known : (f : InputForm) (g number : ℕ) (items : List Change) (inputs : List (Option (List ℕ))) (shared : List ℕ) (old rest : InputsLeft) → Known inputs shared old → ReadsFirst f g items old rest → FirstKnown f g number items inputs shared rest
+first_known : (f : InputForm) (g number : ℕ) (items : List Change) (inputs : List (Option (List ℕ))) (shared : List ℕ) (old rest : InputsLeft) → Known inputs shared old → ReadsFirstInputs f g items old rest → FirstKnown f g number items inputs shared rest
 first_known f g number items [] shared old rest k h = absurd (let e : h.one ∷ rest.each ≡ [] = sym h.first ∙ k.each in cc)
 first_known f g number items (Some input ∷ inputs) shared old rest k h =
     let same = first_is h.one (form.Own (Some input)) rest.each (map one_input inputs) (sym h.first ∙ k.each) in

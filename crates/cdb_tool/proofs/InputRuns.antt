@@ -12,9 +12,9 @@ use Rattle.cdb_make.proofs.Rolls.{follows_then}
 use Rattle.cdb_tool.specs.Views.Fault.{text_fault}
 use Rattle.cdb_tool.specs.Views.ItemReader.{form_of, Fails}
 use Rattle.cdb_tool.specs.Runs.Course.{Task, Incoming, from_inputs, Goes, StopsSo}
-use Rattle.cdb_tool.specs.Runs.Inputs.{InputForm, input_form, BeginsWithItems, HasItemFault, InputsLeft, OneInput, ReadsOne, ReadsFirst, AreInputs, OneBegins, FirstBegins, FirstHas, bytes_of}
+use Rattle.cdb_tool.specs.Runs.Inputs.{InputForm, input_form, BeginsWithItems, HasItemFault, InputsLeft, OneInput, ReadsOne, ReadsFirstInputs, AreInputs, OneBegins, FirstBegins, FirstHas, bytes_of}
 use Rattle.cdb_tool.specs.Runs.Inputs as form
-use Rattle.cdb_tool.specs.Runs.Make.{InCourse, PutStops, InputFails, StopsIn, Stops, InputsFail, came, IsOfStore, StandsAt, StandsIn, Stands, PutsItems}
+use Rattle.cdb_tool.specs.Runs.Make.{InCourse, PutStops, InputFails, MakeStopsIn, MakeStops, InputsFail, came, IsOfStore, MakeStandsAt, StandsIn, Stands, PutsItems}
 use Rattle.cdb_tool.specs.Runs.Make.{form_of as task_form}
 use Rattle.cdb_tool.specs.declared.fault.Fault.{Fault}
 use Rattle.cdb_tool.specs.declared.fault.Fault.TheVariants.{Text, Make, Duplicate, Missing, Read, Walk, Output, Long, Open, Rename, NoMemory, Old, New, NoOldTables, NoNewTables}
@@ -102,13 +102,13 @@ text_store n fault.Endless is = is
 
 -- a run that was halted in an input, or behind its items
 pub halted_here : {S K : Type 0} {s : Ghosts S} {k : Widths K} (form is : InputForm) (g : ℕ) (o : Task) (read : List (List Change)) (input : Option (List ℕ)) (last : List Change) (start now : Option (List ℕ)) (m : Maker S K s k) → is ≡ form → IfSome input (BeginsWithItems is g last)
-    → StandsAt o (came read last) start now m → StandsIn form g o read input start now m
+    → MakeStandsAt o (came read last) start now m → StandsIn form g o read input start now m
 halted_here form is g o read input last start now m same b h = record { last = last; begins = subst (λ v. IfSome input (BeginsWithItems v g last)) same b; stands = h }
 
 -- ---- one input more
 
-pub inputs_next : (st : InputForm) (g : ℕ) (read : List (List Change)) (last : List Change) (inputs mid rest : InputsLeft) → AreInputs st g read inputs mid → ReadsFirst st g last mid rest → AreInputs st g (read ++ last ∷ []) inputs rest
-inputs_next st g [] last inputs mid rest e is = (rest, subst (λ v. ReadsFirst st g last v rest) (sym e) is, refl)
+pub inputs_next : (st : InputForm) (g : ℕ) (read : List (List Change)) (last : List Change) (inputs mid rest : InputsLeft) → AreInputs st g read inputs mid → ReadsFirstInputs st g last mid rest → AreInputs st g (read ++ last ∷ []) inputs rest
+inputs_next st g [] last inputs mid rest e is = (rest, subst (λ v. ReadsFirstInputs st g last v rest) (sym e) is, refl)
 inputs_next st g (q ∷ read) last inputs mid rest e is = (e.0, e.1, inputs_next st g read last e.0 mid rest e.2 is)
 
 -- an input with these bytes that begins with items is the first one
@@ -118,7 +118,7 @@ one_begins st g last each more shared one e b = subst (λ v. OneBegins st g last
 pub first_begins : (st : InputForm) (g : ℕ) (last : List Change) (rest : InputsLeft) (x : Option (List ℕ)) → FirstHas rest x → IfSome x (BeginsWithItems st g last) → FirstBegins st g last rest
 first_begins st g last rest x h b = one_begins st g last rest.each h.more rest.shared h.one h.first (subst (λ v. IfSome v (BeginsWithItems st g last)) h.has b)
 
-stopped : (w g : ℕ) (o : Task) (read : List (List Change)) (x : Option (List ℕ)) (inputs rest : InputsLeft) (start now : Option (List ℕ)) (f : Fault) → AreInputs (task_form o) g read inputs rest → FirstHas rest x → StopsIn w g o read x start now f → Stops w g o inputs start now f
+stopped : (w g : ℕ) (o : Task) (read : List (List Change)) (x : Option (List ℕ)) (inputs rest : InputsLeft) (start now : Option (List ℕ)) (f : Fault) → AreInputs (task_form o) g read inputs rest → FirstHas rest x → MakeStopsIn w g o read x start now f → MakeStops w g o inputs start now f
 stopped w g o read x inputs rest start now f are first s = record { read = read; last = s.last; rest = rest; are = are; begins = first_begins (task_form o) g s.last rest x first s.begins; stops = s.stops }
 
 -- the run stopped in one of the inputs

@@ -21,7 +21,7 @@ use Rattle.cdb_form.specs.declared.text.source.Source.{Source}
 use Rattle.cdb_form.proofs.MapTexts.WholeMap.{GaveAll, GaveSoFar, gave_so_far_amid, gave_so_far_none, gave_so_far_rest, going_on}
 use Rattle.cdb_form.proofs.MapTexts.WholeMap.{Gave as GaveLines, gave_more as gave_lines_more, gave_all as gave_lines_all}
 use Rattle.cdb_form.proofs.NativeTexts.WholeText.{SoFar, so_far_none, so_far_more}
-use Rattle.cdb_tool.specs.Runs.Inputs.{HasFaultBehind, IsInput, BeginsWith, HasInputFault}
+use Rattle.cdb_tool.specs.Runs.Inputs.{HasFaultBehind, IsInput, InputsBeginWith, HasInputFault}
 use Rattle.cdb_command.specs.declared.style.Style.TheVariants as style
 use Rattle.cdb_tool.proofs.NativeInputs.{fault_of_text, fault_of_part}
 
@@ -139,10 +139,10 @@ all_begins : (o : Option (List ℕ)) (rs : List KeyValue) → GaveAll o rs → I
 all_begins None rs a = tt
 all_begins (Some t) rs a = ([], a ∙ sym (append-nil rs))
 
-pub native_first : {R L : Type 0} (g : ℕ) (remaining : R → Option (List ℕ)) (input : Option (List ℕ)) (t : TextReader R L) (rs : List KeyValue) → GaveNative g remaining input t rs → IfSome input (BeginsWith style.Native g rs)
+pub native_first : {R L : Type 0} (g : ℕ) (remaining : R → Option (List ℕ)) (input : Option (List ℕ)) (t : TextReader R L) (rs : List KeyValue) → GaveNative g remaining input t rs → IfSome input (InputsBeginWith style.Native g rs)
 native_first g remaining input t rs h = begins_native g input _ _ rs h.1
 
-pub map_first : {R : Type 0} (g : ℕ) (remaining : R → Option (List ℕ)) (input : Option (List ℕ)) (t : MapReader R) (rs : List KeyValue) → GaveMap remaining input t rs → IfSome input (BeginsWith style.Map g rs)
+pub map_first : {R : Type 0} (g : ℕ) (remaining : R → Option (List ℕ)) (input : Option (List ℕ)) (t : MapReader R) (rs : List KeyValue) → GaveMap remaining input t rs → IfSome input (InputsBeginWith style.Map g rs)
 map_first g remaining input t rs h = elim h.0 [
   | inl so ↦ begins_map input _ rs (gave_so_far_rest input _ rs so.1)
   | inr ended ↦ all_begins input rs ended.1

@@ -14,7 +14,7 @@ use Rattle.cdb_form.specs.declared.text.fault.TextFault.TheVariants.{Ended}
 use Rattle.cdb_form.specs.declared.text.fault.TextFault.TheVariants as fault
 use Rattle.cdb_form.proofs.NativeTexts.WholeChanges.{SoFar, so_far_none, so_far_more, so_far_fault, so_far_part}
 use Rattle.cdb_tool.specs.Runs.Course.{Task}
-use Rattle.cdb_tool.specs.Runs.Inputs.{InputForm, input_form, HasFaultBehind, HasItemFault, IsInput, BeginsWith, IsInputOf, BeginsWithItems}
+use Rattle.cdb_tool.specs.Runs.Inputs.{InputForm, input_form, HasFaultBehind, HasItemFault, IsInput, InputsBeginWith, IsInputOf, BeginsWithItems}
 use Rattle.cdb_tool.specs.Runs.Inputs as form
 use Rattle.cdb_tool.specs.Runs.Make.{form_of as task_form}
 use Rattle.cdb_tool.specs.Views.ItemReader.{form_of, unread, asks_left, IsNew, GivesItem, GivesEnd, Fails}

@@ -21,11 +21,11 @@ use Rattle.cdb_tool.specs.Runs.Flushed.{FlushedWhole, IsWhole}
 use Rattle.cdb_tool.specs.Runs.Form.{end_of}
 use Rattle.cdb_tool.specs.Runs.Inputs.{InputsLeft, key_of, keys_form, keys_of, keys_of_each}
 use Rattle.cdb_tool.specs.Runs.LookedUp.{Looked, has_ended, looked_up, records_asked, with_end, with_given, with_key}
-use Rattle.cdb_tool.specs.Runs.Lookups.{Fails, Leaves, LooksUp, LooksUpAll, HasLooked, Stops, missing_answer}
+use Rattle.cdb_tool.specs.Runs.Lookups.{LookupsFail, LookupsLeave, LooksUp, LooksUpAll, HasLooked, LookupsStop, missing_answer}
 use Rattle.cdb_tool.specs.Runs.Made.{Given, given_from}
 use Rattle.cdb_tool.specs.Runs.Make.{came}
 use Rattle.cdb_tool.specs.Runs.MakesSo.{Known}
-use Rattle.cdb_tool.specs.Runs.Query.{IsShort}
+use Rattle.cdb_tool.specs.Runs.Query.{IsShortForQuery}
 use Rattle.cdb_tool.specs.declared.fault.Fault.{Fault}
 use Rattle.cdb_tool.specs.declared.fault.Fault.TheVariants.{Text, Make, Duplicate, Missing, Read, Walk, Output, Long, Open, Rename, NoMemory, Old, New, NoOldTables, NoNewTables}
 use Rattle.cdb_tool.proofs.GivenInputs.{after, all_given, begins_given, first_fails, left_known}
@@ -60,7 +60,7 @@ ComesOf l start end result = LooksSo l start end result ⊎ LookupRefused l star
 
 -- of a file that has a head
 pub record LooksOrShort {S : Type 0} (w : ℕ) (s : Ghosts S) (l : Looked) (old new : S) (start end : Option (List ℕ)) (result : Result Unit Fault) : Type 0 where
-  pub comes : ((result ≡ Err (Read read.Short)) × IsShort w s old new start end) ⊎ ((head_size w ≤ s.size new) × ComesOf l start end result)
+  pub comes : ((result ≡ Err (Read read.Short)) × IsShortForQuery w s old new start end) ⊎ ((head_size w ≤ s.size new) × ComesOf l start end result)
 
 refused : (l : Looked) (start end : Option (List ℕ)) (f : Fault) → IsLookupRefusal f → AppendsPrefix start end l.text → ComesOf l start end (Err f)
 refused l start end f is p = inr (record { fault = f; is = refl; refusal = is; written = p })
@@ -165,7 +165,7 @@ damage_asked w g number style inputs shared bytes keys more start end f e ends a
 
 -- the text of an input has a fault
 text_asked : {S : Type 0} (w g : ℕ) (s : Ghosts S) (number : Option ℕ) (style : Style) (inputs : List (Option (List ℕ))) (shared : List ℕ) (left : InputsLeft) (old new : S) (bytes : List ℕ) (start end : Option (List ℕ)) (n : ℕ) (f : TextFault) → Known inputs shared left → s.image new bytes → IsOfText f
-    → (h : Stops w g s number style left old new start end (Text n f)) → (missing : Bool) → HasLooked w s number style (keys_of_each h.read ++ keys_of h.last) new start end missing → ComesOf (records_asked w g number style inputs shared bytes) start end (Err (Text n f))
+    → (h : LookupsStop w g s number style left old new start end (Text n f)) → (missing : Bool) → HasLooked w s number style (keys_of_each h.read ++ keys_of h.last) new start end missing → ComesOf (records_asked w g number style inputs shared bytes) start end (Err (Text n f))
 text_asked w g s number style inputs shared left old new bytes start end n f known is of h missing looked =
     let form = keys_form style in
     let at = h.of_text n f refl in
@@ -188,7 +188,7 @@ pub record StopsSo {S : Type 0} (w : ℕ) (s : Ghosts S) (l : Looked) (new : S) 
   pub comes : ComesOf l start end (Err f)
 
 stops_asked : {S : Type 0} (w g : ℕ) (s : Ghosts S) (number : Option ℕ) (style : Style) (inputs : List (Option (List ℕ))) (shared : List ℕ) (left : InputsLeft) (old new : S) (bytes : List ℕ) (start end : Option (List ℕ)) (f : Fault) (more : List (List ℕ)) → Known inputs shared left → s.image new bytes → s.failures new ≡ 0
-    → (h : Stops w g s number style left old new start end f) → keys_of_each (given_from (keys_form style) g 1 inputs shared).items ≡ (keys_of_each h.read ++ keys_of h.last) ++ more → StopsSo w s (records_asked w g number style inputs shared bytes) new start end f
+    → (h : LookupsStop w g s number style left old new start end f) → keys_of_each (given_from (keys_form style) g 1 inputs shared).items ≡ (keys_of_each h.read ++ keys_of h.last) ++ more → StopsSo w s (records_asked w g number style inputs shared bytes) new start end f
 stops_asked w g s number style inputs shared left old new bytes start end (Read (read.Table n)) more known is works h keys =
     record { long = h.stops.long; comes = damage_asked w g number style inputs shared bytes _ more start end _ keys refl (h.stops.answered bytes is) (h.stops.written bytes is) }
 stops_asked w g s number style inputs shared left old new bytes start end (Read (read.Record place)) more known is works h keys =
@@ -228,7 +228,7 @@ stops_asked w g s number style inputs shared left old new bytes start end (Old s
 stops_asked w g s number style inputs shared left old new bytes start end (New side) more known is works h keys = absurd h.stops
 
 pub stopped_asked : {S : Type 0} (w g : ℕ) (s : Ghosts S) (number : Option ℕ) (style : Style) (inputs : List (Option (List ℕ))) (shared : List ℕ) (left : InputsLeft) (old new : S) (bytes : List ℕ) (start end : Option (List ℕ)) (f : Fault) → Known inputs shared left → s.image new bytes → s.failures new ≡ 0
-    → Stops w g s number style left old new start end f → StopsSo w s (records_asked w g number style inputs shared bytes) new start end f
+    → LookupsStop w g s number style left old new start end f → StopsSo w s (records_asked w g number style inputs shared bytes) new start end f
 stopped_asked w g s number style inputs shared left old new bytes start end f known is works h =
     let begins = begins_given (keys_form style) g h.read h.last inputs shared left h.rest known h.are h.begins in
     stops_asked w g s number style inputs shared left old new bytes start end f (map incoming_key begins.0) known is works h
@@ -240,12 +240,12 @@ stopped_or : {S : Type 0} (w : ℕ) (s : Ghosts S) (l : Looked) (old new : S) (s
 stopped_or w s l old new start end f h = record { comes = inr (h.long, h.comes) }
 
 fault_asked : {S : Type 0} (w g : ℕ) (s : Ghosts S) (number : Option ℕ) (style : Style) (inputs : List (Option (List ℕ))) (shared : List ℕ) (left : InputsLeft) (old new : S) (bytes : List ℕ) (start end : Option (List ℕ)) (f : Fault) → Known inputs shared left → s.image new bytes → s.failures new ≡ 0
-    → Stops w g s number style left old new start end f → LooksOrShort w s (records_asked w g number style inputs shared bytes) old new start end (Err f)
+    → LookupsStop w g s number style left old new start end f → LooksOrShort w s (records_asked w g number style inputs shared bytes) old new start end (Err f)
 fault_asked w g s number style inputs shared left old new bytes start end f known is works h =
     stopped_or w s _ old new start end f (stopped_asked w g s number style inputs shared left old new bytes start end f known is works h)
 
 unwritten_asked : {S : Type 0} (w g : ℕ) (s : Ghosts S) (number : Option ℕ) (style : Style) (inputs : List (Option (List ℕ))) (shared : List ℕ) (left : InputsLeft) (old new : S) (bytes : List ℕ) (start end : Option (List ℕ)) → Known inputs shared left → s.image new bytes → s.failures new ≡ 0
-    → Fails w g s number style left old new start end Output → LooksOrShort w s (records_asked w g number style inputs shared bytes) old new start end (Err Output)
+    → LookupsFail w g s number style left old new start end Output → LooksOrShort w s (records_asked w g number style inputs shared bytes) old new start end (Err Output)
 unwritten_asked w g s number style inputs shared left old new bytes start end known is works (inl h) = fault_asked w g s number style inputs shared left old new bytes start end Output known is works h
 unwritten_asked w g s number style inputs shared left old new bytes start end known is works (inr (missing, h)) =
     record { comes = inr (h.long, refused _ start end Output tt (all_asked w g s number style inputs shared left new bytes missing (AppendsPrefix start end) known is h).1) }
@@ -257,7 +257,7 @@ answer_asked w g s number style inputs shared left old new bytes start end missi
     record { comes = inr (h.long, inl (record { is = sym all.0; written = all.1 })) }
 
 leaves_asked : {S : Type 0} (w g : ℕ) (s : Ghosts S) (number : Option ℕ) (style : Style) (inputs : List (Option (List ℕ))) (shared : List ℕ) (left : InputsLeft) (old new : S) (bytes : List ℕ) (start end : Option (List ℕ)) (result : Result Unit Fault) → Known inputs shared left → s.image new bytes → s.failures new ≡ 0
-    → Leaves w g s number style left old new start end result → LooksOrShort w s (records_asked w g number style inputs shared bytes) old new start end result
+    → LookupsLeave w g s number style left old new start end result → LooksOrShort w s (records_asked w g number style inputs shared bytes) old new start end result
 leaves_asked w g s number style inputs shared left old new bytes start end (Ok done) known is works h = answer_asked w g s number style inputs shared left old new bytes start end false known is (h.all false refl)
 leaves_asked w g s number style inputs shared left old new bytes start end (Err Missing) known is works h = answer_asked w g s number style inputs shared left old new bytes start end true known is (h.all true refl)
 leaves_asked w g s number style inputs shared left old new bytes start end (Err (Read read.Short)) known is works h = record { comes = inl (refl, h.fails (Read read.Short) refl (λ e. cc)) }

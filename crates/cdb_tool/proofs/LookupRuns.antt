@@ -20,7 +20,7 @@ use Rattle.cdb_command.specs.declared.style.Style.{Style}
 use Rattle.cdb_tool.specs.Runs.Form.{end_of}
 use Rattle.cdb_tool.specs.Runs.Inputs.{InputForm, InputsLeft, OneInput, AreAllInputs, AreInputs, BeginsWithItems, FirstHas, ReadsOne, keys_form, keys_of, keys_of_each}
 use Rattle.cdb_tool.specs.Runs.LookedUp.{key_query, Looked, joined, looked_up, with_key, with_one}
-use Rattle.cdb_tool.specs.Runs.Lookups.{FaultOf, ComesTo, missing_answer, HasLooked, StopsAt, StopsIn, Stops, Fails, Leaves}
+use Rattle.cdb_tool.specs.Runs.Lookups.{FaultOf, ComesTo, missing_answer, HasLooked, LookupsStopAt, LookupsStopIn, LookupsStop, LookupsFail, LookupsLeave}
 use Rattle.cdb_tool.specs.Runs.Query.{Queries, query_text, query_answer}
 use Rattle.cdb_tool.specs.Views.Fault.{text_fault, read_fault}
 use Rattle.cdb_tool.specs.Views.Inputs.{inputs_left, one_of, shared_bytes}
@@ -90,7 +90,7 @@ prefix_more w s number style listed key old new start mid now missing h reads fr
     (text_more w b number style listed key missing (h.answered b (reads.images b is)))
 
 pub stops_more : {S : Type 0} (w : ℕ) (s : Ghosts S) (number : Option ℕ) (style : Style) (listed : List (List ℕ)) (key : List ℕ) (old new : S) (start mid now : Option (List ℕ)) (missing : Bool) (f : Fault) → HasLooked w s number style listed old start mid missing
-    → head_size w ≤ s.size old → Queries w s (key_query number style key) old new mid now (Err f) → f ≢ Missing → StopsAt w s number style (listed ++ key ∷ []) old new start now f
+    → head_size w ≤ s.size old → Queries w s (key_query number style key) old new mid now (Err f) → f ≢ Missing → LookupsStopAt w s number style (listed ++ key ∷ []) old new start now f
 stops_more w s number style listed key old new start mid now missing (Read (read.Table n)) h long q other = comes_more w s number style listed key old new start mid now missing _ h q.reads q.err.answered q.err.written
 stops_more w s number style listed key old new start mid now missing (Read (read.Record place)) h long q other = comes_more w s number style listed key old new start mid now missing _ h q.reads q.err.answered q.err.written
 stops_more w s number style listed key old new start mid now missing (Read read.Device) h long q other = (q.err.0, prefix_more w s number style listed key old new start mid now missing h q.reads q.err.1.written)
@@ -121,7 +121,7 @@ pub looked_none : {S : Type 0} (w : ℕ) (s : Ghosts S) (number : Option ℕ) (s
 looked_none w s number style store start long = record { long = long; answered = λ b is. refl; written = λ b is. appends_none start }
 
 -- it stopped later in the reading of the same store
-pub stops_later : {S : Type 0} (w : ℕ) (s : Ghosts S) (number : Option ℕ) (style : Style) (listed : List (List ℕ)) (old mid new : S) (start now : Option (List ℕ)) (f : Fault) → OnlyReads s old mid → StopsAt w s number style listed mid new start now f → StopsAt w s number style listed old new start now f
+pub stops_later : {S : Type 0} (w : ℕ) (s : Ghosts S) (number : Option ℕ) (style : Style) (listed : List (List ℕ)) (old mid new : S) (start now : Option (List ℕ)) (f : Fault) → OnlyReads s old mid → LookupsStopAt w s number style listed mid new start now f → LookupsStopAt w s number style listed old new start now f
 stops_later w s number style listed old mid new start now (Read (read.Table n)) reads h = h
 stops_later w s number style listed old mid new start now (Read (read.Record place)) reads h = h
 stops_later w s number style listed old mid new start now (Read read.Device) reads h = (let k = reads.failures in omega (arith, k, h.0), h.1)
@@ -161,7 +161,7 @@ same_text n i text.Input g e = record { input = cc; fault = cc; other = λ h. cc
 same_text n i text.Endless g e = record { input = cc; fault = cc; other = λ h. cc }
 same_text n i text.NoMemory g e = absurd (let no : ⊥ = cc in no)
 
-stops_text : {S : Type 0} (w : ℕ) (s : Ghosts S) (number : Option ℕ) (style : Style) (listed : List (List ℕ)) (old new : S) (start now : Option (List ℕ)) (missing : Bool) (n : ℕ) (f : TextFault) → HasLooked w s number style listed new start now missing → StopsAt w s number style listed old new start now (text_fault n f)
+stops_text : {S : Type 0} (w : ℕ) (s : Ghosts S) (number : Option ℕ) (style : Style) (listed : List (List ℕ)) (old new : S) (start now : Option (List ℕ)) (missing : Bool) (n : ℕ) (f : TextFault) → HasLooked w s number style listed new start now missing → LookupsStopAt w s number style listed old new start now (text_fault n f)
 stops_text w s number style listed old new start now missing n (text.Syntax at) h = (missing, h)
 stops_text w s number style listed old new start now missing n (text.Ended at) h = (missing, h)
 stops_text w s number style listed old new start now missing n (text.Large at) h = (missing, h)
@@ -171,7 +171,7 @@ stops_text w s number style listed old new start now missing n text.NoMemory h =
 
 pub text_stops : {R L S : Type 0} (w g : ℕ) (s : Ghosts S) (number : Option ℕ) (style : Style) (remaining : R → Option (List ℕ)) (n : ℕ) (before : List (List ℕ)) (bytes : Option (List ℕ)) (t u : KeyReader R L) (form : InputForm) (last : List Change) (old new : S) (start now : Option (List ℕ)) (missing : Bool) (f : TextFault)
     → form_of t ≡ form → GaveKeys g remaining bytes t last → views.Fails g remaining t u f → HasLooked w s number style (before ++ keys_of last) new start now missing
-    → StopsIn w g s number style form n before bytes old new start now (text_fault n f)
+    → LookupsStopIn w g s number style form n before bytes old new start now (text_fault n f)
 text_stops w g s number style remaining n before bytes t u form last old new start now missing f same gave fails h = record {
   last = last;
   begins = subst (λ v. IfSome bytes (BeginsWithItems v g last)) same (keys_first g remaining bytes t last gave);
@@ -193,17 +193,17 @@ no_text w s q old new mid now n f h = h.err
 
 pub key_stops : {S : Type 0} (w g : ℕ) (s : Ghosts S) (number : Option ℕ) (style : Style) (n : ℕ) (before listed : List (List ℕ)) (key : List ℕ) (bytes : Option (List ℕ)) (form : InputForm) (last : List Change) (first old new : S) (start mid now : Option (List ℕ)) (missing : Bool) (f : Fault)
     → IfSome bytes (BeginsWithItems form g last) → listed ++ key ∷ [] ≡ before ++ keys_of last → HasLooked w s number style listed old start mid missing → OnlyReads s first old → head_size w ≤ s.size old → Queries w s (key_query number style key) old new mid now (Err f) → f ≢ Missing
-    → StopsIn w g s number style form n before bytes first new start now f
+    → LookupsStopIn w g s number style form n before bytes first new start now f
 key_stops w g s number style n before listed key bytes form last first old new start mid now missing f begins same h reads long q other = record {
   last = last;
   begins = begins;
-  stops = subst (λ k. StopsAt w s number style k first new start now f) same (stops_later w s number style _ first old new start now f reads (stops_more w s number style listed key old new start mid now missing f h long q other));
+  stops = subst (λ k. LookupsStopAt w s number style k first new start now f) same (stops_later w s number style _ first old new start now f reads (stops_more w s number style listed key old new start mid now missing f h long q other));
   of_text = λ i v e. absurd (no_text w s _ old new mid now i v (subst (λ x. Queries w s (key_query number style key) old new mid now (Err x)) e q));
 }
 
 -- memory for its window was refused before anything was read of it
 pub no_window : {S : Type 0} (w g : ℕ) (s : Ghosts S) (number : Option ℕ) (style : Style) (form : InputForm) (n : ℕ) (before : List (List ℕ)) (bytes : Option (List ℕ)) (store : S) (start now : Option (List ℕ)) (missing : Bool) → HasLooked w s number style before store start now missing
-    → StopsIn w g s number style form n before bytes store store start now NoMemory
+    → LookupsStopIn w g s number style form n before bytes store store start now NoMemory
 no_window w g s number style form n before bytes store start now missing h = record {
   last = [];
   begins = begins_none form g bytes;
@@ -258,7 +258,7 @@ input_more w g s number style own shared inputs left rest turn reader further do
 -- the run stopped in one of the inputs
 pub input_stops : {J I S : Type 0} (w g : ℕ) (s : Ghosts S) (number : Option ℕ) (style : Style) (own : J → Option (List ℕ)) (shared : I → Option (List ℕ)) (inputs : Inputs J I) (left : List (Turn J)) (reader : SharedInput I) (done : ℕ) (old between new : S) (before mid : Option (List ℕ)) (was missing : Bool) (x start now : Option (List ℕ)) (f : Fault)
     → (h : LookedSoFar w g s number style own shared inputs left reader done old between before mid was missing) → FirstHas (left_now own shared left reader) x
-    → StopsIn w g s number style (keys_form style) (done + 1) (keys_of_each h.read) x between new start now f → Stops w g s number style (inputs_left own shared inputs) old new start now f
+    → LookupsStopIn w g s number style (keys_form style) (done + 1) (keys_of_each h.read) x between new start now f → LookupsStop w g s number style (inputs_left own shared inputs) old new start now f
 input_stops w g s number style own shared inputs left reader done old between new before mid was missing x start now f h first k = record {
   read = h.read;
   last = k.last;
@@ -272,7 +272,7 @@ input_stops w g s number style own shared inputs left reader done old between ne
 -- ---- the end
 
 -- a fault that stopped it is neither a missing value nor a store without a head
-leaves_fault : {S : Type 0} (w g : ℕ) (s : Ghosts S) (number : Option ℕ) (style : Style) (inputs : InputsLeft) (old new : S) (start now : Option (List ℕ)) (f : Fault) → Stops w g s number style inputs old new start now f → Fails w g s number style inputs old new start now f
+leaves_fault : {S : Type 0} (w g : ℕ) (s : Ghosts S) (number : Option ℕ) (style : Style) (inputs : InputsLeft) (old new : S) (start now : Option (List ℕ)) (f : Fault) → LookupsStop w g s number style inputs old new start now f → LookupsFail w g s number style inputs old new start now f
 leaves_fault w g s number style inputs old new start now (Read read.Short) h = absurd h.stops
 leaves_fault w g s number style inputs old new start now (Read (read.Table n)) h = h
 leaves_fault w g s number style inputs old new start now (Read (read.Record place)) h = h
@@ -302,15 +302,15 @@ not_missing : (missing : Bool) (f : Fault) → Err f ≡ missing_answer missing 
 not_missing true f e = cc
 not_missing false f e = cc
 
-pub leaves_stopped : {S : Type 0} (w g : ℕ) (s : Ghosts S) (number : Option ℕ) (style : Style) (inputs : InputsLeft) (old new : S) (start now : Option (List ℕ)) (f : Fault) → OnlyReads s old new → Stops w g s number style inputs old new start now f → Leaves w g s number style inputs old new start now (Err f)
+pub leaves_stopped : {S : Type 0} (w g : ℕ) (s : Ghosts S) (number : Option ℕ) (style : Style) (inputs : InputsLeft) (old new : S) (start now : Option (List ℕ)) (f : Fault) → OnlyReads s old new → LookupsStop w g s number style inputs old new start now f → LookupsLeave w g s number style inputs old new start now (Err f)
 leaves_stopped w g s number style inputs old new start now f reads h = record {
   reads = reads;
-  all = λ missing e. absurd (subst (λ x. StopsAt w s number style (keys_of_each h.read ++ keys_of h.last) old new start now x) (not_missing missing f e) h.stops);
-  fails = λ v e other. subst (Fails w g s number style inputs old new start now) (let k : f ≡ v = cc in k) (leaves_fault w g s number style inputs old new start now f h);
+  all = λ missing e. absurd (subst (λ x. LookupsStopAt w s number style (keys_of_each h.read ++ keys_of h.last) old new start now x) (not_missing missing f e) h.stops);
+  fails = λ v e other. subst (LookupsFail w g s number style inputs old new start now) (let k : f ≡ v = cc in k) (leaves_fault w g s number style inputs old new start now f h);
 }
 
 pub leaves_all : {S : Type 0} (w g : ℕ) (s : Ghosts S) (number : Option ℕ) (style : Style) (inputs : InputsLeft) (read : List (List Change)) (old new : S) (start mid now : Option (List ℕ)) (missing : Bool) (result : Result Unit Fault) → result ≡ missing_answer missing → OnlyReads s old new → AreAllInputs (keys_form style) g read inputs
-    → HasLooked w s number style (keys_of_each read) new start mid missing → Appends mid now (end_of style) → Leaves w g s number style inputs old new start now result
+    → HasLooked w s number style (keys_of_each read) new start mid missing → Appends mid now (end_of style) → LookupsLeave w g s number style inputs old new start now result
 leaves_all w g s number style inputs read old new start mid now missing result is reads are h last = record {
   reads = reads;
   all = λ other e. record { read = read; are = are; long = h.long; answered = λ b at. h.answered b at ∙ sym is ∙ e; written = λ b at. appends_then start mid now _ _ (h.written b at) last };
@@ -319,11 +319,11 @@ leaves_all w g s number style inputs read old new start mid now missing result i
 
 -- the end of the text was not written whole
 pub leaves_unended : {S : Type 0} (w g : ℕ) (s : Ghosts S) (number : Option ℕ) (style : Style) (inputs : InputsLeft) (read : List (List Change)) (old new : S) (start mid now : Option (List ℕ)) (missing : Bool) → OnlyReads s old new → AreAllInputs (keys_form style) g read inputs
-    → HasLooked w s number style (keys_of_each read) new start mid missing → AppendsPrefix mid now (end_of style) → Leaves w g s number style inputs old new start now (Err Output)
+    → HasLooked w s number style (keys_of_each read) new start mid missing → AppendsPrefix mid now (end_of style) → LookupsLeave w g s number style inputs old new start now (Err Output)
 leaves_unended w g s number style inputs read old new start mid now missing reads are h front = record {
   reads = reads;
   all = λ other e. absurd (let k = not_missing other Output e in let no : ⊥ = cc in no);
-  fails = λ f e other. subst (Fails w g s number style inputs old new start now) (let k : Output ≡ f = cc in k) (inr (
+  fails = λ f e other. subst (LookupsFail w g s number style inputs old new start now) (let k : Output ≡ f = cc in k) (inr (
     missing,
     record {
       read = read;
@@ -336,11 +336,11 @@ leaves_unended w g s number style inputs read old new start mid now missing read
 }
 
 -- the store was not opened
-pub leaves_unopened : {S : Type 0} (w g : ℕ) (s : Ghosts S) (number : Option ℕ) (style : Style) (inputs : InputsLeft) (old new : S) (start : Option (List ℕ)) (f : ReadFault) → OpeningFails w s old new f → Leaves w g s number style inputs old new start start (Err (read_fault f))
+pub leaves_unopened : {S : Type 0} (w g : ℕ) (s : Ghosts S) (number : Option ℕ) (style : Style) (inputs : InputsLeft) (old new : S) (start : Option (List ℕ)) (f : ReadFault) → OpeningFails w s old new f → LookupsLeave w g s number style inputs old new start start (Err (read_fault f))
 leaves_unopened w g s number style inputs old new start read.Short h = record {
   reads = subst (OnlyReads s old) (sym h.1) (reads_none s old);
   all = λ missing e. absurd (let k = not_missing missing (Read read.Short) e in let no : ⊥ = cc in no);
-  fails = λ v e other. subst (Fails w g s number style inputs old new start start) (let k : Read read.Short ≡ v = cc in k) (record { short = h.0; unread = h.1; kept = keeps_self start });
+  fails = λ v e other. subst (LookupsFail w g s number style inputs old new start start) (let k : Read read.Short ≡ v = cc in k) (record { short = h.0; unread = h.1; kept = keeps_self start });
 }
 leaves_unopened w g s number style inputs old new start read.Device h = leaves_stopped w g s number style inputs old new start start (Read read.Device) h.0 (record {
   read = [];
@@ -361,7 +361,7 @@ leaves_unopened w g s number style inputs old new start read.Output h = absurd h
 
 -- ---- the store was opened
 
-begun_stops : {S : Type 0} (w g : ℕ) (s : Ghosts S) (number : Option ℕ) (style : Style) (inputs : InputsLeft) (old mid new : S) (start now : Option (List ℕ)) (f : Fault) → OnlyReads s old mid → Stops w g s number style inputs mid new start now f → Stops w g s number style inputs old new start now f
+begun_stops : {S : Type 0} (w g : ℕ) (s : Ghosts S) (number : Option ℕ) (style : Style) (inputs : InputsLeft) (old mid new : S) (start now : Option (List ℕ)) (f : Fault) → OnlyReads s old mid → LookupsStop w g s number style inputs mid new start now f → LookupsStop w g s number style inputs old new start now f
 begun_stops w g s number style inputs old mid new start now f reads h = record {
   read = h.read;
   last = h.last;
@@ -372,7 +372,7 @@ begun_stops w g s number style inputs old mid new start now f reads h = record {
   of_text = h.of_text;
 }
 
-begun_fails : {S : Type 0} (w g : ℕ) (s : Ghosts S) (number : Option ℕ) (style : Style) (inputs : InputsLeft) (old mid new : S) (start now : Option (List ℕ)) (f : Fault) → OnlyReads s old mid → head_size w ≤ s.size mid → Fails w g s number style inputs mid new start now f → Fails w g s number style inputs old new start now f
+begun_fails : {S : Type 0} (w g : ℕ) (s : Ghosts S) (number : Option ℕ) (style : Style) (inputs : InputsLeft) (old mid new : S) (start now : Option (List ℕ)) (f : Fault) → OnlyReads s old mid → head_size w ≤ s.size mid → LookupsFail w g s number style inputs mid new start now f → LookupsFail w g s number style inputs old new start now f
 begun_fails w g s number style inputs old mid new start now (Read read.Short) reads long h = let short = h.short in absurd (let no : ⊥ = omega (arith, long, short) in no)
 begun_fails w g s number style inputs old mid new start now (Read (read.Table n)) reads long h = begun_stops w g s number style inputs old mid new start now _ reads h
 begun_fails w g s number style inputs old mid new start now (Read (read.Record place)) reads long h = begun_stops w g s number style inputs old mid new start now _ reads h
@@ -398,7 +398,7 @@ begun_fails w g s number style inputs old mid new start now (Old side) reads lon
 begun_fails w g s number style inputs old mid new start now (New side) reads long h = begun_stops w g s number style inputs old mid new start now _ reads h
 begun_fails w g s number style inputs old mid new start now NoMemory reads long h = begun_stops w g s number style inputs old mid new start now _ reads h
 
-pub leaves_begun : {S : Type 0} (w g : ℕ) (s : Ghosts S) (number : Option ℕ) (style : Style) (inputs : InputsLeft) (old mid new : S) (start now : Option (List ℕ)) (result : Result Unit Fault) → OnlyReads s old mid → head_size w ≤ s.size mid → Leaves w g s number style inputs mid new start now result → Leaves w g s number style inputs old new start now result
+pub leaves_begun : {S : Type 0} (w g : ℕ) (s : Ghosts S) (number : Option ℕ) (style : Style) (inputs : InputsLeft) (old mid new : S) (start now : Option (List ℕ)) (result : Result Unit Fault) → OnlyReads s old mid → head_size w ≤ s.size mid → LookupsLeave w g s number style inputs mid new start now result → LookupsLeave w g s number style inputs old new start now result
 leaves_begun w g s number style inputs old mid new start now result reads long h = record {
   reads = reads_more reads h.reads;
   all = h.all;
@@ -406,5 +406,5 @@ leaves_begun w g s number style inputs old mid new start now result reads long h
 }
 
 -- the store that is handed back is the reader's
-pub leaves_handed : {S : Type 0} (w g : ℕ) (s : Ghosts S) (number : Option ℕ) (style : Style) (inputs : InputsLeft) (old new last : S) (start now : Option (List ℕ)) (result : Result Unit Fault) → last ≡ new → Leaves w g s number style inputs old new start now result → Leaves w g s number style inputs old last start now result
-leaves_handed w g s number style inputs old new last start now result same h = subst (λ v. Leaves w g s number style inputs old v start now result) (sym same) h
+pub leaves_handed : {S : Type 0} (w g : ℕ) (s : Ghosts S) (number : Option ℕ) (style : Style) (inputs : InputsLeft) (old new last : S) (start now : Option (List ℕ)) (result : Result Unit Fault) → last ≡ new → LookupsLeave w g s number style inputs old new start now result → LookupsLeave w g s number style inputs old last start now result
+leaves_handed w g s number style inputs old new last start now result same h = subst (λ v. LookupsLeave w g s number style inputs old v start now result) (sym same) h

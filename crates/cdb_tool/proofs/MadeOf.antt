@@ -35,7 +35,7 @@ use Rattle.cdb_make.specs.Survivors.{put_result}
 use Rattle.cdb_tool.proofs.ToldLines.{part_more, part_none, part_whole}
 use Rattle.cdb_tool.proofs.GivenInputs.{after, all_given, begins_given, first_fails, left_known}
 use Rattle.cdb_tool.specs.Runs.Inputs.{InputForm, HasFaults, Puts, Changes, Lists, input_form, InputsLeft, BeginsWithItems, HasItemFault, OneBegins, FirstBegins, FirstHas}
-use Rattle.cdb_tool.specs.Runs.Make.{records_of, IsSomeBase, Makes, MakesDatabase, MeetsInput, Stops, BaseStops, InputsStop, RunFails, Runs, came}
+use Rattle.cdb_tool.specs.Runs.Make.{records_of, IsSomeBase, Makes, MakesDatabase, MeetsInput, MakeStops, BaseStops, InputsStop, RunFails, MakeRuns, came}
 use Rattle.cdb_tool.specs.Runs.Make as make_run
 use Rattle.cdb_tool.specs.Runs.MakesSo.{Known, MakesSo, IsMakeRefusal, ComesOf}
 use Rattle.cdb_tool.specs.Runs.Made.{Given, given_from, Made, ended_by, made_from, walk_fault, base_fault, unless_stopped, made_of}
@@ -188,7 +188,7 @@ stops_in w g t given cs more images old new (New f) e h = absurd h
 stops_in w g t given cs more images old new NoOldTables e h = absurd h
 stops_in w g t given cs more images old new NoNewTables e h = absurd h
 
-stopped_in : (w g : ℕ) (t : Task) (inputs : List (Option (List ℕ))) (shared : List ℕ) (left : InputsLeft) (images : List ℕ → Type 0) (old new : Option (List ℕ)) (f : Fault) → Known inputs shared left → Stops w g t left old new f
+stopped_in : (w g : ℕ) (t : Task) (inputs : List (Option (List ℕ))) (shared : List ℕ) (left : InputsLeft) (images : List ℕ → Type 0) (old new : Option (List ℕ)) (f : Fault) → Known inputs shared left → MakeStops w g t left old new f
     → ComesOf w t.options (made_from w t (given_from (make_run.form_of t) g 1 inputs shared)) images old new (Err f)
 stopped_in w g t inputs shared left images old new f k h =
     let form = make_run.form_of t in
@@ -284,7 +284,7 @@ run_fails w g o base inputs shared left images old new f k (inl stops) = some_ba
 run_fails w g o base inputs shared left images old new f k (inr stops) =
     with_base w g o base inputs shared images old new (Err f) stops.based (inputs_stop w g (task_of o (records_of w base)) inputs shared left images old new f k stops.fails)
 
-pub run_comes : (w g : ℕ) (o : MakeOptions) (base : Option (List ℕ)) (inputs : List (Option (List ℕ))) (shared : List ℕ) (left : InputsLeft) (images : List ℕ → Type 0) (old new : Option (List ℕ)) (result : Result Unit Fault) → Known inputs shared left → Runs w g o base left images old new result
+pub run_comes : (w g : ℕ) (o : MakeOptions) (base : Option (List ℕ)) (inputs : List (Option (List ℕ))) (shared : List ℕ) (left : InputsLeft) (images : List ℕ → Type 0) (old new : Option (List ℕ)) (result : Result Unit Fault) → Known inputs shared left → MakeRuns w g o base left images old new result
     → ComesOf w o (made_of w g o base inputs shared) images old new result
 run_comes w g o base inputs shared left images old new (Ok done) k h = inl (made_so w g o base inputs shared left images old new k h.ok)
 run_comes w g o base inputs shared left images old new (Err f) k h = run_fails w g o base inputs shared left images old new f k h.err

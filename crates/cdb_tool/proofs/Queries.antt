@@ -24,7 +24,7 @@ use Rattle.cdb_read.specs.declared.span.Span.{Span}
 use Rattle.cdb_store.proofs.Reading.{reads_more}
 use Rattle.cdb_read.proofs.FoundSoFar.{FoundSoFar, ending, found_more, found_still}
 use Rattle.cdb_tool.specs.Views.Fault.{read_fault}
-use Rattle.cdb_tool.specs.Runs.Query.{Query, asked_of, value_text, values_text, spans_text, query_text, has_asked, why_missing, found_answer, query_answer, Answers, WritesPrefix, QueryFails, Queries, WritesAll, in_hand, WritesSome, WritesEach, LeftFails}
+use Rattle.cdb_tool.specs.Runs.Query.{Query, asked_of, value_text, values_text, spans_text, query_text, has_asked, why_missing, found_answer, query_answer, QueryAnswers, WritesQueryPrefix, QueryFails, Queries, WritesAllValues, in_hand, WritesSome, WritesEach, LeftFails}
 use Rattle.cdb_tool.specs.declared.fault.Fault.{Fault}
 use Rattle.cdb_tool.specs.declared.fault.Fault.TheVariants.{Text, Make, Duplicate, Missing, Read, Walk, Output, Long, Open, Rename, NoMemory, Old, New, NoOldTables, NoNewTables}
 use Rattle.cdb_form.proofs.Bytes.WritingLemmas.{appends_none}
@@ -76,7 +76,7 @@ handed_back {w = w} {s = s} {q = q} {old = old} {start = start} {now = now} {ans
 
 -- a value was not written whole
 copying_fault : {S : Type 0} (w : ℕ) (s : Ghosts S) (q : Query) (old mid new : S) (start now : Option (List ℕ)) (f : ReadFault) → OnlyReads s old mid → OnlyReads s mid new → head_size w ≤ s.size old → CopyingFails s mid new f
-    → WritesPrefix w s q new start now → QueryFails w s q old new start now (read_fault f)
+    → WritesQueryPrefix w s q new start now → QueryFails w s q old new start now (read_fault f)
 copying_fault w s q old mid new start now read.Device before reads long fails front = (let p = before.failures in omega (arith, p, fails), front)
 copying_fault w s q old mid new start now read.Output before reads long fails front = (still_long w (reads_more before reads) long, front)
 copying_fault w s q old mid new start now read.Short before reads long fails front = absurd fails
@@ -125,7 +125,7 @@ with_nothing : (spans : List Span) (damage : Option Damage) → with_spans spans
 with_nothing spans damage = ap (λ xs. ending xs damage) (append-nil spans)
 
 pub ends_all : {S L : Type 0} {s : Ghosts S} {l : Widths L} (w : ℕ) (shown : List ℕ → List ℕ) (old t u : Finder S L s l) (start now : Option (List ℕ)) (any : Bool) (damage : Option Damage) (h : WrittenSoFar w (λ b. left_in w b old) shown old.reader.now.store t start now any)
-    → OnlyReads s t.reader.now.store u.reader.now.store → ((b : List ℕ) → s.image u.reader.now.store b → left_in w b t ≡ ending [] damage) → WritesAll w shown old u start now h.spans damage
+    → OnlyReads s t.reader.now.store u.reader.now.store → ((b : List ℕ) → s.image u.reader.now.store b → left_in w b t ≡ ending [] damage) → WritesAllValues w shown old u start now h.spans damage
 ends_all w shown old t u start now any damage h reads none = record {
   given = λ b is. h.found.first b (reads.images b is) ∙ ap (with_spans h.spans) (none b is) ∙ with_nothing h.spans damage;
   written = λ b is. h.written b (reads.images b is);
@@ -197,14 +197,14 @@ module _ {S L : Type 0} {s : Ghosts S} {l : Widths L} (w : ℕ) (key : List ℕ)
   looked_up : (b : List ℕ) → s.image u.reader.now.store b → lookup_of w b key ≡ left_in w b t
   looked_up b is = sym (finds b (read_from.images b is))
 
-  answers : (spans : List Span) (damage : Option Damage) (answer : Result Unit Fault) → WritesAll w shown t u start now spans damage → answer ≡ found_answer None (ending spans damage) → Answers w s (all_of key shown) u.reader.now.store start now answer
+  answers : (spans : List Span) (damage : Option Damage) (answer : Result Unit Fault) → WritesAllValues w shown t u start now spans damage → answer ≡ found_answer None (ending spans damage) → QueryAnswers w s (all_of key shown) u.reader.now.store start now answer
   answers spans damage answer h is_answer = record {
     long = still_long w read_from long;
     answered = λ b is. is_answer ∙ ap (found_answer None) (sym (looked_up b is ∙ h.given b is));
     written = λ b is. subst (λ f. Appends start now (values_text shown b f.spans)) (sym (looked_up b is ∙ h.given b is)) (h.written b is);
   }
 
-  some_prefix : WritesSome w shown t u start now → WritesPrefix w s (all_of key shown) u.reader.now.store start now
+  some_prefix : WritesSome w shown t u start now → WritesQueryPrefix w s (all_of key shown) u.reader.now.store start now
   some_prefix h = record {
     written = λ b is.
         prefix_then start h.before now _ _ _ _ (h.written b is) (h.front b is)

@@ -10,7 +10,7 @@ use Rattle.cdb_read.specs.declared.fault.ReadFault.{ReadFault}
 use Rattle.cdb_read.specs.declared.fault.ReadFault.TheVariants as read
 use Rattle.cdb_tool.specs.Views.Fault.{read_fault}
 use Rattle.cdb_tool.specs.Runs.Flushed.{Flushed}
-use Rattle.cdb_tool.specs.Runs.Query.{Query, query_text, Answers, WritesPrefix, QueryFails, Queries}
+use Rattle.cdb_tool.specs.Runs.Query.{Query, query_text, QueryAnswers, WritesQueryPrefix, QueryFails, Queries}
 use Rattle.cdb_tool.specs.declared.fault.Fault.{Fault}
 use Rattle.cdb_tool.specs.declared.fault.Fault.TheVariants.{Text, Make, Duplicate, Missing, Read, Walk, Output, Long, Open, Rename, NoMemory, Old, New, NoOldTables, NoNewTables}
 use Rattle.cdb_form.proofs.Bytes.WritingLemmas.{appends_none}
@@ -34,10 +34,10 @@ opening_fails w s q old new start read.Output h = absurd h
 
 -- ---- the flush
 
-answers_kept : {S : Type 0} (w : ℕ) (s : Ghosts S) (q : Query) (store : S) (start mid now : Option (List ℕ)) (r : Result Unit Fault) → Answers w s q store start mid r → Keeps mid now → Answers w s q store start now r
+answers_kept : {S : Type 0} (w : ℕ) (s : Ghosts S) (q : Query) (store : S) (start mid now : Option (List ℕ)) (r : Result Unit Fault) → QueryAnswers w s q store start mid r → Keeps mid now → QueryAnswers w s q store start now r
 answers_kept w s q store start mid now r h k = record { long = h.long; answered = h.answered; written = λ b is. appends_kept start mid now (query_text w b q) (h.written b is) k }
 
-fronts_kept : {S : Type 0} (w : ℕ) (s : Ghosts S) (q : Query) (store : S) (start mid now : Option (List ℕ)) → WritesPrefix w s q store start mid → Keeps mid now → WritesPrefix w s q store start now
+fronts_kept : {S : Type 0} (w : ℕ) (s : Ghosts S) (q : Query) (store : S) (start mid now : Option (List ℕ)) → WritesQueryPrefix w s q store start mid → Keeps mid now → WritesQueryPrefix w s q store start now
 fronts_kept w s q store start mid now h k = record { written = λ b is. prefix_kept start mid now (query_text w b q) (h.written b is) k }
 
 fault_kept : {S : Type 0} (w : ℕ) (s : Ghosts S) (q : Query) (old new : S) (start mid now : Option (List ℕ)) (f : Fault) → QueryFails w s q old new start mid f → Keeps mid now → QueryFails w s q old new start now f

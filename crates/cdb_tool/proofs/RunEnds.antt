@@ -22,7 +22,7 @@ use Rattle.cdb_tool.specs.Runs.Flushed.{Flushed}
 use Rattle.cdb_tool.specs.Runs.Course.{Task, task_of, Incoming, from_inputs, course_of, Goes, EndsSo, StopsSo}
 use Rattle.cdb_tool.specs.Runs.Inputs.{InputForm, InputsLeft, OneInput, AreAllInputs, OneBegins, FirstBegins, bytes_of}
 use Rattle.cdb_tool.specs.Runs.Inputs as form
-use Rattle.cdb_tool.specs.Runs.Make.{InCourse, Stops, InputsFail, RunFails, Runs, came, form_of, records_of, OfBase, HoldsBase, BaseStopped, HandsBack, IsBase, IsSomeBase, BaseFails, IsOfStore}
+use Rattle.cdb_tool.specs.Runs.Make.{InCourse, MakeStops, InputsFail, RunFails, MakeRuns, came, form_of, records_of, OfBase, HoldsBase, BaseStopped, HandsBack, IsBase, IsSomeBase, BaseFails, IsOfStore}
 use Rattle.cdb_tool.specs.declared.fault.Fault.{Fault}
 use Rattle.cdb_tool.specs.declared.fault.Fault.TheVariants.{Text, Make, Duplicate, Missing, Read, Walk, Output, Long, Open, Rename, NoMemory, Old, New, NoOldTables, NoNewTables}
 use Rattle.cdb_command.specs.declared.options.MakeOptions.{MakeOptions}
@@ -42,7 +42,7 @@ pub first_none : (st : InputForm) (g : ℕ) (inputs : InputsLeft) → FirstBegin
 first_none st g inputs = one_none st g inputs.each inputs.shared
 
 -- nothing was read
-stops_none : (w g : ℕ) (t : Task) (inputs : InputsLeft) (start : Option (List ℕ)) (f : Fault) → StopsSo w t [] start start f → Stops w g t inputs start start f
+stops_none : (w g : ℕ) (t : Task) (inputs : InputsLeft) (start : Option (List ℕ)) (f : Fault) → StopsSo w t [] start start f → MakeStops w g t inputs start start f
 stops_none w g t inputs start f h = record { read = []; last = []; rest = inputs; are = refl; begins = first_none (form_of t) g inputs; stops = h }
 
 goes_none : (w : ℕ) (t : Task) (start : Option (List ℕ)) → Goes w t [] start start
@@ -72,7 +72,7 @@ each_base s None P f = f None
 each_base s (Some base) P f = λ b is. f (Some b)
 
 pub runs_not : {S B : Type 0} (image : S → List ℕ → Type 0) (size written failures : S → ℕ) (s : Ghosts B) (base : Option B) (w g : ℕ) (o : MakeOptions) (inputs : InputsLeft) (start : Option (List ℕ)) (old new : S) (images : List ℕ → Type 0) (f : MakeFault)
-    → MakingFault image size written failures old new f → WhereHonest images (OfBase s base (λ x. Runs w g o x inputs images start start (Err (make_fault f))))
+    → MakingFault image size written failures old new f → WhereHonest images (OfBase s base (λ x. MakeRuns w g o x inputs images start start (Err (make_fault f))))
 runs_not image size written failures s base w g o inputs start old new images f h =
     record { each = λ a j. each_base s base _ (λ x. record { ok = tt; err = not_made image size written failures w g o x inputs start old new f h }) }
 
@@ -81,7 +81,7 @@ unbegun : (w g : ℕ) (o : MakeOptions) (x : Option (List ℕ)) (inputs : Inputs
 unbegun w g o None inputs start = inr (record { based = tt; fails = stops_none w g (task_of o None) inputs start NoMemory (goes_none w (task_of o None) start) })
 unbegun w g o (Some b) inputs start = inl (record { fails = tt; lines = appends_none start })
 
-pub runs_unbegun : {B : Type 0} (s : Ghosts B) (base : Option B) (w g : ℕ) (o : MakeOptions) (inputs : InputsLeft) (start : Option (List ℕ)) (images : List ℕ → Type 0) → WhereHonest images (OfBase s base (λ x. Runs w g o x inputs images start start (Err NoMemory)))
+pub runs_unbegun : {B : Type 0} (s : Ghosts B) (base : Option B) (w g : ℕ) (o : MakeOptions) (inputs : InputsLeft) (start : Option (List ℕ)) (images : List ℕ → Type 0) → WhereHonest images (OfBase s base (λ x. MakeRuns w g o x inputs images start start (Err NoMemory)))
 runs_unbegun s base w g o inputs start images = record { each = λ a j. each_base s base _ (λ x. record { ok = tt; err = unbegun w g o x inputs start }) }
 
 -- ---- its base stopped it
@@ -97,7 +97,7 @@ hands_same s None = tt
 hands_same s (Some base) = record { images = λ b is. is; size = refl; written = refl; room = omega arith; failures = omega arith; unwritten = omega arith }
 
 pub runs_unbased : {B : Type 0} (s : Ghosts B) (base : Option B) (w g : ℕ) (o : MakeOptions) (limit : ℕ) (inputs : InputsLeft) (start : Option (List ℕ)) (images : List ℕ → Type 0) (f : Fault) → limit ≡ o.limit → BaseStopped w limit s base images f
-    → WhereHonest images (OfBase s base (λ x. Runs w g o x inputs images start start (Err f)))
+    → WhereHonest images (OfBase s base (λ x. MakeRuns w g o x inputs images start start (Err f)))
 runs_unbased s None w g o limit inputs start images f same h = absurd h
 runs_unbased s (Some base) w g o limit inputs start images f same h = record {
   each = λ a j. λ b is. record {
@@ -130,7 +130,7 @@ of_held t (Some base) o start m P wide h limit a j f = λ b is. f (Some b) refl 
 pub runs_stopped : {S L B : Type 0} {s : Ghosts S} {l : Widths L} (t : Ghosts B) (base : Option B) (g : ℕ) (o : MakeOptions) (amends : Bool) (inputs : InputsLeft) (start now : Option (List ℕ)) (m : Maker S L s l) (images : List ℕ → Type 0) (f : Fault)
     → (l.WORD ≡ 4) ⊎ (l.WORD ≡ 8) → HoldsBase l.WORD t base m → limit_of m ≡ o.limit → is_some base ≡ amends → ComesFrom (s.image m.store) images
     → ((k : Task) → k.options ≡ o → is_some k.base ≡ amends → InCourse k [] start start m → WhereHonest images (InputsFail l.WORD g k inputs start now f))
-    → WhereHonest images (OfBase t base (λ x. Runs l.WORD g o x inputs images start now (Err f)))
+    → WhereHonest images (OfBase t base (λ x. MakeRuns l.WORD g o x inputs images start now (Err f)))
 runs_stopped {l = l} t base g o amends inputs start now m images f wide h limit some comes fails = record {
   each = λ b is.
       let a = comes.each b is in
@@ -144,7 +144,7 @@ pub runs_whole : {S L B : Type 0} {s : Ghosts S} {l : Widths L} (t : Ghosts B) (
     → (l.WORD ≡ 4) ⊎ (l.WORD ≡ 8) → HoldsBase l.WORD t base begun → limit_of begun ≡ o.limit → AreAllInputs (form.input_form o.style (is_some base)) g read inputs
     → ((k : Task) → k.options ≡ o → InCourse k [] start start begun → InCourse k (from_inputs 1 read) start now m)
     → ComesFrom (s.image begun.store) (s.image m.store) → ComesFrom (s.image m.store) images → ((rs : List KeyValue) → Holds m rs → IsFile l.WORD rs images)
-    → WhereHonest images (OfBase t base (λ x. Runs l.WORD g o x inputs images start now (Ok tt)))
+    → WhereHonest images (OfBase t base (λ x. MakeRuns l.WORD g o x inputs images start now (Ok tt)))
 runs_whole {l = l} t base g o inputs read start now begun m images wide h limit are course before comes file = record {
   each = λ b is.
       let a = comes.each b is in
@@ -163,7 +163,7 @@ runs_whole {l = l} t base g o inputs read start now begun m images wide h limit 
 }
 
 -- the file was not finished
-stops_whole : (w g : ℕ) (t : Task) (inputs : InputsLeft) (read : List (List Change)) (start now : Option (List ℕ)) (f : Fault) → AreAllInputs (form_of t) g read inputs → StopsSo w t (from_inputs 1 read) start now f → Stops w g t inputs start now f
+stops_whole : (w g : ℕ) (t : Task) (inputs : InputsLeft) (read : List (List Change)) (start now : Option (List ℕ)) (f : Fault) → AreAllInputs (form_of t) g read inputs → StopsSo w t (from_inputs 1 read) start now f → MakeStops w g t inputs start now f
 stops_whole w g t inputs read start now f are h = record { read = read; last = []; rest = are.rest; are = are.are; begins = first_none (form_of t) g are.rest; stops = subst (λ cs. StopsSo w t cs start now f) (sym (came_none read)) h }
 
 not_finished : {S L : Type 0} {s : Ghosts S} {l : Widths L} (g : ℕ) (t : Task) (inputs : InputsLeft) (read : List (List Change)) (start now : Option (List ℕ)) (old new : Maker S L s l) (rs : List KeyValue) (b : List ℕ) (f : MakeFault) → AreAllInputs (form_of t) g read inputs
@@ -192,7 +192,7 @@ unfinished_memory old new make.TooBig x e = absurd x
 pub runs_unfinished : {S L B : Type 0} {s : Ghosts S} {l : Widths L} (t : Ghosts B) (base : Option B) (g : ℕ) (o : MakeOptions) (inputs : InputsLeft) (read : List (List Change)) (start now : Option (List ℕ)) (begun old new : Maker S L s l) (f : MakeFault)
     → (l.WORD ≡ 4) ⊎ (l.WORD ≡ 8) → HoldsBase l.WORD t base begun → limit_of begun ≡ o.limit → AreAllInputs (form.input_form o.style (is_some base)) g read inputs
     → ((k : Task) → k.options ≡ o → InCourse k [] start start begun → InCourse k (from_inputs 1 read) start now old) → ComesFrom (s.image begun.store) (s.image old.store) → ComesFrom (s.image old.store) (s.image new.store)
-    → FailsFinishing old new f → WhereHonest (s.image new.store) (OfBase t base (λ x. Runs l.WORD g o x inputs (s.image new.store) start now (Err (make_fault f))))
+    → FailsFinishing old new f → WhereHonest (s.image new.store) (OfBase t base (λ x. MakeRuns l.WORD g o x inputs (s.image new.store) start now (Err (make_fault f))))
 runs_unfinished {l = l} t base g o inputs read start now begun old new f wide h limit are course before comes fails = record {
   each = λ b is.
       let a = comes.each b is in
@@ -236,7 +236,7 @@ stops_kept w o cs old mid new NoNewTables h k = absurd h
 stops_kept w o cs old mid new (Old side) h k = absurd h
 stops_kept w o cs old mid new (New side) h k = absurd h
 
-stop_kept : (w g : ℕ) (o : Task) (inputs : InputsLeft) (old mid new : Option (List ℕ)) (f : Fault) → Stops w g o inputs old mid f → Keeps mid new → Stops w g o inputs old new f
+stop_kept : (w g : ℕ) (o : Task) (inputs : InputsLeft) (old mid new : Option (List ℕ)) (f : Fault) → MakeStops w g o inputs old mid f → Keeps mid new → MakeStops w g o inputs old new f
 stop_kept w g o inputs old mid new f h k = record { read = h.read; last = h.last; rest = h.rest; are = h.are; begins = h.begins; stops = stops_kept w o (came h.read h.last) old mid new f h.stops k }
 
 fails_kept : (w g : ℕ) (o : Task) (inputs : InputsLeft) (old mid new : Option (List ℕ)) (f : Fault) → InputsFail w g o inputs old mid f → Keeps mid new → InputsFail w g o inputs old new f
@@ -263,7 +263,7 @@ run_kept w g o x inputs old mid new f h k = elim h as (λ _. RunFails w g o x in
   | inr stop ↦ inr (record { based = stop.based; fails = fails_kept w g (task_of o (records_of w x)) inputs old mid new f stop.fails k })
 ]
 
-runs_kept : (w g : ℕ) (o : MakeOptions) (x : Option (List ℕ)) (inputs : InputsLeft) (images : List ℕ → Type 0) (old mid new : Option (List ℕ)) (r : Result Unit Fault) → Runs w g o x inputs images old mid r → Keeps mid new → Runs w g o x inputs images old new r
+runs_kept : (w g : ℕ) (o : MakeOptions) (x : Option (List ℕ)) (inputs : InputsLeft) (images : List ℕ → Type 0) (old mid new : Option (List ℕ)) (r : Result Unit Fault) → MakeRuns w g o x inputs images old mid r → Keeps mid new → MakeRuns w g o x inputs images old new r
 runs_kept w g o x inputs images old mid new (Ok u) h k =
     let made = h.ok.made in
     record {
@@ -275,7 +275,7 @@ runs_kept w g o x inputs images old mid new (Ok u) h k =
     }
 runs_kept w g o x inputs images old mid new (Err f) h k = record { ok = tt; err = run_kept w g o x inputs old mid new f h.err k }
 
-flush_fails : (w g : ℕ) (o : MakeOptions) (x : Option (List ℕ)) (inputs : InputsLeft) (images : List ℕ → Type 0) (old mid new : Option (List ℕ)) (r : Result Unit Fault) → Runs w g o x inputs images old mid r → Keeps mid new → IsOk r → Runs w g o x inputs images old new (Err Output)
+flush_fails : (w g : ℕ) (o : MakeOptions) (x : Option (List ℕ)) (inputs : InputsLeft) (images : List ℕ → Type 0) (old mid new : Option (List ℕ)) (r : Result Unit Fault) → MakeRuns w g o x inputs images old mid r → Keeps mid new → IsOk r → MakeRuns w g o x inputs images old new (Err Output)
 flush_fails w g o x inputs images old mid new (Ok u) h k is =
     let t : Task = task_of o (records_of w x) in
     let made = h.ok.made in
@@ -289,10 +289,10 @@ flush_fails w g o x inputs images old mid new (Ok u) h k is =
     }
 flush_fails w g o x inputs images old mid new (Err f) h k is = absurd (not_ok is)
 
-flush_each : (w g : ℕ) (o : MakeOptions) (x : Option (List ℕ)) (inputs : InputsLeft) (images : List ℕ → Type 0) (old mid new : Option (List ℕ)) (answer result : Result Unit Fault) → Flushed mid new answer result → Runs w g o x inputs images old mid answer → Runs w g o x inputs images old new result
-flush_each w g o x inputs images old mid new answer result f h = elim f.answered as (λ _. Runs w g o x inputs images old new result) [
-  | inl e ↦ subst (Runs w g o x inputs images old new) (sym e) (runs_kept w g o x inputs images old mid new answer h f.kept)
-  | inr e ↦ subst (Runs w g o x inputs images old new) (sym e.1) (flush_fails w g o x inputs images old mid new answer h f.kept e.0)
+flush_each : (w g : ℕ) (o : MakeOptions) (x : Option (List ℕ)) (inputs : InputsLeft) (images : List ℕ → Type 0) (old mid new : Option (List ℕ)) (answer result : Result Unit Fault) → Flushed mid new answer result → MakeRuns w g o x inputs images old mid answer → MakeRuns w g o x inputs images old new result
+flush_each w g o x inputs images old mid new answer result f h = elim f.answered as (λ _. MakeRuns w g o x inputs images old new result) [
+  | inl e ↦ subst (MakeRuns w g o x inputs images old new) (sym e) (runs_kept w g o x inputs images old mid new answer h f.kept)
+  | inr e ↦ subst (MakeRuns w g o x inputs images old new) (sym e.1) (flush_fails w g o x inputs images old mid new answer h f.kept e.0)
 ]
 
 base_weaker : {B : Type 0} (s : Ghosts B) (base : Option B) (P Q : Option (List ℕ) → Type 0) → ((x : Option (List ℕ)) → P x → Q x) → OfBase s base P → OfBase s base Q
@@ -300,8 +300,8 @@ base_weaker s None P Q f h = f None h
 base_weaker s (Some base) P Q f h = λ b is. f (Some b) (h b is)
 
 pub runs_flushed : {B : Type 0} (s : Ghosts B) (base : Option B) (w g : ℕ) (o : MakeOptions) (inputs : InputsLeft) (images : List ℕ → Type 0) (old mid new : Option (List ℕ)) (answer result : Result Unit Fault)
-    → WhereHonest images (OfBase s base (λ x. Runs w g o x inputs images old mid answer)) → Flushed mid new answer result
-    → WhereHonest images (OfBase s base (λ x. Runs w g o x inputs images old new result))
+    → WhereHonest images (OfBase s base (λ x. MakeRuns w g o x inputs images old mid answer)) → Flushed mid new answer result
+    → WhereHonest images (OfBase s base (λ x. MakeRuns w g o x inputs images old new result))
 runs_flushed s base w g o inputs images old mid new answer result h f = record {
   each = λ b is. base_weaker s base _ _ (λ x. flush_each w g o x inputs images old mid new answer result f) (h.each b is);
 }

@@ -25,7 +25,7 @@ use Rattle.cdb_make.specs.declared.fault.MakeFault.TheVariants as make
 use Rattle.cdb_tool.specs.Views.Fault as run
 use Rattle.cdb_tool.proofs.NativeInputs.{some_weaker, fault_of_text, fault_of_part, prefix_of}
 use Rattle.cdb_tool.specs.Runs.Flushed.{Flushed}
-use Rattle.cdb_tool.specs.Runs.MakeBytes.{IsNewText, FailsText, FailsRead, PassesGreatest, NotRead, ReadsFitting, MakesFile, MakesBytes}
+use Rattle.cdb_tool.specs.Runs.MakeBytes.{IsNewText, FailsText, FailsRead, PassesGreatest, TextNotRead, ReadsFitting, MakesFile, MakesBytes}
 use Rattle.cdb_tool.specs.declared.fault.Fault.{Fault}
 use Rattle.cdb_tool.specs.declared.fault.Fault.TheVariants.{Text, Make, Duplicate, Missing, Read, Walk, Output, Long, Open, Rename, NoMemory, Old, New, NoOldTables, NoNewTables}
 
@@ -129,7 +129,7 @@ fails_read w g remaining o t u b f h meets no_memory =
 
 -- a fault of the text that the reader gave
 pub text_not_read : {R L S K : Type 0} {s : Ghosts S} {k : Widths K} (w g : ℕ) (remaining : R → Option (List ℕ)) (o : Option (List ℕ)) (t u : TextReader R L) (b : Maker S K s k) (f : TextFault) → HoldsSoFar w g o (unread remaining t) t b → MeetsFault g remaining t u f
-    → NotRead w g o (unread remaining u) (run.text_fault 1 f)
+    → TextNotRead w g o (unread remaining u) (run.text_fault 1 f)
 text_not_read w g remaining o t u b (Syntax at) h meets = fails_read w g remaining o t u b (Syntax at) h meets (λ e. let i : Syntax at ≡ text_fault.NoMemory = e in cc)
 text_not_read w g remaining o t u b (Ended at) h meets = fails_read w g remaining o t u b (Ended at) h meets (λ e. let i : Ended at ≡ text_fault.NoMemory = e in cc)
 text_not_read w g remaining o t u b (Large at) h meets = fails_read w g remaining o t u b (Large at) h meets (λ e. let i : Large at ≡ text_fault.NoMemory = e in cc)
@@ -147,7 +147,7 @@ too_big w g (Some t) m (Some n) from to rs r a b fit h =
 
 -- a record that the maker refused, on a store that is honest and doesn't fail
 pub refused : {R L S K : Type 0} {s : Ghosts S} {k : Widths K} (g : ℕ) (o m n : Option (List ℕ)) (t u : TextReader R L) (b c : Maker S K s k) (r : KeyValue) (f : MakeFault) (image : List ℕ) → (h : HoldsSoFar k.WORD g o m t b)
-    → ReadsRecord g m n (taken_of t) (taken_of u) r → s.image c.store image → (s.failures b.store < s.failures c.store → ⊥) → FailsPutting b c mode.Add r f → NotRead k.WORD g o n (run.make_fault f)
+    → ReadsRecord g m n (taken_of t) (taken_of u) r → s.image c.store image → (s.failures b.store < s.failures c.store → ⊥) → FailsPutting b c mode.Add r f → TextNotRead k.WORD g o n (run.make_fault f)
 refused {k = k} g o m n t u b c r make.TooBig image h read is never x =
     too_big k.WORD g o m n (taken_of t) (taken_of u) h.records r h.so_far read h.fits (let large : limit_of b < file_size k.WORD (h.records ++ r ∷ []) = (x.1 h.records h.holds).each image is in omega (arith, h.limit))
 refused g o m n t u b c r make.NoMemory image h read is never x = tt
@@ -158,7 +158,7 @@ refused g o m n t u b c r make.Writing image h read is never x = elim x.0 [ inl 
 -- ---- the file
 
 -- nothing was written where the text was not read
-pub nothing_made : (w g : ℕ) (text rest o : Option (List ℕ)) (f : Fault) → NotRead w g text rest f → MakesBytes w g text rest o o (Err f)
+pub nothing_made : (w g : ℕ) (text rest o : Option (List ℕ)) (f : Fault) → TextNotRead w g text rest f → MakesBytes w g text rest o o (Err f)
 nothing_made w g text rest o (Text input f) x = record { ok = tt; err = (x, keeps_self o) }
 nothing_made w g text rest o (Make f) x = record { ok = tt; err = (x, keeps_self o) }
 nothing_made w g text rest o Duplicate x = absurd x

@@ -20,7 +20,7 @@ use Rattle.cdb_form.proofs.Bytes.WritingLemmas.{appends_then, appends_kept, pref
 use Rattle.cdb_tool.specs.Views.Fault.{walk_fault}
 use Rattle.cdb_tool.specs.Runs.Flushed.{Flushed}
 use Rattle.cdb_tool.specs.Runs.Form.{Form, IsHeld}
-use Rattle.cdb_tool.specs.Runs.WalkText.{closing, walk_text, Writes, WritesPrefix, WritesFirst, WritingFails, LeavesBehind, KeepsBehind, WritesWalk}
+use Rattle.cdb_tool.specs.Runs.WalkText.{closing, walk_text, WritesItems, WritesTextPrefix, WritesFirst, WritingFails, LeavesBehind, KeepsBehind, WritesWalk}
 use Rattle.cdb_tool.specs.declared.runs.content.Content.{Content}
 use Rattle.cdb_tool.specs.declared.runs.content.Content.TheVariants.{Records, Keys}
 use Rattle.cdb_tool.specs.declared.fault.Fault.{Fault}
@@ -81,7 +81,7 @@ held_in content key value a b r k v held = subst (λ x. IsHeld content x b r) (s
 -- ---- how a text ends
 
 end_appended : {R L : Type 0} (w : ℕ) (form : Form) (remaining : R → Option (List ℕ)) (file : Option (List ℕ)) (t : RecordReader R L) (old mid new : Option (List ℕ)) → (d : WrittenSoFar w form remaining file t old mid)
-    → IfSome (unread remaining t) (λ text. walk_left w t text ≡ no_walk) → Appends mid new form.end → Writes w form file None old new
+    → IfSome (unread remaining t) (λ text. walk_left w t text ≡ no_walk) → Appends mid new form.end → WritesItems w form file None old new
 end_appended w form remaining file t old mid new d end appended =
     record { walked = walked d.records None; ends = refl; is = gave_all w remaining file t d.records d.gave end; appended = appends_then old mid new (flat_map form.item d.records) form.end d.appended appended }
 
@@ -142,7 +142,7 @@ end_fails w form remaining file t u old mid new d end behind ended front =
 
 -- the writer failed in a record
 prefix_of_walk : (w : ℕ) (form : Form) (file old mid new : Option (List ℕ)) (rs : List KeyValue) (r : KeyValue) → IfSome file (λ f. (more : List KeyValue) × ((walk_of w f).records ≡ (rs ++ r ∷ []) ++ more))
-    → Appends old mid (flat_map form.item rs) → AppendsPrefix mid new (form.item r) → WritesPrefix w form file old new
+    → Appends old mid (flat_map form.item rs) → AppendsPrefix mid new (form.item r) → WritesTextPrefix w form file old new
 prefix_of_walk w form None old mid new rs r more a front =
     record { walked = walked (rs ++ r ∷ []) None; is = tt; appended = prefix_then old mid new (flat_map form.item rs) (form.item r) form.end _ a front (ap (λ z. z ++ form.end) (texts_more form rs r) ∙ append_assoc (flat_map form.item rs) (form.item r) form.end) }
 prefix_of_walk w form (Some f) old mid new rs r more a front =
@@ -169,7 +169,7 @@ record_fails w form remaining file t u old mid new r d one behind front =
 
 -- the reader of the records failed
 written_damage : {R L : Type 0} (w : ℕ) (form : Form) (remaining : R → Option (List ℕ)) (file : Option (List ℕ)) (t : RecordReader R L) (old new : Option (List ℕ)) (damage : Damage) → WrittenSoFar w form remaining file t old new
-    → IfSome (unread remaining t) (λ text. walk_left w t text ≡ damaged damage) → Writes w form file (Some damage) old new
+    → IfSome (unread remaining t) (λ text. walk_left w t text ≡ damaged damage) → WritesItems w form file (Some damage) old new
 written_damage w form remaining file t old new damage d exact =
     record { walked = walked d.records (Some damage); ends = refl; is = gave_before w remaining file t d.records damage d.gave exact; appended = subst (Appends old new) (sym (append-nil (flat_map form.item d.records))) d.appended }
 
@@ -194,7 +194,7 @@ reader_fails w form remaining file t u old new fault d exact none still =
 
 -- ---- the flush
 
-writes_kept : (w : ℕ) (form : Form) (file : Option (List ℕ)) (ending : Option Damage) (old mid new : Option (List ℕ)) → Writes w form file ending old mid → Keeps mid new → Writes w form file ending old new
+writes_kept : (w : ℕ) (form : Form) (file : Option (List ℕ)) (ending : Option Damage) (old mid new : Option (List ℕ)) → WritesItems w form file ending old mid → Keeps mid new → WritesItems w form file ending old new
 writes_kept w form file ending old mid new d k = record { walked = d.walked; ends = d.ends; is = d.is; appended = appends_kept old mid new (walk_text form d.walked) d.appended k }
 
 first_kept : (w : ℕ) (form : Form) (file rest old mid new : Option (List ℕ)) → WritesFirst w form file rest old mid → Keeps mid new → WritesFirst w form file rest old new

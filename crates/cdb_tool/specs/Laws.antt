@@ -21,7 +21,7 @@ pub record Restores (w greatest : ℕ) (records : List KeyValue) : Type 0 where
 
 -- a run whose base has the records rs, and whose one input says the difference of rs and ss, does all
 -- of it
-pub record HoldsAll (w : ℕ) (options : MakeOptions) (rs ss : List KeyValue) : Type 0 where
+pub record MakerHoldsAll (w : ℕ) (options : MakeOptions) (rs ss : List KeyValue) : Type 0 where
   pub records : (course_of w (task_of options (Some rs))
       (from_inputs 1 (difference rs ss ∷ []))).records ≡ brought_up rs ss
   pub going : (course_of w (task_of options (Some rs))

@@ -4,7 +4,7 @@ ghost use Rattle.cdb_form.specs.Format.File.{file_size};
 ghost use Rattle.cdb_form.specs.Views.Pairs.{key_values};
 ghost use Rattle.cdb_form.specs.declared.mode.Mode.TheVariants.{Add};
 ghost use Rattle.cdb_read.specs.Laws.{brought_up};
-ghost use Rattle.cdb_tool.specs.Laws.{HoldsAll, Restores};
+ghost use Rattle.cdb_tool.specs.Laws.{MakerHoldsAll, Restores};
 ghost use Rattle.cdb_tool.specs.Runs.Course.{mode_of};
 ghost use Rattle.cdb_tool.specs.Runs.MakesSo.{RunsComeOf};
 
@@ -28,7 +28,7 @@ pub fn difference_amends_base<L: Width>(
 )
     ensures { mode_of _options.entry ≡ Add
         → file_size L.WORD (brought_up (key_values _base.now) (key_values _new.now)) ≤ _options.entry.limit
-        → HoldsAll L.WORD _options.entry (key_values _base.now) (key_values _new.now) }
+        → MakerHoldsAll L.WORD _options.entry (key_values _base.now) (key_values _new.now) }
 {}
 
 /// What a run leaves that makes a database is what one function of its options, of its base and of

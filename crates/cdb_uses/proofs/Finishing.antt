@@ -11,7 +11,7 @@ use Rattle.cdb_make.specs.declared.fault.MakeFault.{MakeFault}
 use Rattle.cdb_make.specs.declared.fault.MakeFault.TheVariants.{Broken, Lookup, NoMemory, TooBig, Writing}
 use Rattle.cdb_make.specs.declared.maker.Maker.{Maker}
 use Rattle.cdb_uses.specs.Building.{Builds, Finishes, IsUnbuilt, Made, NotBuilt}
-use Rattle.cdb_uses.specs.Steps.{HoldsWhole, MeetsStep, Runs, Stage, TriesStep, after, left_by, stage_of, whole}
+use Rattle.cdb_uses.specs.Steps.{HoldsWhole, MeetsStep, StepsRun, Stage, TriesStep, after, left_by, stage_of, whole}
 use Rattle.cdb_uses.specs.declared.ask.AskFault.TheVariants.{Make}
 use Rattle.cdb_uses.specs.declared.steps.Step.{Step}
 use Rattle.cdb_uses.specs.declared.steps.Step.TheVariants as kind
@@ -71,7 +71,7 @@ finishes m rs store whole file size comes rises = record { finish = refl; whole 
 
 -- the steps that a run has are the first of all steps
 pub record IsWhole (first steps : List Step) (faults : List (Option MakeFault)) : Type 0 where
-  pub runs : (w limit : ℕ) (old new : Stage) → Runs w limit [] first faults old new → Runs w limit [] steps faults old new
+  pub runs : (w limit : ℕ) (old new : Stage) → StepsRun w limit [] first faults old new → StepsRun w limit [] steps faults old new
   pub left : (w limit : ℕ) → left_by w limit steps faults ≡ left_by w limit first faults
 
 -- where one of them is the finish, or all were made
@@ -109,7 +109,7 @@ ended {s = s} {l = l} store limit first steps faults m step new four so all end 
             let h = so.made.each was.0 was.1 in
             record {
               failures = s.failures m.store;
-              made = record { begun = h.begun; begins = h.begins; runs = all.runs w limit (whole h.begun) (whole (s.failures m.store)) (subst (λ v. Runs w limit [] first faults (whole h.begun) v) here h.runs) };
+              made = record { begun = h.begun; begins = h.begins; runs = all.runs w limit (whole h.begun) (whole (s.failures m.store)) (subst (λ v. StepsRun w limit [] first faults (whole h.begun) v) here h.runs) };
               ends = end.failures;
             };
       };

@@ -23,7 +23,7 @@ use Rattle.cdb_make.specs.declared.maker.Maker.{Maker}
 use Rattle.cdb_make.specs.declared.answer.Put.{Put}
 use Rattle.cdb_make.proofs.Appends.{held_size, made_within}
 use Rattle.cdb_make.proofs.Finishing.{rests_nothing}
-use Rattle.cdb_uses.specs.Steps.{HoldsWhole, Meets, MeetsStep, Runs, Stage, Tries, TriesCall, TriesStep, after, answers_of, answered, left_by, stage_of, takes_out, whole}
+use Rattle.cdb_uses.specs.Steps.{HoldsWhole, StepMeets, MeetsStep, StepsRun, Stage, Tries, TriesCall, TriesStep, after, answers_of, answered, left_by, stage_of, takes_out, whole}
 use Rattle.cdb_uses.specs.declared.steps.Step.{Step}
 use Rattle.cdb_uses.specs.declared.steps.Step.TheVariants as kind
 
@@ -50,7 +50,7 @@ pub stage_whole : {S L : Type 0} {s : Ghosts S} {l : Widths L} (m : Maker S L s 
 stage_whole {s = s} m n is same = ap (λ b. let x : Stage = record { broken = b; failures = s.failures m.store } in x) is ∙ ap whole same
 
 -- of a maker that is whole only its answer is owed
-meets_whole : {answers : ℕ → Stage → Type 0} {fault : Option MakeFault} {old new : Stage} → old.broken ≡ false → answers old.failures new → Meets answers fault old new
+meets_whole : {answers : ℕ → Stage → Type 0} {fault : Option MakeFault} {old new : Stage} → old.broken ≡ false → answers old.failures new → StepMeets answers fault old new
 meets_whole whole answers = record { of_broken = λ broken. absurd (not_broken broken whole); of_whole = λ _. answers }
 
 -- a put that was taken is within the limit, and one that is too big isn't
@@ -104,7 +104,7 @@ takes_there Warn r rs is there = absurd (let no : ⊥ = cc in no)
 takes_there Insert r rs is there = absurd (let no : ⊥ = cc in no)
 
 -- what was tried of a maker
-tried : {S L : Type 0} {s : Ghosts S} {l : Widths L} (old new : Maker S L s l) (answers : ℕ → Stage → Type 0) (fault : Option MakeFault) (left : List KeyValue) → Follows old new → WhereHonest (s.image new.store) (Meets answers fault (stage_of old) (stage_of new)) → HoldsWhole new left
+tried : {S L : Type 0} {s : Ghosts S} {l : Widths L} (old new : Maker S L s l) (answers : ℕ → Stage → Type 0) (fault : Option MakeFault) (left : List KeyValue) → Follows old new → WhereHonest (s.image new.store) (StepMeets answers fault (stage_of old) (stage_of new)) → HoldsWhole new left
     → Tries old new answers fault left
 tried old new answers fault left follows meets holds = record { meets = meets; holds = holds; limit = follows.limit; lazy = follows.lazy; comes = follows.comes; failures = follows.failures }
 
@@ -239,8 +239,8 @@ pub left_first : (w limit : ℕ) (steps rest : List Step) (faults : List (Option
 left_first w limit steps rest faults same = ap (survivors w limit) (answered_first steps rest faults same)
 
 -- a run, and a step more
-pub runs_more : (w limit : ℕ) (rs : List KeyValue) (steps : List Step) (faults : List (Option MakeFault)) (old mid new : Stage) (step : Step) (fault : Option MakeFault) → length faults ≡ length steps → Runs w limit rs steps faults old mid
-    → MeetsStep w limit (fold (answered_step w limit) rs (answered steps faults)) step fault mid new → Runs w limit rs (steps ++ step ∷ []) (faults ++ fault ∷ []) old new
+pub runs_more : (w limit : ℕ) (rs : List KeyValue) (steps : List Step) (faults : List (Option MakeFault)) (old mid new : Stage) (step : Step) (fault : Option MakeFault) → length faults ≡ length steps → StepsRun w limit rs steps faults old mid
+    → MeetsStep w limit (fold (answered_step w limit) rs (answered steps faults)) step fault mid new → StepsRun w limit rs (steps ++ step ∷ []) (faults ++ fault ∷ []) old new
 runs_more w limit rs [] [] old mid new step fault same run meets = (new, subst (λ x. MeetsStep w limit rs step fault x new) run meets, refl)
 runs_more w limit rs [] (f ∷ faults) old mid new step fault same run meets = absurd run
 runs_more w limit rs (s ∷ steps) [] old mid new step fault same run meets = absurd (omega (arith, same))
@@ -250,7 +250,7 @@ runs_more w limit rs (s ∷ steps) (f ∷ faults) old mid new step fault same ru
     (run.0, run.1, runs_more w limit (after w limit rs s f) steps faults run.0 mid new step fault (omega (arith, same)) run.2 here)
 
 -- or a finish that was taken
-pub runs_taken : (w limit : ℕ) (rs : List KeyValue) (steps rest : List Step) (faults : List (Option MakeFault)) (old new : Stage) → length faults ≡ length steps → Runs w limit rs steps faults old new → Runs w limit rs (steps ++ kind.Finish ∷ rest) faults old new
+pub runs_taken : (w limit : ℕ) (rs : List KeyValue) (steps rest : List Step) (faults : List (Option MakeFault)) (old new : Stage) → length faults ≡ length steps → StepsRun w limit rs steps faults old new → StepsRun w limit rs (steps ++ kind.Finish ∷ rest) faults old new
 runs_taken w limit rs [] rest [] old new same run = (refl, run)
 runs_taken w limit rs [] rest (f ∷ faults) old new same run = absurd run
 runs_taken w limit rs (s ∷ steps) rest [] old new same run = absurd (omega (arith, same))

@@ -24,7 +24,7 @@ use Rattle.cdb_read.specs.Lookup.{found_by, lookup_of, is_inside, found_damaged}
 use Rattle.cdb_read.specs.Sound.{walk_entries}
 use Rattle.cdb_read.proofs.WholeFiles.LookupLaws.{lookup_of-is}
 use Rattle.cdb_read.proofs.Checks.FaultSteps.{first_of-cons}
-use Rattle.cdb_uses.specs.Unfinished.{IsDamaged, broken_off}
+use Rattle.cdb_uses.specs.Unfinished.{IsUnfinishedDamaged, broken_off}
 
 -- the pointer whose bytes are all ones
 abbrev ones : ℕ → WordPair
@@ -153,7 +153,7 @@ head_long w b head =
     let n : length (take (head_size w) b) ≡ head_size w = ap length head ∙ length-replicate (head_size w) 255 in
     omega (arith, length-take (head_size w) b)
 
-pub damaged_whole : (w top : ℕ) (b key : List ℕ) → (w ≡ 4) ⊎ (w ≡ 8) → top + 1 ≡ 256 ^ w → table_number (key_hash key) < 256 → length b < top → part 0 (head_size w) b ≡ unfinished_head w → IsDamaged w b key
+pub damaged_whole : (w top : ℕ) (b key : List ℕ) → (w ≡ 4) ⊎ (w ≡ 8) → top + 1 ≡ 256 ^ w → table_number (key_hash key) < 256 → length b < top → part 0 (head_size w) b ≡ unfinished_head w → IsUnfinishedDamaged w b key
 damaged_whole w top b key width top_is low short head =
     let some = ones_slots w top width top_is in
     let outside = ones_outside w top b short in

@@ -14,7 +14,7 @@ use Rattle.cdb_make.specs.declared.fault.MakeFault.TheVariants.{Broken, NoMemory
 use Rattle.cdb_read.specs.Values.{values_of}
 use Rattle.cdb_read.specs.declared.fault.ReadFault.{ReadFault}
 use Rattle.cdb_read.specs.declared.fault.ReadFault.TheVariants.{Device, Output}
-use Rattle.cdb_uses.specs.Steps.{Runs, Stage, TriesStep, left_by, whole}
+use Rattle.cdb_uses.specs.Steps.{StepsRun, Stage, TriesStep, left_by, whole}
 use Rattle.cdb_uses.specs.declared.ask.AskFault.{AskFault}
 use Rattle.cdb_uses.specs.declared.ask.AskFault.TheVariants.{Make, Read}
 use Rattle.cdb_uses.specs.declared.steps.Step.{Step}
@@ -28,7 +28,7 @@ pub record Made (w limit : ℕ) (steps : List Step) (faults : List (Option MakeF
     (now : Stage) : Type 0 where
   pub begun : ℕ
   pub begins : before ≤ begun
-  pub runs : Runs w limit [] steps faults (whole begun) now
+  pub runs : StepsRun w limit [] steps faults (whole begun) now
 
 -- and then the maker, which was whole, was finished
 pub record Builds (w limit : ℕ) (steps : List Step) (faults : List (Option MakeFault))
@@ -57,7 +57,7 @@ ReadingFails before after Output = ⊤
 ReadingFails before after fault = ⊥
 
 -- there is one, of whose values a prefix was written
-pub record NotRead (w limit : ℕ) (steps : List Step) (faults : List (Option MakeFault))
+pub record BuildingNotRead (w limit : ℕ) (steps : List Step) (faults : List (Option MakeFault))
     (key : List ℕ) (before after : ℕ) (old new : Option (List ℕ)) (fault : ReadFault)
     : Type 0 where
   pub built : ℕ
@@ -82,7 +82,7 @@ abbrev pub AskingFault : {S : Type 0} → Ghosts S → (w limit : ℕ) → S →
 AskingFault s w limit store steps key old new u (Make fault) =
     (new ≡ old) × BuildingFault s w limit store steps u fault
 AskingFault s w limit store steps key old new u (Read fault) = WhereHonest (s.image u.store)
-    (NotRead w limit steps u.faults.items key (s.failures store) (s.failures u.store) old new fault)
+    (BuildingNotRead w limit steps u.faults.items key (s.failures store) (s.failures u.store) old new fault)
 
 -- what is left where there is none, or its values were not written
 abbrev pub BuildingFails : {S : Type 0} → Ghosts S → (w limit : ℕ) → S → List Step → List ℕ

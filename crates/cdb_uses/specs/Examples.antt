@@ -8,7 +8,7 @@ use Rattle.cdb_make.specs.Survivors.{survivors}
 use Rattle.cdb_make.specs.Survivors.Call.{Putting, Removing}
 use Rattle.cdb_make.specs.declared.fault.MakeFault.TheVariants.{NoMemory, TooBig, Writing}
 use Rattle.cdb_form.specs.declared.mode.Mode.TheVariants.{Add, Insert, Replace}
-use Rattle.cdb_uses.specs.Steps.{Answers, answer_of, whole}
+use Rattle.cdb_uses.specs.Steps.{StepAnswers, answer_of, whole}
 use Rattle.cdb_make.proofs.Meeting.{replaces_it}
 
 -- a record of one byte each
@@ -16,18 +16,18 @@ abbrev short : ℕ → ℕ → KeyValue
 short key value = record { key = key ∷ []; value = value ∷ [] }
 
 -- one is added, another is too big, the first is replaced, which may be refused memory
-added : Answers 4 2099 [] (Putting Add (short 97 49)) None 0 (whole 0)
+added : StepAnswers 4 2099 [] (Putting Add (short 97 49)) None 0 (whole 0)
 added = (refl, le_refl 0, refl)
 
-too_big : Answers 4 2099 (short 97 49 ∷ []) (Putting Add (short 98 49)) (Some TooBig) 0 (whole 0)
+too_big : StepAnswers 4 2099 (short 97 49 ∷ []) (Putting Add (short 98 49)) (Some TooBig) 0 (whole 0)
 too_big = (refl, refl)
 
-refused : Answers 4 2099 (short 97 50 ∷ []) (Putting Replace (short 97 51)) (Some NoMemory) 0
+refused : StepAnswers 4 2099 (short 97 50 ∷ []) (Putting Replace (short 97 51)) (Some NoMemory) 0
     (whole 0)
 refused = (replaces_it 1, refl, refl)
 
 -- a store that fails amid a replacement breaks the maker
-torn : Answers 4 2099 (short 97 50 ∷ []) (Putting Replace (short 97 51)) (Some Writing) 0
+torn : StepAnswers 4 2099 (short 97 50 ∷ []) (Putting Replace (short 97 51)) (Some Writing) 0
     (record { broken = true; failures = 1 })
 torn = (replaces_it 1, refl, le_refl 1, refl)
 

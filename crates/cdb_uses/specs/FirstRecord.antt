@@ -4,8 +4,8 @@ use Rattle.cdb_form.specs.Format.Record.{KeyValue}
 use Rattle.cdb_form.specs.Text.Native.{Spells}
 
 -- a spelling of the record
-abbrev pub BeginsWith : Option (List ℕ) → KeyValue → Type 0
-BeginsWith text r = IfSome text (λ t.
+abbrev pub BeginsWithFirst : Option (List ℕ) → KeyValue → Type 0
+BeginsWithFirst text r = IfSome text (λ t.
     (first rest : List ℕ) × Spells 4294967295 first r × (t ≡ first ++ rest))
 
 -- the newline that ends a text

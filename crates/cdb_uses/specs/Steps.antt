@@ -41,17 +41,17 @@ is_within w limit rs (Putting mode r) = fits w limit mode r rs
 is_within w limit rs (Removing key) = true
 
 -- a call looks for its key, adds its record, changes the store
-abbrev pub Looks : Call → Type 0
-Looks (Putting mode r) = mode ≢ Add
-Looks (Removing key) = ⊤
+abbrev pub StepLooks : Call → Type 0
+StepLooks (Putting mode r) = mode ≢ Add
+StepLooks (Removing key) = ⊤
 
-abbrev pub Adds : List KeyValue → Call → Type 0
-Adds rs (Putting mode r) = put_answer mode r rs ≢ Present
-Adds rs (Removing key) = ⊥
+abbrev pub StepAdds : List KeyValue → Call → Type 0
+StepAdds rs (Putting mode r) = put_answer mode r rs ≢ Present
+StepAdds rs (Removing key) = ⊥
 
-abbrev pub Writes : List KeyValue → Call → Type 0
-Writes rs (Putting mode r) = put_answer mode r rs ≢ Present
-Writes rs (Removing key) = is_there key rs ≡ true
+abbrev pub StepWrites : List KeyValue → Call → Type 0
+StepWrites rs (Putting mode r) = put_answer mode r rs ≢ Present
+StepWrites rs (Removing key) = is_there key rs ≡ true
 
 -- and whether it takes records out
 abbrev pub takes_out : List KeyValue → Call → Bool
@@ -62,37 +62,37 @@ takes_out rs (Putting Replace r) = is_there r.key rs
 takes_out rs (Removing key) = is_there key rs
 
 -- what a whole maker answers to a call, whose store had failed so often: each fault has its cause
-abbrev pub Answers : ℕ → ℕ → List KeyValue → Call → Option MakeFault → ℕ → Stage → Type 0
-Answers w limit rs call None n new =
+abbrev pub StepAnswers : ℕ → ℕ → List KeyValue → Call → Option MakeFault → ℕ → Stage → Type 0
+StepAnswers w limit rs call None n new =
     (is_within w limit rs call ≡ true) × (n ≤ new.failures) × (new.broken ≡ false)
-Answers w limit rs call (Some TooBig) n new = (is_within w limit rs call ≡ false) × (new ≡ whole n)
-Answers w limit rs call (Some NoMemory) n new =
-    Adds rs call × (is_within w limit rs call ≡ true) × (new ≡ whole n)
-Answers w limit rs call (Some Lookup) n new =
-    Looks call × (n < new.failures) × (new.broken ≡ false)
-Answers w limit rs call (Some Writing) n new = Writes rs call
+StepAnswers w limit rs call (Some TooBig) n new = (is_within w limit rs call ≡ false) × (new ≡ whole n)
+StepAnswers w limit rs call (Some NoMemory) n new =
+    StepAdds rs call × (is_within w limit rs call ≡ true) × (new ≡ whole n)
+StepAnswers w limit rs call (Some Lookup) n new =
+    StepLooks call × (n < new.failures) × (new.broken ≡ false)
+StepAnswers w limit rs call (Some Writing) n new = StepWrites rs call
     × (is_within w limit rs call ≡ true) × (n < new.failures) × (new.broken ≡ takes_out rs call)
-Answers w limit rs call (Some Broken) n new = ⊥
+StepAnswers w limit rs call (Some Broken) n new = ⊥
 
 -- and to a finish that it refuses
-abbrev pub Refuses : Option MakeFault → ℕ → Stage → Type 0
-Refuses (Some NoMemory) n new = (n ≤ new.failures) × (new.broken ≡ false)
-Refuses (Some Writing) n new = (n < new.failures) × (new.broken ≡ false)
-Refuses fault n new = ⊥
+abbrev pub StepRefuses : Option MakeFault → ℕ → Stage → Type 0
+StepRefuses (Some NoMemory) n new = (n ≤ new.failures) × (new.broken ≡ false)
+StepRefuses (Some Writing) n new = (n < new.failures) × (new.broken ≡ false)
+StepRefuses fault n new = ⊥
 
 abbrev pub AnswersStep : ℕ → ℕ → List KeyValue → Step → Option MakeFault → ℕ → Stage → Type 0
 AnswersStep w limit rs (kind.Edit change) fault n new =
-    Answers w limit rs (call_of change) fault n new
-AnswersStep w limit rs kind.Finish fault n new = Refuses fault n new
+    StepAnswers w limit rs (call_of change) fault n new
+AnswersStep w limit rs kind.Finish fault n new = StepRefuses fault n new
 
 -- what a fault, or none, leads from and to: a broken maker answers that it is broken, and stays
-pub record Meets (answers : ℕ → Stage → Type 0) (fault : Option MakeFault) (old new : Stage)
+pub record StepMeets (answers : ℕ → Stage → Type 0) (fault : Option MakeFault) (old new : Stage)
     : Type 0 where
   pub of_broken : old.broken ≡ true → (fault ≡ Some Broken) × (new ≡ old)
   pub of_whole : old.broken ≡ false → answers old.failures new
 
 abbrev pub MeetsStep : ℕ → ℕ → List KeyValue → Step → Option MakeFault → (old new : Stage) → Type 0
-MeetsStep w limit rs step fault old new = Meets (AnswersStep w limit rs step fault) fault old new
+MeetsStep w limit rs step fault old new = StepMeets (AnswersStep w limit rs step fault) fault old new
 
 -- ---- steps in turn
 
@@ -126,14 +126,14 @@ abbrev pub after : ℕ → ℕ → List KeyValue → Step → Option MakeFault �
 after w limit rs step fault = fold (answered_step w limit) rs (answers_of step fault)
 
 -- each step met one answer, and led to the next; but a finish that was taken has none, and ends them
-abbrev pub Runs : ℕ → ℕ → List KeyValue → List Step → List (Option MakeFault) → (old new : Stage)
+abbrev pub StepsRun : ℕ → ℕ → List KeyValue → List Step → List (Option MakeFault) → (old new : Stage)
     → Type 0
-Runs w limit rs [] [] old new = new ≡ old
-Runs w limit rs [] (fault ∷ faults) old new = ⊥
-Runs w limit rs (step ∷ steps) [] old new = (step ≡ kind.Finish) × (new ≡ old)
-Runs w limit rs (step ∷ steps) (fault ∷ faults) old new =
+StepsRun w limit rs [] [] old new = new ≡ old
+StepsRun w limit rs [] (fault ∷ faults) old new = ⊥
+StepsRun w limit rs (step ∷ steps) [] old new = (step ≡ kind.Finish) × (new ≡ old)
+StepsRun w limit rs (step ∷ steps) (fault ∷ faults) old new =
     (mid : Stage) × MeetsStep w limit rs step fault old mid
-    × Runs w limit (after w limit rs step fault) steps faults mid new
+    × StepsRun w limit (after w limit rs step fault) steps faults mid new
 
 -- ---- a maker amid them
 
@@ -149,7 +149,7 @@ HoldsWhole m rs = m.broken ≡ false → Holds m rs
 pub record Tries {S L : Type 0} {s : Ghosts S} {l : Widths L} (old new : Maker S L s l)
     (answers : ℕ → Stage → Type 0) (fault : Option MakeFault) (left : List KeyValue)
     : Type 0 where
-  pub meets : WhereHonest (s.image new.store) (Meets answers fault (stage_of old) (stage_of new))
+  pub meets : WhereHonest (s.image new.store) (StepMeets answers fault (stage_of old) (stage_of new))
   pub holds : HoldsWhole new left
   pub limit : new.limit ≡ old.limit
   pub lazy : new.lazy ≡ old.lazy
@@ -160,7 +160,7 @@ pub record Tries {S L : Type 0} {s : Ghosts S} {l : Widths L} (old new : Maker S
 abbrev pub TriesCall : {S L : Type 0} {s : Ghosts S} {l : Widths L} → (old new : Maker S L s l)
     → List KeyValue → Call → Option MakeFault → Type 0
 TriesCall {l = l} old new rs call fault =
-    Tries old new (Answers l.WORD old.limit rs call fault) fault
+    Tries old new (StepAnswers l.WORD old.limit rs call fault) fault
     (answered_step l.WORD old.limit rs (answer_of call fault))
 
 abbrev pub TriesStep : {S L : Type 0} {s : Ghosts S} {l : Widths L} → (old new : Maker S L s l)

@@ -16,7 +16,7 @@ broken_off w bytes =
     record { records = rs; damage = Some (Record (head_size w + sum_by (record_size w) rs)) }
 
 -- a check tells its first table, the look-up of a key the key's table, and a walk gives what is whole
-pub record IsDamaged (w : ℕ) (bytes key : List ℕ) : Type 0 where
+pub record IsUnfinishedDamaged (w : ℕ) (bytes key : List ℕ) : Type 0 where
   pub first : first_fault w bytes ≡ Some (Table 0)
   pub looked : lookup_of w bytes key ≡ found_damaged (Table (table_number (key_hash key)))
   pub walked : walk_of w bytes ≡ broken_off w bytes

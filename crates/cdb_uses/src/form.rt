@@ -1,7 +1,7 @@
 // A caller of cdb_form.
 ghost use Rattle.std.specs.Prelude.{IfOk, MatchOption};
 ghost use Rattle.cdb_form.specs.Views.Pairs.{key_value};
-ghost use Rattle.cdb_uses.specs.FirstRecord.{BeginsWith, HasNone};
+ghost use Rattle.cdb_uses.specs.FirstRecord.{BeginsWithFirst, HasNone};
 
 use cdb_form::{Narrow, Record, TextFault, TextReader};
 use std::alloc::Global;
@@ -11,7 +11,7 @@ use std::io::Read;
 pub fn first_record<R: Read + Drop>(alloc: Global, reader: R) -> Result<Option<Record>, TextFault>
     ensures { IfOk result (λ found. MatchOption found
         (HasNone (R.remaining reader))
-        (λ r. BeginsWith (R.remaining reader) (key_value r))) }
+        (λ r. BeginsWithFirst (R.remaining reader) (key_value r))) }
 {
     let mut texts: TextReader<R, Narrow> = TextReader::new(alloc, reader);
     texts.next()

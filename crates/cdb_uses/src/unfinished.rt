@@ -3,7 +3,7 @@ ghost use Rattle.std.specs.Prelude.{◌≡◌, ◌<◌, length};
 ghost use Rattle.cdb_store.specs.Images.{part};
 ghost use Rattle.cdb_form.specs.Format.Pair.{head_size};
 ghost use Rattle.cdb_make.specs.Unfinished.{unfinished_head};
-ghost use Rattle.cdb_uses.specs.Unfinished.{IsDamaged};
+ghost use Rattle.cdb_uses.specs.Unfinished.{IsUnfinishedDamaged};
 
 use cdb_form::Width;
 
@@ -13,5 +13,5 @@ use cdb_form::Width;
 pub fn unfinished_is_damaged<L: Width>(_bytes: &[u8], _key: &[u8])
     ensures { length _bytes.now < L.TOP
         → part 0 (head_size L.WORD) _bytes.now ≡ unfinished_head L.WORD
-        → IsDamaged L.WORD _bytes.now _key.now }
+        → IsUnfinishedDamaged L.WORD _bytes.now _key.now }
 {}

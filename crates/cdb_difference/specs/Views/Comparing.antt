@@ -25,19 +25,19 @@ LeftHas {s = s} w old new damage =
     (b : List ℕ) → s.image new.reader.now.store b → (left_in w b old).damage ≡ Some damage
 
 -- a finder's store failed, or what it had left has a damage
-abbrev pub LeftStops : {S L : Type 0} {s : Ghosts S} {l : Widths L} → ℕ → (old new : Finder S L s l)
+abbrev pub ComparingStops : {S L : Type 0} {s : Ghosts S} {l : Widths L} → ℕ → (old new : Finder S L s l)
     → ReadFault → Type 0
-LeftStops {s = s} w old new Device =
+ComparingStops {s = s} w old new Device =
     s.failures old.reader.now.store < s.failures new.reader.now.store
-LeftStops w old new (Table n) = LeftHas w old new (damage.Table n)
-LeftStops w old new (Record place) = LeftHas w old new (damage.Record place)
-LeftStops w old new fault = ⊥
+ComparingStops w old new (Table n) = LeftHas w old new (damage.Table n)
+ComparingStops w old new (Record place) = LeftHas w old new (damage.Record place)
+ComparingStops w old new fault = ⊥
 
 -- this happened at one of two finders
 abbrev pub ValuesStop : {S T L : Type 0} {s : Ghosts S} {t : Ghosts T} {l : Widths L} → ℕ
     → (own own_now : Finder S L s l) → (other other_now : Finder T L t l) → Stop → Type 0
-ValuesStop w own own_now other other_now (Own fault) = LeftStops w own own_now fault
-ValuesStop w own own_now other other_now (Other fault) = LeftStops w other other_now fault
+ValuesStop w own own_now other other_now (Own fault) = ComparingStops w own own_now fault
+ValuesStop w own own_now other other_now (Other fault) = ComparingStops w other other_now fault
 
 -- the other finder's next value wasn't given
 abbrev pub OtherStops : {T L : Type 0} {t : Ghosts T} {l : Widths L} → ℕ

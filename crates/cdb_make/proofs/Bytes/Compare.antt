@@ -8,7 +8,7 @@ use Rattle.cdb_store.specs.Reads.{OnlyReads}
 use Rattle.cdb_store.specs.declared.store.Store.{Ghosts}
 pub use Rattle.cdb_store.proofs.Compared.{AgreesSoFar, agrees_piece}
 use Rattle.cdb_store.proofs.Compared.{part_inner}
-use Rattle.cdb_make.specs.Looks.{NoNewImage, TellsSame}
+use Rattle.cdb_make.specs.Looks.{NoNewImage, TellsSameInImages}
 
 -- the two pieces that are compared
 compared : (n done : ℕ) (p piece key : List ℕ) → length p ≡ n → (take n (p ++ drop n piece) ≡ p) × (take ((done + n) - done) (drop done key) ≡ take n (drop done key))
@@ -31,7 +31,7 @@ agrees n done p piece key l h =
 pub reads_fewer : {S : Type 0} {s : Ghosts S} {old new : S} → OnlyReads s old new → NoNewImage (s.image old) (s.image new)
 reads_fewer r = record { no_other = r.images }
 
-pub tells_other : {at : ℕ} (done n : ℕ) (key : List ℕ) {p : List ℕ} {old new : List ℕ → Type 0} → done + n ≤ length key → length p ≡ n → AfterRead (at + done) p old new → p ≢ take n (drop done key) → TellsSame false at key new
+pub tells_other : {at : ℕ} (done n : ℕ) (key : List ℕ) {p : List ℕ} {old new : List ℕ → Type 0} → done + n ≤ length key → length p ≡ n → AfterRead (at + done) p old new → p ≢ take n (drop done key) → TellsSameInImages false at key new
 tells_other {at = at} done n key {p = p} inside l r other = record {
   each = λ b is. (λ e. cc, λ e. absurd (other (sym (r.read b is) ∙ ap (λ k. part (at + done) k b) l ∙ part_inner at done n key b inside e)));
 }

@@ -6,7 +6,7 @@ use Rattle.std.proofs.lemmas.List.{append-nil, drop-drop, drop-take, take-take, 
 use Rattle.std.proofs.lemmas.List.Concat.{flat_map-append}
 use Rattle.std.proofs.lemmas.List.Sums.{sum_by_push, sum_by-take-le}
 use Rattle.std.proofs.lemmas.Bool.{cases_lt, cond-true, le-leb}
-use Rattle.cdb_store.specs.Images.{part, Holds}
+use Rattle.cdb_store.specs.Images.{part, ImagesHold}
 use Rattle.cdb_store.proofs.Parts.{part_part}
 use Rattle.cdb_form.specs.Format.File.{whole_size}
 use Rattle.cdb_form.specs.Format.Record.{AreBytes, IsRecord, KeyValue, record_bytes, record_size}
@@ -147,7 +147,7 @@ next_within w bytes count place most size some are first last lt =
 
 -- and so its bytes are in a store that has theirs
 pub next_stored : {images : List ℕ → Type 0} (w end : ℕ) (bytes : List ℕ) (count place most size : ℕ) → 0 < w → AreBytes bytes → AreFirst w bytes count place → AreFirst w bytes most size → count < most
-    → Holds end (take size bytes) images → Holds (end + place) (record_bytes w (prefix_record w (drop place bytes))) images
+    → ImagesHold end (take size bytes) images → ImagesHold (end + place) (record_bytes w (prefix_record w (drop place bytes))) images
 next_stored w end bytes count place most size some are first last lt stored =
     let xs : List ℕ = drop place bytes in
     let n : ℕ = prefix_size w (drop place bytes) in

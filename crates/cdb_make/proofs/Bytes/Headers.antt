@@ -10,7 +10,7 @@ use Rattle.cdb_form.specs.Views.Pairs.{header_pair}
 use Rattle.cdb_form.specs.declared.header.Header.{Header}
 use Rattle.cdb_form.proofs.Bytes.WordLemmas.{pair_at-take}
 use Rattle.cdb_make.specs.declared.key_at.LookFault.TheVariants.{Foreign}
-use Rattle.cdb_make.specs.Looks.{key_at, size_at, NoNewImage, HasLengths, HoldAt, TellsSame, LooksAt}
+use Rattle.cdb_make.specs.Looks.{key_at, size_at, NoNewImage, HasLengthsInImages, HoldAt, TellsSameInImages, LooksAtImages}
 
 prefix_pair : (w n : ℕ) (xs : List ℕ) → n ≡ 2 * w → pair_at w (take n xs) ≡ pair_at w xs
 prefix_pair w n xs e =
@@ -18,7 +18,7 @@ prefix_pair w n xs e =
     ap (λ k. pair_at w (take k xs)) m ∙ pair_at-take w xs
 
 -- the header is that of the bytes read, which may be more
-pub has_lengths : {w p : ℕ} {bytes : List ℕ} {old new : List ℕ → Type 0} (h : Header) → 2 * w ≤ length bytes → header_pair h ≡ pair_at w (take (2 * w) bytes) → AfterRead p bytes old new → HasLengths w p h.klen h.vlen new
+pub has_lengths : {w p : ℕ} {bytes : List ℕ} {old new : List ℕ → Type 0} (h : Header) → 2 * w ≤ length bytes → header_pair h ≡ pair_at w (take (2 * w) bytes) → AfterRead p bytes old new → HasLengthsInImages w p h.klen h.vlen new
 unfolding size_at key_at
 has_lengths {w = w} {p = p} {bytes = bytes} h l e r =
     let front : (b : List ℕ) → _ → take (2 * w) (drop p b) ≡ take (2 * w) bytes = λ b is. sym (take-take (2 * w) (length bytes) (drop p b) l) ∙ ap (take (2 * w)) (r.read b is) in
@@ -47,7 +47,7 @@ held_from w n p bytes {at = at} same place h =
     let all : take (length bytes - n) (drop n bytes) ≡ drop n bytes = take_all (length bytes - n) (drop n bytes) (omega (arith, length-drop n bytes)) in
     record { each = λ b is. ap (λ v. part at (length v) b) all ∙ (ap (λ k. part at (length (drop k bytes)) b) same ∙ ap (λ k. part k (length (drop (2 * w) bytes)) b) place ∙ h.each b is ∙ ap (λ k. drop k bytes) (sym same)) ∙ sym all }
 
-pub fewer_lengths : {w p k v : ℕ} {old new : List ℕ → Type 0} → NoNewImage old new → HasLengths w p k v old → HasLengths w p k v new
+pub fewer_lengths : {w p k v : ℕ} {old new : List ℕ → Type 0} → NoNewImage old new → HasLengthsInImages w p k v old → HasLengthsInImages w p k v new
 fewer_lengths few h = record { size = λ b is. h.size b (few.no_other b is); key = λ b is. h.key b (few.no_other b is) }
 
 size_least : (w p : ℕ) (b : List ℕ) → 2 * w ≤ size_at w p b
@@ -63,15 +63,15 @@ unequal xs ys h =
     f (bytes_eq xs ys) d.0
 
 -- there is no room for a header before `end`
-pub no_header : (w p end : ℕ) (key : List ℕ) (images : List ℕ → Type 0) → end < p + 2 * w → LooksAt w p end key (Err Foreign) images
+pub no_header : (w p end : ℕ) (key : List ℕ) (images : List ℕ → Type 0) → end < p + 2 * w → LooksAtImages w p end key (Err Foreign) images
 no_header w p end key images lt = record { each = λ b is. let l : 2 * w ≤ size_at w p b = size_least w p b in omega arith }
 
 -- nor for the record
-pub no_room : {w p k v : ℕ} {images : List ℕ → Type 0} (end : ℕ) (key : List ℕ) → HasLengths w p k v images → end < p + (2 * w + k + v) → LooksAt w p end key (Err Foreign) images
+pub no_room : {w p k v : ℕ} {images : List ℕ → Type 0} (end : ℕ) (key : List ℕ) → HasLengthsInImages w p k v images → end < p + (2 * w + k + v) → LooksAtImages w p end key (Err Foreign) images
 no_room {w = w} {p = p} end key h lt = record { each = λ b is. omega (arith, h.size b is) }
 
 -- another length, another key
-pub other_length : {w p k v n : ℕ} {images : List ℕ → Type 0} (end : ℕ) (key : List ℕ) → AreSized n images → end ≤ n → HasLengths w p k v images → p + (2 * w + k + v) ≤ end → k ≢ length key → LooksAt w p end key (Ok None) images
+pub other_length : {w p k v n : ℕ} {images : List ℕ → Type 0} (end : ℕ) (key : List ℕ) → AreSized n images → end ≤ n → HasLengthsInImages w p k v images → p + (2 * w + k + v) ≤ end → k ≢ length key → LooksAtImages w p end key (Ok None) images
 other_length {w = w} {p = p} {k = k} end key sized inside h fits ne = record {
   each = λ b is.
       let l : length b ≡ _ = sized.each b is in (
@@ -83,7 +83,7 @@ other_length {w = w} {p = p} {k = k} end key sized inside h fits ne = record {
       );
 }
 
-pub other_key : {w p k v : ℕ} {images : List ℕ → Type 0} (place end : ℕ) (key : List ℕ) → place ≡ p + 2 * w → k ≡ length key → HasLengths w p k v images → p + (2 * w + k + v) ≤ end → TellsSame false place key images → LooksAt w p end key (Ok None) images
+pub other_key : {w p k v : ℕ} {images : List ℕ → Type 0} (place end : ℕ) (key : List ℕ) → place ≡ p + 2 * w → k ≡ length key → HasLengthsInImages w p k v images → p + (2 * w + k + v) ≤ end → TellsSameInImages false place key images → LooksAtImages w p end key (Ok None) images
 other_key {w = w} {p = p} {k = k} place end key at same h fits tells = record {
   each = λ b is. (
     omega (arith, h.size b is),
@@ -94,7 +94,7 @@ other_key {w = w} {p = p} {k = k} place end key at same h fits tells = record {
   );
 }
 
-pub same_key : {w p k v : ℕ} {images : List ℕ → Type 0} (place end n : ℕ) (key : List ℕ) → place ≡ p + 2 * w → n ≡ 2 * w + k + v → k ≡ length key → HasLengths w p k v images → p + (2 * w + k + v) ≤ end → TellsSame true place key images → LooksAt w p end key (Ok (Some n)) images
+pub same_key : {w p k v : ℕ} {images : List ℕ → Type 0} (place end n : ℕ) (key : List ℕ) → place ≡ p + 2 * w → n ≡ 2 * w + k + v → k ≡ length key → HasLengthsInImages w p k v images → p + (2 * w + k + v) ≤ end → TellsSameInImages true place key images → LooksAtImages w p end key (Ok (Some n)) images
 same_key {w = w} {p = p} {k = k} place end n key at size same h fits tells = record {
   each = λ b is. (
     omega (arith, h.size b is),

@@ -307,9 +307,9 @@ abbrev pub HasGone : {S L : Type 0} {s : Ghosts S} {l : Widths L} → Maker S L 
 HasGone m = (m.lazy ≡ true) × (0 < m.roll.gone.count)
 
 -- if none of its records went with a later pass, none does now
-abbrev pub KeepsAll : {S L : Type 0} {s : Ghosts S} {l : Widths L} → Maker S L s l
+abbrev pub MakerKeepsAll : {S L : Type 0} {s : Ghosts S} {l : Widths L} → Maker S L s l
     → Maker S L s l → Type 0
-KeepsAll old new = (HasGone old → ⊥) → HasGone new → ⊥
+MakerKeepsAll old new = (HasGone old → ⊥) → HasGone new → ⊥
 
 -- it is broken, since its store failed amid a pass, in such a case
 pub record IsTorn {S L : Type 0} {s : Ghosts S} {l : Widths L} (old new : Maker S L s l)

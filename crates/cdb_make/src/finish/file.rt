@@ -2,7 +2,7 @@
 ghost use Rattle.std.specs.Prelude.{◌≡◌, ℕ, ◌+◌, ◌-◌, ◌*◌, ◌<◌, ◌≤◌, ◌⊎◌, length, map, sum_by, All, Err};
 ghost use Rattle.std.specs.Prelude.{OnOk, IfErr, IsErrOf, flat_map};
 ghost use Rattle.cdb_store.specs.declared.store.StoreFault.TheVariants.{NoMemory as Refused};
-ghost use Rattle.cdb_store.specs.Images.{SameImages, KeepsPart, HasCause, Holds as AreIn};
+ghost use Rattle.cdb_store.specs.Images.{SameImages, KeepsPart, HasCause, ImagesHold as AreIn};
 ghost use Rattle.cdb_form.specs.Format.Pair.{head_size, pair_size};
 ghost use Rattle.cdb_make.specs.declared.fault.MakeFault.TheVariants.{NoMemory, Writing};
 ghost use Rattle.cdb_make.specs.Finished.{EndsWith, IsFinished, HeadIsLast};

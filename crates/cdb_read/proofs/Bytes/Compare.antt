@@ -2,7 +2,7 @@
 use Rattle.std.proofs.Common.{◌≡◌, ◌≢◌, ℕ, ◌+◌, ◌-◌, ◌≤◌, Bool, true, false, not, List, length, take, drop, refl, sym, ap, ◌∙◌, arith}
 use Rattle.std.specs.Prelude.{bytes_eq}
 use Rattle.std.proofs.lemmas.Slice.Eq.{bytes_eq-Decides}
-use Rattle.cdb_store.specs.Images.{part, Holds}
+use Rattle.cdb_store.specs.Images.{part, ImagesHold}
 pub use Rattle.cdb_store.proofs.Compared.{AgreesSoFar, part_inner, agrees_piece}
 use Rattle.cdb_read.specs.Views.Search.{TellsSame}
 
@@ -21,7 +21,7 @@ agrees n done p key h =
     let same : (v : Bool) → false ≡ not v → v ≡ true = λ v. elim v as (λ v. false ≡ not v → v ≡ true) [ true ↦ λ k. refl | false ↦ λ k. cc ] in
     (bytes_eq-Decides p (take ((done + n) - done) (drop done key))).0 (same (bytes_eq p (take ((done + n) - done) (drop done key))) h) ∙ key_piece n done key
 
-pub tells_other : {at : ℕ} (done n : ℕ) (key : List ℕ) {p : List ℕ} {images : List ℕ → Type 0} → done + n ≤ length key → length p ≡ n → Holds (at + done) p images → p ≢ take n (drop done key) → TellsSame false at key images
+pub tells_other : {at : ℕ} (done n : ℕ) (key : List ℕ) {p : List ℕ} {images : List ℕ → Type 0} → done + n ≤ length key → length p ≡ n → ImagesHold (at + done) p images → p ≢ take n (drop done key) → TellsSame false at key images
 tells_other {at = at} done n key {p = p} inside l held other = record {
   each = λ b is. (λ e. cc, λ e. absurd (other (sym (held.each b is) ∙ ap (λ k. part (at + done) k b) l ∙ part_inner at done n key b inside e)));
 }

@@ -1,6 +1,6 @@
 -- What a window shows.
 use Rattle.std.proofs.Common.{◌≡◌, ℕ, ◌+◌, ◌-◌, ◌≤◌, List, length, take, sym, ap, ◌∙◌, arith}
-use Rattle.cdb_store.specs.Images.{part, Holds}
+use Rattle.cdb_store.specs.Images.{part, ImagesHold}
 use Rattle.cdb_store.proofs.Parts.{part_part}
 use Rattle.cdb_read.specs.Views.Window.{Shows, Covers}
 use Rattle.cdb_read.specs.declared.window.Window.{Window}
@@ -17,7 +17,7 @@ shown_is window images place n shows covers b is =
     let one : part d n (take window.len window.bytes) ≡ part d n window.bytes = part_part 0 window.len d n window.bytes inside ∙ ap (λ k. part k n window.bytes) start in
     sym one ∙ ap (part d n) (sym (shows.each b is)) ∙ part_part window.place window.len d n b inside ∙ ap (λ q. part q n b) at
 
-pub holds_shown : {window : Window} {images : List ℕ → Type 0} {place n : ℕ} {bytes : List ℕ} → Shows window images → Covers window place n → bytes ≡ part (place - window.place) n window.bytes → length bytes ≡ n → Holds place bytes images
+pub holds_shown : {window : Window} {images : List ℕ → Type 0} {place n : ℕ} {bytes : List ℕ} → Shows window images → Covers window place n → bytes ≡ part (place - window.place) n window.bytes → length bytes ≡ n → ImagesHold place bytes images
 holds_shown {window = window} {images = images} {place = place} {n = n} {bytes = bytes} shows covers e long = record {
   each = λ b is. ap (λ k. part place k b) long ∙ sym (shown_is window images place n shows covers b is) ∙ sym e;
 }

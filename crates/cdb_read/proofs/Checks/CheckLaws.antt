@@ -17,7 +17,7 @@ use Rattle.cdb_form.specs.declared.head.Pointer.{Pointer}
 use Rattle.cdb_read.specs.Faults.{first_of, first_fault, table_fault, lost_fault, entry_fault, slots_fault}
 use Rattle.cdb_read.specs.Sound.{IsSound, all_slots, walk_entries}
 use Rattle.cdb_read.specs.Statistics.{is_outside}
-use Rattle.cdb_read.specs.Views.Check.{IsFirst}
+use Rattle.cdb_read.specs.Views.Check.{IsFirstDamage}
 use Rattle.cdb_read.specs.Views.Checked.{HasEntries, WalkHas, TablesAreClear, TablesHave}
 use Rattle.cdb_read.specs.Views.Inside.{StandsInside}
 use Rattle.cdb_read.specs.Views.RecordLists.{ListsMark}
@@ -77,7 +77,7 @@ has_tables {w = w} ps long many known size seen inside = record {
 }
 
 -- a fault, or none, by the parts of a file in turn
-pub first_is_table : (w n : ℕ) (b : List ℕ) (ps : List Pointer) → IsWhole w b ps → Some n ≡ position (is_outside w b) (map pointer_pair ps) → IsFirst w b (Table n)
+pub first_is_table : (w n : ℕ) (b : List ℕ) (ps : List Pointer) → IsWhole w b ps → Some n ≡ position (is_outside w b) (map pointer_pair ps) → IsFirstDamage w b (Table n)
 first_is_table w n b ps whole is =
     first_fault-whole w b whole.head
     ∙ ap (λ x. option_or x (option_or (walk_of w b).damage (option_or (first_of (slots_fault w b (walk_entries w b)) (range_with_len 0 256)) (first_of (entry_fault w b) (walk_entries w b))))) (table_first w n b ps whole.many whole.known (sym is))
@@ -88,7 +88,7 @@ behind_tables w b ps tables =
     first_fault-whole w b tables.whole.head
     ∙ ap (λ x. option_or x (option_or (walk_of w b).damage (option_or (first_of (slots_fault w b (walk_entries w b)) (range_with_len 0 256)) (first_of (entry_fault w b) (walk_entries w b))))) (tables_inside w b ps tables.whole.many tables.whole.known tables.inside)
 
-pub first_in_walk : (w : ℕ) (b : List ℕ) (ps : List Pointer) (d : Damage) → HasTables w b ps → WalkHas w b d → IsFirst w b d
+pub first_in_walk : (w : ℕ) (b : List ℕ) (ps : List Pointer) (d : Damage) → HasTables w b ps → WalkHas w b d → IsFirstDamage w b d
 first_in_walk w b ps d tables has =
     behind_tables w b ps tables
     ∙ ap (λ x. option_or x (option_or (first_of (slots_fault w b (walk_entries w b)) (range_with_len 0 256)) (first_of (entry_fault w b) (walk_entries w b)))) has
@@ -99,7 +99,7 @@ behind_walk w b ps kept tables has =
     behind_tables w b ps tables
     ∙ ap (λ x. option_or x (option_or (first_of (slots_fault w b (walk_entries w b)) (range_with_len 0 256)) (first_of (entry_fault w b) (walk_entries w b)))) has.whole
 
-pub first_in_slots : (w : ℕ) (b : List ℕ) (ps : List Pointer) (kept : List TableRecords) (d : Damage) → HasTables w b ps → HasEntries w b kept → TablesHave w kept b d → IsFirst w b d
+pub first_in_slots : (w : ℕ) (b : List ℕ) (ps : List Pointer) (kept : List TableRecords) (d : Damage) → HasTables w b ps → HasEntries w b kept → TablesHave w kept b d → IsFirstDamage w b d
 first_in_slots w b ps kept d tables has slots =
     behind_walk w b ps kept tables has
     ∙ ap (λ x. option_or x (first_of (entry_fault w b) (walk_entries w b))) (slots (walk_entries w b) has.marks)
@@ -112,7 +112,7 @@ behind_slots w b ps kept marked lost tables has clear unmarked =
     ∙ sym (unmarked (walk_entries w b) (all_slots w b) (clear.marks (walk_entries w b) has.marks))
 
 pub first_is_lost : (w place : ℕ) (b : List ℕ) (ps : List Pointer) (kept marked : List TableRecords) (lost : Option ℕ) → lost ≡ Some place → HasTables w b ps → HasEntries w b kept → TablesAreClear w b kept marked
-    → ((entries slots : List WordPair) → ListsMark marked entries slots → option_map (λ place. Unindexed place) lost ≡ first_of (lost_fault slots) entries) → IsFirst w b (Unindexed place)
+    → ((entries slots : List WordPair) → ListsMark marked entries slots → option_map (λ place. Unindexed place) lost ≡ first_of (lost_fault slots) entries) → IsFirstDamage w b (Unindexed place)
 first_is_lost w place b ps kept marked lost e tables has clear unmarked =
     behind_slots w b ps kept marked lost tables has clear unmarked ∙ ap (option_map (λ place. Unindexed place)) e
 

@@ -5,7 +5,7 @@ use Rattle.std.proofs.lemmas.Bool.{le-leb, leb-true, and_from, cases_Bool, cases
 use Rattle.std.specs.Bool.{Decides}
 use Rattle.std.proofs.lemmas.List.{drop-drop}
 use Rattle.std.proofs.lemmas.Slice.Eq.{bytes_eq-Decides}
-use Rattle.cdb_store.specs.Images.{part, Holds}
+use Rattle.cdb_store.specs.Images.{part, ImagesHold}
 use Rattle.cdb_store.proofs.Parts.{length-part}
 use Rattle.cdb_form.specs.Format.Pair.{WordPair, head_size}
 use Rattle.cdb_form.specs.Format.Reading.{pair_at}
@@ -37,10 +37,10 @@ prefix_pair w n xs e =
     ap (λ k. pair_at w (take k xs)) m ∙ pair_at-take w xs
 
 -- the pair that was read at a place
-pub pair_read : {bytes : List ℕ} {images : List ℕ → Type 0} (w at : ℕ) (p : WordPair) → length bytes ≡ 2 * w → p ≡ pair_at w bytes → Holds at bytes images → (b : List ℕ) → images b → pair_at w (drop at b) ≡ p
+pub pair_read : {bytes : List ℕ} {images : List ℕ → Type 0} (w at : ℕ) (p : WordPair) → length bytes ≡ 2 * w → p ≡ pair_at w bytes → ImagesHold at bytes images → (b : List ℕ) → images b → pair_at w (drop at b) ≡ p
 pair_read {bytes = bytes} w at p l e held b is = sym (prefix_pair w (length bytes) (drop at b) l) ∙ ap (pair_at w) (held.each b is) ∙ sym e
 
-pub has_lengths : {w p n : ℕ} {bytes : List ℕ} {images : List ℕ → Type 0} (h : Header) → length bytes ≡ 2 * w → header_pair h ≡ pair_at w bytes → Holds p bytes images → ((b : List ℕ) → images b → length b ≡ n) → HasLengths w p h.klen h.vlen n images
+pub has_lengths : {w p n : ℕ} {bytes : List ℕ} {images : List ℕ → Type 0} (h : Header) → length bytes ≡ 2 * w → header_pair h ≡ pair_at w bytes → ImagesHold p bytes images → ((b : List ℕ) → images b → length b ≡ n) → HasLengths w p h.klen h.vlen n images
 has_lengths {w = w} {p = p} {bytes = bytes} h l e r long =
     let same : (b : List ℕ) → _ → pair_at w (drop p b) ≡ header_pair h = pair_read w p (header_pair h) l e r in
     record {

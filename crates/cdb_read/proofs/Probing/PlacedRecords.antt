@@ -3,7 +3,7 @@ use Rattle.std.proofs.Common.{◌≡◌, ℕ, ◌+◌, ◌-◌, ◌*◌, ◌<◌
 use Rattle.std.proofs.lemmas.List.{take-append-drop, drop-drop}
 use Rattle.std.proofs.lemmas.Bool.{cases_lt}
 use Rattle.std.proofs.Math.Nat.{le-min, min-le_left, min-le_right}
-use Rattle.cdb_store.specs.Images.{part, Holds}
+use Rattle.cdb_store.specs.Images.{part, ImagesHold}
 use Rattle.cdb_store.proofs.Parts.{length-part}
 use Rattle.cdb_form.specs.Format.Pair.{WordPair}
 use Rattle.cdb_form.specs.Format.Reading.{pair_at}
@@ -25,7 +25,7 @@ pub record HeaderTells (w p n : ℕ) (lengths : WordPair) (images : List ℕ →
   pub told : (b : List ℕ) → images b → pair_at w (drop p b) ≡ lengths
   pub long : (b : List ℕ) → images b → length b ≡ n
 
-pub header_tells : {w p n : ℕ} {bytes : List ℕ} {images : List ℕ → Type 0} (h : Header) → length bytes ≡ 2 * w → header_pair h ≡ pair_at w bytes → Holds p bytes images → ((b : List ℕ) → images b → length b ≡ n) → HeaderTells w p n (header_pair h) images
+pub header_tells : {w p n : ℕ} {bytes : List ℕ} {images : List ℕ → Type 0} (h : Header) → length bytes ≡ 2 * w → header_pair h ≡ pair_at w bytes → ImagesHold p bytes images → ((b : List ℕ) → images b → length b ≡ n) → HeaderTells w p n (header_pair h) images
 header_tells {w = w} {p = p} {bytes = bytes} h l e held long = record {
   told = pair_read w p (header_pair h) l e held;
   long = long;

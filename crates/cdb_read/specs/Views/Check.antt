@@ -34,9 +34,9 @@ CheckTells s known old new NoMemory = Unit {0}
 CheckTells s known old new fault = ReadTells s known old new fault
 
 -- a damage is the first fault of a file
-abbrev pub IsFirst : ℕ → List ℕ → Damage → Type 0
-IsFirst w b d = first_fault w b ≡ Some d
+abbrev pub IsFirstDamage : ℕ → List ℕ → Damage → Type 0
+IsFirstDamage w b d = first_fault w b ≡ Some d
 
 -- why a file isn't sound, or wasn't checked: its first fault, memory, or the store
 abbrev pub CheckFails : {S : Type 0} → ℕ → Ghosts S → (old new : S) → ReadFault → Type 0
-CheckFails w s old new fault = CheckTells s (IsFirst w) old new fault
+CheckFails w s old new fault = CheckTells s (IsFirstDamage w) old new fault

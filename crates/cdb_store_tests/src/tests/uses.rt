@@ -1,7 +1,7 @@
 // Uses of a store, as a caller writes them. `CALLING.md` shows the first.
 ghost use Rattle.std.specs.Prelude.{◌≡◌, ◌+◌, ◌<◌, ◌≤◌, ◌^◌, ℕ, List, length, OnOk, IfOk, IsErrOf};
 ghost use Rattle.cdb_store.specs.declared.store.StoreFault.TheVariants.{NoMemory};
-ghost use Rattle.cdb_store.specs.Images.{SameImages, Holds};
+ghost use Rattle.cdb_store.specs.Images.{SameImages, ImagesHold};
 ghost use Rattle.cdb_store.specs.Laws.{StaysHeld};
 
 use super::support::buffered::buffered;
@@ -13,7 +13,7 @@ use std::test::Fail;
 /// Whatever the answer, what the store held it still holds.
 fn append<S: Store>(store: &mut S, bytes: &[u8]) -> Result<u64, StoreFault>
     requires { S.size store.old + length bytes.now < 2 ^ 63 }
-    ensures appended { IfOk result (λ pos. Holds pos bytes.now (S.image store.new)) }
+    ensures appended { IfOk result (λ pos. ImagesHold pos bytes.now (S.image store.new)) }
     ensures kept { (pos : ℕ) (held : List ℕ) → pos + length held ≤ S.size store.old
         → StaysHeld pos held (S.image store.old) (S.image store.new) }
     ensures counted { OnOk result (S.written store.new ≡ S.written store.old + length bytes.now) }
@@ -27,7 +27,7 @@ fn append<S: Store>(store: &mut S, bytes: &[u8]) -> Result<u64, StoreFault>
 /// Writes some bytes at the end, so that a loss of power does not take them.
 fn append_for_good<S: Store>(store: &mut S, bytes: &[u8]) -> Result<u64, StoreFault>
     requires { S.size store.old + length bytes.now < 2 ^ 63 }
-    ensures appended { IfOk result (λ pos. Holds pos bytes.now (S.image store.new)) }
+    ensures appended { IfOk result (λ pos. ImagesHold pos bytes.now (S.image store.new)) }
     ensures settled { OnOk result (S.settled store.new) }
 {
     let pos = append(store, bytes)?;

@@ -6,8 +6,8 @@ use Rattle.cdb_store.specs.declared.store.Store.{Ghosts}
 use Rattle.cdb_store.specs.Reads.{OnlyReads}
 use Rattle.cdb_form.specs.Format.Pair.{head_size}
 use Rattle.cdb_form.specs.declared.damage.Damage.TheVariants as damage
-pub use Rattle.cdb_difference.specs.Difference.{HasDamage, InBoth, IsDamaged, WritesDifference}
-pub use Rattle.cdb_difference.specs.Difference.{WritesPrefix, difference_of}
+pub use Rattle.cdb_difference.specs.Difference.{HasDamage, InBoth, IsOneDamaged, WritesDifference}
+pub use Rattle.cdb_difference.specs.Difference.{WritesDifferencePrefix, difference_of}
 use Rattle.cdb_read.specs.OtherWidth.{lacks_tables}
 use Rattle.cdb_read.specs.declared.fault.ReadFault.{ReadFault}
 use Rattle.cdb_read.specs.declared.fault.ReadFault.TheVariants as read
@@ -16,50 +16,50 @@ use Rattle.cdb_tool.specs.declared.fault.Fault.TheVariants.{Old, New, Output, No
 use Rattle.cdb_tool.specs.declared.fault.Fault.TheVariants.{NoOldTables, NoNewTables}
 
 -- a file has no head, and was not read: nothing was written
-pub record IsShort {S : Type 0} (w : ℕ) (s : Ghosts S) (old new : S)
+pub record IsShortForDifference {S : Type 0} (w : ℕ) (s : Ghosts S) (old new : S)
     (start end : Option (List ℕ)) : Type 0 where
   pub short : s.size old < head_size w
   pub unread : new ≡ old
   pub kept : Keeps start end
 
 -- why one of the two was not read
-abbrev pub NotRead : {S T : Type 0} → ℕ → Ghosts S → Ghosts T → (old new : S) → (beside : T)
+abbrev pub DifferenceNotRead : {S T : Type 0} → ℕ → Ghosts S → Ghosts T → (old new : S) → (beside : T)
     → (start end : Option (List ℕ)) → ReadFault → Type 0
-NotRead w s t old new beside start end read.Short = IsShort w s old new start end
-NotRead w s t old new beside start end read.Device = s.failures old < s.failures new
-NotRead w s t old new beside start end (read.Table n) = IsDamaged w s t new beside (damage.Table n)
-NotRead w s t old new beside start end (read.Record place) =
-    IsDamaged w s t new beside (damage.Record place)
-NotRead w s t old new beside start end fault = ⊥
+DifferenceNotRead w s t old new beside start end read.Short = IsShortForDifference w s old new start end
+DifferenceNotRead w s t old new beside start end read.Device = s.failures old < s.failures new
+DifferenceNotRead w s t old new beside start end (read.Table n) = IsOneDamaged w s t new beside (damage.Table n)
+DifferenceNotRead w s t old new beside start end (read.Record place) =
+    IsOneDamaged w s t new beside (damage.Record place)
+DifferenceNotRead w s t old new beside start end fault = ⊥
 
 -- whether each image of a store lacks tables
-abbrev pub Lacks : {S : Type 0} → ℕ → Ghosts S → S → Bool → Type 0
-Lacks w s store lacks = (b : List ℕ) → s.image store b → lacks_tables w b ≡ lacks
+abbrev pub DifferenceLacks : {S : Type 0} → ℕ → Ghosts S → S → Bool → Type 0
+DifferenceLacks w s store lacks = (b : List ℕ) → s.image store b → lacks_tables w b ≡ lacks
 
 -- one of the two lacks tables, and nothing was written
 pub record LacksTables {S : Type 0} (w : ℕ) (s : Ghosts S) (now : S) (start end : Option (List ℕ))
     : Type 0 where
-  pub lacks : Lacks w s now true
+  pub lacks : DifferenceLacks w s now true
   pub kept : Keeps start end
 
 abbrev pub DifferenceFails : {S T : Type 0} → ℕ → Ghosts S → Ghosts T → (old old_now : S)
     → (new new_now : T) → (start end : Option (List ℕ)) → Fault → Type 0
 DifferenceFails w s t old old_now new new_now start end (Old fault) =
-    NotRead w s t old old_now new_now start end fault
+    DifferenceNotRead w s t old old_now new_now start end fault
 DifferenceFails w s t old old_now new new_now start end (New fault) =
-    NotRead w t s new new_now old_now start end fault
+    DifferenceNotRead w t s new new_now old_now start end fault
 DifferenceFails w s t old old_now new new_now start end Output = ⊤
 DifferenceFails w s t old old_now new new_now start end NoMemory = ⊤
 DifferenceFails w s t old old_now new new_now start end NoOldTables = LacksTables w s old_now start end
 DifferenceFails w s t old old_now new new_now start end NoNewTables =
-    Lacks w s old_now false × LacksTables w t new_now start end
+    DifferenceLacks w s old_now false × LacksTables w t new_now start end
 DifferenceFails w s t old old_now new new_now start end fault = ⊥
 
 -- both have tables, or end with their heads
 pub record HaveTables {S T : Type 0} (w : ℕ) (s : Ghosts S) (t : Ghosts T) (old : S) (new : T)
     : Type 0 where
-  pub of_old : Lacks w s old false
-  pub of_new : Lacks w t new false
+  pub of_old : DifferenceLacks w s old false
+  pub of_new : DifferenceLacks w t new false
 
 -- whether a fault comes only after both heads were looked at
 abbrev pub is_in_records : ReadFault → Bool
@@ -85,4 +85,4 @@ pub record TellsDifference {S T : Type 0} (w : ℕ) (s : Ghosts S) (t : Ghosts T
   pub err_tables : IfErr result (λ fault.
       comes_after_heads fault ≡ true → HaveTables w s t old_now new_now)
   pub front : IfErr result (λ fault.
-      InBoth s t old_now new_now (λ b c. WritesPrefix w b c start end))
+      InBoth s t old_now new_now (λ b c. WritesDifferencePrefix w b c start end))

@@ -82,9 +82,9 @@ abbrev pub IsInput : Style → ℕ → List KeyValue → (input rest : List ℕ)
 IsInput Native greatest records input rest = Reads greatest records input rest
 IsInput Map greatest records input rest = (map_lines input ≡ records) × (rest ≡ [])
 
-abbrev pub BeginsWith : Style → ℕ → List KeyValue → List ℕ → Type 0
-BeginsWith Native greatest records input = (rest : List ℕ) × Spelled greatest records input rest
-BeginsWith Map greatest records input =
+abbrev pub InputsBeginWith : Style → ℕ → List KeyValue → List ℕ → Type 0
+InputsBeginWith Native greatest records input = (rest : List ℕ) × Spelled greatest records input rest
+InputsBeginWith Map greatest records input =
     (more : List KeyValue) × (map_lines input ≡ records ++ more)
 
 -- a part of a text ends amid what follows these records
@@ -126,7 +126,7 @@ IsInputOf Lists greatest items input rest =
 
 abbrev pub BeginsWithItems : InputForm → ℕ → List Change → List ℕ → Type 0
 BeginsWithItems (Puts style) greatest items input =
-    ArePuts items (λ records. BeginsWith style greatest records input)
+    ArePuts items (λ records. InputsBeginWith style greatest records input)
 BeginsWithItems Changes greatest items input =
     (rest : List ℕ) × SpelledChanges greatest items input rest
 BeginsWithItems Lists greatest items input =
@@ -172,7 +172,7 @@ ReadsOne form greatest items (Own input) old new =
 ReadsOne form greatest items Shared old new = FromTo old new (IsInputOf form greatest items)
 
 -- the first one was
-pub record ReadsFirst (form : InputForm) (greatest : ℕ) (items : List Change)
+pub record ReadsFirstInputs (form : InputForm) (greatest : ℕ) (items : List Change)
     (old new : InputsLeft) : Type 0 where
   pub one : OneInput
   pub first : old.each ≡ one ∷ new.each
@@ -182,7 +182,7 @@ pub record ReadsFirst (form : InputForm) (greatest : ℕ) (items : List Change)
 abbrev pub AreInputs : InputForm → ℕ → List (List Change) → (inputs rest : InputsLeft) → Type 0
 AreInputs form greatest [] inputs rest = inputs ≡ rest
 AreInputs form greatest (items ∷ read) inputs rest = (next : InputsLeft)
-    × ReadsFirst form greatest items inputs next × AreInputs form greatest read next rest
+    × ReadsFirstInputs form greatest items inputs next × AreInputs form greatest read next rest
 
 -- all inputs are texts of these items
 pub record AreAllInputs (form : InputForm) (greatest : ℕ) (read : List (List Change))

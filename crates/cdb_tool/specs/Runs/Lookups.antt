@@ -19,7 +19,7 @@ use Rattle.cdb_tool.specs.Runs.Inputs.{InputForm, InputsLeft, AreAllInputs, AreI
 use Rattle.cdb_tool.specs.Runs.Inputs.{FirstHas, BeginsWithItems, HasFaults, HasItemFault, keys_form, keys_of}
 use Rattle.cdb_tool.specs.Runs.Inputs.{keys_of_each}
 use Rattle.cdb_tool.specs.Runs.LookedUp.{looked_up}
-use Rattle.cdb_tool.specs.Runs.Query.{IsShort}
+use Rattle.cdb_tool.specs.Runs.Query.{IsShortForQuery}
 use Rattle.cdb_tool.specs.declared.fault.Fault.{Fault}
 use Rattle.cdb_tool.specs.declared.fault.Fault.TheVariants.{Text, Missing, Read, Output, NoMemory}
 
@@ -46,25 +46,25 @@ HasLooked w s number style keys store start end missing =
 
 -- how it stopped in these keys: by a damage that the last one meets; or the store or the writer
 -- failed, and a prefix of their text was appended; or behind them
-abbrev pub StopsAt : {S : Type 0} → ℕ → Ghosts S → Option ℕ → Style → List (List ℕ) → (old new : S)
+abbrev pub LookupsStopAt : {S : Type 0} → ℕ → Ghosts S → Option ℕ → Style → List (List ℕ) → (old new : S)
     → (start end : Option (List ℕ)) → Fault → Type 0
-StopsAt w s number style keys old new start end (Read (read.Table n)) =
+LookupsStopAt w s number style keys old new start end (Read (read.Table n)) =
     ComesTo w s number style keys new start end (Err (Read (read.Table n)))
-StopsAt w s number style keys old new start end (Read (read.Record place)) =
+LookupsStopAt w s number style keys old new start end (Read (read.Record place)) =
     ComesTo w s number style keys new start end (Err (Read (read.Record place)))
-StopsAt w s number style keys old new start end (Read read.Device) =
+LookupsStopAt w s number style keys old new start end (Read read.Device) =
     (s.failures old < s.failures new)
     × ((b : List ℕ) → s.image new b
     → AppendsPrefix start end (looked_up w b number style keys).text)
-StopsAt w s number style keys old new start end Output =
+LookupsStopAt w s number style keys old new start end Output =
     (head_size w ≤ s.size new)
     × ((b : List ℕ) → s.image new b
     → AppendsPrefix start end (looked_up w b number style keys).text)
-StopsAt w s number style keys old new start end NoMemory =
+LookupsStopAt w s number style keys old new start end NoMemory =
     (missing : Bool) × HasLooked w s number style keys new start end missing
-StopsAt w s number style keys old new start end (Text input fault) =
+LookupsStopAt w s number style keys old new start end (Text input fault) =
     (missing : Bool) × HasLooked w s number style keys new start end missing
-StopsAt w s number style keys old new start end fault = ⊥
+LookupsStopAt w s number style keys old new start end fault = ⊥
 
 -- ---- the inputs that give them
 
@@ -77,12 +77,12 @@ pub record FaultOf (form : InputForm) (greatest : ℕ) (last : List Change) (byt
   pub memory : f ≢ text_fault.NoMemory
 
 -- it stopped in an input with these bytes, of this number, behind these items
-pub record StopsIn {S : Type 0} (w greatest : ℕ) (s : Ghosts S) (number : Option ℕ) (style : Style)
+pub record LookupsStopIn {S : Type 0} (w greatest : ℕ) (s : Ghosts S) (number : Option ℕ) (style : Style)
     (form : InputForm) (input : ℕ) (before : List (List ℕ)) (bytes : Option (List ℕ)) (old new : S)
     (start end : Option (List ℕ)) (fault : Fault) : Type 0 where
   pub last : List Change
   pub begins : IfSome bytes (BeginsWithItems form greatest last)
-  pub stops : StopsAt w s number style (before ++ keys_of last) old new start end fault
+  pub stops : LookupsStopAt w s number style (before ++ keys_of last) old new start end fault
   pub of_text : (n : ℕ) (f : TextFault) → fault ≡ Text n f
       → (n ≡ input) × FaultOf form greatest last bytes f
 
@@ -94,7 +94,7 @@ pub record HasFaultIn (form : InputForm) (greatest : ℕ) (last : List Change) (
   pub has : FaultOf form greatest last input f
 
 -- in one of the inputs, behind these of them
-pub record Stops {S : Type 0} (w greatest : ℕ) (s : Ghosts S) (number : Option ℕ) (style : Style)
+pub record LookupsStop {S : Type 0} (w greatest : ℕ) (s : Ghosts S) (number : Option ℕ) (style : Style)
     (inputs : InputsLeft) (old new : S) (start end : Option (List ℕ)) (fault : Fault) : Type 0
   where
     pub read : List (List Change)
@@ -102,7 +102,7 @@ pub record Stops {S : Type 0} (w greatest : ℕ) (s : Ghosts S) (number : Option
     pub rest : InputsLeft
     pub are : AreInputs (keys_form style) greatest read inputs rest
     pub begins : FirstBegins (keys_form style) greatest last rest
-    pub stops : StopsAt w s number style (keys_of_each read ++ keys_of last) old new start end fault
+    pub stops : LookupsStopAt w s number style (keys_of_each read ++ keys_of last) old new start end fault
     pub of_text : (n : ℕ) (f : TextFault) → fault ≡ Text n f
         → (n ≡ length read + 1) × HasFaultIn (keys_form style) greatest last rest f
 
@@ -120,26 +120,26 @@ pub record LooksUpAll {S : Type 0} (w greatest : ℕ) (s : Ghosts S) (number : O
 
 -- what a fault leaves: nothing of a store without a head; if the writer failed, a prefix of the text of
 -- the keys so far, or of all and of what ends it
-abbrev pub Fails : {S : Type 0} → ℕ → ℕ → Ghosts S → Option ℕ → Style → InputsLeft → (old new : S)
+abbrev pub LookupsFail : {S : Type 0} → ℕ → ℕ → Ghosts S → Option ℕ → Style → InputsLeft → (old new : S)
     → (start end : Option (List ℕ)) → Fault → Type 0
-Fails w greatest s number style inputs old new start end (Read read.Short) =
-    IsShort w s old new start end
-Fails w greatest s number style inputs old new start end Output =
-    Stops w greatest s number style inputs old new start end Output
+LookupsFail w greatest s number style inputs old new start end (Read read.Short) =
+    IsShortForQuery w s old new start end
+LookupsFail w greatest s number style inputs old new start end Output =
+    LookupsStop w greatest s number style inputs old new start end Output
     ⊎ ((missing : Bool)
     × LooksUpAll w greatest s number style inputs new missing (AppendsPrefix start end))
-Fails w greatest s number style inputs old new start end fault =
-    Stops w greatest s number style inputs old new start end fault
+LookupsFail w greatest s number style inputs old new start end fault =
+    LookupsStop w greatest s number style inputs old new start end fault
 
 -- what the run leaves before its writer is flushed
-pub record Leaves {S : Type 0} (w greatest : ℕ) (s : Ghosts S) (number : Option ℕ) (style : Style)
+pub record LookupsLeave {S : Type 0} (w greatest : ℕ) (s : Ghosts S) (number : Option ℕ) (style : Style)
     (inputs : InputsLeft) (old new : S) (start end : Option (List ℕ)) (result : Result Unit Fault)
     : Type 0 where
   pub reads : OnlyReads s old new
   pub all : (missing : Bool) → result ≡ missing_answer missing
       → LooksUpAll w greatest s number style inputs new missing (Appends start end)
   pub fails : (fault : Fault) → result ≡ Err fault → fault ≢ Missing
-      → Fails w greatest s number style inputs old new start end fault
+      → LookupsFail w greatest s number style inputs old new start end fault
 
 -- and then
 pub record LooksUp {S : Type 0} (w greatest : ℕ) (s : Ghosts S) (number : Option ℕ) (style : Style)
@@ -147,5 +147,5 @@ pub record LooksUp {S : Type 0} (w greatest : ℕ) (s : Ghosts S) (number : Opti
     : Type 0 where
   pub mid : Option (List ℕ)
   pub answer : Result Unit Fault
-  pub leaves : Leaves w greatest s number style inputs old new start mid answer
+  pub leaves : LookupsLeave w greatest s number style inputs old new start mid answer
   pub flushed : FlushedWhole mid end answer result

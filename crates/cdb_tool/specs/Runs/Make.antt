@@ -64,9 +64,9 @@ HandsBack s (Some old) (Some new) = OnlyReads s old new
 HandsBack s old new = ⊥
 
 -- its store has failed
-abbrev pub HasFailed : {B : Type 0} → Ghosts B → Option B → Option B → Type 0
-HasFailed s (Some old) (Some new) = s.failures old < s.failures new
-HasFailed s old new = ⊥
+abbrev pub BaseHasFailed : {B : Type 0} → Ghosts B → Option B → Option B → Type 0
+BaseHasFailed s (Some old) (Some new) = s.failures old < s.failures new
+BaseHasFailed s old new = ⊥
 
 -- ---- the inputs
 
@@ -102,7 +102,7 @@ pub record MeetsInput (w greatest : ℕ) (t : Task) (inputs : InputsLeft)
   pub goes : Goes w t (came read last) old new
 
 -- inputs were read, of the last one these items, and then the run stopped
-pub record Stops (w greatest : ℕ) (t : Task) (inputs : InputsLeft)
+pub record MakeStops (w greatest : ℕ) (t : Task) (inputs : InputsLeft)
     (old new : Option (List ℕ)) (fault : Fault) : Type 0 where
   pub read : List (List Change)
   pub last : List Change
@@ -116,7 +116,7 @@ abbrev pub InputsFail : ℕ → ℕ → Task → InputsLeft → Option (List ℕ
     → Type 0
 InputsFail w greatest t inputs old new (Text number fault) =
     MeetsInput w greatest t inputs old new number fault
-InputsFail w greatest t inputs old new fault = Stops w greatest t inputs old new fault
+InputsFail w greatest t inputs old new fault = MakeStops w greatest t inputs old new fault
 
 -- ---- the run
 
@@ -144,7 +144,7 @@ RunFails w greatest o base inputs old new fault =
     BaseStops w o.limit base old new fault ⊎ InputsStop w greatest o base inputs old new fault
 
 -- what a run leaves, where its store has an image
-pub record Runs (w greatest : ℕ) (o : MakeOptions) (base : Option (List ℕ))
+pub record MakeRuns (w greatest : ℕ) (o : MakeOptions) (base : Option (List ℕ))
     (inputs : InputsLeft) (images : List ℕ → Type 0) (old new : Option (List ℕ))
     (result : Result Unit Fault) : Type 0 where
   pub ok : OnOk result (Makes w greatest o base inputs images old new)
@@ -175,7 +175,7 @@ PutsItems o number last before now old new =
 
 -- a maker is where a run came to: it counts its records and, unless it is broken, holds them; and
 -- the lines are those of the same items
-pub record StandsAt {S L : Type 0} {s : Ghosts S} {l : Widths L} (t : Task) (cs : List Incoming)
+pub record MakeStandsAt {S L : Type 0} {s : Ghosts S} {l : Widths L} (t : Task) (cs : List Incoming)
     (old new : Option (List ℕ)) (m : Maker S L s l) : Type 0 where
   pub holds : IsUsable m → Holds m (course_of l.WORD t cs).records
   pub count : WhereHonest (s.image m.store)
@@ -188,7 +188,7 @@ pub record StandsIn {S L : Type 0} {s : Ghosts S} {l : Widths L} (form : InputFo
     : Type 0 where
   pub last : List Change
   pub begins : IfSome input (BeginsWithItems form greatest last)
-  pub stands : StandsAt t (came read last) old new m
+  pub stands : MakeStandsAt t (came read last) old new m
 
 -- and behind the items of some inputs, and these of the next one
 pub record Stands {S L : Type 0} {s : Ghosts S} {l : Widths L} (form : InputForm) (greatest : ℕ)
@@ -199,7 +199,7 @@ pub record Stands {S L : Type 0} {s : Ghosts S} {l : Widths L} (form : InputForm
   pub rest : InputsLeft
   pub are : AreInputs form greatest read inputs rest
   pub begins : FirstBegins form greatest last rest
-  pub stands : StandsAt t (came read last) old new m
+  pub stands : MakeStandsAt t (came read last) old new m
 
 -- the fault is one of the store or of memory, which no item brings
 abbrev pub IsHalt : Fault → Type 0
@@ -219,7 +219,7 @@ PutStops w t cs c old new fault =
     StopsSo w t cs old new fault ⊎ StopsSo w t (cs ++ c ∷ []) old new fault
 
 -- how it stopped in an input of which these items are whole
-pub record StopsIn (w greatest : ℕ) (t : Task) (read : List (List Change))
+pub record MakeStopsIn (w greatest : ℕ) (t : Task) (read : List (List Change))
     (input old new : Option (List ℕ)) (fault : Fault) : Type 0 where
   pub last : List Change
   pub begins : IfSome input (BeginsWithItems (form_of t) greatest last)
@@ -238,7 +238,7 @@ abbrev pub InputFails : ℕ → ℕ → Task → List (List Change) → Option (
     → Option (List ℕ) → Option (List ℕ) → Fault → Type 0
 InputFails w greatest t read input old new (Text number fault) =
     MeetsHere w greatest t read input old new number fault
-InputFails w greatest t read input old new fault = StopsIn w greatest t read input old new fault
+InputFails w greatest t read input old new fault = MakeStopsIn w greatest t read input old new fault
 
 -- ---- the base, amid a run
 

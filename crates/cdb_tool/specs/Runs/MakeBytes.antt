@@ -64,11 +64,11 @@ pub record FailsRead (w greatest : ℕ) (text rest : Option (List ℕ)) (input :
   pub fails : IfSome text (λ t. IsOfText fault → FailsText w greatest t fault)
 
 -- why no file is made of a text
-abbrev pub NotRead : ℕ → ℕ → Option (List ℕ) → Option (List ℕ) → Fault → Type 0
-NotRead w greatest text rest (Text input fault) = FailsRead w greatest text rest input fault
-NotRead w greatest text rest (Make TooBig) = FromTo text rest (PassesGreatest w greatest)
-NotRead w greatest text rest NoMemory = ⊤
-NotRead w greatest text rest fault = ⊥
+abbrev pub TextNotRead : ℕ → ℕ → Option (List ℕ) → Option (List ℕ) → Fault → Type 0
+TextNotRead w greatest text rest (Text input fault) = FailsRead w greatest text rest input fault
+TextNotRead w greatest text rest (Make TooBig) = FromTo text rest (PassesGreatest w greatest)
+TextNotRead w greatest text rest NoMemory = ⊤
+TextNotRead w greatest text rest fault = ⊥
 
 -- the file of the text was appended
 pub record MakesFile (w greatest : ℕ) (text rest old new : Option (List ℕ)) : Type 0 where
@@ -87,7 +87,7 @@ abbrev pub MakeFails : ℕ → ℕ → Option (List ℕ) → Option (List ℕ) �
     → Option (List ℕ) → Fault → Type 0
 MakeFails w greatest text rest old new Output = MakesPrefix w greatest text rest old new
 MakeFails w greatest text rest old new fault =
-    NotRead w greatest text rest fault × Keeps old new
+    TextNotRead w greatest text rest fault × Keeps old new
 
 -- what a run leaves
 pub record MakesBytes (w greatest : ℕ) (text rest old new : Option (List ℕ)) (result : Result Unit Fault)

@@ -85,19 +85,19 @@ abbrev pub query_answer : ℕ → List ℕ → Query → Result Unit Fault
 query_answer w b q = found_answer q.number (lookup_of w b q.key)
 
 -- the file has a head, in each image this is the answer, and the text was appended
-pub record Answers {S : Type 0} (w : ℕ) (s : Ghosts S) (q : Query) (store : S)
+pub record QueryAnswers {S : Type 0} (w : ℕ) (s : Ghosts S) (q : Query) (store : S)
     (start end : Option (List ℕ)) (answer : Result Unit Fault) : Type 0 where
   pub long : head_size w ≤ s.size store
   pub answered : (b : List ℕ) → s.image store b → answer ≡ query_answer w b q
   pub written : (b : List ℕ) → s.image store b → Appends start end (query_text w b q)
 
 -- in each image a prefix of the text was
-pub record WritesPrefix {S : Type 0} (w : ℕ) (s : Ghosts S) (q : Query) (store : S)
+pub record WritesQueryPrefix {S : Type 0} (w : ℕ) (s : Ghosts S) (q : Query) (store : S)
     (start end : Option (List ℕ)) : Type 0 where
   pub written : (b : List ℕ) → s.image store b → AppendsPrefix start end (query_text w b q)
 
 -- the file has no head: nothing was read, and nothing written
-pub record IsShort {S : Type 0} (w : ℕ) (s : Ghosts S) (old new : S)
+pub record IsShortForQuery {S : Type 0} (w : ℕ) (s : Ghosts S) (old new : S)
     (start end : Option (List ℕ)) : Type 0 where
   pub short : s.size old < head_size w
   pub unread : new ≡ old
@@ -107,29 +107,29 @@ pub record IsShort {S : Type 0} (w : ℕ) (s : Ghosts S) (old new : S)
 -- the writer
 abbrev pub QueryFails : {S : Type 0} → ℕ → Ghosts S → Query → (old new : S) → Option (List ℕ)
     → Option (List ℕ) → Fault → Type 0
-QueryFails w s q old new start end Missing = Answers w s q new start end (Err Missing)
-QueryFails w s q old new start end (Read read.Short) = IsShort w s old new start end
+QueryFails w s q old new start end Missing = QueryAnswers w s q new start end (Err Missing)
+QueryFails w s q old new start end (Read read.Short) = IsShortForQuery w s old new start end
 QueryFails w s q old new start end (Read (read.Table n)) =
-    Answers w s q new start end (Err (Read (read.Table n)))
+    QueryAnswers w s q new start end (Err (Read (read.Table n)))
 QueryFails w s q old new start end (Read (read.Record place)) =
-    Answers w s q new start end (Err (Read (read.Record place)))
+    QueryAnswers w s q new start end (Err (Read (read.Record place)))
 QueryFails w s q old new start end (Read read.Device) =
-    (s.failures old < s.failures new) × WritesPrefix w s q new start end
+    (s.failures old < s.failures new) × WritesQueryPrefix w s q new start end
 QueryFails w s q old new start end Output =
-    (head_size w ≤ s.size new) × WritesPrefix w s q new start end
+    (head_size w ≤ s.size new) × WritesQueryPrefix w s q new start end
 QueryFails w s q old new start end fault = ⊥
 
 -- what a query leaves
 pub record Queries {S : Type 0} (w : ℕ) (s : Ghosts S) (q : Query) (old new : S)
     (start end : Option (List ℕ)) (result : Result Unit Fault) : Type 0 where
   pub reads : OnlyReads s old new
-  pub ok : OnOk result (Answers w s q new start end (Ok tt))
+  pub ok : OnOk result (QueryAnswers w s q new start end (Ok tt))
   pub err : IfErr result (QueryFails w s q old new start end)
 
 -- ---- the values that a finder has left
 
 -- it gave these spans, and then this damage or none: all their values were written whole
-pub record WritesAll {S L : Type 0} {s : Ghosts S} {l : Widths L} (w : ℕ) (shown : List ℕ → List ℕ)
+pub record WritesAllValues {S L : Type 0} {s : Ghosts S} {l : Widths L} (w : ℕ) (shown : List ℕ → List ℕ)
     (old new : Finder S L s l) (start end : Option (List ℕ)) (spans : List Span)
     (damage : Option Damage) : Type 0 where
   pub given : (b : List ℕ) → s.image new.reader.now.store b
@@ -160,20 +160,20 @@ pub record WritesEach {S L : Type 0} {s : Ghosts S} {l : Widths L} (w : ℕ) (sh
     (old new : Finder S L s l) (start end : Option (List ℕ)) : Type 0 where
   pub spans : List Span
   pub some : spans ≢ []
-  pub all : WritesAll w shown old new start end spans None
+  pub all : WritesAllValues w shown old new start end spans None
   pub ended : HasEnded new
 
 -- a damage followed them
 pub record WritesToDamage {S L : Type 0} {s : Ghosts S} {l : Widths L} (w : ℕ) (shown : List ℕ → List ℕ)
     (old new : Finder S L s l) (start end : Option (List ℕ)) (found : Damage) : Type 0 where
   pub spans : List Span
-  pub all : WritesAll w shown old new start end spans (Some found)
+  pub all : WritesAllValues w shown old new start end spans (Some found)
 
 -- what a fault leaves
 abbrev pub LeftFails : {S L : Type 0} {s : Ghosts S} {l : Widths L} → ℕ
     → (List ℕ → List ℕ) → (old new : Finder S L s l) → Option (List ℕ) → Option (List ℕ) → Fault → Type 0
 LeftFails w shown old new start end Missing =
-    HasEnded new × WritesAll w shown old new start end [] None
+    HasEnded new × WritesAllValues w shown old new start end [] None
 LeftFails w shown old new start end (Read (read.Table n)) =
     HasNoTable new n × WritesToDamage w shown old new start end (damage.Table n)
 LeftFails w shown old new start end (Read (read.Record place)) =

@@ -10,7 +10,7 @@ use Rattle.cdb_form.specs.declared.damage.Damage.TheVariants as damage
 use Rattle.cdb_read.specs.Statistics.{statistics_of, statistics_damage}
 use Rattle.cdb_store.specs.Reads.{OnlyReads}
 use Rattle.cdb_read.specs.declared.fault.ReadFault.TheVariants as read
-use Rattle.cdb_tool.specs.Runs.Query.{IsShort}
+use Rattle.cdb_tool.specs.Runs.Query.{IsShortForQuery}
 use Rattle.cdb_tool.specs.Runs.StatsText.{stats_text}
 use Rattle.cdb_tool.specs.declared.fault.Fault.{Fault}
 use Rattle.cdb_tool.specs.declared.fault.Fault.TheVariants.{Read, Output}
@@ -34,7 +34,7 @@ pub record WritesStatsPrefix {S : Type 0} (w : ℕ) (s : Ghosts S) (store : S)
   pub written : (b : List ℕ) → s.image store b → AppendsPrefix start end (statistics_text w b)
 
 -- the file has a head, each image has this damage, and nothing was written
-pub record HasDamage {S : Type 0} (w : ℕ) (s : Ghosts S) (store : S) (damage : Damage)
+pub record StatsMeetDamage {S : Type 0} (w : ℕ) (s : Ghosts S) (store : S) (damage : Damage)
     (start end : Option (List ℕ)) : Type 0 where
   pub long : head_size w ≤ s.size store
   pub is : (b : List ℕ) → s.image store b → statistics_damage w b ≡ Some damage
@@ -43,11 +43,11 @@ pub record HasDamage {S : Type 0} (w : ℕ) (s : Ghosts S) (store : S) (damage :
 -- what a fault leaves
 abbrev pub TellingFails : {S : Type 0} → ℕ → Ghosts S → (old new : S)
     → (start end : Option (List ℕ)) → Fault → Type 0
-TellingFails w s old new start end (Read read.Short) = IsShort w s old new start end
+TellingFails w s old new start end (Read read.Short) = IsShortForQuery w s old new start end
 TellingFails w s old new start end (Read (read.Table n)) =
-    HasDamage w s new (damage.Table n) start end
+    StatsMeetDamage w s new (damage.Table n) start end
 TellingFails w s old new start end (Read (read.Record place)) =
-    HasDamage w s new (damage.Record place) start end
+    StatsMeetDamage w s new (damage.Record place) start end
 TellingFails w s old new start end (Read read.Device) =
     (s.failures old < s.failures new) × Keeps start end
 TellingFails w s old new start end Output = WritesStatsPrefix w s new start end

@@ -25,7 +25,7 @@ abbrev pub walk_text : Form → Walked → List ℕ
 walk_text form w = flat_map form.item w.records ++ closing form w.damage
 
 -- the text of a walk that ends so was appended, the file's where that is known
-pub record Writes (w : ℕ) (form : Form) (file : Option (List ℕ)) (damage : Option Damage)
+pub record WritesItems (w : ℕ) (form : Form) (file : Option (List ℕ)) (damage : Option Damage)
     (old new : Option (List ℕ)) : Type 0 where
   pub walked : Walked
   pub ends : walked.damage ≡ damage
@@ -33,7 +33,7 @@ pub record Writes (w : ℕ) (form : Form) (file : Option (List ℕ)) (damage : O
   pub appended : Appends old new (walk_text form walked)
 
 -- a prefix of the text of a walk was appended, the file's where that is known
-pub record WritesPrefix (w : ℕ) (form : Form) (file old new : Option (List ℕ)) : Type 0 where
+pub record WritesTextPrefix (w : ℕ) (form : Form) (file old new : Option (List ℕ)) : Type 0 where
   pub walked : Walked
   pub is : IfSome file (λ f. walk_of w f ≡ walked)
   pub appended : AppendsPrefix old new (walk_text form walked)
@@ -51,9 +51,9 @@ pub record WritesFirst (w : ℕ) (form : Form) (file rest old new : Option (List
 abbrev pub WritingFails : ℕ → Form → (file rest old new : Option (List ℕ)) → Fault → Type 0
 WritingFails w form file rest old new (Walk walk.Input) = WritesFirst w form file rest old new
 WritingFails w form file rest old new (Walk walk.NoMemory) = ⊥
-WritingFails w form file rest old new (Walk fault) = Writes w form file (damage_of fault) old new
+WritingFails w form file rest old new (Walk fault) = WritesItems w form file (damage_of fault) old new
 WritingFails w form file rest old new NoMemory = WritesFirst w form file rest old new
-WritingFails w form file rest old new Output = WritesPrefix w form file old new
+WritingFails w form file rest old new Output = WritesTextPrefix w form file old new
 WritingFails w form file rest old new fault = ⊥
 
 -- what stands behind the record end is all that is unread; and is among what is unread
@@ -67,6 +67,6 @@ KeepsBehind w file rest =
 -- what a run leaves
 pub record WritesWalk (w : ℕ) (form : Form) (file rest old new : Option (List ℕ))
     (result : Result Unit Fault) : Type 0 where
-  pub ok : OnOk result (Writes w form file None old new × LeavesBehind w file rest)
+  pub ok : OnOk result (WritesItems w form file None old new × LeavesBehind w file rest)
   pub err : IfErr result (WritingFails w form file rest old new)
   pub behind : KeepsBehind w file rest

@@ -8,7 +8,7 @@ ghost use Rattle.cdb_store.specs.Reads.{OnlyReads};
 ghost use Rattle.cdb_tool.specs.Runs.Inputs.{IsInputOf, AreAllInputs, ReadsOne, bytes_of, keys_form};
 ghost use Rattle.cdb_tool.specs.Runs.Inputs.{keys_of, keys_of_each};
 ghost use Rattle.cdb_tool.specs.Runs.LookedUp.{key_query};
-ghost use Rattle.cdb_tool.specs.Runs.Lookups.{HasLooked, StopsIn, Stops, Leaves, LooksUp};
+ghost use Rattle.cdb_tool.specs.Runs.Lookups.{HasLooked, LookupsStopIn, LookupsStop, LookupsLeave, LooksUp};
 ghost use Rattle.cdb_tool.specs.Runs.Query.{Queries};
 ghost use Rattle.cdb_tool.specs.Views.Inputs.{inputs_left, one_of, shared_bytes};
 ghost use Rattle.cdb_tool.specs.Views.KeyReader.{form_of, unread, IsNew};
@@ -71,7 +71,7 @@ fn look_up_input<L: Width, S: Store, R: Read + Drop, W: Sink, A: AtHand<R>>(
     ensures fails { (before : List (List ℕ)) (start : Option (List ℕ))
         → HasLooked L.WORD S.Store number style before reader.old.store start
         (W.contents w.old) missing.old
-        → IfErr result (StopsIn L.WORD L.GREATEST S.Store number style (form_of keys) input before
+        → IfErr result (LookupsStopIn L.WORD L.GREATEST S.Store number style (form_of keys) input before
         (unread R.remaining keys) reader.old.store reader.new.store start (W.contents w.new)) }
     ensures output { OutputSays (W.failed w.new) result }
 {
@@ -121,7 +121,7 @@ fn look_up_turn<L: Width, S: Store, J: Read + Drop, I: Read + Drop, W: Sink>(
     ensures fails { (before : List (List ℕ)) (start : Option (List ℕ))
         → HasLooked L.WORD S.Store number style before reader.old.store start
         (W.contents w.old) missing.old
-        → IfErr result (StopsIn L.WORD L.GREATEST S.Store number style (keys_form style) input before
+        → IfErr result (LookupsStopIn L.WORD L.GREATEST S.Store number style (keys_form style) input before
         (bytes_of (one_of J.remaining turn) (shared_bytes I.remaining shared))
         reader.old.store reader.new.store start (W.contents w.new)) }
     ensures output { OutputSays (W.failed w.new) result }
@@ -170,7 +170,7 @@ fn look_up_inputs<L: Width, S: Store, J: Read + Drop, I: Read + Drop, W: Sink>(
     ensures fails { (start : Option (List ℕ))
         → HasLooked L.WORD S.Store number style [] reader.old.store start
         (W.contents w.old) missing.old
-        → IfErr result (Stops L.WORD L.GREATEST S.Store number style
+        → IfErr result (LookupsStop L.WORD L.GREATEST S.Store number style
         (inputs_left J.remaining I.remaining inputs) reader.old.store reader.new.store
         start (W.contents w.new)) }
     ensures output { OutputSays (W.failed w.new) result }
@@ -197,7 +197,7 @@ fn look_up_all<L: Width, S: Store, J: Read + Drop, I: Read + Drop, W: Sink>(
     w: &mut W,
 ) -> Result<(), Fault>
     requires { IfSome number (λ j. 1 ≤ j) }
-    ensures leaves { Leaves L.WORD L.GREATEST S.Store number style
+    ensures leaves { LookupsLeave L.WORD L.GREATEST S.Store number style
         (inputs_left J.remaining I.remaining inputs) reader.old.store reader.new.store
         (W.contents w.old) (W.contents w.new) result }
     ensures output { OutputSays (W.failed w.new) result }
@@ -218,7 +218,7 @@ fn lookups_unflushed<L: Width, S: Store, J: Read + Drop, I: Read + Drop, W: Sink
     w: &mut W,
 ) -> (S, Result<(), Fault>)
     requires { IfSome number (λ j. 1 ≤ j) }
-    ensures leaves { Leaves L.WORD L.GREATEST S.Store number style
+    ensures leaves { LookupsLeave L.WORD L.GREATEST S.Store number style
         (inputs_left J.remaining I.remaining inputs) store result.0
         (W.contents w.old) (W.contents w.new) result.1 }
     ensures output { OutputSays (W.failed w.new) result.1 }

@@ -9,8 +9,8 @@ ghost use Rattle.cdb_make.specs.Views.Maker.{Follows, WhereHonest, store_of};
 ghost use Rattle.cdb_tool.specs.Runs.Course.{Task, from_inputs};
 ghost use Rattle.cdb_tool.specs.Runs.Inputs.{AreAllInputs, IsInputOf, ReadsOne, bytes_of, input_form};
 ghost use Rattle.cdb_tool.specs.Runs.Inputs.{own_inputs};
-ghost use Rattle.cdb_tool.specs.Runs.Make.{InCourse, Runs, InputFails, InputsFail, IsOfStore, IsOfBase};
-ghost use Rattle.cdb_tool.specs.Runs.Make.{OfBase, HandsBack, HasFailed, Stands, StandsIn, IsHalt};
+ghost use Rattle.cdb_tool.specs.Runs.Make.{InCourse, MakeRuns, InputFails, InputsFail, IsOfStore, IsOfBase};
+ghost use Rattle.cdb_tool.specs.Runs.Make.{OfBase, HandsBack, BaseHasFailed, Stands, StandsIn, IsHalt};
 ghost use Rattle.cdb_tool.specs.Runs.Make.{PutsItems};
 ghost use Rattle.cdb_tool.specs.Views.Input.{input_bytes};
 ghost use Rattle.cdb_tool.specs.Views.Inputs.{inputs_left, one_of, shared_bytes};
@@ -209,7 +209,7 @@ fn make_unflushed<L: Width, S: Store, B: Store, J: Read + Drop, I: Read + Drop, 
     requires head { head_size L.WORD ≤ options.now.limit }
     requires words { options.now.limit ≤ L.GREATEST }
     ensures runs { WhereHonest (S.image result.store) (OfBase B.Store result.base (λ base.
-        Runs L.WORD L.GREATEST options.now base (inputs_left J.remaining I.remaining inputs)
+        MakeRuns L.WORD L.GREATEST options.now base (inputs_left J.remaining I.remaining inputs)
         (S.image result.store) (E.contents errors.old) (E.contents errors.new) result.answer)) }
     ensures hands { HandsBack B.Store base result.base }
     ensures settled { OnOk result.answer (S.settled result.store) }
@@ -217,7 +217,7 @@ fn make_unflushed<L: Width, S: Store, B: Store, J: Read + Drop, I: Read + Drop, 
         (λ f. IsOfStore f → S.failures store < S.failures result.store) }
     ensures memory { IfErr result.answer
         (λ f. f ≡ NoMemory → S.failures result.store ≡ S.failures store) }
-    ensures base_failed { IfErr result.answer (λ f. IsOfBase f → HasFailed B.Store base result.base) }
+    ensures base_failed { IfErr result.answer (λ f. IsOfBase f → BaseHasFailed B.Store base result.base) }
     ensures output { OutputSays (E.failed errors.new) result.answer }
 {
     let mut maker = match Maker::<S, L>::lazy(alloc, store, options.limit) {
@@ -301,14 +301,14 @@ pub fn make_run<L: Width, S: Store, B: Store, R: Read + Drop, E: Sink>(
     requires head { head_size L.WORD ≤ options.limit }
     requires words { options.limit ≤ L.GREATEST }
     ensures runs { WhereHonest (S.image result.0) (OfBase B.Store result.1 (λ base.
-        Runs L.WORD L.GREATEST options.entry base (own_inputs (map R.remaining inputs.items))
+        MakeRuns L.WORD L.GREATEST options.entry base (own_inputs (map R.remaining inputs.items))
         (S.image result.0) (E.contents errors.old) (E.contents errors.new) result.2)) }
     ensures hands { HandsBack B.Store base result.1 }
     ensures settled { OnOk result.2 (S.settled result.0) }
     ensures failed { IfErr result.2
         (λ f. IsOfStore f → S.failures store < S.failures result.0) }
     ensures memory { IfErr result.2 (λ f. f ≡ NoMemory → S.failures result.0 ≡ S.failures store) }
-    ensures base_failed { IfErr result.2 (λ f. IsOfBase f → HasFailed B.Store base result.1) }
+    ensures base_failed { IfErr result.2 (λ f. IsOfBase f → BaseHasFailed B.Store base result.1) }
     ensures output { OutputSays (E.failed errors.new) result.2 }
 {
     let none: &[u8] = &[];
@@ -336,14 +336,14 @@ pub fn make_run_from<L: Width, S: Store, B: Store, J: Read + Drop, I: Read + Dro
     requires head { head_size L.WORD ≤ options.limit }
     requires words { options.limit ≤ L.GREATEST }
     ensures runs { WhereHonest (S.image result.0) (OfBase B.Store result.1 (λ base.
-        Runs L.WORD L.GREATEST options.entry base (inputs_left J.remaining I.remaining inputs)
+        MakeRuns L.WORD L.GREATEST options.entry base (inputs_left J.remaining I.remaining inputs)
         (S.image result.0) (E.contents errors.old) (E.contents errors.new) result.2)) }
     ensures hands { HandsBack B.Store base result.1 }
     ensures settled { OnOk result.2 (S.settled result.0) }
     ensures failed { IfErr result.2
         (λ f. IsOfStore f → S.failures store < S.failures result.0) }
     ensures memory { IfErr result.2 (λ f. f ≡ NoMemory → S.failures result.0 ≡ S.failures store) }
-    ensures base_failed { IfErr result.2 (λ f. IsOfBase f → HasFailed B.Store base result.1) }
+    ensures base_failed { IfErr result.2 (λ f. IsOfBase f → BaseHasFailed B.Store base result.1) }
     ensures output { OutputSays (E.failed errors.new) result.2 }
 {
     let made = make_unflushed::<L, S, B, J, I, E>(alloc, store, base, inputs, &options, errors);

@@ -7,7 +7,7 @@ ghost use Rattle.cdb_make.specs.Views.Maker.{Follows, Holds, WhereHonest, limit_
 ghost use Rattle.cdb_read.specs.Views.Walk.{left_of, bytes_left};
 ghost use Rattle.cdb_tool.specs.Views.Output.{OutputSays};
 ghost use Rattle.cdb_tool.specs.Runs.Base.{AddsNext, NotAdded};
-ghost use Rattle.cdb_tool.specs.Runs.Make.{BaseFails, HandsBack, HasFailed, IsOfStore};
+ghost use Rattle.cdb_tool.specs.Runs.Make.{BaseFails, HandsBack, BaseHasFailed, IsOfStore};
 ghost use Rattle.cdb_tool.specs.Runs.Make.{IsOfBase, AddsBase, HoldsBase, BaseStopped};
 ghost use Rattle.cdb_tool.specs.declared.fault.Fault.TheVariants.{NoMemory};
 
@@ -131,7 +131,7 @@ pub(crate) fn add_base<L: Width, S: Store, B: Store>(
     ensures memory { IfErr result.1
         (λ f. f ≡ NoMemory → S.failures (store_of maker.new) ≡ S.failures (store_of maker.old)) }
     ensures fine { OnOk result.1 (S.failures (store_of maker.new) ≡ S.failures (store_of maker.old)) }
-    ensures base_failed { IfErr result.1 (λ f. IsOfBase f → HasFailed B.Store base result.0) }
+    ensures base_failed { IfErr result.1 (λ f. IsOfBase f → BaseHasFailed B.Store base result.0) }
     ensures output { OutputSays ⊥ result.1 }
 {
     let Some(base) = base else {

@@ -6,7 +6,7 @@ ghost use Rattle.cdb_form.specs.Format.Record.{KeyValue};
 ghost use Rattle.cdb_form.specs.Views.TextReader.{unread};
 ghost use Rattle.cdb_make.specs.Views.Maker.{Holds, limit_of};
 ghost use Rattle.cdb_tool.specs.declared.fault.Fault.TheVariants.{NoMemory};
-ghost use Rattle.cdb_tool.specs.Runs.MakeBytes.{IsNewText, ReadsFitting, NotRead, MakesBytes};
+ghost use Rattle.cdb_tool.specs.Runs.MakeBytes.{IsNewText, ReadsFitting, TextNotRead, MakesBytes};
 
 use crate::fault::Fault;
 use crate::runs::flushed::flushed;
@@ -41,7 +41,7 @@ fn fitting_records<L: Width, R: Read>(
         × ReadsFitting L.WORD L.GREATEST (unread R.remaining text.old) (unread R.remaining text.new)
         records) }
     ensures err { IfErr result
-        (NotRead L.WORD L.GREATEST (unread R.remaining text.old) (unread R.remaining text.new)) }
+        (TextNotRead L.WORD L.GREATEST (unread R.remaining text.old) (unread R.remaining text.new)) }
 {
     let mut maker = maker_in_memory::<L>(alloc)?;
     let mut record = Record {

@@ -13,7 +13,7 @@ ghost use Rattle.cdb_tool.specs.Runs.Course.{Incoming, from_inputs, mode_of, mee
 ghost use Rattle.cdb_tool.specs.Runs.Course.{Task, ends, TellFails};
 ghost use Rattle.cdb_tool.specs.Runs.Inputs.{IsInputOf};
 ghost use Rattle.cdb_tool.specs.Runs.Make.{InCourse, PutStops, InputFails, IsOfStore, IsOfBase};
-ghost use Rattle.cdb_tool.specs.Runs.Make.{StandsAt, StandsIn, IsHalt, TakesNext, PutsItems};
+ghost use Rattle.cdb_tool.specs.Runs.Make.{MakeStandsAt, StandsIn, IsHalt, TakesNext, PutsItems};
 ghost use Rattle.cdb_tool.specs.Runs.Course.{StopsSo};
 ghost use Rattle.cdb_tool.specs.declared.fault.Fault.TheVariants.{NoMemory};
 ghost use Rattle.cdb_tool.specs.Runs.Make.{form_of as task_form};
@@ -136,7 +136,7 @@ fn put_record<L: Width, S: Store, E: Sink>(
         → t.options ≡ options.now
         → InCourse t cs start (E.contents errors.old) maker.old
         → IfErr result (λ f. IsHalt f
-        → StandsAt t cs start (E.contents errors.new) maker.new) }
+        → MakeStandsAt t cs start (E.contents errors.new) maker.new) }
     ensures takes { (t : Task) (cs : List Incoming) (start : Option (List ℕ))
         → t.options ≡ options.now
         → InCourse t cs start (E.contents errors.old) maker.old
@@ -169,7 +169,7 @@ fn remove_key<L: Width, S: Store>(maker: &mut Maker<S, L>, key: &[u8]) -> Result
         (StopsSo L.WORD t cs start now f)) }
     ensures stands { (t : Task) (cs : List Incoming) (start now : Option (List ℕ))
         → InCourse t cs start now maker.old
-        → IfErr result (λ f. IsHalt f → StandsAt t cs start now maker.new) }
+        → IfErr result (λ f. IsHalt f → MakeStandsAt t cs start now maker.new) }
     ensures follows { Follows maker.old maker.new }
     ensures failed { IfErr result
         (λ f. IsOfStore f → S.failures (store_of maker.old) < S.failures (store_of maker.new)) }
@@ -213,7 +213,7 @@ fn do_item<L: Width, S: Store, E: Sink>(
         → t.options ≡ options.now
         → InCourse t cs start (E.contents errors.old) maker.old
         → IfErr result (λ f. IsHalt f
-        → StandsAt t cs start (E.contents errors.new) maker.new) }
+        → MakeStandsAt t cs start (E.contents errors.new) maker.new) }
     ensures follows { Follows maker.old maker.new }
     ensures failed { IfErr result
         (λ f. IsOfStore f → S.failures (store_of maker.old) < S.failures (store_of maker.new)) }

@@ -1,8 +1,8 @@
 use Rattle.std.proofs.Common.{ℕ, subst}
-use Rattle.cdb_memory.specs.Walks.{Begins}
+use Rattle.cdb_memory.specs.Walks.{WalkBegins}
 use Rattle.cdb_c.specs.Answers.{rest_at}
 use Rattle.cdb_c.proofs.walking.cdb_c_record_end.Goals as goal
 
 pub returns-in-Ok-clause-begins : goal.returns-in-Ok-clause-begins
 returns-in-Ok-clause-begins c = λ some.
-    subst (λ (p : ℕ). Begins 4 c.args.file.now (rest_at p c.in-Ok.rest.end)) c.in-Ok.ensures.first c.in-Ok.ensures.begins
+    subst (λ (p : ℕ). WalkBegins 4 c.args.file.now (rest_at p c.in-Ok.rest.end)) c.in-Ok.ensures.first c.in-Ok.ensures.begins

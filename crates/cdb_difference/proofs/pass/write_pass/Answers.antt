@@ -6,7 +6,7 @@ use Rattle.cdb_form.proofs.Bytes.WritingLemmas.{same_appends, same_prefix}
 use Rattle.cdb_read.specs.Lookup.{bytes_of, lookup_of}
 use Rattle.cdb_read.specs.Views.Walking.{behind, next_place, record_in, walk_ahead}
 use Rattle.cdb_read.proofs.Walked.WalkedLengths.{some_word}
-use Rattle.cdb_difference.specs.Difference.{HasKey, IsDamaged, LookHas, OtherLookHas, OwnLookHas, changes_at, changes_text}
+use Rattle.cdb_difference.specs.Difference.{WalkHasKey, IsOneDamaged, LookHas, OtherLookHas, OwnLookHas, changes_at, changes_text}
 use Rattle.cdb_difference.specs.Views.Marks.{is_marked}
 use Rattle.cdb_difference.proofs.PassStops.{both_since, passed_key, stops_since}
 use Rattle.cdb_difference.proofs.PassSteps.{changed, changed_prefix, ended, so_far_none, stopped, unchanged}
@@ -117,7 +117,7 @@ returns-in_err-is_change-clause-fails g c =
     let before = reads_more inv.own_reads c.next_record.ensures.reads in
     let own = c.is_change.new.own.store in
     let other = c.is_change.new.other.store in
-    let has : (b d : List ℕ) → g.S.Store.image c.is_change.new.own.store b → g.T.Store.image c.is_change.new.other.store d → HasKey (bytes_of b pair.key) (walk_of w b).records =
+    let has : (b d : List ℕ) → g.S.Store.image c.is_change.new.own.store b → g.T.Store.image c.is_change.new.other.store d → WalkHasKey (bytes_of b pair.key) (walk_of w b).records =
     λ b d is it.
     let mine = first.own_reads.images b is in
     let earlier = c.next_record.ensures.reads.images b mine in
@@ -125,7 +125,7 @@ returns-in_err-is_change-clause-fails g c =
     passed_key w b listed.done _ _ (record_in b pair) listed.all (one.first b mine) in
     rw (p.1, p.2)
     (both_since g.S.Store g.T.Store c.args.own.now.store c.next_record.new.reader.store own c.args.other.now.store c.loop-key.other.store other
-    (OwnLookHas w g.S.Store own pair.key) (IsDamaged w g.S.Store g.T.Store own other) (OtherLookHas w g.S.Store g.T.Store own other pair.key) (IsDamaged w g.T.Store g.S.Store other own) _ _
+    (OwnLookHas w g.S.Store own pair.key) (IsOneDamaged w g.S.Store g.T.Store own other) (OtherLookHas w g.S.Store g.T.Store own other pair.key) (IsOneDamaged w g.T.Store g.S.Store other own) _ _
     c.in_err-is_change.field-0.0 before.failures inv.other_reads.failures
     (λ damage found b d is it. inr (bytes_of b pair.key, inl (has b d is it), found b is))
     (λ damage found d b it is. inr (bytes_of b pair.key, inr (has b d is it), found b d is it))
@@ -146,7 +146,7 @@ returns-in_err-write_changes-clause-fails g c =
     let other = c.is_change.new.other.store in
     rw (p.1, p.2)
     (stops_since g.S.Store c.args.own.now.store c.is_change.new.own.store own own
-    (LookHas w g.S.Store own c.deref.result.now) (IsDamaged w g.S.Store g.T.Store own other) _ _ c.in_err-write_changes.field-0.0 before.failures (omega arith)
+    (LookHas w g.S.Store own c.deref.result.now) (IsOneDamaged w g.S.Store g.T.Store own other) _ _ c.in_err-write_changes.field-0.0 before.failures (omega arith)
     (λ damage found b d is it.
     let second = said.reads.images b is in
     let mine = first.own_reads.images b second in

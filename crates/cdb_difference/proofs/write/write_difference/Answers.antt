@@ -2,7 +2,7 @@ use Rattle.std.proofs.Common.{sym, subst}
 use Rattle.std.proofs.lemmas.Result.{err_from_is_err_and}
 use Rattle.cdb_store.proofs.Reading.{reads_more}
 use Rattle.cdb_read.proofs.FoundSoFar.{reads_none}
-use Rattle.cdb_difference.specs.Difference.{Stops}
+use Rattle.cdb_difference.specs.Difference.{DifferenceStops}
 use Rattle.cdb_difference.specs.Views.Stop.{flipped}
 use Rattle.cdb_difference.proofs.Marked.{agree_flipped}
 use Rattle.cdb_difference.proofs.PassStops.{flipped_stops, whole_since}
@@ -69,7 +69,7 @@ returns-in-Err g c =
       old_reads = reads_more old_reads second.other_reads;
       new_reads = reads_more new_reads second.own_reads;
       ok = tt;
-      err = subst (Stops g.L.Width.WORD g.S.Store g.T.Store _ _ _ _ (g.W.Sink.failed c.write_pass-2.new.w)) (sym c.flipped.ensures)
+      err = subst (DifferenceStops g.L.Width.WORD g.S.Store g.T.Store _ _ _ _ (g.W.Sink.failed c.write_pass-2.new.w)) (sym c.flipped.ensures)
           (whole_since g.L.Width.WORD g.S.Store g.T.Store _ _ _ _ _ _ (g.W.Sink.failed c.write_pass-2.new.w) (g.W.Sink.failed c.write_pass-2.new.w) (flipped c.in-Err.stop) old_reads new_reads (λ failed. failed) (flipped_stops g.L.Width.WORD g.S.Store g.T.Store _ _ _ _ _ c.in-Err.stop stop.fails));
       front = λ b d is it. prefix_second g.L.Width.WORD b d _ _ _ (c.in_ok-write_pass.ensures.ok b d (second.other_reads.images b is) (second.own_reads.images d it)) (stop.front d b it is);
     }

@@ -1,7 +1,7 @@
 use Rattle.std.proofs.Common.{inl, inr, ap, refl, sym, subst, ◌∙◌, ◌≡◌, List, ℕ, Result, Ok, Err}
 use Rattle.std.specs.Prelude.{IfErr, OnErr, OnOk}
 use Rattle.cdb_store.specs.Calls.{Calls}
-use Rattle.cdb_files.specs.Replacing.{Answers, ClearsFile, EndsIn, FailsRename, FailsToSeal, GoesOn, IsOfBuilder, RenamesFile, of_name}
+use Rattle.cdb_files.specs.Replacing.{BuilderAnswers, ClearsFile, EndsIn, FailsRename, FailsToSeal, GoesOn, IsOfBuilder, RenamesFile, of_name}
 use Rattle.cdb_files.specs.declared.name_fault.NameFault.{NameFault}
 use Rattle.cdb_files.specs.declared.name_fault.NameFault.TheVariants.{Failed, NoMemory}
 use Rattle.cdb_files.specs.Folder.{NameCalls, IsCleared}
@@ -58,12 +58,12 @@ no_build E NoMemory = tt
 
 -- a rename that failed is no fault of the builder
 renames_built : {E : Type 0} (t n : List ℕ) (old new : NameCalls) (r : Result Unit (ReplaceFault E))
-    → IfErr r (λ e. (fault : NameFault) × (e ≡ of_name fault) × FailsRename t n old new fault) → Answers (Ok tt) r
+    → IfErr r (λ e. (fault : NameFault) × (e ≡ of_name fault) × FailsRename t n old new fault) → BuilderAnswers (Ok tt) r
 renames_built t n old new (Ok done) fails = tt
 renames_built {E = E} t n old new (Err e) (fault, is, fails) = subst (λ (f : ReplaceFault E). IsOfBuilder (λ _. ⊥) f) (sym is) (no_build E fault)
 
 -- nor is a file that was not sealed
-seal_built : {E : Type 0} (t n : List ℕ) (old new : NameCalls) (fault : ReplaceFault E) → FailsToSeal t n old new fault → Answers (Ok tt) (Err fault)
+seal_built : {E : Type 0} (t n : List ℕ) (old new : NameCalls) (fault : ReplaceFault E) → FailsToSeal t n old new fault → BuilderAnswers (Ok tt) (Err fault)
 seal_built t n old new Open fails = tt
 seal_built t n old new Write fails = tt
 seal_built t n old new replacing.NoMemory fails = absurd fails

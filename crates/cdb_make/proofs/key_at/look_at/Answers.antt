@@ -1,6 +1,6 @@
 use Rattle.std.proofs.Common.{rules, subst, arith, ◌≡◌, ◌+◌, ◌*◌, ◌<◌, ◌≤◌, length, ℕ, true, false}
 use Rattle.cdb_store.specs.Images.{AreSized}
-use Rattle.cdb_make.specs.Looks.{HasLengths, TellsSame}
+use Rattle.cdb_make.specs.Looks.{HasLengthsInImages, TellsSameInImages}
 use Rattle.cdb_make.proofs.Bytes.Compare.{reads_fewer}
 use Rattle.cdb_make.proofs.Bytes.Headers.{held_from, fewer_lengths, no_header, no_room, other_length, other_key, same_key}
 use Rattle.cdb_make.proofs.key_at.look_at.Goals.{then-room-header-via-then-room-header, then-room-header-via-else-room-header+then-room-header-2, then-header-key-via-then-header-key, then-header-key-via-else-header-key+in_ok-key_follows+then-not-branch}
@@ -14,7 +14,7 @@ pub returns-then-room-header-clause-looks : goal.returns-then-room-header-clause
 returns-then-room-header-clause-looks g c =
     let k : ℕ = c.in_ok-header.header.klen in
     let v : ℕ = c.in_ok-header.header.vlen in
-    let h : HasLengths g.L.Width.WORD c.args.place k v (g.S.Store.image c.read_prefix.new.store) = c.in_ok-header.ensures.lengths in
+    let h : HasLengthsInImages g.L.Width.WORD c.args.place k v (g.S.Store.image c.read_prefix.new.store) = c.in_ok-header.ensures.lengths in
     let past : c.args.end < c.args.place + (2 * g.L.Width.WORD + k + v) =
     elim c.then-room-header.branch [
       | then-room-header-via-then-room-header w ↦ omega (arith, c.pair_size-header_size.ensures, c.saturating_add-key_place.ensures)
@@ -26,7 +26,7 @@ pub returns-then-header-key-clause-looks : goal.returns-then-header-key-clause-l
 returns-then-header-key-clause-looks g c =
     let k : ℕ = c.in_ok-header.header.klen in
     let v : ℕ = c.in_ok-header.header.vlen in
-    let h : HasLengths g.L.Width.WORD c.args.place k v (g.S.Store.image c.read_prefix.new.store) = c.in_ok-header.ensures.lengths in
+    let h : HasLengthsInImages g.L.Width.WORD c.args.place k v (g.S.Store.image c.read_prefix.new.store) = c.in_ok-header.ensures.lengths in
     let at : c.saturating_add-key_place.result ≡ c.args.place + 2 * g.L.Width.WORD = omega (arith, c.pair_size-header_size.ensures, c.saturating_add-key_place.ensures) in
     let fits : c.args.place + (2 * g.L.Width.WORD + k + v) ≤ c.args.end = omega arith in
     elim c.then-header-key.branch [
@@ -36,8 +36,8 @@ returns-then-header-key-clause-looks g c =
       | then-header-key-via-else-header-key+in_ok-key_follows+then-not-branch w ↦
           (let same : k ≡ length c.args.key.now = omega (arith, w.if-header-key.false) in
           let no : w.in_ok-key_follows.field-0 ≡ false = search rules in
-          let tells : TellsSame false c.saturating_add-key_place.result c.args.key.now (g.S.Store.image w.key_follows.new.store) =
-          subst (λ v. TellsSame v c.saturating_add-key_place.result c.args.key.now (g.S.Store.image w.key_follows.new.store)) no (w.in_ok-key_follows.ensures.same (held_from g.L.Width.WORD c.pair_size-header_size.result c.args.place c.read_prefix.new.front c.pair_size-header_size.ensures at c.in_ok-header.ensures.held)) in
+          let tells : TellsSameInImages false c.saturating_add-key_place.result c.args.key.now (g.S.Store.image w.key_follows.new.store) =
+          subst (λ v. TellsSameInImages v c.saturating_add-key_place.result c.args.key.now (g.S.Store.image w.key_follows.new.store)) no (w.in_ok-key_follows.ensures.same (held_from g.L.Width.WORD c.pair_size-header_size.result c.args.place c.read_prefix.new.front c.pair_size-header_size.ensures at c.in_ok-header.ensures.held)) in
           rw w.store-is (other_key c.saturating_add-key_place.result c.args.end c.args.key.now at same (fewer_lengths (reads_fewer w.key_follows.ensures.reads) h) fits tells))
     ]
 
@@ -45,11 +45,11 @@ pub returns-clause-looks : goal.returns-clause-looks
 returns-clause-looks g c =
     let k : ℕ = c.in_ok-header.header.klen in
     let v : ℕ = c.in_ok-header.header.vlen in
-    let h : HasLengths g.L.Width.WORD c.args.place k v (g.S.Store.image c.read_prefix.new.store) = c.in_ok-header.ensures.lengths in
+    let h : HasLengthsInImages g.L.Width.WORD c.args.place k v (g.S.Store.image c.read_prefix.new.store) = c.in_ok-header.ensures.lengths in
     let at : c.saturating_add-key_place.result ≡ c.args.place + 2 * g.L.Width.WORD = omega (arith, c.pair_size-header_size.ensures, c.saturating_add-key_place.ensures) in
     let fits : c.args.place + (2 * g.L.Width.WORD + k + v) ≤ c.args.end = omega arith in
     let same : k ≡ length c.args.key.now = omega (arith, c.if-header-key.false) in
     let yes : c.in_ok-key_follows.field-0 ≡ true = search rules in
-    let tells : TellsSame true c.saturating_add-key_place.result c.args.key.now (g.S.Store.image c.key_follows.new.store) =
-    subst (λ v. TellsSame v c.saturating_add-key_place.result c.args.key.now (g.S.Store.image c.key_follows.new.store)) yes (c.in_ok-key_follows.ensures.same (held_from g.L.Width.WORD c.pair_size-header_size.result c.args.place c.read_prefix.new.front c.pair_size-header_size.ensures at c.in_ok-header.ensures.held)) in
+    let tells : TellsSameInImages true c.saturating_add-key_place.result c.args.key.now (g.S.Store.image c.key_follows.new.store) =
+    subst (λ v. TellsSameInImages v c.saturating_add-key_place.result c.args.key.now (g.S.Store.image c.key_follows.new.store)) yes (c.in_ok-key_follows.ensures.same (held_from g.L.Width.WORD c.pair_size-header_size.result c.args.place c.read_prefix.new.front c.pair_size-header_size.ensures at c.in_ok-header.ensures.held)) in
     same_key c.saturating_add-key_place.result c.args.end _ c.args.key.now at (omega (arith, c.pair_size-header_size.ensures)) same (fewer_lengths (reads_fewer c.key_follows.ensures.reads) h) fits tells

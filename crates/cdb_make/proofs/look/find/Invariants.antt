@@ -3,7 +3,7 @@ use Rattle.cdb_store.specs.Reads.{OnlyReads}
 use Rattle.cdb_form.specs.Format.Record.{KeyValue}
 use Rattle.cdb_make.specs.Chains.{Has}
 use Rattle.cdb_make.specs.Marks.{gone_of, found_of, HaveHash}
-use Rattle.cdb_make.specs.Rolls.{Sees, fresh, IsFresh}
+use Rattle.cdb_make.specs.Rolls.{Sees, fresh, IsFreshRecord}
 use Rattle.cdb_make.specs.Views.Roll.{searched, HasRoom, SameRecords}
 use Rattle.cdb_make.proofs.look.find.Given as goal
 
@@ -12,7 +12,7 @@ invariant-loop-at g l = record {
   within : l.at ≤ length l.roll.hashes.items;
   here : 0 < l.at → Has l.sought (searched l.roll) (gone_of l.roll.marks.items) (l.at - 1);
   each : (b : List ℕ) → g.S.Store.image l.store b → (all : List KeyValue) → Sees l.roll all b
-      → (0 < l.at → IsFresh l.key (gone_of l.roll.marks.items) all (l.at - 1))
+      → (0 < l.at → IsFreshRecord l.key (gone_of l.roll.marks.items) all (l.at - 1))
       × ((k : ℕ) → l.at ≤ k → k < length l.roll.hashes.items → get_or (found_of l.roll.marks.items) k false ≡ get_or (fresh l.key (gone_of l.roll.marks.items) all) k false);
   below : (k : ℕ) → k < l.at → get_or (found_of l.roll.marks.items) k false ≡ false;
   hash : HaveHash l.sought (searched l.roll) l.roll.marks.items;

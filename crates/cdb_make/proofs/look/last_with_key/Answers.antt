@@ -4,7 +4,7 @@ use Rattle.std.proofs.lemmas.List.{length-map, get_or_default}
 use Rattle.cdb_store.proofs.Reading.{reads_more, reads_nothing}
 use Rattle.cdb_make.specs.declared.key_at.LookFault.{LookFault}
 use Rattle.cdb_make.specs.declared.key_at.LookFault.TheVariants.{Foreign}
-use Rattle.cdb_make.specs.Looks.{LooksAt}
+use Rattle.cdb_make.specs.Looks.{LooksAtImages}
 use Rattle.cdb_make.specs.Marks.{is_gone}
 use Rattle.cdb_make.specs.Views.Places.{places_in}
 use Rattle.cdb_make.proofs.Spans.{spans_of, place_high}
@@ -41,8 +41,8 @@ returns-in_err-look_at-clause-foreign g c = λ h.
     let k : ℕ = c.loop-at.at - 1 in
     let up : k + 1 ≡ c.loop-at.at = omega (arith, c.loop-at-test.true) in
     let was : c.in_err-look_at.field-0.0 ≡ Foreign = search (rules, h, c.from_residual.ensures) in
-    let looks : LooksAt g.L.Width.WORD c.at-place.result c.place_at-next.result c.args.key.now (Err Foreign) (g.S.Store.image c.look_at.new.store) =
-    subst (λ (o : LookFault). LooksAt g.L.Width.WORD c.at-place.result c.place_at-next.result c.args.key.now (Err o) (g.S.Store.image c.look_at.new.store)) was c.in_err-look_at.ensures.looks in
+    let looks : LooksAtImages g.L.Width.WORD c.at-place.result c.place_at-next.result c.args.key.now (Err Foreign) (g.S.Store.image c.look_at.new.store) =
+    subst (λ (o : LookFault). LooksAtImages g.L.Width.WORD c.at-place.result c.place_at-next.result c.args.key.now (Err o) (g.S.Store.image c.look_at.new.store)) was c.in_err-look_at.ensures.looks in
     record {
       each = λ b is all sees.
           let long = sees_long m all b sees in

@@ -4,7 +4,7 @@ use Rattle.cdb_form.specs.Format.Record.{KeyValue}
 use Rattle.cdb_make.specs.Chains.{Has}
 use Rattle.cdb_make.specs.Marks.{gone_of}
 use Rattle.cdb_make.specs.Views.Roll.{searched}
-use Rattle.cdb_make.specs.Rolls.{Sees, IsFresh}
+use Rattle.cdb_make.specs.Rolls.{Sees, IsFreshRecord}
 use Rattle.cdb_make.proofs.look.last_with_key.Given as goal
 
 abbrev pub invariant-loop-at : goal.invariant-loop-at
@@ -12,7 +12,7 @@ invariant-loop-at g l = record {
   within : l.at ≤ l.end;
   here : 0 < l.at → Has l.sought (searched l.roll) (gone_of l.roll.marks.items) (l.at - 1);
   none : (b : List ℕ) → g.S.Store.image l.store b → (all : List KeyValue) → Sees l.roll all b
-      → (k : ℕ) → l.at ≤ k → k < l.end → IsFresh l.key (gone_of l.roll.marks.items) all k → ⊥;
+      → (k : ℕ) → l.at ≤ k → k < l.end → IsFreshRecord l.key (gone_of l.roll.marks.items) all k → ⊥;
   failures : g.S.Store.failures l.store ≡ g.S.Store.failures l.fn.store;
   reads : OnlyReads g.S.Store l.fn.store l.store;
 }

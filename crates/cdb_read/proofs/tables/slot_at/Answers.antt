@@ -1,5 +1,5 @@
 use Rattle.std.proofs.Common.{◌≡◌, ℕ, ◌+◌, ◌*◌, length, drop, sym, ap, ◌∙◌}
-use Rattle.cdb_store.specs.Images.{Holds}
+use Rattle.cdb_store.specs.Images.{ImagesHold}
 use Rattle.cdb_form.specs.Format.Reading.{pair_at}
 use Rattle.cdb_form.specs.Views.Pairs.{slot_pair}
 use Rattle.cdb_read.proofs.Probing.Headers.{pair_read}
@@ -10,7 +10,7 @@ pub returns-clause-read : goal.returns-clause-read
 returns-clause-read g c = λ b is.
     let w = g.L.Width.WORD in
     let place : ℕ = c.args.table.place + c.pair_size-slot_size.result * c.args.n in
-    let held : Holds place c.shown.result.now (g.S.Store.image c.cover.new.store) = holds_shown c.in_ok-cover.ensures.shows c.in_ok-cover.ensures.covers c.shown.ensures.is c.shown.ensures.long in
+    let held : ImagesHold place c.shown.result.now (g.S.Store.image c.cover.new.store) = holds_shown c.in_ok-cover.ensures.shows c.in_ok-cover.ensures.covers c.shown.ensures.is c.shown.ensures.long in
     let l : length c.shown.result.now ≡ 2 * w = c.shown.ensures.long ∙ c.pair_size-slot_size.ensures in
     sym (pair_read w place (slot_pair c.read_slot.result) l c.read_slot.ensures.read held b is)
     ∙ ap (λ k. pair_at w (drop (c.args.table.place + k * c.args.n) b)) c.pair_size-slot_size.ensures

@@ -1,5 +1,5 @@
 use Rattle.std.proofs.Common.{arith, inl, ℕ, length, List, ◌-◌, flat_map}
-use Rattle.cdb_store.specs.Images.{AreSized, Holds}
+use Rattle.cdb_store.specs.Images.{AreSized, ImagesHold}
 use Rattle.cdb_store.proofs.Moves.{kept_torn, kept_cut, kept_same, held_first, held_kept}
 use Rattle.cdb_form.specs.Format.Pair.{head_size}
 use Rattle.cdb_make.specs.Parts.{table_bytes}
@@ -59,6 +59,6 @@ returns-clause-held g c =
     let ts : List ℕ = flat_map (table_bytes g.L.Width.WORD) (roll_tables c.args.roll.now) in
     let bytes = length-tables g.L.Width.WORD (roll_tables c.args.roll.now) in
     let sized : AreSized (g.S.Store.size c.args.store.now) (g.S.Store.image c.args.store.now) = record { each = g.met.S.Store.image_size c.args.store.now } in
-    let held : Holds c.args.roll.now.end ts (g.S.Store.image c.write_tables.new.store) = held_first c.requires.inside sized c.in_ok-write_tables.ensures.ok in
-    let cut : Holds c.args.roll.now.end ts (g.S.Store.image c.cut.new.self) = held_kept (kept_cut c.args.roll.now.end (length ts) (omega (arith, bytes, c.requires.last, c.cut.ensures.no_shorter)) c.cut.ensures.images) held in
+    let held : ImagesHold c.args.roll.now.end ts (g.S.Store.image c.write_tables.new.store) = held_first c.requires.inside sized c.in_ok-write_tables.ensures.ok in
+    let cut : ImagesHold c.args.roll.now.end ts (g.S.Store.image c.cut.new.self) = held_kept (kept_cut c.args.roll.now.end (length ts) (omega (arith, bytes, c.requires.last, c.cut.ensures.no_shorter)) c.cut.ensures.images) held in
     on_any_ok c.flush.result (held_kept (kept_same c.args.roll.now.end (length ts) c.flush.ensures.images) cut)

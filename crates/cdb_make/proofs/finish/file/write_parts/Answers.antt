@@ -1,7 +1,7 @@
 use Rattle.std.proofs.Common.{arith, inr, ◌≡◌, ◌∙◌, ◌*◌, ℕ, List, length, ap, ◌-◌, flat_map, rules, sum_by}
 use Rattle.std.specs.Prelude.{sum}
 use Rattle.std.proofs.lemmas.List.{length-map}
-use Rattle.cdb_store.specs.Images.{AreSized, Holds}
+use Rattle.cdb_store.specs.Images.{AreSized, ImagesHold}
 use Rattle.cdb_store.proofs.Moves.{kept_torn, kept_same, held_kept}
 use Rattle.cdb_form.specs.Format.Pair.{head_size}
 use Rattle.cdb_make.specs.Parts.{table_bytes}
@@ -53,7 +53,7 @@ returns-in_err-write_pointers-clause-head_last g c =
 pub returns-clause-head_last : goal.returns-clause-head_last
 returns-clause-head_last g c =
     let bytes : List ℕ = flat_map (table_bytes g.L.Width.WORD) (roll_tables c.args.roll.now) in
-    let head : Holds c.args.roll.now.end bytes (g.S.Store.image c.write_pointers.new.store) = held_kept (kept_torn c.args.roll.now.end (length bytes) (inr (omega arith)) c.write_pointers.ensures.torn) c.in_ok-settle_tables.ensures.held in
+    let head : ImagesHold c.args.roll.now.end bytes (g.S.Store.image c.write_pointers.new.store) = held_kept (kept_torn c.args.roll.now.end (length bytes) (inr (omega arith)) c.write_pointers.ensures.torn) c.in_ok-settle_tables.ensures.held in
     tables_held (held_kept (kept_same c.args.roll.now.end (length bytes) c.flush.ensures.images) head)
 
 pub returns-clause-written : goal.returns-clause-written

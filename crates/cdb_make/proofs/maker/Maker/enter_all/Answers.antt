@@ -1,6 +1,6 @@
 use Rattle.std.proofs.Common.{arith, refl, ap, sym, subst, ◌∙◌, ◌≡◌, ◌<◌, ◌≤◌, ◌+◌, ◌-◌, ◌++◌, ◌∷◌, [], ℕ, List, length, take, drop}
 use Rattle.std.specs.Prelude.{sum_by}
-use Rattle.cdb_store.specs.Images.{Holds as Stored}
+use Rattle.cdb_store.specs.Images.{ImagesHold as Stored}
 use Rattle.cdb_form.specs.Format.File.{whole_size}
 use Rattle.cdb_form.specs.Format.Hash.{key_hash}
 use Rattle.cdb_form.specs.Format.Record.{AreBytes, KeyValue, record_bytes, record_size}

@@ -1,7 +1,7 @@
 use Rattle.std.proofs.Common.{◌≡◌, ◌+◌, fold, sym, ap, ◌∙◌, arith}
 use Rattle.std.proofs.lemmas.List.Sums.{fold-append}
 use Rattle.cdb_store.proofs.Parts.{part_add}
-use Rattle.cdb_store.specs.Images.{part, Holds}
+use Rattle.cdb_store.specs.Images.{part, ImagesHold}
 use Rattle.cdb_form.specs.Format.Hash.{hash_step}
 use Rattle.cdb_read.proofs.Bytes.PieceReads.{reads_more}
 use Rattle.cdb_read.proofs.Bytes.Windows.{holds_shown}
@@ -11,7 +11,7 @@ pub loop-done-preserved : goal.loop-done-preserved
 loop-done-preserved g c =
     let e = c.in_ok-cover.ensures in
     let inv = c.loop-done.invariant in
-    let held : Holds (c.args.span.place + c.loop-done.done) c.shown.result.now (g.S.Store.image c.cover.new.store) = holds_shown e.shows e.covers c.shown.ensures.is c.shown.ensures.long in
+    let held : ImagesHold (c.args.span.place + c.loop-done.done) c.shown.result.now (g.S.Store.image c.cover.new.store) = holds_shown e.shows e.covers c.shown.ensures.is c.shown.ensures.long in
     record {
       inside = omega arith;
       shows = e.shows;

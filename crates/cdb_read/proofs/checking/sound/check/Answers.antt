@@ -1,7 +1,7 @@
 use Rattle.std.proofs.Common.{◌≡◌, ℕ, List, length, take, ◌++◌, ap, sym, ◌∙◌, subst, arith}
 use Rattle.std.proofs.Math.Seq.{take-append_seam}
 use Rattle.std.proofs.lemmas.Result.{err_from_is_err_and}
-use Rattle.cdb_read.specs.Views.Check.{CheckFails, IsFirst}
+use Rattle.cdb_read.specs.Views.Check.{CheckFails, IsFirstDamage}
 use Rattle.cdb_read.specs.Views.Checked.{HasEntries, WalkHas, TablesAreClear, TablesHave}
 use Rattle.cdb_read.specs.declared.checking.table_records.TableRecords.{TableRecords}
 use Rattle.cdb_read.proofs.Checks.CheckLaws.{IsWhole, has_tables, first_is_table, first_in_walk, first_in_slots, first_is_lost, sound_is}
@@ -28,7 +28,7 @@ returns-in_err-lists-clause-fails g c =
     let w = g.L.Width.WORD in
     let r = c.args.reader.now in
     let fails : CheckFails w g.S.Store r.store c.walk_entries.new.reader.store c.in_err-lists.field-0.0 =
-    check_tells_more g.S.Store (WalkHas w) (IsFirst w) r.store c.walk_entries.new.reader.store c.in_err-lists.field-0.0
+    check_tells_more g.S.Store (WalkHas w) (IsFirstDamage w) r.store c.walk_entries.new.reader.store c.in_err-lists.field-0.0
     (λ b d is has.
     let was = c.walk_entries.ensures.reads.images b is in
     let tables = has_tables r.head.pointers r.long (omega arith) (r.known b was) (g.met.S.Store.image_size r.store b was) c.len.ensures c.in_default.ensures.inside in
@@ -44,8 +44,8 @@ returns-in_err-check_slots-clause-fails g c =
     let mid = c.walk_entries.new.reader.store in
     let new = c.check_slots.new.self.store in
     let fails : CheckFails w g.S.Store r.store c.check_slots.new.self.store c.in_err-check_slots.field-0.0 =
-    check_tells g.S.Store (IsFirst w) r.store c.check_slots.new.self.store c.in_err-check_slots.field-0.0
-    (read_tells g.S.Store (TablesHave w c.deref_mut.result.now) (IsFirst w) r.store c.walk_entries.new.reader.store c.check_slots.new.self.store c.in_err-check_slots.field-0.0 c.walk_entries.ensures.reads
+    check_tells g.S.Store (IsFirstDamage w) r.store c.check_slots.new.self.store c.in_err-check_slots.field-0.0
+    (read_tells g.S.Store (TablesHave w c.deref_mut.result.now) (IsFirstDamage w) r.store c.walk_entries.new.reader.store c.check_slots.new.self.store c.in_err-check_slots.field-0.0 c.walk_entries.ensures.reads
     (λ b d is has.
     let walked = c.check_slots.ensures.reads.images b is in
     let was = c.walk_entries.ensures.reads.images b walked in

@@ -1,5 +1,5 @@
 use Rattle.std.proofs.Common.{arith, ◌+◌}
-use Rattle.cdb_store.specs.Images.{Holds}
+use Rattle.cdb_store.specs.Images.{ImagesHold}
 use Rattle.cdb_read.proofs.Bytes.Compare.{differs, agrees, agrees_piece, tells_other}
 use Rattle.cdb_read.proofs.Bytes.PieceReads.{reads_more}
 use Rattle.cdb_read.proofs.Bytes.Windows.{holds_shown}
@@ -9,14 +9,14 @@ use Rattle.cdb_read.proofs.lookup.key_at.bytes_are_at.Goals as goal
 pub returns-then-ne-clause-same : goal.returns-then-ne-clause-same
 returns-then-ne-clause-same g c =
     let e = c.in_ok-cover.ensures in
-    let held : Holds (c.args.place + c.loop-done.done) c.shown.result.now (g.S.Store.image c.cover.new.store) = holds_shown e.shows e.covers c.shown.ensures.is c.shown.ensures.long in
+    let held : ImagesHold (c.args.place + c.loop-done.done) c.shown.result.now (g.S.Store.image c.cover.new.store) = holds_shown e.shows e.covers c.shown.ensures.is c.shown.ensures.long in
     tells_other c.loop-done.done c.min-n.result c.args.bytes.now (omega arith) c.shown.ensures.long held
     (differs c.min-n.result c.loop-done.done c.shown.result.now c.args.bytes.now c.if-ne.ensures)
 
 pub loop-done-preserved : goal.loop-done-preserved
 loop-done-preserved g c =
     let e = c.in_ok-cover.ensures in
-    let held : Holds (c.args.place + c.loop-done.done) c.shown.result.now (g.S.Store.image c.cover.new.store) = holds_shown e.shows e.covers c.shown.ensures.is c.shown.ensures.long in
+    let held : ImagesHold (c.args.place + c.loop-done.done) c.shown.result.now (g.S.Store.image c.cover.new.store) = holds_shown e.shows e.covers c.shown.ensures.is c.shown.ensures.long in
     record {
       inside = omega arith;
       shows = e.shows;

@@ -1,6 +1,6 @@
 use Rattle.std.proofs.Common.{arith, ◌≡◌, ◌+◌, ◌*◌, length, ℕ, sym, ◌∙◌, inl, inr}
 use Rattle.cdb_form.specs.Views.Pairs.{header_pair}
-use Rattle.cdb_store.specs.Images.{Holds}
+use Rattle.cdb_store.specs.Images.{ImagesHold}
 use Rattle.cdb_read.proofs.Bytes.Windows.{holds_shown}
 use Rattle.cdb_read.proofs.Probing.Headers.{passes}
 use Rattle.cdb_read.proofs.Probing.PlacedRecords.{HeaderTells, header_tells, least_below, no_header, spans_stand, spans_within}
@@ -18,7 +18,7 @@ pub returns-clause-stands : goal.returns-clause-stands
 returns-clause-stands g c =
     let w = g.L.Width.WORD in
     let n : ℕ = c.len.result in
-    let held : Holds c.args.rest.place c.shown.result.now (g.S.Store.image c.cover.new.store) = holds_shown c.in_ok-cover.ensures.shows c.in_ok-cover.ensures.covers c.shown.ensures.is c.shown.ensures.long in
+    let held : ImagesHold c.args.rest.place c.shown.result.now (g.S.Store.image c.cover.new.store) = holds_shown c.in_ok-cover.ensures.shows c.in_ok-cover.ensures.covers c.shown.ensures.is c.shown.ensures.long in
     let l : length c.shown.result.now ≡ 2 * w = c.shown.ensures.long ∙ c.pair_size-header_size.ensures in
     let header : HeaderTells w c.args.rest.place n (header_pair c.read_header-header.result) (g.S.Store.image c.cover.new.store) =
     header_tells c.read_header-header.result l c.read_header-header.ensures.read held (λ b is. g.met.S.Store.image_size c.cover.new.store b is ∙ c.cover.ensures.reads.size ∙ sym c.len.ensures) in
