@@ -11,7 +11,7 @@ ghost use Rattle.cdb_files.specs.Made.{
   IsFileOf,
   IsOfBuilding,
 };
-ghost use Rattle.cdb_files.specs.Replacing.{AreOfReplacing, AtEachMoment, IsRenamed, LeavesNew, LeavesOldOrNew, renames, };
+ghost use Rattle.cdb_files.specs.Replacing.{AreOfReplacing, AtEachMoment, IsRenamed, LeavesNew, LeavesOldOrNew, renames};
 
 use crate::fault::FileFault;
 use crate::names::Names;

@@ -6,7 +6,7 @@ ghost use Rattle.cdb_store.specs.FileStore.{calls_of, failures_of, images_of};
 ghost use Rattle.cdb_store.specs.Images.{SameImages};
 ghost use Rattle.cdb_store.specs.declared.trace.Call.TheVariants.{Made as FileMade};
 ghost use Rattle.cdb_store.specs.declared.trace.Call.TheVariants.{Synced as FileSynced};
-ghost use Rattle.cdb_files.specs.Folder.{AreNamesApart, AreGuarded, HasBits, IsPlain, MayRemove, MayReplace, MayUndo, NameCalls, };
+ghost use Rattle.cdb_files.specs.Folder.{AreNamesApart, AreGuarded, HasBits, IsPlain, MayRemove, MayReplace, MayUndo, NameCalls};
 ghost use Rattle.cdb_files.specs.declared.answer.Answer.TheVariants.{Yes, No};
 ghost use Rattle.cdb_files.specs.declared.answer.Lock.TheVariants.{Held};
 ghost use Rattle.cdb_files.specs.declared.name_trace.NameCall.TheVariants.{Same, Locked, Own};
@@ -17,7 +17,7 @@ ghost use Rattle.cdb_files.specs.declared.replace.ReplaceFault.TheVariants.{
   Rename,
   Write,
 };
-ghost use Rattle.cdb_files.specs.Replacing.{AreOfReplacing, AreSteps, AtEachMoment, ClearsFile, EndsIn, FailsRename, FailsToBuild, FailsToSeal, IsFree, IsMadeApart, IsNoName, IsOfBuilder, IsReadyToBuild, IsRenamed, IsUndoing, LeavesNew, LeavesOldOrNew, RenamesFile, ReplacingStopsAt, StopsUnbuilt, TakesLock, BuilderTells, of_name, of_open, renames, };
+ghost use Rattle.cdb_files.specs.Replacing.{AreOfReplacing, AreSteps, AtEachMoment, ClearsFile, EndsIn, FailsRename, FailsToBuild, FailsToSeal, IsFree, IsMadeApart, IsNoName, IsOfBuilder, IsReadyToBuild, IsRenamed, IsUndoing, LeavesNew, LeavesOldOrNew, RenamesFile, ReplacingStopsAt, StopsUnbuilt, TakesLock, BuilderTells, of_name, of_open, renames};
 
 use crate::answer::{Answer, Found, Lock};
 use crate::name_fault::NameFault;

@@ -30,6 +30,8 @@ pub returns-in-Ok-clause-tells : goal.returns-in-Ok-clause-tells
 returns-in-Ok-clause-tells g c =
     let e = c.make_in-buffered.ensures.makes in
     let left = c.make_in-buffered.result.0 in
-    rw (c.into_inner.ensures ∙ ap inner_of c.discard.ensures)
-    (inl (run_under g.F.Store (making_of g.L.Width.WORD g.L.Width.GREATEST g.J.Read.remaining g.I.Read.remaining c.args.self.contents) c.make_in-buffered.result.1 _ (g.S.Store.image left.inner.inner) _ _ c.make_in-buffered.result.2 e.run (λ b is. (overwrite b left.pos (bytes_of left), (b, is, refl)))
-    (on_ok_weaker c.make_in-buffered.result.2 (λ settled. (over_emptied left.pos (bytes_of left) (g.S.Store.image left.inner.inner) (ap (λ n. take n left.buffer.items) settled.0)).no_other) e.settled)), c.make_in-buffered.ensures.output)
+    rw (c.into_inner.ensures ∙ ap inner_of c.discard.ensures) (
+      inl (run_under g.F.Store (making_of g.L.Width.WORD g.L.Width.GREATEST g.J.Read.remaining g.I.Read.remaining c.args.self.contents) c.make_in-buffered.result.1 _ (g.S.Store.image left.inner.inner) _ _ c.make_in-buffered.result.2 e.run (λ b is. (overwrite b left.pos (bytes_of left), (b, is, refl)))
+          (on_ok_weaker c.make_in-buffered.result.2 (λ settled. (over_emptied left.pos (bytes_of left) (g.S.Store.image left.inner.inner) (ap (λ n. take n left.buffer.items) settled.0)).no_other) e.settled)),
+      c.make_in-buffered.ensures.output,
+    )
