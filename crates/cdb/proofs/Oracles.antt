@@ -41,7 +41,7 @@ use Rattle.cdb_store.specs.declared.store.Store.{Ghosts}
 use Rattle.cdb_tool.specs.Message.{fault_line}
 use Rattle.cdb_tool.specs.Runs.Check.{CheckingFails}
 use Rattle.cdb_read.specs.OtherWidth.{lacks_tables}
-use Rattle.cdb_tool.specs.Runs.Difference.{DifferenceFails, StatsMeetDamage as HasAny, HaveTables, DifferenceNotRead, TellsDifference, comes_after_heads, difference_of}
+use Rattle.cdb_tool.specs.Runs.Difference.{DifferenceFails, HasDamage as HasAny, HaveTables, DifferenceNotRead, TellsDifference, comes_after_heads, difference_of}
 use Rattle.cdb_tool.specs.Runs.Form.{Form, dump_form, list_form}
 use Rattle.cdb_tool.specs.Runs.Load.{IsNotLoaded}
 use Rattle.cdb_tool.specs.Runs.Stats.{StatsMeetDamage, TellingFails, TellsStats, statistics_text}

@@ -1,5 +1,5 @@
 -- What may be refused, standard output too; and an output that was taken was not.
-use Rattle.std.proofs.Common.{◌≡◌, ℕ, Bool, true, false, subst, Result, Err}
+use Rattle.std.proofs.Common.{◌≡◌, Bool, true, false, subst, Result, Err}
 use Rattle.cdb_command.specs.Asked.{Asked}
 use Rattle.cdb_command.specs.Asked as asked
 use Rattle.cdb_tool.specs.Views.Output.{OutputSays}

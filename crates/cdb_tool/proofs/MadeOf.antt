@@ -1,6 +1,6 @@
 -- A run that makes a database comes to what the function of its bytes says, or to a refusal.
 use Rattle.cdb_form.proofs.MapTexts.WholeMap.{read_rest}
-use Rattle.std.proofs.Common.{◌≡◌, ◌+◌, ◌<◌, ◌≤◌, true, false, Bool, ℕ, inl, inr, List, [], ◌∷◌, ◌++◌, length, refl, sym, ap, subst, ◌∙◌, arith, append_assoc, append-nil, Option, Some, None, Result, Ok, Err, is_some, flat_map, IfSome, nat_lt, if◌then◌else◌}
+use Rattle.std.proofs.Common.{◌≡◌, ◌+◌, ◌<◌, ◌≤◌, true, false, Bool, ℕ, inl, inr, List, [], ◌∷◌, ◌++◌, length, refl, sym, ap, subst, ◌∙◌, arith, append_assoc, append-nil, Option, Some, None, Result, Ok, Err, is_some, IfSome, nat_lt, if◌then◌else◌}
 use Rattle.std.specs.Prelude.{option_map, fold}
 use Rattle.std.proofs.lemmas.Bool.{cond-true, cond-false, lt-ltb, le-ltb}
 use Rattle.std.proofs.lemmas.List.Sums.{fold-append}
@@ -15,11 +15,8 @@ use Rattle.cdb_form.specs.Text.List.{SpellsKey}
 use Rattle.cdb_form.specs.Text.Map.{map_lines}
 use Rattle.cdb_form.specs.Text.Native.{Spells}
 use Rattle.cdb_form.specs.Text.Form.{Spelled}
-use Rattle.cdb_form.specs.Text.Map.{Lacks, is_newline, line_records, with_newlines}
-use Rattle.std.specs.List.{AllByRecursion}
-use Rattle.std.proofs.lemmas.List.Elements.{recursion_from_All}
-use Rattle.cdb_form.specs.Views.MapReader.{ReadAmid, ReadLines}
-use Rattle.cdb_form.proofs.MapTexts.MapLines.{map_lines-line}
+use Rattle.cdb_form.specs.Text.Map.{with_newlines}
+use Rattle.cdb_form.specs.Views.MapReader.{ReadAmid}
 use Rattle.cdb_form.specs.Views.TextFault.{IsOfText, IsReadFault}
 use Rattle.cdb_form.specs.declared.damage.Damage.{Damage}
 use Rattle.cdb_form.specs.declared.text.fault.TextFault.{TextFault}
