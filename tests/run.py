@@ -4,8 +4,9 @@
     tests/run.py PROGRAM [--gate]
 
 With --gate it also runs those that need what the proof of the whole repository leaves, its programs
-of tests. A part that this machine cannot run is left out and named at the end; in CI, which the variable CI
-of the environment says, that is a failure. The last line counts all that passed and failed.
+of tests, and each part must pass as many as tools/floors.txt says. A part that this machine cannot run is left out
+and named at the end; in CI, which the variable CI of the environment says, that is a failure. What the parts need is
+built beside the program if that is below bin, else in bin. The last line counts all that passed and failed.
 """
 
 import os
@@ -18,8 +19,7 @@ from dataclasses import dataclass
 
 TOP = os.path.join(os.path.dirname(os.path.abspath(__file__)), "..")
 COUNTED = re.compile(r"^(\d+) passed, (\d+) failed", re.MULTILINE)
-REFUSE = "bin/refuse.so"
-ORDERS = "bin/orders"
+FLOORS = os.path.join(TOP, "tools", "floors.txt")
 LOADED = "crates/cdb/out/cdb"
 
 
@@ -51,9 +51,27 @@ def is_dynamic(program):
     return any(head[start + size * it] == 3 for it in range(count))
 
 
+def place_of(program):
+    """The folder of what is built for the tests of a program."""
+    place = os.path.relpath(os.path.dirname(program), TOP)
+    return place if place.split(os.sep)[0] == "bin" else "bin"
+
+
+def loaded_with(program, place):
+    """The program as the checker links it: calls of the C library can be refused to it."""
+    loaded = os.path.join(TOP, place, "loaded")
+    if is_dynamic(program):
+        return program
+    return loaded if os.path.isfile(loaded) else os.path.join(TOP, LOADED)
+
+
 def parts_of(program, is_gate):
-    """The parts, in order. What refuses calls of the C library needs the program as the checker links it."""
-    loaded = program if is_dynamic(program) else os.path.join(TOP, LOADED)
+    """The parts, in order."""
+    place = place_of(program)
+    loaded = loaded_with(program, place)
+    made = {it: f"{place}/{it}" for it in ("refuse.so", "orders", "libcdb.so.1", "libcdb.a", "answers")}
+    made |= {it: f"{place}/{it}" for it in ("makes", "refused", "edges", "sanitized")}
+    refuse, orders = made["refuse.so"], made["orders"]
     c = ("C compiler", compiler())
     package = ("command dpkg-deb", "dpkg-deb")
     parts = [
@@ -65,7 +83,7 @@ def parts_of(program, is_gate):
         Part("tests/cli/kills.py", (program,)),
         Part("tests/cli/taken.py", (program,)),
         Part("tests/cli/locked.py", (program,)),
-        Part("tests/cli/orders.py", (program, ORDERS), (c,), (ORDERS,)),
+        Part("tests/cli/orders.py", (program, orders), (c,), (orders,)),
         Part("tests/cli/permissions.py", (program,)),
         Part("tests/cli/standard.py", (program,)),
         Part("tests/cli/amends.py", (program,)),
@@ -75,27 +93,39 @@ def parts_of(program, is_gate):
         Part("tests/build/gate.py"),
         Part("tests/package/version.py"),
         Part("tests/package/run.py", (program,), (package,)),
-        Part("tests/package/installing.py", (program, "bin/libcdb.so.1"), (c,), ("bin/libcdb.so.1",)),
-        Part("tests/faults/run.py", (loaded, REFUSE, "memory"), (c,), (REFUSE,)),
-        Part("tests/faults/run.py", (loaded, REFUSE, "calls"), (c,), (REFUSE,)),
-        Part("tests/faults/memory.py", (loaded, REFUSE), (c,), (REFUSE,)),
-        Part("tests/faults/closed.py", (loaded, REFUSE), (c,), (REFUSE,)),
-        Part("tests/faults/syncs.py", (loaded, REFUSE), (c,), (REFUSE,)),
-        Part("tests/faults/names.py", (loaded, REFUSE), (c,), (REFUSE,)),
-        Part("tests/faults/causes.py", (loaded, REFUSE), (c,), (REFUSE,)),
-        Part("tests/faults/killed.py", (loaded, REFUSE), (c,), (REFUSE,)),
-        Part("tests/faults/others.py", (loaded, REFUSE), (c,), (REFUSE,)),
-        Part("tests/faults/parts.py", (loaded, REFUSE), (c,), (REFUSE,)),
+        Part("tests/package/installing.py", (program, made["libcdb.so.1"]), (c,), (made["libcdb.so.1"],)),
+        Part("tests/faults/run.py", (loaded, refuse, "memory"), (c,), (refuse,)),
+        Part("tests/faults/run.py", (loaded, refuse, "calls"), (c,), (refuse,)),
+        Part("tests/faults/memory.py", (loaded, refuse), (c,), (refuse,)),
+        Part("tests/faults/closed.py", (loaded, refuse), (c,), (refuse,)),
+        Part("tests/faults/syncs.py", (loaded, refuse), (c,), (refuse,)),
+        Part("tests/faults/names.py", (loaded, refuse), (c,), (refuse,)),
+        Part("tests/faults/causes.py", (loaded, refuse), (c,), (refuse,)),
+        Part("tests/faults/killed.py", (loaded, refuse), (c,), (refuse,)),
+        Part("tests/faults/others.py", (loaded, refuse), (c,), (refuse,)),
+        Part("tests/faults/parts.py", (loaded, refuse), (c,), (refuse,)),
     ]
     if is_gate:
-        parts.append(Part("tests/faults/calls.py", (REFUSE,), (c,), (REFUSE,)))
-    library = ("bin/answers", "bin/libcdb.a", "WERROR=-Werror")
-    parts.append(Part("tests/clib/run.py", ("bin/answers", "bin", program), (c,), library))
-    drivers = ("bin/makes", "bin/refused", "bin/edges")
-    makers = (*drivers, "bin/sanitized", "WERROR=-Werror")
-    parts.append(Part("tests/clib/making.py", (*drivers, "bin"), (c,), makers))
-    parts.append(Part("tests/clib/package.py", ("bin",), (c, package), library))
+        parts.append(Part("tests/faults/calls.py", (refuse,), (c,), (refuse,)))
+    library = (made["answers"], made["libcdb.a"], "WERROR=-Werror")
+    parts.append(Part("tests/clib/run.py", (made["answers"], place, program), (c,), library))
+    drivers = (made["makes"], made["refused"], made["edges"])
+    makers = (*drivers, made["sanitized"], "WERROR=-Werror")
+    parts.append(Part("tests/clib/making.py", (*drivers, place), (c,), makers))
+    parts.append(Part("tests/clib/package.py", (place,), (c, package), library))
     return parts
+
+
+def floors():
+    """How many of each part must pass at least, by the part's script and its last word if that is needed."""
+    with open(FLOORS, encoding="utf-8") as file:
+        lines = [line.rsplit(None, 1) for line in file.read().splitlines() if line.startswith("tests/")]
+    return {name: int(least) for name, least in lines}
+
+
+def name_of(part, least):
+    """The name of a part in the list of floors."""
+    return part.script if part.script in least else f"{part.script} {part.words[-1] if part.words else ''}".strip()
 
 
 def lacks(part):
@@ -103,11 +133,12 @@ def lacks(part):
     return next((name for name, command in part.needs if shutil.which(command) is None), None)
 
 
-def run(part, place):
-    """Runs a part, shows what it says and its place among the parts, and answers how many of it passed and failed."""
+def run(part, place, out):
+    """Runs a part, for which make builds in a folder, shows what it says and its place among the parts, and answers how
+    many of it passed and failed."""
     began = time.monotonic()
     if part.built:
-        built = subprocess.run(["make", "-s", *part.built], cwd=TOP, check=False)
+        built = subprocess.run(["make", "-s", f"OUT={out}", *part.built], cwd=TOP, check=False)
         if built.returncode != 0:
             print(f"{part}: make could not build {' '.join(part.built)}")
             return 0, 1
@@ -136,15 +167,24 @@ def main(words):
     left_out = []
     wrong = []
     parts = parts_of(program, is_gate)
+    least = floors() if is_gate else {}
     for number, part in enumerate(parts):
         lacking = lacks(part)
         if lacking is not None:
             left_out.append(f"{part}: no {lacking} is here")
             continue
-        good, bad = run(part, f"{number + 1} of {len(parts)}")
+        good, bad = run(part, f"{number + 1} of {len(parts)}", place_of(program))
+        floor = least.pop(name_of(part, least), 1)
+        if bad == 0 and good < floor:
+            print(f"{part}: {good} passed, and at least {floor} must")
+            bad = 1
         passed, failed = passed + good, failed + bad
         if bad:
             wrong.append(f"{part}: {bad}")
+    unknown = [it for it in least if not any(left.startswith(it.split()[0]) for left in left_out)]
+    for it in unknown:
+        wrong.append(f"{it}: there is no such part")
+    failed += len(unknown)
     for it in left_out:
         print(f"left out: {it}")
     for it in wrong:

@@ -7,7 +7,7 @@ is wanted. With no TARGET it proves a crate and those below it.
 Each crate is proved and built as soon as those below it are, as many at once as the machine has the
 processors and the memory for. The checker works alone in the folders of a crate and of those below it, so
 each gets a tree of its own: see trees.py. Of the crates that are ready the one that most work waits for
-comes first, and gets the processors that the others leave. CRATE comes last; on a PC it is built for each processor of x86-64.
+comes first, and gets two processors if the others leave them. CRATE comes last; on a PC it is built for each processor of x86-64.
 
 As it goes, the command says how many functions are proved: on a terminal in one line that it rewrites, else
 in a line a minute. All that the checker says goes to the file build.log beside the target, or in bin; if a step
@@ -29,7 +29,7 @@ from link import link
 from trees import KEPT, Trees, alone_in, crates_below, read
 
 # What the last release took with nothing kept, and on which machine.
-TOOK = "19 minutes on 4 cores"
+TOOK = "26 minutes on 4 cores"
 
 # By itself the checker would build for the processors of 2009 and later.
 CPU = ["--cpu", "x86-64"] if platform.machine() == "x86_64" else []
@@ -45,7 +45,7 @@ GIB = 1 << 30
 CHECK_MEMORY = 4 * GIB * 9 // 10
 JOB_MEMORY = CHECK_MEMORY // 2
 # How much disk is kept of the program's crates. Without hard links, the libraries are there once more.
-DISK = 6_000_000_000
+DISK = 6_800_000_000
 COPIES = 4_000_000_000
 # How much more the gate takes: for the crates that the program does not stand on, and for a copy that is proved
 # from nothing.
@@ -54,18 +54,20 @@ GATE_DISK = 3_000_000_000
 # not say. Of a crate that is not here, about so many bytes of code take a second.
 SECONDS = {
     "cdb_store": 360,
-    "cdb_form": 340,
-    "cdb_command": 110,
-    "cdb_read": 360,
-    "cdb_make": 690,
-    "cdb_files": 250,
-    "cdb_difference": 380,
-    "cdb_tool": 430,
-    "cdb": 300,
+    "cdb_form": 430,
+    "cdb_command": 190,
+    "cdb_read": 270,
+    "cdb_make": 570,
+    "cdb_files": 330,
+    "cdb_difference": 230,
+    "cdb_tool": 560,
+    "cdb": 560,
 }
 BYTES_A_SECOND = 220
-# Chains of crates are as long as the longest if they are this part of it.
-AS_LONG = 0.9
+# How many jobs a check gets at most: a third takes more of the processors' time than it saves.
+MOST_JOBS = 2
+# By how much two jobs shorten the longest chain of crates, and how much of the processors' time all of them use.
+CHAIN_SPEED, USED = 1.6, 0.85
 # How many seconds pass between two lines where no terminal is.
 QUIET_SECONDS = 60
 # How many seconds a build that is stopped waits for its trees.
@@ -118,12 +120,13 @@ def is_program(trees, crate):
 
 
 class Progress:
-    """How far the proofs are, on standard output."""
+    """How far the proofs are, on standard output. `works` is how many seconds each crate takes, and `chains` how many
+    the longest chain of crates that begins with it."""
 
-    def __init__(self, count):
-        self.count = count
+    def __init__(self, works, chains):
+        self.works, self.chains = works, chains
         self.functions = {}
-        self.proved = 0
+        self.proved = set()
         self.said = time.monotonic()
         self.lock = threading.Lock()
 
@@ -137,10 +140,10 @@ class Progress:
     def end(self, crate):
         """Takes that a crate is proved."""
         with self.lock:
-            self.proved += 1
+            self.proved.add(crate)
             self.functions.pop(crate, None)
             self.clear()
-            print(f"  {crate} is proved: {self.proved} of {self.count} crates", flush=True)
+            print(f"  {crate} is proved: {len(self.proved)} of {len(self.works)} crates", flush=True)
             self.said = time.monotonic()
 
     def clear(self):
@@ -148,11 +151,19 @@ class Progress:
         if sys.stdout.isatty():
             print("\r\033[K", end="")
 
+    def minutes_left(self):
+        """About how many minutes are left, as long as each crate took at the last release."""
+        left, longest = 0, 0
+        for it in self.works.keys() - self.proved:
+            done, of = self.functions.get(it, (0, 1))
+            saved = self.works[it] * done / max(1, of)
+            left, longest = left + self.works[it] - saved, max(longest, self.chains[it] - saved)
+        return max(left / processors() / USED, longest / CHAIN_SPEED) / 60
+
     def say(self):
-        """Says how many functions are proved: at once on a terminal, else once a minute."""
-        text = ", ".join(
-            f"{crate} {done} of {of} functions" for crate, (done, of) in self.functions.items()
-        )
+        """Says how many functions are proved, and how long the rest takes: at once on a terminal, else once a minute."""
+        found = [f"{crate} {done} of {of} functions" for crate, (done, of) in self.functions.items()]
+        text = f"{', '.join(found)}; about {self.minutes_left():.0f} minutes left"
         if sys.stdout.isatty():
             print(f"\r\033[K  {text}"[: shutil.get_terminal_size().columns + 4], end="", flush=True)
         elif time.monotonic() - self.said >= QUIET_SECONDS:
@@ -192,14 +203,16 @@ class Proofs:
     def __init__(self, trees, crates, log, most):
         self.trees, self.log, self.most = trees, log, most
         self.last = crates[-1]
-        self.chains = chains_of(trees, crates)
         self.order = in_order(trees, crates)
         self.waiting = list(self.order)
         self.proved = set()
-        self.running = set()
+        # The crates that are checked, each with its jobs.
+        self.running = {}
         # The checkers that were begun.
         self.processes = []
-        self.progress = Progress(len(crates))
+        chains = {it: work / BYTES_A_SECOND for it, work in chains_of(trees, crates).items()}
+        works = {it: work_of(trees.folder(it)) / BYTES_A_SECOND for it in crates}
+        self.progress = Progress(works, chains)
         self.is_well = True
         self.changed = threading.Condition()
 
@@ -207,14 +220,18 @@ class Proofs:
         """The crates that wait for no other, in order."""
         return [it for it in self.waiting if self.proved.issuperset(self.trees.libraries[it])]
 
-    def words(self, crate):
-        """The command for a crate. Each that runs beside gets a processor, and those share the others for which most
-        work waits: more jobs than processors take more of their time."""
-        beside = [it for it in self.order if it in self.running or it in self.ready()][: self.most]
-        longest = self.chains[beside[0]]
-        first = [it for it in beside if self.chains[it] >= AS_LONG * longest]
-        jobs = (processors() - len(beside) + len(first)) // len(first) if crate in first else 1
-        jobs = max(1, min(jobs, memory() // len(beside) // JOB_MEMORY))
+    def free(self):
+        """How many processors no check has."""
+        return processors() - sum(self.running.values())
+
+    def jobs_of(self, ready):
+        """The jobs of the first of the crates that are ready: a processor is left for each of the others."""
+        beside = min(self.most, len(self.running) + len(ready))
+        jobs = min(MOST_JOBS, self.free() - len(ready) + 1, memory() // beside // JOB_MEMORY)
+        return max(1, jobs)
+
+    def words(self, crate, jobs):
+        """The command for a crate."""
         words = ["--jobs", str(jobs), *(CPU if crate == self.last else [])]
         if is_program(self.trees, crate):
             # It is proved, built and then run, with the word after the hyphens.
@@ -244,7 +261,7 @@ class Proofs:
             # A crate's lines stay together, and those of a failure come last.
             self.log.writelines(said)
             self.log.flush()
-            self.running.remove(crate)
+            self.running.pop(crate)
             if is_proved:
                 self.proved.add(crate)
                 self.progress.end(crate)
@@ -268,20 +285,22 @@ class Proofs:
                     self.progress.note(crate, int(counted[1]), int(counted[2]))
         return process.returncode == 0
 
-    def begin(self, crate):
-        """Begins the proof of a crate."""
+    def begin(self, ready):
+        """Begins the proof of the first of the crates that are ready."""
+        crate, jobs = ready[0], self.jobs_of(ready)
         self.waiting.remove(crate)
-        self.running.add(crate)
-        words = self.words(crate)
+        self.running[crate] = jobs
+        words = self.words(crate, jobs)
         threading.Thread(target=self.prove, args=(crate, words), daemon=True).start()
 
     def run(self):
         """Proves all crates, and answers whether each is proved."""
         with self.changed:
             while (self.is_well and self.waiting) or self.running:
-                ready = self.ready() if self.is_well and len(self.running) < self.most else []
+                has_room = self.is_well and len(self.running) < self.most and (self.free() > 0 or not self.running)
+                ready = self.ready() if has_room else []
                 if ready:
-                    self.begin(ready[0])
+                    self.begin(ready)
                 else:
                     self.changed.wait()
         return self.is_well

@@ -1,8 +1,7 @@
 """The definitions that docs/audit/ORACLE.md shows, out of the sources.
 
 What stands between two marks of the page is shown as the sources have it: after `<!-- definitions of FILE from
-FIRST to LAST -->` the definitions of a file of specs from one to another, without their types; after `<!-- clauses
-of FILE: NAME .. -->` these clauses of a function. `<!-- end -->` ends each.
+FIRST to LAST -->` the definitions of a file of specs from one to another, without their types. `<!-- end -->` ends each.
 """
 
 import os
@@ -12,8 +11,7 @@ from trees import read
 
 PAGE = "docs/audit/ORACLE.md"
 SHOWN = re.compile(
-    r"(<!-- definitions of (?P<file>\S+) from (?P<first>\w+) to (?P<last>\w+) -->\n"
-    r"|<!-- clauses of (?P<source>\S+): (?P<names>[\w ]+) -->\n).*?(<!-- end -->\n)",
+    r"(<!-- definitions of (?P<file>\S+) from (?P<first>\w+) to (?P<last>\w+) -->\n).*?(<!-- end -->\n)",
     re.DOTALL,
 )
 # A definition begins so. A record and a type are shown whole.
@@ -38,26 +36,12 @@ def definitions_of(text):
 
 def shown(top, found):
     """What a mark of the page stands for."""
-    if found["file"]:
-        made = definitions_of(read(top, found["file"]))
-        names = list(made)
-        chosen = names[names.index(found["first"]) : names.index(found["last"]) + 1]
-        return "\n\n".join(made[it] for it in chosen)
-    text = read(top, found["source"])
-    return "\n".join(clause_of(text, it) for it in found["names"].split())
-
-
-def clause_of(text, name):
-    """The clause of a name, which is the first one of it in a source."""
-    at = text.index(f"    ensures {name} {{")
-    lines = []
-    for line in text[at:].split("\n"):
-        lines.append(line.removeprefix("    "))
-        if line.endswith("}") and "\n".join(lines).count("{") == "\n".join(lines).count("}"):
-            break
-    return "\n".join(lines)
+    made = definitions_of(read(top, found["file"]))
+    names = list(made)
+    chosen = names[names.index(found["first"]) : names.index(found["last"]) + 1]
+    return "\n\n".join(made[it] for it in chosen)
 
 
 def with_definitions(top, page):
     """The page as the sources have it."""
-    return SHOWN.sub(lambda it: f"{it[1]}\n```text\n{shown(top, it)}\n```\n\n{it[7]}", page)
+    return SHOWN.sub(lambda it: f"{it[1]}\n```text\n{shown(top, it)}\n```\n\n{it[5]}", page)

@@ -1,8 +1,8 @@
 """Wrong bodies: edits of a crate's code that the prover must refuse.
 
-An edit is a file crates/NAME/must-fail/*.edit: a line `file: src/PATH`, pairs of lines `old: TEXT` and
-`new: TEXT`, and the line `clause: CLAUSE`, which names the promise that the edit breaks. The checker's own
-trial of an edit reads over that last line.
+An edit is a file crates/NAME/must-fail/*.edit: a line `file: src/PATH`, and pairs of lines `old: TEXT` and
+`new: TEXT`. The list tools/wrong_bodies.txt has a line for each: CRATE/EDIT, then `gate` if the gate tries it or
+else `-`, and then the clause that must refuse it, which names the promise that the edit breaks.
 """
 
 import os
@@ -12,7 +12,8 @@ from dataclasses import dataclass
 from trees import read
 
 FOLDER = "must-fail"
-CLAUSE = "clause: "
+LIST = "tools/wrong_bodies.txt"
+GATE, OTHER = "gate", "-"
 FUNCTION = re.compile(r"^( *)(?:pub(?:\([^)]*\))? )?(?:const )?(?:unsafe )?(?:extern \"C\" )?fn (\w+)", re.MULTILINE)
 # The head of an `impl`, with the words of its trait if it has one, or that of a trait: and the type's own name.
 OWNER = re.compile(r"^(?:unsafe )?(?:impl(?:<.*?>)? (.+ for )?|(?:pub(?:\([^)]*\))? )?trait )(?:\w+::)*(\w+)", re.MULTILINE)
@@ -37,10 +38,22 @@ class Edit:
         return f"{self.crate}/{self.name}"
 
 
-def read_edit(folder, name):
-    """Reads an edit of a crate's folder."""
+def listed(top):
+    """The lines of the list, by the edit's name: whether the gate tries it, and its clause, or None."""
+    found = {}
+    for line in read(top, LIST).splitlines():
+        words = line.split("#")[0].split(None, 2)
+        if words:
+            found[words[0]] = words[1:2] == [GATE], words[2].strip() if len(words) == 3 else None
+    return found
+
+
+def read_edit(folder, name, lines):
+    """Reads an edit of a crate's folder, with these lines of the list."""
     path = os.path.join(folder, FOLDER, f"{name}.edit")
-    pairs, file, old, clause = [], "", "", None
+    crate = os.path.basename(folder)
+    _, clause = lines.get(f"{crate}/{name}", (False, None))
+    pairs, file, old = [], "", ""
     for line in read(path).splitlines():
         if line.startswith("file: "):
             file = line.removeprefix("file: ").strip()
@@ -48,24 +61,28 @@ def read_edit(folder, name):
             old = line.removeprefix("old: ")
         elif line.startswith("new:"):
             pairs.append((file, old, line.removeprefix("new:").removeprefix(" ")))
-        elif line.startswith(CLAUSE):
-            clause = line.removeprefix(CLAUSE).strip()
-    return Edit(os.path.basename(folder), name, path, tuple(pairs), clause)
+    return Edit(crate, name, path, tuple(pairs), clause)
 
 
 def edits_of(folder):
     """The edits of a crate's folder."""
     place = os.path.join(folder, FOLDER)
     names = sorted(os.listdir(place)) if os.path.isdir(place) else []
-    return [read_edit(folder, it.removesuffix(".edit")) for it in names if it.endswith(".edit")]
+    lines = listed(os.path.join(folder, "..", ".."))
+    return [read_edit(folder, it.removesuffix(".edit"), lines) for it in names if it.endswith(".edit")]
 
 
-def note_clause(edit, clause):
-    """Writes the clause that refuses an edit as the last line of its file."""
-    lines = [it for it in read(edit.path).splitlines() if not it.startswith(CLAUSE)]
-    with open(f"{edit.path}.new", "w", encoding="utf-8") as file:
-        file.writelines(f"{it}\n" for it in [*lines, f"{CLAUSE}{clause}"])
-    os.replace(f"{edit.path}.new", edit.path)
+def note_clause(top, edit, clause):
+    """Writes the clause that refuses an edit into its line of the list."""
+    lines = read(top, LIST).splitlines()
+    heads = [it for it in lines if it.startswith("#")]
+    others = {it.split()[0]: it for it in lines if it.strip() and it not in heads}
+    is_tried, _ = listed(top).get(str(edit), (False, None))
+    others[str(edit)] = f"{edit} {GATE if is_tried else OTHER} {clause}"
+    path = os.path.join(top, LIST)
+    with open(f"{path}.new", "w", encoding="utf-8") as file:
+        file.writelines(f"{it}\n" for it in [*heads, *(others[it] for it in sorted(others))])
+    os.replace(f"{path}.new", path)
 
 
 def heads_at(text, at):

@@ -3,14 +3,17 @@
 
     tools/gate.py
 
-At the top of the repository. `make proofs` builds the program, proves what the wrong bodies need, and keeps that.
-Then the checker's own gate, `rt ci`, proves each crate from nothing and runs its tests. It works on a copy of the
-files that git tracks, as they are now, without the wrong bodies: tools/wrong.py tries these over what the build
-kept, beside it if the memory holds both. At last tests/run.py runs on the program that was built.
+At the top of the repository. The checker's own gate, `rt ci`, proves each crate from nothing and runs its tests, on a
+copy of the files that git tracks, as they are now, without the wrong bodies. What it leaves is tested: the program is
+linked of its object, and the C library made over its libraries, in bin/tested. What it left out, since an earlier run
+on this machine proved the same, `make` builds. Then tools/wrong.py tries the wrong bodies that are not known as
+refused, over proofs that are made and kept for them alone, and at last tests/run.py runs.
 
-A line a minute says what is done and what is left, on a terminal one line that is rewritten. In the end a table has
-the time of each part, and below it stands each crate and wrong body that failed. The last line counts the tests that
-passed and failed, and each other part that failed as one more. What the parts say goes to files in bin.
+A line a minute says what is done and about how long the rest takes, on a terminal one line that is rewritten. In the
+end a table has the time of each part, and below it is each crate and wrong body that failed. Nothing passes because
+it was left out: each crate must be proved, each listed wrong body be tried, and each part of the tests pass as many as
+tools/floors.txt says. The last line counts the tests that passed and failed, and each other part that failed as one
+more. What the parts say goes to files in bin.
 """
 
 import contextlib
@@ -25,24 +28,31 @@ import sys
 import threading
 import time
 
-from build import CHECK_MEMORY, GATE_DISK, QUIET_SECONDS, checker, interrupt, memory, missing, processors, show_end
+from build import BYTES_A_SECOND, GATE_DISK, QUIET_SECONDS, checker, interrupt, missing, processors, show_end, work_of
 from edits import FOLDER, edits_of
-from trees import KEPT, Trees, alone_now, lines_of
-from wrong import chosen
+from link import links_statically
+from trees import KEPT, Trees, alone_now, crates_below, lines_of, read
+from wrong import Refusals, chosen
 
 TOOLS = os.path.dirname(os.path.abspath(__file__))
-PROGRAM = "bin/cdb"
+# What is built by `make`, and of what `rt ci` left.
+BUILT, TESTED = "bin", os.path.join("bin", "tested")
+ARCHIVE, LOADED = "libcdb_c.a", "loaded"
 COPY = os.path.join("bin", "gate")
+FLOORS = "tools/floors.txt"
+BODIES = "wrong bodies"
 # What is no source, if git does not say what is.
 NOT_SOURCES = ("bin", "dist", KEPT, ".git", "__pycache__")
 COUNTED = re.compile(r"^(\d+) passed, (\d+) failed")
 # What the parts say of a crate, a wrong body and a part of the tests that is done.
-PROVED = re.compile(r"rt: \w+ proved$")
-TRIED = re.compile(r"\w+/\S+")
-TESTED = re.compile(r"tests/\S+.*: \d+ s, (\d+) of (\d+) parts$")
+PROVED = re.compile(r"rt: (\w+) (?:proved$|is kept:)")
+TRIED = re.compile(r"(\w+/[^\s:]+)")
+DONE = re.compile(r"tests/\S+.*: \d+ s, (\d+) of (\d+) parts$")
 LIBC = ctypes.CDLL(None)
 # The number by which a process asks for a signal once the one that began it ends.
 SIGNAL_AT_END = 1
+# How much of the time of all processors `rt ci` uses.
+USED = 0.85
 # How many seconds parts that are stopped may take, and pass between two looks at them.
 STOP_SECONDS = 10
 LOOK_SECONDS = 0.2
@@ -90,32 +100,29 @@ def take_tests(top, copy):
             shutil.move(os.path.join(copy, name), os.path.join(top, name))
 
 
-def begin(lanes):
-    """What a part does first: it takes so many processors, and asks to be ended if this process ends in whatever way."""
-    if lanes:
-        os.sched_setaffinity(0, sorted(os.sched_getaffinity(0))[:lanes])
+def begin():
+    """What a part does first: it asks to be ended if this process ends in whatever way."""
     LIBC.prctl(SIGNAL_AT_END, signal.SIGTERM)
 
 
-def lanes_beside():
-    """How many processors `rt ci` may use if a wrong body is tried beside it, or 0 if the memory does not hold that:
-    with less than two checks of its own it would take far longer."""
-    lanes = min(processors(), memory() // CHECK_MEMORY - 1)
-    return lanes if lanes >= min(2, processors()) else 0
+def floors(top):
+    """How many of each part must pass at least."""
+    lines = [line.rsplit(None, 1) for line in read(top, FLOORS).splitlines() if line and not line.startswith("#")]
+    return {name: int(least) for name, least in lines}
 
 
 class Part:
     """A part of the gate: a command, what it says, and the time that it takes."""
 
-    def __init__(self, name, words, folder=".", log=None, steps=None, lanes=None):
+    def __init__(self, name, words, folder=".", log=None, steps=None):
         self.name, self.log, self.steps = name, log, steps
         self.began, self.wall, self.work, self.status = time.monotonic(), 0, 0, None
-        # How many lines said that a step is done, the last of these, and the lines that wait to be shown.
-        self.done, self.step, self.unseen, self.last = 0, None, [], ""
+        # The steps that are done, by what the lines named them, the last line of one, and the lines to be shown.
+        self.done, self.step, self.unseen, self.last = set(), None, [], ""
         how = {"stdin": subprocess.DEVNULL}
         if log:
             how |= {"stdout": subprocess.PIPE, "stderr": subprocess.STDOUT, "text": True, "errors": "replace"}
-        self.process = subprocess.Popen(words, cwd=folder, preexec_fn=lambda: begin(lanes), **how)
+        self.process = subprocess.Popen(words, cwd=folder, preexec_fn=begin, **how)
         self.reader = threading.Thread(target=self.read, daemon=True)
         self.reader.start()
 
@@ -135,7 +142,8 @@ class Part:
         """Takes a line that the part said."""
         step = self.steps.match(line)
         if step:
-            self.done, self.step = self.done + 1, step
+            self.done.add(step[1])
+            self.step = step
         self.last = line
         self.unseen.append(line)
 
@@ -161,9 +169,11 @@ class Gate:
     def __init__(self, top):
         self.top, self.began, self.said = top, time.monotonic(), time.monotonic()
         self.parts, self.failed, self.wrong = [], 0, []
-        self.crates = len(lines_of(top))
-        trees = Trees(top, os.path.join(top, "bin", "trees"))
-        self.bodies = sum(len(found) for found in chosen(trees, [], False)[0].values())
+        self.crates = list(lines_of(top))
+        self.trees = Trees(top, os.path.join(top, "bin", "trees"))
+        self.edits = chosen(self.trees, [], False)[0]
+        self.bodies = {str(it) for found in self.edits.values() for it in found}
+        self.floors = floors(top)
 
     def begin(self, *words, **named):
         """Begins a part."""
@@ -174,10 +184,13 @@ class Gate:
     def progress(self, part):
         """How far a part is."""
         if part.name == "rt ci":
-            return f"rt ci: {part.done} of {self.crates} crates proved"
-        if part.name == "wrong bodies":
-            return f"wrong bodies: {part.done} of {self.bodies} tried"
-        return f"tests: {part.step[1]} of {part.step[2]} parts" if part.step else "tests"
+            left = [it for it in self.crates if it not in part.done]
+            work = sum(work_of(self.trees.folder(it)) for it in left) / BYTES_A_SECOND
+            minutes = work / processors() / USED / 60
+            return f"rt ci: {len(part.done)} of {len(self.crates)} crates proved, about {minutes:.0f} minutes left of it"
+        if part.name == BODIES:
+            return f"{BODIES}: {len(part.done)} of {len(self.bodies)} tried"
+        return f"tests: {part.step[1]} of {part.step[2]} parts" if part.step else part.name
 
     def show(self, line):
         """Shows a line, without the one that a terminal rewrites."""
@@ -216,40 +229,81 @@ class Gate:
             return True
         return False
 
-    def prove(self, copy):
-        """Proves all from nothing, and tries the wrong bodies."""
-        files = copy_sources(self.top, copy)
-        lanes = lanes_beside()
-        ci = self.begin("rt ci", [checker(), "ci"], folder=copy, log="bin/gate.log", steps=PROVED, lanes=lanes)
-        words = [sys.executable, os.path.join(TOOLS, "wrong.py")]
-        if lanes:
-            words += ["--beside", str(ci.process.pid)]
-        else:
-            self.wait(ci, shows=self.is_wrong)
-        bodies = self.begin("wrong bodies", words, log="bin/bodies.log", steps=TRIED)
-        self.wait(ci, bodies, shows=self.is_wrong)
-        changed = [it for it in files if not is_same(os.path.join(self.top, it), os.path.join(copy, it))]
-        for it in changed:
-            self.wrong.append(f"{it} was changed while the gate ran")
-            self.show(self.wrong[-1])
-        self.failed += len(changed) > 0
-        take_tests(self.top, copy)
-        for part in (ci, bodies):
-            passed, failed = part.counted()
-            self.show(f"{part.name}: {passed} passed, {failed} failed")
-            self.failed += failed
-            if failed:
-                show_end(part.log, f"{part.name} failed.")
+    def count(self, part, least):
+        """Takes how many of a part passed and failed, which must be so many."""
+        passed, failed = part.counted()
+        self.show(f"{part.name}: {passed} passed, {failed} failed")
+        if failed == 0 and passed < least:
+            self.wrong.append(f"{part.name}: {passed} passed, and not {least}")
+            failed = 1
+        self.failed += failed
+        if failed:
+            show_end(part.log, f"{part.name} failed.")
 
-    def test(self):
-        """Runs the tests, and answers how many passed and failed."""
-        words = [sys.executable, os.path.join("tests", "run.py"), PROGRAM, "--gate"]
-        part = self.begin("tests", words, log="bin/tests.log", steps=TESTED)
+    def prove(self, copy):
+        """Proves all from nothing."""
+        files = copy_sources(self.top, copy)
+        ci = self.begin("rt ci", [checker(), "ci"], folder=copy, log="bin/gate.log", steps=PROVED)
+        self.wait(ci, shows=self.is_wrong)
+        self.count(ci, len(self.crates))
+        # A crate that failed is named by its own line.
+        lacking = [f"{it} was not proved" for it in self.crates if it not in ci.done and ci.counted()[1] == 0]
+        lacking += [f"{it} was changed while the gate ran" for it in files if not is_same(os.path.join(self.top, it), os.path.join(copy, it))]
+        for it in lacking:
+            self.wrong.append(it)
+            self.show(it)
+        self.failed += len(lacking) > 0
+
+    def take(self, copy):
+        """Takes what `rt ci` left for the tests: the folder of the program and of the C library, if it left both."""
+        take_tests(self.top, copy)
+        shutil.rmtree(TESTED, ignore_errors=True)
+        os.makedirs(TESTED)
+        made = os.path.join(copy, "crates", "cdb")
+        if not links_statically(made, os.path.join(TESTED, "cdb")):
+            return None
+        shutil.copy(os.path.join(made, KEPT, "cdb"), os.path.join(TESTED, LOADED))
+        words = [sys.executable, os.path.join(TOOLS, "archive.py"), copy, "cdb_c", os.path.join(TESTED, ARCHIVE)]
+        archive = self.begin("C library", words)
+        self.wait(archive)
+        return TESTED if archive.status == 0 else None
+
+    def build(self):
+        """Builds what the tests run on, and answers whether that succeeded."""
+        build = self.begin("build", ["make", "-s", "bin/cdb", f"bin/{ARCHIVE}"])
+        self.wait(build)
+        return build.status == 0
+
+    def refuse(self):
+        """Tries the wrong bodies, of crates with one that is not known as refused over proofs that are kept."""
+        refusals = Refusals(self.trees)
+        unknown = [it for it, found in self.edits.items() if not all(map(refusals.has, found))]
+        # A crate is proved with those above it.
+        tops = [it for it in unknown if not any(it in crates_below(self.trees.libraries, of)[:-1] for of in unknown)]
+        for crate in tops:
+            proofs = self.begin(f"for {crate}", [sys.executable, os.path.join(TOOLS, "build.py"), f"crates/{crate}"])
+            self.wait(proofs)
+            if proofs.status != 0:
+                self.wrong.append(f"{crate} was not proved for its wrong bodies")
+        words = [sys.executable, os.path.join(TOOLS, "wrong.py")]
+        bodies = self.begin(BODIES, words, log="bin/bodies.log", steps=TRIED)
+        self.wait(bodies, shows=self.is_wrong)
+        self.count(bodies, max(len(self.bodies), self.floors[BODIES]))
+
+    def test(self, place):
+        """Runs the tests on what is built in a folder, and answers how many passed and failed."""
+        words = [sys.executable, os.path.join("tests", "run.py"), os.path.join(place, "cdb"), "--gate"]
+        part = self.begin("tests", words, log="bin/tests.log", steps=DONE)
         # The counts are the last line of all.
         self.wait(part, holds=1)
         if not COUNTED.match(part.last):
             self.show(part.last)
-        return part.counted()
+        passed, failed = part.counted()
+        least = sum(it for name, it in self.floors.items() if name != BODIES)
+        if failed == 0 and passed < least:
+            self.wrong.append(f"tests: {passed} passed, and not {least}")
+            failed = 1
+        return passed, failed
 
     def table(self):
         """The time of each part."""
@@ -268,16 +322,16 @@ class Gate:
 
     def run(self, copy):
         """Runs the gate, and answers how many passed and failed."""
-        build = self.begin("build", ["make", "-s", "proofs"])
-        self.wait(build)
-        if build.status != 0:
-            return 0, 1
         try:
             self.prove(copy)
+            place = self.take(copy)
         finally:
             # The checker takes a list of crates below the top for a mistake.
             shutil.rmtree(copy, ignore_errors=True)
-        passed, failed = self.test()
+        if place is None and not self.build():
+            return 0, 1 + self.failed
+        self.refuse()
+        passed, failed = self.test(place or BUILT)
         return passed, failed + self.failed
 
 

@@ -4,8 +4,9 @@ over the machine's C library.
 
     tools/link.py CRATE TARGET
 
-A static program starts without a loader. If there is no C compiler, or no static C library, TARGET is the
-program as the checker links it, which needs a C library on the machine that it runs on. One line says which.
+A static program starts without a loader. It is position-independent, as the one that the checker links is. If
+there is no C compiler, or no static C library, TARGET is that one, which needs a C library on the machine that it
+runs on. One line says which.
 """
 
 import os
@@ -15,8 +16,16 @@ import subprocess
 import sys
 
 ARCHIVES = ("liblibc_c.a", "libos_c.a")
-# At fixed places, with no executable stack, and with no name that differs from build to build.
-FLAGS = ["-static", "-no-pie", "-Wl,-z,noexecstack", "-Wl,-z,relro", "-Wl,--build-id=none", "-Wl,--gc-sections"]
+# At addresses that the system chooses anew for each process, with tables that are read only once they are filled,
+# with no executable stack, and with no name that differs from build to build.
+FLAGS = [
+    "-static-pie",
+    "-Wl,-z,noexecstack",
+    "-Wl,-z,relro",
+    "-Wl,-z,now",
+    "-Wl,--build-id=none",
+    "-Wl,--gc-sections",
+]
 
 
 def compiler():

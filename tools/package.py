@@ -109,8 +109,9 @@ CHANGELOG = """\
  -- {maintainer}  {date}
 """
 
-# The program needs no library, so that it starts sooner.
-OVERRIDES = "{name}: statically-linked-binary\n"
+# The program needs no library, so that it starts sooner. lintian takes it for a library, since it is
+# position-independent.
+OVERRIDES = "{name}: shared-library-lacks-prerequisites\n"
 # The library keeps the name by which programs load tinycdb's, and the package has one of its own.
 SHARED_OVERRIDES = "{name}-libcdb1: package-name-doesnt-match-sonames libcdb1\n"
 

@@ -53,6 +53,11 @@ def link(source, target):
         shutil.copy2(source, target)
 
 
+def link_proved(source, target):
+    """Gives a file of what was proved a second name. Its other files the checker writes in place, so they are copied."""
+    (link if source.endswith(".oantt") else shutil.copy2)(source, target)
+
+
 @contextlib.contextmanager
 def alone_in(folder, how=fcntl.LOCK_EX):
     """Keeps the checker and other builds out of a crate's folder, as the checker does, once none works there."""
@@ -123,8 +128,9 @@ class Trees:
                     held.enter_context(alone_in(self.folder(it), fcntl.LOCK_SH))
                 shutil.rmtree(tree, ignore_errors=True)
                 inside = self.make_sources(crate, tree)
-                self.copy(crate, PROVED, tree, link)
+                self.copy(crate, PROVED, tree, link_proved)
             for path, text in texts.items():
+                os.makedirs(os.path.dirname(os.path.join(inside, path)), exist_ok=True)
                 with open(os.path.join(inside, path), "w", encoding="utf-8") as file:
                     file.write(text)
             yield inside

@@ -1,28 +1,32 @@
 #!/usr/bin/env python3
 """Tries wrong bodies over what a build kept of the right ones: the prover must refuse each, by its clause.
 
-    tools/wrong.py [--all] [--note] [--beside PID] [CRATE | CRATE/EDIT ..]
+    tools/wrong.py [--all] [--note] [--anew] [CRATE | CRATE/EDIT ..]
 
-A wrong body is an edit of a crate's folder must-fail. Those of tools/wrong_bodies.txt are tried, with --all each,
-of the crates that are named, or of all; an edit that is named is tried in any case. Each crate must be proved and
-kept, as `make` leaves it.
+A wrong body is an edit of a crate's folder must-fail. Those that tools/wrong_bodies.txt marks for the gate are tried,
+with --all each, of the crates that are named, or of all; an edit that is named is tried in any case. Each crate must
+be proved and kept, as `make` leaves it.
 
 Wrong bodies of different functions are tried in one check, over hard links of what was kept: so the check
 proves the functions that they touch, and nothing else. One counts as refused if a goal of its own function
 stays open, and the reason is no name of a stored proof that the edit took away. The goal's clause must be
-the one that the edit's line `clause:` names. Whatever does not pass so is tried once more, alone.
+the one that the edit's line of the list names. Whatever does not pass so is tried once more, alone.
 
-With --note that line is written anew where the clause did not refuse the edit. With --beside one check runs at
-a time, at the lowest priority, as long as that process runs; else as many run as processors and memory allow.
-The last line counts all that passed and failed.
+With --note that line is written anew where the clause did not refuse the edit.
+
+What was refused is kept beside the toolchain, or in bin/refused if no other user may write there, under a sum of all
+that the trial stands on: the edit, the crate and those below it, the toolchain and these tools. So a later run, also
+in another clone, tries what changed. With --anew each is tried. The last line counts all that passed and failed.
 """
 
 import argparse
 import contextlib
+import hashlib
 import os
 import re
 import shutil
 import signal
+import stat
 import subprocess
 import sys
 import threading
@@ -31,11 +35,14 @@ from concurrent.futures import ThreadPoolExecutor
 from dataclasses import dataclass, field
 
 from build import CPU, QUIET_SECONDS, checker, interrupt, is_program, most_at_once
-from edits import BadEdit, applied, edits_of, function_at, named, note_clause
-from trees import PROVED, Trees, alone_now, read
+from edits import LIST, BadEdit, applied, edits_of, function_at, listed, named, note_clause
+from trees import PROVED, SOURCES, Trees, alone_now, crates_below, read
 
-LIST = "tools/wrong_bodies.txt"
 LOG = "bin/wrong.log"
+# Where it is kept what was refused: beside the toolchain's folder, or in the repository.
+BESIDE_KIT = "cdb-refused"
+REFUSED = "bin/refused"
+TOOLS = os.path.dirname(os.path.abspath(__file__))
 # A check costs ten seconds before any proof, which these share; with more, one check would take as long as all others.
 MOST_AT_ONCE = 10
 
@@ -141,8 +148,8 @@ class Trial:
             noted = self.edit.clause
             if noted in clauses:
                 return None, clauses
-            beside = f"`clause: {noted}`" if noted else "no line `clause:`"
-            return f"is refused by {', '.join(clauses)}, and beside it is {beside}", clauses
+            beside = f"has the clause {noted}" if noted else "has no clause"
+            return f"is refused by {', '.join(clauses)}, and {LIST} {beside}", clauses
         if not told.is_read:
             return f"cannot be tried: {told.error}", clauses
         lost = [it for name, found in told.lost.items() if not self.functions or name in self.functions for it in found]
@@ -186,11 +193,87 @@ def proved_functions(folder, crate):
     return found
 
 
+def is_own(folder):
+    """Whether a folder is there that this user alone may write in."""
+    try:
+        found = os.lstat(folder)
+    except OSError:
+        return False
+    return stat.S_ISDIR(found.st_mode) and found.st_uid == os.geteuid() and not found.st_mode & 0o022
+
+
+def refused_folder(top):
+    """The folder in which it is kept what was refused: beside the toolchain, for every clone, if that can be."""
+    said = subprocess.run([checker(), "doc"], capture_output=True, text=True, check=False).stdout.strip()
+    beside = os.path.join(os.path.dirname(os.path.dirname(said)), BESIDE_KIT)
+    for folder in [beside] * os.path.isabs(said) + [os.path.join(top, REFUSED)]:
+        with contextlib.suppress(OSError):
+            os.makedirs(folder, 0o755, exist_ok=True)
+        if is_own(folder):
+            return folder
+    return None
+
+
+class Refusals:
+    """The wrong bodies that were refused, by a sum of all that the trial of each stands on."""
+
+    def __init__(self, trees):
+        self.trees, self.sums = trees, {}
+        self.folder = refused_folder(trees.top)
+        version = subprocess.run([checker(), "version"], capture_output=True, check=False).stdout
+        texts = [read(TOOLS, it) for it in ("wrong.py", "edits.py")]
+        self.all = repr((version, texts, trees.lines)).encode()
+
+    def sum_of(self, crate):
+        """The sum of a crate's sources."""
+        if crate not in self.sums:
+            found = hashlib.sha256()
+            for part in SOURCES:
+                for place, folders, names in os.walk(os.path.join(self.trees.folder(crate), part)):
+                    folders.sort()
+                    for name in sorted(names):
+                        path = os.path.join(place, name)
+                        with open(path, "rb") as file:
+                            found.update(repr((os.path.relpath(path, self.trees.top), file.read())).encode())
+            self.sums[crate] = found.hexdigest()
+        return self.sums[crate]
+
+    def place_of(self, edit):
+        """Where it is kept that an edit was refused."""
+        sums = [self.sum_of(it) for it in crates_below(self.trees.libraries, edit.crate)]
+        found = hashlib.sha256(self.all + repr((str(edit), edit.pairs, edit.clause, sums)).encode())
+        return os.path.join(self.folder or "", found.hexdigest())
+
+    def has(self, edit):
+        """Whether an edit was refused. A file that is not whole says nothing."""
+        try:
+            return self.folder is not None and read(self.place_of(edit)) == self.said_of(edit)
+        except (OSError, ValueError):
+            return False
+
+    def said_of(self, edit):
+        """What the file of an edit that was refused has."""
+        return f"{edit} was refused by {edit.clause}\n"
+
+    def keep(self, edit):
+        """Keeps that an edit was refused, if that can be done: at once or not at all."""
+        place = self.place_of(edit)
+        with contextlib.suppress(OSError):
+            if self.folder is not None:
+                new = f"{place}.{os.getpid()}"
+                with open(new, "w", encoding="utf-8") as file:
+                    file.write(self.said_of(edit))
+                os.replace(new, place)
+
+
 class Trials:
     """The trials of wrong bodies, at most so many checks at once."""
 
     def __init__(self, trees, log, words):
         self.trees, self.log, self.words = trees, log, words
+        self.refusals = Refusals(trees)
+        # The places of those that are tried, as they were when the run began.
+        self.places = {}
         self.most = most_at_once(trees)
         self.lock = threading.Condition()
         self.running, self.processes, self.rooms = 0, [], 0
@@ -199,16 +282,12 @@ class Trials:
         # The wrong bodies that a first check did not settle, each as a group.
         self.left = []
 
-    def is_beside(self):
-        """Whether the process that this runs beside still runs."""
-        return self.words.beside is not None and os.path.isdir(f"/proc/{self.words.beside}")
-
     @contextlib.contextmanager
     def lane(self):
         """Waits until another check may run."""
         with self.lock:
-            while self.running >= (1 if self.is_beside() else self.most):
-                self.lock.wait(1)
+            while self.running >= self.most:
+                self.lock.wait()
             self.running, self.rooms = self.running + 1, self.rooms + 1
             room = self.rooms
         try:
@@ -227,7 +306,6 @@ class Trials:
             with self.lock:
                 if self.is_stopped:
                     return 2, "stopped"
-                words = ["nice", "-n", "19", *words] if self.is_beside() else words
                 process = subprocess.Popen(words, cwd=folder, text=True, errors="replace", **how)
                 self.processes.append(process)
             output, _ = process.communicate()
@@ -284,11 +362,12 @@ class Trials:
         """Takes down and says how a wrong body ended."""
         with self.lock:
             if why is not None and clauses and self.words.note:
-                note_clause(trial.edit, best_of(clauses))
+                note_clause(self.trees.top, trial.edit, best_of(clauses))
                 print(f"{trial.edit}: noted {best_of(clauses)} of {', '.join(clauses)}", flush=True)
                 why = None
             elif why is None:
                 print(f"{trial.edit}: refused by {trial.edit.clause}", flush=True)
+                self.keep(trial.edit)
             else:
                 print(f"{trial.edit} {why}", flush=True)
             self.tried += 1
@@ -297,9 +376,16 @@ class Trials:
                 print(f"  {self.tried} of {self.count} wrong bodies tried", flush=True)
                 self.said = time.monotonic()
 
+    def keep(self, edit):
+        """Keeps that an edit was refused, unless what its trial stands on has changed meanwhile."""
+        self.refusals.sums.clear()
+        if self.refusals.place_of(edit) == self.places.get(edit):
+            self.refusals.keep(edit)
+
     def try_all(self, trials):
         """Tries the wrong bodies of crates: first some at a time, then each that is not settled alone."""
         self.count = sum(len(found) for found in trials.values())
+        self.places = {it.edit: self.refusals.place_of(it.edit) for found in trials.values() for it in found}
         for it in [it for found in trials.values() for it in found if it.why]:
             self.end(it, it.why, [])
         groups = []
@@ -333,22 +419,17 @@ def best_of(clauses):
     return min(clauses, key=lambda it: " " in it or it.startswith(("loop", "invariant_of")))
 
 
-def listed(top):
-    """The wrong bodies that the gate tries."""
-    lines = [line.split("#")[0].strip() for line in read(top, LIST).splitlines()]
-    return [it for it in lines if it]
-
-
 def chosen(trees, names, is_all):
     """The wrong bodies to try of these crates and edits, by crate, and what is wrong with the list and the names."""
-    listed_here = set(listed(trees.top))
+    lines = listed(trees.top)
+    of_gate = {name for name, (is_tried, _) in lines.items() if is_tried}
     found, there = {}, set()
     for crate in trees.libraries:
         edits = edits_of(trees.folder(crate))
         there |= {crate, *map(str, edits)}
-        of_all = [it for it in edits if is_all or str(it) in listed_here] if not names or crate in names else []
+        of_all = [it for it in edits if is_all or str(it) in of_gate] if not names or crate in names else []
         found[crate] = [it for it in edits if it in of_all or str(it) in names]
-    wrong = [f"{LIST} names {it}, and there is no such wrong body" for it in sorted(listed_here - there)]
+    wrong = [f"{LIST} names {it}, and there is no such wrong body" for it in sorted(set(lines) - there)]
     wrong += [f"there is no crate and no wrong body {it}" for it in names if it not in there]
     return {crate: edits for crate, edits in found.items() if edits}, wrong
 
@@ -370,7 +451,7 @@ def words_of():
     words = argparse.ArgumentParser(description=__doc__.split("\n", 1)[0])
     words.add_argument("--all", action="store_true")
     words.add_argument("--note", action="store_true")
-    words.add_argument("--beside", type=int)
+    words.add_argument("--anew", action="store_true")
     words.add_argument("names", nargs="*")
     return words.parse_args()
 
@@ -379,13 +460,29 @@ def try_them(top, place, words):
     """Tries the wrong bodies that are asked for, and answers how many passed and failed."""
     trees = Trees(top, place)
     edits, wrong = chosen(trees, words.names, words.all)
+    refused = refused_before(trees, edits, words)
     trials, unproved = trials_of(trees, edits)
     for line in [*wrong, *unproved]:
         print(line, flush=True)
     with open(os.path.join(top, LOG), "w", encoding="utf-8") as log:
         run = Trials(trees, log, words)
         run.try_all(trials)
-    return run.passed, run.failed + len(wrong) + len(unproved)
+    return refused + run.passed, run.failed + len(wrong) + len(unproved)
+
+
+def refused_before(trees, edits, words):
+    """Takes out the edits that an earlier run found refused, says them, and answers how many."""
+    refusals = Refusals(trees)
+    count = 0
+    for crate, found in list(edits.items()) if not (words.anew or words.note) else []:
+        earlier = [it for it in found if refusals.has(it)]
+        for it in earlier:
+            print(f"{it}: refused by {it.clause}, as an earlier run found", flush=True)
+        edits[crate] = [it for it in found if it not in earlier]
+        count += len(earlier)
+        if not edits[crate]:
+            del edits[crate]
+    return count
 
 
 def main():

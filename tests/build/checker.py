@@ -4,7 +4,8 @@ it was told in the file that the environment's JOURNAL names, and keeps what the
 
 The environment's MEET names crates that wait for each other in the midst of their checks, FAIL a crate that
 is not proved, and HANG crates that are not done before they are ended. `check` goes by the first word of a
-function's body: see WAYS. `ci` is the crate of that name, and adds a line to the file that CHANGE names.
+function's body: see WAYS. `ci` is the crate of that name, adds a line to the file that CHANGE names, and proves none
+of the crates that LEFT_OUT names.
 """
 
 import fcntl
@@ -142,13 +143,14 @@ def check(crate, words):
 def gate():
     """What the checker's own gate does at the top of a repository."""
     note("begins", "ci", *sorted(os.listdir(".")))
+    note("words", *sys.argv[1:])
     note("bodies", *[place for place, _, _ in os.walk(".") if place.endswith("must-fail")])
     with open(os.environ.get("CHANGE", os.devnull), "a", encoding="utf-8") as file:
         file.write("changed\n")
     end = time.monotonic() + SECONDS
     while "ci" in named("HANG") and time.monotonic() < end:
         time.sleep(0.01)
-    crates = listed_in(".")
+    crates = [it for it in listed_in(".") if it not in named("LEFT_OUT")]
     for crate in crates:
         os.makedirs(os.path.join("crates", crate, "out"))
         with open(os.path.join("crates", crate, "out", f"{crate}_tests"), "w", encoding="utf-8") as file:
@@ -162,6 +164,9 @@ def gate():
 
 if sys.argv[1] == "version":
     print(os.environ.get("VERSION", "a-kit logic 1234"))
+elif sys.argv[1] == "doc":
+    # The folder of the toolchain is in the one that the variable KITS names, if it names one.
+    print(os.path.join(os.environ["KITS"], "kit", "START.md") if "KITS" in os.environ else "")
 elif sys.argv[1] == "ci":
     sys.exit(gate())
 elif sys.argv[1] == "check":

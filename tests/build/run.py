@@ -52,6 +52,19 @@ def again(it):
     yield "kept", sorted(it.noted("has")) == sorted(BUILT)
 
 
+def minutes(_):
+    """What is left is said in minutes: of the longest chain, or of all crates if the processors are too few for that."""
+    progress = build.Progress({"low": 600, "left": 60, "right": 60}, {"low": 660, "left": 60, "right": 60})
+    with mock.patch("build.processors", return_value=4):
+        yield "chain", round(progress.minutes_left(), 2) == round(660 / build.CHAIN_SPEED / 60, 2)
+        progress.functions["low"] = 5, 10
+        yield "half", round(progress.minutes_left(), 2) == round(360 / build.CHAIN_SPEED / 60, 2)
+        progress.proved.add("low")
+        yield "rest", round(progress.minutes_left(), 2) == round(60 / build.CHAIN_SPEED / 60, 2)
+    with mock.patch("build.processors", return_value=1):
+        yield "one processor", round(progress.minutes_left(), 2) == round(120 / build.USED / 60, 2)
+
+
 def library(it):
     """A static library is built as a program is, and not run."""
     status, output, _ = it.build(crate="aside", target="bin/libaside.a")
@@ -160,7 +173,7 @@ def linked(it):
         return
     it.write("it.c", "int main(void) { return 7; }")
     made = os.path.join(crate, "out", "top.o")
-    subprocess.run([*link.compiler(), "-c", "-o", made, os.path.join(it.top, "it.c")], check=True)
+    subprocess.run([*link.compiler(), "-fPIE", "-c", "-o", made, os.path.join(it.top, "it.c")], check=True)
     with mock.patch("link.archives", return_value=[]):
         yield "static", link.link(crate, target) == "static" and subprocess.run([target], check=False).returncode == 7
         yield from linked_in_vain(crate, target)
@@ -180,4 +193,4 @@ def linked_in_vain(crate, target):
 
 
 if __name__ == "__main__":
-    run_parts((side_by_side, again, library, failing, stopped, killed, two_builds, alone, copied, refused, linked))
+    run_parts((side_by_side, again, library, minutes, failing, stopped, killed, two_builds, alone, copied, refused, linked))

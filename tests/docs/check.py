@@ -26,7 +26,7 @@ ORACLE = "docs/audit/ORACLE.md"
 ORACLE_SOURCES = (
     "crates/cdb/specs/Created.antt",
     "crates/cdb/specs/Oracle.antt",
-    "crates/cdb/src/steps.rt",
+    "crates/cdb/specs/Running.antt",
     "crates/cdb_form/specs/Text/Parse.antt",
     "crates/cdb_tool/specs/Runs/LookedUp.antt",
     "crates/cdb_tool/specs/Runs/Made.antt",
@@ -150,21 +150,25 @@ def edits():
 
 
 def wrong_bodies():
-    """The wrong bodies that the gate cannot try: without a clause, of a text that the source has not or has more than
-    once, or listed and not there."""
+    """The wrong bodies that the gate cannot try: without a line and a clause in the list, of a text that the source has
+    not or has more than once, or listed and not there; and lines of the list that are out of order."""
     found = sorted(glob.glob("crates/*/must-fail/*.edit", root_dir=TOP))
+    lines = [it for it in text_of(LISTED).splitlines() if not it.startswith("#")]
+    listed = {it.split()[0]: it.split()[1:] for it in lines}
+    if lines != sorted(lines) or len(listed) != len(lines):
+        yield f"{LISTED}: the lines are not in order"
     for path in found:
         text = text_of(path)
-        if not re.search(r"^clause: \S", text, re.M):
-            yield f"{path}: no line says which clause refuses it"
+        crate, name = path.split("/")[1], os.path.basename(path).removesuffix(".edit")
+        words = listed.pop(f"{crate}/{name}", [])
+        if len(words) < 2 or words[0] not in ("gate", "-"):
+            yield f"{LISTED}: no line says which clause refuses {crate}/{name}"
         for file, old in re.findall(r"^file: (.*)\nold: (.*)$", text, re.M):
             source = os.path.join(os.path.dirname(os.path.dirname(path)), file.strip())
             if not os.path.isfile(os.path.join(TOP, source)) or text_of(source).count(old) != 1:
                 yield f"{path}: its old text does not stand once in {source}"
-    for line in text_of(LISTED).splitlines():
-        crate, _, name = line.partition("/")
-        if name and not line.startswith("#") and f"crates/{crate}/must-fail/{name.split()[0]}.edit" not in found:
-            yield f"{LISTED}: there is no {line}"
+    for name in listed:
+        yield f"{LISTED}: there is no {name}"
 
 
 def wrong_parts():
