@@ -12,3 +12,4 @@ pub mod InOrderFiles
 pub mod FirstKeys
 pub mod FoundSoFar
 pub mod Lacking
+pub mod TablesInside

@@ -87,11 +87,14 @@ statistics_of w bytes =
     stats_of (key_lengths rs) (value_lengths rs) (table_sizes (head_at w bytes))
     (distances_of w bytes (head_at w bytes))
 
--- why a file has no statistics: the first table outside of it, or else the damage of its walk
+-- a table has slots, and doesn't lie behind the head and inside the file; the number of the first one
 abbrev pub is_outside : ℕ → List ℕ → WordPair → Bool
 is_outside w bytes p = has_slots p && not (is_inside w bytes p)
 
+abbrev pub outside_table : ℕ → List ℕ → Option ℕ
+outside_table w bytes = position (is_outside w bytes) (head_at w bytes)
+
+-- why a file has no statistics: the first table outside of it, or else the damage of its walk
 unfoldable pub statistics_damage : ℕ → List ℕ → Option Damage
 statistics_damage w bytes =
-    let outside = position (is_outside w bytes) (head_at w bytes) in
-    option_or (option_map (λ n. Table n) outside) (walk_of w bytes).damage
+    option_or (option_map (λ n. Table n) (outside_table w bytes)) (walk_of w bytes).damage

@@ -6,6 +6,7 @@ ghost use Rattle.cdb_form.specs.Views.Pairs.{head_pairs};
 ghost use Rattle.cdb_form.specs.Views.KnownBytes.{Writes};
 ghost use Rattle.cdb_read.specs.Lookup.{bytes_of};
 ghost use Rattle.cdb_read.specs.OtherWidth.{lacks_tables};
+ghost use Rattle.cdb_read.specs.Statistics.{outside_table};
 ghost use Rattle.cdb_store.specs.Reads.{OnlyReads};
 ghost use Rattle.cdb_read.specs.declared.fault.ReadFault.TheVariants.{Output};
 ghost use Rattle.cdb_read.specs.Views.Reads.{OpeningFails, CopyingFails, ValueFails};
@@ -14,7 +15,7 @@ ghost use Rattle.cdb_read.specs.Views.Window.{Shows};
 use crate::fault::ReadFault;
 use crate::pieces::{copy_span, read_part, take_span};
 use crate::span::Span;
-use crate::tables::any_slots;
+use crate::tables::{any_slots, first_outside};
 use crate::window::{WINDOW, Window};
 use cdb_form::{Head, Sink, Width, head_size, read_head, write_whole};
 use cdb_store::Store;
@@ -149,6 +150,13 @@ impl<S: Store, L: Width> Reader<S, L> {
     {
         let is_longer = self.store.len() > head_size::<L>() as u64;
         is_longer && !any_slots(&self.head.pointers)
+    }
+
+    /// The number of the first table with slots that doesn't lie after the head and inside the file.
+    pub fn outside_table(&self) -> Option<u64>
+        ensures { (b : List ℕ) → S.image self.now.store b → result ≡ outside_table L.WORD b }
+    {
+        first_outside::<L>(&self.head.pointers, self.store.len())
     }
 
     /// Its store, as it is.

@@ -100,6 +100,13 @@ impl<S: Store> BufferedStore<S> {
         (inner, answer)
     }
 
+    /// The inner store, to ask how long it is: it lacks what is in the buffer.
+    pub fn inner(&self) -> &S
+        ensures { result.now ≡ inner_of self.now }
+    {
+        &self.inner
+    }
+
     /// The inner store, as it is. What is left in the buffer is let go: after a flush that is nothing.
     pub fn discard(self) -> S
         ensures { result ≡ inner_of self }

@@ -9,7 +9,7 @@ use Rattle.cdb_form.specs.declared.damage.Damage.TheVariants.{Table}
 use Rattle.cdb_form.specs.Laws.Walk.{HasHead}
 use Rattle.cdb_form.proofs.Files.WalkSteps.{walk_of-short, walk_of-table, walk_of-records}
 
-record_end-is : (w : ℕ) (b : List ℕ) → record_end w b ≡ least_place (head_size w) (head_at w b)
+pub record_end-is : (w : ℕ) (b : List ℕ) → record_end w b ≡ least_place (head_size w) (head_at w b)
 unfolding record_end
 record_end-is w b = refl
 

@@ -32,3 +32,12 @@ returns-in_err-n-clause-memory g c = grind (arith, common_steps)
 
 pub returns-then-n-eq0-clause-memory : goal.returns-then-n-eq0-clause-memory
 returns-then-n-eq0-clause-memory g c = search rules
+
+pub returns-then-n-eq0-clause-ended : goal.returns-then-n-eq0-clause-ended
+returns-then-n-eq0-clause-ended g c = grind (arith, common_steps)
+
+pub overflow_add-done : goal.overflow_add-done
+overflow_add-done g c = grind (arith, common_steps)
+
+pub returns-clause-loses : goal.returns-clause-loses
+returns-clause-loses g c = grind (arith, common_steps)

@@ -57,3 +57,27 @@ returns-in-Err-clause-within g c = grind (arith, common_steps)
 
 pub returns-then-is_err-clause-spent : goal.returns-then-is_err-clause-spent
 returns-then-is_err-clause-spent g c = search rules
+
+pub returns-in-Err-clause-no_more : goal.returns-in-Err-clause-no_more
+returns-in-Err-clause-no_more g c = grind (arith, common_steps)
+
+pub returns-in-Err-clause-spent : goal.returns-in-Err-clause-spent
+returns-in-Err-clause-spent g c = grind (arith, common_steps)
+
+pub returns-in-Ok-eq0-clause-no_more : goal.returns-in-Ok-eq0-clause-no_more
+returns-in-Ok-eq0-clause-no_more g c = grind (arith, common_steps)
+
+pub returns-in-Ok-eq0-clause-kept : goal.returns-in-Ok-eq0-clause-kept
+returns-in-Ok-eq0-clause-kept g c = grind (arith, common_steps)
+
+pub returns-then-is_err-clause-kept : goal.returns-then-is_err-clause-kept
+returns-then-is_err-clause-kept g c = grind (arith, common_steps)
+
+pub returns-in-Err-clause-ended : goal.returns-in-Err-clause-ended
+returns-in-Err-clause-ended g c = grind (arith, common_steps)
+
+pub returns-in-Ok-eq0-clause-ended : goal.returns-in-Ok-eq0-clause-ended
+returns-in-Ok-eq0-clause-ended g c = grind (arith, common_steps)
+
+pub returns-then-is_err-clause-ended : goal.returns-then-is_err-clause-ended
+returns-then-is_err-clause-ended g c = grind (arith, common_steps)

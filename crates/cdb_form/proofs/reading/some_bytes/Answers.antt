@@ -22,3 +22,18 @@ returns-then-asks-eq0-clause-no_more g c = grind (arith, common_steps)
 
 pub returns-in-Ok-clause-spent : goal.returns-in-Ok-clause-spent
 returns-in-Ok-clause-spent g c = omega arith
+
+pub returns-then-ne-clause-kept : goal.returns-then-ne-clause-kept
+returns-then-ne-clause-kept g c = grind (arith, common_steps)
+
+pub returns-in-Ok-clause-end : goal.returns-in-Ok-clause-end
+returns-in-Ok-clause-end g c = grind (arith, common_steps)
+
+pub returns-in-Ok-clause-are : goal.returns-in-Ok-clause-are
+returns-in-Ok-clause-are g c = grind (arith, common_steps)
+
+pub returns-then-ne-clause-spent : goal.returns-then-ne-clause-spent
+returns-then-ne-clause-spent g c = grind (arith, common_steps)
+
+pub returns-in-Ok-clause-fewer : goal.returns-in-Ok-clause-fewer
+returns-in-Ok-clause-fewer g c = grind (arith, common_steps)

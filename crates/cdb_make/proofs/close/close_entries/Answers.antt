@@ -4,6 +4,7 @@ use Rattle.cdb_make.specs.Marks.{is_gone, gone_of}
 use Rattle.cdb_make.specs.Views.Places.{places_in}
 use Rattle.cdb_make.specs.Spans.{left, places_from, end_from}
 use Rattle.cdb_make.proofs.Spans.{place_next, place_size, long_as, left_live, left_gone, left_all, left_none, place_is, places_take, places_more, end_more}
+use Rattle.std.proofs.lemmas.Grind.{common_steps}
 use Rattle.cdb_make.proofs.close.close_entries.Goals as goal
 
 pub loop-n-init : goal.loop-n-init
@@ -114,3 +115,27 @@ returns-clause-of g c = λ sizes of.
     let o = c.loop-n.invariant.of sizes of in
     let e = left_all (gone_of c.args.marks.now) sizes c.loop-n.n (let many : length (gone_of c.args.marks.now) ≡ length c.args.marks.now = length-map c.args.marks.now is_gone in omega (arith, many, c.loop-n-test.false)) (length-map c.args.marks.now is_gone ∙ c.requires.long ∙ long_as of) in
     record { are = o.are ∙ ap (places_from c.args.start) e; ends = o.ends ∙ ap (end_from c.args.start) e }
+
+pub set-requires-clause-fits : goal.set-requires-clause-fits
+set-requires-clause-fits g c = grind (arith, common_steps)
+
+pub returns-clause-hashes : goal.returns-clause-hashes
+returns-clause-hashes g c = grind (arith, common_steps)
+
+pub set-requires-clause-within : goal.set-requires-clause-within
+set-requires-clause-within g c = grind (arith, common_steps)
+
+pub returns-clause-low : goal.returns-clause-low
+returns-clause-low g c = grind (arith, common_steps)
+
+pub bounds-hashes-count : goal.bounds-hashes-count
+bounds-hashes-count g c = grind (arith, common_steps)
+
+pub overflow_add-to : goal.overflow_add-to
+overflow_add-to g c = grind (arith, common_steps)
+
+pub returns-clause-within : goal.returns-clause-within
+returns-clause-within g c = grind (arith, common_steps)
+
+pub bounds-hashes-n : goal.bounds-hashes-n
+bounds-hashes-n g c = grind (arith, common_steps)

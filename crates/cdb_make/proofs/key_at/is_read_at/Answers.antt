@@ -38,3 +38,15 @@ returns-then-ne-clause-reads g c = grind (arith, common_steps)
 
 pub returns-clause-same : goal.returns-clause-same
 returns-clause-same g c = grind (arith, common_steps)
+
+pub loop-done-smaller : goal.loop-done-smaller
+loop-done-smaller g c = grind (arith, common_steps)
+
+pub overflow_add-done-in-loop-done : goal.overflow_add-done-in-loop-done
+overflow_add-done-in-loop-done g c = grind (arith, common_steps)
+
+pub returns-then-ne-clause-ok_failures : goal.returns-then-ne-clause-ok_failures
+returns-then-ne-clause-ok_failures g c = grind (arith, common_steps)
+
+pub returns-then-ne-clause-memory : goal.returns-then-ne-clause-memory
+returns-then-ne-clause-memory g c = grind (arith, common_steps)

@@ -4,6 +4,7 @@ use Rattle.cdb_make.specs.Looks.{HasLengthsInImages, TellsSameInImages}
 use Rattle.cdb_make.proofs.Bytes.Compare.{reads_fewer}
 use Rattle.cdb_make.proofs.Bytes.Headers.{held_from, fewer_lengths, no_header, no_room, other_length, other_key, same_key}
 use Rattle.cdb_make.proofs.key_at.look_at.Goals.{then-room-header-via-then-room-header, then-room-header-via-else-room-header+then-room-header-2, then-header-key-via-then-header-key, then-header-key-via-else-header-key+in_ok-key_follows+then-not-branch}
+use Rattle.std.proofs.lemmas.Grind.{common_steps}
 use Rattle.cdb_make.proofs.key_at.look_at.Goals as goal
 
 pub returns-then-end-key_place-clause-looks : goal.returns-then-end-key_place-clause-looks
@@ -53,3 +54,36 @@ returns-clause-looks g c =
     let tells : TellsSameInImages true c.saturating_add-key_place.result c.args.key.now (g.S.Store.image c.key_follows.new.store) =
     subst (λ v. TellsSameInImages v c.saturating_add-key_place.result c.args.key.now (g.S.Store.image c.key_follows.new.store)) yes (c.in_ok-key_follows.ensures.same (held_from g.L.Width.WORD c.pair_size-header_size.result c.args.place c.read_prefix.new.front c.pair_size-header_size.ensures at c.in_ok-header.ensures.held)) in
     same_key c.saturating_add-key_place.result c.args.end _ c.args.key.now at (omega (arith, c.pair_size-header_size.ensures)) same (fewer_lengths (reads_fewer c.key_follows.ensures.reads) h) fits tells
+
+pub returns-then-header-key-clause-ok_failures : goal.returns-then-header-key-clause-ok_failures
+returns-then-header-key-clause-ok_failures g c = grind (arith, common_steps)
+
+pub returns-clause-reads : goal.returns-clause-reads
+returns-clause-reads g c = grind (arith, common_steps)
+
+pub returns-then-room-header-clause-failed : goal.returns-then-room-header-clause-failed
+returns-then-room-header-clause-failed g c = grind (arith, common_steps)
+
+pub slice_bounds-key_follows-count : goal.slice_bounds-key_follows-count
+slice_bounds-key_follows-count g c = grind (arith, common_steps)
+
+pub key_follows-requires-clause-all : goal.key_follows-requires-clause-all
+key_follows-requires-clause-all g c = grind (arith, common_steps)
+
+pub returns-then-header-key-clause-failed : goal.returns-then-header-key-clause-failed
+returns-then-header-key-clause-failed g c = grind (arith, common_steps)
+
+pub returns-then-header-key-clause-reads : goal.returns-then-header-key-clause-reads
+returns-then-header-key-clause-reads g c = grind (arith, common_steps)
+
+pub returns-clause-failed : goal.returns-clause-failed
+returns-clause-failed g c = grind (arith, common_steps)
+
+pub returns-clause-ok_failures : goal.returns-clause-ok_failures
+returns-clause-ok_failures g c = grind (arith, common_steps)
+
+pub slice_bounds-key_follows-start : goal.slice_bounds-key_follows-start
+slice_bounds-key_follows-start g c = grind (arith, common_steps)
+
+pub returns-clause-within : goal.returns-clause-within
+returns-clause-within g c = grind (arith, common_steps)

@@ -7,6 +7,7 @@ use Rattle.cdb_make.specs.Rolls.{fresh}
 use Rattle.cdb_make.specs.Views.Roll.{searched}
 use Rattle.cdb_make.proofs.Looking.{sees_long, sees_same, same_back, same_then, length-fresh}
 use Rattle.cdb_make.proofs.Picking.{found_hash, not_fresh}
+use Rattle.std.proofs.lemmas.Grind.{common_steps}
 use Rattle.cdb_make.proofs.look.find.Goals as goal
 
 pub loop-at-init : goal.loop-at-init
@@ -104,3 +105,33 @@ returns-clause-all g c =
           ext_get_or false (found_of m.marks.items) (fresh key (gone_of m.marks.items) all) (long ∙ sees_long m all b sees ∙ sym (length-fresh key (gone_of m.marks.items) all many))
           (λ k lt. h.1 k (omega (arith, c.loop-at-test.false)) (omega (arith, lt, long)));
     }
+
+pub last_with_key-requires-in-loop-at-clause-hash : goal.last_with_key-requires-in-loop-at-clause-hash
+last_with_key-requires-in-loop-at-clause-hash g c = grind (arith, common_steps)
+
+pub loop-at-smaller : goal.loop-at-smaller
+loop-at-smaller g c = grind (arith, common_steps)
+
+pub returns-clause-room : goal.returns-clause-room
+returns-clause-room g c = grind (arith, common_steps)
+
+pub returns-clause-tagged : goal.returns-clause-tagged
+returns-clause-tagged g c = grind (arith, common_steps)
+
+pub returns-clause-failed : goal.returns-clause-failed
+returns-clause-failed g c = grind (arith, common_steps)
+
+pub returns-clause-hash : goal.returns-clause-hash
+returns-clause-hash g c = grind (arith, common_steps)
+
+pub last_with_key-requires-in-loop-at-clause-end : goal.last_with_key-requires-in-loop-at-clause-end
+last_with_key-requires-in-loop-at-clause-end g c = grind (arith, common_steps)
+
+pub returns-clause-foreign : goal.returns-clause-foreign
+returns-clause-foreign g c = grind (arith, common_steps)
+
+pub last_with_key-requires-clause-hash : goal.last_with_key-requires-clause-hash
+last_with_key-requires-clause-hash g c = grind (arith, common_steps)
+
+pub returns-clause-ok_failures : goal.returns-clause-ok_failures
+returns-clause-ok_failures g c = grind (arith, common_steps)

@@ -9,6 +9,7 @@ use Rattle.cdb_make.specs.Marks.{is_gone}
 use Rattle.cdb_make.specs.Views.Places.{places_in}
 use Rattle.cdb_make.proofs.Spans.{spans_of, place_high}
 use Rattle.cdb_make.proofs.Looking.{sees_long, fresh_has, looked_none, looked_some, looked_foreign, has_it, has_it_not}
+use Rattle.std.proofs.lemmas.Grind.{common_steps}
 use Rattle.cdb_make.proofs.look.last_with_key.Goals as goal
 
 pub loop-at-init : goal.loop-at-init
@@ -104,3 +105,24 @@ returns-clause-last g c = record {
     none = λ k low high. c.loop-at.invariant.none b is all sees k (omega (arith, c.loop-at-test.false)) high;
   };
 }
+
+pub loop-at-smaller : goal.loop-at-smaller
+loop-at-smaller g c = grind (arith, common_steps)
+
+pub returns-then-is_some-clause-ok_failures : goal.returns-then-is_some-clause-ok_failures
+returns-then-is_some-clause-ok_failures g c = grind (arith, common_steps)
+
+pub returns-then-is_some-clause-within : goal.returns-then-is_some-clause-within
+returns-then-is_some-clause-within g c = grind (arith, common_steps)
+
+pub returns-then-is_some-clause-failed : goal.returns-then-is_some-clause-failed
+returns-then-is_some-clause-failed g c = grind (arith, common_steps)
+
+pub returns-then-is_some-clause-foreign : goal.returns-then-is_some-clause-foreign
+returns-then-is_some-clause-foreign g c = grind (arith, common_steps)
+
+pub returns-in_err-look_at-clause-reads : goal.returns-in_err-look_at-clause-reads
+returns-in_err-look_at-clause-reads g c = grind (arith, common_steps)
+
+pub returns-clause-failed : goal.returns-clause-failed
+returns-clause-failed g c = grind (arith, common_steps)

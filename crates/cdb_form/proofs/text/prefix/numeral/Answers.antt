@@ -29,3 +29,9 @@ overflow_add-value c = search rules
 
 pub bounds-bytes-place : goal.bounds-bytes-place
 bounds-bytes-place c = search rules
+
+pub returns-then-is_whole-clause-begins : goal.returns-then-is_whole-clause-begins
+returns-then-is_whole-clause-begins g c = grind (arith, common_steps)
+
+pub returns-else-is_whole-clause-begins : goal.returns-else-is_whole-clause-begins
+returns-else-is_whole-clause-begins g c = grind (arith, common_steps)

@@ -7,6 +7,7 @@ use Rattle.cdb_make.specs.declared.mark.Mark.TheVariants.{Gone}
 use Rattle.cdb_make.specs.Chains.{AreChained, IsIn, bucket_of}
 use Rattle.cdb_make.specs.Marks.{gone_of, is_gone, IsTakenFrom}
 use Rattle.cdb_make.proofs.Marking.{found_or, taken_found, taken_same, taken_none, taken_step, free_of, onward}
+use Rattle.std.proofs.lemmas.Grind.{common_steps}
 use Rattle.cdb_make.proofs.chains.Chains.take_linked.Goals as goal
 
 pub loop-at-init : goal.loop-at-init
@@ -87,3 +88,6 @@ loop-at-preserved-then-is_found_at c =
           let step = inv.chained.steps (c.loop-at.newer - 1) (omega (arith, q.0)) q.1 in
           (omega (arith, q.0, d.long), other (c.loop-at.newer - 1) (λ e. omega (arith, q.2, step.within)) ∙ q.1, d.next lt₁ ∙ sym is);
     }
+
+pub drop_entry-requires-clause-last : goal.drop_entry-requires-clause-last
+drop_entry-requires-clause-last g c = grind (arith, common_steps)

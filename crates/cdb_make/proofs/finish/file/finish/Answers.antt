@@ -104,3 +104,30 @@ overflow_mul-most g c =
     let n : ℕ = length m.hashes.items in
     let few : c.longest-most.result ≤ n = c.longest-most.ensures.least n (counts_at_most (roll_entries m) c.counts_of-counts.result n (roll_long m) c.counts_of-counts.ensures) in
     omega (arith, few, slots_within w n g.met.L.Width.four_or_eight, c.requires.limit, g.met.L.Width.greatest_fits.1)
+
+pub returns-clause-memory : goal.returns-clause-memory
+returns-clause-memory g c = grind (arith, common_steps)
+
+pub returns-clause-failures : goal.returns-clause-failures
+returns-clause-failures g c = grind (arith, common_steps)
+
+pub returns-clause-unwritten : goal.returns-clause-unwritten
+returns-clause-unwritten g c = grind (arith, common_steps)
+
+pub returns-clause-memory_failures : goal.returns-clause-memory_failures
+returns-clause-memory_failures g c = grind (arith, common_steps)
+
+pub write_parts-requires-clause-lists : goal.write_parts-requires-clause-lists
+write_parts-requires-clause-lists g c = grind (arith, common_steps)
+
+pub write_parts-requires-clause-gathers : goal.write_parts-requires-clause-gathers
+write_parts-requires-clause-gathers g c = grind (arith, common_steps)
+
+pub returns-clause-settled : goal.returns-clause-settled
+returns-clause-settled g c = grind (arith, common_steps)
+
+pub slice_bounds-write_parts-end : goal.slice_bounds-write_parts-end
+slice_bounds-write_parts-end g c = grind (arith, common_steps)
+
+pub returns-clause-faults : goal.returns-clause-faults
+returns-clause-faults g c = grind (arith, common_steps)

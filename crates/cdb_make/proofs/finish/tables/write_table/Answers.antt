@@ -12,3 +12,18 @@ returns-then-is_empty-clause-ok g c = nothing_written g.L.Width.WORD c.args.plac
 
 pub returns-clause-torn : goal.returns-clause-torn
 returns-clause-torn g c = grind (arith, common_steps)
+
+pub returns-clause-memory : goal.returns-clause-memory
+returns-clause-memory g c = grind (arith, common_steps)
+
+pub returns-clause-ok : goal.returns-clause-ok
+returns-clause-ok g c = grind (arith, common_steps)
+
+pub returns-clause-written : goal.returns-clause-written
+returns-clause-written g c = grind (arith, common_steps)
+
+pub returns-clause-ok_size : goal.returns-clause-ok_size
+returns-clause-ok_size g c = grind (arith, common_steps)
+
+pub returns-clause-cause : goal.returns-clause-cause
+returns-clause-cause g c = grind (arith, common_steps)

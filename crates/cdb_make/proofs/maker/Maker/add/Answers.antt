@@ -13,6 +13,7 @@ use Rattle.cdb_make.proofs.Bytes.Written.{on_any_err}
 use Rattle.cdb_make.proofs.Looking.{sees_same}
 use Rattle.cdb_make.proofs.Spans.{spans_of, place_low}
 use Rattle.cdb_make.proofs.Rolls.{add_fails, number_is, none_more, sees_kept, sees_added, more_slots, comes_write}
+use Rattle.std.proofs.lemmas.Grind.{common_steps}
 use Rattle.cdb_make.proofs.maker.Maker.add.Goals as goal
 
 pub returns-in_err-reserve-clause-stays : goal.returns-in_err-reserve-clause-stays
@@ -144,3 +145,6 @@ pub invariant_of-self-2-clause-eager : goal.invariant_of-self-2-clause-eager
 invariant_of-self-2-clause-eager g c = λ eager whole.
     let m = c.args.self.now in
     none_more (gone_of m.roll.marks.items) (gone_of c.push.new.self.marks.items) (c.push.ensures.gone ∙ ap (λ v. gone_of v ++ false ∷ []) c.reserve.ensures.marks) (m.eager eager whole)
+
+pub push-requires-clause-room : goal.push-requires-clause-room
+push-requires-clause-room g c = grind (arith, common_steps)

@@ -6,6 +6,7 @@ use Rattle.cdb_make.specs.Views.Roll.{searched}
 use Rattle.cdb_make.proofs.Bytes.Written.{on_any_ok}
 use Rattle.cdb_make.proofs.Rolls.{follows_then, if_err_weaker}
 use Rattle.cdb_make.proofs.Settling.{have_more, taken_clear, settles_later, settles_after, fails_after}
+use Rattle.std.proofs.lemmas.Grind.{common_steps}
 use Rattle.cdb_make.proofs.maker.Maker.add_then_take.Goals as goal
 
 pub take-requires : goal.take-requires
@@ -46,3 +47,12 @@ returns-then-branch-clause-alone g c = inl (c.in_ok-add_before.ensures.done c.if
 
 pub returns-clause-alone : goal.returns-clause-alone
 returns-clause-alone g c = on_any_ok c.close_and_add.result (inr (λ lazy. inr (c.in_ok-add_before.ensures.waits c.if-branch.false).short))
+
+pub invariant_of-self-clause-within : goal.invariant_of-self-clause-within
+invariant_of-self-clause-within g c = grind (arith, common_steps)
+
+pub returns-clause-fine : goal.returns-clause-fine
+returns-clause-fine g c = grind (arith, common_steps)
+
+pub close_and_add-requires-clause-have : goal.close_and_add-requires-clause-have
+close_and_add-requires-clause-have g c = grind (arith, common_steps)

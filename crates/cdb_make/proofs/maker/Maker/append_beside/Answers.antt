@@ -9,6 +9,7 @@ use Rattle.cdb_make.specs.Views.Appending.{full_size, FailsAppending, PassesLimi
 use Rattle.cdb_make.proofs.Appends.{appends_until, fails_wider, passes_limit}
 use Rattle.cdb_make.proofs.Finishing.{made_none}
 use Rattle.cdb_make.proofs.Bytes.Fitting.{next_fits, next_splits, sum_take}
+use Rattle.std.proofs.lemmas.Grind.{common_steps}
 use Rattle.cdb_make.proofs.maker.Maker.append_beside.Goals as goal
 
 pub returns-in_err-append_first-clause-fails : goal.returns-in_err-append_first-clause-fails
@@ -45,3 +46,6 @@ returns-then-fitting-clause-fails g c =
     let passes : PassesLimit m new (take n all ++ r ∷ []) =
     passes_limit m new (take n all ++ r ∷ []) g.met.L.Width.four_or_eight c.append_first.ensures.follows.comes (omega (arith, over, made_none m none)) in
     appends_until m new all (take n all) (drop (n + 1) all) r size are c.in_ok-append_first.ensures.ok passes
+
+pub returns-clause-ok : goal.returns-clause-ok
+returns-clause-ok g c = grind (arith, common_steps)

@@ -9,6 +9,7 @@ use Rattle.cdb_form.proofs.Files.Sizes.{size_split}
 use Rattle.cdb_make.specs.Views.Appending.{AreFirst, FailsAppending, KeepsLimit, records_at}
 use Rattle.cdb_make.proofs.Appends.{appends_all, fails_behind, fails_writing, keeps_limit}
 use Rattle.cdb_make.proofs.Bytes.Fitting.{first_none, next_fits, next_of, next_splits, sum_take}
+use Rattle.std.proofs.lemmas.Grind.{common_steps}
 use Rattle.cdb_make.proofs.maker.Maker.append_first.Goals as goal
 
 pub write_behind-requires-clause-fits : goal.write_behind-requires-clause-fits
@@ -70,3 +71,12 @@ enter_all-requires-clause-written g c =
 pub enter_all-requires-clause-inside : goal.enter_all-requires-clause-inside
 enter_all-requires-clause-inside g c =
     omega (arith, c.in_ok-write_behind.ensures.inside, c.requires.first.sum, c.requires.first.within, length-take c.args.size c.args.bytes.now)
+
+pub returns-then-count-eq0-clause-ok : goal.returns-then-count-eq0-clause-ok
+returns-then-count-eq0-clause-ok g c = grind (arith, common_steps)
+
+pub returns-clause-gone : goal.returns-clause-gone
+returns-clause-gone g c = grind (arith, common_steps)
+
+pub enter_all-requires-clause-room : goal.enter_all-requires-clause-room
+enter_all-requires-clause-room g c = grind (arith, common_steps)

@@ -6,6 +6,7 @@ use Rattle.cdb_make.specs.Views.Maker.{gone_in}
 use Rattle.cdb_make.proofs.Looking.{sees_long}
 use Rattle.cdb_make.proofs.Picking.{left_all_stay, both_few, both_within}
 use Rattle.cdb_make.proofs.Rolls.{follows_then, follows_room, closing_fails, fewer_slots}
+use Rattle.std.proofs.lemmas.Grind.{common_steps}
 use Rattle.cdb_make.proofs.maker.Maker.close_and_add.Goals as goal
 
 -- the record is within the limit by itself
@@ -64,3 +65,6 @@ returns-in-Ok-clause-settles g c =
             );
       };
     }
+
+pub exchange-requires-clause-have : goal.exchange-requires-clause-have
+exchange-requires-clause-have g c = grind (arith, common_steps)

@@ -10,6 +10,7 @@ use Rattle.cdb_make.proofs.Bytes.Written.{on_any_err}
 use Rattle.cdb_make.proofs.Looking.{same_then}
 use Rattle.cdb_make.proofs.Appends.{entered, stays_noted}
 use Rattle.cdb_make.proofs.Rolls.{number_is, more_slots, none_more}
+use Rattle.std.proofs.lemmas.Grind.{common_steps}
 use Rattle.cdb_make.proofs.maker.Maker.enter.Goals as goal
 
 pub returns-in_err-reserve-clause-stays : goal.returns-in_err-reserve-clause-stays
@@ -55,3 +56,9 @@ pub invariant_of-self-2-clause-eager : goal.invariant_of-self-2-clause-eager
 invariant_of-self-2-clause-eager g c = λ eager whole.
     let m = c.args.self.now in
     none_more (gone_of m.roll.marks.items) (gone_of c.push.new.self.marks.items) (c.push.ensures.gone ∙ ap (λ v. gone_of v ++ false ∷ []) (c.reserve.ensures.marks ∙ ap (λ v. v.items) c.tag.ensures.marks)) (m.eager eager whole)
+
+pub returns-clause-gone : goal.returns-clause-gone
+returns-clause-gone g c = grind (arith, common_steps)
+
+pub push-requires-clause-room : goal.push-requires-clause-room
+push-requires-clause-room g c = grind (arith, common_steps)

@@ -7,6 +7,7 @@ use Rattle.cdb_make.specs.Views.Maker.{gone_in, found_in}
 use Rattle.cdb_make.proofs.Finishing.{exchange_counts}
 use Rattle.cdb_make.proofs.Looking.{sees_same}
 use Rattle.cdb_make.proofs.Rolls.{none_more, slots_add, follows_then, exchange_fails, torn_fails}
+use Rattle.std.proofs.lemmas.Grind.{common_steps}
 use Rattle.cdb_make.proofs.maker.Maker.exchange.Goals as goal
 
 pub add-requires-clause-fits : goal.add-requires-clause-fits
@@ -92,3 +93,9 @@ returns-clause-counts g c =
     (λ stays. exchange_counts c.args.self.now c.pass.new.self c.add.new.self (c.pass.ensures.told ∙ c.counts-self.ensures.count) (c.pass.ensures.told_size ∙ c.counts-self.ensures.size) c.add.ensures.counted p.clear p.clear_size (omega (arith, p.end, t.size, t.same.end))
     (omega (arith, p.count, t.count, ap length t.same.hashes)) (c.add.ensures.follows.limit ∙ c.pass.ensures.follows.limit) stays)
     c.add.ensures.stays
+
+pub returns-clause-fine : goal.returns-clause-fine
+returns-clause-fine g c = grind (arith, common_steps)
+
+pub add-requires-clause-tag : goal.add-requires-clause-tag
+add-requires-clause-tag g c = grind (arith, common_steps)

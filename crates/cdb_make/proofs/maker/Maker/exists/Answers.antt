@@ -11,6 +11,7 @@ use Rattle.cdb_make.proofs.Finishing.{rests_nothing}
 use Rattle.cdb_make.proofs.Looking.{sees_long, same_self}
 use Rattle.cdb_make.proofs.Survive.{last_there}
 use Rattle.cdb_make.proofs.Rolls.{look_fails, follows_read}
+use Rattle.std.proofs.lemmas.Grind.{common_steps}
 use Rattle.cdb_make.proofs.maker.Maker.exists.Goals as goal
 
 pub returns-in-Ok-clause-there : goal.returns-in-Ok-clause-there
@@ -53,3 +54,6 @@ pub returns-in-Ok-clause-ok : goal.returns-in-Ok-clause-ok
 returns-in-Ok-clause-ok g c =
     rests_nothing c.args.self.now _
     (record { was = c.if-self.false; whole = c.if-self.false; same = same_self c.args.self.now.roll; gone = refl; picked = refl; limit = refl; lazy = refl; reads = c.last_with_key.ensures.reads })
+
+pub invariant_of-self : goal.invariant_of-self
+invariant_of-self g c = grind (arith, common_steps)

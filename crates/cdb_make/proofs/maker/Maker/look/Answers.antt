@@ -11,6 +11,7 @@ use Rattle.cdb_make.specs.Views.Maker.{FailsLooking}
 use Rattle.cdb_make.proofs.Looking.{sees_long, sees_same, same_then}
 use Rattle.cdb_make.proofs.Survive.{last_there}
 use Rattle.cdb_make.proofs.Rolls.{look_fails, follows_read}
+use Rattle.std.proofs.lemmas.Grind.{common_steps}
 use Rattle.cdb_make.proofs.maker.Maker.look.Goals as goal
 
 pub returns-in-Ok-clause-looks : goal.returns-in-Ok-clause-looks
@@ -67,3 +68,15 @@ pub returns-in-Err-clause-follows : goal.returns-in-Err-clause-follows
 returns-in-Err-clause-follows g c =
     let f = c.failed_look.ensures in
     follows_read c.args.self.now c.failed_look.new.self f.limit f.lazy (subst (λ v. OnlyReads g.S.Store c.args.self.now.store v) (sym f.store) c.last_with_key.ensures.reads)
+
+pub returns-in-Err-clause-counts : goal.returns-in-Err-clause-counts
+returns-in-Err-clause-counts g c = grind (arith, common_steps)
+
+pub last_with_key-requires-clause-hash : goal.last_with_key-requires-clause-hash
+last_with_key-requires-clause-hash g c = grind (arith, common_steps)
+
+pub returns-in-Ok-clause-counts : goal.returns-in-Ok-clause-counts
+returns-in-Ok-clause-counts g c = grind (arith, common_steps)
+
+pub returns-in-Ok-clause-room : goal.returns-in-Ok-clause-room
+returns-in-Ok-clause-room g c = grind (arith, common_steps)

@@ -5,6 +5,7 @@ use Rattle.cdb_form.specs.Format.Record.{KeyValue}
 use Rattle.cdb_make.specs.declared.answer.Put.TheVariants.{Added, AddedAgain, Present, Replaced}
 use Rattle.cdb_make.specs.Views.Maker.{Meets}
 use Rattle.cdb_make.proofs.Meeting.{meets_add, meets_by, meets_found, plain_again, plain_warn, plain_present, plain_insert, answers_none, answers_some}
+use Rattle.std.proofs.lemmas.Grind.{common_steps}
 use Rattle.cdb_make.proofs.maker.Maker.meet.Goals as goal
 
 pub returns-else-self-clause-meets : goal.returns-else-self-clause-meets
@@ -54,3 +55,36 @@ returns-else-taken-eq0-clause-meets g c = λ value.
     let some : 0 < n = omega (arith, c.if-taken-eq0.false) in
     subst (λ v. Meets c.args.self.now c.seek.new.self c.args.sought v r (Replaced n)) (sym c.in-Replace.is)
     (meets_found c.args.self.now c.seek.new.self c.args.sought n r (Replaced n) c.in_ok-taken-in-Replace.ensures.seeks refl (λ rs e. answers_some r rs n some e))
+
+pub returns-else-self-clause-tagged : goal.returns-else-self-clause-tagged
+returns-else-self-clause-tagged g c = grind (arith, common_steps)
+
+pub returns-else-branch-2-clause-room : goal.returns-else-branch-2-clause-room
+returns-else-branch-2-clause-room g c = grind (arith, common_steps)
+
+pub look-requires : goal.look-requires
+look-requires g c = grind (arith, common_steps)
+
+pub returns-else-branch-clause-room : goal.returns-else-branch-clause-room
+returns-else-branch-clause-room g c = grind (arith, common_steps)
+
+pub returns-then-branch-2-clause-room : goal.returns-then-branch-2-clause-room
+returns-then-branch-2-clause-room g c = grind (arith, common_steps)
+
+pub returns-else-self-clause-room : goal.returns-else-self-clause-room
+returns-else-self-clause-room g c = grind (arith, common_steps)
+
+pub look-requires-in-Insert : goal.look-requires-in-Insert
+look-requires-in-Insert g c = grind (arith, common_steps)
+
+pub returns-then-taken-eq0-clause-room : goal.returns-then-taken-eq0-clause-room
+returns-then-taken-eq0-clause-room g c = grind (arith, common_steps)
+
+pub seek-requires : goal.seek-requires
+seek-requires g c = grind (arith, common_steps)
+
+pub returns-else-taken-eq0-clause-room : goal.returns-else-taken-eq0-clause-room
+returns-else-taken-eq0-clause-room g c = grind (arith, common_steps)
+
+pub returns-then-branch-clause-room : goal.returns-then-branch-clause-room
+returns-then-branch-clause-room g c = grind (arith, common_steps)

@@ -8,6 +8,7 @@ use Rattle.cdb_make.specs.Spans.{AreSpans, AreOf, Turns, left, behind}
 use Rattle.cdb_make.specs.Views.Places.{places_in}
 use Rattle.cdb_make.proofs.Spans.{spans_of}
 use Rattle.cdb_make.proofs.Rolls.{sees_closed, fewer_slots, comes_part}
+use Rattle.std.proofs.lemmas.Grind.{common_steps}
 use Rattle.cdb_make.proofs.maker.Maker.pass.Goals as goal
 
 pub close_bytes-requires-clause-spans : goal.close_bytes-requires-clause-spans
@@ -63,3 +64,9 @@ pub invariant_of-self-2-clause-within : goal.invariant_of-self-2-clause-within
 invariant_of-self-2-clause-within g c =
     let m = c.args.self.now in
     omega (arith, c.close.ensures.end, c.close.ensures.count, m.within, fewer_slots g.L.Width.WORD (length c.close.new.self.hashes.items) (length m.roll.hashes.items) g.met.L.Width.four_or_eight (omega (arith, c.close.ensures.count)))
+
+pub returns-clause-room : goal.returns-clause-room
+returns-clause-room g c = grind (arith, common_steps)
+
+pub invariant_of-self-in-Break-1 : goal.invariant_of-self-in-Break-1
+invariant_of-self-in-Break-1 g c = grind (arith, common_steps)

@@ -1,4 +1,4 @@
-use Rattle.std.proofs.Common.{refl, ◌<◌, Err, subst, ap, sym, ◌∙◌}
+use Rattle.std.proofs.Common.{refl, ◌<◌, Err, subst, ap, sym, ◌∙◌, arith}
 use Rattle.cdb_store.specs.Reads.{OnlyReads}
 use Rattle.cdb_store.proofs.Reading.{reads_nothing}
 use Rattle.cdb_make.specs.Marks.{gone_of}
@@ -7,6 +7,7 @@ use Rattle.cdb_make.specs.Views.Roll.{SameRecords}
 use Rattle.cdb_make.specs.Views.Maker.{FailsLooking}
 use Rattle.cdb_make.proofs.Looking.{same_then}
 use Rattle.cdb_make.proofs.Rolls.{look_fails, follows_read}
+use Rattle.std.proofs.lemmas.Grind.{common_steps}
 use Rattle.cdb_make.proofs.maker.Maker.seek.Goals as goal
 
 pub returns-in-Err-clause-fails : goal.returns-in-Err-clause-fails
@@ -33,3 +34,15 @@ pub returns-in-Err-clause-follows : goal.returns-in-Err-clause-follows
 returns-in-Err-clause-follows g c =
     let f = c.failed_look.ensures in
     follows_read c.args.self.now c.failed_look.new.self f.limit f.lazy (subst (λ v. OnlyReads g.S.Store c.args.self.now.store v) (sym f.store) c.find.ensures.reads)
+
+pub find-requires-clause-hash : goal.find-requires-clause-hash
+find-requires-clause-hash g c = grind (arith, common_steps)
+
+pub returns-in-Ok-clause-room : goal.returns-in-Ok-clause-room
+returns-in-Ok-clause-room g c = grind (arith, common_steps)
+
+pub returns-in-Err-clause-counts : goal.returns-in-Err-clause-counts
+returns-in-Err-clause-counts g c = grind (arith, common_steps)
+
+pub returns-in-Ok-clause-counts : goal.returns-in-Ok-clause-counts
+returns-in-Ok-clause-counts g c = grind (arith, common_steps)

@@ -5,6 +5,7 @@ use Rattle.cdb_make.specs.Marks.{is_gone}
 use Rattle.cdb_make.specs.Views.Maker.{gone_in}
 use Rattle.cdb_make.proofs.Looking.{sees_long}
 use Rattle.cdb_make.proofs.Rolls.{left_file, two_slots}
+use Rattle.std.proofs.lemmas.Grind.{common_steps}
 use Rattle.cdb_make.proofs.maker.Maker.size.Goals as goal
 
 pub returns-clause-holds : goal.returns-clause-holds
@@ -17,3 +18,6 @@ returns-clause-holds g c = λ rs h. record {
       let file = (left_file m held.all b (gone_in c.args.self.now) c.left_end.result c.left_count.result m.gone.size m.gone.count g.met.L.Width.four_or_eight many held.sees c.left_end.ensures c.left_count.ensures (m.picked.size _ held.sees.of) m.picked.count).0 in
       ap (λ n. c.left_end.result + n) (two_slots g.L.Width.WORD c.pair_size.result c.left_count.result c.pair_size.ensures g.met.L.Width.four_or_eight) ∙ sym file ∙ ap (file_size g.L.Width.WORD) (sym held.left);
 }
+
+pub overflow_add-result : goal.overflow_add-result
+overflow_add-result g c = grind (arith, common_steps)

@@ -13,6 +13,7 @@ use Rattle.cdb_make.specs.Views.Places.{places_in}
 use Rattle.cdb_make.proofs.Spans.{rising_of, spans_of}
 use Rattle.cdb_make.proofs.Linking.{chained_same}
 use Rattle.cdb_make.proofs.Picking.{picks_none, left_front, stays_at, none_gone, none_found, left_number, end_left}
+use Rattle.std.proofs.lemmas.Grind.{common_steps}
 use Rattle.cdb_make.proofs.roll.Roll.close.Goals as goal
 
 pub close_entries-kept-requires-clause-spans : goal.close_entries-kept-requires-clause-spans
@@ -173,3 +174,39 @@ returns-clause-room g c = λ some.
       places = omega (arith, fewer, places, c.truncate-2.ensures.room, kept.ensures.room, m.place_room, m.paired);
       marks = omega (arith, fewer, c.close_marks.ensures.long, c.close_marks.ensures.room, m.room, m.marked);
     }
+
+pub returns-clause-tagged : goal.returns-clause-tagged
+returns-clause-tagged g c = grind (arith, common_steps)
+
+pub close_entries-kept-requires-clause-long : goal.close_entries-kept-requires-clause-long
+close_entries-kept-requires-clause-long g c = grind (arith, common_steps)
+
+pub close_entries-kept-requires-clause-paired : goal.close_entries-kept-requires-clause-paired
+close_entries-kept-requires-clause-paired g c = grind (arith, common_steps)
+
+pub returns-clause-clear_size : goal.returns-clause-clear_size
+returns-clause-clear_size g c = grind (arith, common_steps)
+
+pub invariant_of-self-clause-room : goal.invariant_of-self-clause-room
+invariant_of-self-clause-room g c = grind (arith, common_steps)
+
+pub cut-requires-clause-long : goal.cut-requires-clause-long
+cut-requires-clause-long g c = grind (arith, common_steps)
+
+pub invariant_of-self-clause-paired : goal.invariant_of-self-clause-paired
+invariant_of-self-clause-paired g c = grind (arith, common_steps)
+
+pub returns-clause-clear : goal.returns-clause-clear
+returns-clause-clear g c = grind (arith, common_steps)
+
+pub close_tags-requires-clause-long : goal.close_tags-requires-clause-long
+close_tags-requires-clause-long g c = grind (arith, common_steps)
+
+pub invariant_of-self-clause-marked : goal.invariant_of-self-clause-marked
+invariant_of-self-clause-marked g c = grind (arith, common_steps)
+
+pub invariant_of-self-clause-place_room : goal.invariant_of-self-clause-place_room
+invariant_of-self-clause-place_room g c = grind (arith, common_steps)
+
+pub returns-clause-hashes : goal.returns-clause-hashes
+returns-clause-hashes g c = grind (arith, common_steps)

@@ -10,6 +10,7 @@ use Rattle.cdb_make.specs.Views.Roll.{searched}
 use Rattle.cdb_make.specs.Views.Places.{places_in}
 use Rattle.cdb_make.proofs.Spans.{spans_of, long_as}
 use Rattle.cdb_make.proofs.Picking.{picks_set, gone_set, number_most, picked_within}
+use Rattle.std.proofs.lemmas.Grind.{common_steps}
 use Rattle.cdb_make.proofs.roll.Roll.find.Goals as goal
 
 pub returns-clause-found : goal.returns-clause-found
@@ -55,3 +56,12 @@ invariant_of-self-clause-marked g c = length-set c.args.self.now.marks.items c.a
 
 pub invariant_of-self-clause-room : goal.invariant_of-self-clause-room
 invariant_of-self-clause-room g c = omega (arith, length-set c.args.self.now.marks.items c.args.n Found, c.args.self.now.room)
+
+pub invariant_of-self-clause-spans : goal.invariant_of-self-clause-spans
+invariant_of-self-clause-spans g c = grind (arith, common_steps)
+
+pub returns-clause-room : goal.returns-clause-room
+returns-clause-room g c = grind (arith, common_steps)
+
+pub overflow_sub-size : goal.overflow_sub-size
+overflow_sub-size g c = grind (arith, common_steps)

@@ -11,6 +11,7 @@ use Rattle.cdb_make.specs.Views.Places.{places_in}
 use Rattle.cdb_make.proofs.Linking.{chained_same}
 use Rattle.cdb_make.proofs.Picking.{picks_push}
 use Rattle.cdb_make.proofs.Spans.{long_as, pushed_of, rising_of, spans_of}
+use Rattle.std.proofs.lemmas.Grind.{common_steps}
 use Rattle.cdb_make.proofs.roll.Roll.push.Goals as goal
 
 pub returns-clause-of : goal.returns-clause-of
@@ -66,3 +67,15 @@ invariant_of-self-clause-sought g c =
     (picks_push ms m.found (record { first = c.first_after-self-2.result; count = m.found.count; size = m.found.size }) c.args.size
     (omega (arith, length-map m.marks.items is_found, m.marked, m.paired, long_as spans.of)) spans.of (pushed_of c.args.size c.push.ensures.places spans.of)
     (λ e. c.first_after-self-2.ensures.none (e ∙ sym count) ∙ ap (λ (n : ℕ). n + 1) count) (λ apart. c.first_after-self-2.ensures.some (λ e. apart (e ∙ count))) refl refl m.sought)
+
+pub invariant_of-self-clause-paired : goal.invariant_of-self-clause-paired
+invariant_of-self-clause-paired g c = grind (arith, common_steps)
+
+pub returns-clause-found : goal.returns-clause-found
+returns-clause-found g c = grind (arith, common_steps)
+
+pub invariant_of-self-clause-place_room : goal.invariant_of-self-clause-place_room
+invariant_of-self-clause-place_room g c = grind (arith, common_steps)
+
+pub returns-clause-gone : goal.returns-clause-gone
+returns-clause-gone g c = grind (arith, common_steps)

@@ -9,6 +9,7 @@ use Rattle.cdb_make.specs.Spans.{IsPicked}
 use Rattle.cdb_make.specs.Views.Roll.{searched}
 use Rattle.cdb_make.specs.Views.Places.{places_in}
 use Rattle.cdb_make.proofs.Picking.{back_items, gone_put_back, found_put_back, picks_none}
+use Rattle.std.proofs.lemmas.Grind.{common_steps}
 use Rattle.cdb_make.proofs.roll.Roll.put_back.Goals as goal
 
 pub returns-clause-gone : goal.returns-clause-gone
@@ -56,3 +57,12 @@ invariant_of-self-clause-sought g c =
     let ms : List Mark = map put_back m.marks.items in
     subst (λ (v : List Mark). IsPicked (head_size g.L.Width.WORD) (places_in m.places) m.end (found_of v) c.none-self.result) (sym (back_items c.deref_mut.result.now m.marks.items c.put_each_back.new.marks _ m.marks.len m.found.first c.deref_mut.ensures.value m.marks.ok.0 m.sought.first h.long h.back))
     (picks_none _ _ _ (found_of ms) _ (found_put_back m.marks.items) (omega (arith, c.none-self.ensures.first, c.len.ensures, m.marks.ok.0, length-map ms is_found, length-map m.marks.items put_back)) c.none-self.ensures.count c.none-self.ensures.size)
+
+pub invariant_of-self-clause-spans : goal.invariant_of-self-clause-spans
+invariant_of-self-clause-spans g c = grind (arith, common_steps)
+
+pub put_each_back-requires : goal.put_each_back-requires
+put_each_back-requires g c = grind (arith, common_steps)
+
+pub returns-clause-has : goal.returns-clause-has
+returns-clause-has g c = grind (arith, common_steps)

@@ -12,6 +12,7 @@ use Rattle.cdb_make.specs.Views.Places.{places_in}
 use Rattle.cdb_make.proofs.Spans.{spans_of, long_as}
 use Rattle.cdb_make.proofs.Picking.{picks_none, picks_taken, gone_taken, found_taken, taken_items, number_taken, number_most, picked_taken, picked_within, picked_none}
 use Rattle.cdb_make.proofs.Survive.{or_none, number_zero}
+use Rattle.std.proofs.lemmas.Grind.{common_steps}
 use Rattle.cdb_make.proofs.roll.Roll.take.Goals as goal
 
 pub overflow_add-self : goal.overflow_add-self
@@ -81,3 +82,6 @@ returns-then-self-eq0-clause-size g c =
     let spans = spans_of (head_size g.L.Width.WORD) m.end (places_in m.places) m.spans in
     let none : m.found.size ≡ 0 = m.sought.size spans.sizes spans.of ∙ ap sum (picked_none (found_of ms) spans.sizes (number_zero (found_of ms) (sym m.sought.count ∙ c.if-self-eq0.true))) in
     omega (arith, none)
+
+pub invariant_of-self-clause-spans : goal.invariant_of-self-clause-spans
+invariant_of-self-clause-spans g c = grind (arith, common_steps)

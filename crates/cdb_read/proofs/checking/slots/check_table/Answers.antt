@@ -91,3 +91,33 @@ pub returns-then-branch-clause-clear : goal.returns-then-branch-clause-clear
 returns-then-branch-clause-clear g c = λ b is.
     let marked = c.mark_all.ensures in
     filled_is_clear g.L.Width.WORD c.args.n g.L.Width.TOP (pointer_pair c.args.table) b c.args.entries.now c.mark_all.new.self (c.in_ok-is_filled.ensures.filled b is (search rules)) marked.places marked.hashes marked.marks
+
+pub returns-in_err-check_slot-clause-reads : goal.returns-in_err-check_slot-clause-reads
+returns-in_err-check_slot-clause-reads g c = grind (arith, common_steps)
+
+pub returns-in_err-slot-clause-reads : goal.returns-in_err-slot-clause-reads
+returns-in_err-slot-clause-reads g c = grind (arith, common_steps)
+
+pub run_with-run-requires : goal.run_with-run-requires
+run_with-run-requires g c = grind (arith, common_steps)
+
+pub returns-clause-fails : goal.returns-clause-fails
+returns-clause-fails g c = grind (arith, common_steps)
+
+pub returns-clause-reads : goal.returns-clause-reads
+returns-clause-reads g c = grind (arith, common_steps)
+
+pub slot_at-requires-clause-slot : goal.slot_at-requires-clause-slot
+slot_at-requires-clause-slot g c = grind (arith, common_steps)
+
+pub distance_of-requires : goal.distance_of-requires
+distance_of-requires g c = grind (arith, common_steps)
+
+pub returns-clause-shows : goal.returns-clause-shows
+returns-clause-shows g c = grind (arith, common_steps)
+
+pub returns-in_err-slot-clause-fails : goal.returns-in_err-slot-clause-fails
+returns-in_err-slot-clause-fails g c = grind (arith, common_steps)
+
+pub last_run-requires-clause-inside : goal.last_run-requires-clause-inside
+last_run-requires-clause-inside g c = grind (arith, common_steps)

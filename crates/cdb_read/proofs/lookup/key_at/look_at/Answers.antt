@@ -3,6 +3,7 @@ use Rattle.cdb_form.specs.Format.Pair.{head_size}
 use Rattle.cdb_read.specs.Views.Search.{TellsSame}
 use Rattle.cdb_read.proofs.Probing.Headers.{lengths_shown, fewer_lengths, no_room, other_length, other_key, same_key}
 use Rattle.cdb_read.proofs.lookup.key_at.look_at.Goals.{then-record-key-via-then-record-key, then-record-key-via-else-record-key+in_ok-bytes_are_at+then-not-branch}
+use Rattle.std.proofs.lemmas.Grind.{common_steps}
 use Rattle.cdb_read.proofs.lookup.key_at.look_at.Goals as goal
 
 pub returns-in_default-clause-looks : goal.returns-in_default-clause-looks
@@ -41,3 +42,24 @@ returns-clause-looks g c =
 
 pub cover-requires-clause-inside : goal.cover-requires-clause-inside
 cover-requires-clause-inside g c = search rules
+
+pub returns-then-record-key-clause-reads : goal.returns-then-record-key-clause-reads
+returns-then-record-key-clause-reads g c = grind (arith, common_steps)
+
+pub returns-clause-reads : goal.returns-clause-reads
+returns-clause-reads g c = grind (arith, common_steps)
+
+pub returns-clause-within : goal.returns-clause-within
+returns-clause-within g c = grind (arith, common_steps)
+
+pub read_header-header-requires : goal.read_header-header-requires
+read_header-header-requires g c = grind (arith, common_steps)
+
+pub bytes_are_at-requires-clause-fits : goal.bytes_are_at-requires-clause-fits
+bytes_are_at-requires-clause-fits g c = grind (arith, common_steps)
+
+pub shown-requires-clause-short : goal.shown-requires-clause-short
+shown-requires-clause-short g c = grind (arith, common_steps)
+
+pub spans-requires : goal.spans-requires
+spans-requires g c = grind (arith, common_steps)

@@ -36,3 +36,9 @@ returns-in-Other-clause-reads g c = grind (arith, common_steps)
 
 pub returns-in-Broken-clause-reads : goal.returns-in-Broken-clause-reads
 returns-in-Broken-clause-reads g c = grind (arith, common_steps)
+
+pub returns-in-Value-clause-reads : goal.returns-in-Value-clause-reads
+returns-in-Value-clause-reads g c = grind (arith, common_steps)
+
+pub returns-in-Value-clause-within : goal.returns-in-Value-clause-within
+returns-in-Value-clause-within g c = grind (arith, common_steps)

@@ -148,3 +148,36 @@ returns-in_err-prepare-clause-memory_room g c = grind (arith, common_steps)
 
 pub returns-in_err-prepare-clause-memory_written : goal.returns-in_err-prepare-clause-memory_written
 returns-in_err-prepare-clause-memory_written g c = grind (arith, common_steps)
+
+pub returns-then-bytes-self-clause-unwritten : goal.returns-then-bytes-self-clause-unwritten
+returns-then-bytes-self-clause-unwritten g c = grind (arith, common_steps)
+
+pub returns-clause-memory_failures : goal.returns-clause-memory_failures
+returns-clause-memory_failures g c = grind (arith, common_steps)
+
+pub invariant_of-self-2 : goal.invariant_of-self-2
+invariant_of-self-2 g c = grind (arith, common_steps)
+
+pub returns-clause-more_written : goal.returns-clause-more_written
+returns-clause-more_written g c = grind (arith, common_steps)
+
+pub returns-clause-memory_written : goal.returns-clause-memory_written
+returns-clause-memory_written g c = grind (arith, common_steps)
+
+pub returns-clause-past_room : goal.returns-clause-past_room
+returns-clause-past_room g c = grind (arith, common_steps)
+
+pub returns-then-bytes-self-clause-ok_size : goal.returns-then-bytes-self-clause-ok_size
+returns-then-bytes-self-clause-ok_size g c = grind (arith, common_steps)
+
+pub invariant_of-self-in-Break-branch-3 : goal.invariant_of-self-in-Break-branch-3
+invariant_of-self-in-Break-branch-3 g c = grind (arith, common_steps)
+
+pub returns-clause-unwritten : goal.returns-clause-unwritten
+returns-clause-unwritten g c = grind (arith, common_steps)
+
+pub returns-then-bytes-self-clause-past_room : goal.returns-then-bytes-self-clause-past_room
+returns-then-bytes-self-clause-past_room g c = grind (arith, common_steps)
+
+pub returns-clause-memory : goal.returns-clause-memory
+returns-clause-memory g c = grind (arith, common_steps)

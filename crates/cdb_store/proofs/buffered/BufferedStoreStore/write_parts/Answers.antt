@@ -4,6 +4,7 @@ use Rattle.cdb_store.specs.BufferedStore.{bytes_of}
 use Rattle.cdb_store.specs.Images.{AreSized}
 use Rattle.cdb_store.proofs.OverLemmas.{over_emptied, over_put, over_same, sized_taken}
 use Rattle.cdb_store.proofs.Moves.{same_trans, same_sym, write_between, torn_between, torn_same, torn_from_write}
+use Rattle.std.proofs.lemmas.Grind.{common_steps}
 use Rattle.cdb_store.proofs.buffered.BufferedStoreStore.write_parts.Goals as goal
 
 pub returns-in_err-reserve-clause-torn : goal.returns-in_err-reserve-clause-torn
@@ -55,3 +56,108 @@ returns-clause-torn g c =
     let s = c.args.self.now in
     let sized : AreSized (g.S.Store.size s.inner) (g.S.Store.image s.inner) = record { each = g.met.S.Store.image_size s.inner } in
     torn_from_write c.requires.start (sized_taken s.pos s.held s.buffer.items s.placed s.kept sized) (returns-clause-ok g c)
+
+pub returns-then-n-self-clause-longer : goal.returns-then-n-self-clause-longer
+returns-then-n-self-clause-longer g c = grind (arith, common_steps)
+
+pub returns-clause-ok_size : goal.returns-clause-ok_size
+returns-clause-ok_size g c = grind (arith, common_steps)
+
+pub returns-clause-memory_failures : goal.returns-clause-memory_failures
+returns-clause-memory_failures g c = grind (arith, common_steps)
+
+pub returns-clause-cause : goal.returns-clause-cause
+returns-clause-cause g c = grind (arith, common_steps)
+
+pub overflow_add-pos : goal.overflow_add-pos
+overflow_add-pos g c = grind (arith, common_steps)
+
+pub returns-then-n-self-clause-memory_size : goal.returns-then-n-self-clause-memory_size
+returns-then-n-self-clause-memory_size g c = grind (arith, common_steps)
+
+pub returns-then-n-self-clause-not_past : goal.returns-then-n-self-clause-not_past
+returns-then-n-self-clause-not_past g c = grind (arith, common_steps)
+
+pub returns-clause-past_room : goal.returns-clause-past_room
+returns-clause-past_room g c = grind (arith, common_steps)
+
+pub returns-then-n-self-clause-ok_failures : goal.returns-then-n-self-clause-ok_failures
+returns-then-n-self-clause-ok_failures g c = grind (arith, common_steps)
+
+pub returns-then-n-self-clause-cause : goal.returns-then-n-self-clause-cause
+returns-then-n-self-clause-cause g c = grind (arith, common_steps)
+
+pub returns-then-n-self-clause-memory_room : goal.returns-then-n-self-clause-memory_room
+returns-then-n-self-clause-memory_room g c = grind (arith, common_steps)
+
+pub returns-clause-unwritten : goal.returns-clause-unwritten
+returns-clause-unwritten g c = grind (arith, common_steps)
+
+pub returns-clause-memory_room : goal.returns-clause-memory_room
+returns-clause-memory_room g c = grind (arith, common_steps)
+
+pub returns-clause-memory_written : goal.returns-clause-memory_written
+returns-clause-memory_written g c = grind (arith, common_steps)
+
+pub invariant_of-self-then-n-self : goal.invariant_of-self-then-n-self
+invariant_of-self-then-n-self g c = grind (arith, common_steps)
+
+pub returns-in_err-reserve-clause-past_room : goal.returns-in_err-reserve-clause-past_room
+returns-in_err-reserve-clause-past_room g c = grind (arith, common_steps)
+
+pub returns-then-n-self-clause-ok_size : goal.returns-then-n-self-clause-ok_size
+returns-then-n-self-clause-ok_size g c = grind (arith, common_steps)
+
+pub returns-then-n-self-clause-room : goal.returns-then-n-self-clause-room
+returns-then-n-self-clause-room g c = grind (arith, common_steps)
+
+pub returns-then-n-self-clause-more_written : goal.returns-then-n-self-clause-more_written
+returns-then-n-self-clause-more_written g c = grind (arith, common_steps)
+
+pub reserve-requires : goal.reserve-requires
+reserve-requires g c = grind (arith, common_steps)
+
+pub returns-then-n-self-clause-at_most_written : goal.returns-then-n-self-clause-at_most_written
+returns-then-n-self-clause-at_most_written g c = grind (arith, common_steps)
+
+pub returns-clause-not_past : goal.returns-clause-not_past
+returns-clause-not_past g c = grind (arith, common_steps)
+
+pub returns-then-n-self-clause-past_room : goal.returns-then-n-self-clause-past_room
+returns-then-n-self-clause-past_room g c = grind (arith, common_steps)
+
+pub invariant_of-self-in-Break-branch-3 : goal.invariant_of-self-in-Break-branch-3
+invariant_of-self-in-Break-branch-3 g c = grind (arith, common_steps)
+
+pub returns-clause-memory : goal.returns-clause-memory
+returns-clause-memory g c = grind (arith, common_steps)
+
+pub returns-then-n-self-clause-memory_failures : goal.returns-then-n-self-clause-memory_failures
+returns-then-n-self-clause-memory_failures g c = grind (arith, common_steps)
+
+pub returns-then-n-self-clause-ok_written : goal.returns-then-n-self-clause-ok_written
+returns-then-n-self-clause-ok_written g c = grind (arith, common_steps)
+
+pub overflow_add-n-2 : goal.overflow_add-n-2
+overflow_add-n-2 g c = grind (arith, common_steps)
+
+pub returns-then-n-self-clause-unwritten : goal.returns-then-n-self-clause-unwritten
+returns-then-n-self-clause-unwritten g c = grind (arith, common_steps)
+
+pub returns-in_err-write_parts-clause-memory_room : goal.returns-in_err-write_parts-clause-memory_room
+returns-in_err-write_parts-clause-memory_room g c = grind (arith, common_steps)
+
+pub returns-in_err-write_parts-clause-memory : goal.returns-in_err-write_parts-clause-memory
+returns-in_err-write_parts-clause-memory g c = grind (arith, common_steps)
+
+pub returns-then-n-self-clause-memory_written : goal.returns-then-n-self-clause-memory_written
+returns-then-n-self-clause-memory_written g c = grind (arith, common_steps)
+
+pub returns-clause-memory_size : goal.returns-clause-memory_size
+returns-clause-memory_size g c = grind (arith, common_steps)
+
+pub returns-then-n-self-clause-memory : goal.returns-then-n-self-clause-memory
+returns-then-n-self-clause-memory g c = grind (arith, common_steps)
+
+pub invariant_of-self-2 : goal.invariant_of-self-2
+invariant_of-self-2 g c = grind (arith, common_steps)

@@ -67,3 +67,45 @@ returns-in-Some-clause-ok g c = grind (arith, common_steps)
 
 pub returns-in-Some-clause-ok_failures : goal.returns-in-Some-clause-ok_failures
 returns-in-Some-clause-ok_failures g c = grind (arith, common_steps)
+
+pub returns-in-Some-clause-not_past : goal.returns-in-Some-clause-not_past
+returns-in-Some-clause-not_past g c = grind (arith, common_steps)
+
+pub returns-in-None-clause-more_written : goal.returns-in-None-clause-more_written
+returns-in-None-clause-more_written g c = grind (arith, common_steps)
+
+pub returns-in-Ok-clause-ok_written : goal.returns-in-Ok-clause-ok_written
+returns-in-Ok-clause-ok_written g c = grind (arith, common_steps)
+
+pub returns-in-Ok-clause-more_written : goal.returns-in-Ok-clause-more_written
+returns-in-Ok-clause-more_written g c = grind (arith, common_steps)
+
+pub returns-in-None-clause-memory : goal.returns-in-None-clause-memory
+returns-in-None-clause-memory g c = grind (arith, common_steps)
+
+pub returns-in-Ok-clause-at_most_written : goal.returns-in-Ok-clause-at_most_written
+returns-in-Ok-clause-at_most_written g c = grind (arith, common_steps)
+
+pub returns-in-Some-clause-more_written : goal.returns-in-Some-clause-more_written
+returns-in-Some-clause-more_written g c = grind (arith, common_steps)
+
+pub returns-in-None-clause-at_most_written : goal.returns-in-None-clause-at_most_written
+returns-in-None-clause-at_most_written g c = grind (arith, common_steps)
+
+pub returns-in-None-clause-cause : goal.returns-in-None-clause-cause
+returns-in-None-clause-cause g c = grind (arith, common_steps)
+
+pub returns-in-Some-clause-memory : goal.returns-in-Some-clause-memory
+returns-in-Some-clause-memory g c = grind (arith, common_steps)
+
+pub returns-in-Some-clause-at_most_written : goal.returns-in-Some-clause-at_most_written
+returns-in-Some-clause-at_most_written g c = grind (arith, common_steps)
+
+pub returns-in-Ok-clause-ok_failures : goal.returns-in-Ok-clause-ok_failures
+returns-in-Ok-clause-ok_failures g c = grind (arith, common_steps)
+
+pub returns-in-Ok-clause-cause : goal.returns-in-Ok-clause-cause
+returns-in-Ok-clause-cause g c = grind (arith, common_steps)
+
+pub returns-in-Ok-clause-memory : goal.returns-in-Ok-clause-memory
+returns-in-Ok-clause-memory g c = grind (arith, common_steps)

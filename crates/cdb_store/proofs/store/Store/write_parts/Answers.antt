@@ -2,6 +2,7 @@ use Rattle.std.proofs.Common.{◌+◌, ◌++◌, ℕ, List, length, arith, lengt
 use Rattle.std.proofs.lemmas.Result.{on_ok_weaker}
 use Rattle.cdb_store.specs.Images.{AfterWrite, AfterTornWrite, AreSized}
 use Rattle.cdb_store.proofs.Moves.{same_refl, torn_behind, torn_between, torn_wider, write_between, write_more}
+use Rattle.std.proofs.lemmas.Grind.{common_steps}
 use Rattle.cdb_store.proofs.store.Store.write_parts.Goals as goal
 
 pub returns-in_err-write_at-clause-torn : goal.returns-in_err-write_at-clause-torn
@@ -52,3 +53,120 @@ returns-clause-torn g c =
     torn_between c.reserve.ensures.images
     (torn_behind (omega arith) (omega (arith, length-append first (second ++ third), length-append second third)) (omega arith) (sized c.reserve.new.self) c.in_ok-write_at.ensures.ok rest)
     (same_refl (g.Self.Store.image last))
+
+pub returns-clause-memory_room : goal.returns-clause-memory_room
+returns-clause-memory_room g c = grind (arith, common_steps)
+
+pub returns-then-n-le-JOINED-clause-ok_size : goal.returns-then-n-le-JOINED-clause-ok_size
+returns-then-n-le-JOINED-clause-ok_size g c = grind (arith, common_steps)
+
+pub slice_bounds-write_at-end : goal.slice_bounds-write_at-end
+slice_bounds-write_at-end g c = grind (arith, common_steps)
+
+pub overflow_add-third_pos : goal.overflow_add-third_pos
+overflow_add-third_pos g c = grind (arith, common_steps)
+
+pub returns-in_err-write_at-clause-at_most_written : goal.returns-in_err-write_at-clause-at_most_written
+returns-in_err-write_at-clause-at_most_written g c = grind (arith, common_steps)
+
+pub returns-clause-cause : goal.returns-clause-cause
+returns-clause-cause g c = grind (arith, common_steps)
+
+pub returns-clause-ok_size : goal.returns-clause-ok_size
+returns-clause-ok_size g c = grind (arith, common_steps)
+
+pub returns-clause-memory_written : goal.returns-clause-memory_written
+returns-clause-memory_written g c = grind (arith, common_steps)
+
+pub returns-clause-ok_failures : goal.returns-clause-ok_failures
+returns-clause-ok_failures g c = grind (arith, common_steps)
+
+pub returns-clause-memory : goal.returns-clause-memory
+returns-clause-memory g c = grind (arith, common_steps)
+
+pub returns-clause-unwritten : goal.returns-clause-unwritten
+returns-clause-unwritten g c = grind (arith, common_steps)
+
+pub returns-then-n-le-JOINED-clause-ok : goal.returns-then-n-le-JOINED-clause-ok
+returns-then-n-le-JOINED-clause-ok g c = grind (arith, common_steps)
+
+pub returns-in_err-write_at-2-clause-not_past : goal.returns-in_err-write_at-2-clause-not_past
+returns-in_err-write_at-2-clause-not_past g c = grind (arith, common_steps)
+
+pub reserve-requires : goal.reserve-requires
+reserve-requires g c = grind (arith, common_steps)
+
+pub write_at-requires-3-clause-end : goal.write_at-requires-3-clause-end
+write_at-requires-3-clause-end g c = grind (arith, common_steps)
+
+pub returns-clause-more_written : goal.returns-clause-more_written
+returns-clause-more_written g c = grind (arith, common_steps)
+
+pub returns-clause-ok_written : goal.returns-clause-ok_written
+returns-clause-ok_written g c = grind (arith, common_steps)
+
+pub overflow_add-n-2 : goal.overflow_add-n-2
+overflow_add-n-2 g c = grind (arith, common_steps)
+
+pub returns-in_err-reserve-clause-past_room : goal.returns-in_err-reserve-clause-past_room
+returns-in_err-reserve-clause-past_room g c = grind (arith, common_steps)
+
+pub write_at-requires-4-clause-end : goal.write_at-requires-4-clause-end
+write_at-requires-4-clause-end g c = grind (arith, common_steps)
+
+pub returns-then-n-le-JOINED-clause-ok_written : goal.returns-then-n-le-JOINED-clause-ok_written
+returns-then-n-le-JOINED-clause-ok_written g c = grind (arith, common_steps)
+
+pub overflow_add-third_pos-2 : goal.overflow_add-third_pos-2
+overflow_add-third_pos-2 g c = grind (arith, common_steps)
+
+pub returns-clause-memory_failures : goal.returns-clause-memory_failures
+returns-clause-memory_failures g c = grind (arith, common_steps)
+
+pub returns-then-n-le-JOINED-clause-torn : goal.returns-then-n-le-JOINED-clause-torn
+returns-then-n-le-JOINED-clause-torn g c = grind (arith, common_steps)
+
+pub write_at-requires-2-clause-end : goal.write_at-requires-2-clause-end
+write_at-requires-2-clause-end g c = grind (arith, common_steps)
+
+pub returns-clause-past_room : goal.returns-clause-past_room
+returns-clause-past_room g c = grind (arith, common_steps)
+
+pub returns-then-n-le-JOINED-clause-not_past : goal.returns-then-n-le-JOINED-clause-not_past
+returns-then-n-le-JOINED-clause-not_past g c = grind (arith, common_steps)
+
+pub returns-then-n-le-JOINED-clause-past_room : goal.returns-then-n-le-JOINED-clause-past_room
+returns-then-n-le-JOINED-clause-past_room g c = grind (arith, common_steps)
+
+pub returns-clause-not_past : goal.returns-clause-not_past
+returns-clause-not_past g c = grind (arith, common_steps)
+
+pub returns-in_err-write_at-2-clause-at_most_written : goal.returns-in_err-write_at-2-clause-at_most_written
+returns-in_err-write_at-2-clause-at_most_written g c = grind (arith, common_steps)
+
+pub returns-clause-room : goal.returns-clause-room
+returns-clause-room g c = grind (arith, common_steps)
+
+pub returns-in_err-write_at-clause-not_past : goal.returns-in_err-write_at-clause-not_past
+returns-in_err-write_at-clause-not_past g c = grind (arith, common_steps)
+
+pub slice_bounds-joined-end-then-n-le-JOINED : goal.slice_bounds-joined-end-then-n-le-JOINED
+slice_bounds-joined-end-then-n-le-JOINED g c = grind (arith, common_steps)
+
+pub returns-clause-memory_size : goal.returns-clause-memory_size
+returns-clause-memory_size g c = grind (arith, common_steps)
+
+pub write_at-requires-clause-end : goal.write_at-requires-clause-end
+write_at-requires-clause-end g c = grind (arith, common_steps)
+
+pub write_at-requires-4-clause-start : goal.write_at-requires-4-clause-start
+write_at-requires-4-clause-start g c = grind (arith, common_steps)
+
+pub returns-clause-longer : goal.returns-clause-longer
+returns-clause-longer g c = grind (arith, common_steps)
+
+pub returns-then-n-le-JOINED-clause-at_most_written : goal.returns-then-n-le-JOINED-clause-at_most_written
+returns-then-n-le-JOINED-clause-at_most_written g c = grind (arith, common_steps)
+
+pub returns-clause-at_most_written : goal.returns-clause-at_most_written
+returns-clause-at_most_written g c = grind (arith, common_steps)

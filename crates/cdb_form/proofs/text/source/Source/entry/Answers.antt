@@ -91,3 +91,27 @@ returns-in_ok-record-in-Some-eq43-clause-leaves g c = omega arith
 
 pub record-requires-clause-most : goal.record-requires-clause-most
 record-requires-clause-most g c = omega arith
+
+pub returns-in_ok-record-in-Some-eq43-clause-spends : goal.returns-in_ok-record-in-Some-eq43-clause-spends
+returns-in_ok-record-in-Some-eq43-clause-spends g c = grind (arith, common_steps)
+
+pub returns-in-Some-eq10-clause-spends : goal.returns-in-Some-eq10-clause-spends
+returns-in-Some-eq10-clause-spends g c = grind (arith, common_steps)
+
+pub returns-in_ok-marked_key-in-Some-eq45-clause-spends : goal.returns-in_ok-marked_key-in-Some-eq45-clause-spends
+returns-in_ok-marked_key-in-Some-eq45-clause-spends g c = grind (arith, common_steps)
+
+pub returns-in_ok-marked_key-in-Some-eq45-clause-read : goal.returns-in_ok-marked_key-in-Some-eq45-clause-read
+returns-in_ok-marked_key-in-Some-eq45-clause-read g c = grind (arith, common_steps)
+
+pub returns-in-Some-2-clause-leaves : goal.returns-in-Some-2-clause-leaves
+returns-in-Some-2-clause-leaves g c = grind (arith, common_steps)
+
+pub returns-in_ok-record-in-Some-eq43-clause-puts : goal.returns-in_ok-record-in-Some-eq43-clause-puts
+returns-in_ok-record-in-Some-eq43-clause-puts g c = grind (arith, common_steps)
+
+pub returns-in-Some-clause-leaves : goal.returns-in-Some-clause-leaves
+returns-in-Some-clause-leaves g c = grind (arith, common_steps)
+
+pub returns-in_ok-record-in-Some-eq43-clause-later : goal.returns-in_ok-record-in-Some-eq43-clause-later
+returns-in_ok-record-in-Some-eq43-clause-later g c = grind (arith, common_steps)

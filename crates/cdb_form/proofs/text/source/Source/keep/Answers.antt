@@ -88,3 +88,15 @@ returns-then-not-has-clause-leaves g c = grind (arith, common_steps)
 
 pub returns-in_err-push-clause-are : goal.returns-in_err-push-clause-are
 returns-in_err-push-clause-are g c = grind (arith, common_steps)
+
+pub returns-in_default-clause-fewer : goal.returns-in_default-clause-fewer
+returns-in_default-clause-fewer g c = grind (arith, common_steps)
+
+pub loop-self-init : goal.loop-self-init
+loop-self-init g c = grind (arith, common_steps)
+
+pub returns-in_err-byte-clause-are : goal.returns-in_err-byte-clause-are
+returns-in_err-byte-clause-are g c = grind (arith, common_steps)
+
+pub returns-in_default-clause-leaves : goal.returns-in_default-clause-leaves
+returns-in_default-clause-leaves g c = grind (arith, common_steps)

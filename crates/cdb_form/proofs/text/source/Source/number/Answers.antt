@@ -68,3 +68,18 @@ returns-then-start-at-clause-leaves g c = omega arith
 
 pub returns-else-byte-stop-clause-read : goal.returns-else-byte-stop-clause-read
 returns-else-byte-stop-clause-read g c = omega arith
+
+pub returns-then-start-at-clause-spends : goal.returns-then-start-at-clause-spends
+returns-then-start-at-clause-spends g c = grind (arith, common_steps)
+
+pub returns-in_default-clause-later : goal.returns-in_default-clause-later
+returns-in_default-clause-later g c = grind (arith, common_steps)
+
+pub returns-else-byte-stop-clause-later : goal.returns-else-byte-stop-clause-later
+returns-else-byte-stop-clause-later g c = grind (arith, common_steps)
+
+pub returns-then-start-at-clause-fewer : goal.returns-then-start-at-clause-fewer
+returns-then-start-at-clause-fewer g c = grind (arith, common_steps)
+
+pub returns-in-None-with_digit-clause-later : goal.returns-in-None-with_digit-clause-later
+returns-in-None-with_digit-clause-later g c = grind (arith, common_steps)

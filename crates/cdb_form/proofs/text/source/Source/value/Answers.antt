@@ -26,3 +26,15 @@ returns-clause-leaves g c = grind (arith, common_steps)
 
 pub returns-in_default-clause-fewer : goal.returns-in_default-clause-fewer
 returns-in_default-clause-fewer g c = grind (arith, common_steps)
+
+pub returns-then-first-eq10-clause-are : goal.returns-then-first-eq10-clause-are
+returns-then-first-eq10-clause-are g c = grind (arith, common_steps)
+
+pub returns-in_default-clause-reads : goal.returns-in_default-clause-reads
+returns-in_default-clause-reads g c = grind (arith, common_steps)
+
+pub returns-then-first-eq10-clause-reads : goal.returns-then-first-eq10-clause-reads
+returns-then-first-eq10-clause-reads g c = grind (arith, common_steps)
+
+pub returns-in_default-clause-are : goal.returns-in_default-clause-are
+returns-in_default-clause-are g c = grind (arith, common_steps)

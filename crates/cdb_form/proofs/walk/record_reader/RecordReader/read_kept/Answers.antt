@@ -41,3 +41,9 @@ returns-in-Ok-true-clause-failed g c = grind (arith, common_steps)
 
 pub returns-in-AtEnd-clause-gives : goal.returns-in-AtEnd-clause-gives
 returns-in-AtEnd-clause-gives g c = grind (arith, common_steps)
+
+pub returns-in-Failed-clause-failed : goal.returns-in-Failed-clause-failed
+returns-in-Failed-clause-failed g c = grind (arith, common_steps)
+
+pub returns-in-Ok-false-clause-ended : goal.returns-in-Ok-false-clause-ended
+returns-in-Ok-false-clause-ended g c = grind (arith, common_steps)

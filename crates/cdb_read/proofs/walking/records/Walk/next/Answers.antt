@@ -26,3 +26,48 @@ returns-in-None-clause-no_table g c = grind (arith, common_steps)
 
 pub returns-in-Some-clause-no_table : goal.returns-in-Some-clause-no_table
 returns-in-Some-clause-no_table g c = grind (arith, common_steps)
+
+pub returns-then-rest-clause-no_record : goal.returns-then-rest-clause-no_record
+returns-then-rest-clause-no_record g c = grind (arith, common_steps)
+
+pub returns-in-None-clause-ended : goal.returns-in-None-clause-ended
+returns-in-None-clause-ended g c = grind (arith, common_steps)
+
+pub returns-in-NoTable-clause-ended : goal.returns-in-NoTable-clause-ended
+returns-in-NoTable-clause-ended g c = grind (arith, common_steps)
+
+pub returns-in-Some-clause-ended : goal.returns-in-Some-clause-ended
+returns-in-Some-clause-ended g c = grind (arith, common_steps)
+
+pub returns-in-NoTable-clause-no_table : goal.returns-in-NoTable-clause-no_table
+returns-in-NoTable-clause-no_table g c = grind (arith, common_steps)
+
+pub returns-then-rest-clause-no_table : goal.returns-then-rest-clause-no_table
+returns-then-rest-clause-no_table g c = grind (arith, common_steps)
+
+pub overflow_add-place : goal.overflow_add-place
+overflow_add-place g c = grind (arith, common_steps)
+
+pub returns-in-AtEnd-clause-no_record : goal.returns-in-AtEnd-clause-no_record
+returns-in-AtEnd-clause-no_record g c = grind (arith, common_steps)
+
+pub returns-in-NoRecord-clause-ended : goal.returns-in-NoRecord-clause-ended
+returns-in-NoRecord-clause-ended g c = grind (arith, common_steps)
+
+pub returns-in-NoRecord-clause-no_table : goal.returns-in-NoRecord-clause-no_table
+returns-in-NoRecord-clause-no_table g c = grind (arith, common_steps)
+
+pub returns-in-AtEnd-clause-no_table : goal.returns-in-AtEnd-clause-no_table
+returns-in-AtEnd-clause-no_table g c = grind (arith, common_steps)
+
+pub invariant_of-self : goal.invariant_of-self
+invariant_of-self g c = grind (arith, common_steps)
+
+pub returns-in-NoRecord-clause-no_record : goal.returns-in-NoRecord-clause-no_record
+returns-in-NoRecord-clause-no_record g c = grind (arith, common_steps)
+
+pub returns-in-NoTable-clause-no_record : goal.returns-in-NoTable-clause-no_record
+returns-in-NoTable-clause-no_record g c = grind (arith, common_steps)
+
+pub returns-then-rest-clause-ended : goal.returns-then-rest-clause-ended
+returns-then-rest-clause-ended g c = grind (arith, common_steps)
