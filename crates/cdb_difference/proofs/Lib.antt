@@ -7,3 +7,4 @@ pub mod PutValues
 pub mod MarkBits
 pub mod Marked
 pub mod Steps
+mod Looked

@@ -5,3 +5,4 @@ pub mod NextRecord
 pub mod Marks
 pub mod InStep
 pub mod Guiding
+pub mod Looking

@@ -1,12 +1,12 @@
 // Whether a key has other values in another database.
 ghost use Rattle.std.specs.Prelude.{◌≡◌, ◌+◌, ◌<◌, ◌≤◌, ◌∷◌, ℕ, List, [], IfOk, IfErr, MatchOption, length, map};
 ghost use Rattle.std.specs.Bool.{Decides};
-ghost use Rattle.cdb_store.specs.Reads.{OnlyReads};
 ghost use Rattle.cdb_read.specs.Difference.{values_eq};
 ghost use Rattle.cdb_read.specs.Lookup.{bytes_of};
 ghost use Rattle.cdb_read.specs.Views.Finder.{left_in, GivesNone, GivesSpan};
 ghost use Rattle.cdb_difference.specs.Difference.{is_first_changed, LookHas, StopsBy};
 ghost use Rattle.cdb_difference.specs.Views.Comparing.{BytesStop, OtherStops, ValuesStop};
+ghost use Rattle.cdb_difference.specs.Views.Looking.{LooksOn, ReadBoth, StaysAt};
 
 use crate::same::is_same;
 use crate::stop::Stop;
@@ -28,14 +28,8 @@ fn same_bytes<L: Width, S: Store, T: Store>(
     requires pieces { length theirs.old ≡ length mine.old }
     requires inside { value.place + value.len ≤ S.size own.old.reader.now.store }
     requires within { with.place + with.len ≤ T.size other.old.reader.now.store }
-    ensures own_reader { own.new.reader.ghost_name ≡ own.old.reader.ghost_name }
-    ensures own_key { own.new.key.now ≡ own.old.key.now }
-    ensures own_stays { own.new.searching ≡ own.old.searching }
-    ensures own_reads { OnlyReads S.Store own.old.reader.now.store own.new.reader.now.store }
-    ensures other_reader { other.new.reader.ghost_name ≡ other.old.reader.ghost_name }
-    ensures other_key { other.new.key.now ≡ other.old.key.now }
-    ensures other_stays { other.new.searching ≡ other.old.searching }
-    ensures other_reads { OnlyReads T.Store other.old.reader.now.store other.new.reader.now.store }
+    ensures own { StaysAt own.old own.new }
+    ensures other { StaysAt other.old other.new }
     ensures same { (b c : List ℕ) → S.image own.new.reader.now.store b
         → T.image other.new.reader.now.store c
         → IfOk result (λ same. Decides same (bytes_of b value ≡ bytes_of c with)) }
@@ -65,9 +59,7 @@ fn same_bytes<L: Width, S: Store, T: Store>(
 
 /// The next value of the other finder.
 fn next_other<L: Width, T: Store>(other: &mut Finder<'_, T, L>) -> Result<Option<Span>, Stop>
-    ensures same_reader { other.new.reader.ghost_name ≡ other.old.reader.ghost_name }
-    ensures key { other.new.key.now ≡ other.old.key.now }
-    ensures reads { OnlyReads T.Store other.old.reader.now.store other.new.reader.now.store }
+    ensures looks { LooksOn other.old other.new }
     ensures gives { IfOk result (λ found. MatchOption found
         (GivesNone L.WORD other.old other.new)
         (GivesSpan L.WORD other.old other.new)) }
@@ -81,8 +73,7 @@ fn next_other<L: Width, T: Store>(other: &mut Finder<'_, T, L>) -> Result<Option
 
 /// Whether the other finder has no value left.
 fn ends<L: Width, T: Store>(other: &mut Finder<'_, T, L>) -> Result<bool, Stop>
-    ensures same_reader { other.new.reader.ghost_name ≡ other.old.reader.ghost_name }
-    ensures reads { OnlyReads T.Store other.old.reader.now.store other.new.reader.now.store }
+    ensures looks { LooksOn other.old other.new }
     ensures ends { (c : List ℕ) → T.image other.new.reader.now.store c
         → IfOk result (λ ended. ended
         ≡ values_eq [] (map (bytes_of c) (left_in L.WORD c other.old).spans)) }
@@ -106,10 +97,8 @@ fn same_values<L: Width, S: Store, T: Store>(
     requires piece { 0 < length mine.old }
     requires pieces { length theirs.old ≡ length mine.old }
     requires inside { first.place + first.len ≤ S.size own.old.reader.now.store }
-    ensures own_reader { own.new.reader.ghost_name ≡ own.old.reader.ghost_name }
-    ensures own_reads { OnlyReads S.Store own.old.reader.now.store own.new.reader.now.store }
-    ensures other_reader { other.new.reader.ghost_name ≡ other.old.reader.ghost_name }
-    ensures other_reads { OnlyReads T.Store other.old.reader.now.store other.new.reader.now.store }
+    ensures own { LooksOn own.old own.new }
+    ensures other { LooksOn other.old other.new }
     ensures same { (b c : List ℕ) → S.image own.new.reader.now.store b
         → T.image other.new.reader.now.store c → IfOk result (λ same. same
         ≡ values_eq (map (bytes_of b) (first ∷ (left_in L.WORD b own.old).spans))
@@ -141,8 +130,7 @@ pub(crate) fn is_first_changed<L: Width, S: Store, T: Store>(
 ) -> Result<bool, Stop>
     requires piece { 0 < length mine.old }
     requires pieces { length theirs.old ≡ length mine.old }
-    ensures own_reads { OnlyReads S.Store own.old.store own.new.store }
-    ensures other_reads { OnlyReads T.Store other.old.store other.new.store }
+    ensures reads { ReadBoth own.old own.new other.old other.new }
     ensures changed { (b c : List ℕ) → S.image own.new.store b → T.image other.new.store c
         → IfOk result (λ changed. changed ≡ is_first_changed L.WORD b c key.now place) }
     ensures fails { IfErr result (StopsBy S.Store T.Store own.old.store own.new.store

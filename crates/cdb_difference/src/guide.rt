@@ -1,12 +1,12 @@
 // Which of two walks goes on where their records differ.
 ghost use Rattle.std.specs.Prelude.{◌≡◌, ◌≢◌, ◌+◌, ◌≤◌, IfErr, IfOk};
-ghost use Rattle.cdb_store.specs.Reads.{OnlyReads};
 ghost use Rattle.cdb_read.specs.Views.Walking.{record_in};
 ghost use Rattle.cdb_difference.specs.Difference.{InBoth};
 ghost use Rattle.cdb_difference.specs.Views.Comparing.{BytesStop};
 ghost use Rattle.cdb_difference.specs.Views.Guiding.{ahead_of, bytes_between};
 ghost use Rattle.cdb_difference.specs.Views.InStep.{IsInside};
 ghost use Rattle.cdb_difference.specs.declared.guide.Advance.TheVariants.{Same};
+ghost use Rattle.cdb_difference.specs.Views.Looking.{ReadBoth};
 
 use crate::same::is_same_span;
 use crate::stop::Stop;
@@ -68,8 +68,7 @@ fn ahead<L: Width, S: Store, T: Store>(
     key: Span,
 ) -> Result<u64, Stop>
     requires within { key.place + key.len ≤ T.size other.old.store }
-    ensures own_reads { OnlyReads S.Store own.old.store own.new.store }
-    ensures other_reads { OnlyReads T.Store other.old.store other.new.store }
+    ensures reads { ReadBoth own.old own.new other.old other.new }
     ensures far { InBoth S.Store T.Store own.new.store other.new.store (λ b c.
         IfOk result (λ far. far ≡ ahead_of L.WORD b c from.place key)) }
     ensures fails { IfErr result (BytesStop S.Store T.Store own.old.store own.new.store
@@ -118,8 +117,7 @@ impl Guide {
     ) -> Result<Advance, Stop>
         requires inside { IsInside (S.size own.old.store) mine }
         requires within { IsInside (T.size other.old.store) theirs }
-        ensures own_reads { OnlyReads S.Store own.old.store own.new.store }
-        ensures other_reads { OnlyReads T.Store other.old.store other.new.store }
+        ensures reads { ReadBoth own.old own.new other.old other.new }
         ensures differ { IfOk result (λ advance. advance ≢ Same) }
         ensures fails { IfErr result (BytesStop S.Store T.Store own.old.store own.new.store
             other.old.store other.new.store) }
@@ -152,8 +150,7 @@ impl Guide {
     ) -> Result<Advance, Stop>
         requires inside { IsInside (S.size own.old.store) mine }
         requires within { IsInside (T.size other.old.store) theirs }
-        ensures own_reads { OnlyReads S.Store own.old.store own.new.store }
-        ensures other_reads { OnlyReads T.Store other.old.store other.new.store }
+        ensures reads { ReadBoth own.old own.new other.old other.new }
         ensures same { InBoth S.Store T.Store own.new.store other.new.store (λ b c.
             IfOk result (λ advance. advance ≡ Same → record_in b mine ≡ record_in c theirs)) }
         ensures meets { InBoth S.Store T.Store own.new.store other.new.store (λ b c.

@@ -8,6 +8,7 @@ ghost use Rattle.cdb_difference.specs.Difference.{InBoth, DifferenceStops};
 ghost use Rattle.cdb_difference.specs.Views.InStep.{AgreeUnmarked, AllMarked, AreInStep, LeftStops, OtherMarkFails, OtherNextStops, bytes_ahead};
 ghost use Rattle.cdb_difference.specs.Views.Marks.{Grows, is_marked};
 ghost use Rattle.cdb_difference.specs.Views.NextRecord.{GivesNext, GivesNoNext, NextStops, left_from};
+ghost use Rattle.cdb_difference.specs.Views.Looking.{ReadBoth};
 
 use crate::guide::{Advance, Guide};
 use crate::mark_hash::mark_hash;
@@ -115,8 +116,7 @@ fn step<L: Width, S: Store, T: Store>(
 ) -> Result<bool, Stop>
     requires in_step { AreInStep L.WORD S.Store T.Store own.old.store other.old.store
         marks.old.words.items at.old }
-    ensures own_reads { OnlyReads S.Store own.old.store own.new.store }
-    ensures other_reads { OnlyReads T.Store other.old.store other.new.store }
+    ensures reads { ReadBoth own.old own.new other.old other.new }
     ensures in_step { OnOk result (AreInStep L.WORD S.Store T.Store own.new.store other.new.store
         marks.new.words.items at.new) }
     ensures goes_on { IfOk result (λ went. went ≡ true → bytes_ahead at.new < bytes_ahead at.old) }
@@ -161,8 +161,7 @@ pub(crate) fn mark_changed<L: Width, S: Store, T: Store>(
     other: &mut Reader<T, L>,
     marks: &mut Marks,
 ) -> Result<(), Stop>
-    ensures own_reads { OnlyReads S.Store own.old.store own.new.store }
-    ensures other_reads { OnlyReads T.Store other.old.store other.new.store }
+    ensures reads { ReadBoth own.old own.new other.old other.new }
     ensures agree { OnOk result (InBoth S.Store T.Store own.new.store other.new.store (λ b c.
         AgreeUnmarked marks.new.words.items (walk_of L.WORD b).records (walk_of L.WORD c).records)) }
     ensures fails { IfErr result (DifferenceStops L.WORD S.Store T.Store own.old.store own.new.store

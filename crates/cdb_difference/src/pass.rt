@@ -1,12 +1,12 @@
 // A pass over a database beside another.
 ghost use Rattle.std.specs.Prelude.{◌≡◌, ◌+◌, ◌<◌, ◌≤◌, ◌&&◌, ℕ, List, Ok, true, length, IfErr, IfOk, OnOk};
 ghost use Rattle.cdb_form.specs.Format.Walk.{walk_of};
-ghost use Rattle.cdb_store.specs.Reads.{OnlyReads};
 ghost use Rattle.cdb_read.specs.Lookup.{bytes_of};
 ghost use Rattle.cdb_difference.specs.Difference.{InBoth, OtherLookHas, OwnLookHas, DifferenceStops, StopsBy};
 ghost use Rattle.cdb_difference.specs.Difference.{is_first_changed, WritesPass, WritesPassPrefix};
 ghost use Rattle.cdb_difference.specs.Views.InStep.{AgreeUnmarked};
 ghost use Rattle.cdb_difference.specs.Views.Marks.{is_marked};
+ghost use Rattle.cdb_difference.specs.Views.Looking.{ReadBoth};
 
 use crate::differing_values::is_first_changed;
 use crate::key_changes::write_changes;
@@ -36,8 +36,7 @@ fn is_change<L: Width, S: Store, T: Store>(
     requires piece { 0 < length mine.old }
     requires pieces { length theirs.old ≡ length mine.old }
     requires inside { pair.key.place + pair.key.len ≤ S.size own.old.store }
-    ensures own_reads { OnlyReads S.Store own.old.store own.new.store }
-    ensures other_reads { OnlyReads T.Store other.old.store other.new.store }
+    ensures reads { ReadBoth own.old own.new other.old other.new }
     ensures key { (b : List ℕ) → S.image own.new.store b
         → result ≡ Ok true → key.new.items ≡ bytes_of b pair.key }
     ensures change { (b c : List ℕ) → S.image own.new.store b → T.image other.new.store c
@@ -68,8 +67,7 @@ pub(crate) fn write_pass<L: Width, S: Store, T: Store, W: Sink>(
 ) -> Result<(), Stop>
     requires agree { InBoth S.Store T.Store own.old.store other.old.store (λ b c.
         AgreeUnmarked marks.now.words.items (walk_of L.WORD b).records (walk_of L.WORD c).records) }
-    ensures own_reads { OnlyReads S.Store own.old.store own.new.store }
-    ensures other_reads { OnlyReads T.Store other.old.store other.new.store }
+    ensures reads { ReadBoth own.old own.new other.old other.new }
     ensures ok { OnOk result (InBoth S.Store T.Store own.new.store other.new.store
         (λ b c. WritesPass L.WORD kind b c (W.contents w.old) (W.contents w.new))) }
     ensures front { IfErr result (λ stop. InBoth S.Store T.Store own.new.store other.new.store

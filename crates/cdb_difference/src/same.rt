@@ -1,9 +1,9 @@
 // Whether bytes of two databases are the same.
 ghost use Rattle.std.specs.Prelude.{◌≡◌, ◌+◌, ◌≤◌, ℕ, List, IfErr, IfOk};
 ghost use Rattle.std.specs.Bool.{Decides};
-ghost use Rattle.cdb_store.specs.Reads.{OnlyReads};
 ghost use Rattle.cdb_read.specs.Lookup.{bytes_of};
 ghost use Rattle.cdb_difference.specs.Views.Comparing.{BytesStop};
+ghost use Rattle.cdb_difference.specs.Views.Looking.{ReadBoth};
 
 use crate::stop::Stop;
 use cdb_form::Width;
@@ -28,8 +28,7 @@ pub(crate) fn is_same_span<L: Width, S: Store, T: Store>(
 ) -> Result<bool, Stop>
     requires inside { mine.place + mine.len ≤ S.size own.old.store }
     requires within { theirs.place + theirs.len ≤ T.size other.old.store }
-    ensures own_reads { OnlyReads S.Store own.old.store own.new.store }
-    ensures other_reads { OnlyReads T.Store other.old.store other.new.store }
+    ensures reads { ReadBoth own.old own.new other.old other.new }
     ensures same { (b c : List ℕ) → S.image own.new.store b → T.image other.new.store c
         → IfOk result (λ same. Decides same (bytes_of b mine ≡ bytes_of c theirs)) }
     ensures fails { IfErr result (BytesStop S.Store T.Store own.old.store own.new.store

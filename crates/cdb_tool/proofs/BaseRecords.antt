@@ -219,31 +219,6 @@ make_no_base make.TooBig is = is
 make_no_base make.NoMemory is = is
 make_no_base make.Writing is = is
 
-pub told_no_base : (o : MakeOptions) (i j : ℕ) (key : List ℕ) (put : Put) (old new : Option (List ℕ)) (f : Fault) → TellFails o i j key put old new f → IsOfBase f → ⊥
-told_no_base o i j key put old new (fault.Text n f) x is = absurd is
-told_no_base o i j key put old new (fault.Make f) x is = absurd x
-told_no_base o i j key put old new (fault.Walk f) x is = absurd is
-told_no_base o i j key put old new fault.Missing x is = absurd is
-told_no_base o i j key put old new (fault.Read f) x is = absurd x
-told_no_base o i j key put old new fault.Long x is = absurd is
-told_no_base o i j key put old new fault.Open x is = absurd is
-told_no_base o i j key put old new fault.Rename x is = absurd is
-told_no_base o i j key put old new fault.NoOldTables x is = absurd is
-told_no_base o i j key put old new fault.NoNewTables x is = absurd is
-told_no_base o i j key put old new (fault.Old side) x is = absurd is
-told_no_base o i j key put old new (fault.New side) x is = absurd is
-told_no_base o i j key put old new fault.NoMemory x is = absurd is
-told_no_base o i j key put old new fault.Output x is = absurd is
-told_no_base o i j key put old new fault.Duplicate x is = absurd is
-
-pub text_no_base : (n : ℕ) (f : TextFault) → IsOfBase (text_fault n f) → ⊥
-text_no_base n text.NoMemory is = is
-text_no_base n (text.Syntax at) is = is
-text_no_base n (text.Ended at) is = is
-text_no_base n (text.Large at) is = is
-text_no_base n text.Input is = is
-text_no_base n text.Endless is = is
-
 -- ---- no database was opened
 
 -- its store was only read

@@ -132,24 +132,6 @@ put_told : {S L : Type 0} {s : Ghosts S} {l : Widths L} (t : Task) (cs : List In
     → ComesFrom (s.image old.store) (s.image new.store) → limit_of new ≡ limit_of old → TellFails t.options i n r.key put mid end f → WhereHonest (s.image new.store) (PutStops l.WORD t cs (putting i n r) start end f)
 put_told t cs i n r start mid end old new put f h wide puts comes limit x = record { each = λ b is. inr (told_so t cs i n r start mid end new put f b (is_put t cs i n r start mid old new put h wide puts comes limit b is) x) }
 
--- what a teller answers is no fault of the store
-pub told_store : (o : MakeOptions) (i j : ℕ) (key : List ℕ) (put : Put) (old new : Option (List ℕ)) (f : Fault) → TellFails o i j key put old new f → IsOfStore f → ⊥
-told_store o i j key put old new (Text n f) x is = absurd is
-told_store o i j key put old new (Make f) x is = absurd x
-told_store o i j key put old new (Walk f) x is = absurd is
-told_store o i j key put old new Missing x is = absurd is
-told_store o i j key put old new (Read f) x is = absurd is
-told_store o i j key put old new Long x is = absurd is
-told_store o i j key put old new Open x is = absurd is
-told_store o i j key put old new Rename x is = absurd is
-told_store o i j key put old new NoOldTables x is = absurd is
-told_store o i j key put old new NoNewTables x is = absurd is
-told_store o i j key put old new (Old side) x is = absurd is
-told_store o i j key put old new (New side) x is = absurd is
-told_store o i j key put old new NoMemory x is = absurd is
-told_store o i j key put old new Output x is = absurd is
-told_store o i j key put old new Duplicate x is = absurd is
-
 -- ---- a put that was refused
 
 full_so : {S L : Type 0} {s : Ghosts S} {l : Widths L} (t : Task) (cs : List Incoming) (i n : ℕ) (r : KeyValue) (start mid : Option (List ℕ)) (old : Maker S L s l) → Goes l.WORD t cs start mid → limit_of old ≡ t.options.limit
@@ -348,13 +330,6 @@ unremoved_so t cs key start now old new make.NoMemory h x comes b is = absurd x
 pub unremoved : {S L : Type 0} {s : Ghosts S} {l : Widths L} (t : Task) (cs : List Incoming) (key : List ℕ) (start now : Option (List ℕ)) (old new : Maker S L s l) (f : MakeFault) → InCourse t cs start now old → FailsRemoving old new key f
     → ComesFrom (s.image old.store) (s.image new.store) → WhereHonest (s.image new.store) (StopsSo l.WORD t cs start now (make_fault f))
 unremoved t cs key start now old new f h x comes = record { each = λ b is. unremoved_so t cs key start now old new f h x comes b is }
-
-pub unremoved_store : {S L : Type 0} {s : Ghosts S} {l : Widths L} (old new : Maker S L s l) (key : List ℕ) (f : MakeFault) → FailsRemoving old new key f → IsOfStore (make_fault f) → s.failures old.store < s.failures new.store
-unremoved_store old new key make.Broken x is = absurd is
-unremoved_store old new key make.Lookup x is = x.1
-unremoved_store old new key make.Writing x is = x.failed
-unremoved_store old new key make.TooBig x is = absurd is
-unremoved_store old new key make.NoMemory x is = absurd is
 
 -- ---- the start
 

@@ -1,5 +1,5 @@
 -- How a run that writes a difference ends.
-use Rattle.std.proofs.Common.{◌≡◌, true, false, ℕ, ◌≤◌, List, sym, ap, subst, arith, inl, inr, Option, Result, Ok, Err}
+use Rattle.std.proofs.Common.{◌≡◌, true, false, ℕ, ◌≤◌, List, Some, None, sym, ap, subst, arith, inl, inr, Option, Result, Ok, Err}
 use Rattle.std.specs.Prelude.{IsOk}
 use Rattle.std.specs.Io.KnownBytes.{Keeps}
 use Rattle.cdb_store.specs.Reads.{OnlyReads}
@@ -11,9 +11,12 @@ use Rattle.cdb_form.proofs.Bytes.WritingLemmas.{appends_kept, same_appends}
 use Rattle.cdb_read.specs.Views.Reads.{OpeningFails}
 use Rattle.cdb_read.specs.declared.fault.ReadFault.{ReadFault}
 use Rattle.cdb_read.specs.declared.fault.ReadFault.TheVariants as read
-use Rattle.cdb_difference.specs.Difference.{IsOneDamaged, ReadingStops, SaysDifference, DifferenceStops, WritesDifference, WritesDifferencePrefix}
+use Rattle.cdb_read.proofs.TablesInside.{lookup_meets_no_table, walk_meets_no_table}
+use Rattle.cdb_read.specs.Statistics.{outside_table}
+use Rattle.cdb_form.specs.declared.damage.Damage.TheVariants as damage
+use Rattle.cdb_difference.specs.Difference.{HasDamage, IsOneDamaged, ReadingStops, SaysDifference, DifferenceStops, WritesDifference, WritesDifferencePrefix}
 use Rattle.cdb_difference.proofs.WholeDifferences.{nothing_written}
-use Rattle.cdb_tool.specs.Runs.Difference.{DifferenceFails, HaveTables, DifferenceLacks, DifferenceNotRead, TellsDifference, comes_after_heads}
+use Rattle.cdb_tool.specs.Runs.Difference.{ComesAfter, DifferenceFails, DifferenceLacks, DifferenceNotRead, DifferenceOutside, HaveHeads, HaveTables, HaveTablesInside, TellsDifference}
 use Rattle.cdb_tool.specs.Runs.Flushed.{Flushed}
 use Rattle.cdb_tool.specs.Views.Fault.{old_fault, new_fault, stop_fault}
 use Rattle.cdb_tool.specs.declared.fault.Fault.{Fault}
@@ -25,10 +28,15 @@ use Rattle.cdb_tool.proofs.WholeRuns.{keeps_self, keeps_then, not_ok, prefix_kep
 
 -- ---- why it failed
 
-module _ {S T : Type 0} (w : ℕ) (s : Ghosts S) (t : Ghosts T) (old old_now : S) (new new_now : T) (start now : Option (List ℕ)) (O : Type 0) where
+-- a file whose tables lie inside it has the damage of none
+no_table : (w n : ℕ) (b c : List ℕ) → outside_table w b ≡ None → HasDamage w b c (damage.Table n) → ⊥
+no_table w n b c inside (inl walked) = walk_meets_no_table w n b inside walked
+no_table w n b c inside (inr looked) = lookup_meets_no_table w n b looked.0 inside looked.2
+
+module _ {S T : Type 0} (w : ℕ) (s : Ghosts S) (t : Ghosts T) (old old_now : S) (new new_now : T) (start now : Option (List ℕ)) (O : Type 0) (looked : HaveTablesInside w s t old_now new_now) where
   old_fails : (f : ReadFault) → ReadingStops s old old_now (IsOneDamaged w s t old_now new_now) O f → DifferenceFails w s t old old_now new new_now start now (old_fault f)
   old_fails read.Device fails = fails
-  old_fails (read.Table n) fails = fails
+  old_fails (read.Table n) fails = λ b c is it. absurd (no_table w n b c (looked.of_old b is) (fails b c is it))
   old_fails (read.Record place) fails = fails
   old_fails read.NoMemory fails = tt
   old_fails read.Output fails = tt
@@ -39,7 +47,7 @@ module _ {S T : Type 0} (w : ℕ) (s : Ghosts S) (t : Ghosts T) (old old_now : S
 
   new_fails : (f : ReadFault) → ReadingStops t new new_now (IsOneDamaged w t s new_now old_now) O f → DifferenceFails w s t old old_now new new_now start now (new_fault f)
   new_fails read.Device fails = fails
-  new_fails (read.Table n) fails = fails
+  new_fails (read.Table n) fails = λ c b it is. absurd (no_table w n c b (looked.of_new c it) (fails c b it is))
   new_fails (read.Record place) fails = fails
   new_fails read.NoMemory fails = tt
   new_fails read.Output fails = tt
@@ -51,6 +59,32 @@ module _ {S T : Type 0} (w : ℕ) (s : Ghosts S) (t : Ghosts T) (old old_now : S
   pub writing_fails : (stop : Stop) → DifferenceStops w s t old old_now new new_now O stop → DifferenceFails w s t old old_now new new_now start now (stop_fault stop)
   writing_fails (Own f) fails = old_fails f fails
   writing_fails (Other f) fails = new_fails f fails
+
+  old_after : (f : ReadFault) → ReadingStops s old old_now (IsOneDamaged w s t old_now new_now) O f → ComesAfter w s t old_now new_now (old_fault f)
+  old_after read.Device fails = tt
+  old_after (read.Table n) fails = looked.tables
+  old_after (read.Record place) fails = looked
+  old_after read.NoMemory fails = looked
+  old_after read.Output fails = looked
+  old_after read.Short fails = absurd fails
+  old_after (read.Slot n i) fails = absurd fails
+  old_after (read.Twice place) fails = absurd fails
+  old_after (read.Unindexed place) fails = absurd fails
+
+  new_after : (f : ReadFault) → ReadingStops t new new_now (IsOneDamaged w t s new_now old_now) O f → ComesAfter w s t old_now new_now (new_fault f)
+  new_after read.Device fails = looked.tables.heads.of_old
+  new_after (read.Table n) fails = (looked.tables, looked.of_old)
+  new_after (read.Record place) fails = looked
+  new_after read.NoMemory fails = looked
+  new_after read.Output fails = looked
+  new_after read.Short fails = absurd fails
+  new_after (read.Slot n i) fails = absurd fails
+  new_after (read.Twice place) fails = absurd fails
+  new_after (read.Unindexed place) fails = absurd fails
+
+  pub writing_after : (stop : Stop) → DifferenceStops w s t old old_now new new_now O stop → ComesAfter w s t old_now new_now (stop_fault stop)
+  writing_after (Own f) fails = old_after f fails
+  writing_after (Other f) fails = new_after f fails
 
 -- ---- a database that was not opened
 
@@ -71,21 +105,21 @@ old_unopened w s t old old_now new start f fails = record {
   new_reads = reads_none t new;
   ok = tt;
   err = by f fails;
-  ok_tables = tt;
-  err_tables = λ after. early f fails after;
+  ok_looks = tt;
+  err_looks = first f fails;
   front = λ b c is it. nothing_written w b c start;
 }
   where
-    early : (f : ReadFault) → OpeningFails w s old old_now f → comes_after_heads (old_fault f) ≡ true → HaveTables w s t old_now new
-    early read.Short fails after = absurd (not_ok after)
-    early read.Device fails after = absurd (not_ok after)
-    early (read.Table n) fails after = absurd fails
-    early (read.Record place) fails after = absurd fails
-    early (read.Slot n i) fails after = absurd fails
-    early (read.Twice place) fails after = absurd fails
-    early (read.Unindexed place) fails after = absurd fails
-    early read.NoMemory fails after = absurd fails
-    early read.Output fails after = absurd fails
+    first : (f : ReadFault) → OpeningFails w s old old_now f → ComesAfter w s t old_now new (old_fault f)
+    first read.Short fails = tt
+    first read.Device fails = tt
+    first (read.Table n) fails = absurd fails
+    first (read.Record place) fails = absurd fails
+    first (read.Slot n i) fails = absurd fails
+    first (read.Twice place) fails = absurd fails
+    first (read.Unindexed place) fails = absurd fails
+    first read.NoMemory fails = absurd fails
+    first read.Output fails = absurd fails
 
     by : (f : ReadFault) → OpeningFails w s old old_now f → DifferenceFails w s t old old_now new new start start (old_fault f)
     by read.Short fails = record { short = fails.0; unread = fails.1; kept = keeps_self start }
@@ -98,27 +132,27 @@ old_unopened w s t old old_now new start f fails = record {
     by read.NoMemory fails = absurd fails
     by read.Output fails = absurd fails
 
-pub new_unopened : {S T : Type 0} (w : ℕ) (s : Ghosts S) (t : Ghosts T) (old old_now : S) (new new_now : T) (start : Option (List ℕ)) (f : ReadFault) → OnlyReads s old old_now → OpeningFails w t new new_now f → TellsDifference w s t old old_now new new_now start start (Err (new_fault f))
-new_unopened w s t old old_now new new_now start f reads fails = record {
+pub new_unopened : {S T : Type 0} (w : ℕ) (s : Ghosts S) (t : Ghosts T) (old old_now : S) (new new_now : T) (start : Option (List ℕ)) (f : ReadFault) → OnlyReads s old old_now → head_size w ≤ s.size old_now → OpeningFails w t new new_now f → TellsDifference w s t old old_now new new_now start start (Err (new_fault f))
+new_unopened w s t old old_now new new_now start f reads long fails = record {
   old_reads = reads;
   new_reads = opening_reads w t new new_now f fails;
   ok = tt;
   err = by f fails;
-  ok_tables = tt;
-  err_tables = λ after. early f fails after;
+  ok_looks = tt;
+  err_looks = second f fails;
   front = λ b c is it. nothing_written w b c start;
 }
   where
-    early : (f : ReadFault) → OpeningFails w t new new_now f → comes_after_heads (new_fault f) ≡ true → HaveTables w s t old_now new_now
-    early read.Short fails after = absurd (not_ok after)
-    early read.Device fails after = absurd (not_ok after)
-    early (read.Table n) fails after = absurd fails
-    early (read.Record place) fails after = absurd fails
-    early (read.Slot n i) fails after = absurd fails
-    early (read.Twice place) fails after = absurd fails
-    early (read.Unindexed place) fails after = absurd fails
-    early read.NoMemory fails after = absurd fails
-    early read.Output fails after = absurd fails
+    second : (f : ReadFault) → OpeningFails w t new new_now f → ComesAfter w s t old_now new_now (new_fault f)
+    second read.Short fails = long
+    second read.Device fails = long
+    second (read.Table n) fails = absurd fails
+    second (read.Record place) fails = absurd fails
+    second (read.Slot n i) fails = absurd fails
+    second (read.Twice place) fails = absurd fails
+    second (read.Unindexed place) fails = absurd fails
+    second read.NoMemory fails = absurd fails
+    second read.Output fails = absurd fails
 
     by : (f : ReadFault) → OpeningFails w t new new_now f → DifferenceFails w s t old old_now new new_now start start (new_fault f)
     by read.Short fails = record { short = fails.0; unread = fails.1; kept = keeps_self start }
@@ -163,47 +197,80 @@ module _ {S T : Type 0} (w : ℕ) (s : Ghosts S) (t : Ghosts T) (old mid now : S
   fails_since NoNewTables fails = fails
 
   pub tells_since : (result : Result Unit Fault) → TellsDifference w s t mid now mid_new now_new start end result → TellsDifference w s t old now new now_new start end result
-  tells_since (Ok tt) h = record { old_reads = reads_more first h.old_reads; new_reads = reads_more second h.new_reads; ok = h.ok; err = tt; ok_tables = h.ok_tables; err_tables = tt; front = tt }
-  tells_since (Err f) h = record { old_reads = reads_more first h.old_reads; new_reads = reads_more second h.new_reads; ok = tt; err = fails_since f h.err; ok_tables = tt; err_tables = h.err_tables; front = h.front }
+  tells_since (Ok tt) h = record { old_reads = reads_more first h.old_reads; new_reads = reads_more second h.new_reads; ok = h.ok; err = tt; ok_looks = h.ok_looks; err_looks = tt; front = tt }
+  tells_since (Err f) h = record { old_reads = reads_more first h.old_reads; new_reads = reads_more second h.new_reads; ok = tt; err = fails_since f h.err; ok_looks = tt; err_looks = h.err_looks; front = h.front }
 
--- whether they have tables
+-- what the looks at two opened files find
 module _ {S T : Type 0} (w : ℕ) (s : Ghosts S) (t : Ghosts T) (old old_now : S) (new new_now : T) (start end : Option (List ℕ)) where
-  pub old_lacks : DifferenceLacks w s old true → TellsDifference w s t old old new new start start (Err NoOldTables)
-  old_lacks lacks = record {
+  pub old_lacks : HaveHeads w s t old new → DifferenceLacks w s old true → TellsDifference w s t old old new new start start (Err NoOldTables)
+  old_lacks heads lacks = record {
     old_reads = reads_none s old;
     new_reads = reads_none t new;
     ok = tt;
     err = record { lacks = lacks; kept = keeps_self start };
-    ok_tables = tt;
-    err_tables = λ after. absurd (not_ok after);
+    ok_looks = tt;
+    err_looks = heads;
     front = λ b c is it. nothing_written w b c start;
   }
 
-  pub new_lacks : DifferenceLacks w s old false → DifferenceLacks w t new true → TellsDifference w s t old old new new start start (Err NoNewTables)
-  new_lacks has lacks = record {
+  pub new_lacks : HaveHeads w s t old new → DifferenceLacks w s old false → DifferenceLacks w t new true → TellsDifference w s t old old new new start start (Err NoNewTables)
+  new_lacks heads has lacks = record {
     old_reads = reads_none s old;
     new_reads = reads_none t new;
     ok = tt;
-    err = (has, record { lacks = lacks; kept = keeps_self start });
-    ok_tables = tt;
-    err_tables = λ after. absurd (not_ok after);
+    err = record { lacks = lacks; kept = keeps_self start };
+    ok_looks = tt;
+    err_looks = (heads, has);
     front = λ b c is it. nothing_written w b c start;
   }
 
-  still : OnlyReads s old old_now → OnlyReads t new new_now → DifferenceLacks w s old false → DifferenceLacks w t new false → HaveTables w s t old_now new_now
-  still first second one two = record { of_old = λ b is. one b (first.images b is); of_new = λ c it. two c (second.images c it) }
+  pub old_outside : (n : ℕ) → HaveTables w s t old new → DifferenceOutside w s old (Some n) → TellsDifference w s t old old new new start start (Err (Old (read.Table n)))
+  old_outside n tables outside = record {
+    old_reads = reads_none s old;
+    new_reads = reads_none t new;
+    ok = tt;
+    err = λ b c is it. (outside b is, keeps_self start);
+    ok_looks = tt;
+    err_looks = tables;
+    front = λ b c is it. nothing_written w b c start;
+  }
 
-  pub tells_written : {O : Type 0} → DifferenceLacks w s old false → DifferenceLacks w t new false → SaysDifference w s t old old_now new new_now start end O (Ok tt) → TellsDifference w s t old old_now new new_now start end (Ok tt)
-  tells_written one two h = record { old_reads = h.old_reads; new_reads = h.new_reads; ok = h.ok; err = tt; ok_tables = still h.old_reads h.new_reads one two; err_tables = tt; front = tt }
+  pub new_outside : (n : ℕ) → HaveTables w s t old new → DifferenceOutside w s old None → DifferenceOutside w t new (Some n) → TellsDifference w s t old old new new start start (Err (New (read.Table n)))
+  new_outside n tables inside outside = record {
+    old_reads = reads_none s old;
+    new_reads = reads_none t new;
+    ok = tt;
+    err = λ c b it is. (outside c it, keeps_self start);
+    ok_looks = tt;
+    err_looks = (tables, inside);
+    front = λ b c is it. nothing_written w b c start;
+  }
 
-  pub tells_stopped : {O : Type 0} → DifferenceLacks w s old false → DifferenceLacks w t new false → (stop : Stop) → SaysDifference w s t old old_now new new_now start end O (Err stop) → TellsDifference w s t old old_now new new_now start end (Err (stop_fault stop))
-  tells_stopped {O} one two stop h = record {
+  still : OnlyReads s old old_now → OnlyReads t new new_now → HaveTablesInside w s t old new → HaveTablesInside w s t old_now new_now
+  still first second looked = record {
+    tables = record {
+      heads = record {
+        of_old = subst (λ n. head_size w ≤ n) (sym first.size) looked.tables.heads.of_old;
+        of_new = subst (λ n. head_size w ≤ n) (sym second.size) looked.tables.heads.of_new;
+      };
+      of_old = λ b is. looked.tables.of_old b (first.images b is);
+      of_new = λ c it. looked.tables.of_new c (second.images c it);
+    };
+    of_old = λ b is. looked.of_old b (first.images b is);
+    of_new = λ c it. looked.of_new c (second.images c it);
+  }
+
+  pub tells_written : {O : Type 0} → HaveTablesInside w s t old new → SaysDifference w s t old old_now new new_now start end O (Ok tt) → TellsDifference w s t old old_now new new_now start end (Ok tt)
+  tells_written looked h = record { old_reads = h.old_reads; new_reads = h.new_reads; ok = h.ok; err = tt; ok_looks = still h.old_reads h.new_reads looked; err_looks = tt; front = tt }
+
+  pub tells_stopped : {O : Type 0} → HaveTablesInside w s t old new → (stop : Stop) → SaysDifference w s t old old_now new new_now start end O (Err stop) → TellsDifference w s t old old_now new new_now start end (Err (stop_fault stop))
+  tells_stopped {O} looked stop h = record {
     old_reads = h.old_reads;
     new_reads = h.new_reads;
     ok = tt;
-    err = writing_fails w s t old old_now new new_now start end O stop h.err;
-    ok_tables = tt;
-    err_tables = λ after. still h.old_reads h.new_reads one two;
+    err = writing_fails w s t old old_now new new_now start end O (still h.old_reads h.new_reads looked) stop h.err;
+    ok_looks = tt;
+    err_looks = writing_after w s t old old_now new new_now start end O (still h.old_reads h.new_reads looked) stop h.err;
     front = h.front;
   }
 
@@ -226,7 +293,7 @@ module _ {S T : Type 0} (w : ℕ) (s : Ghosts S) (t : Ghosts T) (old now : S) (n
   short_kept : {X Z : Type 0} (x : Ghosts X) (z : Ghosts Z) (before after : X) (beside : Z) (f : ReadFault) → DifferenceNotRead w x z before after beside start mid f → DifferenceNotRead w x z before after beside start end f
   short_kept x z before after beside read.Short h = record { short = h.short; unread = h.unread; kept = keeps_then start mid end h.kept kept }
   short_kept x z before after beside read.Device h = h
-  short_kept x z before after beside (read.Table n) h = h
+  short_kept x z before after beside (read.Table n) h = λ b c is it. (let out = h b c is it in (out.0, keeps_then start mid end out.1 kept))
   short_kept x z before after beside (read.Record place) h = h
   short_kept x z before after beside (read.Slot n i) h = absurd h
   short_kept x z before after beside (read.Twice place) h = absurd h
@@ -249,14 +316,14 @@ module _ {S T : Type 0} (w : ℕ) (s : Ghosts S) (t : Ghosts T) (old now : S) (n
   fault_kept Open h = absurd h
   fault_kept Rename h = absurd h
   fault_kept NoOldTables h = record { lacks = h.lacks; kept = keeps_then start mid end h.kept kept }
-  fault_kept NoNewTables h = (h.0, record { lacks = h.1.lacks; kept = keeps_then start mid end h.1.kept kept })
+  fault_kept NoNewTables h = record { lacks = h.lacks; kept = keeps_then start mid end h.kept kept }
 
   same_answer : (answer : Result Unit Fault) → TellsDifference w s t old now new now_new start mid answer → TellsDifference w s t old now new now_new start end answer
-  same_answer (Ok tt) h = record { old_reads = h.old_reads; new_reads = h.new_reads; ok = λ b c is it. written_kept b c (h.ok b c is it); err = tt; ok_tables = h.ok_tables; err_tables = tt; front = tt }
-  same_answer (Err f) h = record { old_reads = h.old_reads; new_reads = h.new_reads; ok = tt; err = fault_kept f h.err; ok_tables = tt; err_tables = h.err_tables; front = λ b c is it. front_kept b c (h.front b c is it) }
+  same_answer (Ok tt) h = record { old_reads = h.old_reads; new_reads = h.new_reads; ok = λ b c is it. written_kept b c (h.ok b c is it); err = tt; ok_looks = h.ok_looks; err_looks = tt; front = tt }
+  same_answer (Err f) h = record { old_reads = h.old_reads; new_reads = h.new_reads; ok = tt; err = fault_kept f h.err; ok_looks = tt; err_looks = h.err_looks; front = λ b c is it. front_kept b c (h.front b c is it) }
 
   not_flushed : (answer : Result Unit Fault) → IsOk answer → TellsDifference w s t old now new now_new start mid answer → TellsDifference w s t old now new now_new start end (Err Output)
-  not_flushed (Ok tt) ok h = record { old_reads = h.old_reads; new_reads = h.new_reads; ok = tt; err = tt; ok_tables = tt; err_tables = λ after. h.ok_tables; front = λ b c is it. written_front b c (written_kept b c (h.ok b c is it)) }
+  not_flushed (Ok tt) ok h = record { old_reads = h.old_reads; new_reads = h.new_reads; ok = tt; err = tt; ok_looks = tt; err_looks = h.ok_looks; front = λ b c is it. written_front b c (written_kept b c (h.ok b c is it)) }
   not_flushed (Err f) ok h = absurd (not_ok ok)
 
   pub tells_flushed : (answer result : Result Unit Fault) → TellsDifference w s t old now new now_new start mid answer → Flushed mid end answer result → TellsDifference w s t old now new now_new start end result

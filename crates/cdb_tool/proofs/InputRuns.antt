@@ -91,15 +91,6 @@ pub input_fails : {R L S K : Type 0} {s : Ghosts S} {k : Widths K} (g : ℕ) (o 
     → WhereHonest (s.image m.store) (InputFails k.WORD g o read input start now (text_fault number f))
 input_fails {k = k} g o remaining read input number t u last start now m f same h fails n course = record { each = λ b is. input_failed k.WORD g o remaining read input number t u last start now f same h fails n (course.goes.each b is) }
 
--- a fault of a text is none of the store
-pub text_store : (n : ℕ) (f : TextFault) → IsOfStore (text_fault n f) → ⊥
-text_store n fault.NoMemory is = is
-text_store n (fault.Syntax at) is = is
-text_store n (fault.Ended at) is = is
-text_store n (fault.Large at) is = is
-text_store n fault.Input is = is
-text_store n fault.Endless is = is
-
 -- a run that was halted in an input, or behind its items
 pub halted_here : {S K : Type 0} {s : Ghosts S} {k : Widths K} (form is : InputForm) (g : ℕ) (o : Task) (read : List (List Change)) (input : Option (List ℕ)) (last : List Change) (start now : Option (List ℕ)) (m : Maker S K s k) → is ≡ form → IfSome input (BeginsWithItems is g last)
     → MakeStandsAt o (came read last) start now m → StandsIn form g o read input start now m

@@ -26,3 +26,4 @@ pub mod LookedUp
 pub mod ShownParts
 pub mod ToldLines
 pub mod LineCounts
+mod MakerSteps

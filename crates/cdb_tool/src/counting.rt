@@ -18,7 +18,7 @@ fn few_newlines(bytes: &[u8]) -> u8
 }
 
 /// How many newlines some bytes have.
-pub fn newlines(bytes: &[u8]) -> u64
+pub(crate) fn newlines(bytes: &[u8]) -> u64
     ensures { result ≡ newlines bytes.now }
 {
     let mut count = 0u64;

@@ -22,11 +22,11 @@ pub use cdb_command::{
     Command, Lacking, MakeOptions, Style, Usage, WordFault, escaped, explains, plan, write_usage,
     write_version,
 };
-pub use counting::newlines;
 pub use fault::Fault;
 pub use input::{InWindow, Input};
 pub use input_name::{STANDARD_INPUT, input_at};
 pub use inputs::{Inputs, Turn};
+pub use lines::Lines;
 pub use message::write_fault;
 pub use noted::Noted;
 pub use output::Output;

@@ -1,4 +1,4 @@
-// The lines of an input, which are counted as its bytes are taken.
+// The lines of inputs, which are counted as their bytes are taken.
 ghost use Rattle.std.specs.Prelude.{◌≡◌};
 ghost use Rattle.cdb_tool.specs.Views.Input.{input_bytes, window_of};
 
@@ -8,25 +8,50 @@ use cdb_form::AtHand;
 use std::cell::Cell;
 use std::io::{self, Read};
 
-/// How many lines of an input were taken. They are kept in cells, of which no clause says anything.
+/// The lines of the inputs of a run, as their bytes are taken: those of an input from its first byte on, and
+/// those of inputs that share a reader from the first byte of that. They are kept in cells, of which no
+/// clause says anything.
 #[derive(Drop)]
-pub(crate) struct Lines {
+pub struct Lines {
     /// Whether they are counted.
-    counts: bool,
+    pub counts: bool,
     /// How many newlines were taken.
     newlines: Cell<u64>,
     /// Whether the byte that was taken last is none of them.
     amid: Cell<bool>,
+    /// How many bytes were taken of the input.
+    bytes: Cell<u64>,
+    /// Whether the input shares its reader with others.
+    is_shared: Cell<bool>,
+    /// How many newlines were taken of that reader before another input began.
+    shared: Cell<u64>,
 }
 
 impl Lines {
     /// Nothing was taken yet.
-    pub(crate) fn new(counts: bool) -> Lines {
+    pub fn new(counts: bool) -> Lines
+        ensures { result.counts ≡ counts }
+    {
         Lines {
             counts,
             newlines: Cell::new(0),
             amid: Cell::new(false),
+            bytes: Cell::new(0),
+            is_shared: Cell::new(false),
+            shared: Cell::new(0),
         }
+    }
+
+    /// An input begins: with a reader of its own, or where the one before it stopped that shares its reader.
+    pub(crate) fn begin(&self, is_shared: bool) {
+        if self.is_shared.get() {
+            self.shared.set(self.newlines.get());
+        }
+        let before = if is_shared { self.shared.get() } else { 0 };
+        self.newlines.set(before);
+        self.amid.set(false);
+        self.bytes.set(0);
+        self.is_shared.set(is_shared);
     }
 
     /// Counts the lines of bytes that are taken.
@@ -37,8 +62,10 @@ impl Lines {
             return;
         };
         self.amid.set(*last != b'\n');
-        let before = self.newlines.get();
-        self.newlines.set(before.saturating_add(newlines(bytes)));
+        let lines = self.newlines.get();
+        self.newlines.set(lines.saturating_add(newlines(bytes)));
+        let taken = self.bytes.get();
+        self.bytes.set(taken.saturating_add(bytes.len() as u64));
     }
 
     /// The line, counted from 1, of the byte that comes next.
@@ -55,9 +82,19 @@ impl Lines {
             self.newlines.get()
         }
     }
+
+    /// The line, counted from 1, of a fault of the input that was read last, whose place is counted in bytes
+    /// from the first one of that input: nothing after that byte was taken.
+    pub fn line_at(&self, place: u64) -> u64 {
+        if place < self.bytes.get() {
+            self.last()
+        } else {
+            self.next()
+        }
+    }
 }
 
-/// An input whose lines are counted, if they are asked for.
+/// An input whose lines are counted.
 #[derive(Drop)]
 pub(crate) struct LinedInput<'a, R> {
     input: Input<R>,
@@ -86,9 +123,7 @@ impl<'a, R: Read> Read for LinedInput<'a, R> {
     #[inline(always)]
     fn read(&mut self, buf: &mut [u8]) -> io::Result<usize> {
         let n = self.input.read(buf)?;
-        if self.lines.counts {
-            self.lines.take(&buf[..n]);
-        }
+        self.lines.take(&buf[..n]);
         Ok(n)
     }
 }
@@ -107,10 +142,8 @@ impl<'a, R: Read> AtHand<LinedInput<'a, R>> for InLined {
 
     #[inline(always)]
     fn take(reader: &mut LinedInput<'a, R>, n: usize) {
-        if reader.lines.counts {
-            let window = InWindow::window(&reader.input);
-            reader.lines.take(&window[..n]);
-        }
+        let window = InWindow::window(&reader.input);
+        reader.lines.take(&window[..n]);
         InWindow::take(&mut reader.input, n);
     }
 }

@@ -13,7 +13,7 @@ use Rattle.cdb_form.specs.Text.Amending.{Change}
 use Rattle.cdb_form.specs.Views.TextFault.{IsOfText}
 use Rattle.cdb_form.specs.declared.text.fault.TextFault.{TextFault}
 use Rattle.cdb_form.specs.declared.text.fault.TextFault.TheVariants as text_fault
-use Rattle.cdb_make.specs.Views.Maker.{Holds, WhereHonest, IsFile, limit_of, told_count, IsUsable}
+use Rattle.cdb_make.specs.Views.Maker.{Follows, Holds, WhereHonest, IsFile, limit_of, told_count, IsUsable}
 use Rattle.cdb_make.specs.declared.fault.MakeFault.TheVariants.{Lookup, Writing}
 use Rattle.cdb_make.specs.declared.maker.Maker.{Maker}
 use Rattle.cdb_read.specs.declared.fault.ReadFault.TheVariants as read
@@ -22,6 +22,7 @@ use Rattle.cdb_tool.specs.Runs.Course.{Task, task_of, Incoming, from_inputs, cou
 use Rattle.cdb_tool.specs.Runs.Course.{StopsSo}
 use Rattle.cdb_tool.specs.Runs.Inputs.{InputForm, input_form, HasItemFault, BeginsWithItems}
 use Rattle.cdb_tool.specs.Runs.Inputs.{InputsLeft, AreInputs, AreAllInputs, FirstBegins, FirstHas}
+use Rattle.cdb_tool.specs.Views.Output.{OutputSays}
 use Rattle.cdb_tool.specs.declared.fault.Fault.{Fault}
 use Rattle.cdb_tool.specs.declared.fault.Fault.TheVariants.{Text, Make, Read, NoMemory}
 use Rattle.cdb_command.specs.declared.options.MakeOptions.{MakeOptions}
@@ -246,6 +247,17 @@ InputFails w greatest t read input old new fault = MakeStopsIn w greatest t read
 abbrev pub IsOfBase : Fault → Type 0
 IsOfBase (Read read.Device) = ⊤
 IsOfBase fault = ⊥
+
+-- a step of a run goes on from a maker. A fault of the store says that it failed; NoMemory and Ok, that it
+-- did not; a fault of the base's store, what is unread; and Output, what is unsaid
+pub record StepsOn {S L A : Type 0} {s : Ghosts S} {l : Widths L} (old new : Maker S L s l)
+    (unread unsaid : Type 0) (result : Result A Fault) : Type 0 where
+  pub follows : Follows old new
+  pub failed : IfErr result (λ f. IsOfStore f → s.failures old.store < s.failures new.store)
+  pub memory : IfErr result (λ f. f ≡ NoMemory → s.failures new.store ≡ s.failures old.store)
+  pub fine : OnOk result (s.failures new.store ≡ s.failures old.store)
+  pub base : IfErr result (λ f. IsOfBase f → unread)
+  pub output : OutputSays unsaid result
 
 -- a maker holds the records of each image of a base, whose walk has no damage
 pub record AddsBase {S L : Type 0} {s : Ghosts S} {l : Widths L} (w : ℕ) (images : List ℕ → Type 0)

@@ -10,12 +10,14 @@ ghost use Rattle.cdb_tool.specs.Runs.Inputs.{keys_of, keys_of_each};
 ghost use Rattle.cdb_tool.specs.Runs.LookedUp.{key_query};
 ghost use Rattle.cdb_tool.specs.Runs.Lookups.{HasLooked, LookupsStopIn, LookupsStop, LookupsLeave, LooksUp};
 ghost use Rattle.cdb_tool.specs.Runs.Query.{Queries};
+ghost use Rattle.cdb_tool.specs.Views.Input.{input_bytes};
 ghost use Rattle.cdb_tool.specs.Views.Inputs.{inputs_left, one_of, shared_bytes};
 ghost use Rattle.cdb_tool.specs.Views.KeyReader.{form_of, unread, IsNew};
 
 use crate::fault::Fault;
 use crate::input::{InWindow, Input};
 use crate::inputs::{Inputs, SharedInput, Turn};
+use crate::lines::{InLined, LinedInput, Lines};
 use crate::runs::flushed::flushed_whole;
 use crate::runs::key_reader::KeyReader;
 use crate::runs::query::look_up;
@@ -95,6 +97,48 @@ fn look_up_input<L: Width, S: Store, R: Read + Drop, W: Sink, A: AtHand<R>>(
     }
 }
 
+/// Writes the records of the keys that an input gives from here on, whose number is counted from 1, and
+/// answers it as it goes on after its text.
+fn look_up_text<L: Width, S: Store, R: Read + Drop, W: Sink>(
+    alloc: Global,
+    reader: &mut Reader<S, L>,
+    number: Option<u64>,
+    style: Style,
+    input: u64,
+    window: Input<R>,
+    missing: &mut bool,
+    lines: &Lines,
+    w: &mut W,
+) -> Result<Input<R>, Fault>
+    requires { IfSome number (λ j. 1 ≤ j) }
+    ensures reads { OnlyReads S.Store reader.old.store reader.new.store }
+    ensures ok { IfOk result (λ left. (last : List Change)
+        × FromTo (input_bytes R.remaining window) (input_bytes R.remaining left)
+        (IsInputOf (keys_form style) L.GREATEST last)
+        × ((before : List (List ℕ)) (start : Option (List ℕ))
+        → HasLooked L.WORD S.Store number style before reader.old.store start
+        (W.contents w.old) missing.old
+        → HasLooked L.WORD S.Store number style (before ++ keys_of last) reader.new.store start
+        (W.contents w.new) missing.new)) }
+    ensures fails { (before : List (List ℕ)) (start : Option (List ℕ))
+        → HasLooked L.WORD S.Store number style before reader.old.store start
+        (W.contents w.old) missing.old
+        → IfErr result (LookupsStopIn L.WORD L.GREATEST S.Store number style (keys_form style) input before
+        (input_bytes R.remaining window) reader.old.store reader.new.store start (W.contents w.new)) }
+    ensures output { OutputSays (W.failed w.new) result }
+{
+    if lines.counts {
+        let lined = LinedInput::new(window, lines);
+        let keys = KeyReader::new(alloc, style, lined);
+        let left = look_up_input::<L, S, _, W, InLined>(
+            alloc, reader, number, style, input, keys, missing, w,
+        )?;
+        return Ok(left.into_input());
+    }
+    let keys = KeyReader::new(alloc, style, window);
+    look_up_input::<L, S, _, W, InWindow>(alloc, reader, number, style, input, keys, missing, w)
+}
+
 /// Writes the records of the keys of an input, whose number is counted from 1, and answers what the
 /// inputs share.
 fn look_up_turn<L: Width, S: Store, J: Read + Drop, I: Read + Drop, W: Sink>(
@@ -106,6 +150,7 @@ fn look_up_turn<L: Width, S: Store, J: Read + Drop, I: Read + Drop, W: Sink>(
     turn: Turn<J>,
     shared: SharedInput<I>,
     missing: &mut bool,
+    lines: &Lines,
     w: &mut W,
 ) -> Result<SharedInput<I>, Fault>
     requires { IfSome number (λ j. 1 ≤ j) }
@@ -128,18 +173,18 @@ fn look_up_turn<L: Width, S: Store, J: Read + Drop, I: Read + Drop, W: Sink>(
 {
     match turn {
         Turn::Own(own) => {
+            lines.begin(false);
             let window = Input::growing(alloc, own)?;
-            let keys = KeyReader::new(alloc, style, window);
-            look_up_input::<L, S, _, W, InWindow>(
-                alloc, reader, number, style, input, keys, missing, w,
+            look_up_text::<L, S, J, W>(
+                alloc, reader, number, style, input, window, missing, lines, w,
             )?;
             Ok(shared)
         }
         Turn::Shared => {
+            lines.begin(true);
             let window = shared.in_hand(alloc)?;
-            let keys = KeyReader::new(alloc, style, window);
-            let left = look_up_input::<L, S, _, W, InWindow>(
-                alloc, reader, number, style, input, keys, missing, w,
+            let left = look_up_text::<L, S, I, W>(
+                alloc, reader, number, style, input, window, missing, lines, w,
             )?;
             Ok(SharedInput::InHand(left))
         }
@@ -155,6 +200,7 @@ fn look_up_inputs<L: Width, S: Store, J: Read + Drop, I: Read + Drop, W: Sink>(
     style: Style,
     inputs: Inputs<J, I>,
     missing: &mut bool,
+    lines: &Lines,
     w: &mut W,
 ) -> Result<(), Fault>
     requires { IfSome number (λ j. 1 ≤ j) }
@@ -181,7 +227,7 @@ fn look_up_inputs<L: Width, S: Store, J: Read + Drop, I: Read + Drop, W: Sink>(
     for turn in turns {
         input += 1;
         shared = look_up_turn::<L, S, J, I, W>(
-            alloc, reader, number, style, input, turn, shared, missing, w,
+            alloc, reader, number, style, input, turn, shared, missing, lines, w,
         )?;
     }
     Ok(())
@@ -194,6 +240,7 @@ fn look_up_all<L: Width, S: Store, J: Read + Drop, I: Read + Drop, W: Sink>(
     number: Option<u64>,
     style: Style,
     inputs: Inputs<J, I>,
+    lines: &Lines,
     w: &mut W,
 ) -> Result<(), Fault>
     requires { IfSome number (λ j. 1 ≤ j) }
@@ -203,7 +250,7 @@ fn look_up_all<L: Width, S: Store, J: Read + Drop, I: Read + Drop, W: Sink>(
     ensures output { OutputSays (W.failed w.new) result }
 {
     let mut missing = false;
-    look_up_inputs::<L, S, J, I, W>(alloc, reader, number, style, inputs, &mut missing, w)?;
+    look_up_inputs::<L, S, J, I, W>(alloc, reader, number, style, inputs, &mut missing, lines, w)?;
     write_last(w, style)?;
     if missing { Err(Fault::Missing) } else { Ok(()) }
 }
@@ -215,6 +262,7 @@ fn lookups_unflushed<L: Width, S: Store, J: Read + Drop, I: Read + Drop, W: Sink
     inputs: Inputs<J, I>,
     number: Option<u64>,
     style: Style,
+    lines: &Lines,
     w: &mut W,
 ) -> (S, Result<(), Fault>)
     requires { IfSome number (λ j. 1 ≤ j) }
@@ -227,7 +275,7 @@ fn lookups_unflushed<L: Width, S: Store, J: Read + Drop, I: Read + Drop, W: Sink
         Ok(reader) => reader,
         Err(unread) => return (unread.store, Err(Fault::from(unread.fault))),
     };
-    let answer = look_up_all::<L, S, J, I, W>(alloc, &mut reader, number, style, inputs, w);
+    let answer = look_up_all::<L, S, J, I, W>(alloc, &mut reader, number, style, inputs, lines, w);
     (reader.into_store(), answer)
 }
 
@@ -252,13 +300,15 @@ fn lookups_unflushed<L: Width, S: Store, J: Read + Drop, I: Read + Drop, W: Sink
 ///
 /// Only after `Missing`, and at Ok, is what ends the text written. The store is handed back whatever
 /// the answer, and was only read. The writer is flushed last, after a fault too. If that fails, `Output`
-/// takes the place of Ok and of `Missing`.
+/// takes the place of Ok and of `Missing`. `lines` may count the lines of the inputs, and then knows
+/// afterwards that of a fault.
 pub fn lookups_run<L: Width, S: Store, J: Read + Drop, I: Read + Drop, W: Sink>(
     alloc: Global,
     store: S,
     inputs: Inputs<J, I>,
     number: Option<u64>,
     style: Style,
+    lines: &Lines,
     w: &mut W,
 ) -> (S, Result<(), Fault>)
     requires { IfSome number (λ j. 1 ≤ j) }
@@ -268,7 +318,7 @@ pub fn lookups_run<L: Width, S: Store, J: Read + Drop, I: Read + Drop, W: Sink>(
     ensures output { OutputSays (W.failed w.new) result.1 }
 {
     let (store, looked) = lookups_unflushed::<L, S, J, I, W>(
-        alloc, store, inputs, number, style, w,
+        alloc, store, inputs, number, style, lines, w,
     );
     let answer = flushed_whole(w, looked);
     (store, answer)

@@ -9,7 +9,7 @@ ghost use Rattle.cdb_make.specs.Views.Maker.{Follows, WhereHonest, store_of};
 ghost use Rattle.cdb_tool.specs.Runs.Course.{Task, from_inputs};
 ghost use Rattle.cdb_tool.specs.Runs.Inputs.{AreAllInputs, IsInputOf, ReadsOne, bytes_of, input_form};
 ghost use Rattle.cdb_tool.specs.Runs.Inputs.{own_inputs};
-ghost use Rattle.cdb_tool.specs.Runs.Make.{InCourse, MakeRuns, InputFails, InputsFail, IsOfStore, IsOfBase};
+ghost use Rattle.cdb_tool.specs.Runs.Make.{InCourse, StepsOn, MakeRuns, InputFails, InputsFail, IsOfStore, IsOfBase};
 ghost use Rattle.cdb_tool.specs.Runs.Make.{OfBase, HandsBack, BaseHasFailed, Stands, StandsIn, IsHalt};
 ghost use Rattle.cdb_tool.specs.Runs.Make.{PutsItems};
 ghost use Rattle.cdb_tool.specs.Views.Input.{input_bytes};
@@ -60,14 +60,7 @@ fn put_text<L: Width, S: Store, R: Read + Drop, E: Sink>(
         → IfErr result (λ f. IsHalt f
         → StandsIn (input_form options.now.style amends) L.GREATEST t read
         (input_bytes R.remaining input) start (E.contents errors.new) maker.new) }
-    ensures follows { Follows maker.old maker.new }
-    ensures failed { IfErr result
-        (λ f. IsOfStore f → S.failures (store_of maker.old) < S.failures (store_of maker.new)) }
-    ensures memory { IfErr result
-        (λ f. f ≡ NoMemory → S.failures (store_of maker.new) ≡ S.failures (store_of maker.old)) }
-    ensures fine { OnOk result (S.failures (store_of maker.new) ≡ S.failures (store_of maker.old)) }
-    ensures own { IfErr result (λ f. IsOfBase f → ⊥) }
-    ensures output { OutputSays (E.failed errors.new) result }
+    ensures step { StepsOn maker.old maker.new ⊥ (E.failed errors.new) result }
 {
     if options.names.is_some() {
         let lined = LinedInput::new(input, lines);
@@ -81,8 +74,7 @@ fn put_text<L: Width, S: Store, R: Read + Drop, E: Sink>(
     put_input::<L, S, _, E, InWindow>(alloc, maker, options, number, items, lines, errors)
 }
 
-/// Does what an input says, whose number is counted from 1, and answers what the inputs share, whose lines
-/// are counted too.
+/// Does what an input says, whose number is counted from 1, and answers what the inputs share.
 fn put_turn<L: Width, S: Store, J: Read + Drop, I: Read + Drop, E: Sink>(
     alloc: Global,
     maker: &mut Maker<S, L>,
@@ -113,23 +105,17 @@ fn put_turn<L: Width, S: Store, J: Read + Drop, I: Read + Drop, E: Sink>(
         → StandsIn (input_form options.now.style amends) L.GREATEST t read
         (bytes_of (one_of J.remaining turn) (shared_bytes I.remaining shared))
         start (E.contents errors.new) maker.new) }
-    ensures follows { Follows maker.old maker.new }
-    ensures failed { IfErr result
-        (λ f. IsOfStore f → S.failures (store_of maker.old) < S.failures (store_of maker.new)) }
-    ensures memory { IfErr result
-        (λ f. f ≡ NoMemory → S.failures (store_of maker.new) ≡ S.failures (store_of maker.old)) }
-    ensures fine { OnOk result (S.failures (store_of maker.new) ≡ S.failures (store_of maker.old)) }
-    ensures own { IfErr result (λ f. IsOfBase f → ⊥) }
-    ensures output { OutputSays (E.failed errors.new) result }
+    ensures step { StepsOn maker.old maker.new ⊥ (E.failed errors.new) result }
 {
     match turn {
         Turn::Own(reader) => {
-            let lines = Lines::new(options.names.is_some());
+            lines.begin(false);
             let input = Input::growing(alloc, reader)?;
-            put_text(alloc, maker, options, amends, number, input, &lines, errors)?;
+            put_text(alloc, maker, options, amends, number, input, lines, errors)?;
             Ok(shared)
         }
         Turn::Shared => {
+            lines.begin(true);
             let input = shared.in_hand(alloc)?;
             let left = put_text(alloc, maker, options, amends, number, input, lines, errors)?;
             Ok(SharedInput::InHand(left))
@@ -142,13 +128,15 @@ fn put_turn<L: Width, S: Store, J: Read + Drop, I: Read + Drop, E: Sink>(
 ///
 /// The faults are those of `make_run` that an input, the maker or `errors` brings. After `NoMemory`,
 /// `Make(Lookup)` and `Make(Writing)` the maker holds the records of the items that were done,
-/// unless it is broken, and the lines are those of these items. `errors` is not flushed.
+/// unless it is broken, and the lines are those of these items. `errors` is not flushed. The lines of the
+/// inputs are counted by `lines` if duplicates are explained.
 pub fn put_inputs<L: Width, S: Store, J: Read + Drop, I: Read + Drop, E: Sink>(
     alloc: Global,
     maker: &mut Maker<S, L>,
     options: &MakeOptions<'_>,
     amends: bool,
     inputs: Inputs<J, I>,
+    lines: &Lines,
     errors: &mut E,
 ) -> Result<(), Fault>
     ensures ok { OnOk result ((read : List (List Change))
@@ -167,23 +155,15 @@ pub fn put_inputs<L: Width, S: Store, J: Read + Drop, I: Read + Drop, E: Sink>(
         → InCourse t [] start (E.contents errors.old) maker.old
         → IfErr result (λ f. IsHalt f → Stands (input_form options.now.style amends) L.GREATEST t
         (inputs_left J.remaining I.remaining inputs) start (E.contents errors.new) maker.new) }
-    ensures follows { Follows maker.old maker.new }
-    ensures failed { IfErr result
-        (λ f. IsOfStore f → S.failures (store_of maker.old) < S.failures (store_of maker.new)) }
-    ensures memory { IfErr result
-        (λ f. f ≡ NoMemory → S.failures (store_of maker.new) ≡ S.failures (store_of maker.old)) }
-    ensures fine { OnOk result (S.failures (store_of maker.new) ≡ S.failures (store_of maker.old)) }
-    ensures own { IfErr result (λ f. IsOfBase f → ⊥) }
-    ensures output { OutputSays (E.failed errors.new) result }
+    ensures step { StepsOn maker.old maker.new ⊥ (E.failed errors.new) result }
 {
     let Inputs { turns, shared } = inputs;
     let mut shared = SharedInput::Unread(shared);
-    let lines = Lines::new(options.names.is_some());
     let mut number = 0;
     for turn in turns {
         number += 1;
         shared = put_turn::<L, S, J, I, E>(
-            alloc, maker, options, amends, number, turn, shared, &lines, errors,
+            alloc, maker, options, amends, number, turn, shared, lines, errors,
         )?;
     }
     Ok(())
@@ -204,6 +184,7 @@ fn make_unflushed<L: Width, S: Store, B: Store, J: Read + Drop, I: Read + Drop, 
     base: Option<B>,
     inputs: Inputs<J, I>,
     options: &MakeOptions<'_>,
+    lines: &Lines,
     errors: &mut E,
 ) -> Made<S, B>
     requires head { head_size L.WORD ≤ options.now.limit }
@@ -239,7 +220,9 @@ fn make_unflushed<L: Width, S: Store, B: Store, J: Read + Drop, I: Read + Drop, 
             answer: Err(fault),
         };
     }
-    let put = put_inputs::<L, S, J, I, E>(alloc, &mut maker, options, amends, inputs, errors);
+    let put = put_inputs::<L, S, J, I, E>(
+        alloc, &mut maker, options, amends, inputs, lines, errors,
+    );
     if let Err(fault) = put {
         return Made {
             store: maker.into_store(),
@@ -314,7 +297,13 @@ pub fn make_run<L: Width, S: Store, B: Store, R: Read + Drop, E: Sink>(
     let none: &[u8] = &[];
     match Inputs::each_own(alloc, inputs, none) {
         Ok(inputs) => make_run_from::<L, S, B, R, _, E>(
-            alloc, store, base, inputs, options, errors,
+            alloc,
+            store,
+            base,
+            inputs,
+            options,
+            &Lines::new(options.names.is_some()),
+            errors,
         ),
         Err(_) => {
             let answer = flushed(errors, Err(Fault::NoMemory));
@@ -324,13 +313,15 @@ pub fn make_run<L: Width, S: Store, B: Store, R: Read + Drop, E: Sink>(
 }
 
 /// Does what `make_run` does, of inputs of which several may share a reader: each of these begins
-/// where the text of the one before it ended. A map text leaves nothing.
+/// where the text of the one before it ended. A map text leaves nothing. If duplicates are explained, `lines`
+/// counts the lines of the inputs, and knows afterwards that of a fault.
 pub fn make_run_from<L: Width, S: Store, B: Store, J: Read + Drop, I: Read + Drop, E: Sink>(
     alloc: Global,
     store: S,
     base: Option<B>,
     inputs: Inputs<J, I>,
     options: MakeOptions<'_>,
+    lines: &Lines,
     errors: &mut E,
 ) -> (S, Option<B>, Result<(), Fault>)
     requires head { head_size L.WORD ≤ options.limit }
@@ -346,7 +337,9 @@ pub fn make_run_from<L: Width, S: Store, B: Store, J: Read + Drop, I: Read + Dro
     ensures base_failed { IfErr result.2 (λ f. IsOfBase f → BaseHasFailed B.Store base result.1) }
     ensures output { OutputSays (E.failed errors.new) result.2 }
 {
-    let made = make_unflushed::<L, S, B, J, I, E>(alloc, store, base, inputs, &options, errors);
+    let made = make_unflushed::<L, S, B, J, I, E>(
+        alloc, store, base, inputs, &options, lines, errors,
+    );
     let answer = flushed(errors, made.answer);
     (made.store, made.base, answer)
 }

@@ -7,8 +7,8 @@ ghost use Rattle.cdb_make.specs.Views.Maker.{Follows, Holds, WhereHonest, limit_
 ghost use Rattle.cdb_read.specs.Views.Walk.{left_of, bytes_left};
 ghost use Rattle.cdb_tool.specs.Views.Output.{OutputSays};
 ghost use Rattle.cdb_tool.specs.Runs.Base.{AddsNext, NotAdded};
-ghost use Rattle.cdb_tool.specs.Runs.Make.{BaseFails, HandsBack, BaseHasFailed, IsOfStore};
-ghost use Rattle.cdb_tool.specs.Runs.Make.{IsOfBase, AddsBase, HoldsBase, BaseStopped};
+ghost use Rattle.cdb_tool.specs.Runs.Make.{BaseFails, HandsBack, BaseHasFailed, StepsOn};
+ghost use Rattle.cdb_tool.specs.Runs.Make.{AddsBase, HoldsBase, BaseStopped};
 ghost use Rattle.cdb_tool.specs.declared.fault.Fault.TheVariants.{NoMemory};
 
 use crate::fault::Fault;
@@ -61,15 +61,8 @@ fn add_next<L: Width, S: Store, B: Store>(
         → B.image records.new.reader.now.store b → WhereHonest (S.image (store_of maker.new))
         (NotAdded L.WORD (limit_of maker.old)
         (with_records rs (left_of L.WORD b records.old)) f)) }
-    ensures follows { Follows maker.old maker.new }
-    ensures failed { IfErr result
-        (λ f. IsOfStore f → S.failures (store_of maker.old) < S.failures (store_of maker.new)) }
-    ensures memory { IfErr result
-        (λ f. f ≡ NoMemory → S.failures (store_of maker.new) ≡ S.failures (store_of maker.old)) }
-    ensures fine { OnOk result (S.failures (store_of maker.new) ≡ S.failures (store_of maker.old)) }
-    ensures base_failed { IfErr result (λ f. IsOfBase f
-        → B.failures records.old.reader.now.store < B.failures records.new.reader.now.store) }
-    ensures output { OutputSays ⊥ result }
+    ensures step { StepsOn maker.old maker.new
+        (B.failures records.old.reader.now.store < B.failures records.new.reader.now.store) ⊥ result }
 {
     let n = records.records_into(&mut room.window)?;
     if n > 0 {
@@ -98,15 +91,8 @@ fn add_records<L: Width, S: Store, B: Store>(
     ensures fails { Holds maker.old [] → IfErr result (λ f. (b : List ℕ)
         → B.image reader.new.store b → WhereHonest (S.image (store_of maker.new))
         (BaseFails L.WORD (limit_of maker.old) b f)) }
-    ensures follows { Follows maker.old maker.new }
-    ensures failed { IfErr result
-        (λ f. IsOfStore f → S.failures (store_of maker.old) < S.failures (store_of maker.new)) }
-    ensures memory { IfErr result
-        (λ f. f ≡ NoMemory → S.failures (store_of maker.new) ≡ S.failures (store_of maker.old)) }
-    ensures fine { OnOk result (S.failures (store_of maker.new) ≡ S.failures (store_of maker.old)) }
-    ensures base_failed { IfErr result
-        (λ f. IsOfBase f → B.failures reader.old.store < B.failures reader.new.store) }
-    ensures output { OutputSays ⊥ result }
+    ensures step { StepsOn maker.old maker.new
+        (B.failures reader.old.store < B.failures reader.new.store) ⊥ result }
 {
     let mut room = Room::new(alloc)?;
     let mut records = walk(reader);
@@ -125,14 +111,7 @@ pub(crate) fn add_base<L: Width, S: Store, B: Store>(
         (HoldsBase L.WORD B.Store result.0 maker.new) }
     ensures fails { Holds maker.old [] → IfErr result.1 (λ f.
         BaseStopped L.WORD (limit_of maker.old) B.Store result.0 (S.image (store_of maker.new)) f) }
-    ensures follows { Follows maker.old maker.new }
-    ensures failed { IfErr result.1
-        (λ f. IsOfStore f → S.failures (store_of maker.old) < S.failures (store_of maker.new)) }
-    ensures memory { IfErr result.1
-        (λ f. f ≡ NoMemory → S.failures (store_of maker.new) ≡ S.failures (store_of maker.old)) }
-    ensures fine { OnOk result.1 (S.failures (store_of maker.new) ≡ S.failures (store_of maker.old)) }
-    ensures base_failed { IfErr result.1 (λ f. IsOfBase f → BaseHasFailed B.Store base result.0) }
-    ensures output { OutputSays ⊥ result.1 }
+    ensures step { StepsOn maker.old maker.new (BaseHasFailed B.Store base result.0) ⊥ result.1 }
 {
     let Some(base) = base else {
         return (None, Ok(()));

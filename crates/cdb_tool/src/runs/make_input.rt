@@ -12,7 +12,7 @@ ghost use Rattle.cdb_tool.specs.Message.{TellsEach, TellsPart};
 ghost use Rattle.cdb_tool.specs.Runs.Course.{Incoming, from_inputs, mode_of, meets_key, told};
 ghost use Rattle.cdb_tool.specs.Runs.Course.{Task, ends, TellFails};
 ghost use Rattle.cdb_tool.specs.Runs.Inputs.{IsInputOf};
-ghost use Rattle.cdb_tool.specs.Runs.Make.{InCourse, PutStops, InputFails, IsOfStore, IsOfBase};
+ghost use Rattle.cdb_tool.specs.Runs.Make.{InCourse, StepsOn, PutStops, InputFails, IsOfStore, IsOfBase};
 ghost use Rattle.cdb_tool.specs.Runs.Make.{MakeStandsAt, StandsIn, IsHalt, TakesNext, PutsItems};
 ghost use Rattle.cdb_tool.specs.Runs.Course.{StopsSo};
 ghost use Rattle.cdb_tool.specs.declared.fault.Fault.TheVariants.{NoMemory};
@@ -143,14 +143,7 @@ fn put_record<L: Width, S: Store, E: Sink>(
         → IfErr result (λ f. f ≡ NoMemory → WhereHonest (S.image (store_of maker.new))
         (TakesNext L.WORD t cs
         (record { input = input; number = number; it = Putting (record { key = key.now; value = value.now }) }))) }
-    ensures follows { Follows maker.old maker.new }
-    ensures failed { IfErr result
-        (λ f. IsOfStore f → S.failures (store_of maker.old) < S.failures (store_of maker.new)) }
-    ensures memory { IfErr result
-        (λ f. f ≡ NoMemory → S.failures (store_of maker.new) ≡ S.failures (store_of maker.old)) }
-    ensures fine { OnOk result (S.failures (store_of maker.new) ≡ S.failures (store_of maker.old)) }
-    ensures own { IfErr result (λ f. IsOfBase f → ⊥) }
-    ensures output { OutputSays (E.failed errors.new) result }
+    ensures step { StepsOn maker.old maker.new ⊥ (E.failed errors.new) result }
 {
     let put = maker.put(mode, key, value)?;
     tell_put(options, input, number, line, key, put, errors)
@@ -170,14 +163,7 @@ fn remove_key<L: Width, S: Store>(maker: &mut Maker<S, L>, key: &[u8]) -> Result
     ensures stands { (t : Task) (cs : List Incoming) (start now : Option (List ℕ))
         → InCourse t cs start now maker.old
         → IfErr result (λ f. IsHalt f → MakeStandsAt t cs start now maker.new) }
-    ensures follows { Follows maker.old maker.new }
-    ensures failed { IfErr result
-        (λ f. IsOfStore f → S.failures (store_of maker.old) < S.failures (store_of maker.new)) }
-    ensures memory { IfErr result
-        (λ f. f ≡ NoMemory → S.failures (store_of maker.new) ≡ S.failures (store_of maker.old)) }
-    ensures fine { OnOk result (S.failures (store_of maker.new) ≡ S.failures (store_of maker.old)) }
-    ensures own { IfErr result (λ f. IsOfBase f → ⊥) }
-    ensures output { OutputSays ⊥ result }
+    ensures step { StepsOn maker.old maker.new ⊥ ⊥ result }
 {
     maker.remove(key)?;
     Ok(())
@@ -214,14 +200,7 @@ fn do_item<L: Width, S: Store, E: Sink>(
         → InCourse t cs start (E.contents errors.old) maker.old
         → IfErr result (λ f. IsHalt f
         → MakeStandsAt t cs start (E.contents errors.new) maker.new) }
-    ensures follows { Follows maker.old maker.new }
-    ensures failed { IfErr result
-        (λ f. IsOfStore f → S.failures (store_of maker.old) < S.failures (store_of maker.new)) }
-    ensures memory { IfErr result
-        (λ f. f ≡ NoMemory → S.failures (store_of maker.new) ≡ S.failures (store_of maker.old)) }
-    ensures fine { OnOk result (S.failures (store_of maker.new) ≡ S.failures (store_of maker.old)) }
-    ensures own { IfErr result (λ f. IsOfBase f → ⊥) }
-    ensures output { OutputSays (E.failed errors.new) result }
+    ensures step { StepsOn maker.old maker.new ⊥ (E.failed errors.new) result }
 {
     match kind {
         ChangeKind::Put => put_record(
@@ -277,14 +256,7 @@ pub(crate) fn put_input<L: Width, S: Store, R: Read + Drop, E: Sink, A: AtHand<R
         → InCourse t (from_inputs 1 read) start (E.contents errors.old) maker.old
         → IfErr result (λ f. IsHalt f → StandsIn (form_of items) L.GREATEST t read
         (unread R.remaining items) start (E.contents errors.new) maker.new) }
-    ensures follows { Follows maker.old maker.new }
-    ensures failed { IfErr result
-        (λ f. IsOfStore f → S.failures (store_of maker.old) < S.failures (store_of maker.new)) }
-    ensures memory { IfErr result
-        (λ f. f ≡ NoMemory → S.failures (store_of maker.new) ≡ S.failures (store_of maker.old)) }
-    ensures fine { OnOk result (S.failures (store_of maker.new) ≡ S.failures (store_of maker.old)) }
-    ensures own { IfErr result (λ f. IsOfBase f → ⊥) }
-    ensures output { OutputSays (E.failed errors.new) result }
+    ensures step { StepsOn maker.old maker.new ⊥ (E.failed errors.new) result }
 {
     let mut item = Record {
         key: Vec::new(alloc),

@@ -97,6 +97,50 @@ fn files_without_tables_are_refused(rt: HostRuntime) -> Result<(), Fail> {
     Ok(())
 }
 
+/// The database of a text without its last bytes.
+fn made_cut<L: Width>(alloc: Global, text: &[u8], less: usize) -> Result<MemStore, Fault> {
+    let mut file = Vec::new(alloc);
+    make_bytes::<L, _, _>(alloc, text, &mut file)?;
+    let left = file.len().saturating_sub(less);
+    file.truncate(left);
+    Ok(MemStore::from_vec(file))
+}
+
+/// The answer of a difference of two databases that lack their last bytes, if nothing was written.
+fn refused_cut<L: Width>(alloc: Global, old: usize, new: usize) -> Result<Option<Fault>, Fault> {
+    let old = made_cut::<L>(alloc, OLD, old)?;
+    let new = made_cut::<L>(alloc, NEW, new)?;
+    let mut out = Vec::new(alloc);
+    match difference_run::<L, MemStore, MemStore, Vec<u8>>(alloc, old, new, &mut out).2 {
+        Err(fault) if out.as_slice().is_empty() => Ok(Some(fault)),
+        _ => Ok(None),
+    }
+}
+
+/// Of how many bytes the last table of each file is: two slots of one record in words of 4 bytes.
+const LAST: usize = 16;
+
+/// Whether a cut is seen by the heads, from the first byte that lacks on. The last table of the old file
+/// is that of `b`, of the new one that of `c`; before both is that of `a`.
+fn cuts_are_seen<L: Width>(alloc: Global, last: usize) -> Result<bool, Fault> {
+    Ok(
+        refused_cut::<L>(alloc, 0, 0)? == None
+            && refused_cut::<L>(alloc, 1, 0)? == Some(Fault::Old(ReadFault::Table(199)))
+            && refused_cut::<L>(alloc, 0, 1)? == Some(Fault::New(ReadFault::Table(198)))
+            && refused_cut::<L>(alloc, 1, 1)? == Some(Fault::Old(ReadFault::Table(199)))
+            && refused_cut::<L>(alloc, last, 0)? == Some(Fault::Old(ReadFault::Table(199)))
+            && refused_cut::<L>(alloc, last + 1, 0)? == Some(Fault::Old(ReadFault::Table(196)))
+            && refused_cut::<L>(alloc, 0, last + 1)? == Some(Fault::New(ReadFault::Table(196))),
+    )
+}
+
+#[test]
+fn files_with_a_table_outside_are_refused(rt: HostRuntime) -> Result<(), Fail> {
+    assert!(rt; cuts_are_seen::<Narrow>(rt.alloc(), LAST) == Ok(true));
+    assert!(rt; cuts_are_seen::<Wide>(rt.alloc(), 2 * LAST) == Ok(true));
+    Ok(())
+}
+
 /// How a difference ended.
 #[derive(Clone, Copy, Debug, PartialEq, Eq)]
 enum Ended {

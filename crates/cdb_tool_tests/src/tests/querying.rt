@@ -5,7 +5,7 @@ use super::worked::File;
 use cdb_form::{Narrow, TextFault, Wide, Width};
 use cdb_read::ReadFault;
 use cdb_store::{FuseStore, MemStore, Store};
-use cdb_tool::{Fault, Inputs, Style, Turn, lookups_run, query_run};
+use cdb_tool::{Fault, Inputs, Lines, Style, Turn, lookups_run, query_run};
 use std::alloc::{AllocError, Global};
 use std::io::Write;
 use std::prelude::*;
@@ -536,8 +536,10 @@ fn looked_up(alloc: Global, file: Vec<u8>, keys: &[u8]) -> Result<Answer, AllocE
             inputs,
             None,
             Style::Native,
+            &Lines::new(false),
             &mut w,
-        ).1,
+        )
+        .1,
     )
 }
 

@@ -1,8 +1,8 @@
 use Rattle.std.proofs.Common.{rules, arith, ◌≡◌, ◌∙◌, ◌+◌, ◌≤◌, ℕ, length, sym, ap, subst, refl, true, false, length-append, length-drop}
-use Rattle.cdb_store.proofs.Reading.{reads_more}
 use Rattle.cdb_store.specs.Images.{part}
 use Rattle.cdb_read.proofs.Walked.WalkedLengths.{length_of}
 use Rattle.cdb_difference.proofs.ComparedValues.{piece_differs, same_more}
+use Rattle.cdb_difference.proofs.Looked.{stays_more}
 use Rattle.cdb_difference.proofs.differing_values.same_bytes.Goals as goal
 
 pub returns-then-value-with-clause-same : goal.returns-then-value-with-clause-same
@@ -39,14 +39,8 @@ loop-done-preserved g c =
       within = omega arith;
       mine = simp (length-append, length-drop) (omega (arith, l, inv.mine));
       theirs = simp (length-append, length-drop) (omega (arith, k, inv.theirs, inv.mine, c.requires.pieces));
-      own_reader = e.same_reader ∙ inv.own_reader;
-      own_key = e.key ∙ inv.own_key;
-      own_stays = e.stays ∙ inv.own_stays;
-      own_reads = reads_more inv.own_reads e.reads;
-      other_reader = f.same_reader ∙ inv.other_reader;
-      other_key = f.key ∙ inv.other_key;
-      other_stays = f.stays ∙ inv.other_stays;
-      other_reads = reads_more inv.other_reads f.reads;
+      own = stays_more inv.own (record { looks = record { reader = e.same_reader; key = e.key; reads = e.reads }; searching = e.stays });
+      other = stays_more inv.other (record { looks = record { reader = f.same_reader; key = f.key; reads = f.reads }; searching = f.stays });
       same = λ b d is it.
           let at : ℕ = c.args.value.place + c.loop-done.done in
           let beside : ℕ = c.args.with.place + c.loop-done.done in

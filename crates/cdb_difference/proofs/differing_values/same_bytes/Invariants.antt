@@ -1,6 +1,6 @@
 use Rattle.std.proofs.Common.{◌≡◌, ◌-◌, ◌≤◌, ℕ, List, length}
 use Rattle.cdb_store.specs.Images.{part}
-use Rattle.cdb_store.specs.Reads.{OnlyReads}
+use Rattle.cdb_difference.specs.Views.Looking.{StaysAt}
 use Rattle.cdb_difference.proofs.differing_values.same_bytes.Given as goal
 
 -- the pieces so far were the same
@@ -10,14 +10,8 @@ invariant-loop-done g l =
       within : l.done ≤ l.value.len;
       mine : length l.mine ≡ length l.fn.mine;
       theirs : length l.theirs ≡ length l.fn.theirs;
-      own_reader : l.own.reader.ghost_name ≡ l.fn.own.reader.ghost_name;
-      own_key : l.own.key.now ≡ l.fn.own.key.now;
-      own_stays : l.own.searching ≡ l.fn.own.searching;
-      own_reads : OnlyReads g.S.Store l.fn.own.reader.now.store l.own.reader.now.store;
-      other_reader : l.other.reader.ghost_name ≡ l.fn.other.reader.ghost_name;
-      other_key : l.other.key.now ≡ l.fn.other.key.now;
-      other_stays : l.other.searching ≡ l.fn.other.searching;
-      other_reads : OnlyReads g.T.Store l.fn.other.reader.now.store l.other.reader.now.store;
+      own : StaysAt l.fn.own l.own;
+      other : StaysAt l.fn.other l.other;
       same : (b c : List ℕ) → g.S.Store.image l.own.reader.now.store b → g.T.Store.image l.other.reader.now.store c → part l.value.place l.done b ≡ part l.with.place l.done c;
     }
 

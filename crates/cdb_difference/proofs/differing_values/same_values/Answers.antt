@@ -1,8 +1,8 @@
 use Rattle.std.proofs.Common.{rules, ◌≡◌, ◌∙◌, sym, ap, subst, IfOk}
 use Rattle.std.proofs.lemmas.Bool.{both_ways}
-use Rattle.cdb_store.proofs.Reading.{reads_more}
 use Rattle.cdb_read.specs.Lookup.{with_span}
 use Rattle.cdb_difference.proofs.ComparedValues.{compared_more, damage_next, damage_still, left_stays, one_differs, other_ended, own_ended}
+use Rattle.cdb_difference.proofs.Looked.{looks_more}
 use Rattle.cdb_difference.proofs.differing_values.same_values.Goals as goal
 
 pub returns-then-not-branch-clause-same : goal.returns-then-not-branch-clause-same
@@ -10,9 +10,9 @@ returns-then-not-branch-clause-same g c = λ b d is it.
     let inv = c.loop-with.invariant in
     let both = c.same_bytes.ensures in
     let one = rw c.in-Some.is at c.in_ok-with.ensures.gives in
-    let here = both.other_reads.images d it in
+    let here = both.other.looks.reads.images d it in
     let same = c.in_ok-same_bytes.ensures.same b d is it in
-    one_differs b d c.args.first c.loop-with.value c.in-Some.with _ _ _ _ _ (inv.same b d (both.own_reads.images b is) (c.next_other.ensures.reads.images d here)) (one.first d here)
+    one_differs b d c.args.first c.loop-with.value c.in-Some.with _ _ _ _ _ (inv.same b d (both.own.looks.reads.images b is) (c.next_other.ensures.looks.reads.images d here)) (one.first d here)
     (λ e. both_ways c.in_ok-same_bytes.field-0 c.if-not-branch.true (same.1 e))
 
 pub returns-in_default-2-clause-same : goal.returns-in_default-2-clause-same
@@ -23,13 +23,13 @@ returns-in_default-2-clause-same g c = λ b d is it.
     let one = rw c.in-Some.is at c.in_ok-with.ensures.gives in
     let none = rw c.in_default-2.is at c.in_ok-next.ensures.gives in
     let mine = c.next.ensures.reads.images b is in
-    let theirs = c.ends.ensures.reads.images d it in
-    let here = both.other_reads.images d theirs in
+    let theirs = c.ends.ensures.looks.reads.images d it in
+    let here = both.other.looks.reads.images d theirs in
     let same = (c.in_ok-same_bytes.ensures.same b d mine theirs).0 c.if-not-branch.false in
-    let others = one.first d here ∙ ap (with_span c.in-Some.with) (sym (left_stays {s = g.T.Store} {l = g.L.Width} w d c.next_other.new.other c.same_bytes.new.other both.other_key both.other_stays)) in
-    let left = sym (left_stays {s = g.S.Store} {l = g.L.Width} w b c.loop-with.own c.same_bytes.new.own both.own_key both.own_stays) ∙ none.none b is in
+    let others = one.first d here ∙ ap (with_span c.in-Some.with) (sym (left_stays {s = g.T.Store} {l = g.L.Width} w d c.next_other.new.other c.same_bytes.new.other both.other.looks.key both.other.searching)) in
+    let left = sym (left_stays {s = g.S.Store} {l = g.L.Width} w b c.loop-with.own c.same_bytes.new.own both.own.looks.key both.own.searching) ∙ none.none b is in
     subst (λ v. IfOk c.ends.result (λ ended. ended ≡ v))
-    (own_ended b d c.args.first c.loop-with.value c.in-Some.with _ _ _ _ _ (inv.same b d (both.own_reads.images b mine) (c.next_other.ensures.reads.images d here)) others same left)
+    (own_ended b d c.args.first c.loop-with.value c.in-Some.with _ _ _ _ _ (inv.same b d (both.own.looks.reads.images b mine) (c.next_other.ensures.looks.reads.images d here)) others same left)
     (c.ends.ensures.ends d it)
 
 pub loop-with-preserved : goal.loop-with-preserved
@@ -43,25 +43,23 @@ loop-with-preserved g c =
       inside = more.inside;
       mine = search rules;
       theirs = search rules;
-      own_reader = c.next.ensures.same_reader ∙ both.own_reader ∙ inv.own_reader;
-      own_reads = reads_more (reads_more inv.own_reads both.own_reads) c.next.ensures.reads;
+      own = looks_more (looks_more inv.own both.own.looks) (record { reader = c.next.ensures.same_reader; key = c.next.ensures.key; reads = c.next.ensures.reads });
       own_damage = damage_next {s = g.S.Store} {l = g.L.Width} w c.args.own.now c.same_bytes.new.own c.next.new.self c.in-Some-2.next
-          (damage_still {s = g.S.Store} {l = g.L.Width} w c.args.own.now c.loop-with.own c.same_bytes.new.own inv.own_damage both.own_reads both.own_key both.own_stays) c.next.ensures.reads more;
-      other_reader = both.other_reader ∙ c.next_other.ensures.same_reader ∙ inv.other_reader;
-      other_reads = reads_more (reads_more inv.other_reads c.next_other.ensures.reads) both.other_reads;
+          (damage_still {s = g.S.Store} {l = g.L.Width} w c.args.own.now c.loop-with.own c.same_bytes.new.own inv.own_damage both.own.looks.reads both.own.looks.key both.own.searching) c.next.ensures.reads more;
+      other = looks_more (looks_more inv.other c.next_other.ensures.looks) both.other.looks;
       other_damage = damage_still {s = g.T.Store} {l = g.L.Width} w c.args.other.now c.next_other.new.other c.same_bytes.new.other
-          (damage_next {s = g.T.Store} {l = g.L.Width} w c.args.other.now c.loop-with.other c.next_other.new.other c.in-Some.with inv.other_damage c.next_other.ensures.reads one) both.other_reads both.other_key both.other_stays;
+          (damage_next {s = g.T.Store} {l = g.L.Width} w c.args.other.now c.loop-with.other c.next_other.new.other c.in-Some.with inv.other_damage c.next_other.ensures.looks.reads one) both.other.looks.reads both.other.looks.key both.other.searching;
       same = λ b d is it.
           let mine = c.next.ensures.reads.images b is in
-          let here = both.other_reads.images d it in
+          let here = both.other.looks.reads.images d it in
           let same = (c.in_ok-same_bytes.ensures.same b d mine it).0 c.if-not-branch.false in
-          let others = one.first d here ∙ ap (with_span c.in-Some.with) (sym (left_stays {s = g.T.Store} {l = g.L.Width} w d c.next_other.new.other c.same_bytes.new.other both.other_key both.other_stays)) in
-          let left = sym (left_stays {s = g.S.Store} {l = g.L.Width} w b c.loop-with.own c.same_bytes.new.own both.own_key both.own_stays) ∙ more.first b is in
-          compared_more b d c.args.first c.loop-with.value c.in-Some.with c.in-Some-2.next _ _ _ _ _ _ (inv.same b d (both.own_reads.images b mine) (c.next_other.ensures.reads.images d here)) others same left;
+          let others = one.first d here ∙ ap (with_span c.in-Some.with) (sym (left_stays {s = g.T.Store} {l = g.L.Width} w d c.next_other.new.other c.same_bytes.new.other both.other.looks.key both.other.searching)) in
+          let left = sym (left_stays {s = g.S.Store} {l = g.L.Width} w b c.loop-with.own c.same_bytes.new.own both.own.looks.key both.own.searching) ∙ more.first b is in
+          compared_more b d c.args.first c.loop-with.value c.in-Some.with c.in-Some-2.next _ _ _ _ _ _ (inv.same b d (both.own.looks.reads.images b mine) (c.next_other.ensures.looks.reads.images d here)) others same left;
     }
 
 pub returns-clause-same : goal.returns-clause-same
 returns-clause-same g c = λ b d is it.
     let inv = c.loop-with.invariant in
     let none = rw c.in_default.is at c.in_ok-with.ensures.gives in
-    other_ended b d c.args.first c.loop-with.value _ _ _ _ (inv.same b d is (c.next_other.ensures.reads.images d it)) (none.none d it)
+    other_ended b d c.args.first c.loop-with.value _ _ _ _ (inv.same b d is (c.next_other.ensures.looks.reads.images d it)) (none.none d it)

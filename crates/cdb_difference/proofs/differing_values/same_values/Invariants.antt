@@ -1,7 +1,7 @@
 use Rattle.std.proofs.Common.{◌≡◌, ◌+◌, ◌≤◌, ℕ, List, length}
-use Rattle.cdb_store.specs.Reads.{OnlyReads}
 use Rattle.cdb_read.specs.Views.Finder.{left_in, slots_left}
 use Rattle.cdb_difference.proofs.ComparedValues.{Compared, SameDamage}
+use Rattle.cdb_difference.specs.Views.Looking.{LooksOn}
 use Rattle.cdb_difference.proofs.differing_values.same_values.Given as goal
 
 -- the values so far were the same
@@ -11,11 +11,9 @@ invariant-loop-with g l =
       inside : l.value.place + l.value.len ≤ g.S.Store.size l.own.reader.now.store;
       mine : length l.mine ≡ length l.fn.mine;
       theirs : length l.theirs ≡ length l.fn.theirs;
-      own_reader : l.own.reader.ghost_name ≡ l.fn.own.reader.ghost_name;
-      own_reads : OnlyReads g.S.Store l.fn.own.reader.now.store l.own.reader.now.store;
+      own : LooksOn l.fn.own l.own;
       own_damage : SameDamage g.L.Width.WORD l.fn.own l.own;
-      other_reader : l.other.reader.ghost_name ≡ l.fn.other.reader.ghost_name;
-      other_reads : OnlyReads g.T.Store l.fn.other.reader.now.store l.other.reader.now.store;
+      other : LooksOn l.fn.other l.other;
       other_damage : SameDamage g.L.Width.WORD l.fn.other l.other;
       same : (b c : List ℕ) → g.S.Store.image l.own.reader.now.store b → g.T.Store.image l.other.reader.now.store c
           → Compared b c l.fn.first l.value (left_in g.L.Width.WORD b l.fn.own) (left_in g.L.Width.WORD b l.own) (left_in g.L.Width.WORD c l.fn.other) (left_in g.L.Width.WORD c l.other);

@@ -11,8 +11,7 @@ loop-init g c =
     let one = c.walk.ensures in
     let two = c.walk-2.ensures in
     record {
-      own_reads = reads_nothing {s = g.S.Store} _ _ (search rules);
-      other_reads = reads_nothing {s = g.T.Store} _ _ (search rules);
+      reads = record { own = reads_nothing {s = g.S.Store} _ _ (search rules); other = reads_nothing {s = g.T.Store} _ _ (search rules) };
       in_step = record {
         own_damage = λ b is.
             let here : g.S.Store.image c.args.own.now.store b = search rules in

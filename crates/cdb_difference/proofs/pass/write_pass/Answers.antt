@@ -19,8 +19,7 @@ loop-key-init g c =
     let e = c.walk.ensures in
     let mark = c.bookmark-bookmark.ensures in
     record {
-      own_reads = reads_nothing {s = g.S.Store} _ _ (search rules);
-      other_reads = reads_none g.T.Store c.args.other.now.store;
+      reads = record { own = reads_nothing {s = g.S.Store} _ _ (search rules); other = reads_none g.T.Store c.args.other.now.store };
       walked = λ b is.
           let here : g.S.Store.image c.args.own.now.store b = search rules in
           sym (ap (λ (x : Walked). x.damage) (ap (walk_ahead w b) mark ∙ e.walks b here));
@@ -39,21 +38,20 @@ loop-key-preserved-in-Continue-branch-4 g c =
     let first = c.is_change.ensures in
     let said = c.write_changes.ensures in
     record {
-      own_reads = reads_more (reads_more (reads_more inv.own_reads c.next_record.ensures.reads) first.own_reads) said.reads;
-      other_reads = reads_more inv.other_reads first.other_reads;
+      reads = record { own = reads_more (reads_more (reads_more inv.reads.own c.next_record.ensures.reads) first.reads.own) said.reads; other = reads_more inv.reads.other first.reads.other };
       walked = λ b is.
-          let mine = first.own_reads.images b (said.reads.images b is) in
+          let mine = first.reads.own.images b (said.reads.images b is) in
           inv.walked b (c.next_record.ensures.reads.images b mine) ∙ ap (λ (x : Walked). x.damage) (one.first b mine);
       passed = λ b d is it.
           let second = said.reads.images b is in
-          let mine = first.own_reads.images b second in
+          let mine = first.reads.own.images b second in
           let earlier = c.next_record.ensures.reads.images b mine in
-          let theirs = first.other_reads.images d it in
+          let theirs = first.reads.other.images d it in
           let key = bytes_of b pair.key in
           let test = sym c.if-branch.true ∙ c.in_ok-is_change.ensures.change b d second it in
           let key_is = c.in_ok-is_change.ensures.key b second (cc) in
           changed w c.args.kind b d _ _ _ _ pair key (is_marked c.args.marks.now.words.items key) _ _ _ some
-          (λ no. c.requires.agree b d (inv.own_reads.images b earlier) (inv.other_reads.images d theirs) key no)
+          (λ no. c.requires.agree b d (inv.reads.own.images b earlier) (inv.reads.other.images d theirs) key no)
           (inv.passed b d earlier theirs) (one.first b mine) one.lies one.next
           (subst (λ (n : ℕ). behind pair ≤ n) (sym (g.met.S.Store.image_size c.next_record.new.reader.store b mine)) one.inside) refl test
           (same_appends _ _ _ _ (ap (λ k. changes_text (changes_at c.args.kind w b k)) (c.deref.ensures.value ∙ key_is)) (c.in_ok-write_changes.ensures.writes b is).ok);
@@ -68,19 +66,18 @@ loop-key-preserved g c =
     let pair = c.in-Some.pair in
     let first = c.is_change.ensures in
     record {
-      own_reads = reads_more (reads_more inv.own_reads c.next_record.ensures.reads) first.own_reads;
-      other_reads = reads_more inv.other_reads first.other_reads;
+      reads = record { own = reads_more (reads_more inv.reads.own c.next_record.ensures.reads) first.reads.own; other = reads_more inv.reads.other first.reads.other };
       walked = λ b is.
-          let mine = first.own_reads.images b is in
+          let mine = first.reads.own.images b is in
           inv.walked b (c.next_record.ensures.reads.images b mine) ∙ ap (λ (x : Walked). x.damage) (one.first b mine);
       passed = λ b d is it.
-          let mine = first.own_reads.images b is in
+          let mine = first.reads.own.images b is in
           let earlier = c.next_record.ensures.reads.images b mine in
-          let theirs = first.other_reads.images d it in
+          let theirs = first.reads.other.images d it in
           let key = bytes_of b pair.key in
           let test = sym c.if-branch.false ∙ c.in_ok-is_change.ensures.change b d is it in
           unchanged w c.args.kind b d _ _ _ _ pair key (is_marked c.args.marks.now.words.items key) _ _ (g.W.Sink.contents c.args.w.now) some
-          (λ no. c.requires.agree b d (inv.own_reads.images b earlier) (inv.other_reads.images d theirs) key no)
+          (λ no. c.requires.agree b d (inv.reads.own.images b earlier) (inv.reads.other.images d theirs) key no)
           (inv.passed b d earlier theirs) (one.first b mine) one.lies one.next
           (subst (λ (n : ℕ). behind pair ≤ n) (sym (g.met.S.Store.image_size c.next_record.new.reader.store b mine)) one.inside) refl test;
     }
@@ -104,7 +101,7 @@ returns-in_err-is_change-clause-front g c =
     (λ b d is it.
     let mine : g.S.Store.image c.is_change.new.own.store b = search rules in
     let theirs : g.T.Store.image c.is_change.new.other.store d = search rules in
-    stopped g.L.Width.WORD c.args.kind b d _ _ _ _ (inv.passed b d (c.next_record.ensures.reads.images b (first.own_reads.images b mine)) (first.other_reads.images d theirs)))
+    stopped g.L.Width.WORD c.args.kind b d _ _ _ _ (inv.passed b d (c.next_record.ensures.reads.images b (first.reads.own.images b mine)) (first.reads.other.images d theirs)))
 
 pub returns-in_err-is_change-clause-fails : goal.returns-in_err-is_change-clause-fails
 returns-in_err-is_change-clause-fails g c =
@@ -114,19 +111,19 @@ returns-in_err-is_change-clause-fails g c =
     let one = rw c.in-Some.is at c.in_ok-pair.ensures.gives in
     let pair = c.in-Some.pair in
     let first = c.is_change.ensures in
-    let before = reads_more inv.own_reads c.next_record.ensures.reads in
+    let before = reads_more inv.reads.own c.next_record.ensures.reads in
     let own = c.is_change.new.own.store in
     let other = c.is_change.new.other.store in
     let has : (b d : List ℕ) → g.S.Store.image c.is_change.new.own.store b → g.T.Store.image c.is_change.new.other.store d → WalkHasKey (bytes_of b pair.key) (walk_of w b).records =
     λ b d is it.
-    let mine = first.own_reads.images b is in
+    let mine = first.reads.own.images b is in
     let earlier = c.next_record.ensures.reads.images b mine in
-    let listed = (inv.passed b d earlier (first.other_reads.images d it)).listed in
+    let listed = (inv.passed b d earlier (first.reads.other.images d it)).listed in
     passed_key w b listed.done _ _ (record_in b pair) listed.all (one.first b mine) in
     rw (p.1, p.2)
     (both_since g.S.Store g.T.Store c.args.own.now.store c.next_record.new.reader.store own c.args.other.now.store c.loop-key.other.store other
     (OwnLookHas w g.S.Store own pair.key) (IsOneDamaged w g.S.Store g.T.Store own other) (OtherLookHas w g.S.Store g.T.Store own other pair.key) (IsOneDamaged w g.T.Store g.S.Store other own) _ _
-    c.in_err-is_change.field-0.0 before.failures inv.other_reads.failures
+    c.in_err-is_change.field-0.0 before.failures inv.reads.other.failures
     (λ damage found b d is it. inr (bytes_of b pair.key, inl (has b d is it), found b is))
     (λ damage found d b it is. inr (bytes_of b pair.key, inr (has b d is it), found b d is it))
     (λ no. absurd no)
@@ -141,7 +138,7 @@ returns-in_err-write_changes-clause-fails g c =
     let pair = c.in-Some.pair in
     let first = c.is_change.ensures in
     let said = c.write_changes.ensures in
-    let before = reads_more (reads_more inv.own_reads c.next_record.ensures.reads) first.own_reads in
+    let before = reads_more (reads_more inv.reads.own c.next_record.ensures.reads) first.reads.own in
     let own = c.write_changes.new.reader.store in
     let other = c.is_change.new.other.store in
     rw (p.1, p.2)
@@ -149,9 +146,9 @@ returns-in_err-write_changes-clause-fails g c =
     (LookHas w g.S.Store own c.deref.result.now) (IsOneDamaged w g.S.Store g.T.Store own other) _ _ c.in_err-write_changes.field-0.0 before.failures (omega arith)
     (λ damage found b d is it.
     let second = said.reads.images b is in
-    let mine = first.own_reads.images b second in
+    let mine = first.reads.own.images b second in
     let earlier = c.next_record.ensures.reads.images b mine in
-    let listed = (inv.passed b d earlier (first.other_reads.images d it)).listed in
+    let listed = (inv.passed b d earlier (first.reads.other.images d it)).listed in
     let key_is = c.deref.ensures.value ∙ c.in_ok-is_change.ensures.key b second (cc) in
     inr (bytes_of b pair.key, inl (passed_key w b listed.done _ _ (record_in b pair) listed.all (one.first b mine)), ap (λ k. (lookup_of w b k).damage) (sym key_is) ∙ found b is))
     (λ failed. failed)
@@ -172,14 +169,14 @@ returns-in_err-write_changes-clause-front g c =
     let here : g.S.Store.image c.write_changes.new.reader.store b = search rules in
     let theirs : g.T.Store.image c.is_change.new.other.store d = search rules in
     let second = said.reads.images b here in
-    let mine = first.own_reads.images b second in
+    let mine = first.reads.own.images b second in
     let earlier = c.next_record.ensures.reads.images b mine in
-    let before = first.other_reads.images d theirs in
+    let before = first.reads.other.images d theirs in
     let key = bytes_of b pair.key in
     let test = sym c.if-branch.true ∙ c.in_ok-is_change.ensures.change b d second theirs in
     let key_is = c.in_ok-is_change.ensures.key b second (cc) in
     changed_prefix w c.args.kind b d _ _ _ _ pair key (is_marked c.args.marks.now.words.items key) _ _ _ some
-    (λ no. c.requires.agree b d (inv.own_reads.images b earlier) (inv.other_reads.images d before) key no)
+    (λ no. c.requires.agree b d (inv.reads.own.images b earlier) (inv.reads.other.images d before) key no)
     (inv.passed b d earlier before) (one.first b mine) one.lies one.next
     (subst (λ (n : ℕ). behind pair ≤ n) (sym (g.met.S.Store.image_size c.next_record.new.reader.store b mine)) one.inside) refl test
     (same_prefix _ _ _ _ (ap (λ k. changes_text (changes_at c.args.kind w b k)) (c.deref.ensures.value ∙ key_is)) (c.in_err-write_changes.ensures.writes b here).err))

@@ -1,6 +1,6 @@
 use Rattle.std.proofs.Common.{◌≡◌, ℕ, List}
 use Rattle.cdb_form.specs.Format.Walk.{walk_of}
-use Rattle.cdb_store.specs.Reads.{OnlyReads}
+use Rattle.cdb_difference.specs.Views.Looking.{ReadBoth}
 use Rattle.cdb_read.specs.Views.Walking.{next_place, size_ahead}
 use Rattle.cdb_difference.proofs.PassSteps.{PassSoFar}
 use Rattle.cdb_difference.specs.Views.NextRecord.{left_from}
@@ -10,8 +10,7 @@ use Rattle.cdb_difference.proofs.pass.write_pass.Given as goal
 abbrev pub invariant-loop-key : goal.invariant-loop-key
 invariant-loop-key g l =
     record {
-      own_reads : OnlyReads g.S.Store l.fn.own.store l.own.store;
-      other_reads : OnlyReads g.T.Store l.fn.other.store l.other.store;
+      reads : ReadBoth l.fn.own l.own l.fn.other l.other;
       walked : (b : List ℕ) → g.S.Store.image l.own.store b → (walk_of g.L.Width.WORD b).damage ≡ (left_from g.L.Width.WORD b l.bookmark).damage;
       passed : (b c : List ℕ) → g.S.Store.image l.own.store b → g.T.Store.image l.other.store c
           → PassSoFar g.L.Width.WORD l.kind b c (left_from g.L.Width.WORD b l.bookmark) (next_place g.L.Width.WORD l.bookmark.walking) (g.W.Sink.contents l.fn.w) (g.W.Sink.contents l.w);

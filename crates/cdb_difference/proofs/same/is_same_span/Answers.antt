@@ -30,8 +30,7 @@ loop-done-preserved g c =
     let inv = c.loop-done.invariant in
     record {
       within = omega arith;
-      own_reads = reads_more inv.own_reads e.reads;
-      other_reads = reads_more inv.other_reads f.reads;
+      reads = record { own = reads_more inv.reads.own e.reads; other = reads_more inv.reads.other f.reads };
       same = λ b d is it.
           same_more c.args.mine.place c.args.theirs.place c.loop-done.done c.min-n.result b d (inv.same b d (e.reads.images b is) (f.reads.images d it))
           (sym (c.at_hand-piece.ensures.is b is) ∙ c.if-not-is_same.ensures.0 refl ∙ c.at_hand-beside.ensures.is d it);

@@ -1,6 +1,6 @@
 use Rattle.std.proofs.Common.{◌≡◌, ◌-◌, ◌≤◌, ℕ, List}
 use Rattle.cdb_store.specs.Images.{part}
-use Rattle.cdb_store.specs.Reads.{OnlyReads}
+use Rattle.cdb_difference.specs.Views.Looking.{ReadBoth}
 use Rattle.cdb_difference.proofs.same.is_same_span.Given as goal
 
 -- the pieces so far were the same
@@ -8,8 +8,7 @@ abbrev pub invariant-loop-done : goal.invariant-loop-done
 invariant-loop-done g l =
     record {
       within : l.done ≤ l.mine.len;
-      own_reads : OnlyReads g.S.Store l.fn.own.store l.own.store;
-      other_reads : OnlyReads g.T.Store l.fn.other.store l.other.store;
+      reads : ReadBoth l.fn.own l.own l.fn.other l.other;
       same : (b c : List ℕ) → g.S.Store.image l.own.store b → g.T.Store.image l.other.store c → part l.mine.place l.done b ≡ part l.theirs.place l.done c;
     }
 

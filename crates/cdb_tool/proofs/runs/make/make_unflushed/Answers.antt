@@ -22,7 +22,7 @@ returns-in-Err-put-clause-runs g c =
     let some = hands_some g.B.Store c.args.base base add.hands ∙ sym c.is_some-amends.ensures in
     rw c.into_store-in-Err-put.ensures
     (runs_stopped {s = g.S.Store} {l = g.L.Width} g.B.Store base g.L.Width.GREATEST c.args.options.now c.is_some-amends.result _ (g.E.Sink.contents c.args.errors.now) _ c.add_base-base.new.maker _ c.in-Err-put.fault
-    g.met.L.Width.four_or_eight holds (add.follows.limit ∙ c.in-Ok.ensures.begins.limited) some c.put_inputs-put.ensures.follows.comes
+    g.met.L.Width.four_or_eight holds (add.step.follows.limit ∙ c.in-Ok.ensures.begins.limited) some c.put_inputs-put.ensures.step.follows.comes
     (λ k same based begins. c.in-Err-put.ensures.fails k _ same based begins))
 
 pub returns-in-Ok-finish-clause-runs : goal.returns-in-Ok-finish-clause-runs
@@ -34,7 +34,7 @@ returns-in-Ok-finish-clause-runs g c =
     let put = c.in_default-put.ensures.ok in
     let are = subst (λ (v : Bool). AreAllInputs (input_form c.args.options.now.style v) g.L.Width.GREATEST put.0 (inputs_left g.J.Read.remaining g.I.Read.remaining c.args.inputs)) (sym some) put.1 in
     runs_whole {s = g.S.Store} {l = g.L.Width} g.B.Store base g.L.Width.GREATEST c.args.options.now _ put.0 (g.E.Sink.contents c.args.errors.now) _ c.add_base-base.new.maker c.put_inputs-put.new.maker _
-    g.met.L.Width.four_or_eight holds (add.follows.limit ∙ c.in-Ok.ensures.begins.limited) are (λ k same begins. put.2 k _ same begins) c.put_inputs-put.ensures.follows.comes c.in-Ok-finish.ensures.comes c.in-Ok-finish.ensures.file
+    g.met.L.Width.four_or_eight holds (add.step.follows.limit ∙ c.in-Ok.ensures.begins.limited) are (λ k same begins. put.2 k _ same begins) c.put_inputs-put.ensures.step.follows.comes c.in-Ok-finish.ensures.comes c.in-Ok-finish.ensures.file
 
 pub returns-in-Err-finish-clause-runs : goal.returns-in-Err-finish-clause-runs
 returns-in-Err-finish-clause-runs g c =
@@ -47,7 +47,7 @@ returns-in-Err-finish-clause-runs g c =
     let are = subst (λ (v : Bool). AreAllInputs (input_form c.args.options.now.style v) g.L.Width.GREATEST put.0 (inputs_left g.J.Read.remaining g.I.Read.remaining c.args.inputs)) (sym some) put.1 in
     rw (c.from-in-Err-finish.ensures, c.into_store-in-Err-finish.ensures)
     (runs_unfinished {s = g.S.Store} {l = g.L.Width} g.B.Store base g.L.Width.GREATEST c.args.options.now _ put.0 (g.E.Sink.contents c.args.errors.now) _ c.add_base-base.new.maker c.put_inputs-put.new.maker c.in-Err-finish.unfinished.maker c.in-Err-finish.unfinished.fault
-    g.met.L.Width.four_or_eight holds (add.follows.limit ∙ c.in-Ok.ensures.begins.limited) are (λ k same begins. put.2 k _ same begins) c.put_inputs-put.ensures.follows.comes e.fails_comes e.fails)
+    g.met.L.Width.four_or_eight holds (add.step.follows.limit ∙ c.in-Ok.ensures.begins.limited) are (λ k same begins. put.2 k _ same begins) c.put_inputs-put.ensures.step.follows.comes e.fails_comes e.fails)
 
 pub returns-in-Err-finish-clause-base_failed : goal.returns-in-Err-finish-clause-base_failed
 returns-in-Err-finish-clause-base_failed g c = rw c.from-in-Err-finish.ensures (λ is. absurd (make_no_base c.in-Err-finish.unfinished.fault is))
@@ -66,9 +66,9 @@ pub returns-in-Err-finish-clause-failed : goal.returns-in-Err-finish-clause-fail
 returns-in-Err-finish-clause-failed g c =
     rw (c.from-in-Err-finish.ensures, c.into_store-in-Err-finish.ensures)
     (λ is.
-    let based = rw c.in_default.is at c.add_base-base.ensures.fine in
+    let based = rw c.in_default.is at c.add_base-base.ensures.step.fine in
     let made = c.in-Ok.ensures.begins.fine in
-    let put = c.in_default-put.ensures.fine in
+    let put = c.in_default-put.ensures.step.fine in
     let late = unfinished_store {s = g.S.Store} {l = g.L.Width} c.put_inputs-put.new.maker c.in-Err-finish.unfinished.maker c.in-Err-finish.unfinished.fault c.in-Err-finish.ensures.fails is in
     omega (arith, late, put, based, made))
 
@@ -76,13 +76,13 @@ pub returns-in-Err-put-clause-failed : goal.returns-in-Err-put-clause-failed
 returns-in-Err-put-clause-failed g c =
     rw c.into_store-in-Err-put.ensures
     (λ is.
-    let based = rw c.in_default.is at c.add_base-base.ensures.fine in
+    let based = rw c.in_default.is at c.add_base-base.ensures.step.fine in
     let made = c.in-Ok.ensures.begins.fine in
-    let late = c.in-Err-put.ensures.failed is in
+    let late = c.in-Err-put.ensures.step.failed is in
     omega (arith, late, based, made))
 
 pub returns-in-Err-put-clause-base_failed : goal.returns-in-Err-put-clause-base_failed
-returns-in-Err-put-clause-base_failed g c = λ is. absurd (c.in-Err-put.ensures.own is)
+returns-in-Err-put-clause-base_failed g c = λ is. absurd (c.in-Err-put.ensures.step.base is)
 
 pub returns-in-Err-added-clause-failed : goal.returns-in-Err-added-clause-failed
 returns-in-Err-added-clause-failed g c = grind (arith, common_steps)
@@ -108,8 +108,8 @@ pub returns-in-Err-finish-clause-memory : goal.returns-in-Err-finish-clause-memo
 returns-in-Err-finish-clause-memory g c =
     rw (c.from-in-Err-finish.ensures, c.into_store-in-Err-finish.ensures)
     (λ is.
-    let based = rw c.in_default.is at c.add_base-base.ensures.fine in
+    let based = rw c.in_default.is at c.add_base-base.ensures.step.fine in
     let made = c.in-Ok.ensures.begins.fine in
-    let put = c.in_default-put.ensures.fine in
+    let put = c.in_default-put.ensures.step.fine in
     let late = unfinished_memory {s = g.S.Store} {l = g.L.Width} c.put_inputs-put.new.maker c.in-Err-finish.unfinished.maker c.in-Err-finish.unfinished.fault c.in-Err-finish.ensures.fails is in
     omega (arith, late, put, based, made))

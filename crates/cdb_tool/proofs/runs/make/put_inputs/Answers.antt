@@ -1,7 +1,7 @@
 use Rattle.std.proofs.Common.{refl, ap, ◌∙◌, ◌+◌, ℕ}
 use Rattle.std.proofs.lemmas.Result.{err_from_is_err_and}
-use Rattle.cdb_make.proofs.Rolls.{follows_then}
 use Rattle.cdb_tool.proofs.InputRuns.{put_none, put_next, inputs_fail, next_has, halted}
+use Rattle.cdb_tool.proofs.MakerSteps.{step_failed}
 use Rattle.cdb_tool.proofs.runs.make.put_inputs.Goals as goal
 
 pub loop-turn-init : goal.loop-turn-init
@@ -13,8 +13,8 @@ loop-turn-preserved g c =
     record {
       next = tt;
       finite = tt;
-      put = put_next {s = g.S.Store} {l = g.L.Width} _ g.J.Read.remaining g.I.Read.remaining _ _ _ _ _ _ _ _ _ _ _ _ _ _ _ c.loop-turn.invariant.put c.in-Some.ensures.steps.0 c.in_ok-shared.ensures.ok e.follows;
-      fine = c.in_ok-shared.ensures.fine ∙ c.loop-turn.invariant.fine;
+      put = put_next {s = g.S.Store} {l = g.L.Width} _ g.J.Read.remaining g.I.Read.remaining _ _ _ _ _ _ _ _ _ _ _ _ _ _ _ c.loop-turn.invariant.put c.in-Some.ensures.steps.0 c.in_ok-shared.ensures.ok e.step.follows;
+      fine = c.in_ok-shared.ensures.step.fine ∙ c.loop-turn.invariant.fine;
     }
 
 pub returns-in_err-shared-clause-fails : goal.returns-in_err-shared-clause-fails
@@ -33,5 +33,8 @@ returns-in_err-shared-clause-stands g c = λ t start same h.
     rw (p.1, p.2)
     (λ halt. halted {s = g.S.Store} {k = g.L.Width} _ _ t put.read _ _ _ start _ c.put_turn.new.maker put.are (next_has g.J.Read.remaining g.I.Read.remaining _ _ c.in-Some.turn c.loop-turn.shared c.in-Some.ensures.steps.0) (stands halt))
 
-pub returns-in_err-shared-clause-follows : goal.returns-in_err-shared-clause-follows
-returns-in_err-shared-clause-follows g c = follows_then _ _ _ c.loop-turn.invariant.put.follows c.put_turn.ensures.follows
+pub returns-in_err-shared-clause-step : goal.returns-in_err-shared-clause-step
+returns-in_err-shared-clause-step g c =
+    let p = err_from_is_err_and c.from_residual.result c.from_residual.ensures.1 in
+    let inv = c.loop-turn.invariant in
+    rw (p.1, p.2) (step_failed c.in_err-shared.field-0.0 inv.put.follows inv.fine (λ is. is) c.in_err-shared.ensures.step)

@@ -11,14 +11,8 @@ returns-in-Err-clause-fails g c = λ none b i.
 pub returns-in-Err-clause-hands : goal.returns-in-Err-clause-hands
 returns-in-Err-clause-hands g c = rw c.in-Some.is (unopened_reads g.L.Width.WORD g.B.Store c.in-Some.base c.in-Err.unread.store c.in-Err.unread.fault c.in-Err.ensures.fails)
 
-pub returns-clause-base_failed : goal.returns-clause-base_failed
-returns-clause-base_failed g c = grind (arith, common_steps)
-
 pub returns-clause-fails : goal.returns-clause-fails
 returns-clause-fails g c = λ none. rw c.into_store.ensures (c.add_records-added.ensures.fails none)
 
 pub returns-clause-ok : goal.returns-clause-ok
 returns-clause-ok g c = grind (arith, common_steps)
-
-pub returns-in-Err-clause-failed : goal.returns-in-Err-clause-failed
-returns-in-Err-clause-failed g c = grind (arith, common_steps)

@@ -1,4 +1,5 @@
 use Rattle.cdb_store.proofs.Reading.{reads_more}
+use Rattle.std.proofs.lemmas.Grind.{common_steps}
 use Rattle.std.proofs.Common.{◌≡◌, arith, refl, sym, ap, ◌∙◌, take}
 use Rattle.std.proofs.lemmas.Result.{err_from_is_err_and}
 use Rattle.cdb_form.specs.Format.Record.{KeyValue}
@@ -6,8 +7,8 @@ use Rattle.cdb_form.specs.Format.Walk.{with_first}
 use Rattle.cdb_make.specs.Views.Maker.{Puts, FailsPutting}
 use Rattle.cdb_read.specs.Views.Walk.{left_of}
 use Rattle.cdb_read.specs.Views.Walking.{record_in, walk_ahead}
-use Rattle.cdb_tool.proofs.BaseRecords.{whole_window, window_added, window_stopped, walk_stopped, none_added, one_added, one_stopped}
-use Rattle.cdb_tool.proofs.Courses.{as_told}
+use Rattle.cdb_tool.proofs.BaseRecords.{make_no_base, whole_window, window_added, window_stopped, walk_stopped, none_added, one_added, one_stopped}
+use Rattle.cdb_tool.proofs.Courses.{as_told, refused_store}
 use Rattle.cdb_tool.proofs.runs.make_base.add_next.Goals as goal
 
 pub returns-in_err-append-clause-fails : goal.returns-in_err-append-clause-fails
@@ -78,3 +79,19 @@ returns-in_err-put-clause-reads g c = reads_more (reads_more c.records_into.ensu
 
 pub returns-clause-reads : goal.returns-clause-reads
 returns-clause-reads g c = reads_more (reads_more c.records_into.ensures.reads (reads_more c.next.ensures.reads c.value_into.ensures.reads)) c.value_into-2.ensures.reads
+
+pub returns-in_err-put-clause-step : goal.returns-in_err-put-clause-step
+returns-in_err-put-clause-step g c =
+    let p = err_from_is_err_and c.from_residual-in_err-put.result c.from_residual-in_err-put.ensures.1 in
+    let f = c.in_err-put.field-0.0 in
+    let r : KeyValue = record { key = c.value_into.new.into.items; value = c.value_into-2.new.into.items } in
+    let fails = as_told (λ m r. FailsPutting {s = g.S.Store} {l = g.L.Width} c.args.maker.now c.put.new.self m r f) _ _ _ _ r refl c.deref-2.ensures.value c.deref-3.ensures.value c.in_err-put.ensures.fails in
+    rw (p.1, p.2)
+    (record {
+      follows = c.put.ensures.follows;
+      failed = refused_store {s = g.S.Store} {l = g.L.Width} c.args.maker.now c.put.new.self _ _ f fails;
+      memory = grind (arith, common_steps);
+      fine = tt;
+      base = λ is. absurd (make_no_base f is);
+      output = grind (arith, common_steps);
+    })

@@ -1,10 +1,11 @@
-use Rattle.std.proofs.Common.{refl, ap, ◌∙◌, rules}
+use Rattle.std.proofs.Common.{refl, ap, ◌∙◌, rules, arith}
 use Rattle.std.proofs.lemmas.Result.{err_from_is_err_and}
 use Rattle.cdb_store.proofs.Reading.{reads_more, reads_nothing}
 use Rattle.cdb_make.proofs.Callers.{follows_same}
 use Rattle.cdb_make.proofs.Rolls.{follows_then}
 use Rattle.cdb_read.specs.Views.Walk.{left_of}
 use Rattle.cdb_tool.proofs.BaseRecords.{added_none, added_next, added_all, added_not}
+use Rattle.cdb_tool.proofs.MakerSteps.{step_failed}
 use Rattle.cdb_tool.proofs.runs.make_base.add_records.Goals as goal
 
 pub loop-room-init : goal.loop-room-init
@@ -26,8 +27,8 @@ loop-room-preserved g c =
       same = step.same_reader ∙ inv.same;
       reads = reads_more inv.reads step.reads;
       added = added_next {s = g.S.Store} {l = g.L.Width} _ _ _ _ (λ b. left_of g.L.Width.WORD b c.add_next.new.records) _ _ c.add_next.new.maker _ inv.added (λ b i. step.reads.images b i) c.in_ok-add_next.ensures.ok;
-      follows = follows_then _ _ _ inv.follows step.follows;
-      fine = c.in_ok-add_next.ensures.fine ∙ inv.fine;
+      follows = follows_then _ _ _ inv.follows step.step.follows;
+      fine = c.in_ok-add_next.ensures.step.fine ∙ inv.fine;
     }
 
 pub returns-in_err-add_next-clause-fails : goal.returns-in_err-add_next-clause-fails
@@ -44,12 +45,6 @@ returns-clause-ok g c = λ none.
     (added_next {s = g.S.Store} {l = g.L.Width} _ _ _ _ (λ b. left_of g.L.Width.WORD b c.add_next.new.records) _ _ c.add_next.new.maker _ inv.added (λ b i. c.add_next.ensures.reads.images b i) step) (step.ended (search rules)) none in
     search (all, rules)
 
-pub returns-in_err-add_next-clause-follows : goal.returns-in_err-add_next-clause-follows
-returns-in_err-add_next-clause-follows g c = follows_then _ _ _ c.loop-room.invariant.follows c.add_next.ensures.follows
-
-pub returns-clause-follows : goal.returns-clause-follows
-returns-clause-follows g c = follows_then _ _ _ c.loop-room.invariant.follows c.add_next.ensures.follows
-
 pub returns-in_err-add_next-clause-reads : goal.returns-in_err-add_next-clause-reads
 returns-in_err-add_next-clause-reads g c =
     let reads = reads_more c.loop-room.invariant.reads c.add_next.ensures.reads in
@@ -59,3 +54,15 @@ pub returns-clause-reads : goal.returns-clause-reads
 returns-clause-reads g c =
     let reads = reads_more c.loop-room.invariant.reads c.add_next.ensures.reads in
     search (reads, rules)
+
+pub returns-in_err-add_next-clause-step : goal.returns-in_err-add_next-clause-step
+returns-in_err-add_next-clause-step g c =
+    let p = err_from_is_err_and c.from_residual-in_err-add_next.result c.from_residual-in_err-add_next.ensures.1 in
+    let inv = c.loop-room.invariant in
+    rw (p.1, p.2) (step_failed c.in_err-add_next.field-0.0 inv.follows inv.fine (λ is. search (rules, arith, is, inv.reads.failures)) c.in_err-add_next.ensures.step)
+
+pub returns-clause-step : goal.returns-clause-step
+returns-clause-step g c =
+    let inv = c.loop-room.invariant in
+    let step = c.in_ok-add_next.ensures.step in
+    record { follows = follows_then _ _ _ inv.follows step.follows; failed = tt; memory = tt; fine = step.fine ∙ inv.fine; base = tt; output = tt }

@@ -10,10 +10,10 @@ use Rattle.cdb_make.proofs.Rolls.{follows_then}
 use Rattle.cdb_tool.specs.Runs.Inputs.{IsInputOf}
 use Rattle.cdb_tool.specs.Runs.Make.{InCourse, form_of as task_form}
 use Rattle.cdb_tool.specs.Views.ItemReader.{form_of, unread}
-use Rattle.cdb_tool.proofs.BaseRecords.{text_no_base}
 use Rattle.cdb_tool.proofs.Courses.{came_more, course_stands}
 use Rattle.cdb_tool.proofs.ItemTexts.{items_none, items_more, items_all, items_first, items_begin, items_behind, items_fewer, same_form}
-use Rattle.cdb_tool.proofs.InputRuns.{none_put, put_stops, input_fails, text_store, halted_here}
+use Rattle.cdb_tool.proofs.InputRuns.{none_put, put_stops, input_fails, halted_here}
+use Rattle.cdb_tool.proofs.MakerSteps.{step_failed}
 use Rattle.cdb_tool.proofs.runs.make_input.put_input.Goals as goal
 
 pub loop-peeked-init : goal.loop-peeked-init
@@ -66,8 +66,8 @@ loop-peeked-preserved g c =
           subst (λ cs. InCourse {s = g.S.Store} {l = g.L.Width} t cs start (g.E.Sink.contents c.do_item.new.errors) c.do_item.new.maker)
           (sym (came_more c.args.input (c.loop-peeked.number + 1) read inv.last item n (ap (λ (n : ℕ). n + 1) inv.number)))
           (c.in_ok-do_item.ensures.ok t _ start o (inv.course t read start o n h));
-      follows = follows_then _ _ _ inv.follows c.do_item.ensures.follows;
-      fine = c.in_ok-do_item.ensures.fine ∙ inv.fine;
+      follows = follows_then _ _ _ inv.follows c.do_item.ensures.step.follows;
+      fine = c.in_ok-do_item.ensures.step.fine ∙ inv.fine;
     }
 
 pub loop-peeked-preserved-in-Continue-1 : goal.loop-peeked-preserved-in-Continue-1
@@ -89,8 +89,8 @@ loop-peeked-preserved-in-Continue-1 g c =
           subst (λ cs. InCourse {s = g.S.Store} {l = g.L.Width} t cs start (g.E.Sink.contents c.put_record-put.new.errors) c.put_record-put.new.maker)
           (sym (came_more c.args.input (c.loop-peeked.number + 1) read inv.last item n (ap (λ (n : ℕ). n + 1) inv.number)))
           (c.in_ok-put.ensures.ok t _ start o (inv.course t read start o n h));
-      follows = follows_then _ _ _ inv.follows c.put_record-put.ensures.follows;
-      fine = c.in_ok-put.ensures.fine ∙ inv.fine;
+      follows = follows_then _ _ _ inv.follows c.put_record-put.ensures.step.follows;
+      fine = c.in_ok-put.ensures.step.fine ∙ inv.fine;
     }
 
 pub returns-in_err-do_item-clause-fails : goal.returns-in_err-do_item-clause-fails
@@ -131,12 +131,6 @@ returns-in_err-put-clause-fails g c = λ t read start o f n h.
       each = λ b is. put_stops g.L.Width.WORD greatest t read input inv.last (record { input = c.args.input; number = c.loop-peeked.number + 1; it = item }) start _ fault before after n (ap (λ (n : ℕ). n + 1) inv.number) (stops.each b is);
     })
 
-pub returns-in-Err-clause-failed : goal.returns-in-Err-clause-failed
-returns-in-Err-clause-failed g c = rw c.of_text.ensures (λ is. absurd (text_store c.args.input c.in-Err.fault is))
-
-pub returns-in-Err-clause-own : goal.returns-in-Err-clause-own
-returns-in-Err-clause-own g c = rw c.of_text.ensures (λ is. absurd (text_no_base c.args.input c.in-Err.fault is))
-
 pub returns-in-Err-clause-stands : goal.returns-in-Err-clause-stands
 returns-in-Err-clause-stands g c = λ t read start o n h.
     let inv = c.loop-peeked.invariant in
@@ -172,20 +166,21 @@ returns-in_err-put-clause-stands g c = λ t read start o n h.
 pub returns-in-Ok-None-clause-fails : goal.returns-in-Ok-None-clause-fails
 returns-in-Ok-None-clause-fails g c = grind (arith, common_steps)
 
-pub returns-in_err-do_item-clause-own : goal.returns-in_err-do_item-clause-own
-returns-in_err-do_item-clause-own g c =
-    let p = err_from_is_err_and c.from_residual-in_err-do_item.result c.from_residual-in_err-do_item.ensures.1 in
-    rw (p.1, p.2) c.in_err-do_item.ensures.own
-
-pub returns-in_err-do_item-clause-follows : goal.returns-in_err-do_item-clause-follows
-returns-in_err-do_item-clause-follows g c = follows_then _ _ _ c.loop-peeked.invariant.follows c.do_item.ensures.follows
-
-pub returns-in_err-put-clause-follows : goal.returns-in_err-put-clause-follows
-returns-in_err-put-clause-follows g c = follows_then _ _ _ c.loop-peeked.invariant.follows c.put_record-put.ensures.follows
-
 pub loop-peeked-smaller-in-Continue-1 : goal.loop-peeked-smaller-in-Continue-1
 loop-peeked-smaller-in-Continue-1 g c =
     let item : Change = Putting (shown_by c.in-Some.peeked) in
     let one = c.take_peeked.ensures (shown_by c.in-Some.peeked) c.in-Some.ensures in
     let fewer = items_fewer g.L.Width.GREATEST g.R.Read.remaining c.loop-peeked.items c.take_peeked.new.self item one in
     omega (arith, fewer)
+
+pub returns-in_err-put-clause-step : goal.returns-in_err-put-clause-step
+returns-in_err-put-clause-step g c =
+    let p = err_from_is_err_and c.from_residual.result c.from_residual.ensures.1 in
+    let inv = c.loop-peeked.invariant in
+    rw (p.1, p.2) (step_failed c.in_err-put.field-0.0 inv.follows inv.fine (λ is. is) c.in_err-put.ensures.step)
+
+pub returns-in_err-do_item-clause-step : goal.returns-in_err-do_item-clause-step
+returns-in_err-do_item-clause-step g c =
+    let p = err_from_is_err_and c.from_residual-in_err-do_item.result c.from_residual-in_err-do_item.ensures.1 in
+    let inv = c.loop-peeked.invariant in
+    rw (p.1, p.2) (step_failed c.in_err-do_item.field-0.0 inv.follows inv.fine (λ is. is) c.in_err-do_item.ensures.step)

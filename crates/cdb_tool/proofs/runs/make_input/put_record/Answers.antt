@@ -1,8 +1,7 @@
 use Rattle.std.proofs.Common.{refl}
 use Rattle.std.proofs.lemmas.Result.{err_from_is_err_and}
 use Rattle.cdb_make.specs.Views.Maker.{Puts, FailsPutting}
-use Rattle.cdb_tool.proofs.BaseRecords.{make_no_base, told_no_base}
-use Rattle.cdb_tool.proofs.Courses.{put_goes_so, put_told_so, told_store, put_refused_so, put_halted_so, memory_taken_so, told_halts, told_memory, refused_store, as_told, ok_both, err_each}
+use Rattle.cdb_tool.proofs.Courses.{put_goes_so, put_told_so, put_refused_so, put_halted_so, memory_taken_so, told_halts, told_memory, as_told, ok_both, err_each}
 use Rattle.cdb_tool.proofs.runs.make_input.put_record.Goals as goal
 
 pub returns-in_err-put-clause-fails : goal.returns-in_err-put-clause-fails
@@ -11,13 +10,6 @@ returns-in_err-put-clause-fails g c =
     let f = c.in_err-put.field-0.0 in
     let fails = as_told (λ m r. FailsPutting {s = g.S.Store} {l = g.L.Width} c.args.maker.now c.put.new.self m r f) _ _ _ _ (record { key = c.args.key.now; value = c.args.value.now }) c.requires.mode refl refl c.in_err-put.ensures.fails in
     rw (p.1, p.2) (λ t cs start same h. put_refused_so {s = g.S.Store} {l = g.L.Width} t _ cs c.args.input c.args.number _ start _ c.args.maker.now c.put.new.self f same h fails c.put.ensures.follows.comes)
-
-pub returns-in_err-put-clause-failed : goal.returns-in_err-put-clause-failed
-returns-in_err-put-clause-failed g c =
-    let p = err_from_is_err_and c.from_residual.result c.from_residual.ensures.1 in
-    let f = c.in_err-put.field-0.0 in
-    let fails = as_told (λ m r. FailsPutting {s = g.S.Store} {l = g.L.Width} c.args.maker.now c.put.new.self m r f) _ _ _ _ (record { key = c.args.key.now; value = c.args.value.now }) c.requires.mode refl refl c.in_err-put.ensures.fails in
-    rw (p.1, p.2) (refused_store {s = g.S.Store} {l = g.L.Width} c.args.maker.now c.put.new.self _ _ f fails)
 
 pub returns-clause-ok : goal.returns-clause-ok
 returns-clause-ok g c = λ t cs start same h.
@@ -32,17 +24,6 @@ returns-clause-fails g c = λ t cs start same h.
     err_each c.tell_put.result
     (λ f told. put_told_so {s = g.S.Store} {l = g.L.Width} t _ cs c.args.input c.args.number _ start _ _ c.args.maker.now c.put.new.self c.in_ok-put.put f same h g.met.L.Width.four_or_eight puts c.put.ensures.follows.comes c.put.ensures.follows.limit told)
     c.tell_put.ensures.fails
-
-pub returns-clause-failed : goal.returns-clause-failed
-returns-clause-failed g c = err_each c.tell_put.result (λ f told is. absurd (told_store c.args.options.now c.args.input c.args.number c.args.key.now c.in_ok-put.put _ _ f told is)) c.tell_put.ensures.fails
-
-pub returns-in_err-put-clause-own : goal.returns-in_err-put-clause-own
-returns-in_err-put-clause-own g c =
-    let p = err_from_is_err_and c.from_residual.result c.from_residual.ensures.1 in
-    rw (p.1, p.2) (make_no_base c.in_err-put.field-0.0)
-
-pub returns-clause-own : goal.returns-clause-own
-returns-clause-own g c = err_each c.tell_put.result (λ f told is. absurd (told_no_base c.args.options.now c.args.input c.args.number c.args.key.now c.in_ok-put.put _ _ f told is)) c.tell_put.ensures.fails
 
 pub returns-in_err-put-clause-stands : goal.returns-in_err-put-clause-stands
 returns-in_err-put-clause-stands g c =

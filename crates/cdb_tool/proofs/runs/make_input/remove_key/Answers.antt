@@ -1,6 +1,5 @@
 use Rattle.std.proofs.lemmas.Result.{err_from_is_err_and}
-use Rattle.cdb_tool.proofs.BaseRecords.{make_no_base}
-use Rattle.cdb_tool.proofs.Courses.{removed_goes, unremoved, unremoved_store, removal_halted}
+use Rattle.cdb_tool.proofs.Courses.{removed_goes, unremoved, removal_halted}
 use Rattle.cdb_tool.proofs.runs.make_input.remove_key.Goals as goal
 
 pub returns-clause-ok : goal.returns-clause-ok
@@ -11,16 +10,6 @@ pub returns-in_err-remove-clause-fails : goal.returns-in_err-remove-clause-fails
 returns-in_err-remove-clause-fails g c =
     let p = err_from_is_err_and c.from_residual.result c.from_residual.ensures.1 in
     rw (p.1, p.2) (λ t cs start now h. unremoved {s = g.S.Store} {l = g.L.Width} t cs c.args.key.now start now c.args.maker.now c.remove.new.self c.in_err-remove.field-0.0 h c.in_err-remove.ensures.fails c.remove.ensures.follows.comes)
-
-pub returns-in_err-remove-clause-failed : goal.returns-in_err-remove-clause-failed
-returns-in_err-remove-clause-failed g c =
-    let p = err_from_is_err_and c.from_residual.result c.from_residual.ensures.1 in
-    rw (p.1, p.2) (unremoved_store {s = g.S.Store} {l = g.L.Width} c.args.maker.now c.remove.new.self c.args.key.now c.in_err-remove.field-0.0 c.in_err-remove.ensures.fails)
-
-pub returns-in_err-remove-clause-own : goal.returns-in_err-remove-clause-own
-returns-in_err-remove-clause-own g c =
-    let p = err_from_is_err_and c.from_residual.result c.from_residual.ensures.1 in
-    rw (p.1, p.2) (make_no_base c.in_err-remove.field-0.0)
 
 pub returns-in_err-remove-clause-stands : goal.returns-in_err-remove-clause-stands
 returns-in_err-remove-clause-stands g c =
