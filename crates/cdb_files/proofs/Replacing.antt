@@ -37,7 +37,7 @@ weaker_one t n f (Renamed len, from, to, file) r =
     record { from_is = r.from_is; to_is = r.to_is; synced = r.synced; is_whole = λ b is. f b (r.is_whole b is) }
 weaker_one t n f (NotRenamed len fault, from, to, file) r =
     record { from_is = r.from_is; to_is = r.to_is; synced = r.synced; is_whole = λ b is. f b (r.is_whole b is) }
-weaker_one t n f (Made, one, other, file) r = r
+weaker_one t n f (Made asked, one, other, file) r = r
 weaker_one t n f (Removed, one, other, file) r = r
 weaker_one t n f (NotRemoved, one, other, file) r = r
 weaker_one t n f (Special is, one, other, file) r = tt
@@ -115,8 +115,8 @@ Keeps place t whole old now = (first held : Option (List ℕ)) → MayHave place
 -- a call that a replacement may make keeps what a crash leaves
 keeps : {t : List ℕ} {whole : List ℕ → Type 0} (n : List ℕ) (place : List ℕ → Bool) (old now : NameCalls) (call : NameEvent)
     → IsOfReplacing t n whole call → Keeps place t whole old now → Keeps place t whole old (call ∷ now)
-keeps n place old now (Made, one, other, file) may before first held (inl is) = inr (inr (subst (λ name. place name ≡ true) may is.0))
-keeps n place old now (Made, one, other, file) may before first held (inr was) = before first held was
+keeps n place old now (Made asked, one, other, file) may before first held (inl is) = inr (inr (subst (λ name. place name ≡ true) may is.0))
+keeps n place old now (Made asked, one, other, file) may before first held (inr was) = before first held was
 keeps n place old now (Removed, one, other, file) may before first held (inl is) = inr (inr (subst (λ name. place name ≡ true) may is.0))
 keeps n place old now (Removed, one, other, file) may before first held (inr was) = before first held was
 keeps n place old now (NotRemoved, one, other, file) may before first held (inl is) = inr (inr (subst (λ name. place name ≡ true) may is.0))

@@ -1,6 +1,6 @@
 -- Why nothing was built, by the last answer.
 use Rattle.std.proofs.Common.{◌≡◌, ◌⊎◌, ◌∙◌, ℕ, inl, inr, List, [], ◌∷◌, ◌++◌, ap, append_assoc, refl, subst, sym}
-use Rattle.std.specs.Prelude.{None, Some}
+use Rattle.std.specs.Prelude.{None, Option, Some}
 use Rattle.cdb_files.specs.declared.answer.Answer.{Answer}
 use Rattle.cdb_files.specs.declared.answer.Answer.TheVariants.{Yes, Unknown}
 use Rattle.cdb_files.specs.declared.answer.Answer.TheVariants as answer
@@ -15,8 +15,11 @@ use Rattle.cdb_files.specs.declared.replace.ReplaceFault.{ReplaceFault}
 use Rattle.cdb_files.specs.declared.replace.ReplaceFault.TheVariants as replacing
 use Rattle.cdb_store.specs.Calls.{Calls}
 use Rattle.cdb_store.specs.declared.trace.Call.TheVariants.{Made as FileMade}
-use Rattle.cdb_files.specs.Folder.{NameCalls, IsCleared}
-use Rattle.cdb_files.specs.Replacing.{AreSteps, FailsRename, GoesOn, IsFound, IsFree, IsNotGiven, IsStop, IsUndoing, LacksBits, LacksMemoryForLock, NameEvent, ReplacingStopsAt, StopsMaking, StopsUnbuilt, of_open}
+use Rattle.cdb_files.specs.declared.wanted.Wanted.{Wanted}
+use Rattle.cdb_files.specs.declared.wanted.Wanted.TheVariants.{Old}
+use Rattle.cdb_files.specs.Folder.{NameCalls, IsCleared, SeesBits, WereSeen, WereWanted}
+use Rattle.cdb_files.specs.Wanted.{plain_bits}
+use Rattle.cdb_files.specs.Replacing.{AreSteps, FailsRename, GoesOn, IsFound, IsFree, IsNotGiven, IsStop, IsUndoing, LacksBits, LacksMemoryForLock, NameEvent, ReplacingStopsAt, StopsMaking, StopsUnbuilt, TakesLock, of_open}
 
 -- ---- calls that go on
 
@@ -59,10 +62,11 @@ stop_since t n old mid before (NotMade NoMemory, one, two, file) on is = absurd 
 stop_since t n old mid before (Locked locking.Taken, one, two, file) on is = absurd is
 stop_since t n old mid before (Locked locking.Unsupported, one, two, file) on is = absurd is
 stop_since t n old mid before (Opened, one, two, file) on is = absurd is
-stop_since t n old mid before (Made, one, two, file) on is = absurd is
+stop_since t n old mid before (Made asked, one, two, file) on is = absurd is
 stop_since t n old mid before (Own said, one, two, file) on is = absurd is
 stop_since t n old mid before (Input said, one, two, file) on is = absurd is
-stop_since t n old mid before (Bits bits, one, two, file) on is = absurd is
+stop_since t n old mid before (Bits None, one, two, file) on is = is
+stop_since t n old mid before (Bits (Some wanted), one, two, file) on is = absurd is
 stop_since t n old mid before (Seen bits, one, two, file) on is = absurd is
 stop_since t n old mid before (Set bits, one, two, file) on is = absurd is
 stop_since t n old mid before (Removed, one, two, file) on is = absurd is
@@ -103,7 +107,7 @@ bits_since t n old mid before (Same said, one, two, file) on is = absurd is
 bits_since t n old mid before (Looked said, one, two, file) on is = absurd is
 bits_since t n old mid before (Opened, one, two, file) on is = absurd is
 bits_since t n old mid before (NotOpened fault, one, two, file) on is = absurd is
-bits_since t n old mid before (Made, one, two, file) on is = absurd is
+bits_since t n old mid before (Made asked, one, two, file) on is = absurd is
 bits_since t n old mid before (NotMade fault, one, two, file) on is = absurd is
 bits_since t n old mid before (Locked lock, one, two, file) on is = absurd is
 bits_since t n old mid before (Own said, one, two, file) on is = absurd is
@@ -150,6 +154,36 @@ pub was_undone : (t n : List ℕ) (file : Calls) (old mid last new : NameCalls) 
     → IsCleared t file last new → StopsMaking t n old new
 was_undone t n file old mid last new made on undoing is =
     (undoing.0, undoing.1, further old mid undoing.1 on undoing.2, inr (undoing.3, subst (λ (f : Calls). IsCleared t f (undoing.0 ∷ undoing.1) new) made (subst (λ (cs : NameCalls). IsCleared t file cs new) undoing.4 is)))
+
+-- nor did the system say which permission bits it has
+pub unseen_undone : (t n : List ℕ) (shown : Option ℕ) (file : Calls) (old mid seen new : NameCalls) → shown ≡ None → file ≡ (FileMade, []) ∷ [] → GoesOn old mid
+    → seen ≡ (Seen shown, t, [], file) ∷ mid → IsCleared t file seen new → StopsMaking t n old new
+unseen_undone t n shown file old mid seen new none made on is gone =
+    was_undone t n file old mid seen new made on ((Seen None, t, [], file), mid, no_more mid, refl, subst (λ (s : Option ℕ). seen ≡ (Seen s, t, [], file) ∷ mid) none is) gone
+
+-- what was seen stays seen
+pub seen_since : (t n : List ℕ) (bits : ℕ) (mid new : NameCalls) → GoesOn mid new → WereSeen t n bits mid → WereSeen t n bits new
+seen_since t n bits mid new on seen =
+    record {
+      since = on.0 ++ seen.since;
+      at = seen.at;
+      are = on.1 ∙ ap (λ cs. on.0 ++ cs) seen.are ∙ sym (append_assoc on.0 seen.since seen.at);
+      how = seen.how;
+    }
+
+-- a plain file was made and seen, and removed
+pub plain_seen : (t n : List ℕ) (bits : ℕ) (shown : Option ℕ) (file : Calls) (old made locked seen new : NameCalls) → shown ≡ Some bits → file ≡ (FileMade, []) ∷ []
+    → made ≡ (Made plain_bits, t, [], []) ∷ old → TakesLock t made locked → seen ≡ (Seen shown, t, [], file) ∷ locked → IsCleared t file seen new → WereSeen t n bits new
+plain_seen t n bits shown file old made locked seen new some empty is takes sees gone =
+    let one : locked ≡ (Locked takes.lock, t, [], []) ∷ (Made plain_bits, t, [], []) ∷ old = takes.are ∙ ap (λ cs. (Locked takes.lock, t, [], []) ∷ cs) is in
+    let two : seen ≡ (Seen (Some bits), t, [], file) ∷ locked = subst (λ (s : Option ℕ). seen ≡ (Seen s, t, [], file) ∷ locked) some sees in
+    let three : seen ≡ (Seen (Some bits), t, [], (FileMade, []) ∷ []) ∷ locked = subst (λ (f : Calls). seen ≡ (Seen (Some bits), t, [], f) ∷ locked) empty two in
+    record {
+      since = (gone.0, t, [], file) ∷ [];
+      at = seen;
+      are = gone.2;
+      how = inl (takes.lock, old, three ∙ ap (λ cs. (Seen (Some bits), t, [], (FileMade, []) ∷ []) ∷ cs) one);
+    }
 
 -- the calls before a free name go on too
 pub free_goes_on : (t : List ℕ) (old calls : NameCalls) → IsFree t old calls → GoesOn old calls

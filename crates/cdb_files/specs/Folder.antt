@@ -2,8 +2,9 @@
 use Rattle.std.specs.Prelude.{◌≡◌, ◌≢◌, ℕ, ◌⊎◌, List, [], ◌∷◌, ◌++◌, Option, None, Some}
 use Rattle.std.specs.Prelude.{Bool, true, false}
 use Rattle.cdb_store.specs.Calls.{Calls, IsSynced, FileImage}
-use Rattle.cdb_store.specs.declared.trace.Call.TheVariants.{Synced as FileSynced}
+use Rattle.cdb_store.specs.declared.trace.Call.TheVariants.{Made as FileMade, Synced as FileSynced}
 use Rattle.cdb_files.specs.declared.answer.Answer.TheVariants.{Yes, No}
+use Rattle.cdb_files.specs.declared.answer.Lock.{Lock}
 use Rattle.cdb_files.specs.declared.answer.Lock.TheVariants.{Held}
 use Rattle.cdb_files.specs.declared.name_trace.NameCall.{NameCall}
 use Rattle.cdb_files.specs.declared.name_trace.NameCall.TheVariants.{Special, Same, Opened, Made}
@@ -11,7 +12,8 @@ use Rattle.cdb_files.specs.declared.name_trace.NameCall.TheVariants.{Locked, Own
 use Rattle.cdb_files.specs.declared.name_trace.NameCall.TheVariants.{Removed, NotRemoved}
 use Rattle.cdb_files.specs.declared.name_trace.NameCall.TheVariants.{Renamed, NotRenamed, Synced}
 use Rattle.cdb_files.specs.declared.wanted.Wanted.{Wanted}
-use Rattle.cdb_files.specs.Wanted.{Suits, wanted_bits}
+use Rattle.cdb_files.specs.declared.wanted.Wanted.TheVariants.{Old}
+use Rattle.cdb_files.specs.Wanted.{IsOldOr, Suits, plain_bits, wanted_bits}
 
 -- the calls, each with its name, its other name, and the calls on its file
 abbrev pub NameCalls : Type 0
@@ -42,7 +44,7 @@ IsFileThere (Some b) = Unit {0}
 abbrev pub Has : (place : List ℕ → Bool) (first : Option (List ℕ)) → NameCalls
     → Option (List ℕ) → Type 0
 Has place first [] held = held ≡ first
-Has place first ((Made, made, other, file) ∷ calls) held =
+Has place first ((Made asked, made, other, file) ∷ calls) held =
     ((place made ≡ true) × IsFileThere held) ⊎ ((place made ≡ false) × Has place first calls held)
 Has place first ((Removed, gone, other, file) ∷ calls) held =
     ((place gone ≡ true) × (held ≡ None)) ⊎ ((place gone ≡ false) × Has place first calls held)
@@ -62,7 +64,7 @@ Has place first ((_, one, other, file) ∷ calls) held = Has place first calls h
 abbrev pub MayHave : (place : List ℕ → Bool) (first : Option (List ℕ)) → NameCalls
     → Option (List ℕ) → Type 0
 MayHave place first [] held = held ≡ first
-MayHave place first ((Made, made, other, file) ∷ calls) held =
+MayHave place first ((Made asked, made, other, file) ∷ calls) held =
     ((place made ≡ true) × IsFileThere held) ⊎ MayHave place first calls held
 MayHave place first ((Removed, gone, other, file) ∷ calls) held =
     ((place gone ≡ true) × (held ≡ None)) ⊎ MayHave place first calls held
@@ -85,7 +87,7 @@ HasLock name [] = ⊥
 HasLock name ((Locked Held, one, other, file) ∷ calls) = (one ≢ name) × HasLock name calls
 HasLock name ((Locked lock, one, other, file) ∷ calls) = (one ≡ name) ⊎ HasLock name calls
 HasLock name ((Opened, one, other, file) ∷ calls) = (one ≢ name) × HasLock name calls
-HasLock name ((Made, one, other, file) ∷ calls) = (one ≢ name) × HasLock name calls
+HasLock name ((Made asked, one, other, file) ∷ calls) = (one ≢ name) × HasLock name calls
 HasLock name ((Removed, one, other, file) ∷ calls) = (one ≢ name) × HasLock name calls
 HasLock name ((NotRemoved, one, other, file) ∷ calls) = (one ≢ name) × HasLock name calls
 HasLock name ((_, one, other, file) ∷ calls) = HasLock name calls
@@ -96,7 +98,7 @@ IsOwn name [] = ⊥
 IsOwn name ((Own Yes, one, other, file) ∷ calls) = (one ≡ name) ⊎ IsOwn name calls
 IsOwn name ((Own answer, one, other, file) ∷ calls) = (one ≢ name) × IsOwn name calls
 IsOwn name ((Opened, one, other, file) ∷ calls) = (one ≢ name) × IsOwn name calls
-IsOwn name ((Made, one, other, file) ∷ calls) = (one ≢ name) × IsOwn name calls
+IsOwn name ((Made asked, one, other, file) ∷ calls) = (one ≢ name) × IsOwn name calls
 IsOwn name ((Removed, one, other, file) ∷ calls) = (one ≢ name) × IsOwn name calls
 IsOwn name ((NotRemoved, one, other, file) ∷ calls) = (one ≢ name) × IsOwn name calls
 IsOwn name ((_, one, other, file) ∷ calls) = IsOwn name calls
@@ -108,7 +110,7 @@ AreNamesApart name other ((Same No, one, two, file) ∷ calls) =
     ((one ≡ name) × (two ≡ other)) ⊎ AreNamesApart name other calls
 AreNamesApart name other ((Same answer, one, two, file) ∷ calls) =
     (one ≢ name) × AreNamesApart name other calls
-AreNamesApart name other ((Made, one, two, file) ∷ calls) = (one ≢ name) × AreNamesApart name other calls
+AreNamesApart name other ((Made asked, one, two, file) ∷ calls) = (one ≢ name) × AreNamesApart name other calls
 AreNamesApart name other ((_, one, two, file) ∷ calls) = AreNamesApart name other calls
 
 -- a name was seen to lead to a regular file or to nothing
@@ -137,10 +139,35 @@ abbrev pub IsResynced : (first last : ℕ) (was now : Calls) → Type 0
 IsResynced first last was now =
     ((last ≡ first) × (now ≡ was)) ⊎ ((last ≢ first) × (now ≡ (FileSynced, []) ∷ was))
 
+-- the last calls made a plain file under a name, locked it, and saw these permission bits of it
+abbrev pub SeesPlain : (from : List ℕ) (bits : ℕ) → NameCalls → Type 0
+SeesPlain from bits calls = (lock : Lock) × (before : NameCalls)
+    × (calls ≡ (Seen (Some bits), from, [], (FileMade, []) ∷ []) ∷ (Locked lock, from, [], [])
+    ∷ (Made plain_bits, from, [], []) ∷ before)
+
+-- the last call answered that these permission bits are wanted for a name
+abbrev pub SeesBits : (name : List ℕ) (wanted : Wanted) → NameCalls → Type 0
+SeesBits name wanted calls = (before : NameCalls) × (calls ≡ (Bits (Some wanted), name, [], []) ∷ before)
+
+-- or an earlier one did
+abbrev pub WereWanted : (name : List ℕ) (wanted : Wanted) → NameCalls → Type 0
+WereWanted name wanted calls =
+    (since : NameCalls) × (at : NameCalls) × (calls ≡ since ++ at) × SeesBits name wanted at
+
+-- these permission bits were seen: those of a file that was made as a plain one under a name, or
+-- those of a regular file of the other
+pub record WereSeen (from to : List ℕ) (bits : ℕ) (calls : NameCalls) : Type 0 where
+  pub since : NameCalls
+  pub at : NameCalls
+  pub are : calls ≡ since ++ at
+  pub how : SeesPlain from bits at ⊎ SeesBits to (Old bits) at
+
 -- the bytes of the file of a name, on which these calls were made, were synced; and then it had the
--- permission bits with which it may get the other name, or was given them, and synced once more
-pub record HasBits (from to : List ℕ) (file : Calls) (old new : NameCalls) : Type 0 where
+-- permission bits with which it may get the other name, or was given them, and synced once more.
+-- They are those of a file that has the other name, or else these
+pub record HasBits (from to : List ℕ) (bits : ℕ) (file : Calls) (old new : NameCalls) : Type 0 where
   pub wanted : Wanted
+  pub old_or : IsOldOr bits wanted
   pub first : ℕ
   pub was : Calls
   pub synced : IsSynced was
@@ -155,13 +182,15 @@ pub record MayReplace (from to : List ℕ) (file : Calls) (before : NameCalls) :
   pub own : IsOwn from before
   pub apart : AreNamesApart from to before
   pub earlier : NameCalls
-  pub bits : HasBits from to file earlier before
+  pub shown : ℕ
+  pub seen : WereSeen from to shown earlier
+  pub bits : HasBits from to shown file earlier before
   pub plain : IsPlain to before
 
 -- the file of a name that was opened or made last was made
 abbrev pub HasMade : (name : List ℕ) → NameCalls → Type 0
 HasMade name [] = ⊥
-HasMade name ((Made, one, other, file) ∷ calls) = (one ≡ name) ⊎ HasMade name calls
+HasMade name ((Made asked, one, other, file) ∷ calls) = (one ≡ name) ⊎ HasMade name calls
 HasMade name ((Opened, one, other, file) ∷ calls) = (one ≢ name) × HasMade name calls
 HasMade name ((_, one, other, file) ∷ calls) = HasMade name calls
 

@@ -68,12 +68,14 @@ abbrev is_replaced : Cause → Bool
 is_replaced cause.Replaced = true
 is_replaced why = false
 
--- for which causes: what the call found, or else the system's
+-- for which causes: what the call found, or else the system's. A name that changes between two looks is that of
+-- another create
 abbrev pub may_be_for : NameCall → Cause → Bool
 may_be_for (call.Special answer.Yes) why = is_special why
-may_be_for (call.Same answer.Yes) why = is_same why
+may_be_for (call.Same answer.Yes) why = is_same why || is_held why
 may_be_for (call.Looked found.Other) why = is_link why || is_special why
-may_be_for (call.NotOpened fault) why = is_special why || is_of_system why
+may_be_for (call.NotOpened fault) why = is_special why || is_held why || is_of_system why
+may_be_for (call.NotMade fault) why = is_held why || is_of_system why
 may_be_for (call.Locked locking.Held) why = is_held why || is_of_system why
 may_be_for (call.Own answer.No) why = is_held why
 may_be_for (call.Input answer.Yes) why = is_input why

@@ -27,7 +27,7 @@ use Rattle.cdb_files.specs.declared.replace.ReplaceFault.TheVariants.{Build}
 use Rattle.cdb_files.specs.declared.wanted.Wanted.{Wanted}
 use Rattle.cdb_files.specs.Folder.{NameCalls, IsCleared, MayHave, AreNamesApart, IsGuarded, IsPlain}
 use Rattle.cdb_files.specs.Folder.{asked_for}
-use Rattle.cdb_files.specs.Wanted.{Suits}
+use Rattle.cdb_files.specs.Wanted.{Suits, private_bits}
 
 -- one call, with its name, its other name, and the calls on its file
 abbrev pub NameEvent : Type 0
@@ -45,7 +45,7 @@ pub record IsReady (temporary name : List ℕ) (whole : List ℕ → Type 0) (le
 -- a call that a replacement may make: but for the rename it touches the temporary name alone
 abbrev pub IsOfReplacing : (temporary name : List ℕ) (whole : List ℕ → Type 0)
     → NameCall × List ℕ × List ℕ × Calls → Type 0
-IsOfReplacing temporary name whole (Made, made, other, file) = made ≡ temporary
+IsOfReplacing temporary name whole (Made asked, made, other, file) = made ≡ temporary
 IsOfReplacing temporary name whole (Removed, gone, other, file) = gone ≡ temporary
 IsOfReplacing temporary name whole (NotRemoved, gone, other, file) = gone ≡ temporary
 IsOfReplacing temporary name whole (Renamed len, from, to, file) =
@@ -131,12 +131,14 @@ abbrev pub IsFound : (name : List ℕ) (old calls : NameCalls) → Type 0
 IsFound name old calls = (before : NameCalls) × GoesOn old before
     × (calls ≡ (Looked found.File, name, [], []) ∷ before)
 
--- an answer at which nothing was made: the system did not say what a name has; or the two names are
--- of one file, which was just found; or the temporary name has no regular file, or one that cannot be
--- opened or that another process holds; or no file could be made there, once the name was free
+-- an answer at which nothing was made: the system did not say what a name has, or with which
+-- permission bits; or the two names are of one file, which was just found; or the temporary name has
+-- no regular file, or one that cannot be opened or that another process holds; or no file could be
+-- made there, once the name was free
 abbrev pub IsStop : (temporary name : List ℕ) (old : NameCalls) → NameEvent → (before : NameCalls)
     → Type 0
 IsStop temporary name old (Special answer.Unknown, one, other, file) before = one ≡ name
+IsStop temporary name old (Bits None, one, other, file) before = one ≡ name
 IsStop temporary name old (Same answer.Yes, one, two, file) before =
     (one ≡ temporary) × (two ≡ name) × IsFound temporary old before
 IsStop temporary name old (Same answer.Unknown, one, two, file) before =
@@ -149,9 +151,11 @@ IsStop temporary name old (NotMade name_fault.Failed, one, other, file) before =
     (one ≡ temporary) × IsFree temporary old before
 IsStop temporary name old (call, one, other, file) before = ⊥
 
--- an answer at which the file that was made is removed again: the temporary name was not seen to have
--- it, or not seen to be of another file than the name
+-- an answer at which the file that was made is removed again: the system did not say which permission
+-- bits it has, or the temporary name was not seen to have it, or not seen to be of another file than
+-- the name
 abbrev pub IsUndone : (temporary name : List ℕ) → NameEvent → Type 0
+IsUndone temporary name (Seen None, one, other, file) = one ≡ temporary
 IsUndone temporary name (Own answer.No, one, other, file) = one ≡ temporary
 IsUndone temporary name (Own answer.Unknown, one, other, file) = one ≡ temporary
 IsUndone temporary name (Same answer.Yes, one, two, file) = (one ≡ temporary) × (two ≡ name)
@@ -247,10 +251,11 @@ IsUndoing temporary name old calls =
     (stop : NameEvent) × (before : NameCalls) × GoesOn old before × IsUndone temporary name stop
     × (calls ≡ stop ∷ before)
 
--- a file was made, its lock taken, its name seen to have it, and both names to be of two files
+-- a file was made for this user alone, its lock taken, its name seen to have it, and both names to be
+-- of two files
 pub record IsMadeApart (temporary name : List ℕ) (old new : NameCalls) : Type 0 where
   pub locked : NameCalls
-  pub takes : TakesLock temporary ((Made, temporary, [], []) ∷ old) locked
+  pub takes : TakesLock temporary ((Made private_bits, temporary, [], []) ∷ old) locked
   pub are : new ≡ (Same answer.No, temporary, name, []) ∷ (Own answer.Yes, temporary, [], [])
       ∷ locked
 

@@ -23,8 +23,8 @@ pub enum NameCall {
     Opened,
     /// It was not.
     NotOpened(NameFault),
-    /// A new file was made under the name.
-    Made,
+    /// A new file was made under the name, for which these permission bits were asked.
+    Made(u32),
     /// None was made.
     NotMade(NameFault),
     /// What came of the request for the lock of the file that was opened or made last.

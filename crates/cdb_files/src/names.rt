@@ -3,6 +3,7 @@ ghost use Rattle.std.specs.Prelude.{◌≡◌, [], ◌∷◌, IfOk, IfErr, IfSom
 ghost use Rattle.cdb_store.specs.declared.trace.Call.TheVariants.{Made as FileMade};
 ghost use Rattle.cdb_files.specs.Folder.{IsCleared, HasLock, NameCalls};
 ghost use Rattle.cdb_files.specs.Refusals.{IsNameRefusal};
+ghost use Rattle.cdb_files.specs.Wanted.{IsOldOr};
 ghost use Rattle.cdb_files.specs.declared.name_trace.NameCall.TheVariants.{
   Special,
   Same,
@@ -79,10 +80,10 @@ pub trait Names {
         ensures err { IfErr result
             (λ f. calls self.new ≡ (NotOpened f, name.now, [], []) ∷ calls self.old) };
 
-    /// Makes a file under a name that nothing has, reads and writes it, and follows no link. Only
-    /// this user may open it.
-    fn make_new(&mut self, name: &str) -> Result<Self::File, NameFault>
-        ensures ok { OnOk result (calls self.new ≡ (Made, name.now, [], []) ∷ calls self.old) }
+    /// Makes a file under a name that nothing has, reads and writes it, and follows no link. It gets
+    /// these permission bits, but for those that the umask or the folder's access list takes.
+    fn make_new(&mut self, name: &str, bits: u32) -> Result<Self::File, NameFault>
+        ensures ok { OnOk result (calls self.new ≡ (Made bits, name.now, [], []) ∷ calls self.old) }
         ensures err { IfErr result
             (λ f. calls self.new ≡ (NotMade f, name.now, [], []) ∷ calls self.old) }
         ensures file { IfOk result (λ f. Self.File.calls f ≡ (FileMade, []) ∷ []) };
@@ -100,10 +101,10 @@ pub trait Names {
         ensures { calls self.new ≡ (Input result, name.now, [], []) ∷ calls self.old };
 
     /// The permission bits for a file that is to get a name: those of the regular file there, which is
-    /// not followed as a link, or those that the system gives a plain new file of this name. `None`: the
-    /// system did not say.
-    fn bits_for(&mut self, name: &str) -> Option<Wanted>
-        ensures { calls self.new ≡ (Bits result, name.now, [], []) ∷ calls self.old };
+    /// not followed as a link, or else these. `None`: the system did not say what is there.
+    fn bits_for(&mut self, name: &str, bits: u32) -> Option<Wanted>
+        ensures trace { calls self.new ≡ (Bits result, name.now, [], []) ∷ calls self.old }
+        ensures old_or { IfSome result (IsOldOr bits) };
 
     /// The permission bits of an open file of a name. `None`: the system did not say.
     fn bits_of(&mut self, name: &str, file: &Self::File) -> Option<u32>

@@ -1,8 +1,10 @@
 // The names of the system: the lines that call it, and note what it answered.
-ghost use Rattle.std.specs.Prelude.{◌≡◌, [], ◌∷◌, IfErr, None, OnOk, Some, string_bytes, true};
-ghost use Rattle.cdb_files.specs.declared.name_trace.NameCall.TheVariants.{NotOpened, Renamed, NotRenamed};
+ghost use Rattle.std.specs.Prelude.{◌≡◌, [], ◌∷◌, IfErr, IfOk, None, OnOk, Some, string_bytes, true};
+ghost use Rattle.cdb_files.specs.declared.answer.Answer.TheVariants.{Yes};
+ghost use Rattle.cdb_files.specs.declared.name_trace.NameCall.TheVariants.{NotMade, NotOpened, Renamed, NotRenamed, Same};
 ghost use Rattle.std.specs.Option.{ForSome};
 ghost use Rattle.cdb_files.specs.Folder.{IsRemoval, HasLock, IsCleared};
+ghost use Rattle.cdb_files.specs.Wanted.{IsOldOr};
 ghost use Rattle.cdb_files.specs.Refusals.{refused_for, is_of_system, may_be_for, refused_name};
 
 use crate::answer::{Answer, Found, Lock};
@@ -15,7 +17,7 @@ use crate::refusal::{Cause, Refusal};
 use crate::standard_input::input_look;
 use crate::system_links::is_system_link;
 use crate::wanted::Wanted;
-use cdb_store::{READ_AND_WRITTEN, RealFile, Trace};
+use cdb_store::{RealFile, Trace};
 use std::fs::{self, File, Metadata, Permissions};
 use std::io::{self, ErrorKind};
 use std::os::unix::fs::{MetadataExt, PermissionsExt};
@@ -30,6 +32,8 @@ pub struct RealNames<'a, R> {
     last: Option<Refusal>,
     /// The number of the error of the last call that failed on the file whose name was removed last.
     file_error: Option<i32>,
+    /// The number of the error of the last removal, if that failed.
+    unremoved: Option<i32>,
     ghost newest: { ForSome last (λ refusal. refused_for refusal.cause trace.events
         ≡ Some (string_bytes refusal.name, string_bytes refusal.other)) },
 }
@@ -44,6 +48,7 @@ impl<'a, R: Files<File = File> + AllocGlobal> RealNames<'a, R> {
             trace: NameTrace::new(),
             last: None,
             file_error: None,
+            unremoved: None,
         }
     }
 
@@ -88,83 +93,12 @@ impl<'a, R: Files<File = File> + AllocGlobal> RealNames<'a, R> {
     }
 }
 
-/// The permission bits of a file that this user alone may read and write.
-const PRIVATE: u32 = 0o600;
-
 /// The permission bits for all, of a file's mode.
 const FOR_ALL: u32 = 0o777;
-
-/// The system's number for "file name too long".
-const ENAMETOOLONG: i32 = 36;
 
 /// The permission bits of what was looked at, for all.
 fn bits_in(found: &Metadata) -> u32 {
     found.permissions().mode() & FOR_ALL
-}
-
-/// What stands after a name in that of the file that shows the permission bits of a new one.
-const SHOWN: &[u8] = b".bit";
-
-/// The greatest length of a path.
-const LONGEST: usize = 4095;
-
-/// The permission bits that the system gives a plain new file of a name, by its umask and the folder's
-/// access list: those of an empty file that has the name with `.bit` after it for a moment. If that is too
-/// long for a name, those for this user alone. It takes no memory, which could be refused.
-fn new_bits<R: Files<File = File>>(rt: &R, name: &str) -> Result<u32, Option<i32>> {
-    let len = name.len();
-    if len > LONGEST - SHOWN.len() {
-        return Ok(PRIVATE);
-    }
-    let end = len + SHOWN.len();
-    let mut bytes = [0u8; LONGEST];
-    bytes[..len].copy_from_slice(name.as_bytes());
-    bytes[len..end].copy_from_slice(SHOWN);
-    let Ok(shown) = str::from_utf8(&bytes[..end]) else {
-        return Err(None);
-    };
-    match made_to_show(rt, shown) {
-        Ok(made) => bits_and_gone(rt, shown, &made),
-        Err(error) if error.raw_os_error() == Some(ENAMETOOLONG) => Ok(PRIVATE),
-        Err(error) => Err(error.raw_os_error()),
-    }
-}
-
-/// Makes the file that shows the permission bits of a new one, in place of one that a create which was
-/// killed left: a regular file with no byte.
-fn made_to_show<R: Files<File = File>>(rt: &R, name: &str) -> io::Result<RealFile> {
-    match RealFile::create_new(rt, name, READ_AND_WRITTEN) {
-        Err(error) if error.kind() == ErrorKind::AlreadyExists => {
-            let found = fs::symlink_metadata(rt, name)?;
-            if !found.is_file() || found.len() > 0 {
-                return Err(error);
-            }
-            fs::remove_file(rt, name)?;
-            RealFile::create_new(rt, name, READ_AND_WRITTEN)
-        }
-        answer => answer,
-    }
-}
-
-/// The permission bits of a file that was just made under a name, which is taken from it. Otherwise the
-/// system did not say, or did not remove it: the number of its error.
-fn bits_and_gone<R: Files<File = File>>(
-    rt: &R,
-    name: &str,
-    made: &RealFile,
-) -> Result<u32, Option<i32>> {
-    let found = made.metadata();
-    if let Err(number) = removed(rt, name, made) {
-        // Another create of the name may have taken it for one that was left.
-        match has_name(rt, name, made) {
-            Ok(false) => {}
-            _ => return Err(number),
-        }
-    }
-    match found {
-        Ok(found) => Ok(bits_in(&found)),
-        Err(error) => Err(error.raw_os_error()),
-    }
 }
 
 /// Removes what a name has, if it is an open file. Otherwise it was not removed: the number of the error, if
@@ -180,6 +114,18 @@ fn removed<R: Files<File = File>>(rt: &R, name: &str, file: &RealFile) -> Result
     fs::remove_file(rt, name).map_err(|error| error.raw_os_error())
 }
 
+/// The permission bits of what was looked at, if it is a regular file, or else these. If the system did not
+/// say: the number of its error.
+fn wanted_of(look: &Look, bits: u32) -> Result<Wanted, Option<i32>>
+    ensures { IfOk result (IsOldOr bits) }
+{
+    match look {
+        Look::There(found) if found.is_file() => Ok(Wanted::Old(bits_in(found))),
+        Look::There(_) | Look::Missing => Ok(Wanted::New(bits)),
+        Look::Unknown(number) => Err(*number),
+    }
+}
+
 /// Why a call on a name did nothing.
 fn fault_of(error: &io::Error) -> NameFault {
     if error.kind() == ErrorKind::OutOfMemory {
@@ -189,13 +135,38 @@ fn fault_of(error: &io::Error) -> NameFault {
     }
 }
 
-/// Why a regular file was not opened: what was opened was none, or the system's fault.
+/// Why the regular file that was seen under a name was not opened: it is gone, so another create took it;
+/// what was opened was none; or the system's fault.
 fn unopened(error: &io::Error, _fault: NameFault) -> Cause
     ensures { may_be_for (NotOpened _fault) result ≡ true }
 {
     match error.raw_os_error() {
         None => Cause::Special,
+        Some(_) if error.kind() == ErrorKind::NotFound => Cause::Held,
         number => Cause::of_number(number),
+    }
+}
+
+/// Why no file was made under a name that nothing had: the one that was there could not be removed, another
+/// create has made one since, or the system's fault.
+fn unmade(error: &io::Error, unremoved: Option<i32>, _fault: NameFault) -> Cause
+    ensures { may_be_for (NotMade _fault) result ≡ true }
+{
+    match unremoved {
+        _ if error.kind() != ErrorKind::AlreadyExists => Cause::of_error(error),
+        Some(number) => Cause::System(number),
+        None => Cause::Held,
+    }
+}
+
+/// Why a name's file is that of another name too: it is one file under two names, unless the name does not have
+/// it any more. Then another create gave it the other name in the meantime.
+fn same_cause<R: Files<File = File>>(rt: &R, own: &Look, name: &str) -> Cause
+    ensures { may_be_for (Same Yes) result ≡ true }
+{
+    match is_one(own, &looked(fs::symlink_metadata(rt, name))) {
+        Ok(false) => Cause::Held,
+        Ok(true) | Err(_) => Cause::Same,
     }
 }
 
@@ -253,7 +224,8 @@ impl<'a, R: Files<File = File> + AllocGlobal> Names for RealNames<'a, R> {
                 Answer::No
             }
             Ok(true) => {
-                self.refuse(&NameCall::Same(Answer::Yes), name, other, Cause::Same);
+                let cause = same_cause(self.rt, &own, name);
+                self.refuse(&NameCall::Same(Answer::Yes), name, other, cause);
                 Answer::Yes
             }
             Err(number) => {
@@ -314,15 +286,15 @@ impl<'a, R: Files<File = File> + AllocGlobal> Names for RealNames<'a, R> {
     }
 
     // Shown by tests/cli/orders.py, permissions.py and tests/faults/killed.py.
-    fn make_new(&mut self, name: &str) -> Result<RealFile, NameFault> {
-        match RealFile::create_new(self.rt, name, PRIVATE) {
+    fn make_new(&mut self, name: &str, bits: u32) -> Result<RealFile, NameFault> {
+        match RealFile::create_new(self.rt, name, bits) {
             Ok(file) => {
-                self.note(&NameCall::Made, name, "");
+                self.note(&NameCall::Made(bits), name, "");
                 Ok(file)
             }
             Err(error) => {
                 let fault = fault_of(&error);
-                let cause = Cause::of_error(&error);
+                let cause = unmade(&error, self.unremoved, fault);
                 self.refuse(&NameCall::NotMade(fault), name, "", cause);
                 Err(fault)
             }
@@ -390,16 +362,11 @@ impl<'a, R: Files<File = File> + AllocGlobal> Names for RealNames<'a, R> {
     }
 
     // Shown by tests/cli/permissions.py and tests/faults/names.py.
-    fn bits_for(&mut self, name: &str) -> Option<Wanted> {
-        let bits = match looked(fs::symlink_metadata(self.rt, name)) {
-            Look::There(found) if found.is_file() => Ok(Wanted::Old(bits_in(&found))),
-            Look::There(_) | Look::Missing => new_bits(self.rt, name).map(Wanted::New),
-            Look::Unknown(number) => Err(number),
-        };
-        match bits {
-            Ok(bits) => {
-                self.note(&NameCall::Bits(Some(bits)), name, "");
-                Some(bits)
+    fn bits_for(&mut self, name: &str, bits: u32) -> Option<Wanted> {
+        match wanted_of(&looked(fs::symlink_metadata(self.rt, name)), bits) {
+            Ok(wanted) => {
+                self.note(&NameCall::Bits(Some(wanted)), name, "");
+                Some(wanted)
             }
             Err(number) => {
                 let cause = Cause::of_number(number);
@@ -441,12 +408,17 @@ impl<'a, R: Files<File = File> + AllocGlobal> Names for RealNames<'a, R> {
     }
 
     // Shown by tests/cli/taken.py, orders.py and tests/faults/others.py.
-    /// Why it was not removed is not kept: that would hide why the create ended.
+    /// Why it was not removed is kept for the next file of that name alone: else it would hide why the create
+    /// ended.
     fn remove_own(&mut self, name: &str, file: &RealFile) {
         self.file_error = file.last_error();
-        let is_removed = removed(self.rt, name, file).is_ok();
-        self.trace
-            .note(&removal(is_removed), name.as_bytes(), b"", file.trace());
+        let removed = removed(self.rt, name, file);
+        self.unremoved = match removed {
+            Ok(()) => None,
+            Err(number) => number,
+        };
+        let call = removal(removed.is_ok());
+        self.trace.note(&call, name.as_bytes(), b"", file.trace());
     }
 
     // Shown by tests/cli/taken.py, tests/faults/names.py and syncs.py.

@@ -12,7 +12,7 @@ pub enum Cause {
     System(i32),
     /// A call failed, and the system gave no number.
     Failed,
-    /// Another process holds the file or took its name.
+    /// Another process holds the file, took its name or gave it another one.
     Held,
     /// The name is that of a link.
     Link,
@@ -26,6 +26,8 @@ pub enum Cause {
     Input,
     /// The temporary file is not the one that was made, or not as long.
     Replaced,
+    /// The name has not got the file any more that was opened under it.
+    Lost,
     /// The file did not get its permission bits.
     Bits,
     /// The file got the number of a standard stream that is closed.

@@ -6,7 +6,7 @@ ghost use Rattle.cdb_store.specs.FileStore.{calls_of, failures_of, images_of};
 ghost use Rattle.cdb_store.specs.Images.{SameImages};
 ghost use Rattle.cdb_store.specs.declared.trace.Call.TheVariants.{Made as FileMade};
 ghost use Rattle.cdb_store.specs.declared.trace.Call.TheVariants.{Synced as FileSynced};
-ghost use Rattle.cdb_files.specs.Folder.{AreNamesApart, AreGuarded, HasBits, IsPlain, MayRemove, MayReplace, MayUndo, NameCalls};
+ghost use Rattle.cdb_files.specs.Folder.{AreNamesApart, AreGuarded, HasBits, IsPlain, SeesBits, WereSeen, WereWanted, MayRemove, MayReplace, MayUndo, NameCalls};
 ghost use Rattle.cdb_files.specs.declared.answer.Answer.TheVariants.{Yes, No};
 ghost use Rattle.cdb_files.specs.declared.answer.Lock.TheVariants.{Held};
 ghost use Rattle.cdb_files.specs.declared.name_trace.NameCall.TheVariants.{Same, Locked, Own};
@@ -22,7 +22,11 @@ ghost use Rattle.cdb_files.specs.Replacing.{AreOfReplacing, AreSteps, AtEachMome
 use crate::answer::{Answer, Found, Lock};
 use crate::name_fault::NameFault;
 use crate::names::{Names, Unrenamed};
-use cdb_store::{FileStore, RawFile, Store};
+use crate::wanted::Wanted;
+use cdb_store::{FileStore, READ_AND_WRITTEN, RawFile, Store};
+
+/// The permission bits of a file that this user alone may read and write.
+const PRIVATE: u32 = 0o600;
 
 /// What builds a file in a store that is empty.
 pub trait Builder<S: Store> {
@@ -103,12 +107,12 @@ fn open_fault<E>(fault: NameFault) -> ReplaceFault<E>
 }
 
 /// Sees that the names can be those of a replacement: they are two, and the name leads to a regular
-/// file or to nothing.
+/// file or to nothing. Answers the permission bits of a file that has the name.
 fn see_names<N: Names, E: Drop>(
     names: &mut N,
     name: &str,
     temporary: &str,
-) -> Result<(), ReplaceFault<E>>
+) -> Result<Wanted, ReplaceFault<E>>
     ensures apart { OnOk result (temporary.now ≢ name.now) }
     ensures one_name { (temporary.now ≢ name.now) ⊎ (N.calls names.new ≡ N.calls names.old) }
     ensures no_name { (IsNoName name.now → ⊥)
@@ -116,6 +120,7 @@ fn see_names<N: Names, E: Drop>(
     ensures steps { AreSteps temporary.now name.now (λ _. ⊥) (N.calls names.old)
         (N.calls names.new) }
     ensures plain { OnOk result (IsPlain name.now (N.calls names.new)) }
+    ensures seen { IfOk result (λ wanted. SeesBits name.now wanted (N.calls names.new)) }
     ensures renames { renames (N.calls names.new) ≡ renames (N.calls names.old) }
     ensures err { IfErr result
         (StopsUnbuilt temporary.now name.now (N.calls names.old) (N.calls names.new)) }
@@ -128,9 +133,13 @@ fn see_names<N: Names, E: Drop>(
         return Err(ReplaceFault::Open);
     }
     match names.is_special(name) {
-        Answer::No => Ok(()),
-        Answer::Yes => Err(ReplaceFault::Rename),
-        Answer::Unknown => Err(ReplaceFault::Open),
+        Answer::No => {}
+        Answer::Yes => return Err(ReplaceFault::Rename),
+        Answer::Unknown => return Err(ReplaceFault::Open),
+    }
+    match names.bits_for(name, PRIVATE) {
+        Some(wanted) => Ok(wanted),
+        None => Err(ReplaceFault::Open),
     }
 }
 
@@ -229,6 +238,47 @@ fn is_own_apart<N: Names>(names: &mut N, name: &str, temporary: &str, file: &N::
     }
 }
 
+/// The permission bits of a file that gets the name: those of the file that has it, or those that the
+/// system gives a plain new file of the folder, by the umask and the folder's access list. A file that is
+/// made under the temporary name, which nothing has, shows these, and is removed again.
+fn show_bits<N: Names, E: Drop>(
+    names: &mut N,
+    name: &str,
+    temporary: &str,
+    wanted: Wanted,
+) -> Result<u32, ReplaceFault<E>>
+    requires free { IsFree temporary.now [] (N.calls names.old) }
+    requires seen { WereWanted name.now wanted (N.calls names.old) }
+    ensures steps { AreSteps temporary.now name.now (λ _. ⊥) (N.calls names.old)
+        (N.calls names.new) }
+    ensures seen { IfOk result (λ bits. WereSeen temporary.now name.now bits (N.calls names.new)) }
+    ensures free { (first : NameCalls) → IsFree temporary.now first (N.calls names.old)
+        → OnOk result (IsFree temporary.now first (N.calls names.new)) }
+    ensures ready { OnOk result (IsFree temporary.now [] (N.calls names.new)) }
+    ensures plain { IsPlain name.now (N.calls names.old) → IsPlain name.now (N.calls names.new) }
+    ensures renames { renames (N.calls names.new) ≡ renames (N.calls names.old) }
+    ensures err { (first : NameCalls) → IsFree temporary.now first (N.calls names.old)
+        → IfErr result (ReplacingStopsAt temporary.now name.now first (N.calls names.new)) }
+    ensures not_built { IfErr result (IsOfBuilder (λ _. ⊥)) }
+{
+    if let Wanted::Old(bits) = wanted {
+        return Ok(bits);
+    }
+    let file = match names.make_new(temporary, READ_AND_WRITTEN) {
+        Ok(file) => file,
+        Err(fault) => return Err(open_fault(fault)),
+    };
+    if !is_locked(names, temporary, &file) {
+        return Err(ReplaceFault::Open);
+    }
+    let shown = names.bits_of(temporary, &file);
+    names.remove_own(temporary, &file);
+    match shown {
+        Some(bits) => Ok(bits),
+        None => Err(ReplaceFault::Open),
+    }
+}
+
 /// Makes a file under the temporary name, which nothing has, for this user alone, and takes its lock.
 fn make_own<N: Names, E: Drop>(
     names: &mut N,
@@ -246,7 +296,7 @@ fn make_own<N: Names, E: Drop>(
     ensures not_built { IfErr result (IsOfBuilder (λ _. ⊥)) }
     ensures empty { IfOk result (λ s. calls_of s ≡ (FileMade, []) ∷ []) }
 {
-    let file = match names.make_new(temporary) {
+    let file = match names.make_new(temporary, PRIVATE) {
         Ok(file) => file,
         Err(fault) => return Err(open_fault(fault)),
     };
@@ -261,12 +311,13 @@ fn make_own<N: Names, E: Drop>(
 }
 
 /// Makes a file under the temporary name, in place of an old one of that name that is not the file
-/// to be replaced and that no other create holds.
+/// to be replaced and that no other create holds. Answers the permission bits too that the file is to
+/// have if nothing has the name by then.
 fn make_temporary<N: Names, E: Drop>(
     names: &mut N,
     name: &str,
     temporary: &str,
-) -> Result<FileStore<N::File>, ReplaceFault<E>>
+) -> Result<(FileStore<N::File>, u32), ReplaceFault<E>>
     ensures apart { OnOk result (temporary.now ≢ name.now) }
     ensures one_name { (temporary.now ≢ name.now) ⊎ (N.calls names.new ≡ N.calls names.old) }
     ensures no_name { (IsNoName name.now → ⊥)
@@ -277,12 +328,15 @@ fn make_temporary<N: Names, E: Drop>(
     ensures renames { renames (N.calls names.new) ≡ renames (N.calls names.old) }
     ensures err { IfErr result
         (StopsUnbuilt temporary.now name.now (N.calls names.old) (N.calls names.new)) }
-    ensures empty { IfOk result (λ s. calls_of s ≡ (FileMade, []) ∷ []) }
+    ensures empty { IfOk result (λ s. calls_of s.0 ≡ (FileMade, []) ∷ []) }
+    ensures seen { IfOk result (λ s. WereSeen temporary.now name.now s.1 (N.calls names.new)) }
     ensures not_built { IfErr result (IsOfBuilder (λ _. ⊥)) }
 {
-    see_names(names, name, temporary)?;
+    let wanted = see_names(names, name, temporary)?;
     clear(names, name, temporary)?;
-    make_own(names, name, temporary)
+    let bits = show_bits(names, name, temporary, wanted)?;
+    let empty = make_own(names, name, temporary)?;
+    Ok((empty, bits))
 }
 
 /// Syncs a file.
@@ -303,15 +357,17 @@ fn sync<F: RawFile, E>(store: &mut FileStore<F>) -> Result<(), ReplaceFault<E>>
 /// Syncs the file that was built, and then gives it the permission bits with which it may get its name,
 /// unless it has them. A look says what the file system made of them. If they changed, the file is synced
 /// once more. So what a create that is killed leaves is open to this user alone until its bytes are sure.
+/// If no regular file has the name, it gets the bits that are passed.
 fn seal<N: Names, E>(
     names: &mut N,
     store: &mut FileStore<N::File>,
     name: &str,
     temporary: &str,
+    bits: u32,
 ) -> Result<(), ReplaceFault<E>>
     ensures steps { AreSteps temporary.now name.now (λ _. ⊥) (N.calls names.old)
         (N.calls names.new) }
-    ensures ok { OnOk result (HasBits temporary.now name.now (calls_of store.new)
+    ensures ok { OnOk result (HasBits temporary.now name.now bits (calls_of store.new)
         (N.calls names.old) (N.calls names.new)) }
     ensures may { MayRemove temporary.now name.now (N.calls names.old)
         → MayRemove temporary.now name.now (N.calls names.new) }
@@ -323,7 +379,7 @@ fn seal<N: Names, E>(
     ensures failed { result ≡ Err Write → failures_of store.old < failures_of store.new }
 {
     sync(store)?;
-    let Some(wanted) = names.bits_for(name) else {
+    let Some(wanted) = names.bits_for(name, bits) else {
         return Err(ReplaceFault::Open);
     };
     let Some(first) = names.bits_of(temporary, store.file()) else {
@@ -399,9 +455,11 @@ fn publish<N: Names, E: Drop>(
 /// the file to be replaced or another create holds it. Whatever else has that name stays, a link
 /// too, and so does a file that came there after the look. The new file is made for this user alone
 /// and locked until after the rename, so no other create takes it. Once it is whole it is synced, and
-/// then it gets the permission bits of the regular file that it replaces, or those of a plain new
-/// file, and is synced once more if they changed. After a fault the temporary name is taken from the
-/// file, if it still has it. A folder that cannot be synced is no fault.
+/// then it gets the permission bits of the regular file that it replaces, and is synced once more if
+/// they changed. If there is none by then, it gets those of the one that was there before the build,
+/// or those of a plain new file: one that was made under the temporary name showed them before.
+/// After a fault the temporary name is taken from the file, if it still has it. A folder that cannot
+/// be synced is no fault.
 ///
 /// If the system did not say what a name has, nothing is touched: `Open`.
 ///
@@ -454,8 +512,8 @@ pub fn replace_file<N: Names, B: Builder<FileStore<N::File>>>(
     ensures sure { OnOk result.1
         (LeavesNew name.now (B.builds builder result.0) (N.calls names.new)) }
 {
-    let empty = match make_temporary(names, name, temporary) {
-        Ok(empty) => empty,
+    let (empty, bits) = match make_temporary(names, name, temporary) {
+        Ok(made) => made,
         Err(fault) => return (builder.give_up(), Err(fault)),
     };
     let (mut store, back, built) = builder.build(empty, told);
@@ -463,7 +521,7 @@ pub fn replace_file<N: Names, B: Builder<FileStore<N::File>>>(
         names.remove_own(temporary, store.file());
         return (back, Err(ReplaceFault::Build(fault)));
     }
-    if let Err(fault) = seal(names, &mut store, name, temporary) {
+    if let Err(fault) = seal(names, &mut store, name, temporary, bits) {
         names.remove_own(temporary, store.file());
         return (back, Err(fault));
     }

@@ -7,7 +7,7 @@ ghost use Rattle.cdb_files.specs.Wanted.{Suits, wanted_bits};
 pub enum Wanted {
     /// Those of the file that it replaces: it gets the same.
     Old(u32),
-    /// Those of a plain new file in its folder: it gets no others, but may have fewer.
+    /// It replaces none: it gets no others than these, but may have fewer.
     New(u32),
 }
 

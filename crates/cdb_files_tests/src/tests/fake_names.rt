@@ -41,7 +41,7 @@ pub struct FakeNames {
     pub bits: u32,
     /// Whether it keeps those that it is given.
     pub keeps_bits: bool,
-    /// The permission bits that the database is to have.
+    /// The permission bits that the database is to have, which a plain new file shows if it is new.
     pub wanted: Wanted,
     /// How many calls were made.
     pub calls: u64,
@@ -177,14 +177,18 @@ impl Names for FakeNames {
         Ok(FakeFile::made(Vec::new(self.alloc), 1 << 40, 1))
     }
 
-    fn make_new(&mut self, name: &str) -> Result<FakeFile, NameFault> {
+    fn make_new(&mut self, name: &str, bits: u32) -> Result<FakeFile, NameFault> {
         if self.fails() || self.has_temporary {
             self.note(&NameCall::NotMade(NameFault::Failed), name, "");
             return Err(NameFault::Failed);
         }
         self.has_temporary = true;
-        self.bits = PRIVATE;
-        self.note(&NameCall::Made, name, "");
+        self.bits = if bits == PRIVATE {
+            PRIVATE
+        } else {
+            self.wanted.bits()
+        };
+        self.note(&NameCall::Made(bits), name, "");
         Ok(FakeFile::made(Vec::new(self.alloc), self.file_first, self.count))
     }
 
@@ -210,11 +214,11 @@ impl Names for FakeNames {
         is
     }
 
-    fn bits_for(&mut self, name: &str) -> Option<Wanted> {
-        let wanted = if self.fails() {
-            None
-        } else {
-            Some(self.wanted)
+    fn bits_for(&mut self, name: &str, bits: u32) -> Option<Wanted> {
+        let wanted = match (self.fails(), self.wanted) {
+            (true, _) => None,
+            (false, Wanted::New(_)) => Some(Wanted::New(bits)),
+            (false, Wanted::Old(old)) => Some(Wanted::Old(old)),
         };
         self.note(&NameCall::Bits(wanted), name, "");
         wanted

@@ -5,9 +5,13 @@ use cdb_form::{Narrow, Record};
 use std::alloc::Global;
 use std::test::Fail;
 
-/// How many calls on names a make takes that can fail: special, compare, look, open, lock, remove,
-/// make, lock, look at the own name, compare, wanted bits, bits, set them, bits, rename, sync.
-const NAME_CALLS: u64 = 16;
+/// How many calls on names a make takes that can fail: special, wanted bits, look, compare, open, lock,
+/// remove, make, lock, look at the own name, compare, wanted bits, bits, set them, bits, rename, sync.
+const NAME_CALLS: u64 = 17;
+
+/// How many it takes of a new name: after the removal it makes a plain file too, locks it, looks at its
+/// bits and removes it.
+const NEW_NAME_CALLS: u64 = 21;
 
 /// More calls than a make takes of the file.
 const FILE_CALLS: u64 = 40;
@@ -37,25 +41,35 @@ fn is_right(names: &FakeNames, made: bool) -> bool {
 #[test]
 fn each_call_on_a_name_fails(rt: HostRuntime) -> Result<(), Fail> {
     let records = two_records(rt.alloc())?;
-    for first in 0..=NAME_CALLS {
-        for count in [1, 100] {
-            let mut names = FakeNames::new(rt.alloc(), first, count, 1 << 40);
-            let made = make_file_in::<Narrow, FakeNames>(
-                &mut names,
-                rt.alloc(),
-                DATABASE,
-                "db.tmp",
-                &records,
-            );
-            assert!(rt;
-                made.is_ok() == (first >= NAME_CALLS - 1),
-                "{first} {count}"
-            );
-            assert!(rt; is_right(&names, made.is_ok()), "{first} {count}");
-            assert!(rt;
-                (made.err() == Some(FileFault::NoMemory)) == (first == 3),
-                "{first}"
-            );
+    let rows = [
+        (Wanted::Old(0o644), NAME_CALLS),
+        (Wanted::New(0o644), NEW_NAME_CALLS),
+    ];
+    for (wanted, calls) in rows {
+        for first in 0..=calls {
+            for count in [1, 100] {
+                let mut names = FakeNames::new(rt.alloc(), first, count, 1 << 40);
+                names.wanted = wanted;
+                // A new file is left its own bits if the system gives it no others.
+                let is_set = first == NEW_NAME_CALLS - 4 && count == 1;
+                let keeps_bits = is_set && calls == NEW_NAME_CALLS;
+                let made = make_file_in::<Narrow, FakeNames>(
+                    &mut names,
+                    rt.alloc(),
+                    DATABASE,
+                    "db.tmp",
+                    &records,
+                );
+                assert!(rt;
+                    made.is_ok() == (first.saturating_add(1) >= calls || keeps_bits),
+                    "{first} {count}"
+                );
+                assert!(rt; is_right(&names, made.is_ok()), "{first} {count}");
+                assert!(rt;
+                    (made.err() == Some(FileFault::NoMemory)) == (first == 4),
+                    "{first}"
+                );
+            }
         }
     }
     Ok(())

@@ -7,7 +7,7 @@ use std::test::Fail;
 
 /// A file that is made under a name that nothing has.
 fn made(rt: &HostRuntime, name: &str) -> Result<RealFile, NameFault> {
-    RealNames::new(rt).make_new(name)
+    RealNames::new(rt).make_new(name, 0o600)
 }
 
 /// Whether a file of so many bytes is given another name.

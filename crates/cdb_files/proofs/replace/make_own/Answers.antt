@@ -3,6 +3,7 @@ use Rattle.cdb_files.specs.declared.answer.Lock.TheVariants.{Held}
 use Rattle.cdb_files.specs.declared.name_trace.NameCall.TheVariants.{Locked, Made, NotMade}
 use Rattle.cdb_files.specs.Folder.{NameCalls}
 use Rattle.cdb_files.specs.Replacing.{TakesLock}
+use Rattle.cdb_files.specs.Wanted.{private_bits}
 use Rattle.cdb_files.proofs.Locking.{made_undoable, may_remove}
 use Rattle.cdb_files.proofs.Replacing.{no_step, step, go_on, cleared}
 use Rattle.cdb_files.proofs.Stops.{free_goes_on, is_held, not_made, one_more, was_undone}
@@ -17,7 +18,7 @@ returns-in-Err-clause-err g c first free =
 
 pub returns-then-not-is_locked-clause-steps : goal.returns-then-not-is_locked-clause-steps
 returns-then-not-is_locked-clause-steps g c =
-    step _ (Locked Held, c.args.temporary.now, [], []) (step _ (Made, c.args.temporary.now, [], []) (no_step _) c.in-Ok.ensures.ok refl tt) (c.is_locked.ensures.held c.if-not-is_locked.true) tt tt
+    step _ (Locked Held, c.args.temporary.now, [], []) (step _ (Made private_bits, c.args.temporary.now, [], []) (no_step _) c.in-Ok.ensures.ok refl tt) (c.is_locked.ensures.held c.if-not-is_locked.true) tt tt
 
 pub returns-then-not-is_locked-clause-err : goal.returns-then-not-is_locked-clause-err
 returns-then-not-is_locked-clause-err g c first free =
@@ -27,7 +28,7 @@ pub returns-then-not-is_own_apart-clause-steps : goal.returns-then-not-is_own_ap
 returns-then-not-is_own_apart-clause-steps g c =
     let takes = c.is_locked.ensures.free c.if-not-is_locked.false in
     let may = c.is_own_apart.ensures.may (made_undoable c.args.temporary.now _ _ _ c.in-Ok.ensures.ok takes) in
-    cleared _ (go_on (λ b is. is) (step _ (Locked takes.lock, c.args.temporary.now, [], []) (step _ (Made, c.args.temporary.now, [], []) (no_step _) c.in-Ok.ensures.ok refl tt) takes.are tt tt) c.is_own_apart.ensures.steps) (may_remove c.args.temporary.now c.args.name.now _ may) c.remove_own.ensures
+    cleared _ (go_on (λ b is. is) (step _ (Locked takes.lock, c.args.temporary.now, [], []) (step _ (Made private_bits, c.args.temporary.now, [], []) (no_step _) c.in-Ok.ensures.ok refl tt) takes.are tt tt) c.is_own_apart.ensures.steps) (may_remove c.args.temporary.now c.args.name.now _ may) c.remove_own.ensures
 
 pub returns-then-not-is_own_apart-clause-err : goal.returns-then-not-is_own_apart-clause-err
 returns-then-not-is_own_apart-clause-err g c first free =
@@ -37,7 +38,7 @@ returns-then-not-is_own_apart-clause-err g c first free =
 pub returns-clause-steps : goal.returns-clause-steps
 returns-clause-steps g c =
     let takes = c.is_locked.ensures.free c.if-not-is_locked.false in
-    go_on (λ b is. is) (step _ (Locked takes.lock, c.args.temporary.now, [], []) (step _ (Made, c.args.temporary.now, [], []) (no_step _) c.in-Ok.ensures.ok refl tt) takes.are tt tt) c.is_own_apart.ensures.steps
+    go_on (λ b is. is) (step _ (Locked takes.lock, c.args.temporary.now, [], []) (step _ (Made private_bits, c.args.temporary.now, [], []) (no_step _) c.in-Ok.ensures.ok refl tt) takes.are tt tt) c.is_own_apart.ensures.steps
 
 pub returns-clause-made : goal.returns-clause-made
 returns-clause-made g c =

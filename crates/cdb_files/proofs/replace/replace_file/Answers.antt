@@ -127,7 +127,7 @@ returns-in-Err-built-clause-any_moment g c =
 pub returns-in-Err-built-clause-build : goal.returns-in-Err-built-clause-build
 returns-in-Err-built-clause-build g c =
     record {
-      empty = c.in-Ok.empty;
+      empty = c.in-Ok.made.0;
       left = c.build-store.result.0;
       made = c.in-Ok.ensures.empty;
       why = rw c.in-Err-built.is at c.build-store.ensures.fails;
