@@ -43,6 +43,7 @@ struct kept {
   struct handle handle;
   uint64_t end, count;  /* where the records end, and how many there are, with those in cdb_buf */
   uint32_t held;        /* how many bytes of records are in cdb_buf */
+  int fd;               /* the descriptor of the start */
   _Bool is_adding;      /* whether no other call was made yet */
 };
 static_assert(sizeof(struct kept) <= sizeof(((struct cdb_make *)0)->cdb_rec), "it has room");
@@ -54,6 +55,7 @@ int32_t cdb_c_make_put(struct handle *handle, uint32_t mode, const uint8_t *key,
                        const uint8_t *value, size_t vlen);
 int32_t cdb_c_make_append(struct handle *handle, const uint8_t *bytes, size_t size);
 uint64_t cdb_c_make_count(struct handle *handle);
+uint64_t cdb_c_make_written(struct handle *handle);
 int32_t cdb_c_make_exists(struct handle *handle, const uint8_t *key, size_t klen);
 int32_t cdb_c_make_remove(struct handle *handle, const uint8_t *key, size_t klen);
 int32_t cdb_c_make_finish(struct handle *handle);
@@ -63,6 +65,8 @@ void cdb_c_make_close(struct handle *handle);
 enum { LOOKUP = -2, TOO_BIG = -3, NO_MEMORY = -4, WRITING = -5 };
 
 #define HEAD_SIZE 2048
+/* How many bytes of records the maker collects before it writes them. */
+#define WINDOW 65536
 #define GREATEST_SIZE 0xffffffff
 /* The lengths before a record, and the slots of one in its table. */
 #define LENGTHS_SIZE 8
@@ -109,13 +113,12 @@ static int is_laid_out(int fd)
 }
 
 /* Whether a file can be made by a descriptor: a regular one that is open for writing, at places. */
-static int is_writable(int fd)
+static int is_writable(int fd, struct stat *found)
 {
-  struct stat found;
   int flags = fcntl(fd, F_GETFL);
-  if (flags < 0 || fstat(fd, &found) < 0) return 0;
+  if (flags < 0 || fstat(fd, found) < 0) return 0;
   if ((flags & O_ACCMODE) == O_RDONLY) return errno = EBADF, 0;
-  if (!S_ISREG(found.st_mode)) return errno = ESPIPE, 0;
+  if (!S_ISREG(found->st_mode)) return errno = ESPIPE, 0;
   /* Writes at places would go to the end of the file. */
   if (flags & O_APPEND) return errno = EINVAL, 0;
   return 1;
@@ -135,15 +138,27 @@ int cdb_make_start(struct cdb_make *m, int fd)
 {
   int error_before = begin();
   struct file file;
+  struct stat found;
   memset(m, 0, sizeof *m);
-  m->cdb_fd = fd;
+  m->cdb_fd = kept_of(m)->fd = fd;
   m->cdb_dpos = HEAD_SIZE;
-  if (!is_writable(fd) || !is_laid_out(fd) || !give(fd, &file)) return -1;
+  if (!is_writable(fd, &found) || !is_laid_out(fd) || !give(fd, &file)) return -1;
   if (empty(fd) < 0) return free(file.at), -1;
   int said = answer(cdb_c_make_start(handle_of(m), file), error_before);
   kept_of(m)->end = HEAD_SIZE;
   kept_of(m)->is_adding = said == 0;
   return said;
+}
+
+/* Looks at the file before it is written to: 0, or a fault if writes would not go to their places any more,
+ * or if somebody cut what the maker wrote. */
+static int32_t look(struct cdb_make *m)
+{
+  struct kept *k = kept_of(m);
+  struct stat found;
+  if (!is_writable(k->fd, &found)) return WRITING;
+  if ((uint64_t)found.st_size < cdb_c_make_written(&k->handle)) return errno = EPROTO, WRITING;
+  return 0;
 }
 
 /* How many bytes the record has that is in cdb_buf at a place. */
@@ -170,6 +185,8 @@ static int32_t hand_on(struct cdb_make *m)
 {
   struct kept *k = kept_of(m);
   if (!k->held) return 0;
+  /* What was cut before it writes would be a hole afterwards. */
+  if (k->end - cdb_c_make_written(&k->handle) > WINDOW && look(m) < 0) return WRITING;
   int32_t said = cdb_c_make_append(&k->handle, m->cdb_buf, k->held);
   if (said < 0) drop_taken(m);
   else k->held = 0;
@@ -184,15 +201,34 @@ static int32_t end_adding(struct cdb_make *m)
   return said;
 }
 
-/* Puts a record by the maker. */
+/* Whether no file has room for the record of a put. An insert may find its key, and add none. */
+static int is_too_big(unsigned klen, unsigned vlen, uint32_t mode)
+{
+  uint64_t size = klen + (mode == CDB_PUT_INSERT ? 0 : (uint64_t)vlen);
+  return size > GREATEST_SIZE - HEAD_SIZE - LENGTHS_SIZE - SLOTS_SIZE;
+}
+
+/* Puts a record by the maker: its answer, or a fault. One that is too big is not read. */
+static int32_t put_by(struct cdb_make *m, const void *key, unsigned klen, const void *val,
+                      unsigned vlen, uint32_t mode)
+{
+  int32_t said = end_adding(m);
+  if (said < 0) return said;
+  if (is_too_big(klen, vlen, mode)) {
+    /* An append of nothing says whether there is a maker to use. */
+    said = cdb_c_make_append(handle_of(m), bytes_of(NULL), 0);
+    return said < 0 ? said : TOO_BIG;
+  }
+  /* One that is written at once: what was cut before would be a hole afterwards. */
+  if ((uint64_t)klen + vlen > sizeof m->cdb_buf && kept_of(m)->handle.is_full && look(m) < 0) return WRITING;
+  return cdb_c_make_put(handle_of(m), mode, bytes_of(key), klen, bytes_of(val), vlen);
+}
+
 static int put(struct cdb_make *m, const void *key, unsigned klen, const void *val, unsigned vlen,
                uint32_t mode)
 {
   int error_before = begin();
-  int32_t said = end_adding(m);
-  if (said >= 0)
-    said = cdb_c_make_put(handle_of(m), mode, bytes_of(key), klen, bytes_of(val), vlen);
-  said = answer(said, error_before);
+  int said = answer(put_by(m, key, klen, val, vlen, mode), error_before);
   if (said > 0 && mode == CDB_PUT_INSERT) errno = EEXIST;
   return said;
 }
@@ -217,8 +253,9 @@ int cdb_make_add(struct cdb_make *m, const void *key, unsigned klen, const void 
 {
   struct kept *k = kept_of(m);
   uint64_t size = LENGTHS_SIZE + (uint64_t)klen + vlen;
+  if (k->is_adding && k->end + size + SLOTS_SIZE * (k->count + 1) > GREATEST_SIZE)
+    return answer(TOO_BIG, 0);
   if (!k->is_adding || size > sizeof m->cdb_buf) return put(m, key, klen, val, vlen, CDB_PUT_ADD);
-  if (k->end + size + SLOTS_SIZE * (k->count + 1) > GREATEST_SIZE) return answer(TOO_BIG, 0);
   if (size > sizeof m->cdb_buf - k->held) {
     int error_before = begin();
     if (answer(hand_on(m), error_before) < 0) return -1;
@@ -269,12 +306,13 @@ void cdb_make_abort(struct cdb_make *m)
   errno = error_before;
 }
 
-/* Finishes the file, and frees the maker whatever the answer. */
+/* Finishes the file, if that is as the maker left it, and frees the maker whatever the answer. */
 int cdb_make_finish(struct cdb_make *m)
 {
   int error_before = begin();
-  int32_t handed = end_adding(m);
-  int said = answer(handed < 0 ? handed : cdb_c_make_finish(handle_of(m)), error_before);
+  int32_t ready = handle_of(m)->is_full ? look(m) : 0;
+  if (ready >= 0) ready = end_adding(m);
+  int said = answer(ready < 0 ? ready : cdb_c_make_finish(handle_of(m)), error_before);
   int error = errno;
   leave(m);
   return errno = error, said;

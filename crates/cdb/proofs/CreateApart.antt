@@ -90,7 +90,7 @@ moments_so w disk t name o made c was asked now told said result apart is first 
 
 -- each name once it ended
 holds_so : {M : Type 0} (m : Ghosts M) (disk : Disk) (temporary name : List ℕ) (c : Created) (now : NameCalls) → LeavesAll disk (Some temporary) c.disk now → ((other : List ℕ) → temporary ≢ other → name ≢ other → c.disk other ≡ disk other)
-    → ((held : Option (List ℕ)) → Has (place_of name) (disk name) now held → held ≡ c.disk name) → ((held : Option (List ℕ)) → Has (place_of temporary) (disk temporary) now held → held ≡ c.disk temporary) → HoldsAll m disk name None now c
+    → ((held : Option (List ℕ)) → Has (place_of name) (disk name) now held → held ≡ c.disk name) → ((held : Option (List ℕ)) → Has (place_of temporary) (disk temporary) now held → held ≡ c.disk temporary) → HoldsAll m disk name None [] now c
 holds_so m disk t name c now all off at_its at_temporary = λ other held sure h. elim (cases_Bool (bytes_eq t other)) [
   | inl e ↦ subst (λ (x : List ℕ). Has (place_of x) (disk x) now held → held ≡ c.disk x) (same_name t other e) (at_temporary held) h
   | inr nt ↦ elim (cases_Bool (bytes_eq name other)) [
@@ -127,7 +127,7 @@ gone_err t now first held (before, (file, (gone, inr e, are))) removed h =
     absurd (subst (AllByRecursion IsNoFailedRemoval) (are ∙ ap (λ (g : NameCall). (g, t, [], file) ∷ before) e) removed).0
 
 replaced_holds : {M : Type 0} (m : Ghosts M) (w : ℕ) (disk : Disk) (temporary name : List ℕ) (o : MakeOptions) (made : Made) (c : Created) (asked now : NameCalls) (told said : Option (List ℕ)) (result : Result Unit Fault) → temporary ≢ name → c ≡ in_temporary disk temporary name (made_lines made) (made_file w made) made.result → LeavesAll disk (Some temporary) c.disk now → ReplacesSo w o temporary name made asked now told said result
-    → OnOk result (HoldsAll m disk name None now c)
+    → OnOk result (HoldsAll m disk name None [] now c)
 replaced_holds m w disk t name o made c asked now told said (Err f) apart is all so = tt
 replaced_holds m w disk t name o made c asked now told said (Ok done) apart is all so =
     holds_so m disk t name c now all (λ other tn nn. ap (λ (v : Created). v.disk other) is ∙ disk_off disk t name (made_lines made) (made_file w made) made.result other tn nn)
@@ -135,7 +135,7 @@ replaced_holds m w disk t name o made c asked now told said (Ok done) apart is a
     (λ held has. gone_ok t name now (disk t) held apart so.renamed has ∙ sym (ap (λ (v : Created). v.disk t) is ∙ disk_gone disk t name (made_lines made) (made_file w made) made.result))
 
 failed_holds : {M : Type 0} (m : Ghosts M) (w : ℕ) (disk : Disk) (temporary name : List ℕ) (made : Made) (c : Created) (now : NameCalls) (f : Fault) → temporary ≢ name → c ≡ in_temporary disk temporary name (made_lines made) (made_file w made) made.result → made.result ≡ Err f → LeavesAll disk (Some temporary) c.disk now → IsGone temporary now → AllByRecursion IsNoFailedRemoval now
-    → HoldsAll m disk name None now c
+    → HoldsAll m disk name None [] now c
 failed_holds m w disk t name made c now f apart is fails all gone removed =
     let at_its : c.disk name ≡ disk name = ap (λ (v : Created). v.disk name) is ∙ disk_old disk t name (made_lines made) (made_file w made) made.result f apart fails in
     holds_so m disk t name c now all (λ other tn nn. ap (λ (v : Created). v.disk other) is ∙ disk_off disk t name (made_lines made) (made_file w made) made.result other tn nn)
@@ -143,7 +143,7 @@ failed_holds m w disk t name made c now f apart is fails all gone removed =
     (λ held has. gone_err t now (disk t) held gone removed has ∙ sym (ap (λ (v : Created). v.disk t) is ∙ disk_gone disk t name (made_lines made) (made_file w made) made.result))
 
 finished_so : {M : Type 0} (m : Ghosts M) (w : ℕ) (disk : Disk) (temporary name : List ℕ) (o : MakeOptions) (made : Made) (c : Created) (asked now : NameCalls) (start end told said held : Option (List ℕ)) (result : Result Unit Fault) → temporary ≢ name → c ≡ in_temporary disk temporary name (made_lines made) (made_file w made) made.result → c.lines ≡ (made_lines made) → c.result ≡ made.result → Appends start end c.output → AppendsPrefix start end c.output
-    → LeavesAll disk (Some temporary) c.disk now → Has (place_of name) (disk name) now held → ReplacesSo w o temporary name made asked now told said result → HadBytes temporary now → Came m disk name o c now None start end told said result
+    → LeavesAll disk (Some temporary) c.disk now → Has (place_of name) (disk name) now held → ReplacesSo w o temporary name made asked now told said result → HadBytes temporary now → Came m disk name o c [] now None start end told said result
 finished_so m w disk t name o made c asked now start end told said held (Ok done) apart is lines ends whole part all has so had =
     let h = so.ok (disk name) held has in
     inl (record { is = sym (ends ∙ h.result); output = whole; lines = λ plain. subst (Appends told said) (sym lines) (h.lines plain) }, λ removed. replaced_holds m w disk t name o made c asked now told said (Ok tt) apart is all so)
@@ -156,7 +156,7 @@ finished_so m w disk t name o made c asked now start end told said held (Err f) 
 ]
 
 finished : {M : Type 0} (m : Ghosts M) (w : ℕ) (disk : Disk) (temporary name : List ℕ) (o : MakeOptions) (made : Made) (c : Created) (asked now : NameCalls) (start end told said held : Option (List ℕ)) (result : Result Unit Fault) → temporary ≢ name → c ≡ in_temporary disk temporary name (made_lines made) (made_file w made) made.result → Keeps start end → LeavesAll disk (Some temporary) c.disk now → Has (place_of name) (disk name) now held
-    → ReplacesSo w o temporary name made asked now told said result → HadBytes temporary now → Came m disk name o c now None start end told said result
+    → ReplacesSo w o temporary name made asked now told said result → HadBytes temporary now → Came m disk name o c [] now None start end told said result
 finished m w disk t name o made c asked now start end told said held result apart is kept all has so had =
     let lines : c.lines ≡ (made_lines made) = ap (λ (v : Created). v.lines) is ∙ lines_of disk t name (made_lines made) (made_file w made) made.result in
     let ends : c.result ≡ made.result = ap (λ (v : Created). v.result) is ∙ result_of disk t name (made_lines made) (made_file w made) made.result in
@@ -184,7 +184,7 @@ passing_temporary name temporary standard in_place = cond-false (is_standard nam
 named_so : {F I M R Y : Type 0} (s : Ghosts F) (m : Ghosts M) (remaining : I → Option (List ℕ)) (y : Systems Y F I M) (r : Raw R) (w g : ℕ) (disk : Disk) (input name : List ℕ) (base : Option (List ℕ)) (inputs : List (List ℕ)) (temporary : Option (List ℕ)) (o : MakeOptions) (given : Option (List ℕ)) (old mid new : OpenCalls) (file read : Option F) (left : InputsLeft) (was asked now : NameCalls) (start end told said : Option (List ℕ)) (result : Result Unit Fault)
     → is_standard name ≡ false → is_in_place name temporary ≡ false → is_no_name name ≡ false → (file ≡ None → read ≡ None) → GivesInputs disk inputs input given → HonestCreate (files_of s m remaining y) disk name (state_of old was start told) (state_of new now end said) read → OpensAll (files_of s m remaining y) base inputs given old mid file left → new ≡ mid → Keeps start end → AsksAll (temporary_of name temporary) base inputs was asked
     → Replaces s r (record { word = w; greatest = g; options = o; base = file; inputs = left }) (temporary_of name temporary) name (state_of mid asked start told) (state_of new now end said) read result
-    → CreateSo m disk name temporary o (create_of w g disk input name base inputs temporary o) was now None start end told said result
+    → CreateSo m disk name temporary o (create_of w g disk input name base inputs temporary o) [] was now None start end told said result
 named_so s m remaining y r w g disk input name base inputs temporary o given old mid new file read left was asked now start end told said result standard in_place named none gives honest opens same kept asks replaces =
     let t = temporary_of name temporary in
     let known = all_known_by s m remaining y disk input base inputs given read file left old mid new honest.calls gives.bytes none gives.known opens ([], same) honest.are honest.answered in
@@ -235,14 +235,14 @@ silent_so s r mk t name asked now back told said answer same is (inr some) =
 -- nothing is done for it
 no_name_so : {F M R : Type 0} {mid new : OpenCalls} (s : Ghosts F) (m : Ghosts M) (r : Raw R) (w g : ℕ) (disk : Disk) (input name : List ℕ) (base : Option (List ℕ)) (inputs : List (List ℕ)) (temporary : Option (List ℕ)) (o : MakeOptions) (mk : Making F) (read : Option F) (was asked now : NameCalls) (start end told said : Option (List ℕ)) (result : Result Unit Fault)
     → is_standard name ≡ false → is_in_place name temporary ≡ false → is_no_name name ≡ true → was ≡ [] → Keeps start end → AsksAll (temporary_of name temporary) base inputs was asked → Replaces s r mk (temporary_of name temporary) name (state_of mid asked start told) (state_of new now end said) read result
-    → CreateSo m disk name temporary o (create_of w g disk input name base inputs temporary o) was now None start end told said result
+    → CreateSo m disk name temporary o (create_of w g disk input name base inputs temporary o) [] was now None start end told said result
 no_name_so s m r w g disk input name base inputs temporary o mk read was asked now start end told said result standard in_place is first kept asks replaces =
     let c = create_of w g disk input name base inputs temporary o in
     let a = asking_all (temporary_of name temporary) base inputs was asked asks in
     elim replaces.no_name [
       | inl named ↦ absurd (named (no_name_is name is))
       | inr ended ↦ (let silent = silent_so s r mk (temporary_of name temporary) name asked now read told said replaces.answer ended.1 ended.0 replaces.lines in
-          subst (CreateSo m disk name temporary o c was now None start end told said) (sym (replaces.answered ∙ ap answer_of ended.0))
+          subst (CreateSo m disk name temporary o c [] was now None start end told said) (sym (replaces.answered ∙ ap answer_of ended.0))
           (ends_early m o c disk name temporary was now start end told said Open first (subst (λ v. Asking was v) (sym ended.1) a)
           (open_so o c disk start end told said (no_name_unopened w g disk input name base inputs temporary o standard in_place is) (kept, silent))))
     ]
@@ -250,7 +250,7 @@ no_name_so s m r w g disk input name base inputs temporary o mk read was asked n
 pub replacing_so : {F I M R Y : Type 0} (s : Ghosts F) (m : Ghosts M) (remaining : I → Option (List ℕ)) (y : Systems Y F I M) (r : Raw R) (w g : ℕ) (disk : Disk) (input name : List ℕ) (base : Option (List ℕ)) (inputs : List (List ℕ)) (temporary : Option (List ℕ)) (o : MakeOptions) (given : Option (List ℕ)) (old mid new : OpenCalls) (file read : Option F) (left : InputsLeft) (was asked now : NameCalls) (start end told said : Option (List ℕ)) (result : Result Unit Fault)
     → is_standard name ≡ false → is_in_place name temporary ≡ false → (file ≡ None → read ≡ None) → GivesInputs disk inputs input given → HonestCreate (files_of s m remaining y) disk name (state_of old was start told) (state_of new now end said) read → OpensAll (files_of s m remaining y) base inputs given old mid file left → new ≡ mid → Keeps start end → AsksAll (temporary_of name temporary) base inputs was asked
     → Replaces s r (record { word = w; greatest = g; options = o; base = file; inputs = left }) (temporary_of name temporary) name (state_of mid asked start told) (state_of new now end said) read result
-    → CreateSo m disk name temporary o (create_of w g disk input name base inputs temporary o) was now None start end told said result
+    → CreateSo m disk name temporary o (create_of w g disk input name base inputs temporary o) [] was now None start end told said result
 replacing_so s m remaining y r w g disk input name base inputs temporary o given old mid new file read left was asked now start end told said result standard in_place none gives honest opens same kept asks replaces = elim (cases_Bool (is_no_name name)) [
   | inl is ↦ no_name_so s m r w g disk input name base inputs temporary o (record { word = w; greatest = g; options = o; base = file; inputs = left }) read was asked now start end told said result standard in_place is honest.first kept asks replaces
   | inr named ↦ named_so s m remaining y r w g disk input name base inputs temporary o given old mid new file read left was asked now start end told said result standard in_place named none gives honest opens same kept asks replaces

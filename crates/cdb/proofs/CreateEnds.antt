@@ -83,13 +83,13 @@ pub record GaveUp (o : MakeOptions) (c : Created) (start end told said : Option 
   pub lines : IsPlain o → AppendsPrefix told said c.lines
 
 -- and so did the disk
-abbrev pub Came : {M : Type 0} → Ghosts M → Disk → (name : List ℕ) → MakeOptions → Created → NameCalls → Option M → (start end told said : Option (List ℕ)) → Result Unit Fault → Type 0
-Came m disk name o c now made start end told said result =
-    (CameTrue o c start end told said result × (AllByRecursion IsNoFailedRemoval now → HoldsAll m disk name made now c)) ⊎ GaveUp o c start end told said result
+abbrev pub Came : {M : Type 0} → Ghosts M → Disk → (name : List ℕ) → MakeOptions → Created → OpenCalls → NameCalls → Option M → (start end told said : Option (List ℕ)) → Result Unit Fault → Type 0
+Came m disk name o c opened now made start end told said result =
+    (CameTrue o c start end told said result × (AllByRecursion IsNoFailedRemoval now → HoldsAll m disk name made opened now c)) ⊎ GaveUp o c start end told said result
 
-pub record CreateSo {M : Type 0} (m : Ghosts M) (disk : Disk) (name : List ℕ) (temporary : Option (List ℕ)) (o : MakeOptions) (c : Created) (was now : NameCalls) (made : Option M) (start end told said : Option (List ℕ)) (result : Result Unit Fault) : Type 0 where
-  pub answer : HadBytes (temporary_of name temporary) now → HasBytes m made → Came m disk name o c now made start end told said result
-  pub done : OnOk result (HoldsAll m disk name made now c)
+pub record CreateSo {M : Type 0} (m : Ghosts M) (disk : Disk) (name : List ℕ) (temporary : Option (List ℕ)) (o : MakeOptions) (c : Created) (opened : OpenCalls) (was now : NameCalls) (made : Option M) (start end told said : Option (List ℕ)) (result : Result Unit Fault) : Type 0 where
+  pub answer : HadBytes (temporary_of name temporary) now → HasBytes m made → Came m disk name o c opened now made start end told said result
+  pub done : OnOk result (HoldsAll m disk name made opened now c)
   pub failed : OnErr result (AllByRecursion IsNoFailedRename now → KeepsAll disk (passing name temporary) now)
   pub moments : AtEachMoment (LeavesAll disk (passing name temporary) c.disk) was now
 
@@ -122,8 +122,8 @@ apart_is name (Some t) e same = absurd (let both = or_parts (bytes_eq t (codes "
 
 pub has_may : (place : List ℕ → Bool) (first : Option (List ℕ)) (calls : NameCalls) (held : Option (List ℕ)) → Has place first calls held → MayHave place first calls held
 has_may place first [] held h = h
-has_may place first ((name_call.Made, made, other, file) ∷ calls) held (inl here) = inl here
-has_may place first ((name_call.Made, made, other, file) ∷ calls) held (inr there) = inr (has_may place first calls held there.1)
+has_may place first ((name_call.Made asked, made, other, file) ∷ calls) held (inl here) = inl here
+has_may place first ((name_call.Made asked, made, other, file) ∷ calls) held (inr there) = inr (has_may place first calls held there.1)
 has_may place first ((name_call.Removed, gone, other, file) ∷ calls) held (inl here) = inl here
 has_may place first ((name_call.Removed, gone, other, file) ∷ calls) held (inr there) = inr (has_may place first calls held there.1)
 has_may place first ((name_call.NotRemoved, gone, other, file) ∷ calls) held (inl here) = inl here
@@ -155,7 +155,7 @@ has_first disk was now first a other held h =
 pub keeps_first : (disk : Disk) (out : Option (List ℕ)) (was now : NameCalls) → was ≡ [] → Asking was now → KeepsAll disk out now
 keeps_first disk out was now first a = λ other held not_out h. has_first disk was now first a other held h
 
-pub holds_first : {M : Type 0} (m : Ghosts M) (disk : Disk) (name : List ℕ) (c : Created) (was now : NameCalls) → was ≡ [] → Asking was now → ((other : List ℕ) → c.disk other ≡ disk other) → HoldsAll m disk name None now c
+pub holds_first : {M : Type 0} (m : Ghosts M) (disk : Disk) (name : List ℕ) (c : Created) (was now : NameCalls) → was ≡ [] → Asking was now → ((other : List ℕ) → c.disk other ≡ disk other) → HoldsAll m disk name None [] now c
 holds_first m disk name c was now first a same = λ other held sure h. has_first disk was now first a other held h ∙ sym (same other)
 
 -- ---- nothing was made
@@ -165,7 +165,7 @@ abbrev EndsEarly : MakeOptions → Created → Disk → (start end told said : O
 EndsEarly o c disk start end told said fault = (CameTrue o c start end told said (Err fault) × (c ≡ unopened disk)) ⊎ GaveUp o c start end told said (Err fault)
 
 pub ends_early : {M : Type 0} (m : Ghosts M) (o : MakeOptions) (c : Created) (disk : Disk) (name : List ℕ) (temporary : Option (List ℕ)) (was now : NameCalls) (start end told said : Option (List ℕ)) (fault : Fault) → was ≡ [] → Asking was now → EndsEarly o c disk start end told said fault
-    → CreateSo m disk name temporary o c was now None start end told said (Err fault)
+    → CreateSo m disk name temporary o c [] was now None start end told said (Err fault)
 ends_early m o c disk name temporary was now start end told said fault first a h = record {
   answer = λ had has. elim h [
     | inl so ↦ inl (so.0, λ removed. holds_first m disk name c was now first a (λ other. ap (λ (v : Created). v.disk other) so.1))

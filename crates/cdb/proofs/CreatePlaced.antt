@@ -12,21 +12,23 @@ use Rattle.cdb_store.specs.Contents.{contents}
 use Rattle.cdb_store.specs.contracts.memory.MemStoreStore.TheImpl.{ghosts as in_memory}
 use Rattle.cdb_store.specs.declared.memory.MemStore.{MemStore}
 use Rattle.cdb_make.specs.declared.fault.MakeFault.TheVariants.{Writing}
+use Rattle.cdb_files.specs.declared.answer.Answer.{Answer}
+use Rattle.cdb_files.specs.declared.answer.Answer.TheVariants.{No, Unknown, Yes}
 use Rattle.cdb_files.specs.declared.name_fault.NameFault.{NameFault}
 use Rattle.cdb_files.specs.declared.name_fault.NameFault.TheVariants as why
 use Rattle.cdb_form.specs.Views.KnownBytes.{AppendsPrefix}
 use Rattle.cdb_store.specs.declared.store.Store.{Ghosts}
 use Rattle.cdb_tool.specs.Runs.Inputs.{InputsLeft}
 use Rattle.cdb_tool.specs.declared.fault.Fault.{Fault}
-use Rattle.cdb_tool.specs.declared.fault.Fault.TheVariants.{Make}
+use Rattle.cdb_tool.specs.declared.fault.Fault.TheVariants.{Make, Rename}
 use Rattle.cdb_tool.specs.Runs.Made.{Made, made_file, made_lines, made_of}
 use Rattle.cdb_tool.specs.Runs.MakesSo.{Known}
 use Rattle.cdb.specs.Created.{Created, base_of, create_of, if_opened, is_in_place, in_place, is_read, on_output, placed, unopened}
-use Rattle.cdb.specs.Creating.{HasDatabase, IsBufferedRun, IsMakeRun, MakesEmptied, MakesOnOutput, Syncs, WritesAll, AsksAll, Making, OpensAll}
-use Rattle.cdb.specs.ForetoldCreate.{HoldsAll, HonestCreate, IsNoFailedRename, KeepsAll, passing}
-use Rattle.cdb.specs.Opening.{Empties, MissesEmptying, OpenCalls, unopened as unopened_fault}
+use Rattle.cdb.specs.Creating.{HasDatabase, IsBufferedRun, IsMakeRun, MakesEmptied, MakesOnOutput, SeesName, Syncs, WritesAll, AsksAll, Making, OpensAll}
+use Rattle.cdb.specs.ForetoldCreate.{HoldsAll, HonestCreate, IsNamed, IsNoFailedRename, KeepsAll, passing}
+use Rattle.cdb.specs.Opening.{Empties, MissesEmptying, OpenCalls, named_as, unopened as unopened_fault}
 use Rattle.cdb.specs.Oracle.{Disk, both, inputs_of, is_standard}
-use Rattle.cdb.specs.declared.open_trace.OpenCall.TheVariants.{Emptied, Locked, ToEmpty}
+use Rattle.cdb.specs.declared.open_trace.OpenCall.TheVariants.{Emptied, Locked, Own, ToEmpty}
 use Rattle.cdb.specs.declared.system.System.{Ghosts as Systems}
 use Rattle.cdb.specs.declared.left.Left.{Left}
 use Rattle.cdb.proofs.Replaced.{BaseHas, EndsSo, IsPlain, WasRefused, database_is, made_here, ran_err, ran_ok, whole_lines, none_appended, said_nothing}
@@ -83,27 +85,32 @@ store_new : (images : List ℕ → Type 0) (file : List ℕ) (ok : Type 0) (held
 store_new images file ok None each h = absurd h
 store_new images file ok (Some b) each h = (ap (λ (z : List ℕ). Some z) (each b h).0, (each b h).1)
 
-place_holds : {F M : Type 0} (s : Ghosts F) (m : Ghosts M) (disk : Disk) (name : List ℕ) (mk : Making F) (x : Option (List ℕ)) (files : List (Option (List ℕ))) (input : List ℕ) (back : Option F) (last : M) (c : Created) (was now : NameCalls) → was ≡ [] → Asking was now → BaseHas s back x → Known files input mk.inputs
-    → c ≡ in_place disk name (made_lines (made_here mk x files input)) (made_file mk.word (made_here mk x files input)) (made_here mk x files input).result → HasDatabase s mk back (m.image last) → HoldsAll m disk name (Some last) now c
-place_holds s m disk name mk x files input back last c was now first a has known is database = λ other held sure h. elim h [
+place_holds : {F M : Type 0} (s : Ghosts F) (m : Ghosts M) (disk : Disk) (name : List ℕ) (mk : Making F) (x : Option (List ℕ)) (files : List (Option (List ℕ))) (input : List ℕ) (back : Option F) (last : M) (c : Created) (opened : OpenCalls) (was now : NameCalls) → IsNamed name opened → was ≡ [] → Asking was now → BaseHas s back x → Known files input mk.inputs
+    → c ≡ in_place disk name (made_lines (made_here mk x files input)) (made_file mk.word (made_here mk x files input)) (made_here mk x files input).result → HasDatabase s mk back (m.image last) → HoldsAll m disk name (Some last) opened now c
+place_holds s m disk name mk x files input back last c opened was now named first a has known is database = λ other held sure h. elim h [
   | inl here ↦ (let v = made_here mk x files input in
-      let new = store_new (m.image last) (made_file mk.word v) (v.result ≡ Ok tt) held (λ b k. database_is s mk back x files input b has known (database b k)) here.1 in
+      let new = store_new (m.image last) (made_file mk.word v) (v.result ≡ Ok tt) held (λ b k. database_is s mk back x files input b has known (database b k)) (here.1 named) in
       new.0 ∙ sym (ap (λ (v : Created). v.disk other) is ∙ place_its disk name (made_lines v) (made_file mk.word v) other v.result new.1 here.0))
   | inr there ↦ (let v = made_here mk x files input in
       has_first disk was now first a other held there.1 ∙ sym (ap (λ (v : Created). v.disk other) is ∙ place_off disk name (made_lines v) (made_file mk.word v) other v.result there.0))
 ]
 
-place_fails : {M : Type 0} (m : Ghosts M) (disk : Disk) (name lines file : List ℕ) (result : Result Unit Fault) (f : Fault) (last : M) (c : Created) (was now : NameCalls) → was ≡ [] → Asking was now → result ≡ Err f → c ≡ in_place disk name lines file result → HoldsAll m disk name (Some last) now c
-place_fails m disk name lines file result f last c was now first a fails is = λ other held sure h. elim h [
+place_fails : {M : Type 0} (m : Ghosts M) (disk : Disk) (name lines file : List ℕ) (result : Result Unit Fault) (f : Fault) (last : M) (c : Created) (opened : OpenCalls) (was now : NameCalls) → was ≡ [] → Asking was now → result ≡ Err f → c ≡ in_place disk name lines file result → HoldsAll m disk name (Some last) opened now c
+place_fails m disk name lines file result f last c opened was now first a fails is = λ other held sure h. elim h [
   | inl here ↦ absurd (sure (ap (λ (v : Created). v.unsure) is ∙ place_unsure disk name lines file result f fails ∙ ap (λ (x : List ℕ). Some x) (sym (same_name other name here.0))))
   | inr there ↦ has_first disk was now first a other held there.1 ∙ sym (ap (λ (v : Created). v.disk other) is ∙ place_off disk name lines file other result there.0)
 ]
 
+-- it came to what was said, and so did the disk, if the name was seen to have its file; or a refusal was reported
+abbrev SyncedSo : {M : Type 0} → Ghosts M → Disk → (name : List ℕ) → MakeOptions → Created → OpenCalls → NameCalls → M → (start end told said : Option (List ℕ)) → Result Unit Fault → Type 0
+SyncedSo m disk name o c opened now last start end told said result =
+    (CameTrue o c start end told said result × (OnOk result (IsNamed name opened) → HoldsAll m disk name (Some last) opened now c)) ⊎ GaveUp o c start end told said result
+
 -- what came of the run, and of its sync
-synced_so : {F M : Type 0} (s : Ghosts F) (m : Ghosts M) (disk : Disk) (name : List ℕ) (mk : Making F) (x : Option (List ℕ)) (files : List (Option (List ℕ))) (input : List ℕ) (back : Option F) (built last : M) (c : Created) (was now : NameCalls) (start end told said : Option (List ℕ)) (made result : Result Unit Fault) (b : List ℕ)
+synced_so : {F M : Type 0} (s : Ghosts F) (m : Ghosts M) (disk : Disk) (name : List ℕ) (mk : Making F) (x : Option (List ℕ)) (files : List (Option (List ℕ))) (input : List ℕ) (back : Option F) (built last : M) (c : Created) (opened : OpenCalls) (was now : NameCalls) (start end told said : Option (List ℕ)) (made result : Result Unit Fault) (b : List ℕ)
     → was ≡ [] → Asking was now → BaseHas s back x → Known files input mk.inputs → c ≡ in_place disk name (made_lines (made_here mk x files input)) (made_file mk.word (made_here mk x files input)) (made_here mk x files input).result → Keeps start end
-    → IsBufferedRun s mk back (m.image built) told said made → Syncs m built last made result → OnOk result (HasDatabase s mk back (m.image last)) → m.image last b → Came m disk name mk.options c now (Some last) start end told said result
-synced_so s m disk name mk x files input back built last c was now start end told said (Ok done) result b first a has known is kept run syncs database image =
+    → IsBufferedRun s mk back (m.image built) told said made → Syncs m built last made result → OnOk result (HasDatabase s mk back (m.image last)) → m.image last b → SyncedSo m disk name mk.options c opened now last start end told said result
+synced_so s m disk name mk x files input back built last c opened was now start end told said (Ok done) result b first a has known is kept run syncs database image =
     let v = made_here mk x files input in
     let ran = ran_ok s mk back x files input (m.image built) b (Some b) told said has known (syncs.same.no_other b image) refl run in
     let lines : IsPlain mk.options → Appends told said c.lines = λ plain. subst (Appends told said) (sym (ap (λ (v : Created). v.lines) is ∙ place_lines disk name (made_lines v) (made_file mk.word v) v.result)) (ran.lines plain) in
@@ -114,11 +121,11 @@ synced_so s m disk name mk x files input back built last c was now start end tol
           output = subst (Appends start end) (sym (ap (λ (v : Created). v.output) is ∙ place_output disk name (made_lines v) (made_file mk.word v) v.result)) (none_appended start end kept);
           lines = lines;
         },
-        λ removed. place_holds s m disk name mk x files input back last c was now first a has known is (subst (λ r. OnOk r (HasDatabase s mk back (m.image last))) same database),
+        λ named. place_holds s m disk name mk x files input back last c opened was now (subst (λ r. OnOk r (IsNamed name opened)) same named) first a has known is (subst (λ r. OnOk r (HasDatabase s mk back (m.image last))) same database),
       )
       | inr failed ↦ inr (record { fault = Make Writing; is = failed.1; refusal = tt; output = said_nothing start end c.output kept; lines = λ plain. whole_lines told said c.lines (lines plain) })
     ]
-synced_so s m disk name mk x files input back built last c was now start end told said (Err f) result b first a has known is kept run syncs database image =
+synced_so s m disk name mk x files input back built last c opened was now start end told said (Err f) result b first a has known is kept run syncs database image =
     let v = made_here mk x files input in
     let same : result ≡ Err f = elim syncs.answered [ inl same ↦ same | inr failed ↦ absurd (let no : false ≡ true = failed.0 in cc) ] in
     let lines : c.lines ≡ made_lines v = ap (λ (v : Created). v.lines) is ∙ place_lines disk name (made_lines v) (made_file mk.word v) v.result in
@@ -129,56 +136,84 @@ synced_so s m disk name mk x files input back built last c was now start end tol
           output = subst (Appends start end) (sym (ap (λ (v : Created). v.output) is ∙ place_output disk name (made_lines v) (made_file mk.word v) v.result)) (none_appended start end kept);
           lines = λ plain. subst (Appends told said) (sym lines) (e.lines plain);
         },
-        λ removed. place_fails m disk name (made_lines v) (made_file mk.word v) v.result f last c was now first a (sym e.is) is,
+        λ named. place_fails m disk name (made_lines v) (made_file mk.word v) v.result f last c opened was now first a (sym e.is) is,
       )
       | inr r ↦ inr (record { fault = f; is = same; refusal = r.refusal; output = said_nothing start end c.output kept; lines = λ plain. subst (AppendsPrefix told said) (sym lines) (r.lines plain) })
     ]
+
+-- what came of the last look at the name
+unnamed_so : {M : Type 0} (m : Ghosts M) (disk : Disk) (name : List ℕ) (o : MakeOptions) (c : Created) (opened : OpenCalls) (now : NameCalls) (last : M) (start end told said : Option (List ℕ)) (done : Unit {0}) (result : Result Unit Fault) → Keeps start end → SyncedSo m disk name o c opened now last start end told said (Ok done) → result ≡ Err Rename → Came m disk name o c opened now (Some last) start end told said result
+unnamed_so m disk name o c opened now last start end told said done result kept (inl h) is = inr (record { fault = Rename; is = is; refusal = tt; output = said_nothing start end c.output kept; lines = λ plain. whole_lines told said c.lines (h.0.lines plain) })
+unnamed_so m disk name o c opened now last start end told said done result kept (inr h) is = absurd (let no : ◌≡◌ {A = Result Unit Fault} (Ok done) (Err h.fault) = h.is in cc)
+
+named_so : {M : Type 0} (m : Ghosts M) (disk : Disk) (name : List ℕ) (o : MakeOptions) (c : Created) (emptied opened : OpenCalls) (now : NameCalls) (last : M) (start end told said : Option (List ℕ)) (synced result : Result Unit Fault) → Keeps start end → SyncedSo m disk name o c opened now last start end told said synced → SeesName name emptied opened synced result → Came m disk name o c opened now (Some last) start end told said result
+named_so m disk name o c emptied opened now last start end told said (Ok done) result kept (inl h) (Yes, calls, is) = subst (Came m disk name o c opened now (Some last) start end told said) (sym is) (inl (h.0, λ removed. h.1 (emptied, calls)))
+named_so m disk name o c emptied opened now last start end told said (Ok done) result kept (inr h) (Yes, calls, is) = subst (Came m disk name o c opened now (Some last) start end told said) (sym is) (inr h)
+named_so m disk name o c emptied opened now last start end told said (Ok done) result kept h (No, calls, is) = unnamed_so m disk name o c opened now last start end told said done result kept h is
+named_so m disk name o c emptied opened now last start end told said (Ok done) result kept h (Unknown, calls, is) = unnamed_so m disk name o c opened now last start end told said done result kept h is
+named_so m disk name o c emptied opened now last start end told said (Err f) result kept (inl h) (same, is) = subst (Came m disk name o c opened now (Some last) start end told said) (sym is) (inl (h.0, λ removed. h.1 tt))
+named_so m disk name o c emptied opened now last start end told said (Err f) result kept (inr h) (same, is) = subst (Came m disk name o c opened now (Some last) start end told said) (sym is) (inr h)
 
 -- the file was not emptied
 opening_refused : (cause : NameFault) → MayGiveUpCreate (unopened_fault cause)
 opening_refused why.Failed = tt
 opening_refused why.NoMemory = tt
 
+same_fault : (f g : Fault) → ◌≡◌ {A = Result Unit Fault} (Err f) (Err g) → f ≡ g
+same_fault f g e = cc
+
+unnamed_refused : (answer : Answer) (fault : Fault) → named_as answer ≡ Err fault → MayGiveUpCreate fault
+unnamed_refused Yes fault is = absurd (let no : ◌≡◌ {A = Result Unit Fault} (Ok tt) (Err fault) = is in cc)
+unnamed_refused No fault is = subst MayGiveUpCreate (same_fault Rename fault is) tt
+unnamed_refused Unknown fault is = subst MayGiveUpCreate (same_fault Rename fault is) tt
+
 pub emptying_refused : (name : List ℕ) (old new : OpenCalls) (fault : Fault) → MissesEmptying name old new fault → MayGiveUpCreate fault
 emptying_refused name old new fault (inl misses) = subst MayGiveUpCreate (sym misses.is) (opening_refused misses.why)
 emptying_refused name old new fault (inr (inl held)) = subst MayGiveUpCreate (sym held.0) tt
-emptying_refused name old new fault (inr (inr (locked, takes, misses))) = subst MayGiveUpCreate (sym misses.is) (opening_refused misses.why)
+emptying_refused name old new fault (inr (inr (inl (answer, asks, is)))) = unnamed_refused answer fault is
+emptying_refused name old new fault (inr (inr (inr (locked, takes, misses)))) = subst MayGiveUpCreate (sym misses.is) (opening_refused misses.why)
 
 -- the calls since what is read was opened
 emptying_grows : (name : List ℕ) (old new : OpenCalls) → Empties name old new → (calls : OpenCalls) × (new ≡ calls ++ old)
-emptying_grows name old new h = ((Emptied, name) ∷ (Locked h.takes.lock, name) ∷ (ToEmpty, name) ∷ [], h.calls ∙ ap (λ c. (Emptied, name) ∷ c) h.takes.calls)
+emptying_grows name old new h = ((Emptied, name) ∷ (Own Yes, name) ∷ (Locked h.takes.lock, name) ∷ (ToEmpty, name) ∷ [], h.calls ∙ ap (λ c. (Emptied, name) ∷ c) h.takes.calls)
+
+naming_grows : (name : List ℕ) (old emptied new : OpenCalls) (synced result : Result Unit Fault) → SeesName name emptied new synced result → (calls : OpenCalls) × (emptied ≡ calls ++ old) → (calls : OpenCalls) × (new ≡ calls ++ old)
+naming_grows name old emptied new (Ok done) result (answer, calls, is) (before, are) = ((Own answer, name) ∷ before, calls ∙ ap (λ c. (Own answer, name) ∷ c) are)
+naming_grows name old emptied new (Err f) result (same, is) (before, are) = (before, same ∙ are)
 
 back_of : {F : Type 0} (s : Ghosts F) (mk : Making F) (back : Option F) (images : List ℕ → Type 0) (told said : Option (List ℕ)) (made : Result Unit Fault) → IsBufferedRun s mk back images told said made → mk.base ≡ None → back ≡ None
 back_of s mk back images told said made (inl ran) e = hands_none s mk.base back ran.hands e
 back_of s mk back images told said made (inr lacks) e = lacks.0 ∙ e
 
-place_done : {F M : Type 0} (s : Ghosts F) (m : Ghosts M) (disk : Disk) (name : List ℕ) (mk : Making F) (x : Option (List ℕ)) (files : List (Option (List ℕ))) (input : List ℕ) (back : Option F) (last : M) (c : Created) (was now : NameCalls) (result : Result Unit Fault) → was ≡ [] → Asking was now → BaseHas s back x → Known files input mk.inputs
-    → c ≡ in_place disk name (made_lines (made_here mk x files input)) (made_file mk.word (made_here mk x files input)) (made_here mk x files input).result → OnOk result (HasDatabase s mk back (m.image last)) → OnOk result (HoldsAll m disk name (Some last) now c)
-place_done s m disk name mk x files input back last c was now (Ok done) first a has known is database = place_holds s m disk name mk x files input back last c was now first a has known is database
-place_done s m disk name mk x files input back last c was now (Err f) first a has known is database = tt
+place_done : {F M : Type 0} (s : Ghosts F) (m : Ghosts M) (disk : Disk) (name : List ℕ) (mk : Making F) (x : Option (List ℕ)) (files : List (Option (List ℕ))) (input : List ℕ) (back : Option F) (last : M) (c : Created) (emptied opened : OpenCalls) (was now : NameCalls) (synced result : Result Unit Fault) → was ≡ [] → Asking was now → BaseHas s back x → Known files input mk.inputs
+    → c ≡ in_place disk name (made_lines (made_here mk x files input)) (made_file mk.word (made_here mk x files input)) (made_here mk x files input).result → OnOk synced (HasDatabase s mk back (m.image last)) → SeesName name emptied opened synced result → OnOk result (HoldsAll m disk name (Some last) opened now c)
+place_done s m disk name mk x files input back last c emptied opened was now (Ok done) result first a has known is database (Yes, calls, e) = subst (λ r. OnOk r (HoldsAll m disk name (Some last) opened now c)) (sym e) (place_holds s m disk name mk x files input back last c opened was now (emptied, calls) first a has known is database)
+place_done s m disk name mk x files input back last c emptied opened was now (Ok done) result first a has known is database (No, calls, e) = subst (λ r. OnOk r (HoldsAll m disk name (Some last) opened now c)) (sym e) tt
+place_done s m disk name mk x files input back last c emptied opened was now (Ok done) result first a has known is database (Unknown, calls, e) = subst (λ r. OnOk r (HoldsAll m disk name (Some last) opened now c)) (sym e) tt
+place_done s m disk name mk x files input back last c emptied opened was now (Err f) result first a has known is database (same, e) = subst (λ r. OnOk r (HoldsAll m disk name (Some last) opened now c)) (sym e) tt
 
 if_err : (P : Type 0) (result : Result Unit Fault) → P → OnErr result P
 if_err P (Ok done) p = tt
 if_err P (Err f) p = p
 
-pub emptied_so : {F I M Y : Type 0} (s : Ghosts F) (m : Ghosts M) (remaining : I → Option (List ℕ)) (y : Systems Y F I M) (w g : ℕ) (disk : Disk) (input name : List ℕ) (base : Option (List ℕ)) (inputs : List (List ℕ)) (temporary : Option (List ℕ)) (o : MakeOptions) (given : Option (List ℕ)) (old mid new : OpenCalls) (file : Option F) (items : InputsLeft) (left : Left F M) (was now : NameCalls) (start end told said : Option (List ℕ)) (result : Result Unit Fault)
-    → is_standard name ≡ false → is_in_place name temporary ≡ true → GivesInputs disk inputs input given → HonestCreate (files_of s m remaining y) disk name (state_of old was start told) (state_of new now end said) left.read → OpensAll (files_of s m remaining y) base inputs given old mid file items → Keeps start end → AsksAll name base inputs was now → Empties name mid new
-    → MakesEmptied (files_of s m remaining y) (record { word = w; greatest = g; options = o; base = file; inputs = items }) name (state_of mid was start told) (state_of new now end said) left result → CreateSo m disk name temporary o (create_of w g disk input name base inputs temporary o) was now left.made start end told said result
-emptied_so s m remaining y w g disk input name base inputs temporary o given old mid new file items left was now start end told said result standard placed_in gives honest opens kept asks empties h =
+pub emptied_so : {F I M Y : Type 0} (s : Ghosts F) (m : Ghosts M) (remaining : I → Option (List ℕ)) (y : Systems Y F I M) (w g : ℕ) (disk : Disk) (input name : List ℕ) (base : Option (List ℕ)) (inputs : List (List ℕ)) (temporary : Option (List ℕ)) (o : MakeOptions) (given : Option (List ℕ)) (old mid emptied new : OpenCalls) (file : Option F) (items : InputsLeft) (left : Left F M) (was now : NameCalls) (start end told said : Option (List ℕ)) (result : Result Unit Fault)
+    → is_standard name ≡ false → is_in_place name temporary ≡ true → GivesInputs disk inputs input given → HonestCreate (files_of s m remaining y) disk name (state_of old was start told) (state_of new now end said) left.read → OpensAll (files_of s m remaining y) base inputs given old mid file items → Keeps start end → AsksAll name base inputs was now → Empties name mid emptied
+    → MakesEmptied (files_of s m remaining y) (record { word = w; greatest = g; options = o; base = file; inputs = items }) name emptied (state_of mid was start told) (state_of new now end said) left result → CreateSo m disk name temporary o (create_of w g disk input name base inputs temporary o) new was now left.made start end told said result
+emptied_so s m remaining y w g disk input name base inputs temporary o given old mid emptied new file items left was now start end told said result standard placed_in gives honest opens kept asks empties h =
     let mk : Making _ = record { word = w; greatest = g; options = o; base = file; inputs = items } in
     let none : file ≡ None → left.read ≡ None = back_of s mk left.read (m.image h.built) told said h.made h.run in
-    let known = all_known_by s m remaining y disk input base inputs given left.read file items old mid new honest.calls gives.bytes none gives.known opens (emptying_grows name mid new empties) honest.are honest.answered in
+    let known = all_known_by s m remaining y disk input base inputs given left.read file items old mid new honest.calls gives.bytes none gives.known opens (naming_grows name mid emptied new h.synced result h.named (emptying_grows name mid emptied empties)) honest.are honest.answered in
     let question = asked_all name base inputs was now asks honest.alone in
     let a = asking_all name base inputs was now asks in
     let c = create_of w g disk input name base inputs temporary o in
     let is = in_place_is s w g disk input name base inputs temporary o left.read items known standard placed_in question.other (made_here mk known.old known.files input) refl in
-    let so : CreateSo m disk name temporary o c was now (Some h.last) start end told said result = record {
-      answer = λ had has. synced_so s m disk name mk known.old known.files input left.read h.built h.last c was now start end told said h.made result has.0 honest.first a known.has known.known is kept h.run h.syncs h.has has.1;
-      done = place_done s m disk name mk known.old known.files input left.read h.last c was now result honest.first a known.has known.known is h.has;
+    let so : CreateSo m disk name temporary o c new was now (Some h.last) start end told said result = record {
+      answer = λ had has. named_so m disk name o c emptied new now h.last start end told said h.synced result kept (synced_so s m disk name mk known.old known.files input left.read h.built h.last c new was now start end told said h.made h.synced has.0 honest.first a known.has known.known is kept h.run h.syncs h.has has.1) h.named;
+      done = place_done s m disk name mk known.old known.files input left.read h.last c emptied new was now h.synced result honest.first a known.has known.known is h.has h.named;
       failed = if_err (AllByRecursion IsNoFailedRename now → KeepsAll disk (passing name temporary) now) result (λ tried. keeps_first disk (passing name temporary) was now honest.first a);
       moments = moments_first disk c.disk (passing name temporary) was now honest.first a;
     } in
-    subst (λ v. CreateSo m disk name temporary o c was now v start end told said result) (sym h.is_last) so
+    subst (λ v. CreateSo m disk name temporary o c new was now v start end told said result) (sym h.is_last) so
 
 -- ---- on standard output
 
@@ -260,7 +295,7 @@ if_ok P (Err f) p = tt
 
 pub output_so : {F I M Y : Type 0} (s : Ghosts F) (m : Ghosts M) (remaining : I → Option (List ℕ)) (y : Systems Y F I M) (w g : ℕ) (disk : Disk) (input name : List ℕ) (base : Option (List ℕ)) (inputs : List (List ℕ)) (temporary : Option (List ℕ)) (o : MakeOptions) (given : Option (List ℕ)) (old mid new : OpenCalls) (file read : Option F) (items : InputsLeft) (was now : NameCalls) (start end told said : Option (List ℕ)) (result : Result Unit Fault)
     → is_standard name ≡ true → GivesInputs disk inputs input given → HonestCreate (files_of s m remaining y) disk name (state_of old was start told) (state_of new now end said) read → OpensAll (files_of s m remaining y) base inputs given old mid file items → new ≡ mid → now ≡ was
-    → MakesOnOutput s (record { word = w; greatest = g; options = o; base = file; inputs = items }) read start end told said result → CreateSo m disk name temporary o (create_of w g disk input name base inputs temporary o) was now None start end told said result
+    → MakesOnOutput s (record { word = w; greatest = g; options = o; base = file; inputs = items }) read start end told said result → CreateSo m disk name temporary o (create_of w g disk input name base inputs temporary o) [] was now None start end told said result
 output_so s m remaining y w g disk input name base inputs temporary o given old mid new file read items was now start end told said result standard gives honest opens same calls h =
     let mk : Making _ = record { word = w; greatest = g; options = o; base = file; inputs = items } in
     let none : file ≡ None → read ≡ None = hands_none s file read h.makes.run.hands in
@@ -269,13 +304,13 @@ output_so s m remaining y w g disk input name base inputs temporary o given old 
     let v = made_here mk known.old known.files input in
     let is = output_is s w g disk input name base inputs temporary o read items known standard v refl in
     let a = asking_none was now calls in
-    let holds : HoldsAll m disk name None now c = holds_first m disk name c was now honest.first a (λ other. ap (λ (v : Created). v.disk other) is ∙ output_disk disk (made_lines v) (made_file w v) other v.result) in
+    let holds : HoldsAll m disk name None [] now c = holds_first m disk name c was now honest.first a (λ other. ap (λ (v : Created). v.disk other) is ∙ output_disk disk (made_lines v) (made_file w v) other v.result) in
     record {
       answer = λ had has. elim (made_written s mk known.old known.files input read disk c h.store start end told said h.made result known.has known.known is h.makes.run h.written h.failed) [
         | inl so ↦ inl (so, λ removed. holds)
         | inr gave ↦ inr gave
       ];
-      done = if_ok (HoldsAll m disk name None now c) result holds;
+      done = if_ok (HoldsAll m disk name None [] now c) result holds;
       failed = if_err (AllByRecursion IsNoFailedRename now → KeepsAll disk (passing name temporary) now) result (λ tried. keeps_first disk (passing name temporary) was now honest.first a);
       moments = moments_first disk c.disk (passing name temporary) was now honest.first a;
     }

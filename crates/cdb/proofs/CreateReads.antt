@@ -315,7 +315,7 @@ question_kept : (call : NameEvent) (calls : NameCalls) → IsQuestion call → (
 question_kept (name_call.Same said, one, two, file) calls is place first held h = h
 question_kept (name_call.Input said, one, two, file) calls is place first held h = h
 question_kept (name_call.Special said, one, two, file) calls is place first held h = absurd is
-question_kept (name_call.Made, one, two, file) calls is place first held h = absurd is
+question_kept (name_call.Made asked, one, two, file) calls is place first held h = absurd is
 question_kept (name_call.Removed, one, two, file) calls is place first held h = absurd is
 question_kept (name_call.NotRemoved, one, two, file) calls is place first held h = absurd is
 question_kept (name_call.Renamed len, one, two, file) calls is place first held h = absurd is

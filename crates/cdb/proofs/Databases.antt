@@ -6,6 +6,7 @@ use Rattle.std.proofs.KnownBytes.{Appends-kept, Keeps-trans}
 use Rattle.cdb_command.specs.Asked.{Asked}
 use Rattle.cdb_command.specs.Refused.{Refused}
 use Rattle.cdb_files.specs.Folder.{NameCalls}
+use Rattle.cdb_files.specs.declared.answer.Answer.TheVariants.{No, Unknown, Yes}
 use Rattle.cdb_files.specs.Replacing.{BuilderTells}
 use Rattle.cdb_files.specs.declared.replace.ReplaceFault.{ReplaceFault}
 use Rattle.cdb_form.specs.Views.KnownBytes.{Writes}
@@ -19,7 +20,8 @@ use Rattle.cdb_tool.specs.Runs.Make.{HandsBack, OfBase, Makes}
 use Rattle.cdb_tool.specs.Runs.Make as run
 use Rattle.cdb_tool.specs.declared.fault.Fault.{Fault}
 use Rattle.cdb_tool.proofs.WholeRuns.{prefix_kept}
-use Rattle.cdb.specs.Creating.{Making, HasDatabase, IsBufferedRun, IsDatabase, IsMakeRun, Syncs}
+use Rattle.cdb.specs.Creating.{Making, HasDatabase, IsBufferedRun, IsDatabase, IsMakeRun, SeesName, Syncs}
+use Rattle.cdb.specs.Opening.{OpenCalls}
 use Rattle.cdb.specs.Performs.{Says, SaysLine, Runs, refused_lines}
 use Rattle.cdb.specs.declared.left.Left.{Left}
 use Rattle.cdb.specs.declared.system.System.{Ghosts as Systems}
@@ -80,6 +82,13 @@ synced_says O made result h says = elim h.answered [
   | inl same ↦ subst (OutputSays O) (sym same) says
   | inr failed ↦ subst (OutputSays O) (sym failed.1) tt
 ]
+
+-- nor is a name that lost its file
+pub named_says : (O : Type 0) (name : List ℕ) (was now : OpenCalls) (synced result : Result Unit Fault) → SeesName name was now synced result → OutputSays O synced → OutputSays O result
+named_says O name was now (Ok done) result (Yes, calls, is) says = subst (OutputSays O) (sym is) tt
+named_says O name was now (Ok done) result (No, calls, is) says = subst (OutputSays O) (sym is) tt
+named_says O name was now (Ok done) result (Unknown, calls, is) says = subst (OutputSays O) (sym is) tt
+named_says O name was now (Err fault) result (same, is) says = subst (OutputSays O) (sym is) says
 
 pub database_synced : {F M : Type 0} (f : Ghosts F) (s : Ghosts M) (m : Making F) (back : Option F) (built left : M) (made result : Result Unit Fault) → Syncs s built left made result
     → OnOk made (HasDatabase f m back (s.image built)) → OnOk result (HasDatabase f m back (s.image left))

@@ -2,6 +2,7 @@ mod Databases
 mod Opens
 mod Coming
 mod ManyKeys
+mod ComparedFiles
 mod Oracles
 mod Explained
 mod Replaced

@@ -5,6 +5,7 @@ use Rattle.cdb_store.specs.declared.store.Store.{Ghosts}
 use Rattle.cdb_tool.proofs.NamedInputs.{IsNamed, named_made}
 use Rattle.cdb.specs.Created.{Created, base_of, create_of, if_opened, placed}
 use Rattle.cdb.specs.ForetoldCreate.{CreateHolds, expected_of}
+use Rattle.cdb.specs.Opening.{OpenCalls}
 use Rattle.cdb.specs.Oracle.{Disk, both, inputs_of}
 use Rattle.cdb.specs.Performs.{IsShown}
 use Rattle.cdb.proofs.Replaced.{IsPlain}
@@ -34,7 +35,7 @@ shown_plain false inputs o p h e = ap (λ (q : MakeOptions). q.names) h
 shown_plain true inputs o p h e = absurd (let no : true ≡ false = e in cc)
 
 -- what holds of a create with the names holds of one without
-pub named_holds : {M S : Type 0} (m : Ghosts M) (w g : ℕ) (disk : Disk) (input name : List ℕ) (base : Option (List ℕ)) (inputs : List (List ℕ)) (temporary : Option (List ℕ)) (o shown : MakeOptions) (explained : Bool) (made : Option M) (old new : State S) (status : ℕ) → IsShown explained inputs o shown
+pub named_holds : {M : Type 0} (m : Ghosts M) (w g : ℕ) (disk : Disk) (input name : List ℕ) (base : Option (List ℕ)) (inputs : List (List ℕ)) (temporary : Option (List ℕ)) (o shown : MakeOptions) (explained : Bool) (made : Option M) (old new : State OpenCalls) (status : ℕ) → IsShown explained inputs o shown
     → CreateHolds m (expected_of disk name temporary (create_of w g disk input name base inputs temporary shown)) explained made old new status
     → CreateHolds m (expected_of disk name temporary (create_of w g disk input name base inputs temporary o)) explained made old new status
 named_holds m w g disk input name base inputs temporary o shown explained made old new status h =

@@ -12,7 +12,6 @@ use Rattle.cdb_form.specs.Views.KnownBytes.{AppendsPrefix}
 use Rattle.cdb_form.specs.Format.Pair.{head_size}
 use Rattle.cdb_form.specs.Format.Record.{KeyValue}
 use Rattle.cdb_form.specs.Format.Walk.{walk_of}
-use Rattle.cdb_form.specs.Text.Amending.{amending_text}
 use Rattle.cdb_form.specs.declared.damage.Damage.{Damage}
 use Rattle.cdb_form.specs.declared.damage.Damage.TheVariants as damage
 use Rattle.cdb_form.specs.declared.damage.Damage.TheVariants.{Short}
@@ -26,12 +25,9 @@ use Rattle.cdb_command.specs.declared.command.Command.{Command}
 use Rattle.cdb_command.specs.declared.command.Command.TheVariants as command
 use Rattle.cdb_files.specs.Folder.{NameCalls}
 use Rattle.cdb_files.specs.declared.answer.Answer.TheVariants as looks
-use Rattle.cdb_read.proofs.Walked.Walks.{walk_head}
 use Rattle.cdb_read.proofs.WholeFiles.FaultLaws.{sound_is_no_damage}
 use Rattle.cdb_read.specs.Faults.{first_fault}
-use Rattle.cdb_read.specs.InOrder.{FindsInOrder}
 use Rattle.cdb_read.specs.Statistics.{statistics_damage}
-use Rattle.cdb_read.specs.declared.fault.ReadFault.{ReadFault}
 use Rattle.cdb_read.specs.declared.fault.ReadFault.TheVariants as read
 use Rattle.cdb_store.specs.Contents.{contents}
 use Rattle.cdb_store.specs.contracts.memory.MemStoreStore.TheImpl.{ghosts as in_memory}
@@ -40,8 +36,6 @@ use Rattle.cdb_store.specs.declared.raw.RawFile.{Ghosts as Raw}
 use Rattle.cdb_store.specs.declared.store.Store.{Ghosts}
 use Rattle.cdb_tool.specs.Message.{fault_line}
 use Rattle.cdb_tool.specs.Runs.Check.{CheckingFails}
-use Rattle.cdb_read.specs.OtherWidth.{lacks_tables}
-use Rattle.cdb_tool.specs.Runs.Difference.{DifferenceFails, HasDamage as HasAny, HaveTables, DifferenceNotRead, TellsDifference, comes_after_heads, difference_of}
 use Rattle.cdb_tool.specs.Runs.Form.{Form, dump_form, list_form}
 use Rattle.cdb_tool.specs.Runs.Load.{IsNotLoaded}
 use Rattle.cdb_tool.specs.Runs.Stats.{StatsMeetDamage, TellingFails, TellsStats, statistics_text}
@@ -54,11 +48,12 @@ use Rattle.cdb_tool.proofs.WholeRuns.{prefix_kept}
 use Rattle.cdb_tool.specs.declared.fault.Fault.{Fault}
 use Rattle.cdb_tool.specs.declared.fault.Fault.TheVariants.{Text, Make, Duplicate, Missing, Read, Walk, Output, Long, Open, Rename, NoMemory, Old, New, NoOldTables, NoNewTables}
 use Rattle.cdb.specs.Created.{foretell}
-use Rattle.cdb.specs.Foretold.{IsInOrder, AsksNoCreate, ComesTrue, Database, Honest, IsForetold, IsRefused, IsTaken, MayFail, Nothing, Reading, Reveals, Shows, reads_in_turn, stores_in}
+use Rattle.cdb.specs.Foretold.{AsksNoCreate, ComesTrue, Database, Honest, IsForetold, IsRefused, IsTaken, MayFail, Nothing, Reading, Reveals, reads_in_turn, stores_in}
 use Rattle.cdb.proofs.Coming.{Comes, EachAnswered, IsSized, comes_so, each_answered, gives_none, gives_up, long_is, no_prefix, nothing_written, of_shown, output_of, refused_so, short_is}
 use Rattle.cdb.proofs.ManyKeys.{lookups_foretold}
-use Rattle.cdb.specs.Oracle.{Disk, Outcome, check_outcome, command_outcome, difference_outcome, ended, met, of_file, oracle, query_outcome, short_or, stats_outcome, text_outcome, unless_damaged}
-use Rattle.cdb.specs.Performs.{ChecksStore, HandsOn, IsUntouched, LacksMemory, PerformsDifference, PerformsIn, PerformsOn, PerformsQuery, PerformsText, Runs, SaysLine, Takes, Tells, WritesText, refused_lines, status_of, usage_line, usage_status}
+use Rattle.cdb.proofs.ComparedFiles.{difference_foretold}
+use Rattle.cdb.specs.Oracle.{Disk, Outcome, check_outcome, command_outcome, ended, met, of_file, oracle, query_outcome, short_or, stats_outcome, text_outcome, unless_damaged}
+use Rattle.cdb.specs.Performs.{ChecksStore, HandsOn, IsUntouched, LacksMemory, PerformsIn, PerformsOn, PerformsQuery, PerformsText, Runs, SaysLine, Takes, Tells, WritesText, refused_lines, status_of, usage_line, usage_status}
 use Rattle.cdb.proofs.Explained.{SaysOnly, says_only}
 use Rattle.cdb.specs.declared.left.Left.{Left}
 use Rattle.cdb.specs.declared.open_trace.OpenCall.TheVariants.{AtPlaces, InTurn, Stream, Unopened}
@@ -357,94 +352,6 @@ check_taken w store last start end result some h =
     subst (λ b. Comes false Database check_status (check_outcome w b) start end result) (h.reads.images (contents last) refl)
     (check_comes Database w in_memory store last (contents last) start end result some refl refl h)
 
--- ---- difference
-
--- a fault of a file in order is one that no file can have
-not_met : (w : ℕ) (bytes beside : List ℕ) (damage : Damage) → (walk_of w bytes).damage ≡ None → FindsInOrder w bytes → HasAny w bytes beside damage → ⊥
-not_met w bytes beside damage whole finds (inl walked) = (let e = sym whole ∙ walked in cc)
-not_met w bytes beside damage whole finds (inr looked) = (let e = sym (finds.sound looked.0) ∙ looked.2 in cc)
-
-not_read : {S : Type 0} (w : ℕ) (s : Ghosts S) (file last other : S) (bytes beside : List ℕ) (start end : Option (List ℕ)) (fault : ReadFault) → s.image last bytes → s.image other beside → length bytes ≡ s.size last → s.failures last ≡ 0 → (walk_of w bytes).damage ≡ None → FindsInOrder w bytes → DifferenceNotRead w s s file last other start end fault → ⊥
-not_read w s file last other bytes beside start end read.Short is it size works whole finds h =
-    let long = (walk_head w bytes whole).whole in
-    let short = subst (λ n. n < head_size w) (sym (size ∙ ap s.size h.unread)) h.short in
-    omega (arith, long, short)
-not_read w s file last other bytes beside start end read.Device is it size works whole finds h = omega (arith, h, works)
-not_read w s file last other bytes beside start end (read.Table n) is it size works whole finds h = not_met w bytes beside (damage.Table n) whole finds (h bytes beside is it)
-not_read w s file last other bytes beside start end (read.Record place) is it size works whole finds h = not_met w bytes beside (damage.Record place) whole finds (h bytes beside is it)
-not_read w s file last other bytes beside start end (read.Slot n i) is it size works whole finds h = h
-not_read w s file last other bytes beside start end (read.Twice place) is it size works whole finds h = h
-not_read w s file last other bytes beside start end (read.Unindexed place) is it size works whole finds h = h
-not_read w s file last other bytes beside start end read.NoMemory is it size works whole finds h = h
-not_read w s file last other bytes beside start end read.Output is it size works whole finds h = h
-
--- what is known of a file of a difference, as it is left
-record Compared {S : Type 0} (w : ℕ) (s : Ghosts S) (last : S) (bytes : List ℕ) : Type 0 where
-  is : s.image last bytes
-  size : length bytes ≡ s.size last
-  works : s.failures last ≡ 0
-  whole : (walk_of w bytes).damage ≡ None
-  finds : FindsInOrder w bytes
-
--- what comes of two that have tables, and of one that lacks them
-differs_so : (w : ℕ) (b c : List ℕ) → lacks_tables w b ≡ false → lacks_tables w c ≡ false → difference_outcome w b c ≡ ended plain_status (amending_text (difference_of w b c)) (Ok tt)
-differs_so w b c one two = cond-false (lacks_tables w b) _ _ one ∙ cond-false (lacks_tables w c) _ _ two
-
-old_lacks : (w : ℕ) (b c : List ℕ) → lacks_tables w b ≡ true → difference_outcome w b c ≡ ended plain_status [] (Err NoOldTables)
-old_lacks w b c lacks = cond-true (lacks_tables w b) _ _ lacks
-
-new_lacks : (w : ℕ) (b c : List ℕ) → lacks_tables w b ≡ false → lacks_tables w c ≡ true → difference_outcome w b c ≡ ended plain_status [] (Err NoNewTables)
-new_lacks w b c has lacks = cond-false (lacks_tables w b) _ _ has ∙ cond-true (lacks_tables w c) _ _ lacks
-
-difference_refused : {S : Type 0} (w : ℕ) (s : Ghosts S) (old_last new_last : S) (b c : List ℕ) (start end : Option (List ℕ)) (fault : Fault) → Compared w s old_last b → Compared w s new_last c → HaveTables w s s old_last new_last → MayGiveUp true Nothing fault → AppendsPrefix start end (amending_text (difference_of w b c)) → Comes true Nothing plain_status (difference_outcome w b c) start end (Err fault)
-difference_refused w s old_last new_last b c start end fault x y tables refusal part =
-    gives_up true Nothing plain_status _ start end fault refusal (subst (AppendsPrefix start end) (sym (ap (λ (o : Outcome). o.output) (differs_so w b c (tables.of_old b x.is) (tables.of_new c y.is)))) part)
-
-difference_ended : {S : Type 0} (w : ℕ) (s : Ghosts S) (old old_last new new_last : S) (b c : List ℕ) (start end : Option (List ℕ)) (fault : Fault) → Compared w s old_last b → Compared w s new_last c → (comes_after_heads fault ≡ true → HaveTables w s s old_last new_last) → AppendsPrefix start end (amending_text (difference_of w b c)) → DifferenceFails w s s old old_last new new_last start end fault
-    → Comes true Nothing plain_status (difference_outcome w b c) start end (Err fault)
-difference_ended w s old old_last new new_last b c start end (Old fault) x y tables part h = absurd (not_read w s old old_last new_last b c start end fault x.is y.is x.size x.works x.whole x.finds h)
-difference_ended w s old old_last new new_last b c start end (New fault) x y tables part h = absurd (not_read w s new new_last old_last c b start end fault y.is x.is y.size y.works y.whole y.finds h)
-difference_ended w s old old_last new new_last b c start end Output x y tables part h = difference_refused w s old_last new_last b c start end Output x y (tables refl) refl part
-difference_ended w s old old_last new new_last b c start end NoMemory x y tables part h = difference_refused w s old_last new_last b c start end NoMemory x y (tables refl) tt part
-difference_ended w s old old_last new new_last b c start end (Text input fault) x y tables part h = absurd h
-difference_ended w s old old_last new new_last b c start end (Make fault) x y tables part h = absurd h
-difference_ended w s old old_last new new_last b c start end Duplicate x y tables part h = absurd h
-difference_ended w s old old_last new new_last b c start end Missing x y tables part h = absurd h
-difference_ended w s old old_last new new_last b c start end (Read fault) x y tables part h = absurd h
-difference_ended w s old old_last new new_last b c start end (Walk fault) x y tables part h = absurd h
-difference_ended w s old old_last new new_last b c start end Long x y tables part h = absurd h
-difference_ended w s old old_last new new_last b c start end Open x y tables part h = absurd h
-difference_ended w s old old_last new new_last b c start end Rename x y tables part h = absurd h
-difference_ended w s old old_last new new_last b c start end NoOldTables x y tables part h = comes_so true Nothing plain_status _ [] start end (Err NoOldTables) (old_lacks w b c (h.lacks b x.is)) (nothing_written start end h.kept)
-difference_ended w s old old_last new new_last b c start end NoNewTables x y tables part h = comes_so true Nothing plain_status _ [] start end (Err NoNewTables) (new_lacks w b c (h.0 b x.is) (h.1.lacks c y.is)) (nothing_written start end h.1.kept)
-
-difference_comes : {S : Type 0} (w : ℕ) (s : Ghosts S) (old old_last new new_last : S) (b c : List ℕ) (start end : Option (List ℕ)) (result : Result Unit Fault) → Compared w s old_last b → Compared w s new_last c → TellsDifference w s s old old_last new new_last start end result → Comes true Nothing plain_status (difference_outcome w b c) start end result
-difference_comes w s old old_last new new_last b c start end (Ok done) x y h =
-    let written = h.ok b c x.is y.is in
-    comes_so true Nothing plain_status _ (amending_text (difference_of w b c)) start end (Ok tt) (differs_so w b c (h.ok_tables.of_old b x.is) (h.ok_tables.of_new c y.is)) (same_appends start end _ _ (ap amending_text (written.are x.finds y.finds)) written.written)
-difference_comes w s old old_last new new_last b c start end (Err fault) x y h = difference_ended w s old old_last new new_last b c start end fault x y h.err_tables ((h.front b c x.is y.is).are x.finds y.finds) h.err
-
-compared : {S : Type 0} (w : ℕ) (s : Ghosts S) (file : Option (List ℕ)) (last : S) (others : List S) (outcome : List ℕ → Outcome) (start end : Option (List ℕ)) (result : Result Unit Fault) → IsSized s → IsInOrder w file → Shows s file (last ∷ others) → ((bytes : List ℕ) → Compared w s last bytes → Comes true Nothing plain_status (outcome bytes) start end result)
-    → Comes true Nothing plain_status (of_file file outcome) start end result
-compared w s None last others outcome start end result sized order shows h = absurd shows
-compared w s (Some bytes) last others outcome start end result sized order shows h = h bytes (record { is = shows.0; size = sized last bytes shows.0; works = shows.1; whole = order.0; finds = order.1 })
-
-difference_foretold : {F I M Y : Type 0} (remaining : I → Option (List ℕ)) (w : ℕ) (s : Ghosts F) (m : Ghosts M) (y : Systems Y F I M) (first second : List ℕ) (disk : Disk) (old new : State Y) (left : Left F M) (result : Result Unit Fault) → IsSized s → EachAnswered s remaining y disk (stores_in left) (y.calls old.opened) (y.calls new.opened) → IsInOrder w (disk first) → IsInOrder w (disk second)
-    → PerformsDifference w (files_of s m remaining y) first second old new left result → Comes true Nothing plain_status (of_file (disk first) (λ b. of_file (disk second) (difference_outcome w b))) old.output new.output result
-difference_foretold remaining w s m y first second disk old new left result sized answers one two (inl none) =
-    refused_so true Nothing s remaining y plain_status first disk (stores_in left) _ (y.calls old.opened) (y.calls new.opened) [] old.output new.output result refl answers none.1
-difference_foretold remaining w s m y first second disk old new left result sized answers one two (inr (inl half)) =
-    let miss = half.refuses.misses in
-    let calls = subst (λ l. EachAnswered s remaining y disk (stores_in l) (y.calls old.opened) (y.calls new.opened)) half.is_left answers ((Unopened miss.why miss.found, second) ∷ (AtPlaces, first) ∷ []) miss.calls in
-    of_shown true Nothing s plain_status (disk first) half.file [] _ old.output new.output result calls.1.0
-    (λ b is works. refused_so true Nothing s remaining y plain_status second disk (stores_in left) (difference_outcome w b) (y.calls old.opened) (y.calls new.opened) ((AtPlaces, first) ∷ []) old.output new.output result refl answers half.refuses)
-difference_foretold remaining w s m y first second disk old new left result sized answers one two (inr (inr both)) =
-    let files = both.1 in
-    let calls = subst (λ l. EachAnswered s remaining y disk (stores_in l) (y.calls old.opened) (y.calls new.opened)) files.are_last answers ((AtPlaces, second) ∷ (AtPlaces, first) ∷ []) both.0 in
-    compared w s (disk first) files.old_last [] _ old.output new.output result sized one calls.1.0
-    (λ b x. compared w s (disk second) files.new_last (files.old_last ∷ []) (difference_outcome w b) old.output new.output result sized two calls.0
-    (λ c y. difference_comes w s files.old files.old_last files.new files.new_last b c old.output new.output result x y files.tells))
-
 -- ---- help and version
 
 told_ended : (text : List ℕ) (start end : Option (List ℕ)) (fault : Fault) → fault ≡ Output → AppendsPrefix start end text → Comes true Nothing plain_status (ended plain_status text (Ok tt)) start end (Err fault)
@@ -556,9 +463,9 @@ command_comes s m r remaining y explained (command.Check None true) disk input g
 command_comes s m r remaining y explained (command.Check None false) disk input given old new left result sized calls honest h =
     on_input false check_status _ given input (check_outcome 4) old.output new.output result _ refl honest.reads (λ store last does. check_taken 4 store last old.output new.output result (omega arith) does) h.2
 command_comes s m r remaining y explained (command.Difference first second true) disk input given old new left result sized calls honest h =
-    difference_foretold remaining 8 s m y (string_bytes first) (string_bytes second) disk old new left result sized calls honest.in_order.0 honest.in_order.1 h
+    difference_foretold remaining 8 s m y (string_bytes first) (string_bytes second) disk old new left result sized calls honest.in_order h
 command_comes s m r remaining y explained (command.Difference first second false) disk input given old new left result sized calls honest h =
-    difference_foretold remaining 4 s m y (string_bytes first) (string_bytes second) disk old new left result sized calls honest.in_order.0 honest.in_order.1 h
+    difference_foretold remaining 4 s m y (string_bytes first) (string_bytes second) disk old new left result sized calls honest.in_order h
 command_comes s m r remaining y explained (command.Create name base inputs temporary options wide) disk input given old new left result sized calls honest h = tt
 command_comes s m r remaining y explained command.Help disk input given old new left result sized calls honest h = told_comes usage_text old.output new.output result h.2
 command_comes s m r remaining y explained command.Version disk input given old new left result sized calls honest h = told_comes version_text old.output new.output result h.2

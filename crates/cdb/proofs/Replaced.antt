@@ -124,8 +124,8 @@ not_here made temporary other is apart here = let e : true ≡ false = sym here 
 
 -- a call of a replacement leaves them
 call_kept : (temporary name other : List ℕ) (whole : List ℕ → Type 0) (call : NameEvent) (calls : NameCalls) → temporary ≢ other → name ≢ other → IsOfReplacing temporary name whole call → (first held : Option (List ℕ)) → MayHave (place_of other) first (call ∷ calls) held → MayHave (place_of other) first calls held
-call_kept t n other whole (name_call.Made, made, two, file) calls at an is first held (inl here) = absurd (not_here made t other is at here.0)
-call_kept t n other whole (name_call.Made, made, two, file) calls at an is first held (inr there) = there
+call_kept t n other whole (name_call.Made asked, made, two, file) calls at an is first held (inl here) = absurd (not_here made t other is at here.0)
+call_kept t n other whole (name_call.Made asked, made, two, file) calls at an is first held (inr there) = there
 call_kept t n other whole (Removed, gone, two, file) calls at an is first held (inl here) = absurd (not_here gone t other is at here.0)
 call_kept t n other whole (Removed, gone, two, file) calls at an is first held (inr there) = there
 call_kept t n other whole (NotRemoved, gone, two, file) calls at an is first held (inl here) = absurd (not_here gone t other is at here.0)
@@ -152,7 +152,7 @@ others_kept t n whole (call ∷ since) old all = (calls_kept t n whole (call ∷
 -- without a rename the name is left too
 unrenamed_kept : (temporary name : List ℕ) (whole : List ℕ → Type 0) (call : NameEvent) (calls : NameCalls) → temporary ≢ name → IsOfReplacing temporary name whole call → IsNoFailedRename call → renames (call ∷ calls) ≡ 0 → (first : Option (List ℕ))
     → (renames calls ≡ 0) × ((held : Option (List ℕ)) → MayHave (place_of name) first (call ∷ calls) held → MayHave (place_of name) first calls held)
-unrenamed_kept t n whole (name_call.Made, made, two, file) calls apart is tried none first = (none, λ held h. elim h [ inl here ↦ absurd (not_here made t n is apart here.0) | inr there ↦ there ])
+unrenamed_kept t n whole (name_call.Made asked, made, two, file) calls apart is tried none first = (none, λ held h. elim h [ inl here ↦ absurd (not_here made t n is apart here.0) | inr there ↦ there ])
 unrenamed_kept t n whole (Removed, gone, two, file) calls apart is tried none first = (none, λ held h. elim h [ inl here ↦ absurd (not_here gone t n is apart here.0) | inr there ↦ there ])
 unrenamed_kept t n whole (NotRemoved, gone, two, file) calls apart is tried none first = (none, λ held h. elim h [ inl here ↦ absurd (not_here gone t n is apart here.0) | inr there ↦ there ])
 unrenamed_kept t n whole (Renamed len, from, to, file) calls apart is tried none first = absurd (omega (arith, none))

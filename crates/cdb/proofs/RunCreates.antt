@@ -113,8 +113,8 @@ if_not_done : (P : Type 0) (answer : Result Unit Fault) → OnErr answer P → (
 if_not_done P (Ok done) h some = absurd (some refl)
 if_not_done P (Err fault) h some = h
 
-comes_so : {M S : Type 0} {old new : S} {was : NameCalls} (m : Ghosts M) (disk : Disk) (shown : MakeOptions) (c : Created) (explained : Bool) (now : NameCalls) (made : Option M) (command : Command) (name : List ℕ) (base : Option (List ℕ)) (inputs : List (List ℕ)) (temporary : Option (List ℕ)) (o : MakeOptions) (wide : Bool) (start end final told before said : Option (List ℕ)) (unwritten unsaid : Type 0) (answer result : Result Unit Fault) (status : ℕ) → asked_in command ≡ asked.Create name base inputs temporary o wide → Keeps end final → result ≡ answer → (unwritten → ⊥) → OutputSays (unwritten ⊎ unsaid) result → (unsaid → ⊥)
-    → (explained ≡ false → SaysOnly result before said unsaid) → status ≡ status_of command result → (explained ≡ false → IsPlain shown) → Came m disk name shown c now made start end told before answer → IsCreated m (expected_of disk name temporary c) explained made (state_of old was start told) (state_of new now final said) status ⊎ IsGivenUp c explained (state_of old was start told) (state_of new now final said) status
+comes_so : {M : Type 0} {old new : OpenCalls} {was : NameCalls} (m : Ghosts M) (disk : Disk) (shown : MakeOptions) (c : Created) (explained : Bool) (now : NameCalls) (made : Option M) (command : Command) (name : List ℕ) (base : Option (List ℕ)) (inputs : List (List ℕ)) (temporary : Option (List ℕ)) (o : MakeOptions) (wide : Bool) (start end final told before said : Option (List ℕ)) (unwritten unsaid : Type 0) (answer result : Result Unit Fault) (status : ℕ) → asked_in command ≡ asked.Create name base inputs temporary o wide → Keeps end final → result ≡ answer → (unwritten → ⊥) → OutputSays (unwritten ⊎ unsaid) result → (unsaid → ⊥)
+    → (explained ≡ false → SaysOnly result before said unsaid) → status ≡ status_of command result → (explained ≡ false → IsPlain shown) → Came m disk name shown c new now made start end told before answer → IsCreated m (expected_of disk name temporary c) explained made (state_of old was start told) (state_of new now final said) status ⊎ IsGivenUp c explained (state_of old was start told) (state_of new now final said) status
 comes_so m disk shown c explained now made command name base inputs temporary o wide start end final told before said unwritten unsaid answer result status a kept same writes tells speaks says is unnamed (inl h) =
     let whole : result ≡ c.result = same ∙ h.0.is in
     inl (record {
@@ -140,7 +140,7 @@ honest_so final before h = record { calls = h.calls; are = h.are; answered = h.a
 
 run_holds : {F I M R Y : Type 0} (s : Ghosts F) (m : Ghosts M) (r : Raw R) (remaining : I → Option (List ℕ)) (y : Systems Y F I M) (planned : Result Asked Refused) (explained : Bool) (given : Option (List ℕ)) (old new : Y) (was now : NameCalls) (left : Left F M) (start end final told said : Option (List ℕ)) (unwritten unsaid : Type 0) (status : ℕ) (disk : Disk) (input name : List ℕ) (base : Option (List ℕ)) (inputs : List (List ℕ)) (temporary : Option (List ℕ)) (o : MakeOptions) (wide : Bool)
     → planned ≡ Ok (asked.Create name base inputs temporary o wide) → (unwritten → ⊥) → (unsaid → ⊥) → Keeps end final → GivesInputs disk inputs input given → HonestCreate (files_of s m remaining y) disk name (state_of (y.calls old) was start told) (state_of (y.calls new) now final said) left.read → Runs (files_of s m remaining y) r (given_of planned explained given) (state_of old was start told) (state_of new now end said) final left (failed_of unwritten unsaid) status
-    → CreateHolds m (expected_of disk name temporary (create_of (word_size wide) (greatest_size wide) disk input name base inputs temporary o)) explained left.made (state_of old was start told) (state_of new now final said) status
+    → CreateHolds m (expected_of disk name temporary (create_of (word_size wide) (greatest_size wide) disk input name base inputs temporary o)) explained left.made (state_of (y.calls old) was start told) (state_of (y.calls new) now final said) status
 run_holds s m r remaining y planned explained given old new was now left start end final told said unwritten unsaid status disk input name base inputs temporary o wide plan writes speaks kept gives honest (inl none) = elim none.why [
   | inl lacks ↦ (let c = create_of (word_size wide) (greatest_size wide) disk input name base inputs temporary o in
       let is : status ≡ 111 = none.is_status ∙ ap (λ x. usage_status (usage_of x)) lacks in
@@ -170,7 +170,7 @@ run_holds s m r remaining y planned explained given old new was now left start e
     let handed = handed_all does.end final unwritten does.answer some.result writes does.hands in
     let c = create_of (word_size wide) (greatest_size wide) disk input name base inputs temporary shown in
     let some_is : status ≡ plain does.answer = some.is_status ∙ status_create command name base inputs temporary o wide some.result a ∙ ap plain handed.1 in
-    named_holds m (word_size wide) (greatest_size wide) disk input name base inputs temporary o shown explained left.made (state_of old was start told) (state_of new now final said) status shows.1
+    named_holds m (word_size wide) (greatest_size wide) disk input name base inputs temporary o shown explained left.made (state_of (y.calls old) was start told) (state_of (y.calls new) now final said) status shows.1
     (record {
       comes = λ had has. comes_so m disk shown c explained now left.made command name base inputs temporary o wide start does.end final told some.before said unwritten unsaid does.answer some.result status a handed.0 handed.1 writes some.output speaks (λ unexplained. says_only explained (asked_in command) some.result (y.calls new) now some.more some.before said unsaid unexplained some.explains some.says) some.is_status (λ unexplained. shown_plain explained inputs o shown shows.1 unexplained) (so.answer had has);
       done = λ zero. if_done _ does.answer so.done (sym some_is ∙ zero);
@@ -185,5 +185,5 @@ pub run_is_created : {F I M R Y W V : Type 0} (s : Ghosts F) (m : Ghosts M) (r :
 run_is_created s m r remaining y planned explained given old new was now left of_output of_errors output_old output_new errors_old errors_new status handed said runs = λ disk input name base inputs temporary o wide plan taken gives honest.
     (let end = output_bytes of_output output_new in
     let kept = subst (Keeps end) (all_taken of_output output_new (handed taken.0) taken.1) (Keeps-refl end) in
-    subst (λ t. CreateHolds m (expected_of disk name temporary (create_of (word_size wide) (greatest_size wide) disk input name base inputs temporary o)) explained left.made (state_of old was (output_bytes of_output output_old) (output_bytes of_errors errors_old)) (state_of new now (of_output output_new.writer) t) status) (all_taken of_errors errors_new said taken.2)
+    subst (λ t. CreateHolds m (expected_of disk name temporary (create_of (word_size wide) (greatest_size wide) disk input name base inputs temporary o)) explained left.made (state_of (y.calls old) was (output_bytes of_output output_old) (output_bytes of_errors errors_old)) (state_of (y.calls new) now (of_output output_new.writer) t) status) (all_taken of_errors errors_new said taken.2)
     (run_holds s m r remaining y planned explained given old new was now left (output_bytes of_output output_old) end (of_output output_new.writer) (output_bytes of_errors errors_old) (output_bytes of_errors errors_new) (OutputFailed output_new) (OutputFailed errors_new) status disk input name base inputs temporary o wide plan taken.1 taken.2 kept gives (honest_so (of_output output_new.writer) (output_bytes of_errors errors_new) honest) runs))

@@ -1,6 +1,6 @@
 -- Which file a fault is of, what is said of it, and the line that says it.
 use Rattle.std.specs.Prelude.{ℕ, ℤ, ◌≡◌, ◌⊎◌, List, [], ◌∷◌, ◌&&◌, not, Option, None, Some, codes}
-use Rattle.std.specs.Prelude.{bytes_eq, if◌then◌else◌, option_map}
+use Rattle.std.specs.Prelude.{bytes_eq, if◌then◌else◌, length, nat_lt, option_map}
 use Rattle.std.specs.Prelude.{Bool, true, false, Result, Ok, Err}
 use Rattle.cdb_command.specs.Asked.{Asked}
 use Rattle.cdb_command.specs.Asked as asked
@@ -49,8 +49,14 @@ cause_words command cause.NoPlaces name other = Some (codes "a pipe or a device 
 cause_words command cause.Same name other = same_words command name other
 cause_words command cause.Input name other = Some (codes "is an input")
 cause_words command cause.Replaced name other = Some (codes "its temporary file was replaced")
+cause_words command cause.Lost name other = Some (codes "its file was replaced or removed")
 cause_words command cause.Bits name other = Some (codes "does not get its permissions")
 cause_words command cause.Closed name other = Some (codes "a standard stream is closed")
+
+-- what is said of a name that was refused: of an empty one that it is empty
+abbrev pub refusal_words : Asked → Cause → (name other : List ℕ) → Option (List ℕ)
+refusal_words command why name other =
+    if nat_lt 0 (length name) then cause_words command why name other else Some (codes "the name is empty")
 
 -- a name was refused last, for a cause: of the files that are opened, or of those that are replaced
 abbrev pub IsRefusedFor : (opened : OpenCalls) → (named : NameCalls) → Cause
@@ -62,9 +68,9 @@ IsRefusedFor opened named why name other =
 abbrev pub IsRefusedOpening : Asked → (opened : OpenCalls) → (named : NameCalls) → (name : List ℕ)
     → (said : Option (List ℕ)) → Type 0
 IsRefusedOpening command opened named name said = (why : Cause) × (other : List ℕ)
-    × IsRefusedFor opened named why name other × (said ≡ cause_words command why name other)
+    × IsRefusedFor opened named why name other × (said ≡ refusal_words command why name other)
 
--- the name of a database, on which no call was made: it is empty or ends in a slash
+-- the name of a database that no file can have: it is empty or ends in a slash
 abbrev pub no_name_words : (name : List ℕ) → List ℕ
 no_name_words [] = codes "the name is empty"
 no_name_words (c ∷ name) = codes "the name ends in a slash"
@@ -80,9 +86,9 @@ IsNoNameOf command name said = ⊥
 abbrev pub IsOfSystem : (said : Option (List ℕ)) → Type 0
 IsOfSystem said = (number : Option ℤ) × (said ≡ option_map error_words number)
 
--- a line, if it is known
+-- a line
 abbrev pub IsOfLine : (said : Option (List ℕ)) → Type 0
-IsOfLine said = (line : Option ℕ) × (said ≡ option_map line_words line)
+IsOfLine said = (line : ℕ) × (said ≡ Some (line_words line))
 
 -- of an input: the line of the fault's place, or why it was not read
 abbrev pub IsOfTextOf : TextFault → (said : Option (List ℕ)) → Type 0

@@ -123,7 +123,7 @@ abbrev name_calls : NameCalls
 name_calls =
     (name_call.Synced, its, [], []) ∷ (name_call.Renamed 2048, temporary, its, file_calls)
     ∷ (name_call.Same looks.No, temporary, its, []) ∷ (name_call.Own looks.Yes, temporary, [], [])
-    ∷ (name_call.Made, temporary, [], []) ∷ (name_call.Special looks.No, its, [], [])
+    ∷ (name_call.Made 384, temporary, [], []) ∷ (name_call.Special looks.No, its, [], [])
     ∷ (name_call.Input looks.No, temporary, [], []) ∷ []
 
 newline_is : AreBytes (codes "\n")

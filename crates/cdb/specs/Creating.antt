@@ -31,9 +31,10 @@ use Rattle.cdb_tool.specs.Views.Inputs.{one_of}
 use Rattle.cdb.specs.Files.{Files}
 use Rattle.cdb.specs.Inputs.{IsStandard, MissesBase, OpensBase, OpensInputs, StopsOpening}
 use Rattle.cdb.specs.Inputs.{inputs_read}
-use Rattle.cdb.specs.Opening.{Empties, MissesEmptying, OpenCalls, base_left}
+use Rattle.cdb.specs.Opening.{Empties, MissesEmptying, OpenCalls, base_left, named_as}
 use Rattle.cdb.specs.State.{State}
 use Rattle.cdb.specs.declared.left.Left.{Left}
+use Rattle.cdb.specs.declared.open_trace.OpenCall.TheVariants.{Own}
 use Rattle.cdb.specs.declared.system.System.{Ghosts as Systems}
 
 -- ---- the database
@@ -195,9 +196,19 @@ pub record Syncs {M : Type 0} (s : Ghosts M) (built left : M) (made result : Res
       ⊎ (IsOk made × (result ≡ Err (Make Writing)) × (s.failures built < s.failures left))
   pub settled : OnOk result (s.settled left)
 
--- a run was made in the store that came, and it has the database if the create succeeds. It is left so
+-- after a success the system answered last whether the name has the file, and the result is what that comes
+-- to; a fault stays, and nothing is asked
+abbrev pub SeesName : (name : List ℕ) → (was now : OpenCalls) → (synced result : Result Unit Fault)
+    → Type 0
+SeesName name was now (Ok done) result =
+    (answer : Answer) × (now ≡ (Own answer, name) ∷ was) × (result ≡ named_as answer)
+SeesName name was now (Err fault) result = (now ≡ was) × (result ≡ Err fault)
+
+-- a run was made in the store that came, which was emptied by these calls. It has the database once the run
+-- and its sync succeed, and the create succeeds if the name has the file then. It is left so
 pub record MakesEmptied {F I M Y : Type 0} (files : Files F I M Y) (m : Making F) (name : List ℕ)
-    (old new : State OpenCalls) (left : Left F M) (result : Result Unit Fault) : Type 0 where
+    (emptied : OpenCalls) (old new : State OpenCalls) (left : Left F M) (result : Result Unit Fault)
+    : Type 0 where
   pub store : M
   pub came : files.system.makes name store
   pub built : M
@@ -208,8 +219,10 @@ pub record MakesEmptied {F I M Y : Type 0} (files : Files F I M Y) (m : Making F
   pub run : IsBufferedRun files.stores m left.read (files.made.image built) old.errors new.errors
       made
   pub cause : HasCauseInStore files.made store built made
-  pub syncs : Syncs files.made built last made result
-  pub has : OnOk result (HasDatabase files.stores m left.read (files.made.image last))
+  pub synced : Result Unit Fault
+  pub syncs : Syncs files.made built last made synced
+  pub has : OnOk synced (HasDatabase files.stores m left.read (files.made.image last))
+  pub named : SeesName name emptied new.opened synced result
 
 -- a file that is read may be the one of the name; or none is, as was asked of each, and then the file of
 -- the name is not emptied, or it is, once its lock is held. The base is handed back, as it was if nothing
@@ -222,8 +235,8 @@ MakesInPlace files m wanted old new left result =
     ⊎ (AsksAll wanted.name wanted.base wanted.inputs old.named new.named
     × (((fault : Fault) × MissesEmptying wanted.name old.opened new.opened fault
     × (left ≡ base_left m.base) × (result ≡ Err fault) × Keeps old.errors new.errors)
-    ⊎ (Empties wanted.name old.opened new.opened
-    × MakesEmptied files m wanted.name old new left result)))
+    ⊎ ((emptied : OpenCalls) × Empties wanted.name old.opened emptied
+    × MakesEmptied files m wanted.name emptied old new left result)))
 
 -- ---- in a temporary file
 

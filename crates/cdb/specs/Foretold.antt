@@ -14,6 +14,7 @@ use Rattle.cdb_form.specs.declared.walk.fault.WalkFault.TheVariants as walk
 use Rattle.cdb_read.specs.InOrder.{FindsInOrder}
 use Rattle.cdb_store.specs.declared.store.Store.{Ghosts}
 use Rattle.cdb_tool.specs.Message.{fault_line}
+use Rattle.cdb_tool.specs.Runs.Difference.{heads_fault}
 use Rattle.cdb_tool.specs.Runs.MakesSo.{KnownFor}
 use Rattle.cdb_tool.specs.Views.Output.{held_by, OutputFailed}
 use Rattle.cdb_tool.specs.declared.fault.Fault.{Fault}
@@ -27,7 +28,7 @@ use Rattle.cdb.specs.State.{Given, State}
 use Rattle.cdb.specs.declared.left.Left.{Left}
 use Rattle.cdb.specs.declared.open_trace.OpenCall.{OpenCall}
 use Rattle.cdb.specs.declared.open_trace.OpenCall.TheVariants.{AtPlaces, InTurn, Stream, Emptied}
-use Rattle.cdb.specs.declared.open_trace.OpenCall.TheVariants.{Locked, ToEmpty, Unopened}
+use Rattle.cdb.specs.declared.open_trace.OpenCall.TheVariants.{Locked, Own, ToEmpty, Unopened}
 use Rattle.cdb.specs.declared.system.System.{Ghosts as Systems}
 
 -- ---- the calls, and the files that were opened
@@ -45,7 +46,8 @@ Shows s (Some bytes) [] = ⊥
 Shows s None stores = ⊥
 
 -- a call on a name was answered as the files are: none is a pipe or a device, a store and a reader have
--- the bytes of their file, and what could not be opened is not there. Memory may fail
+-- the bytes of their file, and what could not be opened is not there. Memory may fail, and other processes
+-- may lock what is made in place, or take its name from it
 abbrev pub IsAnswered : {F I M Y : Type 0} → Ghosts F → (I → Option (List ℕ)) → Systems Y F I M
     → Disk → List F → OpenCall → List ℕ → Type 0
 IsAnswered s remaining y disk stores AtPlaces name = Shows s (disk name) stores
@@ -54,6 +56,7 @@ IsAnswered s remaining y disk stores InTurn name =
 IsAnswered s remaining y disk stores (Stream answer) name = answer ≡ No
 IsAnswered s remaining y disk stores ToEmpty name = ⊤
 IsAnswered s remaining y disk stores (Locked lock) name = ⊤
+IsAnswered s remaining y disk stores (Own answer) name = ⊤
 IsAnswered s remaining y disk stores Emptied name = ⊤
 IsAnswered s remaining y disk stores (Unopened why.Failed found) name = disk name ≡ None
 IsAnswered s remaining y disk stores (Unopened why.NoMemory found) name = ⊤
@@ -102,13 +105,18 @@ ReadsInput disk (asked.Lookups name inputs number style wide) input given =
 ReadsInput disk command input given = ⊤
 
 -- a file has no damage, and its look-ups give what its walk gives, as in each file that cdb made
-abbrev pub IsInOrder : ℕ → (file : Option (List ℕ)) → Type 0
-IsInOrder w file = IfSome file (λ bytes. ((walk_of w bytes).damage ≡ None) × FindsInOrder w bytes)
+abbrev pub IsInOrder : ℕ → List ℕ → Type 0
+IsInOrder w bytes = ((walk_of w bytes).damage ≡ None) × FindsInOrder w bytes
 
--- so are both files of a difference
+-- so are two files, unless their heads say why they are not compared
+abbrev pub AreComparable : ℕ → (old new : Option (List ℕ)) → Type 0
+AreComparable w old new = IfSome old (λ b. IfSome new (λ c.
+    heads_fault w b c ≡ None → IsInOrder w b × IsInOrder w c))
+
+-- and both files of a difference
 abbrev pub AreInOrder : Disk → Asked → Type 0
 AreInOrder disk (asked.Difference old new wide) =
-    IsInOrder (word_size wide) (disk old) × IsInOrder (word_size wide) (disk new)
+    AreComparable (word_size wide) (disk old) (disk new)
 AreInOrder disk command = ⊤
 
 -- all that a command called and read was as the files and standard input are

@@ -1,6 +1,6 @@
 -- What the oracle says of a create comes true if the calls were answered as the disk is. The newest call
 -- comes first.
-use Rattle.std.specs.Prelude.{ℕ, ◌≡◌, ◌≢◌, ◌⊎◌, ⊤, bytes_eq, Bool, true, false, List, [], ◌++◌}
+use Rattle.std.specs.Prelude.{ℕ, ◌≡◌, ◌≢◌, ◌⊎◌, ⊤, bytes_eq, Bool, true, false, List, [], ◌∷◌, ◌++◌}
 use Rattle.std.specs.Prelude.{if◌then◌else◌, Option, None, Some, Result, Ok}
 use Rattle.std.specs.List.{AllByRecursion}
 use Rattle.std.specs.Io.KnownBytes.{Appends}
@@ -9,7 +9,7 @@ use Rattle.cdb_command.specs.declared.options.MakeOptions.{MakeOptions}
 use Rattle.cdb_command.specs.Refused.{Refused}
 use Rattle.cdb_files.specs.Folder.{Has, IsCleared, MayHave, NameCalls}
 use Rattle.cdb_files.specs.Replacing.{AtEachMoment, IsNew, NameEvent}
-use Rattle.cdb_files.specs.declared.answer.Answer.TheVariants.{No}
+use Rattle.cdb_files.specs.declared.answer.Answer.TheVariants.{No, Yes}
 use Rattle.cdb_files.specs.declared.name_trace.NameCall.TheVariants.{Input, NotRemoved, NotRenamed, Same}
 use Rattle.cdb_form.specs.Views.KnownBytes.{AppendsPrefix}
 use Rattle.cdb_store.specs.Calls.{Agrees, Calls, lost}
@@ -26,6 +26,7 @@ use Rattle.cdb.specs.Opening.{OpenCalls}
 use Rattle.cdb.specs.Oracle.{Disk, greatest_size, is_standard, word_size}
 use Rattle.cdb.specs.State.{Given, State, with_calls}
 use Rattle.cdb.specs.declared.left.Left.{Left}
+use Rattle.cdb.specs.declared.open_trace.OpenCall.TheVariants.{Own}
 
 -- ---- the calls
 
@@ -74,20 +75,25 @@ IsNoFailedRename (call, name, other, file) = ⊤
 
 -- ---- the disk
 
+-- the system answered last that a name has the file that was made in place
+abbrev pub IsNamed : (name : List ℕ) → OpenCalls → Type 0
+IsNamed name opened = (before : OpenCalls) × (opened ≡ (Own Yes, name) ∷ before)
+
 -- what a name has then: what the calls on names left, and the name of the database, if that was made in
--- place, what the store has
-abbrev pub NameHolds : {M : Type 0} → Ghosts M → Disk → (name : List ℕ) → Option M → NameCalls
-    → (other : List ℕ) → (held : Option (List ℕ)) → Type 0
-NameHolds m disk name None now other held = Has (place_of other) (disk other) now held
-NameHolds m disk name (Some store) now other held =
-    ((bytes_eq other name ≡ true) × IsNew (m.image store) held)
+-- place, what the store has, or what another process left there if the name was not seen to have its file
+abbrev pub NameHolds : {M : Type 0} → Ghosts M → Disk → (name : List ℕ) → Option M → OpenCalls
+    → NameCalls → (other : List ℕ) → (held : Option (List ℕ)) → Type 0
+NameHolds m disk name None opened now other held = Has (place_of other) (disk other) now held
+NameHolds m disk name (Some store) opened now other held =
+    ((bytes_eq other name ≡ true) × (IsNamed name opened → IsNew (m.image store) held))
     ⊎ ((bytes_eq other name ≡ false) × Has (place_of other) (disk other) now held)
 
 -- each name has what was said, but for one of which nothing was
-abbrev pub HoldsAll : {M : Type 0} → Ghosts M → Disk → (name : List ℕ) → Option M → NameCalls
-    → Created → Type 0
-HoldsAll m disk name made now c = (other : List ℕ) (held : Option (List ℕ)) → c.unsure ≢ Some other
-    → NameHolds m disk name made now other held → held ≡ c.disk other
+abbrev pub HoldsAll : {M : Type 0} → Ghosts M → Disk → (name : List ℕ) → Option M → OpenCalls
+    → NameCalls → Created → Type 0
+HoldsAll m disk name made opened now c = (other : List ℕ) (held : Option (List ℕ))
+    → c.unsure ≢ Some other → NameHolds m disk name made opened now other held
+    → held ≡ c.disk other
 
 -- the name whose file may have any bytes amid a create: the temporary one, or the one that is made in
 -- place
@@ -144,24 +150,24 @@ expected_of disk name temporary created =
     record { disk = disk; name = name; temporary = temporary; created = created }
 
 -- it came to what was said, and so did the disk, and the lines unless faults are explained
-pub record IsCreated {M S : Type 0} (m : Ghosts M) (x : Expected) (explained : Bool)
-    (made : Option M) (old new : State S) (status : ℕ) : Type 0 where
+pub record IsCreated {M : Type 0} (m : Ghosts M) (x : Expected) (explained : Bool)
+    (made : Option M) (old new : State OpenCalls) (status : ℕ) : Type 0 where
   pub is_status : status ≡ (created_ending x.created).outcome.status
   pub output : Appends old.output new.output (created_ending x.created).outcome.output
   pub lines : explained ≡ false
       → Appends old.errors new.errors (created_ending x.created).outcome.lines
   pub disk_is : AllByRecursion IsNoFailedRemoval new.named
-      → HoldsAll m x.disk x.name made new.named x.created
+      → HoldsAll m x.disk x.name made new.opened new.named x.created
 
 -- what was foretold, from the words to the exit status: it came true, or a refusal was reported; at
 -- status 0 the disk is as was said, at another as it was; and at each moment a crash leaves what was there
 -- or what was said
-pub record CreateHolds {M S : Type 0} (m : Ghosts M) (x : Expected) (explained : Bool)
-    (made : Option M) (old new : State S) (status : ℕ) : Type 0 where
+pub record CreateHolds {M : Type 0} (m : Ghosts M) (x : Expected) (explained : Bool)
+    (made : Option M) (old new : State OpenCalls) (status : ℕ) : Type 0 where
   pub comes : HadBytes (temporary_of x.name x.temporary) new.named → HasBytes m made
       → IsCreated m x explained made old new status
       ⊎ IsGivenUp x.created explained old new status
-  pub done : status ≡ 0 → HoldsAll m x.disk x.name made new.named x.created
+  pub done : status ≡ 0 → HoldsAll m x.disk x.name made new.opened new.named x.created
   pub failed : status ≢ 0 → AllByRecursion IsNoFailedRename new.named
       → KeepsAll x.disk (passing x.name x.temporary) new.named
   pub moments : AtEachMoment
@@ -178,4 +184,4 @@ IsCreateForetold files given old new left taken status =
     → HonestCreate files disk name (with_calls files old) (with_calls files new) left.read
     → CreateHolds files.made (expected_of disk name temporary
     (create_of (word_size wide) (greatest_size wide) disk input name base inputs temporary o))
-    given.explained left.made old new status
+    given.explained left.made (with_calls files old) (with_calls files new) status

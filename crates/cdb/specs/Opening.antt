@@ -1,21 +1,23 @@
 -- The calls on files, and why one is not opened. The newest call comes first.
 use Rattle.std.specs.Prelude.{ℕ, ◌≡◌, ◌≢◌, ◌⊎◌, Bool, true, false, List, [], ◌∷◌}
-use Rattle.std.specs.Prelude.{Option, None, Some, string_bytes}
+use Rattle.std.specs.Prelude.{Option, None, Some, Result, Ok, Err, string_bytes}
 use Rattle.cdb_files.specs.Refusals.{is_of_system, may_be_for}
-use Rattle.cdb_files.specs.declared.answer.Answer.TheVariants.{Unknown}
+use Rattle.cdb_files.specs.declared.answer.Answer.{Answer}
+use Rattle.cdb_files.specs.declared.answer.Answer.TheVariants.{No, Unknown, Yes}
 use Rattle.cdb_files.specs.declared.answer.Lock.{Lock}
 use Rattle.cdb_files.specs.declared.answer.Lock.TheVariants.{Held}
 use Rattle.cdb_files.specs.declared.name_fault.NameFault.{NameFault}
 use Rattle.cdb_files.specs.declared.name_fault.NameFault.TheVariants as why
 use Rattle.cdb_files.specs.declared.name_trace.NameCall.TheVariants as call
 use Rattle.cdb_files.specs.declared.refusal.Cause.{Cause}
-use Rattle.cdb_files.specs.declared.refusal.Cause.TheVariants.{Failed}
+use Rattle.cdb_files.specs.declared.refusal.Cause.TheVariants.{Failed, Lost}
 use Rattle.cdb_files.specs.declared.refusal.Refusal.{Refusal}
 use Rattle.cdb.specs.declared.left.Left.{Left}
 use Rattle.cdb.specs.declared.open_trace.OpenCall.{OpenCall}
-use Rattle.cdb.specs.declared.open_trace.OpenCall.TheVariants.{Emptied, Locked, Stream, ToEmpty, Unopened}
+use Rattle.cdb.specs.declared.open_trace.OpenCall.TheVariants.{Emptied, Locked, Own, Stream, ToEmpty}
+use Rattle.cdb.specs.declared.open_trace.OpenCall.TheVariants.{Unopened}
 use Rattle.cdb_tool.specs.declared.fault.Fault.{Fault}
-use Rattle.cdb_tool.specs.declared.fault.Fault.TheVariants.{Open, NoMemory}
+use Rattle.cdb_tool.specs.declared.fault.Fault.TheVariants.{Open, NoMemory, Rename}
 
 -- the calls, each with its name
 abbrev pub OpenCalls : Type 0
@@ -33,11 +35,21 @@ pub record Misses (name : List ℕ) (old new : OpenCalls) (fault : Fault) : Type
   pub is : fault ≡ unopened why
   pub calls : new ≡ (Unopened why found, name) ∷ old
 
--- the file of a name was opened to be emptied, and no other process holds its lock
-pub record TakesToEmpty (name : List ℕ) (old new : OpenCalls) : Type 0 where
+-- what it comes to whether a name has the file in which its database is made
+abbrev pub named_as : Answer → Result Unit Fault
+named_as Yes = Ok tt
+named_as answer = Err Rename
+
+-- the file of a name was opened to be emptied, no other process holds its lock, and then it was asked
+-- whether the name has the file
+pub record AsksToEmpty (name : List ℕ) (old new : OpenCalls) (answer : Answer) : Type 0 where
   pub lock : Lock
   pub free : lock ≢ Held
-  pub calls : new ≡ (Locked lock, name) ∷ (ToEmpty, name) ∷ old
+  pub calls : new ≡ (Own answer, name) ∷ (Locked lock, name) ∷ (ToEmpty, name) ∷ old
+
+-- it has
+abbrev pub TakesToEmpty : (name : List ℕ) → (old new : OpenCalls) → Type 0
+TakesToEmpty name old new = AsksToEmpty name old new Yes
 
 -- so were the last calls
 abbrev pub MayEmpty : (name : List ℕ) → OpenCalls → Type 0
@@ -49,11 +61,13 @@ pub record Empties (name : List ℕ) (old new : OpenCalls) : Type 0 where
   pub takes : TakesToEmpty name old locked
   pub calls : new ≡ (Emptied, name) ∷ locked
 
--- or it was not: it was not opened, or another process holds its lock, or it cannot be emptied
+-- or it was not: it was not opened, or another process holds its lock, or the name was not said to have
+-- it, or it cannot be emptied
 abbrev pub MissesEmptying : (name : List ℕ) → (old new : OpenCalls) → Fault → Type 0
 MissesEmptying name old new fault =
     Misses name old new fault
     ⊎ ((fault ≡ Open) × (new ≡ (Locked Held, name) ∷ (ToEmpty, name) ∷ old))
+    ⊎ ((answer : Answer) × AsksToEmpty name old new answer × (named_as answer ≡ Err fault))
     ⊎ ((locked : OpenCalls) × TakesToEmpty name old locked × Misses name locked new fault)
 
 -- no file is handed back; or one that was read, a base if there is one, or an old database and a new
@@ -75,11 +89,13 @@ if_fits true why = why
 if_fits false why = Failed
 
 -- the name that a call refused, if it did, without another name, and the cause. A file that was not
--- opened has its own; a lock and a look have this one, if they may
+-- opened has its own, and one that lost its name; a lock and a look have this one, if they may
 abbrev pub refused_by : Cause → OpenCall → (name : List ℕ) → Option (List ℕ × List ℕ × Cause)
 refused_by why (Unopened fault found) name = Some (name, [], found)
 refused_by why (Locked Held) name = Some (name, [], if_fits (may_be_for (call.Locked Held) why) why)
 refused_by why (Stream Unknown) name = Some (name, [], if_fits (is_of_system why) why)
+refused_by why (Own No) name = Some (name, [], Lost)
+refused_by why (Own Unknown) name = Some (name, [], if_fits (is_of_system why) why)
 refused_by why call name = None
 
 -- the newest of these

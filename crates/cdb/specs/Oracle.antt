@@ -13,11 +13,10 @@ use Rattle.cdb_form.specs.Text.Amending.{amending_text}
 use Rattle.cdb_form.specs.declared.damage.Damage.{Damage}
 use Rattle.cdb_form.specs.declared.damage.Damage.TheVariants.{Short}
 use Rattle.cdb_read.specs.Faults.{first_fault}
-use Rattle.cdb_read.specs.OtherWidth.{lacks_tables}
 use Rattle.cdb_read.specs.Statistics.{statistics_damage}
 use Rattle.cdb_read.specs.Views.ReadFault.{damage_fault}
 use Rattle.cdb_tool.specs.Message.{fault_line}
-use Rattle.cdb_tool.specs.Runs.Difference.{difference_of}
+use Rattle.cdb_tool.specs.Runs.Difference.{difference_of, heads_fault}
 use Rattle.cdb_tool.specs.Runs.Form.{Form, dump_form, list_form}
 use Rattle.cdb_tool.specs.Runs.LookedUp.{records_asked}
 use Rattle.cdb_tool.specs.Runs.Query.{Query, query_text, query_answer, value_text}
@@ -25,7 +24,7 @@ use Rattle.cdb_tool.specs.Runs.Stats.{statistics_text}
 use Rattle.cdb_tool.specs.Runs.WalkText.{walk_text}
 use Rattle.cdb_tool.specs.Status.{check_status, plain_status}
 use Rattle.cdb_tool.specs.declared.fault.Fault.{Fault}
-use Rattle.cdb_tool.specs.declared.fault.Fault.TheVariants.{Read, Open, Long, NoOldTables, NoNewTables}
+use Rattle.cdb_tool.specs.declared.fault.Fault.TheVariants.{Read, Open, Long}
 use Rattle.cdb.specs.Performs.{usage_line, usage_status}
 
 -- what a run comes to: its exit status, what it writes, and its lines on standard error
@@ -85,12 +84,15 @@ stats_outcome w bytes =
 abbrev pub check_outcome : ℕ → List ℕ → Outcome
 check_outcome w bytes = ended check_status [] (met (first_fault w bytes))
 
--- what changed between two files, unless one of them lacks tables
+-- a fault, or a text
+abbrev pub unless_fault : Option Fault → List ℕ → Outcome
+unless_fault None text = ended plain_status text (Ok tt)
+unless_fault (Some fault) text = ended plain_status [] (Err fault)
+
+-- what changed between two files, unless their heads say why they are not compared
 abbrev pub difference_outcome : ℕ → (old new : List ℕ) → Outcome
 difference_outcome w old new =
-    if lacks_tables w old then ended plain_status [] (Err NoOldTables)
-    else if lacks_tables w new then ended plain_status [] (Err NoNewTables)
-    else ended plain_status (amending_text (difference_of w old new)) (Ok tt)
+    unless_fault (heads_fault w old new) (amending_text (difference_of w old new))
 
 -- ---- the files
 

@@ -25,9 +25,9 @@ use Rattle.cdb_store.specs.declared.memory.MemStore.{MemStore}
 use Rattle.cdb_tool.specs.Runs.MakesSo.{KnownFor}
 use Rattle.cdb_tool.specs.Runs.StatsText.{distance_lines, stats_text}
 use Rattle.cdb.specs.Files.{files_of}
-use Rattle.cdb.specs.Foretold.{Honest, Reveals}
+use Rattle.cdb.specs.Foretold.{AreComparable, Honest, Reveals}
 use Rattle.cdb.specs.Opening.{OpenCalls, none_left, read_left}
-use Rattle.cdb.specs.Oracle.{Disk, Outcome, command_outcome, lookups_outcome}
+use Rattle.cdb.specs.Oracle.{Disk, Outcome, command_outcome, difference_outcome, lookups_outcome}
 use Rattle.cdb.specs.declared.open_trace.OpenCall.TheVariants.{AtPlaces, InTurn}
 use Rattle.cdb.specs.declared.system.System.{Ghosts as Systems}
 
@@ -115,6 +115,34 @@ unindexed_is = refl
 difference_is : command_outcome (Difference name other false) disk [] ≡ comes 0 (codes "-3:one\n-3:two\n+1,1:a->1\n\n") []
 unfolding disk name other comes two_stats two_file foreign_file put_at words_of repeat walk_of walk_from whole_records record_end head_at lookup_of met_slots found_at statistics_of statistics_damage distances_in stats_text distance_lines first_fault first_of slots_fault all_slots entries_from digits difference first_keys values_eq lacks_tables
 difference_is = refl
+
+-- a file that lacks its last byte, or was cut within its first table; both, and one whose head is cut
+unfoldable cut_disk : Disk
+unfolding name other
+cut_disk file =
+    if bytes_eq file name then Some (take 2097 two_file)
+    else if bytes_eq file other then Some (take 2113 two_file) else Some two_file
+
+old_cut_is : command_outcome (Difference other (codes "c.cdb") false) cut_disk [] ≡ comes 111 [] (codes "cdb: old database: table 129: outside the file\n")
+unfolding name other two_file foreign_file put_at words_of repeat head_at digits lacks_tables cut_disk comes
+old_cut_is = refl
+
+new_cut_is : command_outcome (Difference (codes "c.cdb") name false) cut_disk [] ≡ comes 111 [] (codes "cdb: new database: table 41: outside the file\n")
+unfolding name other two_file foreign_file put_at words_of repeat head_at digits lacks_tables cut_disk comes
+new_cut_is = refl
+
+both_cut_is : command_outcome (Difference other name false) cut_disk [] ≡ comes 111 [] (codes "cdb: old database: table 129: outside the file\n")
+unfolding name other two_file foreign_file put_at words_of repeat head_at digits lacks_tables cut_disk comes
+both_cut_is = refl
+
+no_head_is : difference_outcome 4 (take 2113 two_file) (take 2047 two_file) ≡ record { status = 111; output = []; lines = codes "cdb: new database: database shorter than its head\n" }
+unfolding name other two_file foreign_file put_at words_of repeat head_at digits lacks_tables
+no_head_is = refl
+
+-- they are comparable, since their heads say why they are not compared
+cut_are_comparable : AreComparable 4 (Some two_file) (Some (take 2113 two_file))
+unfolding name other two_file foreign_file put_at words_of repeat head_at digits lacks_tables
+cut_are_comparable none = cc
 
 -- the records of two keys of standard input, of which one has no value
 keys_asked : command_outcome (Lookups name [] None Native false) disk (codes "+1:a\n+3:two\n\n") ≡ comes 100 (codes "+3,7:two->Goodbye\n\n") []

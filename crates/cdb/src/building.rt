@@ -35,9 +35,10 @@ where
         base,
         inputs,
         options,
+        lines,
         width: _,
     } = contents;
-    make_run_from::<L, S, F, J, I, E>(alloc, store, base, inputs, options, errors)
+    make_run_from::<L, S, F, J, I, E>(alloc, store, base, inputs, options, lines, errors)
 }
 
 /// Builds the database in a file that is empty, through a buffer. The base is handed back, also if

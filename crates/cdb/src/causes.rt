@@ -1,20 +1,20 @@
 // The cause of a fault: which file, and why.
 ghost use Rattle.std.specs.Prelude.{◌≡◌, IfSome, option_map, string_bytes};
 ghost use Rattle.cdb_tool.specs.Command.{asked_in};
+ghost use Rattle.cdb_tool.specs.declared.fault.Fault.TheVariants.{Open};
 ghost use Rattle.cdb.specs.CauseLine.{error_words, reason_name, said_of};
 ghost use Rattle.cdb.specs.Causes.{IsCause, IsMadeName, IsNoNameOf, IsOfDatabase, IsOfRead};
-ghost use Rattle.cdb.specs.Causes.{IsOfLine, IsOfSystem, IsOfTextOf, IsRefusedOpening};
-ghost use Rattle.cdb.specs.Causes.{cause_words, input_name, new_name, read_name, same_words};
+ghost use Rattle.cdb.specs.Causes.{IsOfSystem, IsOfTextOf, IsRefusedOpening};
+ghost use Rattle.cdb.specs.Causes.{cause_words, input_name, new_name, read_name, refusal_words, same_words};
 
 use crate::creating::is_in_place;
-use crate::inputs::is_standard;
 use crate::left::Left;
 use crate::system::System;
 use cdb_files::{Cause, Names, Refusal};
 use cdb_form::{TextFault, WalkFault};
 use cdb_make::MakeFault;
 use cdb_read::ReadFault;
-use cdb_tool::{Command, Fault, STANDARD_INPUT, input_at};
+use cdb_tool::{Command, Fault, Lines, STANDARD_INPUT, input_at};
 
 /// What is said of a file.
 #[derive(Clone, Copy)]
@@ -39,6 +39,9 @@ pub(crate) struct Reason<'a> {
     /// Why.
     pub(crate) told: Told,
 }
+
+/// What is said of an empty name.
+const EMPTY: &str = "the name is empty";
 
 /// The name of standard output.
 const STANDARD_OUTPUT: &str = "standard output";
@@ -100,21 +103,28 @@ fn of_cause(command: &Command, refusal: &Refusal) -> Told
         Cause::Same => of_same(command, refusal.name.as_str(), refusal.other.as_str()),
         Cause::Input => Told::Words("is an input"),
         Cause::Replaced => Told::Words("its temporary file was replaced"),
+        Cause::Lost => Told::Words("its file was replaced or removed"),
         Cause::Bits => Told::Words("does not get its permissions"),
         Cause::Closed => Told::Words("a standard stream is closed"),
     }
 }
 
-/// Which name was refused, and what is said of it.
+/// Which name was refused, and what is said of it: of an empty one that it is empty.
 fn of_refusal<'a>(command: &Command, refusal: &'a Refusal) -> Reason<'a>
     ensures name { reason_name result ≡ string_bytes refusal.now.name }
-    ensures told { said_of result.told ≡ cause_words (asked_in command.now) refusal.now.cause
+    ensures told { said_of result.told ≡ refusal_words (asked_in command.now) refusal.now.cause
         (string_bytes refusal.now.name) (string_bytes refusal.now.other) }
 {
-    of_name(refusal.name.as_str(), of_cause(command, refusal))
+    let name = refusal.name.as_str();
+    let told = if name.is_empty() {
+        Told::Words(EMPTY)
+    } else {
+        of_cause(command, refusal)
+    };
+    of_name(name, told)
 }
 
-/// What is said of the name of a create on which no call was made.
+/// What is said of the name of a create that no file can have.
 fn of_no_name(command: &Command) -> Option<Reason<'_>>
     ensures { IfSome result (λ r.
         IsNoNameOf (asked_in command.now) (reason_name r) (said_of r.told)) }
@@ -123,11 +133,36 @@ fn of_no_name(command: &Command) -> Option<Reason<'_>>
         return None;
     };
     let told = match name.as_bytes().last() {
-        None => Told::Words("the name is empty"),
+        None => Told::Words(EMPTY),
         Some(b'/') => Told::Words("the name ends in a slash"),
         Some(_) => return None,
     };
     Some(of_name(name.as_str(), told))
+}
+
+/// Whether a call on another name than that of the database of a create was refused, as files were opened.
+fn is_of_another<Y: System>(command: &Command, system: &Y) -> bool {
+    match (command, system.refusal()) {
+        (Command::Create { name, .. }, Some(refusal)) => name.as_str() != refusal.name.as_str(),
+        _ => false,
+    }
+}
+
+/// What is said of a name that was not opened or made. A name that no file can have is named for that, unless
+/// another name was refused before it.
+fn of_unopened<'a, Y, N>(command: &'a Command, system: &'a Y, names: &'a N) -> Option<Reason<'a>>
+where
+    Y: System,
+    N: Names,
+    ensures { IfSome result (λ r. IsCause (asked_in command.now) Open (Y.calls system.now)
+        (N.calls names.now) (reason_name r) (said_of r.told)) }
+{
+    if !is_of_another::<Y>(command, system)
+        && let Some(reason) = of_no_name(command)
+    {
+        return Some(reason);
+    }
+    of_refusals::<Y, N>(command, system, names)
 }
 
 /// What is said of a name that was refused, if one was.
@@ -202,16 +237,6 @@ where
     }
 }
 
-/// Whether the input at this place is the first one that is standard input.
-fn is_first_standard(inputs: &[String], at: usize) -> bool {
-    for (n, input) in inputs.iter().enumerate() {
-        if is_standard(input.as_str()) {
-            return n == at;
-        }
-    }
-    inputs.is_empty()
-}
-
 /// The name of an input of a command.
 fn input_name(command: &Command, number: u64) -> &str
     ensures { result.now ≡ input_name (asked_in command.now) number }
@@ -224,42 +249,15 @@ fn input_name(command: &Command, number: u64) -> &str
     }
 }
 
-/// Whether the places of an input, counted from 1, are counted from the first byte that was read of its file:
-/// it is a file of its own, or the first that is standard input.
-fn is_from_first(command: &Command, number: u64) -> bool {
-    let inputs = match command {
-        Command::Create { inputs, .. } | Command::Lookups { inputs, .. } => inputs,
-        _ => return false,
-    };
-    let at = number.saturating_sub(1) as usize;
-    if at < inputs.len() && !is_standard(inputs[at].as_str()) {
-        return true;
-    }
-    is_first_standard(inputs.as_slice(), at)
-}
-
-/// What is said of a place of an input: its line, if lines are counted from the first byte of its file.
-fn of_place<Y>(command: &Command, number: u64, at: u64, system: &Y) -> Told
-where
-    Y: System,
-    ensures { IsOfLine (said_of result) }
-{
-    if is_from_first(command, number) {
-        Told::Line(system.line_at(at))
-    } else {
-        Told::Name
-    }
-}
-
-/// What is said of an input of which this is the fault.
-fn of_fault<Y>(command: &Command, number: u64, fault: TextFault, system: &Y) -> Told
+/// What is said of an input of which this is the fault: its line, or why it was not read.
+fn of_fault<Y>(fault: TextFault, lines: &Lines, system: &Y) -> Told
 where
     Y: System,
     ensures { IsOfTextOf fault (said_of result) }
 {
     match fault {
         TextFault::Syntax(at) | TextFault::Ended(at) | TextFault::Large(at) => {
-            of_place(command, number, at, system)
+            Told::Line(lines.line_at(at))
         }
         TextFault::Input => of_number(system.read_error()),
         TextFault::Endless | TextFault::NoMemory => Told::Name,
@@ -267,16 +265,19 @@ where
 }
 
 /// What is said of an input whose text was not read.
-fn of_text<'a, Y>(command: &'a Command, number: u64, fault: TextFault, system: &Y) -> Reason<'a>
+fn of_text<'a, Y>(
+    command: &'a Command,
+    number: u64,
+    fault: TextFault,
+    lines: &Lines,
+    system: &Y,
+) -> Reason<'a>
 where
     Y: System,
     ensures name { reason_name result ≡ input_name (asked_in command.now) number }
     ensures told { IsOfTextOf fault (said_of result.told) }
 {
-    of_name(
-        input_name(command, number),
-        of_fault(command, number, fault, system),
-    )
+    of_name(input_name(command, number), of_fault(fault, lines, system))
 }
 
 /// The number of the error of the last call that failed on a file that was made in place.
@@ -329,6 +330,7 @@ where
 pub(crate) fn reason_of<'a, Y, N>(
     command: &'a Command,
     fault: &Fault,
+    lines: &Lines,
     system: &'a Y,
     names: &'a N,
     left: &Left<Y::File, Y::Made>,
@@ -340,12 +342,9 @@ where
         (N.calls names.now) (reason_name r) (said_of r.told)) }
 {
     match *fault {
-        Fault::Open => match of_refusals::<Y, N>(command, system, names) {
-            Some(reason) => Some(reason),
-            None => of_no_name(command),
-        },
+        Fault::Open => of_unopened::<Y, N>(command, system, names),
         Fault::Rename | Fault::NoMemory => { of_refusals::<Y, N>(command, system, names) }
-        Fault::Text(number, fault) => { Some(of_text::<Y>(command, number, fault, system)) }
+        Fault::Text(number, fault) => { Some(of_text::<Y>(command, number, fault, lines, system)) }
         Fault::Make(MakeFault::Writing) | Fault::Make(MakeFault::Lookup) => {
             of_made::<Y, N>(command, system, names, left)
         }

@@ -3,7 +3,7 @@ ghost use Rattle.std.specs.Prelude.{◌≡◌, ◌≤◌};
 ghost use Rattle.cdb_form.specs.Format.Pair.{head_size};
 
 use cdb_form::Width;
-use cdb_tool::{Inputs, MakeOptions};
+use cdb_tool::{Inputs, Lines, MakeOptions};
 use std::marker::PhantomData;
 
 /// What a database is made of, with its files opened. Its limit is one of its width.
@@ -15,6 +15,8 @@ pub(crate) struct Contents<'a, L: Width, F, J, I> {
     pub(crate) inputs: Inputs<J, I>,
     /// How it is made.
     pub(crate) options: MakeOptions<'a>,
+    /// The lines of the inputs.
+    pub(crate) lines: &'a Lines,
     /// The width of its words.
     pub(crate) width: PhantomData<L>,
     ghost head: { head_size L.WORD ≤ options.limit },

@@ -19,7 +19,7 @@ use crate::system::System;
 use cdb_files::Names;
 use cdb_form::{Sink, Width, write_whole};
 use cdb_store::{MemStore, Store};
-use cdb_tool::{Fault, MakeOptions, flushed};
+use cdb_tool::{Fault, Lines, MakeOptions, flushed};
 use std::alloc::{AllocError, Global};
 use std::io::Read;
 use std::marker::PhantomData;
@@ -40,6 +40,8 @@ pub(crate) struct Creation<'a> {
     pub(crate) temporary: &'a Option<String>,
     /// How it is made.
     pub(crate) options: MakeOptions<'a>,
+    /// The lines of its inputs.
+    pub(crate) lines: &'a Lines,
 }
 
 /// Makes a database, on standard output or under its name: in place, or in a temporary file. The
@@ -139,6 +141,7 @@ where
             base,
             inputs,
             options: creation.options,
+            lines: creation.lines,
             width: PhantomData,
         }),
         Err(fault) => Err(Unopened { base, fault }),

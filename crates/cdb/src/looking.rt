@@ -10,7 +10,7 @@ use crate::inputs::open_inputs;
 use crate::left::{Left, none_left, read_left};
 use crate::system::System;
 use cdb_form::{Sink, Width};
-use cdb_tool::{Fault, Style, lookups_run};
+use cdb_tool::{Fault, Lines, Style, lookups_run};
 use std::alloc::Global;
 use std::io::Read;
 
@@ -24,6 +24,7 @@ pub(crate) fn lookups<L, Y, I, O>(
     inputs: &[String],
     number: Option<u64>,
     style: Style,
+    lines: &Lines,
     input: I,
     output: &mut O,
 ) -> (Left<Y::File, Y::Made>, Result<(), Fault>)
@@ -52,7 +53,7 @@ where
     match open_inputs::<Y, I>(alloc, system, inputs, input) {
         Ok(inputs) => {
             let (store, answer) = lookups_run::<L, Y::File, Y::Stream, I, O>(
-                alloc, store, inputs, number, style, output,
+                alloc, store, inputs, number, style, lines, output,
             );
             (read_left(store), answer)
         }

@@ -41,8 +41,8 @@ const NULL: &str = "/dev/null";
 
 /// Passes the words and the streams on, and answers the status.
 fn main(rt: HostRuntime) -> ExitCode {
-    let _held = all_held(&rt);
-    let seen = Seen::new(rt.alloc());
+    let held = all_held(&rt);
+    let seen = Seen::new();
     let status = match begun(&rt, &seen) {
         Ok(beginning) => {
             let Beginning {
@@ -52,9 +52,9 @@ fn main(rt: HostRuntime) -> ExitCode {
             } = beginning;
             let mut system = RealSystem::new(&rt, &seen);
             let mut names = RealNames::new(&rt);
-            let (alloc, input) = (rt.alloc(), SeenReader::new(rt.stdin(), &seen));
+            let input = SeenReader::input(rt.stdin(), is_input_held(&held), &seen);
             let (_, status) = steps::run(
-                alloc,
+                rt.alloc(),
                 &mut system,
                 &mut names,
                 words,
@@ -104,6 +104,11 @@ fn all_held(rt: &HostRuntime) -> [Option<File>; 3] {
         None => [None, None, None],
         Some(first) => [Some(first), held(rt), held(rt)],
     }
+}
+
+/// Whether the place of standard input is held: it is closed.
+fn is_input_held(held: &[Option<File>; 3]) -> bool {
+    matches!(&held[0], Some(first) if first.as_raw_fd() == 0)
 }
 
 /// What holds the place of a standard stream that is closed, if one is. Otherwise a file of the

@@ -19,6 +19,8 @@ pub(crate) enum OpenCall {
     ToEmpty,
     /// What came of the request for the lock of the file that was opened or made to be emptied.
     Locked(Lock),
+    /// Whether the name has that file.
+    Own(Answer),
     /// It was emptied, to be written.
     Emptied,
     /// It was not opened: the fault, and its cause.

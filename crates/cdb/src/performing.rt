@@ -16,7 +16,7 @@ use crate::reading::{check, query, stats, text};
 use crate::system::System;
 use cdb_files::Names;
 use cdb_form::{Sink, Width};
-use cdb_tool::{Command, Content, Fault, MakeOptions, flushed, write_usage, write_version};
+use cdb_tool::{Command, Content, Fault, Lines, MakeOptions, flushed, write_usage, write_version};
 use std::alloc::Global;
 use std::io::Read;
 
@@ -40,27 +40,27 @@ fn version<O: Sink>(output: &mut O) -> Result<(), Fault>
 
 /// The options of a create, with the names of its inputs if duplicates are to be explained.
 fn shown_options<'a>(
-    explains: bool,
+    lines: &Lines,
     inputs: &'a [String],
     options: MakeOptions<'a>,
 ) -> MakeOptions<'a>
-    ensures shown { IsShown explains (map string_bytes inputs.entry.now) options.entry result }
+    ensures shown { IsShown lines.now.counts (map string_bytes inputs.entry.now) options.entry result }
     ensures limit { result.limit ≡ options.entry.limit }
 {
     MakeOptions {
-        names: if explains { Some(inputs) } else { None },
+        names: if lines.counts { Some(inputs) } else { None },
         ..options
     }
 }
 
-/// Performs a command, with words as wide as `L` says, and hands back what it leaves open. With
-/// `explains` duplicates are explained.
+/// Performs a command, with words as wide as `L` says, and hands back what it leaves open. If lines are
+/// counted, duplicates are explained.
 pub(crate) fn perform_in<L, Y, N, I, O, E>(
     alloc: Global,
     system: &mut Y,
     names: &mut N,
     command: &Command,
-    explains: bool,
+    lines: &Lines,
     input: I,
     output: &mut O,
     errors: &mut E,
@@ -74,7 +74,7 @@ where
     E: Sink,
     requires { FitsIn (head_size L.WORD) L.GREATEST (asked_in command.now) }
     ensures performs { Performs L.WORD L.GREATEST
-        (files_of Y.File.Store Y.Made.Store Y.Stream.remaining Y.System) N.File.RawFile explains
+        (files_of Y.File.Store Y.Made.Store Y.Stream.remaining Y.System) N.File.RawFile lines.now.counts
         (asked_in command.now) (I.remaining input)
         (state_of system.old (N.calls names.old) (O.contents output.old) (E.contents errors.old))
         (state_of system.new (N.calls names.new) (O.contents output.new) (E.contents errors.new))
@@ -105,6 +105,7 @@ where
             inputs.as_slice(),
             *number,
             *style,
+            lines,
             input,
             output,
         ),
@@ -140,7 +141,8 @@ where
                 base,
                 inputs: inputs.as_slice(),
                 temporary,
-                options: shown_options(explains, inputs.as_slice(), *options),
+                options: shown_options(lines, inputs.as_slice(), *options),
+                lines,
             };
             create::<L, Y, N, I, O, E>(alloc, system, names, creation, input, output, errors)
         }

@@ -6,11 +6,11 @@ ghost use Rattle.cdb.specs.Creating.{AsksAll, AsksBase, AsksEach, AsksOne};
 ghost use Rattle.cdb.specs.Creating.{FindsBase, FindsInput, FindsOne, MayBeInput, MayBeOne};
 ghost use Rattle.cdb.specs.Creating.{MayBeStandard};
 ghost use Rattle.cdb.specs.Inputs.{inputs_read};
-ghost use Rattle.cdb.specs.Opening.{Empties, MissesEmptying, OpenCalls};
-ghost use Rattle.cdb.specs.Creating.{MakesApart, MakesInPlace, Syncs, answer_of};
+ghost use Rattle.cdb.specs.Opening.{Empties, MissesEmptying, OpenCalls, named_as};
+ghost use Rattle.cdb.specs.Creating.{MakesApart, MakesInPlace, SeesName, Syncs, answer_of};
 ghost use Rattle.cdb.specs.Files.{files_of};
 ghost use Rattle.cdb.specs.State.{state_of};
-ghost use Rattle.cdb_files.specs.declared.answer.Answer.TheVariants.{No};
+ghost use Rattle.cdb_files.specs.declared.answer.Answer.TheVariants.{No, Yes};
 ghost use Rattle.cdb_files.specs.declared.name_trace.NameCall.TheVariants.{Input, Same};
 ghost use Rattle.cdb.specs.Contents.{making_of, wanted_of};
 
@@ -126,7 +126,8 @@ fn may_be_read<N: Names>(names: &mut N, name: &str, creation: Creation<'_>) -> b
 }
 
 /// Empties the file of a name, or makes one, once its lock is held. `Open`: another process holds it, or
-/// the file cannot be opened or emptied, or the name is that of a link.
+/// the file cannot be opened or emptied, or the name is that of a link. `Rename`: the name lost the file
+/// by then, or the system did not say whether it did.
 fn emptied<Y>(system: &mut Y, name: &str) -> Result<Y::Made, Fault>
 where
     Y: System,
@@ -138,8 +139,23 @@ where
 {
     let file = system.open_to_empty(name)?;
     match system.lock(name, &file) {
-        Lock::Taken | Lock::Unsupported => system.empty(name, file),
+        Lock::Taken | Lock::Unsupported => {
+            named(system.has_file(name, &file))?;
+            system.empty(name, file)
+        }
         Lock::Held => Err(Fault::Open),
+    }
+}
+
+/// What it comes to whether a name has the file in which its database is made.
+fn named(has_file: Answer) -> Result<(), Fault>
+    ensures says { result ≡ named_as has_file }
+    ensures yes { OnOk result (has_file ≡ Yes) }
+    ensures output { OutputSays ⊥ result }
+{
+    match has_file {
+        Answer::Yes => Ok(()),
+        Answer::No | Answer::Unknown => Err(Fault::Rename),
     }
 }
 
@@ -147,6 +163,8 @@ where
 ///
 /// `Open`: the base or an input is that file, and would be lost, or the system did not say whether it
 /// is; or another process holds it; or the name is that of a link, or the file cannot be opened.
+/// `Rename`: another file has the name before the file is emptied or once it is whole, or none has, or the
+/// system did not say.
 ///
 /// The base is handed back, and the file if it was opened.
 #[inline(never)]
@@ -186,7 +204,8 @@ where
         errors: PhantomData,
     };
     let (mut store, read, built) = building.build(store, errors);
-    let answer = synced(&mut store, built);
+    let flushed = synced(&mut store, built);
+    let answer = kept::<Y>(system, creation.name, &store, flushed);
     let left = Left {
         read,
         other: None,
@@ -204,6 +223,21 @@ fn synced<S: Store>(store: &mut S, built: Result<(), Fault>) -> Result<(), Fault
         Ok(()) => Ok(()),
         Err(_) => Err(Fault::Make(MakeFault::Writing)),
     }
+}
+
+/// What a database that was made in place comes to, unless it failed: its name has the file to the end.
+fn kept<Y>(
+    system: &mut Y,
+    name: &str,
+    store: &Y::Made,
+    synced: Result<(), Fault>,
+) -> Result<(), Fault>
+where
+    Y: System,
+    ensures { SeesName name.now (Y.calls system.old) (Y.calls system.new) synced result }
+{
+    synced?;
+    named(system.has_made(name, store))
 }
 
 /// Makes it in a temporary file, which replaces the database once it is whole.

@@ -1,9 +1,7 @@
 // The system's files: the lines that open them, and note it.
-ghost use Rattle.std.specs.Prelude.{◌≡◌, [], ◌∷◌, IfErr, IfOk, None, Some, string_bytes, true};
+ghost use Rattle.std.specs.Prelude.{◌≡◌, [], ◌∷◌, IfErr, None, Some, string_bytes, true};
 ghost use Rattle.std.specs.Option.{ForSome};
 ghost use Rattle.cdb_files.specs.Refusals.{is_of_system};
-ghost use Rattle.cdb_store.specs.RealFile.{events_of};
-ghost use Rattle.cdb_store.specs.declared.trace.Call.TheVariants.{Made};
 ghost use Rattle.cdb.specs.Opening.{refused_by, refused_open, unopened};
 ghost use Rattle.cdb.specs.declared.open_trace.OpenCall.TheVariants.{Unopened};
 
@@ -121,14 +119,6 @@ impl<'a, R: Files<File = File> + AllocGlobal> System for RealSystem<'a, R> {
         self.seen.has_failed_on_errors()
     }
 
-    fn count_lines(&self) {
-        self.seen.count_lines();
-    }
-
-    fn line_at(&self, at: u64) -> u64 {
-        self.seen.line_at(at)
-    }
-
     // Shown by tests/cli/cases.py and tests/faults/names.py.
     fn open_store(&mut self, name: &str) -> Result<FileStore, Fault> {
         match opened_at_places(self.rt, name) {
@@ -177,7 +167,7 @@ impl<'a, R: Files<File = File> + AllocGlobal> System for RealSystem<'a, R> {
                 self.note(&OpenCall::ToEmpty, name);
                 Ok(file)
             }
-            Err(error) => Err(self.refused(of_emptying(&error), name)),
+            Err(error) => Err(self.refused(of_emptying(self.rt, name, &error), name)),
         }
     }
 
@@ -205,14 +195,37 @@ impl<'a, R: Files<File = File> + AllocGlobal> System for RealSystem<'a, R> {
         }
     }
 
+    // Shown by tests/cli/orders.py, tests/faults/names.py and others.py.
+    fn has_file(&mut self, name: &str, file: &RealFile) -> Answer {
+        match has_name(self.rt, name, file) {
+            Ok(true) => {
+                self.note(&OpenCall::Own(Answer::Yes), name);
+                Answer::Yes
+            }
+            Ok(false) => {
+                self.refuse(&OpenCall::Own(Answer::No), name, Cause::Lost);
+                Answer::No
+            }
+            Err(number) => {
+                let call = OpenCall::Own(Answer::Unknown);
+                self.refuse(&call, name, Cause::of_number(number));
+                Answer::Unknown
+            }
+        }
+    }
+
+    fn has_made(&mut self, name: &str, file: &FileStore) -> Answer {
+        self.has_file(name, file.file())
+    }
+
     // Shown by tests/cli/cases.py and tests/faults/others.py.
     fn empty(&mut self, name: &str, file: RealFile) -> Result<FileStore, Fault> {
-        match emptied_of(self.rt, name, file) {
+        match file.emptied() {
             Ok(file) => {
                 self.note(&OpenCall::Emptied, name);
                 Ok(FileStore::made(file))
             }
-            Err(why) => Err(self.refused(why, name)),
+            Err(error) => Err(self.refused(of_error(&error), name)),
         }
     }
 }
@@ -247,17 +260,6 @@ fn opened_in_turn<R: Files<File = File>>(rt: &R, name: &str) -> Result<File, Why
     }
 }
 
-/// Empties a file, if the name still has it: another create may have replaced it since it was opened.
-fn emptied_of<R: Files<File = File>>(rt: &R, name: &str, file: RealFile) -> Result<RealFile, Why>
-    ensures made { IfOk result (λ f. events_of f ≡ (Made, []) ∷ []) }
-{
-    match has_name(rt, name, &file) {
-        Ok(true) => file.emptied().map_err(|error| of_error(&error)),
-        Ok(false) => Err(found(Cause::Held)),
-        Err(number) => Err(found(Cause::of_number(number))),
-    }
-}
-
 /// Something was found that is no file for this.
 fn found(cause: Cause) -> Why {
     Why {
@@ -279,11 +281,14 @@ fn of_error(error: &io::Error) -> Why {
     }
 }
 
-/// Why the system opened no file to be emptied: one that was there and was not opened is a link, and one
-/// without a number of the system got that of a standard stream.
-fn of_emptying(error: &io::Error) -> Why {
+/// Why the system opened no file to be emptied: one that was there and was not opened is a link, or was
+/// replaced, and one without a number of the system got that of a standard stream.
+fn of_emptying<R: Files<File = File>>(rt: &R, name: &str, error: &io::Error) -> Why {
     match error.kind() {
-        ErrorKind::AlreadyExists => found(Cause::Link),
+        ErrorKind::AlreadyExists => match fs::symlink_metadata(rt, name) {
+            Ok(now) if now.is_symlink() => found(Cause::Link),
+            _ => found(Cause::Lost),
+        },
         ErrorKind::InvalidInput if error.raw_os_error().is_none() => found(Cause::Closed),
         _ => of_error(error),
     }

@@ -1,52 +1,31 @@
-// What was seen of the standard streams and of the inputs: why a call on one failed, and where its lines are.
+// What was seen of the standard streams and of the inputs: why a call on one failed.
 ghost use Rattle.std.specs.Prelude.{◌≡◌};
 
-use cdb_tool::newlines;
-use std::alloc::Global;
 use std::cell::Cell;
 use std::io::{self, Read, Write};
 
-/// How many bytes of an input are kept, to count the lines in them: all that a window takes at once.
-const KEPT: usize = 65536;
+/// The number of the system's error for a descriptor that is not open.
+const NOT_OPEN: i32 = 9;
 
 /// What was seen last of what is read and written. It is kept in cells, of which no clause says anything.
 #[derive(Drop)]
 pub(crate) struct Seen {
-    alloc: Global,
-    /// Whether lines are counted.
-    counts: Cell<bool>,
     /// The number of the error of the last read that failed.
     read_error: Cell<Option<i32>>,
     /// The number of the error of the last write that failed.
     write_error: Cell<Option<i32>>,
     /// Whether that was one on standard error.
     is_of_errors: Cell<bool>,
-    /// The bytes that were read last, if lines are counted.
-    bytes: Cell<Vec<u8>>,
-    /// How many bytes of that input came before these.
-    start: Cell<u64>,
-    /// How many newlines were in them.
-    lines: Cell<u64>,
 }
 
 impl Seen {
     /// Nothing was seen yet.
-    pub(crate) fn new(alloc: Global) -> Seen {
+    pub(crate) fn new() -> Seen {
         Seen {
-            alloc,
-            counts: Cell::new(false),
             read_error: Cell::new(None),
             write_error: Cell::new(None),
             is_of_errors: Cell::new(false),
-            bytes: Cell::new(Vec::new(alloc)),
-            start: Cell::new(0),
-            lines: Cell::new(0),
         }
-    }
-
-    /// From here on lines are counted.
-    pub(crate) fn count_lines(&self) {
-        self.counts.set(true);
     }
 
     /// The number of the error of the last read that failed, if the system gave one.
@@ -69,63 +48,44 @@ impl Seen {
         self.write_error.set(error.raw_os_error());
         self.is_of_errors.set(is_of_errors);
     }
-
-    /// The line, counted from 1, of a place of the input that was read last: lines were counted since its
-    /// first byte.
-    pub(crate) fn line_at(&self, at: u64) -> u64 {
-        let bytes = self.bytes.replace(Vec::new(self.alloc));
-        let kept = bytes.len() as u64;
-        let within = at.saturating_sub(self.start.get()).min(kept) as usize;
-        let before = newlines(&bytes[..within]);
-        self.bytes.set(bytes);
-        self.lines.get().saturating_add(before).saturating_add(1)
-    }
-
-    /// Keeps the bytes that were just read, after so many bytes and newlines. Of more than a window takes
-    /// none are kept, nor without memory.
-    fn keep(&self, read: &[u8], start: u64, lines: u64) {
-        let mut bytes = self.bytes.replace(Vec::new(self.alloc));
-        bytes.clear();
-        if read.len() <= KEPT {
-            let _ = bytes.extend_from_slice(read);
-        }
-        self.bytes.set(bytes);
-        self.start.set(start);
-        self.lines.set(lines);
-    }
 }
 
-/// A reader whose bytes and faults are seen.
+/// A reader whose faults are seen.
 #[derive(Drop)]
 pub(crate) struct SeenReader<'a, R> {
     reader: R,
     seen: &'a Seen,
-    /// How many bytes were read.
-    at: u64,
-    /// How many newlines were in them.
-    lines: u64,
+    /// Whether it is standard input, and closed: the file that holds its place fails for a reason of its own.
+    is_closed: bool,
 }
 
 impl<'a, R> SeenReader<'a, R> {
-    /// A reader of which nothing was read yet.
+    /// The reader of a file that was opened.
     pub(crate) fn new(reader: R, seen: &'a Seen) -> SeenReader<'a, R> {
         SeenReader {
             reader,
             seen,
-            at: 0,
-            lines: 0,
+            is_closed: false,
         }
     }
 
-    /// Counts the lines of the bytes that were just read.
-    #[cold]
-    #[inline(never)]
-    fn count(&mut self, read: &[u8])
-        ensures { self.new.reader ≡ self.old.reader }
-    {
-        self.seen.keep(read, self.at, self.lines);
-        self.at = self.at.saturating_add(read.len() as u64);
-        self.lines = self.lines.saturating_add(newlines(read));
+    /// The reader of standard input, which may be closed.
+    pub(crate) fn input(reader: R, is_closed: bool, seen: &'a Seen) -> SeenReader<'a, R> {
+        SeenReader {
+            reader,
+            seen,
+            is_closed,
+        }
+    }
+
+    /// A read failed.
+    fn fail(&self, error: &io::Error) {
+        let number = if self.is_closed {
+            Some(NOT_OPEN)
+        } else {
+            error.raw_os_error()
+        };
+        self.seen.read_error.set(number);
     }
 }
 
@@ -133,18 +93,11 @@ impl<'a, R: Read> Read for SeenReader<'a, R> {
     ghost remaining = { λ r. R.remaining r.reader };
 
     fn read(&mut self, buf: &mut [u8]) -> io::Result<usize> {
-        match self.reader.read(buf) {
-            Ok(n) => {
-                if self.seen.counts.get() {
-                    self.count(&buf[..n]);
-                }
-                Ok(n)
-            }
-            Err(error) => {
-                self.seen.read_error.set(error.raw_os_error());
-                Err(error)
-            }
+        let read = self.reader.read(buf);
+        if let Err(error) = &read {
+            self.fail(error);
         }
+        read
     }
 }
 

@@ -1,13 +1,12 @@
 // What the program does: the command of its words, and its exit status.
-ghost use Rattle.std.specs.Prelude.{◌≡◌, ◌⊎◌, [], Err, map, string_bytes};
-ghost use Rattle.cdb_tool.specs.Command.{asked_in, explains_in, has_wide_words, IsInRange, plan_of};
-ghost use Rattle.cdb_tool.specs.Views.Output.{output_bytes, held_by, HasHandedOn, OutputFailed, OutputSays};
+ghost use Rattle.std.specs.Prelude.{◌≡◌, ◌⊎◌, Err, map, string_bytes};
+ghost use Rattle.cdb_tool.specs.Command.{asked_in, has_wide_words, IsInRange};
+ghost use Rattle.cdb_tool.specs.Views.Output.{output_bytes, HasHandedOn, OutputFailed, OutputSays};
 ghost use Rattle.cdb.specs.Causes.{Explains};
 ghost use Rattle.cdb.specs.Files.{files_of};
-ghost use Rattle.cdb.specs.Foretold.{IsForetold, IsTaken};
-ghost use Rattle.cdb.specs.ForetoldCreate.{IsCreateForetold};
-ghost use Rattle.cdb.specs.Performs.{Does, HandsOn, IsUntouched, Runs};
-ghost use Rattle.cdb.specs.State.{failed_of, given_of, state_of};
+ghost use Rattle.cdb.specs.Performs.{Does, HandsOn, IsUntouched};
+ghost use Rattle.cdb.specs.Running.{Answers, IsRun, given_by, taking, world_of};
+ghost use Rattle.cdb.specs.State.{given_of, state_of};
 
 use crate::cause_line::cause_line;
 use crate::causes::reason_of;
@@ -17,7 +16,7 @@ use crate::system::System;
 use crate::telling::{refuse, tell};
 use cdb_files::Names;
 use cdb_form::{Narrow, Sink, Wide};
-use cdb_tool::{Command, DONE, Fault, Output, explains, plan, status_of};
+use cdb_tool::{Command, DONE, Fault, Lines, Output, explains, plan, status_of};
 use std::alloc::Global;
 use std::io::{Read, Write};
 
@@ -38,34 +37,11 @@ where
     I: Read + Drop,
     O: Write,
     E: Write,
-    ensures runs { Runs (files_of Y.File.Store Y.Made.Store Y.Stream.remaining Y.System)
-        N.File.RawFile
-        (given_of (plan_of (map string_bytes words.items))
-        (explains_in (map string_bytes words.items)) (I.remaining input))
-        (state_of system.old (N.calls names.old) (output_bytes O.contents output.old)
-        (output_bytes E.contents errors.old))
-        (state_of system.new (N.calls names.new) (output_bytes O.contents output.new)
-        (output_bytes E.contents errors.new)) (O.contents output.new.writer) result.0
-        (failed_of (OutputFailed output.new) (OutputFailed errors.new)) result.1 }
-    ensures handed { held_by output.old ≡ [] → HasHandedOn output.new }
-    ensures said { HasHandedOn errors.new }
-    ensures foretold { IsForetold (files_of Y.File.Store Y.Made.Store Y.Stream.remaining Y.System)
-        (given_of (plan_of (map string_bytes words.items))
-        (explains_in (map string_bytes words.items)) (I.remaining input))
-        (state_of system.old (N.calls names.old) (output_bytes O.contents output.old)
-        (output_bytes E.contents errors.old))
-        (state_of system.new (N.calls names.new) (O.contents output.new.writer)
-        (E.contents errors.new.writer)) result.0 (IsTaken output.old output.new errors.new)
-        result.1 }
-    ensures created { IsCreateForetold
-        (files_of Y.File.Store Y.Made.Store Y.Stream.remaining Y.System)
-        (given_of (plan_of (map string_bytes words.items))
-        (explains_in (map string_bytes words.items)) (I.remaining input))
-        (state_of system.old (N.calls names.old) (output_bytes O.contents output.old)
-        (output_bytes E.contents errors.old))
-        (state_of system.new (N.calls names.new) (O.contents output.new.writer)
-        (E.contents errors.new.writer)) result.0 (IsTaken output.old output.new errors.new)
-        result.1 }
+    ensures { IsRun (files_of Y.File.Store Y.Made.Store Y.Stream.remaining Y.System)
+        N.File.RawFile (given_by (map string_bytes words.items) (I.remaining input))
+        (taking O.contents E.contents)
+        (world_of system.old (N.calls names.old) output.old errors.old)
+        (world_of system.new (N.calls names.new) output.new errors.new) result.0 result.1 }
 {
     let (left, status) = answer::<Y, N, I, O, E>(
         alloc, system, names, words, input, output, errors,
@@ -91,47 +67,25 @@ where
     I: Read + Drop,
     O: Write,
     E: Write,
-    ensures runs { Runs (files_of Y.File.Store Y.Made.Store Y.Stream.remaining Y.System)
-        N.File.RawFile
-        (given_of (plan_of (map string_bytes words.items))
-        (explains_in (map string_bytes words.items)) (I.remaining input))
-        (state_of system.old (N.calls names.old) (output_bytes O.contents output.old)
-        (output_bytes E.contents errors.old))
-        (state_of system.new (N.calls names.new) (output_bytes O.contents output.new)
-        (output_bytes E.contents errors.new)) (O.contents output.new.writer) result.0
-        (failed_of (OutputFailed output.new) (OutputFailed errors.new)) result.1 }
-    ensures handed { held_by output.old ≡ [] → HasHandedOn output.new }
+    ensures { Answers (files_of Y.File.Store Y.Made.Store Y.Stream.remaining Y.System)
+        N.File.RawFile (given_by (map string_bytes words.items) (I.remaining input))
+        (taking O.contents E.contents)
+        (world_of system.old (N.calls names.old) output.old errors.old)
+        (world_of system.new (N.calls names.new) output.new errors.new) result.0 result.1 }
 {
     let is_explained = explains(words.as_slice());
     let command = match plan(alloc, words.as_slice()) {
         Ok(command) => command,
         Err(fault) => return (none_left(), refuse(&fault, is_explained, errors)),
     };
-    if is_explained {
-        system.count_lines();
-    }
+    let lines = Lines::new(is_explained);
     let (left, performed) = perform::<Y, N, I, O, Output<E>>(
-        alloc,
-        system,
-        names,
-        &command,
-        is_explained,
-        input,
-        output,
-        errors,
+        alloc, system, names, &command, &lines, input, output, errors,
     );
     match performed {
         Ok(()) => (left, DONE),
         Err(fault) => {
-            let more = cause_of::<Y, N>(
-                alloc,
-                is_explained,
-                &command,
-                &fault,
-                system,
-                names,
-                &left,
-            );
+            let more = cause_of::<Y, N>(alloc, &lines, &command, &fault, system, names, &left);
             tell(&fault, more.as_slice(), errors);
             (left, status_of(&command, &fault))
         }
@@ -144,7 +98,7 @@ where
 #[inline(never)]
 fn cause_of<Y, N>(
     alloc: Global,
-    explains: bool,
+    lines: &Lines,
     command: &Command,
     fault: &Fault,
     system: &Y,
@@ -154,14 +108,14 @@ fn cause_of<Y, N>(
 where
     Y: System,
     N: Names,
-    ensures { Explains explains (asked_in command.now) (Err fault.now) (Y.calls system.now)
+    ensures { Explains lines.now.counts (asked_in command.now) (Err fault.now) (Y.calls system.now)
         (N.calls names.now) result.items }
 {
     let none = Vec::new(alloc);
-    if !explains {
+    if !lines.counts {
         return none;
     }
-    let Some(reason) = reason_of::<Y, N>(command, fault, system, names, left) else {
+    let Some(reason) = reason_of::<Y, N>(command, fault, lines, system, names, left) else {
         return none;
     };
     match cause_line(alloc, &reason) {
@@ -170,13 +124,13 @@ where
     }
 }
 
-/// Performs a command, in its width. With `explains` duplicates are explained.
+/// Performs a command, in its width. If lines are counted, duplicates are explained.
 fn perform<Y, N, I, O, E>(
     alloc: Global,
     system: &mut Y,
     names: &mut N,
     command: &Command,
-    explains: bool,
+    lines: &Lines,
     input: I,
     output: &mut Output<O>,
     errors: &mut E,
@@ -189,7 +143,7 @@ where
     E: Sink,
     requires { IsInRange (asked_in command.now) }
     ensures does { Does (files_of Y.File.Store Y.Made.Store Y.Stream.remaining Y.System)
-        N.File.RawFile (given_of (asked_in command.now) explains (I.remaining input))
+        N.File.RawFile (given_of (asked_in command.now) lines.now.counts (I.remaining input))
         (state_of system.old (N.calls names.old) (output_bytes O.contents output.old)
         (E.contents errors.old))
         (state_of system.new (N.calls names.new) (O.contents output.new.writer)
@@ -202,11 +156,11 @@ where
 {
     let performed = if is_wide(command) {
         perform_in::<Wide, Y, N, I, Output<O>, E>(
-            alloc, system, names, command, explains, input, output, errors,
+            alloc, system, names, command, lines, input, output, errors,
         )
     } else {
         perform_in::<Narrow, Y, N, I, Output<O>, E>(
-            alloc, system, names, command, explains, input, output, errors,
+            alloc, system, names, command, lines, input, output, errors,
         )
     };
     let (left, answer) = performed;

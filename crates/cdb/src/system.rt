@@ -2,7 +2,7 @@
 ghost use Rattle.std.specs.Prelude.{◌≡◌, ◌∷◌, ℕ, List, IfOk, IfErr, IfSome, OnOk};
 ghost use Rattle.cdb.specs.Opening.{IsOpenRefusal, OpenCalls, Misses, MayEmpty};
 ghost use Rattle.cdb.specs.declared.open_trace.OpenCall.TheVariants.{AtPlaces, InTurn, Stream};
-ghost use Rattle.cdb.specs.declared.open_trace.OpenCall.TheVariants.{Emptied, Locked, ToEmpty};
+ghost use Rattle.cdb.specs.declared.open_trace.OpenCall.TheVariants.{Emptied, Locked, Own, ToEmpty};
 
 use cdb_files::{Answer, Lock, Refusal};
 use cdb_store::{RealFile, Store};
@@ -52,12 +52,6 @@ pub(crate) trait System {
     /// Whether that was one on standard error.
     fn has_failed_on_errors(&self) -> bool;
 
-    /// From here on the lines of what is read from its start on are counted.
-    fn count_lines(&self);
-
-    /// The line, counted from 1, of a place of the input that was read last.
-    fn line_at(&self, at: u64) -> u64;
-
     /// Opens the file of a name, to be read at places. `Open`: it cannot be opened, or it is a pipe
     /// or a device, which has no places to be read at.
     fn open_store(&mut self, name: &str) -> Result<Self::File, Fault>
@@ -85,8 +79,16 @@ pub(crate) trait System {
     fn lock(&mut self, name: &str, file: &RealFile) -> Lock
         ensures calls { calls self.new ≡ (Locked result, name.now) ∷ calls self.old };
 
+    /// Whether a name has the file that was opened to be emptied. A link is not followed.
+    fn has_file(&mut self, name: &str, file: &RealFile) -> Answer
+        ensures { calls self.new ≡ (Own result, name.now) ∷ calls self.old };
+
+    /// Whether a name has a file that was made. A link is not followed.
+    fn has_made(&mut self, name: &str, file: &Self::Made) -> Answer
+        ensures { calls self.new ≡ (Own result, name.now) ∷ calls self.old };
+
     /// Empties the file of a name, whose lock is held, to be read and written at places. `Open`: it
-    /// cannot be emptied, or the name does not have it any more.
+    /// cannot be emptied.
     fn empty(&mut self, name: &str, file: RealFile) -> Result<Self::Made, Fault>
         requires held { MayEmpty name.now (calls self.old) }
         ensures calls { OnOk result (calls self.new ≡ (Emptied, name.now) ∷ calls self.old) }

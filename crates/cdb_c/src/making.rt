@@ -9,13 +9,13 @@ ghost use Rattle.cdb_make.specs.Views.Appending.{AppendsAll, FailsAppending};
 ghost use Rattle.cdb_form.specs.Format.Walk.{whole_records};
 ghost use Rattle.cdb_handle.specs.Kept.{kept_in};
 ghost use Rattle.cdb_handle.specs.Calls.{BetweenCalls, HasNoMaker, HasNewMaker, IsHandleFinished};
-ghost use Rattle.cdb_handle.specs.Calls.{FindsKey, HandleCounts};
+ghost use Rattle.cdb_handle.specs.Calls.{FindsKey, HandleCounts, HandleWrote};
 ghost use Rattle.cdb_c.specs.Codes.{put_code, done_code, found_code, removed_code, mode_of};
 ghost use Rattle.cdb_c.specs.Codes.{Answers, appended_code};
 
 use crate::codes::{appended_code, done_code, found_code, mode_of, put_code, removed_code};
 use cdb_handle::{
-    GivenFile, Handle, append, count, exists, finish, number, put, release, remove, start,
+    GivenFile, Handle, append, count, exists, finish, number, put, release, remove, start, written,
 };
 use cdb_make::{MakeFault, Put};
 use std::alloc::Global;
@@ -103,6 +103,16 @@ pub extern "C" fn cdb_c_make_count(alloc: Global, handle: &mut Handle) -> u64
     ensures kept { kept_in handle.new ≡ kept_in handle.old }
 {
     count(alloc, handle)
+}
+
+/// How many bytes the file of a maker has, by the calls that were made of it: what the maker still
+/// collects is not there. 0: the handle has none.
+#[unsafe(no_mangle)]
+pub extern "C" fn cdb_c_make_written(alloc: Global, handle: &mut Handle) -> u64
+    ensures written { HandleWrote (kept_in handle.old) result }
+    ensures kept { kept_in handle.new ≡ kept_in handle.old }
+{
+    written(alloc, handle)
 }
 
 /// Whether some record has a key: 1 or 0. -1: the handle has no maker, or a broken one.

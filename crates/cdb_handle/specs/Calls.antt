@@ -3,7 +3,7 @@ use Rattle.std.specs.Prelude.{ℕ, Bool, true, ◌≡◌, List, [], length, Opti
 use Rattle.cdb_form.specs.Format.Record.{KeyValue}
 use Rattle.cdb_store.specs.BufferedStore.{images_of, inner_of}
 use Rattle.cdb_store.specs.Calls.{IsSynced}
-use Rattle.cdb_store.specs.FileStore.{calls_of}
+use Rattle.cdb_store.specs.FileStore.{calls_of, len_of}
 use Rattle.cdb_make.specs.Unfinished.{IsUnfinished}
 use Rattle.cdb_make.specs.Views.Maker.{Holds, IsThere, IsFile, WhereHonest, store_of, limit_of, is_lazy}
 use Rattle.cdb_make.specs.Views.Maker.{told_count, HasGone}
@@ -35,6 +35,11 @@ pub record IsCount (m : Making) (n : ℕ) : Type 0 where
 abbrev pub HandleCounts : Option Database → ℕ → Type 0
 HandleCounts (Some (Open m)) n = IsCount m n
 HandleCounts old n = n ≡ 0
+
+-- how many bytes the file of a maker has, as its store counts them; of any other database none is said
+abbrev pub HandleWrote : Option Database → ℕ → Type 0
+HandleWrote (Some (Open m)) n = n ≡ len_of (inner_of (store_of m.maker))
+HandleWrote old n = n ≡ 0
 
 -- there is no maker
 abbrev pub HasNoMaker : Option Database → Type 0

@@ -16,4 +16,4 @@ pub use address::BoxAddress;
 pub use database::{Database, Finished, Making};
 pub use file::GivenFile;
 pub use handle::Handle;
-pub use making::{append, count, exists, finish, number, put, release, remove, start};
+pub use making::{append, count, exists, finish, number, put, release, remove, start, written};

@@ -9,14 +9,14 @@ ghost use Rattle.cdb_make.specs.Views.Appending.{AppendsAll, FailsAppending};
 ghost use Rattle.cdb_form.specs.Format.Walk.{whole_records};
 ghost use Rattle.cdb_handle.specs.Kept.{kept_in};
 ghost use Rattle.cdb_handle.specs.Calls.{BetweenCalls, HasNoMaker, HasNewMaker, IsHandleFinished};
-ghost use Rattle.cdb_handle.specs.Calls.{FindsKey, IsNew, HandleCounts};
+ghost use Rattle.cdb_handle.specs.Calls.{FindsKey, IsNew, HandleCounts, HandleWrote};
 
 use crate::database::{Database, Finished, Making};
 use crate::file::GivenFile;
 use crate::handle::Handle;
 use cdb_form::{Narrow, Width};
 use cdb_make::{MakeFault, Maker, Mode, Put};
-use cdb_store::{BufferedStore, FileStore, RealFile};
+use cdb_store::{BufferedStore, FileStore, RealFile, Store};
 use std::alloc::Global;
 use std::fs::File;
 use std::mem::replace;
@@ -155,6 +155,30 @@ pub fn count(alloc: Global, handle: &mut Handle) -> u64
     let count = count_in(&database);
     *handle = Handle::of(database);
     count
+}
+
+/// How many bytes the file of a maker has, by the calls that were made of it.
+fn written_in(database: &Database) -> u64
+    ensures { HandleWrote (Some database.now) result }
+{
+    match database {
+        Database::Open(making) => making.maker.store().inner().len(),
+        Database::Made(_) | Database::Lent => 0,
+    }
+}
+
+/// How many bytes the file of a maker has, by the calls that were made of it: what the maker still
+/// collects is not there. 0: the handle has none.
+pub fn written(alloc: Global, handle: &mut Handle) -> u64
+    ensures written { HandleWrote (kept_in handle.old) result }
+    ensures kept { kept_in handle.new ≡ kept_in handle.old }
+{
+    let Some(database) = handle.take(alloc) else {
+        return 0;
+    };
+    let written = written_in(&database);
+    *handle = Handle::of(database);
+    written
 }
 
 /// Puts a record, if the database has an open maker.

@@ -1,4 +1,4 @@
-use Rattle.std.proofs.Common.{[], ap, inl, inr, refl, Ok, Err}
+use Rattle.std.proofs.Common.{[], ap, rules, inl, inr, refl, Ok, Err}
 use Rattle.std.proofs.KnownBytes.{Keeps-refl}
 use Rattle.cdb_command.specs.Refused.{refused_in}
 use Rattle.cdb_tool.specs.Views.Output.{output_bytes}
@@ -6,49 +6,58 @@ use Rattle.cdb_tool.proofs.OutputFaults.{says_more}
 use Rattle.cdb.proofs.Explained.{none_said}
 use Rattle.cdb.proofs.steps.answer.Goals as goal
 
-pub returns-in-Err-clause-runs : goal.returns-in-Err-clause-runs
-returns-in-Err-clause-runs g c = inl (record {
-  refused = refused_in c.in-Err.fault;
-  why = elim c.in-Err.ensures.exact [
-    | inl lacks ↦ inl (ap refused_in lacks)
-    | inr planned ↦ inr (rw c.as_slice-2.ensures.value at planned)
-  ];
-  line = rw c.as_slice.ensures.value at (rw c.explains-is_explained.ensures at c.refuse.ensures.line);
-  untouched = refl;
-  none = c.none_left.ensures;
-  same = refl;
-  kept = Keeps-refl _;
-  is_status = c.refuse.ensures.status;
-})
+pub returns-in-Err : goal.returns-in-Err
+returns-in-Err g c = record {
+  handed = search rules;
+  runs = inl (record {
+    refused = refused_in c.in-Err.fault;
+    why = elim c.in-Err.ensures.exact [
+      | inl lacks ↦ inl (ap refused_in lacks)
+      | inr planned ↦ inr (rw c.as_slice-2.ensures.value at planned)
+    ];
+    line = rw c.as_slice.ensures.value at (rw c.explains-is_explained.ensures at c.refuse.ensures.line);
+    untouched = refl;
+    none = c.none_left.ensures;
+    same = refl;
+    kept = Keeps-refl _;
+    is_status = c.refuse.ensures.status;
+  });
+}
 
-pub returns-in-Ok-performed-clause-runs : goal.returns-in-Ok-performed-clause-runs
-returns-in-Ok-performed-clause-runs g c = inr (record {
-  command = c.in-Ok.command;
-  asks = rw c.as_slice-2.ensures.value at c.in-Ok.ensures.exact;
-  result = Ok c.in-Ok-performed.field-0;
-  before = output_bytes g.E.Write.contents c.perform-left.new.errors;
-  does = rw c.as_slice.ensures.value at (rw c.explains-is_explained.ensures at (rw c.in-Ok-performed.is at c.perform-left.ensures.does));
-  output = tt;
-  silent = c.perform-left.ensures.silent;
-  same = c.perform-left.ensures.same;
-  more = [];
-  explains = none_said _ _ _ _ _;
-  says = Keeps-refl _;
-  is_status = refl;
-})
+pub returns-in-Ok-performed : goal.returns-in-Ok-performed
+returns-in-Ok-performed g c = record {
+  handed = search rules;
+  runs = inr (record {
+    command = c.in-Ok.command;
+    asks = rw c.as_slice-2.ensures.value at c.in-Ok.ensures.exact;
+    result = Ok c.in-Ok-performed.field-0;
+    before = output_bytes g.E.Write.contents c.perform-left.new.errors;
+    does = rw c.as_slice.ensures.value at (rw c.explains-is_explained.ensures at (rw c.new-lines.ensures at (rw c.in-Ok-performed.is at c.perform-left.ensures.does)));
+    output = tt;
+    silent = c.perform-left.ensures.silent;
+    same = c.perform-left.ensures.same;
+    more = [];
+    explains = none_said _ _ _ _ _;
+    says = Keeps-refl _;
+    is_status = refl;
+  });
+}
 
-pub returns-clause-runs : goal.returns-clause-runs
-returns-clause-runs g c = inr (record {
-  command = c.in-Ok.command;
-  asks = rw c.as_slice-2.ensures.value at c.in-Ok.ensures.exact;
-  result = Err c.in-Err-performed.fault;
-  before = output_bytes g.E.Write.contents c.perform-left.new.errors;
-  does = rw c.as_slice.ensures.value at (rw c.explains-is_explained.ensures at (rw c.in-Err-performed.is at c.perform-left.ensures.does));
-  output = says_more (Err c.in-Err-performed.fault) (λ failed. elim failed [ inl output ↦ inl output | inr errors ↦ inr (c.tell.ensures.stays errors) ]) (rw c.in-Err-performed.is at c.perform-left.ensures.output);
-  silent = c.perform-left.ensures.silent;
-  same = c.perform-left.ensures.same;
-  more = c.cause_of-more.result.items;
-  explains = rw c.as_slice.ensures.value at (rw c.explains-is_explained.ensures at c.cause_of-more.ensures);
-  says = rw c.as_slice-in-Err-performed.ensures.value at c.tell.ensures.says;
-  is_status = c.status_of.ensures;
-})
+pub returns : goal.returns
+returns g c = record {
+  handed = search rules;
+  runs = inr (record {
+    command = c.in-Ok.command;
+    asks = rw c.as_slice-2.ensures.value at c.in-Ok.ensures.exact;
+    result = Err c.in-Err-performed.fault;
+    before = output_bytes g.E.Write.contents c.perform-left.new.errors;
+    does = rw c.as_slice.ensures.value at (rw c.explains-is_explained.ensures at (rw c.new-lines.ensures at (rw c.in-Err-performed.is at c.perform-left.ensures.does)));
+    output = says_more (Err c.in-Err-performed.fault) (λ failed. elim failed [ inl output ↦ inl output | inr errors ↦ inr (c.tell.ensures.stays errors) ]) (rw c.in-Err-performed.is at c.perform-left.ensures.output);
+    silent = c.perform-left.ensures.silent;
+    same = c.perform-left.ensures.same;
+    more = c.cause_of-more.result.items;
+    explains = rw c.as_slice.ensures.value at (rw c.explains-is_explained.ensures at (rw c.new-lines.ensures at c.cause_of-more.ensures));
+    says = rw c.as_slice-in-Err-performed.ensures.value at c.tell.ensures.says;
+    is_status = c.status_of.ensures;
+  });
+}
