@@ -138,11 +138,21 @@ def creates(given, file, stdin=b"", line=None, inputs=None):
     return case(given, stdin, b"", line, 0, files, {"x": file, **inputs})
 
 
+def beside(name, what):
+    """A first create of x beside something of another name, which stays."""
+    return case(["-cv", "x"], TWO_TEXT, files={"y": b"kept", name: what}, left={"y": b"kept", name: what, "x": TWO_FILE})
+
+
 def keeps(given, line, stdin=b"", files=None, left=None, **other):
     """A create that has a fault: the old database x stands as it was, and nothing beside it."""
     files = {"x": ONE_FILE, **(files or {})}
     left = files if left is None else {"x": ONE_FILE, **left}
     return case(given, stdin, b"", line, 111, files, left, **other)
+
+
+def chain(links):
+    """A database behind so many links, the last of which has their number as its name."""
+    return {"0": ONE_FILE, **{str(n): Link(str(n - 1)) for n in range(1, links + 1)}}
 
 
 # How much memory is enough for what came.
@@ -396,6 +406,23 @@ CASES = {
     "the database behind a link as the temporary file": case(
         ["-c", "-t", "y", "x"], TWO_TEXT, b"", NO_FILE, 111, {"x": Link("y"), "y": ONE_FILE}
     ),
+    # create: no name is touched but those of the database and of the temporary file
+    "a first create beside an empty x.bit": beside("x.bit", b""),
+    "a first create beside a file x.bit": beside("x.bit", b"a byte"),
+    "a first create beside a link x.bit": beside("x.bit", Link("y")),
+    "a first create beside a folder x.bit": beside("x.bit", FOLDER),
+    "a first create beside a pipe x.bit": beside("x.bit", PIPE),
+    "an input x.bit": case(
+        ["-cvm", "x", "x.bit"], files={"x.bit": b""}, left={"x": EMPTY_FILE, "x.bit": b""}
+    ),
+    "a base x.bit": case(
+        ["-cv", "-b", "x.bit", "x"], b"\n", files={"x.bit": TWO_FILE}, left={"x": TWO_FILE, "x.bit": TWO_FILE}
+    ),
+    "a temporary file x.bit": case(["-cv", "-t", "x.bit", "x"], TWO_TEXT, left={"x": TWO_FILE}),
+    "an old temporary file x.bit": case(
+        ["-cv", "-t", "x.bit", "x"], TWO_TEXT, files={"x.bit": b"old"}, left={"x": TWO_FILE}
+    ),
+    "a temporary file, and no folder of the database": keeps(["-c", "-t", "t", "sub/x"], NO_NAME, TWO_TEXT),
     "a temporary file spelled otherwise, where there is no database": case(
         ["-c", "-t", "./x", "x"], TWO_TEXT, b"", NO_FILE, 111
     ),
@@ -416,6 +443,17 @@ CASES = {
     "a database that is a link": case(
         ["-c", "x"], TWO_TEXT, files={"y": b"kept", "x": Link("y")}, left={"y": b"kept", "x": TWO_FILE}
     ),
+    "a database behind 39 links": case(
+        ["-c", "39"], TWO_TEXT, files=chain(39), left={**chain(39), "39": TWO_FILE}
+    ),
+    "a database behind as many links as the system follows": case(
+        ["-c", "40"], TWO_TEXT, files=chain(40), left={**chain(40), "40": TWO_FILE}
+    ),
+    "a database behind one link more": keeps(["-c", "41"], NO_FILE, TWO_TEXT, chain(41)),
+    "a query behind as many links as the system follows": case(
+        ["-q", "40", "one"], b"", b"Hello", files=chain(40)
+    ),
+    "a query behind one link more": keeps(["-q", "41", "one"], NO_FILE, b"", chain(41)),
     "in place, a link": keeps(
         ["-c", "-t", "-", "x"], NO_FILE, TWO_TEXT, {"y": b"kept", "x": Link("y")}
     ),
@@ -789,6 +827,11 @@ CASES = {
         ["-c", "-b", "base", "x"], b"\n", b"", not_whole(2064), 111,
         {"x": ONE_FILE, "base": TWO_FILE[:2070]},
     ),
+    # Of a base the records alone are read.
+    "a base that is cut after its records": case(
+        ["-c", "-b", "base", "x"], b"-3:two\n\n", b"", None, 0,
+        {"x": TWO_FILE, "base": TWO_FILE[:2082]}, {"x": ONE_FILE, "base": TWO_FILE[:2082]},
+    ),
     "a removal after records": case(
         ["-c", "-b", "base", "x"],
         b"+1,1:a->1\n+3,5:one->Hello\n+3,7:two->Goodbye\n+1,1:a->2\n-1:a\n\n",
@@ -899,10 +942,15 @@ CASES = {
     "an empty file compared with an empty wide one": compares(EMPTY_FILE, WIDE_EMPTY, b"", of_new(NO_TABLES)),
     "one byte follows the head of the new one": compares(EMPTY_FILE, EMPTY_FILE + b"\0", b"", of_new(NO_TABLES)),
     "one byte follows the head of the old one": compares(EMPTY_FILE + b"\0", EMPTY_FILE, b"", of_old(NO_TABLES)),
-    # Both heads are read before the tables of either are looked for, those of the old one first.
+    # Both heads are read before the tables of either are looked for, and these before one is found outside; those of
+    # the old one first.
     "an old one without tables beside a cut head": compares(WIDE_TWO, TWO_FILE[:2047], b"", of_new(SHORT)),
-    "an old one without tables beside a damage": compares(WIDE_TWO, TWO_FILE[:2070], b"", of_old(NO_TABLES)),
-    "a new one without tables beside a damage": compares(TWO_FILE[:2070], WIDE_TWO, b"", of_new(NO_TABLES)),
+    "an old one without tables beside a cut one": compares(WIDE_TWO, TWO_FILE[:2070], b"", of_old(NO_TABLES)),
+    "a new one without tables beside a cut one": compares(TWO_FILE[:2070], WIDE_TWO, b"", of_new(NO_TABLES)),
+    "an old one that is cut beside a cut head": compares(TWO_FILE[:2070], TWO_FILE[:2047], b"", of_new(SHORT)),
+    "a cut head beside one that is cut": compares(TWO_FILE[:2047], TWO_FILE[:2070], b"", of_old(SHORT)),
+    "both are cut": compares(TWO_FILE[:-1], TWO_FILE[:2070], b"", of_old(outside(129))),
+    "one that is cut beside a damage of a record": compares(two_with(2068, b"\x08"), TWO_FILE[:-1], b"", of_new(outside(129))),
     "a wide difference of a narrow file and a wide one": compares(
         TWO_FILE, WIDE_TWO, b"", of_old(SHORT), ("-D", "-W")
     ),
@@ -939,8 +987,20 @@ CASES = {
     "an old database with a cut head": compares(TWO_FILE[:2047], TWO_FILE, b"", of_old(SHORT)),
     "a new database with a cut head": compares(TWO_FILE, TWO_FILE[:2047], b"", of_new(SHORT)),
     "both have a cut head": compares(b"", b"", b"", of_old(SHORT)),
-    "an old database that is cut": compares(TWO_FILE[:2070], TWO_FILE, b"", of_old(not_whole(2064))),
-    "a new database that is cut": compares(TWO_FILE, TWO_FILE[:2070], b"", of_new(not_whole(2064))),
+    # Every table lies inside both files, or nothing is written. The tables are 41, of 2082 to 2098, and 129, to the end.
+    "an old database that is cut within a record": compares(TWO_FILE[:2070], TWO_FILE, b"", of_old(outside(41))),
+    "a new database that is cut within a record": compares(TWO_FILE, TWO_FILE[:2070], b"", of_new(outside(41))),
+    "an old database that is cut after its head": compares(TWO_FILE[:2048], EMPTY_FILE, b"", of_old(outside(41))),
+    "a new database that is cut after its records": compares(EMPTY_FILE, TWO_FILE[:2082], b"", of_new(outside(41))),
+    "an old database that is cut after its first table": compares(TWO_FILE[:2098], TWO_FILE, b"", of_old(outside(129))),
+    "an old database that lacks a byte": compares(TWO_FILE[:-1], TWO_FILE, b"", of_old(outside(129))),
+    "a new database that lacks a byte": compares(TWO_FILE, TWO_FILE[:-1], b"", of_new(outside(129))),
+    "a database that lacks a byte is compared with itself": reads(["-D", "x", "x"], TWO_FILE[:-1], b"", of_old(outside(129)), 111),
+    "databases with a byte more": compares(TWO_FILE + b"\0", TWO_FILE + b"\0", b"\n"),
+    "an old wide database that lacks a byte": compares(WIDE_TWO[:-1], WIDE_TWO, b"", of_old(outside(129)), ("-DW",)),
+    "a new wide database that lacks a byte": compares(WIDE_TWO, WIDE_TWO[:-1], b"", of_new(outside(129)), ("-DW",)),
+    "a wide database that is cut after its head": compares(WIDE_TWO, WIDE_TWO[:4096], b"", of_new(outside(41)), ("-DW",)),
+    "no difference of wide databases": compares(WIDE_TWO, WIDE_TWO, b"\n", given=("-DW",)),
     # Both files are walked to their ends before anything is written.
     "a damage after a removed key": compares(
         two_with(2068, b"\x08"), EMPTY_FILE, b"", of_old(not_whole(2064))

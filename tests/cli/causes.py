@@ -41,9 +41,17 @@ CAUSES = {
     "dump of a file that is not there": told(["-d", "x"], NO_FILE, f"x: {MISSING}"),
     "dump of a folder": told(["-d", "x"], NO_DATABASE, "x: Is a directory", files={"x": FOLDER}),
     "dump of a text": told(["-d", "m"], SHORT, "m", files=INPUTS),
-    "dump of a closed standard input": told(["-d"], NO_DATABASE, "standard input: Is a directory", CLOSED),
+    "dump of a closed standard input": told(["-d"], NO_DATABASE, "standard input: Bad file descriptor", CLOSED),
+    "check of a closed standard input": told(["-k"], NO_DATABASE, "standard input: Bad file descriptor", CLOSED),
+    "create from a closed standard input": told(["-c", "x"], NO_INPUT, "standard input: Bad file descriptor", CLOSED),
     "difference from a text": told(["-D", "m", "x"], f"old database: {SHORT}", "m", files={"x": ONE_FILE, **INPUTS}),
     "difference to a text": told(["-D", "x", "m"], f"new database: {SHORT}", "m", files={"x": ONE_FILE, **INPUTS}),
+    "difference from a file that is cut": told(
+        ["-D", "y", "x"], "old database: table 129: outside the file", "y", files={"x": TWO_FILE, "y": TWO_FILE[:-1]}
+    ),
+    "difference to a file that is cut": told(
+        ["-D", "x", "y"], "new database: table 129: outside the file", "y", files={"x": TWO_FILE, "y": TWO_FILE[:-1]}
+    ),
     "difference to a file that is not there": told(["-D", "x", "y"], NO_FILE, f"y: {MISSING}", files={"x": ONE_FILE}),
     "a folder that is not there": told(["-c", "no/x"], NO_FILE, f"no/x.tmp: {MISSING}", TWO_TEXT),
     "a file in place of a folder": told(["-c", "m/x"], NO_FILE, "m/x.tmp: Not a directory", TWO_TEXT, files=INPUTS),
@@ -65,6 +73,34 @@ CAUSES = {
     "an input that is a folder": told(["-c", "x", "m"], NO_INPUT, "m: Is a directory", files={"m": FOLDER}),
     "a database that is a folder": told(["-c", "x"], NO_NAME, "x: is no regular file", TWO_TEXT, files={"x": FOLDER}),
     "a name that is empty": told(["-c", ""], NO_FILE, "the name is empty", TWO_TEXT),
+    "an empty name in place": told(["-c", "-t", "-", ""], NO_FILE, "the name is empty", TWO_TEXT),
+    "an empty name of the temporary file": told(
+        ["-c", "-t", "", "x"], NO_FILE, "the name is empty", TWO_TEXT, files={"x": ONE_FILE}
+    ),
+    "an empty name of an input": told(["-c", "x", ""], NO_FILE, "the name is empty", TWO_TEXT, files={"x": ONE_FILE}),
+    "an empty name of a base": told(["-c", "-b", "", "x"], NO_FILE, "the name is empty", b"\n", files={"x": ONE_FILE}),
+    "an empty name of a query": told(["-q", "", "one"], NO_FILE, "the name is empty"),
+    "an empty name of keys": told(["-q", "-i", "x", ""], NO_FILE, "the name is empty", files={"x": ONE_FILE}),
+    "an empty name of a dump": told(["-d", ""], NO_FILE, "the name is empty"),
+    "an empty name of a list": told(["-l", ""], NO_FILE, "the name is empty"),
+    "an empty name of statistics": told(["-s", ""], NO_FILE, "the name is empty"),
+    "an empty name of a check": told(["-k", ""], NO_FILE, "the name is empty"),
+    "an empty name of an old database": told(["-D", "", "x"], NO_FILE, "the name is empty", files={"x": ONE_FILE}),
+    "an empty name of a new database": told(["-D", "x", ""], NO_FILE, "the name is empty", files={"x": ONE_FILE}),
+    "a slash after the name of nothing": told(["-c", "y/"], NO_FILE, "y/: the name ends in a slash", TWO_TEXT),
+    "a slash after the name of a file": told(
+        ["-c", "y/"], NO_FILE, "y/: the name ends in a slash", TWO_TEXT, files={"y": ONE_FILE}
+    ),
+    "a slash after the name of a folder": told(
+        ["-c", "y/"], NO_FILE, "y/: the name ends in a slash", TWO_TEXT, files={"y": FOLDER}
+    ),
+    "a slash after the name of a file in place": told(
+        ["-c", "-t", "-", "y/"], NO_FILE, "y/: the name ends in a slash", TWO_TEXT, files={"y": ONE_FILE}
+    ),
+    "a slash after the name of a folder in place": told(
+        ["-c", "-t", "-", "y/"], NO_FILE, "y/: the name ends in a slash", TWO_TEXT, files={"y": FOLDER}
+    ),
+    "a slash after the name and no input": told(["-c", "y/", "m"], NO_FILE, f"m: {MISSING}", files={"y": FOLDER}),
     "a temporary file that is an input": told(["-c", "-m", "-t", "m", "x", "m"], NO_FILE, "m: is an input", files=INPUTS),
     "a temporary file that is the base": told(
         ["-c", "-b", "y", "-t", "./y", "x"], NO_FILE, "./y: is the base", b"\n", files={"y": ONE_FILE}
@@ -96,7 +132,31 @@ CAUSES = {
         ["-c", "x"], f"input 1: byte {len(TWO_TEXT) - 1}: {EARLY}", "standard input: line 3", TWO_TEXT[:-1]
     ),
     "a second text of standard input": told(
-        ["-c", "x", "-", "-"], f"input 2: byte 0: {NO_RECORD}", "standard input", TWO_TEXT + b"*"
+        ["-c", "x", "-", "-"], f"input 2: byte 0: {NO_RECORD}", "standard input: line 4", TWO_TEXT + b"*"
+    ),
+    "a third text of standard input, after a file": told(
+        ["-c", "x", "-", "m", "-", "-"],
+        f"input 4: byte 9: {NO_RECORD}",
+        "standard input: line 6",
+        TWO_TEXT + b"\n+1,0:a->\n-",
+        files={"m": LARGE_TEXT},
+    ),
+    "a newline where a record is to go on": told(
+        ["-c", "x"], f"input 1: byte {len(TWO_TEXT)}: {NO_RECORD}", "standard input: line 3", TWO_TEXT[:-1] + b"+\n\n"
+    ),
+    "keys in a second text of standard input": case(
+        ["-v", "-q", "-i", "x", "-", "-"],
+        b"+3:one\n\n+3:two\n*\n",
+        b"+3,5:one->Hello\n",
+        [f"input 2: byte 7: {NO_RECORD}", "standard input: line 4"],
+        111,
+        {"x": ONE_FILE},
+    ),
+    "keys of many lines": told(
+        ["-q", "-i", "x", "m"],
+        f"input 1: byte 80000: {NO_RECORD}",
+        "m: line 10001",
+        files={"x": ONE_FILE, "m": b"+4:none\n" * 10000 + b"*"},
     ),
     "a full disk at standard output": case(
         ["-v", "-d"], TWO_FILE, "/dev/full", [NO_OUTPUT, "standard output: No space left on device"], 111

@@ -6,12 +6,14 @@
 The model is a plain list of records. Each amended database is compared with one that is made here of the
 records that survive, and what changed between it and the new one must be nothing. After the drawn cases come
 values of several pieces and of many records, lists of which whole parts moved, and then each byte of a small
-database is changed in turn, and each of its prefixes compared.
+database is changed in turn, and each of its prefixes compared. If its head alone shows that it is damaged, the
+program says so, and writes nothing.
 """
 
 import itertools
 import os
 import random
+import struct
 import subprocess
 import sys
 import tempfile
@@ -22,6 +24,7 @@ from files import TWO_FILE, file_of, wide_words, words
 CASES = 5000
 PIECE = 4096
 WINDOW = 65536
+HEAD = 2048
 NOTHING = b"\n"
 HOW = ["add", "remove", "move", "swap", "set", "turn", "cut", "front"]
 
@@ -177,15 +180,30 @@ def with_other_byte(place):
     return TWO_FILE[:place] + bytes([TWO_FILE[place] ^ 0x41]) + TWO_FILE[place + 1 :]
 
 
+def fault_of_head(file):
+    """What a database's head shows to be wrong, or None: there is no whole one, or bytes follow it and no table has
+    slots, or a table with slots lies outside the file."""
+    if len(file) < HEAD:
+        return b"database shorter than its head"
+    tables = list(struct.iter_unpack("<II", file[:HEAD]))
+    if len(file) > HEAD and not any(slots for _, slots in tables):
+        return b"no tables before its records"
+    outside = (n for n, (place, slots) in enumerate(tables) if slots and not HEAD <= place <= len(file) - 8 * slots)
+    return next((b"table %d: outside the file" % n for n in outside), None)
+
+
 def damaged_case(folder, is_old, file):
     """Whether a database that may be damaged is compared, or is the one that is said to be damaged. What is
     written amends the old one, or it is a prefix of such a text."""
     folder.write("old", file if is_old else TWO_FILE)
     folder.write("new", TWO_FILE if is_old else file)
     status, text, lines = folder.run("-D", "old", "new")
+    which = b"cdb: old database: " if is_old else b"cdb: new database: "
+    fault = fault_of_head(file)
+    if fault:
+        return (status, text, lines) == (111, b"", which + fault + b"\n")
     if status == 0:
         return lines == b"" and text.endswith(NOTHING) and (is_old or folder.amended(text) is not None)
-    which = b"cdb: old database: " if is_old else b"cdb: new database: "
     return status == 111 and lines.startswith(which) and lines.count(b"\n") == 1
 
 

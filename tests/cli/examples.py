@@ -32,6 +32,7 @@ printf 'postmaster root\nabuse      root\n' > aliases
 printf '+4,2:+one->10\n\n' | cdb -c data.cdb
 cp data.cdb primary/data.cdb
 printf '+5,4:abuse->kris\n+10,4:postmaster->kris\n\n' | cdb -c map.cdb
+cp map.cdb primary/map.cdb
 printf 'postmaster alice\nabuse root\n' > source
 printf '+7,5:old.net->carol\n\n' | cdb -c owners.cdb
 printf 'old.net x\nold.net\n' > hosts
@@ -40,7 +41,7 @@ host=old.net
     "man/cdb.1": "",
 }
 # The folders of the pages' own machines, in the folder of a test.
-MOVED = [("/etc/postfix/", "postfix/"), ("primary:/service/tinydns/root/", "primary/")]
+MOVED = [("/etc/postfix/", "postfix/"), ("primary:/service/tinydns/root/", "primary/"), ("primary:map", "primary/map")]
 # The statistics of a database of one record.
 STATISTICS = """records: 1
 key lengths least/average/greatest: 4/4/4
@@ -67,6 +68,9 @@ WRITTEN = {
         "",
         "",
         "",
+        "",
+        "",
+        "",
         "nothing changed\n",
         "",
     ],
@@ -77,7 +81,7 @@ WHOLE = {
     "README.md": ("cdb -d -m aliases.cdb", "postmaster root\nhosts jim\n"),
     "docs/GUIDE.md": (
         "cdb -d -m words.cdb; cdb -d -m map.cdb; cdb -d -m aliases.cdb",
-        "two Goodbye\nthree Hey\nthree Hey\npostmaster alice\n"
+        "two Goodbye\nthree Hello again\npostmaster alice\n"
         "postmaster root\nlist alice,    bob\nabuse root\n",
     ),
     "man/cdb.1": ("cdb -d -m copy.cdb", "postmaster alice\n"),

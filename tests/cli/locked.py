@@ -4,9 +4,10 @@
     tests/cli/locked.py PROGRAM
 
 A create that finds the temporary file of another that is still at work is to end with `file cannot be
-opened` and touch nothing; with `-v` it says that another is at work. The file of one that was killed is removed. Whatever is killed, the
-database is one of the whole files, and of a create that answered 0 it was the file. A create in place
-that finds another at work in the file is to end so too.
+opened` and touch nothing; with `-v` it says that another is at work, whichever call of it meets the other.
+The file of one that was killed is removed. Whatever is killed, the database is one of the whole files, and of
+a create that answered 0 it was the file; in every other round there is none before. A create in place that
+finds another at work in the file is to end so too. The file of a create that has another name stays.
 """
 
 import os
@@ -26,6 +27,9 @@ OLD = file_of([(b"old", b"database")])
 IN_PLACE = ["-c", "-t", "-", "x"]
 ROUNDS = 200
 CREATES = 3
+# How many creates are begun at once, and how often.
+CROWD = 60
+CROWDS = 5
 # How long the creates of a round are left alone at most before one is killed, in seconds.
 LONGEST = 0.02
 PIPED = dict(stdin=subprocess.PIPE, stderr=subprocess.PIPE)
@@ -146,6 +150,21 @@ def in_place_is_killed(program):
     return in_folder(run) == (0, b"", TWO_FILE)
 
 
+def other_file_is_kept(program):
+    """A first create beside one of another database, whose temporary file's name begins as its own."""
+
+    def run(folder, read_file):
+        os.remove(os.path.join(folder, "x"))
+        first = subprocess.Popen([program, "-c", "-t", "x.bit", "y"], cwd=folder, **PIPED)
+        if not waits(first, os.path.join(folder, "x.bit")):
+            first.kill()
+            return None
+        second = created(program, folder, TWO_TEXT)
+        return second, ended(first, TWO_TEXT), {name: read_file(name) for name in os.listdir(folder)}
+
+    return in_folder(run) == ((0, b""), (0, b""), {"x": TWO_FILE, "y": TWO_FILE})
+
+
 def begun(program, folder, text):
     """A create of some text, which it reads from a file."""
     given = tempfile.TemporaryFile()
@@ -156,12 +175,32 @@ def begun(program, folder, text):
         return subprocess.Popen([program, "-c", "x"], cwd=folder, **how)
 
 
-def round_is_right(program, chosen):
-    """Whether creates at once, some of them killed, leave a file that one of them published."""
+def crowd_is_right(program, has_old):
+    """Of creates that begin at once each makes the database or says that another is at work on it."""
+
+    def run(folder, read_file):
+        if not has_old:
+            os.remove(os.path.join(folder, "x"))
+        how = dict(cwd=folder, stdin=subprocess.DEVNULL, stderr=subprocess.PIPE)
+        with open(os.path.join(folder, "text"), "wb") as text:
+            text.write(TWO_TEXT)
+        running = [subprocess.Popen([program, "-vc", "x", "text"], **how) for _ in range(CROWD)]
+        answers = {(it.returncode, lines) for it in running for _, lines in [it.communicate(timeout=60)]}
+        wanted = {(0, b""), (111, WHY % b"x.tmp")}
+        return answers <= wanted and (0, b"") in answers and read_file("x") == TWO_FILE and read_file("x.tmp") is None
+
+    return in_folder(run)
+
+
+def round_is_right(program, chosen, is_first):
+    """Whether creates at once, some of them killed, leave a file that one of them published, beside an old one or
+    none."""
     texts = [[(b"key%d" % n, chosen.randbytes(chosen.randint(0, 100_000)))] for n in range(CREATES)]
     files = [file_of(records) for records in texts]
 
     def run(folder, read_file):
+        if is_first:
+            os.remove(os.path.join(folder, "x"))
         running = [begun(program, folder, text_of(records)) for records in texts]
         time.sleep(chosen.uniform(0, LONGEST))
         killed = chosen.sample(range(CREATES), chosen.randint(0, 2))
@@ -172,7 +211,7 @@ def round_is_right(program, chosen):
         # One that was killed may have come to the rename.
         unknown = [files[n] for n in range(CREATES) if statuses[n] == -signal.SIGKILL]
         found = read_file("x")
-        return found in published + unknown or (not published and found == OLD)
+        return found in published + unknown or (not published and found == (None if is_first else OLD))
 
     return in_folder(run)
 
@@ -188,13 +227,17 @@ def main():
         "a second create of a cut text": second_is_refused(program, TWO_TEXT[:-3]),
         "a second create that is killed": second_is_killed(program),
         "a first create that is killed": first_is_killed(program),
+        "a create of another database": other_file_is_kept(program),
         "a second create in place": in_place_is_refused(program, IN_PLACE),
         "a second create in place, by the name itself": in_place_is_refused(program, ["-c", "-t", "x", "x"]),
         "a second create in place, with -v": in_place_is_refused(program, ["-v", *IN_PLACE], WHY % b"x"),
         "a create in place after one that was killed": in_place_is_killed(program),
     }
+    for n in range(CROWDS):
+        held[f"crowd {n}"] = crowd_is_right(program, True)
+        held[f"crowd {n} with no database"] = crowd_is_right(program, False)
     for n in range(ROUNDS):
-        held[f"round {n}"] = round_is_right(program, chosen)
+        held[f"round {n}"] = round_is_right(program, chosen, n % 2 == 1)
     wrong = [name for name, holds in held.items() if not holds]
     for name in wrong[:5]:
         print(name)

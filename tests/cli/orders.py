@@ -4,7 +4,8 @@
     tests/cli/orders.py PROGRAM ORDERS
 
 The second program is orders.c, which says what each order is to leave; it stops the creates at these
-calls. Both are made with no temporary file there before, beside an old one, a whole database, and in place.
+calls. Both are made with no temporary file there before, beside an old one, a whole database, and in place;
+and one in place beside one that replaces the database, each of them first.
 """
 
 import os
@@ -15,7 +16,14 @@ import tempfile
 from files import file_of, text_of
 
 RECORDS = {"old": [(b"old", b"database")], "one": [(b"one", b"1" * 100)], "two": [(b"two", b"2" * 1000)]}
-STALE = "old.cdb"
+# How each of two creates makes the database, and the file that has the temporary name before.
+PAIRS = {
+    "no temporary file": ["rr"],
+    "an old temporary file": ["rr", "old.cdb"],
+    "in place": ["ii"],
+    "one in place, and one that replaces it": ["ir"],
+    "one that replaces it, and one in place": ["ri"],
+}
 
 
 def fill(folder):
@@ -57,7 +65,7 @@ def main():
         sys.exit(__doc__)
     words = [os.path.abspath(it) for it in sys.argv[1:]]
     passed = failed = 0
-    for name, rest in (("no temporary file", []), ("an old temporary file", [STALE]), ("in place", ["-"])):
+    for name, rest in PAIRS.items():
         good, bad = counted(words, rest)
         print(f"{name}: {good + bad} orders, {bad} of them wrong")
         passed, failed = passed + good, failed + bad

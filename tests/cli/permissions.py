@@ -4,14 +4,17 @@
     tests/cli/permissions.py PROGRAM
 
 The temporary file is open to this user alone until it is whole. A database that replaces a regular file
-then has its permission bits. If none is replaced, or a link, the umask decides, or the folder's default
-access list, as of any new file. In place nothing changes. An old temporary file has no part in it. If the
-file system knows no access lists, their rows are left out, and that is said.
+then has its permission bits, or those of one that vanished during the build. If none is replaced, or a link,
+the umask decides, or the default access list of the temporary file's folder, as of any new file there. In
+place nothing changes. An old temporary file has no part in it, nor has the length of the name. In a sticky
+folder another user's temporary file stops a create, and `-t` helps. If the file system knows no access lists,
+or the user cannot become another, such rows are left out, and that is said.
 """
 
 import errno
 import itertools
 import os
+import shutil
 import struct
 import subprocess
 import sys
@@ -28,6 +31,9 @@ PRIVATE = 0o600
 LIST = "system.posix_acl_default"
 USER, GROUP, MASK, OTHER, NAMED = 0x01, 0x04, 0x10, 0x20, 0x02
 NOBODY = 0xFFFFFFFF
+# A user who makes a database, and a stranger.
+MAKER, STRANGER = 1001, 1002
+OPEN = b"cdb: file cannot be opened\n"
 LISTS = {
     "others are kept out": ([(USER, 7, NOBODY), (GROUP, 5, NOBODY), (OTHER, 0, NOBODY)], 0o640),
     "all may write": ([(USER, 7, NOBODY), (GROUP, 7, NOBODY), (OTHER, 7, NOBODY)], 0o666),
@@ -43,57 +49,119 @@ def mode_of(path):
     return os.lstat(path).st_mode & 0o7777
 
 
-def while_waiting(program, folder, mask, words):
-    """The bits of the temporary file while the create waits for its text, and its status."""
+def while_waiting(program, folder, mask, words, meanwhile=lambda path: None):
+    """The bits of the temporary file while the create waits for its text, and its status. Something may be done
+    to the database meanwhile."""
     how = dict(cwd=folder, stdin=subprocess.PIPE, preexec_fn=lambda: os.umask(mask) and None)
-    temporary = os.path.join(folder, "x.tmp")
+    database = os.path.join(folder, "x")
+    temporary = os.path.join(folder, words[words.index("-t") + 1]) if "-t" in words else database + ".tmp"
     with subprocess.Popen([program, *words], **how) as process:
-        file = os.path.join(folder, "x") if "-t" in words else temporary
-        if not waits(process, file):
+        if not waits(process, database if "-" in words else temporary):
             process.kill()
             return None, None
         mode = mode_of(temporary) if os.path.exists(temporary) else None
+        meanwhile(database)
         process.communicate(TWO_TEXT, timeout=60)
         return mode, process.returncode
 
 
-def left_by(program, mask, old, words=("-c", "x"), stale=None):
+def place(path, mode):
+    """Makes an empty file of these bits, or a link to one that has others, or nothing."""
+    if mode == "link":
+        place(os.path.join(os.path.dirname(path), "y"), 0o600)
+        os.symlink("y", path)
+    elif mode is not None:
+        with open(path, "xb"):
+            os.chmod(path, mode)
+
+
+def left_by(program, mask, old, words=("-c", "x"), stale=None, meanwhile=lambda path: None):
     """The bits of the temporary file and of the database, and whether the database is whole. An old
     temporary file may be there, of these bits."""
     with tempfile.TemporaryDirectory() as folder:
         path = os.path.join(folder, "x")
-        if stale is not None:
-            with open(path + ".tmp", "wb"):
-                os.chmod(path + ".tmp", stale)
-        if old == "link":
-            with open(os.path.join(folder, "y"), "wb"):
-                os.chmod(os.path.join(folder, "y"), 0o600)
-            os.symlink("y", path)
-        elif old is not None:
-            with open(path, "wb"):
-                os.chmod(path, old)
-        temporary, status = while_waiting(program, folder, mask, words)
+        place(path + ".tmp", stale)
+        place(path, old)
+        temporary, status = while_waiting(program, folder, mask, words, meanwhile)
         if status != 0:
             return temporary, status, False
         with open(path, "rb") as file:
             return temporary, mode_of(path), file.read() == TWO_FILE
 
 
-def listed(program, entries):
-    """The status of a create, the bits of a new database and of a plain new file in a folder with a default
-    access list, and how many files there are then; or None if the file system knows no such list."""
+def becomes(mode):
+    """What replaces the database meanwhile: a file of these bits, a link, or nothing."""
+
+    def replace(path):
+        if os.path.lexists(path):
+            os.remove(path)
+        place(path, mode)
+
+    return replace
+
+
+def allows(folder, entries):
+    """Gives a folder a default access list, and answers whether the file system knows such lists."""
+    whole = struct.pack("<I", 2) + b"".join(struct.pack("<HHI", *it) for it in entries)
+    try:
+        os.setxattr(folder, LIST, whole)
+    except OSError as fault:
+        if fault.errno in (errno.ENOTSUP, errno.EPERM):
+            return False
+        raise
+    return True
+
+
+def listed(program, entries, inner=""):
+    """The status of a create, the bits of a new database and of a plain new file in the folder of its temporary
+    file, which has a default access list, and how many files there are in all; or None if the file system knows
+    no such list."""
     with tempfile.TemporaryDirectory() as folder:
-        whole = struct.pack("<I", 2) + b"".join(struct.pack("<HHI", *it) for it in entries)
-        try:
-            os.setxattr(folder, LIST, whole)
-        except OSError as fault:
-            if fault.errno in (errno.ENOTSUP, errno.EPERM):
-                return None
-            raise
-        _, status = while_waiting(program, folder, 0o022, ("-c", "x"))
-        with open(os.path.join(folder, "plain"), "xb"):
+        where = os.path.join(folder, inner)
+        os.makedirs(where, exist_ok=True)
+        if not allows(where, entries):
+            return None
+        words = ("-c", "-t", os.path.join(inner, "t"), "x") if inner else ("-c", "x")
+        _, status = while_waiting(program, folder, 0o022, words)
+        plain = os.path.join(where, "plain")
+        with open(plain, "xb"):
             pass
-        return status, mode_of(os.path.join(folder, "x")), mode_of(os.path.join(folder, "plain")), len(os.listdir(folder))
+        count = sum(len(files) for _, _, files in os.walk(folder))
+        return status, mode_of(os.path.join(folder, "x")), mode_of(plain), count
+
+
+def named(program, size):
+    """The status and the bits of a new database whose name has so many bytes, and how many files there are."""
+    with tempfile.TemporaryDirectory() as folder:
+        how = dict(cwd=folder, input=TWO_TEXT, timeout=60, check=False, preexec_fn=lambda: os.umask(0o022) and None)
+        done = subprocess.run([program, "-cv", "-t", "t", "n" * size], **how)
+        return done.returncode, mode_of(os.path.join(folder, "n" * size)), len(os.listdir(folder))
+
+
+def become_another():
+    """Takes root's rights from this process."""
+    os.umask(0o022)
+    os.setgroups([])
+    os.setgid(MAKER)
+    os.setuid(MAKER)
+
+
+def among_strangers(program, words):
+    """The status, the line and the bits of a new database in a sticky folder in which another user has an x.tmp
+    and an x.bit, and what is there then; or None if this user cannot become another."""
+    if os.getuid() != 0:
+        return None
+    with tempfile.TemporaryDirectory() as folder:
+        os.chmod(folder, 0o1777)
+        for name in ("x.tmp", "x.bit"):
+            place(os.path.join(folder, name), 0o644)
+            os.chown(os.path.join(folder, name), STRANGER, STRANGER)
+        copy = shutil.copy(program, os.path.join(folder, "cdb"))
+        how = dict(cwd=folder, input=TWO_TEXT, stderr=subprocess.PIPE, timeout=60, check=False)
+        done = subprocess.run([copy, *words], preexec_fn=become_another, **how)
+        path = os.path.join(folder, "x")
+        mode = mode_of(path) if os.path.exists(path) else None
+        return done.returncode, done.stderr, mode, sorted(os.listdir(folder))
 
 
 def main():
@@ -114,12 +182,21 @@ def main():
     came.append(("a program that runs as its owner", left, (PRIVATE, 0o755, True)))
     in_place = ("-c", "-t", "-", "x")
     came.append(("in place", left_by(program, 0o022, 0o600, in_place), (None, 0o600, True)))
+    for old, new, mode in ((0o604, None, 0o604), (0o604, "link", 0o604), (None, 0o611, 0o611), (0o604, 0o611, 0o611)):
+        left = left_by(program, 0o022, old, meanwhile=becomes(new))
+        came.append((f"{old} that becomes {new} meanwhile", left, (PRIVATE, mode, True)))
+    came += [(f"a name of {size} bytes", named(program, size), (0, 0o644, 1)) for size in (1, 251, 252, 255)]
     for name, (entries, mode) in LISTS.items():
-        left = listed(program, entries)
+        came.append((name, listed(program, entries), (0, mode, mode, 2)))
+        came.append((f"{name}, of another folder", listed(program, entries, "sub"), (0, mode, mode, 2)))
+    there = ["cdb", "x.bit", "x.tmp"]
+    came.append(("another's file", among_strangers(program, ["-c", "x"]), (111, OPEN, None, there)))
+    mine = among_strangers(program, ["-cv", "-t", "mine", "x"])
+    came.append(("beside another's files", mine, (0, b"", 0o644, sorted([*there, "x"]))))
+    for what, left, _ in came:
         if left is None:
-            print(f"left out: {name}, no access lists are here")
-        else:
-            came.append((name, left, (0, mode, mode, 2)))
+            print(f"left out: {what}, which needs access lists, or root")
+    came = [it for it in came if it[1] is not None]
     wrong = [it for it in came if it[1] != it[2]]
     for what, got, wanted in wrong:
         print(f"{what}: {got} and not {wanted}")

@@ -1,10 +1,13 @@
 #!/usr/bin/env python3
-"""Takes the temporary file away from a create that waits for its text, as another create does.
+"""Takes the file that it builds in away from a create that waits for its text, as another create does; or makes
+another file beside it.
 
     tests/cli/taken.py PROGRAM
 
-The create is to end with `database cannot be renamed`: the old database stays, and so does what has the
-temporary name now. A fault of the text is to leave both as well.
+Without its file the create is to end with `database cannot be renamed`: the old database stays, if there is one,
+and so does what has the temporary name now. A fault of the text is to leave both as well. So is a create in place
+to end whose file loses its name, and with `-v` it says so; what has the name then stays. What comes under any
+other name stays, and the create is done.
 """
 
 import os
@@ -16,8 +19,12 @@ from files import TWO_FILE, TWO_TEXT
 from waiting import waits
 
 RENAME = b"cdb: database cannot be renamed\n"
+WHY = RENAME + b"cdb: x: its file was replaced or removed\n"
 FAULT = b"cdb: input 1: byte 34: not a record\n"
 OTHER = b"the file of another create"
+BAD_TEXT = TWO_TEXT[:-1] + b"*"
+APART = ["-c", "x"]
+IN_PLACE = ["-c", "-t", "-", "x"]
 
 
 def write(path, what):
@@ -26,17 +33,19 @@ def write(path, what):
         file.write(what)
 
 
-def left_by(program, text, takes):
-    """What a create leaves from which the temporary file is taken once it is made."""
+def left_by(program, words, text, takes, old):
+    """What a create leaves from which the file that it builds in is taken once it is made, beside an old database or
+    none."""
     with tempfile.TemporaryDirectory() as folder:
-        name, temporary = os.path.join(folder, "x"), os.path.join(folder, "x.tmp")
-        write(name, b"old")
+        built = os.path.join(folder, "x" if "-t" in words else "x.tmp")
+        if old is not None:
+            write(os.path.join(folder, "x"), old)
         how = dict(cwd=folder, stdin=subprocess.PIPE, stderr=subprocess.PIPE)
-        with subprocess.Popen([program, "-c", "x"], **how) as process:
-            if not waits(process, temporary):
+        with subprocess.Popen([program, *words], **how) as process:
+            if not waits(process, built):
                 process.kill()
                 return None
-            takes(temporary)
+            takes(built)
             _, errors = process.communicate(text, timeout=60)
         files = {}
         for it in sorted(os.listdir(folder)):
@@ -51,24 +60,48 @@ def replaced(path):
     write(path, OTHER)
 
 
+def joined(path):
+    """Another program makes a file beside it, whose name begins as the database's."""
+    write(path.replace(".tmp", ".bit"), OTHER)
+
+
+def stays(_):
+    """Nothing is taken."""
+
+
+def cases():
+    """What each create is called, its words and text, what is taken, the old database, and what is to be left."""
+    rows = [
+        ("a file that is not taken", TWO_TEXT, stays, 0, b"", {"x": TWO_FILE}),
+        ("a file in place of it", TWO_TEXT, replaced, 111, RENAME, {"x.tmp": OTHER}),
+        ("no file in place of it", TWO_TEXT, os.remove, 111, RENAME, {}),
+        ("a fault, and a file in place of it", BAD_TEXT, replaced, 111, FAULT, {"x.tmp": OTHER}),
+        ("a file beside it", TWO_TEXT, joined, 0, b"", {"x": TWO_FILE, "x.bit": OTHER}),
+    ]
+    for old in (None, b"old"):
+        before = {} if old is None else {"x": old}
+        for name, text, takes, status, line, left in rows:
+            yield f"{name}, over {old}", APART, text, takes, old, (status, line, {**before, **left})
+    by_name, other = ["-c", "-t", "x", "x"], {"x": OTHER}
+    yield "in place", IN_PLACE, TWO_TEXT, stays, b"old", (0, b"", {"x": TWO_FILE})
+    yield "in place, another file has the name", IN_PLACE, TWO_TEXT, replaced, b"old", (111, RENAME, other)
+    yield "in place, nothing has the name", IN_PLACE, TWO_TEXT, os.remove, b"old", (111, RENAME, {})
+    yield "in place, a fault, and another file", IN_PLACE, BAD_TEXT, replaced, b"old", (111, FAULT, other)
+    yield "in place by its name", by_name, TWO_TEXT, replaced, b"old", (111, RENAME, other)
+    yield "in place, with -v", ["-v", *IN_PLACE], TWO_TEXT, replaced, b"old", (111, WHY, other)
+
+
 def main():
     if len(sys.argv) != 2:
         sys.exit(__doc__)
     program = os.path.abspath(sys.argv[1])
-    both = {"x": b"old", "x.tmp": OTHER}
-    cases = [
-        ("a file that is not taken", TWO_TEXT, lambda path: None, (0, b"", {"x": TWO_FILE})),
-        ("a file in place of it", TWO_TEXT, replaced, (111, RENAME, both)),
-        ("no file in place of it", TWO_TEXT, os.remove, (111, RENAME, {"x": b"old"})),
-        ("a fault, and a file in place of it", TWO_TEXT[:-1] + b"*", replaced, (111, FAULT, both)),
-    ]
-    failed = 0
-    for name, text, takes, wanted in cases:
-        left = left_by(program, text, takes)
+    passed = failed = 0
+    for name, words, text, takes, old, wanted in cases():
+        left = left_by(program, words, text, takes, old)
+        passed, failed = passed + (left == wanted), failed + (left != wanted)
         if left != wanted:
-            failed += 1
             print(f"{name}: {left!r:.300}")
-    print(f"{len(cases) - failed} passed, {failed} failed")
+    print(f"{passed} passed, {failed} failed")
     sys.exit(1 if failed else 0)
 
 

@@ -341,14 +341,110 @@ static void starts(void)
   want(FAILS(cdb_make_finish(&m), -1, EPROTO), "a finish after a failed start");
 }
 
+/* The longest key or value beside a head, the lengths and two slots. */
+#define LONGEST (UINT_MAX - HEAD - 8 - 16)
+
+/* A key or a value with which no file has room is not read: here it may not be. */
 static void record_that_is_too_big(void)
 {
   struct cdb_make m;
+  struct cdb c;
   int fd = make("x");
-  void *value = mmap(NULL, UINT_MAX, PROT_READ, MAP_PRIVATE | MAP_ANONYMOUS | MAP_NORESERVE, -1, 0);
+  void *value = mmap(NULL, UINT_MAX, PROT_NONE, MAP_PRIVATE | MAP_ANONYMOUS | MAP_NORESERVE, -1, 0);
   want(value != MAP_FAILED && cdb_make_start(&m, fd) == 0, "no value of 4 GiB");
-  want(FAILS(cdb_make_add(&m, "a", 1, value, UINT_MAX), -1, ENOMEM), "a record that is too big");
-  want(cdb_make_add(&m, "a", 1, "1", 1) == 0 && cdb_make_finish(&m) == 0, "the maker after it");
+  want(FAILS(cdb_make_add(&m, "a", 1, value, UINT_MAX), -1, ENOMEM), "a value that is too long");
+  want(FAILS(cdb_make_add(&m, value, UINT_MAX, "1", 1), -1, ENOMEM), "a key that is too long");
+  want(FAILS(cdb_make_add(&m, value, LONGEST, "1", 1), -1, ENOMEM), "a key too long for its value");
+  want(cdb_make_add(&m, "a", 1, "1", 1) == 0, "the maker after it");
+  want(FAILS(cdb_make_add(&m, value, LONGEST - 26, "1", 1), -1, ENOMEM), "a key too long beside a record");
+  for (int mode = CDB_PUT_ADD; mode <= CDB_PUT_REPLACE0; mode++) {
+    want(FAILS(cdb_make_put(&m, value, LONGEST + 1, "", 0, mode), -1, ENOMEM), "a put of a key that is too long");
+    want(mode == CDB_PUT_INSERT || FAILS(cdb_make_put(&m, "a", 1, value, LONGEST, mode), -1, ENOMEM),
+         "a put of a value that is too long");
+  }
+  want(FAILS(cdb_make_put(&m, "a", 1, value, UINT_MAX, CDB_PUT_INSERT), 1, EEXIST), "an insert that finds its key");
+  want(FAILS(cdb_make_add(&m, value, UINT_MAX, "1", 1), -1, ENOMEM), "a key that is too long, once others were put");
+  want(cdb_make_finish(&m) == 0, "the finish after it");
+  want(FAILS(cdb_make_add(&m, value, UINT_MAX, "1", 1), -1, EPROTO), "a key that is too long, without a maker");
+  want(cdb_init(&c, fd) == 0 && c.cdb_fsize == HEAD + 10 + 16 && cdb_find(&c, "a", 1) == 1, "the file is another");
+  cdb_free(&c);
+}
+
+/* Puts records of a key, so that some are written: by the mode, of so many bytes in all. */
+static int put_many(struct cdb_make *m, enum cdb_put_mode mode, unsigned size)
+{
+  static char value[1000 - 8 - sizeof(unsigned)];
+  int said = 0;
+  for (unsigned n = 0; n < size / 1000 && said == 0; n++)
+    said = cdb_make_put(m, &n, sizeof n, value, sizeof value, mode);
+  return said;
+}
+
+/* Whether no look-up takes a file for a database. */
+static int is_damaged(int fd)
+{
+  struct cdb c;
+  unsigned key = 0;
+  if (cdb_init(&c, fd) < 0) return errno == EPROTO;
+  int found = cdb_find(&c, &key, sizeof key), error = errno;
+  cdb_free(&c);
+  return found == -1 && error == EPROTO;
+}
+
+/* A finish sees a file that somebody cut, and a maker that adds sees it before it writes. */
+static void file_that_is_cut(void)
+{
+  static const enum cdb_put_mode MODES[] = { CDB_PUT_ADD, CDB_PUT_REPLACE, CDB_PUT_INSERT };
+  struct cdb_make m;
+  for (unsigned n = 0; n < 3; n++) {
+    int fd = file_named("cut");
+    want(cdb_make_start(&m, fd) == 0 && put_many(&m, MODES[n], 10 * PIECE) == 0, "puts");
+    off_t size = lseek(fd, 0, SEEK_END);
+    want(size > PIECE && ftruncate(fd, n ? size - 1 : HEAD + 5) == 0, "no cut");
+    want(FAILS(cdb_make_finish(&m), -1, EPROTO), "a finish of a file that was cut");
+    want(lseek(fd, 0, SEEK_END) == (n ? size - 1 : HEAD + 5) && is_damaged(fd), "a file that was cut is written");
+    want(FAILS(cdb_make_finish(&m), -1, EPROTO), "a finish after it");
+    close(fd);
+  }
+  int fd = file_named("cut");
+  want(cdb_make_start(&m, fd) == 0 && cdb_make_add(&m, "a", 1, "1", 1) == 0 && ftruncate(fd, 0) == 0, "no cut");
+  want(FAILS(cdb_make_finish(&m), -1, EPROTO) && lseek(fd, 0, SEEK_END) == 0, "a finish of a file without its head");
+  want(cdb_make_start(&m, fd) == 0 && put_many(&m, CDB_PUT_ADD, 10 * PIECE) == 0 && ftruncate(fd, 3 * PIECE) == 0,
+       "no cut");
+  want(FAILS(put_many(&m, CDB_PUT_ADD, 10 * PIECE), -1, EPROTO), "adds to a file that was cut");
+  want(FAILS(cdb_make_finish(&m), -1, EPROTO) && is_damaged(fd), "a finish after adds to a file that was cut");
+  static char value[2 * PIECE];
+  want(cdb_make_start(&m, fd) == 0 && cdb_make_add(&m, "a", 1, value, sizeof value) == 0 &&
+       ftruncate(fd, PIECE) == 0, "no cut");
+  want(FAILS(cdb_make_add(&m, "b", 1, value, sizeof value), -1, EPROTO), "a long add to a file that was cut");
+  want(FAILS(cdb_make_finish(&m), -1, EPROTO) && is_damaged(fd), "a finish after a long add");
+  /* What others write behind the records goes. */
+  want(cdb_make_start(&m, fd) == 0 && put_many(&m, CDB_PUT_ADD, 2 * PIECE) == 0 && ftruncate(fd, 5 * PIECE) == 0,
+       "no longer file");
+  want(cdb_make_finish(&m) == 0 && !is_damaged(fd) && lseek(fd, 0, SEEK_END) == HEAD + 131 * 1016,
+       "a finish of a file that was longer");
+}
+
+/* A finish sees a descriptor that appends by then, or that is closed. */
+static void descriptor_that_appends(void)
+{
+  struct cdb_make m;
+  int fd = file_named("appends");
+  want(cdb_make_start(&m, fd) == 0 && put_many(&m, CDB_PUT_ADD, 1000) == 0 && fcntl(fd, F_SETFL, O_APPEND) == 0,
+       "a descriptor that appends");
+  want(FAILS(cdb_make_finish(&m), -1, EINVAL), "a finish by a descriptor that appends");
+  want(lseek(fd, 0, SEEK_END) == HEAD && is_damaged(fd), "its file is written");
+  want(FAILS(cdb_make_finish(&m), -1, EPROTO), "a finish after it");
+  want(fcntl(fd, F_SETFL, 0) == 0 && cdb_make_start(&m, fd) == 0 && put_many(&m, CDB_PUT_ADD, 1000) == 0 &&
+       fcntl(fd, F_SETFL, O_APPEND) == 0 && fcntl(fd, F_SETFL, 0) == 0, "a start");
+  want(cdb_make_finish(&m) == 0 && !is_damaged(fd), "a descriptor that appended for a while");
+  want(cdb_make_start(&m, fd) == 0 && put_many(&m, CDB_PUT_ADD, 1000) == 0 && fcntl(fd, F_SETFL, O_APPEND) == 0,
+       "a start");
+  want(FAILS(put_many(&m, CDB_PUT_ADD, 2 * PIECE), -1, EINVAL), "adds by a descriptor that appends");
+  want(lseek(fd, 0, SEEK_END) == HEAD && fcntl(fd, F_SETFL, 0) == 0 && cdb_make_add(&m, "a", 1, "1", 1) == 0 &&
+       cdb_make_finish(&m) == 0 && !is_damaged(fd), "the maker after it");
+  want(cdb_make_start(&m, fd) == 0 && put_many(&m, CDB_PUT_ADD, 1000) == 0 && close(fd) == 0, "a start");
+  want(FAILS(cdb_make_finish(&m), -1, EBADF), "a finish by a descriptor that is closed");
 }
 
 /* Two records that come to so many bytes, and what is found of them. */
@@ -423,8 +519,8 @@ static void file_of_4_gib(void)
   const unsigned most = (UINT_MAX - HEAD) / 4016;
   struct cdb_make m;
   int fd = file_named("full");
+  want(cdb_make_start(&m, fd) == 0 && ftruncate(fd, UINT_MAX) == 0, "a start");
   forgets = 1;
-  want(cdb_make_start(&m, fd) == 0, "a start");
   for (unsigned n = 0; n < most; n++)
     if (cdb_make_add(&m, "a", 1, value, sizeof value) < 0) want(0, "a file below 4 GiB is too big"), n = most;
   want(FAILS(cdb_make_add(&m, "a", 1, value, sizeof value), -1, ENOMEM), "a file of 4 GiB is not too big");
@@ -551,6 +647,8 @@ static const struct { void (*rows)(void); const char *name; } GROUPS[] = {
   { null_addresses, "null addresses" },
   { starts, "starts" },
   { record_that_is_too_big, "a record that is too big" },
+  { file_that_is_cut, "a file that is cut" },
+  { descriptor_that_appends, "a descriptor that appends" },
   { records_that_fill_the_buffer, "records that fill the buffer" },
   { pieces_of_a_file, "pieces of a file" },
   { limit_of_a_file, "the limit of a file" },

@@ -4,8 +4,9 @@
     tests/clib/package.py FOLDER
 
 FOLDER has libcdb.so.1 and libcdb.a. The program is makes.c, built from the unpacked header with each
-library; it makes a drawn database. The library is installed into a folder too, and removed from there. If `lintian` is installed it may find no error and warn of nothing. If
-a C++ compiler is, the header is read by it too.
+library; it makes a drawn database. The library is installed into a folder too, and removed from there. If
+`lintian` is installed it may find no error and warn of nothing. If a C++ compiler is, the header is read by it
+too, and if `clang` is, it builds the library.
 """
 
 import glob
@@ -60,16 +61,20 @@ def holds(tree, held):
     return True
 
 
-def runs(tree, folder, library):
-    """Whether a program that is built with a library of the packages makes a drawn database."""
-    libraries = os.path.dirname(glob.glob(f"{tree}/usr/lib/*/libcdb.so.1")[0])
-    program = os.path.join(folder, "makes-" + library)
-    output_of([*COMPILER, "-I", f"{tree}/usr/include", "-o", program, os.path.join(HERE, "makes.c"),
-               os.path.join(libraries, library)])
-    driver = Driver(program, libraries, folder)
+def makes_drawn(compiler, tree, folder, library):
+    """Whether a program that is built with a library makes a drawn database, in a folder."""
+    program = os.path.join(folder, "makes-" + os.path.basename(library))
+    output_of([*compiler, "-I", f"{tree}/usr/include", "-o", program, os.path.join(HERE, "makes.c"), library])
+    driver = Driver(program, os.path.dirname(library), folder)
     scripts = [drawn_script(9, 100)]
     driver.place(scripts)
     return compare(driver, scripts, driver.run()) is None
+
+
+def runs(tree, folder, library):
+    """Whether a program that is built with a library of the packages makes a drawn database."""
+    libraries = os.path.dirname(glob.glob(f"{tree}/usr/lib/*/libcdb.so.1")[0])
+    return makes_drawn(COMPILER, tree, folder, os.path.join(libraries, library))
 
 
 def field_of(package, field):
@@ -151,15 +156,33 @@ def takes_little(tree, folder):
 
 
 def make(*words, **how):
-    """What make says."""
-    done = subprocess.run(["make", "-s", *words], cwd=TOP, capture_output=True, check=True, **how)
+    """What make says, with the folder of what is built."""
+    done = subprocess.run(["make", "-s", f"OUT={sys.argv[1]}", *words], cwd=TOP, capture_output=True, check=True, **how)
     return done.stdout.decode()
 
 
 def is_not_optimized_late():
     """Whether the library's objects are whole, also if the flags ask for the linker to optimize."""
-    words = make("-n", "-B", "bin/seeking.o", "CFLAGS=-O2 -flto").split()
+    words = make("-n", "-B", f"{sys.argv[1]}/seeking.o", "CFLAGS=-O2 -flto").split()
     return words.index("-fno-lto") > words.index("-flto")
+
+
+def checks_the_stack():
+    """Whether the objects check the ends of their buffers on the stack, unless the flags say otherwise."""
+    own, given = (make("-n", "-B", f"{sys.argv[1]}/seeking.o", it) for it in ("CFLAGS=-O2", "CFLAGS=-fno-stack-protector"))
+    return "-fstack-protector-strong" in own.split() and "-fstack-protector-strong" not in given.split()
+
+
+def is_built_by_clang(tree, folder):
+    """Whether clang builds the shared library with no warning, and a program makes a drawn database by it."""
+    place = tempfile.mkdtemp(dir=folder)
+    built = sys.argv[1]
+    lines = make("-n", "-B", f"{built}/libcdb.so.1", "CC=clang", "WERROR=-Werror").replace("\\\n", " ").splitlines()
+    for line in lines:
+        if line.startswith("clang"):
+            words = [re.sub(rf"^{built}/(?=\w+\.o$|libcdb\.so)", f"{place}/", it) for it in line.split()]
+            subprocess.run(words, cwd=TOP, check=True)
+    return makes_drawn(["clang"], tree, place, os.path.join(place, "libcdb.so.1"))
 
 
 def installs_and_removes(folder):
@@ -204,6 +227,7 @@ def tests_of(library, folder):
         "a program may have names of its own": keeps_own_names(tree, folder),
         "a program that hashes gets no more": takes_little(tree, folder),
         "no object waits for the linker": is_not_optimized_late(),
+        "the objects check the stack": checks_the_stack(),
         "what is installed is removed, and no more": installs_and_removes(folder),
         "a program runs on the shared library": runs(tree, folder, "libcdb.so"),
         "a program runs with the static library": runs(tree, folder, "libcdb.a"),
@@ -213,6 +237,8 @@ def tests_of(library, folder):
         words = ["c++", "-fsyntax-only", "-Wall", "-Werror", "-x", "c++", f"{tree}/usr/include/cdb.h"]
         done = subprocess.run(words, capture_output=True, check=False)
         held["a C++ compiler reads the header"] = done.returncode == 0
+    if shutil.which("clang"):
+        held["clang builds the library"] = is_built_by_clang(tree, folder)
     if shutil.which("lintian"):
         held["lintian finds nothing of weight"] = has_no_error(packages)
     return held

@@ -125,6 +125,12 @@ EXPORT(uint64_t, cdb_c_make_count, (void *handle))
   return __real_cdb_c_make_count(handle);
 }
 
+EXPORT(uint64_t, cdb_c_make_written, (void *handle))
+{
+  need(handle != NULL, "cdb_c_make_written");
+  return __real_cdb_c_make_written(handle);
+}
+
 EXPORT(int32_t, cdb_c_make_exists, (void *handle, const uint8_t *key, size_t klen))
 {
   need(handle && key, "cdb_c_make_exists");

@@ -77,9 +77,9 @@ def names_of(calls, number, words):
         temporary = words[place] if place is not None else "x.tmp"
         if call.what == "look":
             found |= {temporary.encode(), made.encode()}
-        if call.what == "rename" or name.endswith(".bit") or name.startswith("/"):
+        if call.what == "rename" or name.startswith("/"):
             found |= {made.encode(), words[-1].encode()} if "-t" in words else {made.encode()}
-        if call.what in ("open", "lock", "remove", "allow", "look"):
+        if call.what == "allow":
             found |= {temporary.encode(), made.encode()}
     return found
 
@@ -108,9 +108,6 @@ def wrong_with(plain, explained, number, are_longer, error, words):
     found_names = names_of(calls, number, words)
     wanted = {b"cdb: %s: %s\n" % (name, WORDS[error]) for name in found_names}
     call = calls[number - 1]
-    if call.what == "remove":
-        # What was not removed is in the way of the new file.
-        wanted |= {b"cdb: %s: File exists\n" % name for name in found_names}
     if call.what == "look" and call.name.isdigit():
         # The look by which the length of a file is read has no number that is kept.
         wanted |= {b"cdb: %s\n" % name for name in found_names}

@@ -5,7 +5,8 @@
 
 The library is refuse.c, built to be loaded ahead of the C library. The database is the old one with its
 permissions, or the new one with those that it is to have. A temporary file is open to this user alone
-until it is whole. A create that follows leaves the new database, and no other file.
+until it is whole; if there was no database, an empty one may show the permissions of a new one. A create that
+follows leaves the new database, and no other file.
 """
 
 import os
@@ -64,7 +65,8 @@ def run(path, library, state, number):
     is_killed = done.returncode == -signal.SIGKILL
     if left not in (old, new) or not is_killed and (done.returncode != 0 or left != new):
         return f"the database is {told(left)}, status {done.returncode}", is_killed
-    if beside is not None and beside[0] != temporary and beside[1] != PRIVATE and beside != new:
+    shows = (b"", new[1]) if mode is None else None
+    if beside is not None and beside[0] != temporary and beside[1] != PRIVATE and beside not in (new, shows):
         return f"the temporary file is {told(beside)}", is_killed
     if (following.returncode, after, names) != (0, new, ["x"]):
         return f"the next create answers {following.returncode}, and leaves {names}", is_killed

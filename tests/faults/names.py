@@ -7,9 +7,10 @@ The library is refuse.c, built to be loaded ahead of the C library. Each create 
 with nothing refused, which lists its calls. Then each of them is refused, alone and with all later
 ones, by each error of ERRORS. The status and the line must be those of that call. With status 0 the
 new database is whole, has its permissions, and nothing else has changed. If permissions are refused that
-no old database had, it is for this user alone. A look before a removal is made once more. Else the database, the inputs
-and the base are as they were, and so are their permissions; a database that is made in place is as it
-was unless its sync was refused.
+no old database had, it is for this user alone. A look before a removal is made once more. Else the database,
+the inputs and the base are as they were, and so are their permissions; a database that is made in place is as
+it was unless its sync or the look after that was refused. A temporary file may be left, for this user alone until it is whole; or an
+empty one with the permissions of a new database, if no old one has any.
 """
 
 import errno
@@ -35,8 +36,6 @@ LINES = (NO_FILE, NO_NAME, NO_DATABASE)
 LAST = 2**63 - 1
 MASK = 0o022
 MADE = 0o644
-# The end of the name of the file that shows the permissions of a new one.
-SHOWN = ".bit"
 # The permissions of what is there before, and of a temporary file that is left.
 MODE = 0o640
 PRIVATE = 0o600
@@ -148,11 +147,9 @@ def made_of(create, before, made=MADE):
     return {**left, "x": new(create, before, made)}
 
 
-def may_be_left(create, before, left, has_synced, may_stay, may_show):
+def may_be_left(create, before, left, has_synced, may_stay):
     """Whether a create that is not done may have left this."""
     wanted, found = dict(before), dict(left)
-    if may_show and found.get("x" + SHOWN) == (b"", MADE):
-        del found["x" + SHOWN]
     if is_in_place(create) and create.made is not None:
         old, now = wanted.pop("x", None), found.pop("x", None)
         begun = old is None or has_synced
@@ -161,28 +158,43 @@ def may_be_left(create, before, left, has_synced, may_stay, may_show):
     if create.made is not None or create.temporary not in before:
         old, now = wanted.pop(create.temporary, None), found.pop(create.temporary, None)
         # It has its permissions once it is whole.
-        is_own = now is not None and (now[1] == PRIVATE or now == new(create, before))
+        is_own = now is not None and (now[1] == PRIVATE or now == new(create, before) or now == shown(before))
         if now not in (old, None) and not (may_stay and is_own):
             return False
     return wanted == found
 
 
-def line_of(call, error, is_sealed):
+def shown(before):
+    """The file that shows the permissions of a new database, which is made if no old one has any; or None."""
+    return None if isinstance(before.get("x"), tuple) else (b"", MADE)
+
+
+def line_of(call, error, is_naming):
     """The line of a call that is refused, or None: nothing comes of it."""
     if call.what == "open" and (call.name in ("/", ".") or os.path.isdir(call.name)):
         return None
-    if error == errno.ENOMEM and call.what in ("open", "rename") and not call.name.endswith(SHOWN):
+    if error == errno.ENOMEM and call.what in ("open", "rename"):
         return NO_MEMORY
-    if call.what == "rename" or call.what == "look" and is_sealed:
+    if call.what == "rename" or call.what == "look" and is_naming:
         return NO_NAME
     return NO_DATABASE if call.what == "sync" else NO_FILE
 
 
-def is_of_open(calls, number, is_in_place):
+def is_naming(create, calls, number):
+    """Whether a look is one by which a create sees that its file has its name: before the rename; in place the
+    first two after the lock, and those after the sync."""
+    before = [it.what for it in calls[: number - 1]]
+    if is_in_place(create):
+        return "sync" in before or before[-1:] == ["lock"] or before[-2:] == ["lock", "look"]
+    return before.count("sync") == 2
+
+
+def is_of_open(create, calls, number):
     """Whether a call is a look at a file that was just opened, which is a part of its open; or in place at one
-    that was just locked, which is a part of its emptying."""
+    that is about to be emptied."""
     before = [it.what for it in calls[: number - 1] if it.what != "look"]
-    return calls[number - 1].what == "look" and before[-1:] in (["open"], ["lock"][:is_in_place])
+    is_late = is_in_place(create) and before[-1:] == ["lock"] and not is_naming(create, calls, number)
+    return calls[number - 1].what == "look" and (before[-1:] == ["open"] or is_late)
 
 
 def is_repeated(calls, number):
@@ -211,9 +223,9 @@ def wrong_with(create, number, error, is_lasting, freely, refused):
     elif call.what == "allow" and not isinstance(before.get("x"), tuple):
         line, made = None, PRIVATE
     else:
-        line = line_of(call, error, names.count("sync") == 2)
+        line = line_of(call, error, is_naming(create, calls, number))
     lines = {line} if not is_lasting else {*LINES, NO_MEMORY if error == errno.ENOMEM else NO_FILE}
-    if error == errno.ENOMEM and is_of_open(calls, number, is_in_place(create)):
+    if error == errno.ENOMEM and is_of_open(create, calls, number):
         lines |= {NO_MEMORY}
     if done.returncode == 0:
         if free.returncode or line is not None and not is_lasting or done.stderr or left != made_of(create, before, made):
@@ -226,8 +238,9 @@ def wrong_with(create, number, error, is_lasting, freely, refused):
     if done.returncode != 111 or done.stderr not in lines:
         return f"status {done.returncode}, {done.stderr} and not {lines}"
     may_stay = is_lasting or call.what == "lock" or free.returncode and call.what in ("look", "remove")
-    may_show = is_lasting or call.what == "remove" and call.name.endswith(SHOWN)
-    if not may_be_left(create, before, left, call.what == "sync", may_stay, may_show):
+    # One that shows permissions, and is not removed, is in the way of the one that is built.
+    may_stay = may_stay or call.what == "remove" and shown(before) is not None
+    if not may_be_left(create, before, left, "sync" in (*names, call.what), may_stay):
         return f"left {told(left)} of {told(before)}"
     return None
 

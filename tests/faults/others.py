@@ -21,13 +21,15 @@ import tempfile
 
 import commands
 from files import ONE_FILE, TWO_FILE, TWO_TEXT
-from names import CREATES, LAST, MADE, NO_DATABASE, NO_FILE, NO_NAME, PRIVATE, found_in, made_of, place, run, told
-from places import FOLDER, Link
+from names import CREATES, LAST, NO_DATABASE, NO_FILE, NO_NAME, PRIVATE, found_in, made_of, place, run, told
+from places import Link
 from refusing import Refusing
 
 OTHER = b"another's"
 KEPT = {"x": ONE_FILE, "y": b"kept"}
 STALE = {**KEPT, "x.tmp": b"old"}
+# No database is there, so a first temporary file shows the permissions of a new one.
+FIRST = {"y": b"kept"}
 PLAIN = ["-c", "x"]
 IN_PLACE = ["-c", "-t", "-", "x"]
 # What there is before, the words, what another program does before which call on which name, the line
@@ -46,7 +48,23 @@ MEETS = {
     "a file, as the new one is synced": (KEPT, PLAIN, "take", "sync", 1, "x.tmp", NO_NAME),
     "a link, as the new one is synced": (KEPT, PLAIN, "link", "sync", 1, "x.tmp", NO_NAME),
     "a link, as a database in place is opened": (KEPT, IN_PLACE, "link", "open", 2, "x", NO_FILE),
+    "a file, as the one that shows permissions is made": (FIRST, PLAIN, "take", "open", 1, "x.tmp", NO_FILE),
+    "a link, as the one that shows permissions is made": (FIRST, PLAIN, "link", "open", 1, "x.tmp", NO_FILE),
+    "a file, as the one that shows permissions is locked": (FIRST, PLAIN, "take", "lock", 1, "x.tmp", NO_FILE),
+    "a link, as the one that shows permissions is locked": (FIRST, PLAIN, "link", "lock", 1, "x.tmp", NO_FILE),
+    "a file, as the new one is made after that": (FIRST, PLAIN, "take", "open", 2, "x.tmp", NO_FILE),
+    "a pipe, as the new one is made after that": (FIRST, PLAIN, "pipe", "open", 2, "x.tmp", NO_FILE),
+    "a file, as the new one is locked after that": (FIRST, PLAIN, "take", "lock", 2, "x.tmp", NO_FILE),
+    "a link, as the first one is synced": (FIRST, PLAIN, "link", "sync", 1, "x.tmp", NO_NAME),
+    "a file, as a database in place is locked": (KEPT, IN_PLACE, "take", "lock", 1, "x", NO_NAME),
+    "a link, as a database in place is locked": (KEPT, IN_PLACE, "link", "lock", 1, "x", NO_NAME),
+    "a file, as a database in place is emptied": (KEPT, IN_PLACE, "take", "cut", 1, "x", NO_NAME),
+    "a file, as a database in place is synced": (KEPT, IN_PLACE, "take", "sync", 1, "x", NO_NAME),
+    "a pipe, as a database in place is synced": (KEPT, IN_PLACE, "pipe", "sync", 1, "x", NO_NAME),
 }
+# The folder of the database, the one that holds the place of a closed stream, what leads to standard input, and
+# those whose links are not replaced.
+SYSTEM = (".", "/", "/proc/self/fd/0", "/dev", "/proc")
 FREE = (errno.ENOTSUP, errno.ENOSYS, errno.ENOLCK)
 HELD = (errno.EBADF, errno.EAGAIN, errno.EIO, errno.EINVAL, errno.ENOMEM, errno.EACCES, errno.EPERM)
 # What a command is that makes a call which answers 0, its output and its line.
@@ -156,25 +174,25 @@ def idle(path, library, row):
 
 def unshown(path, library, error):
     """What is wrong with a create of a new database where the file that shows the permissions of a new one
-    cannot be made, or None. If its name is too long, the database is for this user alone."""
+    cannot be made, or None."""
     with tempfile.TemporaryDirectory() as folder:
-        hiding = Refusing(path, library, "calls", ONLY="open", NAME="x.bit", ERROR=error)
-        done, _ = hiding.trace(PLAIN, TWO_TEXT, 1, 1, folder)
+        hiding = Refusing(path, library, "calls", ONLY="open", NAME="x.tmp", ERROR=error)
+        done, calls = hiding.trace(PLAIN, TWO_TEXT, 1, 1, folder)
         left = found_in(folder)
-    wanted = (0, b"", {"x": (TWO_FILE, PRIVATE)}) if error == errno.ENAMETOOLONG else (111, NO_FILE, {})
-    return None if (done.returncode, done.stderr, left) == wanted else f"{done.returncode} {done.stderr}, {told(left)}"
+    # Nothing was built: no call on any file followed.
+    is_early = calls[-1].name == "2" and not any(it.what == "pwrite" for it in calls)
+    is_right = (done.returncode, done.stderr, left) == (111, NO_FILE, {}) and is_early
+    return None if is_right else f"{done.returncode} {done.stderr}, {told(left)}"
 
 
-def shown(path, library, what):
-    """What is wrong with a create of a new database where something has the name of that file, or None: an
-    empty file is what a create that was killed left; anything else stays, and the create is refused."""
+def touched(path, library, create):
+    """What is wrong with the names that a create calls on, or None: none but those of the line, the temporary
+    one, the folder of the database, and what the system has."""
     with tempfile.TemporaryDirectory() as folder:
-        place(folder, {"x.bit": what, "y": b"kept"})
-        before = found_in(folder)
-        done, _ = Refusing(path, library, "calls").trace(PLAIN, TWO_TEXT, folder=folder)
-        left = found_in(folder)
-    wanted = (0, b"", {"x": (TWO_FILE, MADE), "y": before["y"]}) if what == b"" else (111, NO_FILE, before)
-    return None if (done.returncode, done.stderr, left) == wanted else f"{done.returncode} {done.stderr}, {told(left)}"
+        place(folder, create.files)
+        _, calls = Refusing(path, library, "calls").trace(["-c", *create.words], b"", folder=folder)
+    others = {it.name for it in calls if not it.name.isdigit()} - {*create.words, *create.files, "x.tmp", *SYSTEM}
+    return f"calls on {sorted(others)}" if others else None
 
 
 def kept(path, library, row):
@@ -237,10 +255,7 @@ def checks():
     yield from ((f"{name} that takes no byte", idle, row) for name, row in IDLE.items())
     for error in (errno.ENAMETOOLONG, errno.EIO, errno.EACCES, errno.ENOSPC, errno.EEXIST):
         yield f"a file that shows permissions, refused by {errno.errorcode[error]}", unshown, error
-    yield "an empty file of that name", shown, b""
-    yield "a file of that name", shown, b"a byte"
-    yield "a link of that name", shown, Link("y")
-    yield "a folder of that name", shown, FOLDER
+    yield from ((f"{name}, its names", touched, it) for name, it in CREATES.items())
     for old in (None, PRIVATE, 0o640, 0o400, 0o666):
         beside = "no database" if old is None else f"a database of {old:o}"
         yield f"permissions that are refused, {beside}", kept, (old, {"ERROR": errno.EPERM})

@@ -3,9 +3,9 @@
 
     tests/package/installing.py PROGRAM [LIBRARY]
 
-PROGRAM is bin/cdb, and LIBRARY bin/libcdb.so.1; neither is built again. What is told as static has no
-loader. The stack of each is no code, its tables are read only once they are filled, and the library has its
-name and binds at once.
+PROGRAM is bin/cdb, and LIBRARY bin/libcdb.so.1, or those of another such folder; neither is built again. The program is static, and has no
+loader. Each can lie at any address. The stack of each is no code, its tables are read only once they are filled,
+and each binds at once. The library has its name, and checks the ends of its buffers on the stack.
 """
 
 import os
@@ -19,7 +19,11 @@ INSTALLED = {"bin/cdb": 0o755, "share/man/man1/cdb.1": 0o644, "share/man/man5/cd
 # The kinds of parts that the loader reads, and the tags of the dynamic part.
 DYNAMIC, INTERPRETER, STACK, RELRO = 2, 3, 0x6474E551, 0x6474E552
 STRINGS, SONAME, FLAGS, FLAGS_1 = 5, 14, 30, 0x6FFFFFFB
-CODE, BIND_NOW, NOW = 1, 8, 1
+CODE, BIND_NOW, NOW, PIE = 1, 8, 1, 0x08000000
+# The kind of a file whose parts can lie at any address.
+SHARED = 3
+# What a function calls whose return address was overwritten.
+STACK_CHECK = b"\0__stack_chk_fail\0"
 
 
 def read(path):
@@ -42,8 +46,8 @@ def parts_of(data):
 
 
 def tags_of(data):
-    """What the dynamic part says, by its tag."""
-    _, offset, length = parts_of(data)[DYNAMIC]
+    """What the dynamic part says, if there is one, by its tag."""
+    _, offset, length = parts_of(data).get(DYNAMIC, (0, 0, 0))
     return dict(struct.unpack_from("<qQ", data, place) for place in range(offset, offset + length, 16))
 
 
@@ -53,9 +57,19 @@ def is_guarded(data):
     return STACK in found and not found[STACK][0] & CODE and RELRO in found
 
 
-def make(*words):
-    """Whether make succeeds, with the program as it is."""
-    words = ["make", "-s", "-C", TOP, "-o", "bin/cdb", *words]
+def binds_at_once(tags):
+    """Whether all of a file's tables are filled before it runs."""
+    return bool(tags.get(FLAGS, 0) & BIND_NOW or tags.get(FLAGS_1, 0) & NOW)
+
+
+def is_movable(data):
+    """Whether the parts of a file can lie at any address."""
+    return struct.unpack_from("<H", data, 16)[0] == SHARED
+
+
+def make(out, *words):
+    """Whether make succeeds, with the program as it is in the folder of what is built."""
+    words = ["make", "-s", "-C", TOP, f"OUT={out}", "-o", f"{out}/cdb", *words]
     return subprocess.run(words, capture_output=True, check=False).returncode == 0
 
 
@@ -63,12 +77,13 @@ def installs(program):
     """Whether each file is installed with its permissions, as it was built, and removed again."""
     with tempfile.TemporaryDirectory() as root:
         where = [f"DESTDIR={root}", "PREFIX=/usr"]
-        yield "make install succeeds", make("install", *where)
+        out = os.path.relpath(os.path.dirname(program), TOP)
+        yield "make install succeeds", make(out, "install", *where)
         for name, mode in INSTALLED.items():
             path = os.path.join(root, "usr", name)
             yield f"{name} has the bits {mode:o}", os.path.isfile(path) and os.stat(path).st_mode & 0o7777 == mode
         yield "the program is the one that was built", read(os.path.join(root, "usr/bin/cdb")) == read(program)
-        yield "make uninstall succeeds", make("uninstall", *where)
+        yield "make uninstall succeeds", make(out, "uninstall", *where)
         yield "make uninstall leaves no file", not any(files for _, _, files in os.walk(root))
 
 
@@ -76,6 +91,8 @@ def is_linked(program):
     """What the program promises."""
     data = read(program)
     yield "the program needs no loader", INTERPRETER not in parts_of(data)
+    yield "the program can lie at any address", is_movable(data) and bool(tags_of(data).get(FLAGS_1, 0) & PIE)
+    yield "the program binds at once", binds_at_once(tags_of(data))
     yield "the program's stack is no code, and its tables are read only", is_guarded(data)
 
 
@@ -86,7 +103,9 @@ def is_shared(library):
     # Its parts are at their own places, so the address of its strings is their place.
     name = data[tags[STRINGS] + tags.get(SONAME, 0) :].split(b"\0", 1)[0]
     yield "the library has its name", SONAME in tags and name == b"libcdb.so.1"
-    yield "the library binds at once", bool(tags.get(FLAGS, 0) & BIND_NOW or tags.get(FLAGS_1, 0) & NOW)
+    yield "the library binds at once", binds_at_once(tags)
+    yield "the library can lie at any address", is_movable(data)
+    yield "the library checks its buffers on the stack", STACK_CHECK in data
     yield "the library's stack is no code, and its tables are read only", is_guarded(data)
 
 
