@@ -11,7 +11,7 @@ use Rattle.cdb_files.specs.Replacing.{IsNew}
 use Rattle.cdb_store.specs.Contents.{contents}
 use Rattle.cdb_store.specs.contracts.memory.MemStoreStore.TheImpl.{ghosts as in_memory}
 use Rattle.cdb_store.specs.declared.memory.MemStore.{MemStore}
-use Rattle.cdb_make.specs.declared.fault.MakeFault.TheVariants.{Writing}
+use Rattle.cdb_store.specs.declared.make_fault.MakeFault.TheVariants.{Writing}
 use Rattle.cdb_files.specs.declared.answer.Answer.{Answer}
 use Rattle.cdb_files.specs.declared.answer.Answer.TheVariants.{No, Unknown, Yes}
 use Rattle.cdb_files.specs.declared.name_fault.NameFault.{NameFault}

@@ -3,9 +3,9 @@ use Rattle.std.specs.Prelude.{ℕ, ℤ, ◌≡◌, Bool, true, false, pos, negsu
 use Rattle.std.specs.Prelude.{IfOk, IfErr, ◌==◌, cond}
 use Rattle.cdb_form.specs.declared.mode.Mode.{Mode}
 use Rattle.cdb_form.specs.declared.mode.Mode.TheVariants.{Add, Warn, Insert, Replace}
-use Rattle.cdb_make.specs.declared.fault.MakeFault.{MakeFault}
-use Rattle.cdb_make.specs.declared.fault.MakeFault.TheVariants.{Broken, Lookup, TooBig, NoMemory}
-use Rattle.cdb_make.specs.declared.fault.MakeFault.TheVariants.{Writing}
+use Rattle.cdb_store.specs.declared.make_fault.MakeFault.{MakeFault}
+use Rattle.cdb_store.specs.declared.make_fault.MakeFault.TheVariants.{Broken, Lookup, TooBig, NoMemory}
+use Rattle.cdb_store.specs.declared.make_fault.MakeFault.TheVariants.{Writing}
 use Rattle.cdb_make.specs.declared.answer.Put.{Put}
 use Rattle.cdb_make.specs.declared.answer.Put.TheVariants.{Added, AddedAgain, Present, Replaced}
 

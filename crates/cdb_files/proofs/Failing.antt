@@ -13,8 +13,8 @@ use Rattle.cdb_form.specs.Format.Record.{KeyValue}
 use Rattle.cdb_form.specs.Views.Pairs.{key_value, key_values}
 use Rattle.cdb_make.specs.Views.Maker.{FailsPutting, Holds}
 use Rattle.cdb_make.specs.Views.Making.{MakingFault}
-use Rattle.cdb_make.specs.declared.fault.MakeFault.{MakeFault}
-use Rattle.cdb_make.specs.declared.fault.MakeFault.TheVariants.{Broken, Lookup, NoMemory, TooBig, Writing}
+use Rattle.cdb_store.specs.declared.make_fault.MakeFault.{MakeFault}
+use Rattle.cdb_store.specs.declared.make_fault.MakeFault.TheVariants.{Broken, Lookup, NoMemory, TooBig, Writing}
 use Rattle.cdb_make.specs.declared.maker.Maker.{Maker}
 use Rattle.cdb_files.specs.FileFault.{of_replace}
 use Rattle.cdb_files.specs.Made.{FailsBuilding, IsOfBuilding}

@@ -1,7 +1,7 @@
 -- What a fault of a file is called.
 use Rattle.std.specs.Prelude.{ℕ, List, codes}
-use Rattle.cdb_make.specs.declared.fault.MakeFault.{MakeFault}
-use Rattle.cdb_make.specs.Views.MakeFault.{make_message}
+use Rattle.cdb_store.specs.declared.make_fault.MakeFault.{MakeFault}
+use Rattle.cdb_store.specs.MakeFault.{make_message}
 use Rattle.cdb_read.specs.Views.ReadFault.{read_display}
 use Rattle.cdb_files.specs.declared.fault.FileFault.{FileFault}
 use Rattle.cdb_files.specs.declared.fault.FileFault.TheVariants.{Open, NoMemory, Write}

@@ -7,9 +7,9 @@ use Rattle.cdb_form.specs.Format.File.{file_bytes, file_size}
 use Rattle.cdb_form.specs.Views.Pairs.{key_values}
 use Rattle.cdb_form.specs.declared.record.Record.{Record}
 use Rattle.cdb_make.specs.Views.Maker.{WhereHonest}
-use Rattle.cdb_make.specs.declared.fault.MakeFault.{MakeFault}
-use Rattle.cdb_make.specs.declared.fault.MakeFault.TheVariants.{Broken, Lookup, NoMemory, TooBig}
-use Rattle.cdb_make.specs.declared.fault.MakeFault.TheVariants.{Writing}
+use Rattle.cdb_store.specs.declared.make_fault.MakeFault.{MakeFault}
+use Rattle.cdb_store.specs.declared.make_fault.MakeFault.TheVariants.{Broken, Lookup, NoMemory, TooBig}
+use Rattle.cdb_store.specs.declared.make_fault.MakeFault.TheVariants.{Writing}
 use Rattle.cdb_files.specs.declared.fault.FileFault.{FileFault}
 use Rattle.cdb_files.specs.declared.fault.FileFault.TheVariants as file
 use Rattle.cdb_files.specs.declared.replace.ReplaceFault.{ReplaceFault}

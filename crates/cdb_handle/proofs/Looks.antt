@@ -3,7 +3,7 @@ use Rattle.std.specs.Prelude.{ℕ, Bool, List, Result, Ok, Err, IfOk}
 use Rattle.cdb_form.specs.Format.Record.{KeyValue}
 use Rattle.cdb_store.specs.BufferedStore.{images_of}
 use Rattle.cdb_make.specs.Views.Maker.{Holds, IsThere, store_of}
-use Rattle.cdb_make.specs.declared.fault.MakeFault.{MakeFault}
+use Rattle.cdb_store.specs.declared.make_fault.MakeFault.{MakeFault}
 use Rattle.cdb_handle.specs.declared.database.Making.{Making}
 use Rattle.cdb_handle.specs.Calls.{FindsKey}
 

@@ -1,7 +1,7 @@
 // The calls of a maker whose handle a program in C holds.
 ghost use Rattle.cdb_form.specs.Format.Record.{record_of};
 ghost use Rattle.std.specs.Prelude.{◌≡◌, ◌⊎◌, Some, None, Err, IfOk, IfErr, OnOk, OnErr, MatchOption, length};
-ghost use Rattle.cdb_make.specs.declared.fault.MakeFault.TheVariants.{Broken, NoMemory, Writing};
+ghost use Rattle.cdb_store.specs.declared.make_fault.MakeFault.TheVariants.{Broken, NoMemory, Writing};
 ghost use Rattle.cdb_make.specs.Views.Maker.{Puts, FailsPutting, Follows};
 ghost use Rattle.cdb_make.specs.Views.Maker.{Removes, FailsRemoving, FailsFinishing};
 ghost use Rattle.cdb_make.specs.Views.Maker.{WritesNothing, FailsLooking, SameCounts, MakerKeepsAll};

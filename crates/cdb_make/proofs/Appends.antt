@@ -13,8 +13,8 @@ use Rattle.cdb_form.specs.Format.Hash.{key_hash}
 use Rattle.cdb_form.specs.Format.Pair.{head_size}
 use Rattle.cdb_form.specs.Format.Record.{IsRecord, KeyValue, record_bytes, record_size}
 use Rattle.cdb_form.proofs.Files.Sizes.{size_split}
-use Rattle.cdb_make.specs.declared.fault.MakeFault.{MakeFault}
-use Rattle.cdb_make.specs.declared.fault.MakeFault.TheVariants.{Broken, Lookup, TooBig, NoMemory, Writing}
+use Rattle.cdb_store.specs.declared.make_fault.MakeFault.{MakeFault}
+use Rattle.cdb_store.specs.declared.make_fault.MakeFault.TheVariants.{Broken, Lookup, TooBig, NoMemory, Writing}
 use Rattle.cdb_make.specs.declared.maker.Maker.{Maker}
 use Rattle.cdb_make.specs.declared.roll.Roll.{Roll}
 use Rattle.cdb_make.specs.Views.Appending.{full_size, AppendsAll, AppendsSome, Enters, FailsAppending, FailsWriting, IsCrowded, KeepsLimit, PassesLimit}

@@ -28,9 +28,9 @@ use Rattle.cdb_make.specs.Rolls.{Sees, SeesNone, fresh}
 use Rattle.cdb_store.specs.declared.store.StoreFault.{StoreFault}
 use Rattle.cdb_store.specs.declared.store.StoreFault.TheVariants.{Device}
 use Rattle.cdb_store.specs.declared.store.StoreFault.TheVariants.{NoMemory as Refused}
-use Rattle.cdb_make.specs.declared.fault.MakeFault.{MakeFault}
-use Rattle.cdb_make.specs.declared.fault.MakeFault.TheVariants.{Broken, Lookup, TooBig, NoMemory, Writing}
-use Rattle.cdb_make.specs.Views.MakeFault.{fault_of}
+use Rattle.cdb_store.specs.declared.make_fault.MakeFault.{MakeFault}
+use Rattle.cdb_store.specs.declared.make_fault.MakeFault.TheVariants.{Broken, Lookup, TooBig, NoMemory, Writing}
+use Rattle.cdb_store.specs.MakeFault.{fault_of}
 use Rattle.cdb_make.specs.Views.Maker.{Goes, ComesFrom, AddFails, Follows, Stays, IsMarked, FailsExchanging, FailsClosing, FailsLooking, HasStoreFailed, gone_in, found_in, is_foreign, look_fault}
 use Rattle.cdb_make.specs.Views.Places.{places_in}
 use Rattle.cdb_make.proofs.Spans.{left-map, joined_more, joined_end, kept_then}

@@ -1,6 +1,5 @@
 -- What clauses read of the types of this crate.
 pub mod Appending
-pub mod MakeFault
 pub mod Maker
 pub mod Making
 pub mod Places

@@ -6,14 +6,13 @@ ghost use Rattle.cdb_form.specs.Format.File.{whole_size};
 ghost use Rattle.cdb_form.specs.Format.Hash.{key_hash};
 ghost use Rattle.cdb_form.specs.Format.Record.{KeyValue, IsRecord, record_bytes, record_size};
 ghost use Rattle.cdb_form.specs.Format.Walk.{prefix_size, prefix_record, whole_records};
-ghost use Rattle.cdb_make.specs.declared.fault.MakeFault.TheVariants.{NoMemory};
+ghost use Rattle.cdb_store.specs.declared.make_fault.MakeFault.TheVariants.{NoMemory};
 ghost use Rattle.cdb_make.specs.Views.Appending.{records_at, first_size, AreFirst};
 ghost use Rattle.cdb_make.specs.Views.Roll.{IsSought, SameRecords};
 
-use crate::fault::MakeFault;
 use crate::maker::Maker;
 use cdb_form::{Width, hash, pair_size, read_header, record_len};
-use cdb_store::Store;
+use cdb_store::{MakeFault, Store};
 
 /// The record with which some bytes begin.
 #[derive(Clone, Copy)]

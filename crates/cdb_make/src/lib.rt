@@ -6,7 +6,6 @@ mod answer;
 mod append;
 mod chains;
 mod close;
-mod fault;
 mod finish;
 mod growth;
 mod key_at;
@@ -27,6 +26,6 @@ mod write;
 
 pub use answer::Put;
 pub use cdb_form::Mode;
-pub use fault::MakeFault;
+pub use cdb_store::MakeFault;
 pub use lifetime::{Refused, Unfinished};
 pub use maker::Maker;

@@ -5,12 +5,11 @@ ghost use Rattle.cdb_form.specs.Format.Record.{KeyValue};
 ghost use Rattle.cdb_make.specs.Unfinished.{IsUnfinished};
 ghost use Rattle.cdb_make.specs.Views.Making.{MakingFault};
 
-use crate::fault::MakeFault;
 use crate::finish::file::finish;
 use crate::maker::{Counts, Maker};
 use crate::roll::Roll;
 use cdb_form::{GREATEST_HEAD, Width, head_size};
-use cdb_store::Store;
+use cdb_store::{MakeFault, Store};
 use std::alloc::Global;
 
 /// A store in which no maker was made, and why.

@@ -6,14 +6,13 @@ ghost use Rattle.cdb_form.specs.Format.Record.{record_of, record_size};
 ghost use Rattle.cdb_make.specs.Marks.{gone_of, found_of, AreNone, HaveHash};
 ghost use Rattle.cdb_make.specs.Tags.{second_hash};
 ghost use Rattle.cdb_make.specs.Views.Roll.{searched, HasRoom, SameRecords};
-ghost use Rattle.cdb_make.specs.declared.fault.MakeFault.TheVariants.{Writing};
+ghost use Rattle.cdb_store.specs.declared.make_fault.MakeFault.TheVariants.{Writing};
 
 use crate::close::close_bytes;
-use crate::fault::MakeFault;
 use crate::roll::Roll;
 use crate::write::append_record;
 use cdb_form::{Width, head_size, pair_size};
-use cdb_store::Store;
+use cdb_store::{MakeFault, Store};
 use std::alloc::Global;
 
 /// What a maker counts.

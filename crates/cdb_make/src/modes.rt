@@ -1,16 +1,15 @@
 // A record, put by one of four modes.
 ghost use Rattle.std.specs.Prelude.{◌≡◌, ◌≢◌, ℕ, List, true, IfOk, IfErr, OnOk, OnErr};
 ghost use Rattle.cdb_form.specs.declared.mode.Mode.TheVariants.{Add};
-ghost use Rattle.cdb_make.specs.declared.fault.MakeFault.TheVariants.{Lookup};
+ghost use Rattle.cdb_store.specs.declared.make_fault.MakeFault.TheVariants.{Lookup};
 ghost use Rattle.cdb_form.specs.Format.Record.{record_of};
 ghost use Rattle.cdb_make.specs.Tags.{second_hash};
 ghost use Rattle.cdb_make.specs.Views.Roll.{IsSought, HasRoom};
 
 use crate::answer::Put;
-use crate::fault::MakeFault;
 use crate::maker::Maker;
 use cdb_form::{Mode, Width, hash};
-use cdb_store::Store;
+use cdb_store::{MakeFault, Store};
 
 impl<S: Store, L: Width> Maker<S, L> {
     ghost use Rattle.cdb_make.specs.Views.Maker.{Meets, FailsLooking, Puts, FailsPutting, Follows, HasNotFailed, SameCounts};

@@ -7,12 +7,11 @@ ghost use Rattle.cdb_make.specs.Looks.{NoNewImage};
 ghost use Rattle.cdb_make.specs.Views.Maker.{look_fault, is_foreign, WhereHonest, IsThere};
 ghost use Rattle.cdb_make.specs.Views.Roll.{IsSought, HasRoom};
 
-use crate::fault::MakeFault;
 use crate::key_at::LookFault;
 use crate::look::{find, last_with_key};
 use crate::maker::{Counts, Maker};
 use cdb_form::{Width, pair_size};
-use cdb_store::Store;
+use cdb_store::{MakeFault, Store};
 
 impl<S: Store, L: Width> Maker<S, L> {
     ghost use Rattle.cdb_make.specs.Views.Maker.{Holds, Rests, FailsLooking, Seeks, HasNotFailed};

@@ -3,10 +3,9 @@ ghost use Rattle.std.specs.Prelude.{◌≡◌, ◌+◌, ◌*◌, ◌<◌, ◌≤
 ghost use Rattle.cdb_make.specs.Marks.{HaveHash};
 ghost use Rattle.cdb_make.specs.Views.Roll.{searched};
 
-use crate::fault::MakeFault;
 use crate::maker::Maker;
 use cdb_form::{Width, hash};
-use cdb_store::Store;
+use cdb_store::{MakeFault, Store};
 
 /// A lazy maker makes no pass to free fewer bytes than this.
 const LEAST: u64 = 4_194_304;

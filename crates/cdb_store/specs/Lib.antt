@@ -10,3 +10,4 @@ pub mod FileStore
 pub mod RealFile
 pub mod BufferedStore
 pub mod FuseStore
+pub mod MakeFault

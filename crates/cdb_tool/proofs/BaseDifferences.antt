@@ -9,7 +9,7 @@ use Rattle.cdb_form.specs.Format.Record.{KeyValue, record_of}
 use Rattle.cdb_form.specs.Text.Amending.{Change, Putting, Removing}
 use Rattle.cdb_form.specs.declared.mode.Mode.TheVariants.{Add}
 use Rattle.cdb_make.specs.Survivors.{fits, put_answer, put_list, put_result, put_step}
-use Rattle.cdb_make.specs.declared.fault.MakeFault.TheVariants.{TooBig}
+use Rattle.cdb_store.specs.declared.make_fault.MakeFault.TheVariants.{TooBig}
 use Rattle.cdb_read.specs.Difference.{after_change, amended, changed_keys, difference, puts_of}
 use Rattle.cdb_read.specs.Laws.{brought_up}
 use Rattle.cdb_read.specs.Values.{values_of}

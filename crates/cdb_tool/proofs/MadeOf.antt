@@ -21,7 +21,7 @@ use Rattle.cdb_form.specs.Views.TextFault.{IsOfText, IsReadFault}
 use Rattle.cdb_form.specs.declared.damage.Damage.{Damage}
 use Rattle.cdb_form.specs.declared.text.fault.TextFault.{TextFault}
 use Rattle.cdb_form.specs.declared.text.fault.TextFault.TheVariants as text
-use Rattle.cdb_make.specs.declared.fault.MakeFault.TheVariants as make
+use Rattle.cdb_store.specs.declared.make_fault.MakeFault.TheVariants as make
 use Rattle.cdb_read.specs.Views.ReadFault.{damage_fault}
 use Rattle.cdb_read.specs.declared.fault.ReadFault.{ReadFault}
 use Rattle.cdb_read.specs.declared.fault.ReadFault.TheVariants as read

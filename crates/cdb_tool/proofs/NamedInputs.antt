@@ -5,7 +5,7 @@ use Rattle.cdb_command.specs.declared.options.MakeOptions.{MakeOptions}
 use Rattle.cdb_form.specs.Format.Record.{KeyValue}
 use Rattle.cdb_form.specs.Text.Amending.{Change, Putting, Removing}
 use Rattle.cdb_make.specs.Survivors.{put_result, put_step}
-use Rattle.cdb_make.specs.declared.fault.MakeFault.{MakeFault}
+use Rattle.cdb_store.specs.declared.make_fault.MakeFault.{MakeFault}
 use Rattle.cdb_make.specs.declared.answer.Put.{Put}
 use Rattle.cdb_make.specs.declared.answer.Put.TheVariants.{Added, AddedAgain, Present, Replaced}
 use Rattle.cdb_tool.specs.Runs.Course.{Course, Incoming, at_start, ends, from_inputs, is_going, mode_of, task_of, told, with_change, with_next}

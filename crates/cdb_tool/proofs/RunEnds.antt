@@ -12,8 +12,8 @@ use Rattle.cdb_form.specs.Text.Amending.{Change}
 use Rattle.cdb_form.proofs.Bytes.WritingLemmas.{appends_kept}
 use Rattle.cdb_make.specs.Views.Maker.{Holds, WhereHonest, ComesFrom, IsFile, FailsFinishing, limit_of}
 use Rattle.cdb_make.specs.Views.Making.{MakingFault}
-use Rattle.cdb_make.specs.declared.fault.MakeFault.{MakeFault}
-use Rattle.cdb_make.specs.declared.fault.MakeFault.TheVariants as make
+use Rattle.cdb_store.specs.declared.make_fault.MakeFault.{MakeFault}
+use Rattle.cdb_store.specs.declared.make_fault.MakeFault.TheVariants as make
 use Rattle.cdb_make.specs.declared.maker.Maker.{Maker}
 use Rattle.cdb_make.proofs.Callers.{holds_fits}
 use Rattle.cdb_tool.specs.Message.{TellsPart}

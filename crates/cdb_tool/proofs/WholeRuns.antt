@@ -20,8 +20,8 @@ use Rattle.cdb_form.specs.declared.width.Width.{Ghosts as Widths}
 use Rattle.cdb_make.specs.Views.Maker.{Holds, FailsPutting, limit_of}
 use Rattle.cdb_make.specs.declared.maker.Maker.{Maker}
 use Rattle.cdb_form.specs.declared.mode.Mode.TheVariants as mode
-use Rattle.cdb_make.specs.declared.fault.MakeFault.{MakeFault}
-use Rattle.cdb_make.specs.declared.fault.MakeFault.TheVariants as make
+use Rattle.cdb_store.specs.declared.make_fault.MakeFault.{MakeFault}
+use Rattle.cdb_store.specs.declared.make_fault.MakeFault.TheVariants as make
 use Rattle.cdb_tool.specs.Views.Fault as run
 use Rattle.cdb_tool.proofs.NativeInputs.{some_weaker, fault_of_text, fault_of_part, prefix_of}
 use Rattle.cdb_tool.specs.Runs.Flushed.{Flushed}

@@ -12,8 +12,8 @@ use Rattle.cdb_form.specs.declared.walk.fault.WalkFault.{WalkFault}
 use Rattle.cdb_form.specs.declared.walk.fault.WalkFault.TheVariants as walk
 use Rattle.cdb_form.specs.Views.TextFault.{text_message}
 use Rattle.cdb_form.specs.Views.WalkFault.{walk_message}
-use Rattle.cdb_make.specs.Views.MakeFault.{make_message}
-use Rattle.cdb_make.specs.declared.fault.MakeFault.TheVariants.{TooBig}
+use Rattle.cdb_store.specs.MakeFault.{make_message}
+use Rattle.cdb_store.specs.declared.make_fault.MakeFault.TheVariants.{TooBig}
 use Rattle.cdb_read.specs.Views.ReadFault.{read_message}
 use Rattle.cdb_read.specs.declared.fault.ReadFault.{ReadFault}
 use Rattle.cdb_read.specs.declared.fault.ReadFault.TheVariants as read

@@ -7,8 +7,8 @@ use Rattle.cdb_form.specs.declared.width.Width.{Ghosts as Widths}
 use Rattle.cdb_form.specs.Format.File.{file_size}
 use Rattle.cdb_form.specs.Format.Record.{KeyValue, IsRecord}
 use Rattle.cdb_make.specs.Views.Maker.{ComesFrom, FailsFinishing, Holds, IsFile, WhereHonest, made_size}
-use Rattle.cdb_make.specs.declared.fault.MakeFault.{MakeFault}
-use Rattle.cdb_make.specs.declared.fault.MakeFault.TheVariants.{Broken, Lookup, NoMemory, TooBig, Writing}
+use Rattle.cdb_store.specs.declared.make_fault.MakeFault.{MakeFault}
+use Rattle.cdb_store.specs.declared.make_fault.MakeFault.TheVariants.{Broken, Lookup, NoMemory, TooBig, Writing}
 use Rattle.cdb_make.specs.declared.maker.Maker.{Maker}
 use Rattle.cdb_uses.specs.Building.{Builds, Finishes, IsUnbuilt, Made, NotBuilt}
 use Rattle.cdb_uses.specs.Steps.{HoldsWhole, MeetsStep, StepsRun, Stage, TriesStep, after, left_by, stage_of, whole}

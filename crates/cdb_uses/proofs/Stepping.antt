@@ -17,8 +17,8 @@ use Rattle.cdb_form.specs.Format.Record.{KeyValue}
 use Rattle.cdb_make.specs.Survivors.{answered_step, survivors, put_list, fits, is_there, has_key, without}
 use Rattle.cdb_make.specs.Survivors.Call.{Putting, Removing}
 use Rattle.cdb_make.specs.Views.Maker.{Follows, IsBroken, Holds, HoldsIn, ComesFrom, WhereHonest, Puts, FailsPutting, Removes, FailsRemoving, FailsFinishing, HasGone, HasGoneOr, SameCounts, made_size}
-use Rattle.cdb_make.specs.declared.fault.MakeFault.{MakeFault}
-use Rattle.cdb_make.specs.declared.fault.MakeFault.TheVariants.{Broken, Lookup, TooBig, NoMemory, Writing}
+use Rattle.cdb_store.specs.declared.make_fault.MakeFault.{MakeFault}
+use Rattle.cdb_store.specs.declared.make_fault.MakeFault.TheVariants.{Broken, Lookup, TooBig, NoMemory, Writing}
 use Rattle.cdb_make.specs.declared.maker.Maker.{Maker}
 use Rattle.cdb_make.specs.declared.answer.Put.{Put}
 use Rattle.cdb_make.proofs.Appends.{held_size, made_within}

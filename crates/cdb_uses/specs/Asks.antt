@@ -1,7 +1,7 @@
 -- Why a database was not made, or not asked for a key.
 use Rattle.std.specs.Prelude.{ℕ, ◌≡◌, List, Option}
 use Rattle.cdb_form.specs.Views.KnownBytes.{AppendsPrefix}
-use Rattle.cdb_make.specs.declared.fault.MakeFault.TheVariants.{NoMemory}
+use Rattle.cdb_store.specs.declared.make_fault.MakeFault.TheVariants.{NoMemory}
 use Rattle.cdb_read.specs.declared.fault.ReadFault.TheVariants.{Output}
 use Rattle.cdb_uses.specs.declared.ask.AskFault.{AskFault}
 use Rattle.cdb_uses.specs.declared.ask.AskFault.TheVariants.{Make, Read}

@@ -9,8 +9,8 @@ use Rattle.cdb_form.specs.declared.width.Width.{Ghosts as Widths}
 use Rattle.cdb_form.specs.Views.KnownBytes.{AppendsPrefix}
 use Rattle.cdb_make.specs.Views.Maker.{ComesFrom, IsFile, WhereHonest}
 use Rattle.cdb_make.specs.declared.maker.Maker.{Maker}
-use Rattle.cdb_make.specs.declared.fault.MakeFault.{MakeFault}
-use Rattle.cdb_make.specs.declared.fault.MakeFault.TheVariants.{Broken, NoMemory, Writing}
+use Rattle.cdb_store.specs.declared.make_fault.MakeFault.{MakeFault}
+use Rattle.cdb_store.specs.declared.make_fault.MakeFault.TheVariants.{Broken, NoMemory, Writing}
 use Rattle.cdb_read.specs.Values.{values_of}
 use Rattle.cdb_read.specs.declared.fault.ReadFault.{ReadFault}
 use Rattle.cdb_read.specs.declared.fault.ReadFault.TheVariants.{Device, Output}

@@ -6,7 +6,7 @@ use Rattle.std.proofs.Math.Nat.{le_refl}
 use Rattle.cdb_form.specs.Format.Record.{KeyValue}
 use Rattle.cdb_make.specs.Survivors.{survivors}
 use Rattle.cdb_make.specs.Survivors.Call.{Putting, Removing}
-use Rattle.cdb_make.specs.declared.fault.MakeFault.TheVariants.{NoMemory, TooBig, Writing}
+use Rattle.cdb_store.specs.declared.make_fault.MakeFault.TheVariants.{NoMemory, TooBig, Writing}
 use Rattle.cdb_form.specs.declared.mode.Mode.TheVariants.{Add, Insert, Replace}
 use Rattle.cdb_uses.specs.Steps.{StepAnswers, answer_of, whole}
 use Rattle.cdb_make.proofs.Meeting.{replaces_it}

@@ -10,9 +10,9 @@ use Rattle.cdb_make.specs.Survivors.{Call, Answered, survivors, answered_step, f
 use Rattle.cdb_make.specs.Survivors.{put_answer}
 use Rattle.cdb_make.specs.Survivors.Call.{Putting, Removing}
 use Rattle.cdb_make.specs.Views.Maker.{ComesFrom, Holds, WhereHonest}
-use Rattle.cdb_make.specs.declared.fault.MakeFault.{MakeFault}
-use Rattle.cdb_make.specs.declared.fault.MakeFault.TheVariants.{Broken, Lookup, TooBig, NoMemory}
-use Rattle.cdb_make.specs.declared.fault.MakeFault.TheVariants.{Writing}
+use Rattle.cdb_store.specs.declared.make_fault.MakeFault.{MakeFault}
+use Rattle.cdb_store.specs.declared.make_fault.MakeFault.TheVariants.{Broken, Lookup, TooBig, NoMemory}
+use Rattle.cdb_store.specs.declared.make_fault.MakeFault.TheVariants.{Writing}
 use Rattle.cdb_make.specs.declared.maker.Maker.{Maker}
 use Rattle.cdb_make.specs.declared.answer.Put.TheVariants.{Present}
 use Rattle.cdb_uses.specs.declared.edits.Edit.{Edit}

@@ -6,9 +6,9 @@ use Rattle.cdb_form.specs.declared.width.Width.{Ghosts as Widths}
 use Rattle.cdb_form.specs.Format.File.{file_size, whole_size}
 use Rattle.cdb_form.specs.Format.Record.{KeyValue, record_bytes, record_size}
 use Rattle.cdb_form.specs.Format.Walk.{whole_records}
-use Rattle.cdb_make.specs.declared.fault.MakeFault.{MakeFault}
-use Rattle.cdb_make.specs.declared.fault.MakeFault.TheVariants.{Broken, Lookup, TooBig, NoMemory}
-use Rattle.cdb_make.specs.declared.fault.MakeFault.TheVariants.{Writing}
+use Rattle.cdb_store.specs.declared.make_fault.MakeFault.{MakeFault}
+use Rattle.cdb_store.specs.declared.make_fault.MakeFault.TheVariants.{Broken, Lookup, TooBig, NoMemory}
+use Rattle.cdb_store.specs.declared.make_fault.MakeFault.TheVariants.{Writing}
 use Rattle.cdb_make.specs.declared.maker.Maker.{Maker}
 use Rattle.cdb_make.specs.Rolls.{Sees}
 use Rattle.cdb_make.specs.Views.Maker.{Holds, WhereHonest, HasStoreFailed, HasNotFailed, HasGone}

@@ -1,9 +1,9 @@
 -- What is left of a store in which no maker was made.
 use Rattle.std.specs.Prelude.{ℕ, ◌≡◌, ◌<◌, List}
 use Rattle.cdb_store.specs.Images.{SameImages}
-use Rattle.cdb_make.specs.declared.fault.MakeFault.{MakeFault}
-use Rattle.cdb_make.specs.declared.fault.MakeFault.TheVariants.{NoMemory}
-use Rattle.cdb_make.specs.declared.fault.MakeFault.TheVariants.{Writing}
+use Rattle.cdb_store.specs.declared.make_fault.MakeFault.{MakeFault}
+use Rattle.cdb_store.specs.declared.make_fault.MakeFault.TheVariants.{NoMemory}
+use Rattle.cdb_store.specs.declared.make_fault.MakeFault.TheVariants.{Writing}
 
 -- where memory was refused it is as it was and has not failed, and else it failed
 abbrev pub MakingFault : {S : Type 0} → (S → List ℕ → Type 0) → (S → ℕ) → (S → ℕ) → (S → ℕ)

@@ -4,12 +4,11 @@ ghost use Rattle.std.specs.Prelude.{OnOk, IfErr, IsErrOf, flat_map};
 ghost use Rattle.cdb_store.specs.declared.store.StoreFault.TheVariants.{NoMemory as Refused};
 ghost use Rattle.cdb_store.specs.Images.{SameImages, KeepsPart, HasCause, ImagesHold as AreIn};
 ghost use Rattle.cdb_form.specs.Format.Pair.{head_size, pair_size};
-ghost use Rattle.cdb_make.specs.declared.fault.MakeFault.TheVariants.{NoMemory, Writing};
+ghost use Rattle.cdb_store.specs.declared.make_fault.MakeFault.TheVariants.{NoMemory, Writing};
 ghost use Rattle.cdb_make.specs.Finished.{EndsWith, IsFinished, HeadIsLast};
 ghost use Rattle.cdb_make.specs.Parts.{table_bytes, tables_end};
 ghost use Rattle.cdb_make.specs.Tables.{roll_tables, HaveRoom};
 
-use crate::fault::MakeFault;
 use crate::finish::counts::{counts_of, longest};
 use crate::finish::gather::room_for;
 use crate::finish::gathered::Gathered;
@@ -17,7 +16,7 @@ use crate::finish::head::write_pointers;
 use crate::finish::tables::write_tables;
 use crate::roll::Roll;
 use cdb_form::{Width, pair_size};
-use cdb_store::{Store, StoreFault};
+use cdb_store::{MakeFault, Store, StoreFault};
 use std::alloc::Global;
 
 /// Writes the tables behind the records up to `last`, cuts the store after them, and hands all on, so that

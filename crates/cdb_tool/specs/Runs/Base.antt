@@ -7,7 +7,7 @@ use Rattle.cdb_form.specs.Format.File.{file_size}
 use Rattle.cdb_form.specs.Format.Record.{KeyValue}
 use Rattle.cdb_form.specs.Format.Walk.{Walked, no_walk, with_records}
 use Rattle.cdb_make.specs.Views.Maker.{Holds}
-use Rattle.cdb_make.specs.declared.fault.MakeFault.TheVariants.{TooBig, Writing}
+use Rattle.cdb_store.specs.declared.make_fault.MakeFault.TheVariants.{TooBig, Writing}
 use Rattle.cdb_make.specs.declared.maker.Maker.{Maker}
 use Rattle.cdb_read.specs.Views.ReadFault.{damage_fault}
 use Rattle.cdb_read.specs.declared.fault.ReadFault.TheVariants as read

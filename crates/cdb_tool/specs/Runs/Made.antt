@@ -10,7 +10,7 @@ use Rattle.cdb_form.specs.Format.Walk.{Walked, walk_of}
 use Rattle.cdb_form.specs.Text.Amending.{Change}
 use Rattle.cdb_form.specs.Text.Parse.{Parsed, parse, parse_list, parse_map}
 use Rattle.cdb_form.specs.declared.text.fault.TextFault.{TextFault}
-use Rattle.cdb_make.specs.declared.fault.MakeFault.TheVariants.{TooBig}
+use Rattle.cdb_store.specs.declared.make_fault.MakeFault.TheVariants.{TooBig}
 use Rattle.cdb_read.specs.Views.ReadFault.{damage_fault}
 use Rattle.cdb_tool.specs.Message.{Told, plain_lines}
 use Rattle.cdb_tool.specs.Runs.Course.{Task, task_of, from_inputs, course_of}

@@ -14,7 +14,7 @@ use Rattle.cdb_form.specs.Views.TextFault.{IsOfText}
 use Rattle.cdb_form.specs.declared.text.fault.TextFault.{TextFault}
 use Rattle.cdb_form.specs.declared.text.fault.TextFault.TheVariants as text_fault
 use Rattle.cdb_make.specs.Views.Maker.{Follows, Holds, WhereHonest, IsFile, limit_of, told_count, IsUsable}
-use Rattle.cdb_make.specs.declared.fault.MakeFault.TheVariants.{Lookup, Writing}
+use Rattle.cdb_store.specs.declared.make_fault.MakeFault.TheVariants.{Lookup, Writing}
 use Rattle.cdb_make.specs.declared.maker.Maker.{Maker}
 use Rattle.cdb_read.specs.declared.fault.ReadFault.TheVariants as read
 use Rattle.cdb_tool.specs.Runs.Base.{NotAdded}

@@ -1,8 +1,8 @@
 // Why a database was not made.
 ghost use Rattle.std.specs.Prelude.{◌≡◌, Some};
-ghost use Rattle.cdb_make.specs.Views.MakeFault.{make_number, make_message};
+ghost use Rattle.cdb_store.specs.MakeFault.{make_number, make_message};
 
-use cdb_store::StoreFault;
+use crate::store::StoreFault;
 use std::alloc::{AllocError, AllocFailed};
 use std::error::Error;
 use std::fmt;
@@ -60,7 +60,7 @@ impl fmt::Display for MakeFault {
 impl Error for MakeFault {}
 
 impl From<AllocError> for MakeFault {
-    ghost use Rattle.cdb_make.specs.declared.fault.MakeFault.TheVariants.{NoMemory};
+    ghost use Rattle.cdb_store.specs.declared.make_fault.MakeFault.TheVariants.{NoMemory};
 
     ghost from_gives = { λ _ f. f ≡ NoMemory };
 
@@ -70,7 +70,7 @@ impl From<AllocError> for MakeFault {
 }
 
 impl<T: Drop> From<AllocFailed<T>> for MakeFault {
-    ghost use Rattle.cdb_make.specs.declared.fault.MakeFault.TheVariants.{NoMemory};
+    ghost use Rattle.cdb_store.specs.declared.make_fault.MakeFault.TheVariants.{NoMemory};
 
     ghost from_gives = { λ _ f. f ≡ NoMemory };
 
@@ -80,7 +80,7 @@ impl<T: Drop> From<AllocFailed<T>> for MakeFault {
 }
 
 impl From<StoreFault> for MakeFault {
-    ghost use Rattle.cdb_make.specs.Views.MakeFault.{fault_of};
+    ghost use Rattle.cdb_store.specs.MakeFault.{fault_of};
 
     ghost from_gives = { λ e f. f ≡ fault_of e };
 

@@ -3,9 +3,9 @@ use Rattle.std.specs.Prelude.{ℕ, List, codes}
 use Rattle.cdb_store.specs.declared.store.StoreFault.{StoreFault}
 use Rattle.cdb_store.specs.declared.store.StoreFault.TheVariants.{Device}
 use Rattle.cdb_store.specs.declared.store.StoreFault.TheVariants.{NoMemory as Refused}
-use Rattle.cdb_make.specs.declared.fault.MakeFault.{MakeFault}
-use Rattle.cdb_make.specs.declared.fault.MakeFault.TheVariants.{Broken, Lookup, TooBig, NoMemory}
-use Rattle.cdb_make.specs.declared.fault.MakeFault.TheVariants.{Writing}
+use Rattle.cdb_store.specs.declared.make_fault.MakeFault.{MakeFault}
+use Rattle.cdb_store.specs.declared.make_fault.MakeFault.TheVariants.{Broken, Lookup, TooBig, NoMemory}
+use Rattle.cdb_store.specs.declared.make_fault.MakeFault.TheVariants.{Writing}
 
 abbrev pub make_number : MakeFault → ℕ
 make_number Broken = 1
