@@ -5,8 +5,8 @@ ghost use Rattle.cdb_show.specs.Views.Fault.{in_fault, new_fault, old_fault, rea
 
 use cdb_difference::Stop;
 use cdb_form::{InFault, OutFault, TextFault, WalkFault};
-use cdb_make::MakeFault;
 use cdb_read::ReadFault;
+use cdb_store::MakeFault;
 use std::alloc::{AllocError, AllocFailed};
 
 /// Why a run stopped.

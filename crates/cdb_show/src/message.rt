@@ -7,8 +7,8 @@ ghost use Rattle.cdb_show.specs.Message.{fault_text, said_line, fault_line, dupl
 
 use crate::fault::Fault;
 use cdb_form::{OutFault, Sink, TextFault, WalkFault, write_pieces};
-use cdb_make::MakeFault;
 use cdb_read::ReadFault;
+use cdb_store::MakeFault;
 use itoa::Buffer;
 use std::error::Error;
 use std::fmt;

@@ -1,9 +1,9 @@
 use Rattle.std.proofs.lemmas.Grind.{common_steps}
 use Rattle.std.proofs.Common.{◌∙◌, ap, drop, arith, rules}
 use Rattle.std.proofs.lemmas.List.{take_rest}
-use Rattle.cdb_tool.proofs.WholeRuns.{keeps_then}
-use Rattle.cdb_tool.proofs.OutputLemmas.{handed_on}
-use Rattle.cdb_tool.proofs.output.Output.hand_on.Goals as goal
+use Rattle.cdb_show.proofs.Writers.{keeps_then}
+use Rattle.cdb_show.proofs.OutputLemmas.{handed_on}
+use Rattle.cdb_show.proofs.output.Output.hand_on.Goals as goal
 
 pub loop-self-preserved : goal.loop-self-preserved
 loop-self-preserved g c =

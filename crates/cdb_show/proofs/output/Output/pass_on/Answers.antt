@@ -1,6 +1,6 @@
 use Rattle.std.proofs.Common.{arith}
-use Rattle.cdb_tool.proofs.OutputLemmas.{some_passed_on}
-use Rattle.cdb_tool.proofs.output.Output.pass_on.Goals as goal
+use Rattle.cdb_show.proofs.OutputLemmas.{some_passed_on}
+use Rattle.cdb_show.proofs.output.Output.pass_on.Goals as goal
 
 pub returns-clause-ok : goal.returns-clause-ok
 returns-clause-ok g c =

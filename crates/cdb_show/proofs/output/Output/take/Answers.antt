@@ -1,6 +1,6 @@
 use Rattle.std.proofs.Common.{arith}
-use Rattle.cdb_tool.proofs.OutputLemmas.{taken_in}
-use Rattle.cdb_tool.proofs.output.Output.take.Goals as goal
+use Rattle.cdb_show.proofs.OutputLemmas.{taken_in}
+use Rattle.cdb_show.proofs.output.Output.take.Goals as goal
 
 pub returns-clause-ok : goal.returns-clause-ok
 returns-clause-ok g c =
