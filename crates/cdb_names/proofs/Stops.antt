@@ -15,9 +15,7 @@ use Rattle.cdb_names.specs.declared.replace.ReplaceFault.{ReplaceFault}
 use Rattle.cdb_names.specs.declared.replace.ReplaceFault.TheVariants as replacing
 use Rattle.cdb_store.specs.Calls.{Calls}
 use Rattle.cdb_store.specs.declared.trace.Call.TheVariants.{Made as FileMade}
-use Rattle.cdb_names.specs.declared.wanted.Wanted.{Wanted}
-use Rattle.cdb_names.specs.declared.wanted.Wanted.TheVariants.{Old}
-use Rattle.cdb_names.specs.Folder.{NameCalls, IsCleared, SeesBits, WereSeen, WereWanted}
+use Rattle.cdb_names.specs.Folder.{NameCalls, IsCleared, WereSeen}
 use Rattle.cdb_names.specs.Wanted.{plain_bits}
 use Rattle.cdb_names.specs.Replacing.{AreSteps, FailsRename, GoesOn, IsFound, IsFree, IsNotGiven, IsStop, IsUndoing, LacksBits, LacksMemoryForLock, NameEvent, ReplacingStopsAt, StopsMaking, StopsUnbuilt, TakesLock, of_open}
 
