@@ -60,7 +60,8 @@ SECONDS = {
     "cdb_make": 570,
     "cdb_names": 270,
     "cdb_difference": 230,
-    "cdb_tool": 560,
+    "cdb_show": 310,
+    "cdb_tool": 270,
     "cdb": 560,
 }
 BYTES_A_SECOND = 220

@@ -8,8 +8,8 @@ from sources import crates, sources_of, text_of
 # These are there for callers of the libraries, of which the program is none.
 FOR_CALLERS = {
     "cdb_tool::make_run": "the program's inputs share one window: it calls make_run_from",
-    "cdb_tool::dump_run": "the program has bytes at hand: it calls text_run_buffered",
-    "cdb_tool::list_run": "as dump_run",
+    "cdb_show::dump_run": "the program has bytes at hand: it calls text_run_buffered",
+    "cdb_show::list_run": "as dump_run",
     "cdb_make::is_broken": "a fault of a call says it to the program, which makes no other call then",
 }
 ITEM = re.compile(

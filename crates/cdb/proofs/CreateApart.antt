@@ -17,9 +17,9 @@ use Rattle.cdb_names.specs.declared.name_trace.NameCall.TheVariants as name_call
 use Rattle.cdb_form.specs.Views.KnownBytes.{AppendsPrefix}
 use Rattle.cdb_store.specs.declared.raw.RawFile.{Ghosts as Raw}
 use Rattle.cdb_store.specs.declared.store.Store.{Ghosts}
-use Rattle.cdb_tool.specs.Runs.Inputs.{InputsLeft}
-use Rattle.cdb_tool.specs.declared.fault.Fault.{Fault}
-use Rattle.cdb_tool.specs.declared.fault.Fault.TheVariants.{Open}
+use Rattle.cdb_show.specs.Runs.Inputs.{InputsLeft}
+use Rattle.cdb_show.specs.declared.fault.Fault.{Fault}
+use Rattle.cdb_show.specs.declared.fault.Fault.TheVariants.{Open}
 use Rattle.cdb_tool.specs.Runs.Made.{Made, made_file, made_lines, made_of}
 use Rattle.cdb.specs.Created.{Created, base_of, create_of, in_temporary, is_in_place, is_no_name, in_place, is_read, placed, unopened}
 use Rattle.cdb.specs.Creating.{IsBufferedRun, AsksAll, Making, OpensAll, Replaces, answer_of, temporary_of}

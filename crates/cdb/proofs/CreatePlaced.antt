@@ -18,11 +18,11 @@ use Rattle.cdb_names.specs.declared.name_fault.NameFault.{NameFault}
 use Rattle.cdb_names.specs.declared.name_fault.NameFault.TheVariants as why
 use Rattle.cdb_form.specs.Views.KnownBytes.{AppendsPrefix}
 use Rattle.cdb_store.specs.declared.store.Store.{Ghosts}
-use Rattle.cdb_tool.specs.Runs.Inputs.{InputsLeft}
-use Rattle.cdb_tool.specs.declared.fault.Fault.{Fault}
-use Rattle.cdb_tool.specs.declared.fault.Fault.TheVariants.{Make, Rename}
+use Rattle.cdb_show.specs.Runs.Inputs.{InputsLeft}
+use Rattle.cdb_show.specs.declared.fault.Fault.{Fault}
+use Rattle.cdb_show.specs.declared.fault.Fault.TheVariants.{Make, Rename}
 use Rattle.cdb_tool.specs.Runs.Made.{Made, made_file, made_lines, made_of}
-use Rattle.cdb_tool.specs.Runs.MakesSo.{Known}
+use Rattle.cdb_show.specs.Runs.Incoming.{Known}
 use Rattle.cdb.specs.Created.{Created, base_of, create_of, if_opened, is_in_place, in_place, is_read, on_output, placed, unopened}
 use Rattle.cdb.specs.Creating.{HasDatabase, IsBufferedRun, IsMakeRun, MakesEmptied, MakesOnOutput, SeesName, Syncs, WritesAll, AsksAll, Making, OpensAll}
 use Rattle.cdb.specs.ForetoldCreate.{HoldsAll, HonestCreate, IsNamed, IsNoFailedRename, KeepsAll, passing}

@@ -11,12 +11,12 @@ use Rattle.cdb_names.specs.declared.answer.Answer.TheVariants as looks
 use Rattle.cdb_names.specs.declared.name_trace.NameCall.TheVariants as name_call
 use Rattle.cdb_form.specs.Format.Record.{AreBytes}
 use Rattle.cdb_store.specs.declared.store.Store.{Ghosts}
-use Rattle.cdb_tool.specs.Runs.Inputs.{InputsLeft, OneInput}
-use Rattle.cdb_tool.specs.Views.Inputs.{one_of}
-use Rattle.cdb_tool.specs.declared.inputs.Turn.{Turn}
-use Rattle.cdb_tool.specs.declared.inputs.Turn.TheVariants.{Own, Shared}
-use Rattle.cdb_tool.specs.Runs.Inputs as form
-use Rattle.cdb_tool.specs.Runs.MakesSo.{EachOfBytes, Known, KnownFor, one_input}
+use Rattle.cdb_show.specs.Runs.Inputs.{InputsLeft, OneInput}
+use Rattle.cdb_show.specs.Views.Inputs.{one_of}
+use Rattle.cdb_show.specs.declared.inputs.Turn.{Turn}
+use Rattle.cdb_show.specs.declared.inputs.Turn.TheVariants.{Own, Shared}
+use Rattle.cdb_show.specs.Runs.Inputs as form
+use Rattle.cdb_show.specs.Runs.Incoming.{EachOfBytes, Known, KnownFor, one_input}
 use Rattle.cdb.specs.Created.{base_of, is_base, is_input, is_read}
 use Rattle.cdb.specs.Creating.{AsksAll, AsksBase, AsksEach, AsksOne, FindsBase, FindsInput, FindsOne, OpensAll}
 use Rattle.cdb.specs.Foretold.{IsAnswered, Reveals, Shows, if_some, IsOfBytes}

@@ -6,8 +6,8 @@ use Rattle.cdb_command.specs.declared.options.MakeOptions.{MakeOptions}
 use Rattle.cdb_names.specs.Folder.{NameCalls}
 use Rattle.cdb_store.specs.declared.raw.RawFile.{Ghosts as Raw}
 use Rattle.cdb_store.specs.declared.store.Store.{Ghosts}
-use Rattle.cdb_tool.specs.declared.fault.Fault.{Fault}
-use Rattle.cdb_tool.specs.declared.fault.Fault.TheVariants.{NoMemory, Open}
+use Rattle.cdb_show.specs.declared.fault.Fault.{Fault}
+use Rattle.cdb_show.specs.declared.fault.Fault.TheVariants.{NoMemory, Open}
 use Rattle.cdb.specs.Created.{Created, create_of, is_in_place}
 use Rattle.cdb.specs.Creating.{Creates, IsInPlace, Making, temporary_of}
 use Rattle.cdb.specs.ForetoldCreate.{HonestCreate}

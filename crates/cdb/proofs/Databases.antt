@@ -13,13 +13,13 @@ use Rattle.cdb_form.specs.Views.KnownBytes.{Writes}
 use Rattle.cdb_store.specs.declared.raw.RawFile.{Ghosts as Raw}
 use Rattle.cdb_store.specs.declared.store.Store.{Ghosts}
 use Rattle.cdb_make.specs.Views.Maker.{WhereHonest}
-use Rattle.cdb_tool.proofs.OutputFaults.{says_more}
-use Rattle.cdb_tool.specs.Views.Output.{OutputSays}
-use Rattle.cdb_tool.specs.Message.{fault_line}
+use Rattle.cdb_show.proofs.OutputFaults.{says_more}
+use Rattle.cdb_show.specs.Views.Output.{OutputSays}
+use Rattle.cdb_show.specs.Message.{fault_line}
 use Rattle.cdb_tool.specs.Runs.Make.{HandsBack, OfBase, Makes}
 use Rattle.cdb_tool.specs.Runs.Make as run
-use Rattle.cdb_tool.specs.declared.fault.Fault.{Fault}
-use Rattle.cdb_tool.proofs.WholeRuns.{prefix_kept}
+use Rattle.cdb_show.specs.declared.fault.Fault.{Fault}
+use Rattle.cdb_show.proofs.Writers.{prefix_kept}
 use Rattle.cdb.specs.Creating.{Making, HasDatabase, IsBufferedRun, IsDatabase, IsMakeRun, SeesName, Syncs}
 use Rattle.cdb.specs.Opening.{OpenCalls}
 use Rattle.cdb.specs.Performs.{Says, SaysLine, Runs, refused_lines}

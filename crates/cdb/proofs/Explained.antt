@@ -5,8 +5,8 @@ use Rattle.std.specs.Prelude.{Option}
 use Rattle.std.specs.Io.KnownBytes.{Keeps}
 use Rattle.cdb_command.specs.Asked.{Asked}
 use Rattle.cdb_names.specs.Folder.{NameCalls}
-use Rattle.cdb_tool.specs.Message.{fault_line}
-use Rattle.cdb_tool.specs.declared.fault.Fault.{Fault}
+use Rattle.cdb_show.specs.Message.{fault_line}
+use Rattle.cdb_show.specs.declared.fault.Fault.{Fault}
 use Rattle.cdb.specs.Causes.{Explains}
 use Rattle.cdb.specs.Opening.{OpenCalls}
 use Rattle.cdb.specs.Performs.{Says, SaysLine}

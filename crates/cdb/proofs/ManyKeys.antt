@@ -12,15 +12,15 @@ use Rattle.cdb_form.specs.Views.KnownBytes.{AppendsPrefix}
 use Rattle.cdb_form.specs.declared.text.fault.TextFault.TheVariants as text
 use Rattle.cdb_read.specs.declared.fault.ReadFault.TheVariants as read
 use Rattle.cdb_store.specs.declared.store.Store.{Ghosts}
-use Rattle.cdb_tool.specs.Runs.Inputs.{InputsLeft}
-use Rattle.cdb_tool.specs.Runs.LookedUp.{Looked, records_asked}
-use Rattle.cdb_tool.specs.Runs.MakesSo.{Known, KnownFor}
-use Rattle.cdb_tool.specs.Status.{plain_status}
-use Rattle.cdb_tool.specs.declared.fault.Fault.{Fault}
-use Rattle.cdb_tool.specs.declared.fault.Fault.TheVariants.{Text, Read, Output, Open, NoMemory}
-use Rattle.cdb_tool.specs.declared.inputs.Turn.{Turn}
-use Rattle.cdb_tool.specs.declared.inputs.Turn.TheVariants.{Own, Shared}
-use Rattle.cdb_tool.proofs.LookedUp.{IsLookupRefusal, LooksOrShort, lookups_asked}
+use Rattle.cdb_show.specs.Runs.Inputs.{InputsLeft}
+use Rattle.cdb_show.specs.Runs.LookedUp.{Looked, records_asked}
+use Rattle.cdb_show.specs.Runs.Incoming.{Known, KnownFor}
+use Rattle.cdb_show.specs.Status.{plain_status}
+use Rattle.cdb_show.specs.declared.fault.Fault.{Fault}
+use Rattle.cdb_show.specs.declared.fault.Fault.TheVariants.{Text, Read, Output, Open, NoMemory}
+use Rattle.cdb_show.specs.declared.inputs.Turn.{Turn}
+use Rattle.cdb_show.specs.declared.inputs.Turn.TheVariants.{Own, Shared}
+use Rattle.cdb_show.proofs.LookedUp.{IsLookupRefusal, LooksOrShort, lookups_asked}
 use Rattle.cdb.specs.Foretold.{AreAnswered, GivesInputs, IsAnswered, Texts, stores_before, stores_in}
 use Rattle.cdb.specs.Inputs.{OpensEach, OpensInput, OpensInputs}
 use Rattle.cdb.specs.Opening.{OpenCalls, unopened}

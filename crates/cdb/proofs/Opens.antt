@@ -3,10 +3,10 @@ use Rattle.std.proofs.Common.{ℕ, ◌+◌, ◌<◌, List, [], ◌∷◌, ◌++�
 use Rattle.std.proofs.lemmas.List.{map_push, take_more, take-append-drop, map-append, drop_more}
 use Rattle.std.specs.Prelude.{OnOk, codes}
 use Rattle.cdb_names.specs.Folder.{NameCalls}
-use Rattle.cdb_tool.specs.declared.inputs.Turn.{Turn}
+use Rattle.cdb_show.specs.declared.inputs.Turn.{Turn}
 use Rattle.cdb.specs.Creating.{AsksEach, AsksOne, FindsInput, MayBeInput}
-use Rattle.cdb_tool.specs.declared.fault.Fault.{Fault}
-use Rattle.cdb_tool.specs.declared.fault.Fault.TheVariants.{NoMemory}
+use Rattle.cdb_show.specs.declared.fault.Fault.{Fault}
+use Rattle.cdb_show.specs.declared.fault.Fault.TheVariants.{NoMemory}
 use Rattle.cdb.specs.Inputs.{inputs_read, OpensInput, OpensEach, StopsOpening, MissesInput}
 use Rattle.cdb.specs.Opening.{OpenCalls}
 use Rattle.cdb.specs.declared.system.System.{Ghosts as Systems}

@@ -34,19 +34,19 @@ use Rattle.cdb_store.specs.contracts.memory.MemStoreStore.TheImpl.{ghosts as in_
 use Rattle.cdb_store.specs.declared.memory.MemStore.{MemStore}
 use Rattle.cdb_store.specs.declared.raw.RawFile.{Ghosts as Raw}
 use Rattle.cdb_store.specs.declared.store.Store.{Ghosts}
-use Rattle.cdb_tool.specs.Message.{fault_line}
-use Rattle.cdb_tool.specs.Runs.Check.{CheckingFails}
-use Rattle.cdb_tool.specs.Runs.Form.{Form, dump_form, list_form}
-use Rattle.cdb_tool.specs.Runs.Load.{IsNotLoaded}
-use Rattle.cdb_tool.specs.Runs.Stats.{StatsMeetDamage, TellingFails, TellsStats, statistics_text}
-use Rattle.cdb_tool.specs.Runs.WalkText.{WritesItems, WritesFirst, WritesTextPrefix, WritingFails, closing, walk_text}
-use Rattle.cdb_tool.specs.Views.Output.{HasHandedOn, held_by, OutputFailed, OutputSays, output_bytes}
-use Rattle.cdb_tool.specs.declared.output.Output.{Output as Writer}
-use Rattle.cdb_tool.specs.Runs.Query.{QueryAnswers, Query, Queries, QueryFails, query_text, query_answer}
-use Rattle.cdb_tool.specs.Status.{plain_status, check_status, exit_status}
-use Rattle.cdb_tool.proofs.WholeRuns.{prefix_kept}
-use Rattle.cdb_tool.specs.declared.fault.Fault.{Fault}
-use Rattle.cdb_tool.specs.declared.fault.Fault.TheVariants.{Text, Make, Duplicate, Missing, Read, Walk, Output, Long, Open, Rename, NoMemory, Old, New, NoOldTables, NoNewTables}
+use Rattle.cdb_show.specs.Message.{fault_line}
+use Rattle.cdb_show.specs.Runs.Check.{CheckingFails}
+use Rattle.cdb_show.specs.Runs.Form.{Form, dump_form, list_form}
+use Rattle.cdb_show.specs.Runs.Load.{IsNotLoaded}
+use Rattle.cdb_show.specs.Runs.Stats.{StatsMeetDamage, TellingFails, TellsStats, statistics_text}
+use Rattle.cdb_show.specs.Runs.WalkText.{WritesItems, WritesFirst, WritesTextPrefix, WritingFails, closing, walk_text}
+use Rattle.cdb_show.specs.Views.Output.{HasHandedOn, held_by, OutputFailed, OutputSays, output_bytes}
+use Rattle.cdb_show.specs.declared.output.Output.{Output as Writer}
+use Rattle.cdb_show.specs.Runs.Query.{QueryAnswers, Query, Queries, QueryFails, query_text, query_answer}
+use Rattle.cdb_show.specs.Status.{plain_status, check_status, exit_status}
+use Rattle.cdb_show.proofs.Writers.{prefix_kept}
+use Rattle.cdb_show.specs.declared.fault.Fault.{Fault}
+use Rattle.cdb_show.specs.declared.fault.Fault.TheVariants.{Text, Make, Duplicate, Missing, Read, Walk, Output, Long, Open, Rename, NoMemory, Old, New, NoOldTables, NoNewTables}
 use Rattle.cdb.specs.Created.{foretell}
 use Rattle.cdb.specs.Foretold.{AsksNoCreate, ComesTrue, Database, Honest, IsForetold, IsRefused, IsTaken, MayFail, Nothing, Reading, Reveals, reads_in_turn, stores_in}
 use Rattle.cdb.proofs.Coming.{Comes, EachAnswered, IsSized, comes_so, each_answered, gives_none, gives_up, long_is, no_prefix, nothing_written, of_shown, output_of, refused_so, short_is}

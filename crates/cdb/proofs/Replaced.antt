@@ -22,13 +22,14 @@ use Rattle.cdb_store.specs.FileStore.{calls_of, images_of}
 use Rattle.cdb_store.specs.declared.file.FileStore.{FileStore}
 use Rattle.cdb_store.specs.declared.raw.RawFile.{Ghosts as Raw}
 use Rattle.cdb_store.specs.declared.store.Store.{Ghosts}
-use Rattle.cdb_tool.specs.Views.Output.{OutputSays}
+use Rattle.cdb_show.specs.Views.Output.{OutputSays}
 use Rattle.cdb_tool.specs.Runs.Make.{OfBase}
 use Rattle.cdb_tool.specs.Runs.Make as run
-use Rattle.cdb_tool.specs.declared.fault.Fault.{Fault}
-use Rattle.cdb_tool.specs.declared.fault.Fault.TheVariants.{Text, Make, Duplicate, Missing, Read, Walk, Output, Long, Open, Rename, NoMemory, Old, New, NoOldTables, NoNewTables}
+use Rattle.cdb_show.specs.declared.fault.Fault.{Fault}
+use Rattle.cdb_show.specs.declared.fault.Fault.TheVariants.{Text, Make, Duplicate, Missing, Read, Walk, Output, Long, Open, Rename, NoMemory, Old, New, NoOldTables, NoNewTables}
 use Rattle.cdb_tool.specs.Runs.Made.{Made, made_file, made_lines, made_of}
-use Rattle.cdb_tool.specs.Runs.MakesSo.{ComesOf, IsMakeRefusal, Known}
+use Rattle.cdb_tool.specs.Runs.MakesSo.{ComesOf, IsMakeRefusal}
+use Rattle.cdb_show.specs.Runs.Incoming.{Known}
 use Rattle.cdb_tool.proofs.MadeOf.{made_so, run_comes}
 use Rattle.cdb_tool.proofs.ToldLines.{part_plain, tells_plain}
 use Rattle.cdb.specs.Creating.{IsBufferedRun, IsDatabase, IsMakeRun, Making, Replaces, answer_of, fault_of}

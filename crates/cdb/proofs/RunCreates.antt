@@ -1,5 +1,5 @@
 -- A run whose words ask for a create comes to what the oracle says.
-use Rattle.cdb_tool.specs.Views.Output.{OutputSays}
+use Rattle.cdb_show.specs.Views.Output.{OutputSays}
 use Rattle.cdb.proofs.OutputTaken.{MayGiveUpCreate, taken_create}
 use Rattle.std.proofs.Common.{ℕ, Bool, true, false, ◌⊎◌, List, [], ◌++◌, Option, Result, Ok, Err, ◌≡◌, ◌∙◌, ap, inl, inr, refl, subst, sym, append-nil, option_map, arith, string_bytes}
 use Rattle.std.specs.Prelude.{OnErr, OnOk}
@@ -15,10 +15,10 @@ use Rattle.cdb_command.specs.Refused.{Refused, usage_of}
 use Rattle.cdb_names.specs.Folder.{NameCalls}
 use Rattle.cdb_store.specs.declared.raw.RawFile.{Ghosts as Raw}
 use Rattle.cdb_store.specs.declared.store.Store.{Ghosts}
-use Rattle.cdb_tool.specs.Message.{fault_line}
-use Rattle.cdb_tool.specs.Status.{plain_status}
-use Rattle.cdb_tool.specs.declared.fault.Fault.{Fault}
-use Rattle.cdb_tool.specs.declared.fault.Fault.TheVariants.{Missing, NoMemory}
+use Rattle.cdb_show.specs.Message.{fault_line}
+use Rattle.cdb_show.specs.Status.{plain_status}
+use Rattle.cdb_show.specs.declared.fault.Fault.{Fault}
+use Rattle.cdb_show.specs.declared.fault.Fault.TheVariants.{Missing, NoMemory}
 use Rattle.cdb.specs.Created.{Created, create_of}
 use Rattle.cdb.specs.Creating.{Creates}
 use Rattle.cdb.specs.Foretold.{GivesInputs, IsTaken}
@@ -27,9 +27,9 @@ use Rattle.cdb.specs.Oracle.{Disk, ended, greatest_size, word_size}
 use Rattle.cdb.specs.Performs.{IsShown, PerformsIn, Runs, SaysLine, refused_lines, status_of, usage_line, usage_status}
 use Rattle.cdb.specs.declared.left.Left.{Left}
 use Rattle.cdb.specs.declared.system.System.{Ghosts as Systems}
-use Rattle.cdb_tool.specs.Views.Output.{HasHandedOn, OutputFailed, held_by, output_bytes}
-use Rattle.cdb_tool.specs.declared.output.Output.{Output as Writer}
-use Rattle.cdb_tool.proofs.WholeRuns.{prefix_kept}
+use Rattle.cdb_show.specs.Views.Output.{HasHandedOn, OutputFailed, held_by, output_bytes}
+use Rattle.cdb_show.specs.declared.output.Output.{Output as Writer}
+use Rattle.cdb_show.proofs.Writers.{prefix_kept}
 use Rattle.cdb.proofs.NamedCreates.{named_holds, shown_plain}
 use Rattle.cdb.proofs.Replaced.{IsPlain}
 use Rattle.cdb.proofs.Explained.{SaysOnly, says_only}

@@ -10,16 +10,16 @@ use Rattle.cdb_form.specs.declared.walk.fault.WalkFault.{WalkFault}
 use Rattle.cdb_form.specs.declared.walk.fault.WalkFault.TheVariants as walk
 use Rattle.cdb_read.specs.declared.fault.ReadFault.{ReadFault}
 use Rattle.cdb_read.specs.declared.fault.ReadFault.TheVariants as read
-use Rattle.cdb_tool.specs.Message.{input_at}
+use Rattle.cdb_show.specs.Message.{input_at}
 use Rattle.cdb_names.specs.declared.refusal.Cause.{Cause}
 use Rattle.cdb_names.specs.declared.refusal.Cause.TheVariants as cause
 use Rattle.cdb_names.specs.Folder.{NameCalls}
 use Rattle.cdb_names.specs.Refusals.{refused_for}
 use Rattle.cdb_names.specs.Replacing.{IsNoName}
-use Rattle.cdb_tool.specs.declared.fault.Fault.{Fault}
-use Rattle.cdb_tool.specs.declared.fault.Fault.TheVariants.{Text, Make, Read, Walk, Output, Open}
-use Rattle.cdb_tool.specs.declared.fault.Fault.TheVariants.{Rename, NoMemory, Old, New}
-use Rattle.cdb_tool.specs.declared.fault.Fault.TheVariants.{NoOldTables, NoNewTables}
+use Rattle.cdb_show.specs.declared.fault.Fault.{Fault}
+use Rattle.cdb_show.specs.declared.fault.Fault.TheVariants.{Text, Make, Read, Walk, Output, Open}
+use Rattle.cdb_show.specs.declared.fault.Fault.TheVariants.{Rename, NoMemory, Old, New}
+use Rattle.cdb_show.specs.declared.fault.Fault.TheVariants.{NoOldTables, NoNewTables}
 use Rattle.cdb.specs.CauseLine.{cause_line, error_words, line_words}
 use Rattle.cdb.specs.Creating.{IsInPlace, temporary_of}
 use Rattle.cdb.specs.Opening.{OpenCalls, refused_open}

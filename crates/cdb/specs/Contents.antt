@@ -1,7 +1,7 @@
 -- What a database is made of, as a clause reads it.
 use Rattle.std.specs.Prelude.{ℕ, List, Option, map, option_map, string_bytes}
 use Rattle.cdb_form.specs.declared.width.Width.{Ghosts as Widths}
-use Rattle.cdb_tool.specs.Views.Inputs.{inputs_left}
+use Rattle.cdb_show.specs.Views.Inputs.{inputs_left}
 use Rattle.cdb.specs.Creating.{Making, Wanted}
 use Rattle.cdb.specs.declared.contents.Contents.{Contents}
 use Rattle.cdb.specs.declared.creating.Creation.{Creation}

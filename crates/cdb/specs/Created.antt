@@ -7,9 +7,9 @@ use Rattle.cdb_command.specs.Asked as asked
 use Rattle.cdb_command.specs.declared.options.MakeOptions.{MakeOptions}
 use Rattle.cdb_command.specs.Refused.{Refused}
 use Rattle.cdb_tool.specs.Runs.Made.{Made, made_file, made_lines, made_of}
-use Rattle.cdb_tool.specs.Status.{plain_status}
-use Rattle.cdb_tool.specs.declared.fault.Fault.{Fault}
-use Rattle.cdb_tool.specs.declared.fault.Fault.TheVariants.{Open}
+use Rattle.cdb_show.specs.Status.{plain_status}
+use Rattle.cdb_show.specs.declared.fault.Fault.{Fault}
+use Rattle.cdb_show.specs.declared.fault.Fault.TheVariants.{Open}
 use Rattle.cdb.specs.Creating.{temporary_of}
 use Rattle.cdb.specs.Oracle.{Disk, Outcome, both, command_outcome, ended, greatest_size, inputs_of}
 use Rattle.cdb.specs.Oracle.{is_standard, oracle, word_size}

@@ -11,7 +11,7 @@ use Rattle.cdb_store.specs.contracts.memory.MemStoreStore.TheImpl.{ghosts as in_
 use Rattle.cdb_store.specs.declared.memory.MemStore.{MemStore}
 use Rattle.cdb_store.specs.declared.trace.Call.TheVariants as file_call
 use Rattle.cdb_form.specs.Format.Record.{AreBytes}
-use Rattle.cdb_tool.specs.Runs.MakesSo.{KnownFor}
+use Rattle.cdb_show.specs.Runs.Incoming.{KnownFor}
 use Rattle.cdb.specs.Files.{files_of}
 use Rattle.cdb.specs.Foretold.{GivesInputs}
 use Rattle.cdb.specs.ForetoldCreate.{HonestCreate}

@@ -20,14 +20,14 @@ use Rattle.cdb_store.specs.declared.memory.MemStore.{MemStore}
 use Rattle.cdb_store.specs.declared.raw.RawFile.{Ghosts as Raw}
 use Rattle.cdb_store.specs.declared.store.Store.{Ghosts}
 use Rattle.cdb_make.specs.Views.Maker.{WhereHonest}
-use Rattle.cdb_tool.specs.Runs.Inputs.{InputsLeft}
+use Rattle.cdb_show.specs.Runs.Inputs.{InputsLeft}
 use Rattle.cdb_tool.specs.Runs.Make.{HandsBack, BaseHasFailed, IsOfBase, IsOfStore, Makes, OfBase, MakeRuns}
-use Rattle.cdb_tool.specs.declared.fault.Fault.{Fault}
-use Rattle.cdb_tool.specs.declared.fault.Fault.TheVariants.{Open, NoMemory, Output, Rename}
-use Rattle.cdb_tool.specs.declared.fault.Fault.TheVariants.{Make}
+use Rattle.cdb_show.specs.declared.fault.Fault.{Fault}
+use Rattle.cdb_show.specs.declared.fault.Fault.TheVariants.{Open, NoMemory, Output, Rename}
+use Rattle.cdb_show.specs.declared.fault.Fault.TheVariants.{Make}
 use Rattle.cdb_store.specs.declared.make_fault.MakeFault.TheVariants.{Writing}
-use Rattle.cdb_tool.specs.declared.inputs.Turn.{Turn}
-use Rattle.cdb_tool.specs.Views.Inputs.{one_of}
+use Rattle.cdb_show.specs.declared.inputs.Turn.{Turn}
+use Rattle.cdb_show.specs.Views.Inputs.{one_of}
 use Rattle.cdb.specs.Files.{Files}
 use Rattle.cdb.specs.Inputs.{IsStandard, MissesBase, OpensBase, OpensInputs, StopsOpening}
 use Rattle.cdb.specs.Inputs.{inputs_read}

@@ -13,13 +13,13 @@ use Rattle.cdb_form.specs.declared.text.fault.TextFault.TheVariants as text
 use Rattle.cdb_form.specs.declared.walk.fault.WalkFault.TheVariants as walk
 use Rattle.cdb_read.specs.InOrder.{FindsInOrder}
 use Rattle.cdb_store.specs.declared.store.Store.{Ghosts}
-use Rattle.cdb_tool.specs.Message.{fault_line}
-use Rattle.cdb_tool.specs.Runs.Difference.{heads_fault}
-use Rattle.cdb_tool.specs.Runs.MakesSo.{KnownFor}
-use Rattle.cdb_tool.specs.Views.Output.{held_by, OutputFailed}
-use Rattle.cdb_tool.specs.declared.fault.Fault.{Fault}
-use Rattle.cdb_tool.specs.declared.fault.Fault.TheVariants.{Text, Walk, NoMemory}
-use Rattle.cdb_tool.specs.declared.output.Output.{Output as Writer}
+use Rattle.cdb_show.specs.Message.{fault_line}
+use Rattle.cdb_show.specs.Runs.Difference.{heads_fault}
+use Rattle.cdb_show.specs.Runs.Incoming.{KnownFor}
+use Rattle.cdb_show.specs.Views.Output.{held_by, OutputFailed}
+use Rattle.cdb_show.specs.declared.fault.Fault.{Fault}
+use Rattle.cdb_show.specs.declared.fault.Fault.TheVariants.{Text, Walk, NoMemory}
+use Rattle.cdb_show.specs.declared.output.Output.{Output as Writer}
 use Rattle.cdb.specs.Opening.{OpenCalls}
 use Rattle.cdb.specs.Created.{foretell}
 use Rattle.cdb.specs.Files.{Files}

@@ -14,10 +14,10 @@ use Rattle.cdb_names.specs.declared.name_trace.NameCall.TheVariants.{Input, NotR
 use Rattle.cdb_form.specs.Views.KnownBytes.{AppendsPrefix}
 use Rattle.cdb_store.specs.Calls.{Agrees, Calls, lost}
 use Rattle.cdb_store.specs.declared.store.Store.{Ghosts}
-use Rattle.cdb_tool.specs.Message.{fault_line}
+use Rattle.cdb_show.specs.Message.{fault_line}
 use Rattle.cdb_tool.specs.Runs.MakesSo.{IsMakeRefusal}
-use Rattle.cdb_tool.specs.declared.fault.Fault.{Fault}
-use Rattle.cdb_tool.specs.declared.fault.Fault.TheVariants.{Open, Output, Rename}
+use Rattle.cdb_show.specs.declared.fault.Fault.{Fault}
+use Rattle.cdb_show.specs.declared.fault.Fault.TheVariants.{Open, Output, Rename}
 use Rattle.cdb.specs.Created.{Created, create_of, created_ending, is_in_place}
 use Rattle.cdb.specs.Creating.{temporary_of}
 use Rattle.cdb.specs.Files.{Files}

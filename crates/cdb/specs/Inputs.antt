@@ -1,9 +1,9 @@
 -- What a create reads: its base, and its inputs in their order. The newest call comes first.
 use Rattle.std.specs.Prelude.{ℕ, ◌≡◌, ◌⊎◌, List, [], ◌∷◌, ◌++◌, Option, Some, None, codes}
-use Rattle.cdb_tool.specs.declared.inputs.Turn.{Turn}
-use Rattle.cdb_tool.specs.declared.inputs.Turn.TheVariants.{Own, Shared}
-use Rattle.cdb_tool.specs.declared.fault.Fault.{Fault}
-use Rattle.cdb_tool.specs.declared.fault.Fault.TheVariants.{NoMemory}
+use Rattle.cdb_show.specs.declared.inputs.Turn.{Turn}
+use Rattle.cdb_show.specs.declared.inputs.Turn.TheVariants.{Own, Shared}
+use Rattle.cdb_show.specs.declared.fault.Fault.{Fault}
+use Rattle.cdb_show.specs.declared.fault.Fault.TheVariants.{NoMemory}
 use Rattle.cdb.specs.Opening.{OpenCalls, Misses}
 use Rattle.cdb.specs.declared.open_trace.OpenCall.TheVariants.{AtPlaces, InTurn}
 use Rattle.cdb.specs.declared.system.System.{Ghosts as Systems}

@@ -15,16 +15,16 @@ use Rattle.cdb_form.specs.declared.damage.Damage.TheVariants.{Short}
 use Rattle.cdb_read.specs.Faults.{first_fault}
 use Rattle.cdb_read.specs.Statistics.{statistics_damage}
 use Rattle.cdb_read.specs.Views.ReadFault.{damage_fault}
-use Rattle.cdb_tool.specs.Message.{fault_line}
-use Rattle.cdb_tool.specs.Runs.Difference.{difference_of, heads_fault}
-use Rattle.cdb_tool.specs.Runs.Form.{Form, dump_form, list_form}
-use Rattle.cdb_tool.specs.Runs.LookedUp.{records_asked}
-use Rattle.cdb_tool.specs.Runs.Query.{Query, query_text, query_answer, value_text}
-use Rattle.cdb_tool.specs.Runs.Stats.{statistics_text}
-use Rattle.cdb_tool.specs.Runs.WalkText.{walk_text}
-use Rattle.cdb_tool.specs.Status.{check_status, plain_status}
-use Rattle.cdb_tool.specs.declared.fault.Fault.{Fault}
-use Rattle.cdb_tool.specs.declared.fault.Fault.TheVariants.{Read, Open, Long}
+use Rattle.cdb_show.specs.Message.{fault_line}
+use Rattle.cdb_show.specs.Runs.Difference.{difference_of, heads_fault}
+use Rattle.cdb_show.specs.Runs.Form.{Form, dump_form, list_form}
+use Rattle.cdb_show.specs.Runs.LookedUp.{records_asked}
+use Rattle.cdb_show.specs.Runs.Query.{Query, query_text, query_answer, value_text}
+use Rattle.cdb_show.specs.Runs.Stats.{statistics_text}
+use Rattle.cdb_show.specs.Runs.WalkText.{walk_text}
+use Rattle.cdb_show.specs.Status.{check_status, plain_status}
+use Rattle.cdb_show.specs.declared.fault.Fault.{Fault}
+use Rattle.cdb_show.specs.declared.fault.Fault.TheVariants.{Read, Open, Long}
 use Rattle.cdb.specs.Performs.{usage_line, usage_status}
 
 -- what a run comes to: its exit status, what it writes, and its lines on standard error

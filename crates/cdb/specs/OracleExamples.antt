@@ -22,8 +22,8 @@ use Rattle.cdb_read.specs.Statistics.{distances_in, statistics_of, statistics_da
 use Rattle.cdb_store.specs.Contents.{contents}
 use Rattle.cdb_store.specs.contracts.memory.MemStoreStore.TheImpl.{ghosts as in_memory}
 use Rattle.cdb_store.specs.declared.memory.MemStore.{MemStore}
-use Rattle.cdb_tool.specs.Runs.MakesSo.{KnownFor}
-use Rattle.cdb_tool.specs.Runs.StatsText.{distance_lines, stats_text}
+use Rattle.cdb_show.specs.Runs.Incoming.{KnownFor}
+use Rattle.cdb_show.specs.Runs.StatsText.{distance_lines, stats_text}
 use Rattle.cdb.specs.Files.{files_of}
 use Rattle.cdb.specs.Foretold.{AreComparable, Honest, Reveals}
 use Rattle.cdb.specs.Opening.{OpenCalls, none_left, read_left}

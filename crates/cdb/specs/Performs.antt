@@ -19,27 +19,27 @@ use Rattle.cdb_store.specs.contracts.memory.MemStoreStore.TheImpl.{ghosts as in_
 use Rattle.cdb_store.specs.declared.memory.MemStore.{MemStore}
 use Rattle.cdb_store.specs.declared.raw.RawFile.{Ghosts as Raw}
 use Rattle.cdb_store.specs.declared.store.Store.{Ghosts}
-use Rattle.cdb_tool.specs.Runs.Check.{FindsSound, CheckingFails}
-use Rattle.cdb_tool.specs.Runs.Difference.{TellsDifference}
-use Rattle.cdb_tool.specs.Runs.Form.{Form, dump_form, list_form}
-use Rattle.cdb_tool.specs.Runs.Load.{IsNotLoaded}
-use Rattle.cdb_tool.specs.Runs.Inputs.{InputsLeft}
-use Rattle.cdb_tool.specs.Runs.Flushed.{IsWhole}
-use Rattle.cdb_tool.specs.Runs.Lookups.{LooksUp}
-use Rattle.cdb_tool.specs.Runs.Query.{Query, Queries, value_text}
-use Rattle.cdb_tool.specs.Runs.Stats.{TellsStats}
-use Rattle.cdb_tool.specs.Runs.WalkText.{WritesWalk}
-use Rattle.cdb_tool.specs.Message.{fault_line}
-use Rattle.cdb_tool.specs.Status.{exit_status}
-use Rattle.cdb_tool.specs.Views.Inputs.{one_of}
-use Rattle.cdb_tool.specs.Views.Output.{OutputSays}
-use Rattle.cdb_tool.specs.declared.fault.Fault.{Fault}
-use Rattle.cdb_tool.specs.declared.fault.Fault.TheVariants.{Open, NoMemory as NoRoom, Output}
+use Rattle.cdb_show.specs.Runs.Check.{FindsSound, CheckingFails}
+use Rattle.cdb_show.specs.Runs.Difference.{TellsDifference}
+use Rattle.cdb_show.specs.Runs.Form.{Form, dump_form, list_form}
+use Rattle.cdb_show.specs.Runs.Load.{IsNotLoaded}
+use Rattle.cdb_show.specs.Runs.Inputs.{InputsLeft}
+use Rattle.cdb_show.specs.Runs.Flushed.{IsWhole}
+use Rattle.cdb_show.specs.Runs.Lookups.{LooksUp}
+use Rattle.cdb_show.specs.Runs.Query.{Query, Queries, value_text}
+use Rattle.cdb_show.specs.Runs.Stats.{TellsStats}
+use Rattle.cdb_show.specs.Runs.WalkText.{WritesWalk}
+use Rattle.cdb_show.specs.Message.{fault_line}
+use Rattle.cdb_show.specs.Status.{exit_status}
+use Rattle.cdb_show.specs.Views.Inputs.{one_of}
+use Rattle.cdb_show.specs.Views.Output.{OutputSays}
+use Rattle.cdb_show.specs.declared.fault.Fault.{Fault}
+use Rattle.cdb_show.specs.declared.fault.Fault.TheVariants.{Open, NoMemory as NoRoom, Output}
 use Rattle.cdb_names.specs.declared.answer.Answer.TheVariants as looks
 use Rattle.cdb.specs.Creating.{Creates}
 use Rattle.cdb.specs.Causes.{Explains}
 use Rattle.cdb.specs.Files.{Files}
-use Rattle.cdb_tool.specs.declared.inputs.Turn.{Turn}
+use Rattle.cdb_show.specs.declared.inputs.Turn.{Turn}
 use Rattle.cdb.specs.Inputs.{OpensInputs, StopsOpening}
 use Rattle.cdb.specs.Opening.{Misses, OpenCalls, both_left, none_left, read_left}
 use Rattle.cdb.specs.State.{Failed, Given, State, calls_in, given_of, with_calls}

@@ -4,9 +4,9 @@ use Rattle.cdb_command.specs.Asked.{Asked}
 use Rattle.cdb_command.specs.Refused.{Refused}
 use Rattle.cdb_names.specs.Folder.{NameCalls}
 use Rattle.cdb_store.specs.declared.raw.RawFile.{Ghosts as Raw}
-use Rattle.cdb_tool.specs.Command.{explains_in, plan_of}
-use Rattle.cdb_tool.specs.Views.Output.{HasHandedOn, OutputFailed, held_by, output_bytes}
-use Rattle.cdb_tool.specs.declared.output.Output.{Output as Writer}
+use Rattle.cdb_show.specs.Command.{explains_in, plan_of}
+use Rattle.cdb_show.specs.Views.Output.{HasHandedOn, OutputFailed, held_by, output_bytes}
+use Rattle.cdb_show.specs.declared.output.Output.{Output as Writer}
 use Rattle.cdb.specs.Files.{Files}
 use Rattle.cdb.specs.Foretold.{IsForetold, IsTaken}
 use Rattle.cdb.specs.ForetoldCreate.{IsCreateForetold}

@@ -1,6 +1,6 @@
 // What builds the database of what was opened.
 ghost use Rattle.std.specs.Prelude.{◌≡◌, ◌<◌};
-ghost use Rattle.cdb_tool.specs.Views.Output.{OutputSays};
+ghost use Rattle.cdb_show.specs.Views.Output.{OutputSays};
 ghost use Rattle.cdb.specs.Creating.{IsBufferedRun, IsCaused, IsDatabase, MakesIn};
 ghost use Rattle.cdb.specs.Contents.{making_of};
 

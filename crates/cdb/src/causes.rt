@@ -1,7 +1,7 @@
 // The cause of a fault: which file, and why.
 ghost use Rattle.std.specs.Prelude.{◌≡◌, IfSome, option_map, string_bytes};
-ghost use Rattle.cdb_tool.specs.Command.{asked_in};
-ghost use Rattle.cdb_tool.specs.declared.fault.Fault.TheVariants.{Open};
+ghost use Rattle.cdb_show.specs.Command.{asked_in};
+ghost use Rattle.cdb_show.specs.declared.fault.Fault.TheVariants.{Open};
 ghost use Rattle.cdb.specs.CauseLine.{error_words, reason_name, said_of};
 ghost use Rattle.cdb.specs.Causes.{IsCause, IsMadeName, IsNoNameOf, IsOfDatabase, IsOfRead};
 ghost use Rattle.cdb.specs.Causes.{IsOfSystem, IsOfTextOf, IsRefusedOpening};

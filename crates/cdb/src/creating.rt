@@ -1,9 +1,9 @@
 // A create: its base and inputs are opened, and then the database is made of them.
 ghost use Rattle.std.specs.Prelude.{◌⊎◌, ◌≡◌, ◌↔◌, ◌≤◌, IsTrue, IfOk, IfErr, map, option_map};
 ghost use Rattle.std.specs.Prelude.{string_bytes};
-ghost use Rattle.cdb_tool.specs.Views.Output.{OutputSays};
+ghost use Rattle.cdb_show.specs.Views.Output.{OutputSays};
 ghost use Rattle.cdb_form.specs.Format.Pair.{head_size};
-ghost use Rattle.cdb_tool.specs.Views.Inputs.{inputs_left};
+ghost use Rattle.cdb_show.specs.Views.Inputs.{inputs_left};
 ghost use Rattle.cdb.specs.Creating.{Creates, IsInPlace, MakesOnOutput};
 ghost use Rattle.cdb.specs.Creating.{NotOpened, OpensAll, WritesAll, temporary_of};
 ghost use Rattle.cdb.specs.Files.{files_of};

@@ -1,7 +1,7 @@
 // What a create reads: its base and its inputs, which are opened before anything is made.
 ghost use Rattle.std.specs.Prelude.{◌≡◌, ◌≢◌, ◌↔◌, [], map, option_map, string_bytes, codes};
 ghost use Rattle.std.specs.Prelude.{IfOk, IfErr, IsTrue};
-ghost use Rattle.cdb_tool.specs.Views.Output.{OutputSays};
+ghost use Rattle.cdb_show.specs.Views.Output.{OutputSays};
 ghost use Rattle.cdb.specs.Inputs.{IsStandard, OpensBase, MissesBase, OpensInput, OpensEach};
 ghost use Rattle.cdb.specs.Inputs.{OpensInputs, StopsOpening, MissesInput};
 

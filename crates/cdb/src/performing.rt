@@ -1,8 +1,8 @@
 // Each command, with words of one width.
-ghost use Rattle.cdb_tool.specs.Views.Output.{OutputSays};
-ghost use Rattle.cdb_tool.specs.Command.{asked_in, FitsIn};
+ghost use Rattle.cdb_show.specs.Views.Output.{OutputSays};
+ghost use Rattle.cdb_show.specs.Command.{asked_in, FitsIn};
 ghost use Rattle.cdb_form.specs.Format.Pair.{head_size};
-ghost use Rattle.cdb_tool.specs.Command.{usage_text, version_text};
+ghost use Rattle.cdb_show.specs.Command.{usage_text, version_text};
 ghost use Rattle.std.specs.Prelude.{◌⊎◌, ◌≡◌, map, string_bytes};
 ghost use Rattle.cdb.specs.Files.{files_of};
 ghost use Rattle.cdb.specs.Performs.{IsShown, IsUntouched, Performs, Tells};

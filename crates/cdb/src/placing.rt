@@ -1,7 +1,7 @@
 // A database made under its name: in place, or in a temporary file that replaces it.
 ghost use Rattle.std.specs.Prelude.{◌≡◌, ◌∷◌, [], true, false, map, option_map, string_bytes};
 ghost use Rattle.std.specs.Prelude.{IfOk, IfErr, OnOk, List, Option, ℕ};
-ghost use Rattle.cdb_tool.specs.Views.Output.{OutputSays};
+ghost use Rattle.cdb_show.specs.Views.Output.{OutputSays};
 ghost use Rattle.cdb.specs.Creating.{AsksAll, AsksBase, AsksEach, AsksOne};
 ghost use Rattle.cdb.specs.Creating.{FindsBase, FindsInput, FindsOne, MayBeInput, MayBeOne};
 ghost use Rattle.cdb.specs.Creating.{MayBeStandard};

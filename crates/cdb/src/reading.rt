@@ -1,12 +1,12 @@
 // The commands that read one file: its values, its text, its statistics, and whether it is sound.
 ghost use Rattle.std.specs.Prelude.{◌≡◌, ◌≤◌, ◌⊎◌, IfSome, IfOk, IfErr, length, option_map};
 ghost use Rattle.std.specs.Prelude.{string_bytes, List, ℕ, Option};
-ghost use Rattle.cdb_tool.specs.Views.Output.{OutputSays};
+ghost use Rattle.cdb_show.specs.Views.Output.{OutputSays};
 ghost use Rattle.cdb_store.specs.contracts.memory.MemStoreStore.TheImpl.{ghosts as in_memory};
 ghost use Rattle.cdb_store.specs.Contents.{contents};
-ghost use Rattle.cdb_tool.specs.Runs.Form.{form_of};
-ghost use Rattle.cdb_tool.specs.Runs.Load.{IsNotLoaded};
-ghost use Rattle.cdb_tool.specs.Runs.Query.{value_text};
+ghost use Rattle.cdb_show.specs.Runs.Form.{form_of};
+ghost use Rattle.cdb_show.specs.Runs.Load.{IsNotLoaded};
+ghost use Rattle.cdb_show.specs.Runs.Query.{value_text};
 ghost use Rattle.cdb_names.specs.Folder.{NameCalls};
 ghost use Rattle.cdb.specs.Files.{files_of};
 ghost use Rattle.cdb.specs.State.{state_of};

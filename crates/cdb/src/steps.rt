@@ -1,7 +1,7 @@
 // What the program does: the command of its words, and its exit status.
 ghost use Rattle.std.specs.Prelude.{◌≡◌, ◌⊎◌, Err, map, string_bytes};
-ghost use Rattle.cdb_tool.specs.Command.{asked_in, has_wide_words, IsInRange};
-ghost use Rattle.cdb_tool.specs.Views.Output.{output_bytes, HasHandedOn, OutputFailed, OutputSays};
+ghost use Rattle.cdb_show.specs.Command.{asked_in, has_wide_words, IsInRange};
+ghost use Rattle.cdb_show.specs.Views.Output.{output_bytes, HasHandedOn, OutputFailed, OutputSays};
 ghost use Rattle.cdb.specs.Causes.{Explains};
 ghost use Rattle.cdb.specs.Files.{files_of};
 ghost use Rattle.cdb.specs.Performs.{Does, HandsOn, IsUntouched};

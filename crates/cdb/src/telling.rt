@@ -1,9 +1,9 @@
 // The lines on standard error.
 ghost use Rattle.std.specs.Prelude.{◌≡◌, ◌++◌, OnErr};
 ghost use Rattle.cdb_form.specs.Views.KnownBytes.{AppendsPrefix, Writes};
-ghost use Rattle.cdb_tool.specs.Command.{refused_in, usage_of};
-ghost use Rattle.cdb_tool.specs.Message.{fault_line};
-ghost use Rattle.cdb_tool.specs.Views.Output.{output_bytes, OutputFailed};
+ghost use Rattle.cdb_show.specs.Command.{refused_in, usage_of};
+ghost use Rattle.cdb_show.specs.Message.{fault_line};
+ghost use Rattle.cdb_show.specs.Views.Output.{output_bytes, OutputFailed};
 ghost use Rattle.cdb.specs.Performs.{SaysLine, refused_lines, usage_line, usage_status};
 
 use cdb_form::{OutFault, Sink, write_pieces, write_whole};

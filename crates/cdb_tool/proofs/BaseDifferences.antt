@@ -15,7 +15,8 @@ use Rattle.cdb_read.specs.Laws.{brought_up}
 use Rattle.cdb_read.specs.Values.{values_of}
 use Rattle.cdb_command.specs.declared.options.MakeOptions.{MakeOptions}
 use Rattle.cdb_tool.specs.Laws.{MakerHoldsAll}
-use Rattle.cdb_tool.specs.Runs.Course.{Course, Incoming, ends, from_input, is_going, mode_of, with_change, with_next}
+use Rattle.cdb_tool.specs.Runs.Course.{Course, ends, is_going, mode_of, with_change, with_next}
+use Rattle.cdb_show.specs.Runs.Incoming.{Incoming, from_input}
 
 -- the run goes on, and holds these records
 record Holds (s : Course) (rs : List KeyValue) : Type 0 where

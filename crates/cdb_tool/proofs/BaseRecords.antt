@@ -31,12 +31,12 @@ use Rattle.cdb_read.specs.declared.fault.ReadFault.{ReadFault}
 use Rattle.cdb_read.specs.declared.fault.ReadFault.TheVariants as read
 use Rattle.cdb_read.specs.declared.walking.records.Walk.{Walk}
 use Rattle.cdb_read.specs.declared.span.PlacedRecord.{PlacedRecord}
-use Rattle.cdb_tool.specs.Views.Fault.{read_fault, make_fault, text_fault}
+use Rattle.cdb_show.specs.Views.Fault.{read_fault, make_fault, text_fault}
 use Rattle.cdb_tool.specs.Runs.Course.{TellFails}
 use Rattle.cdb_tool.specs.Runs.Base.{AddsNext, NotAdded}
 use Rattle.cdb_tool.specs.Runs.Make.{AddsBase, BaseFails, IsOfBase}
-use Rattle.cdb_tool.specs.declared.fault.Fault.{Fault}
-use Rattle.cdb_tool.specs.declared.fault.Fault.TheVariants as fault
+use Rattle.cdb_show.specs.declared.fault.Fault.{Fault}
+use Rattle.cdb_show.specs.declared.fault.Fault.TheVariants as fault
 use Rattle.cdb_command.specs.declared.options.MakeOptions.{MakeOptions}
 
 -- these records were given and added, and then comes what is left of the walk

@@ -19,12 +19,13 @@ use Rattle.cdb_make.specs.declared.answer.Put.{Put}
 use Rattle.cdb_make.specs.declared.answer.Put.TheVariants.{Added, AddedAgain, Present, Replaced}
 use Rattle.cdb_make.proofs.Callers.{holds_count, holds_fits}
 use Rattle.cdb_make.proofs.Finishing.{rests_nothing}
-use Rattle.cdb_tool.specs.Message.{TellsEach, TellsPart}
-use Rattle.cdb_tool.specs.Views.Fault.{make_fault}
-use Rattle.cdb_tool.specs.Runs.Course.{Task, Incoming, Course, from_input, from_inputs, mode_of, told, ends, is_going, with_put, with_change, with_next, at_start, course_of, TellFails, Goes, StopsSo}
+use Rattle.cdb_show.specs.Message.{TellsEach, TellsPart}
+use Rattle.cdb_show.specs.Views.Fault.{make_fault}
+use Rattle.cdb_tool.specs.Runs.Course.{Task, Course, mode_of, told, ends, is_going, with_put, with_change, with_next, at_start, course_of, TellFails, Goes, StopsSo}
+use Rattle.cdb_show.specs.Runs.Incoming.{Incoming, from_input, from_inputs}
 use Rattle.cdb_tool.specs.Runs.Make.{InCourse, PutStops, IsOfStore, MakeStandsAt, IsHalt, TakesNext}
-use Rattle.cdb_tool.specs.declared.fault.Fault.{Fault}
-use Rattle.cdb_tool.specs.declared.fault.Fault.TheVariants.{Text, Make, Duplicate, Missing, Read, Walk, Output, Long, Open, Rename, NoMemory, Old, New, NoOldTables, NoNewTables}
+use Rattle.cdb_show.specs.declared.fault.Fault.{Fault}
+use Rattle.cdb_show.specs.declared.fault.Fault.TheVariants.{Text, Make, Duplicate, Missing, Read, Walk, Output, Long, Open, Rename, NoMemory, Old, New, NoOldTables, NoNewTables}
 use Rattle.cdb_command.specs.declared.options.MakeOptions.{MakeOptions}
 use Rattle.cdb_tool.proofs.ToldLines.{part_then, tells_none, tells_then}
 

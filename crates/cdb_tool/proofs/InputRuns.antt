@@ -9,26 +9,29 @@ use Rattle.cdb_make.specs.Views.Maker.{Follows, WhereHonest}
 use Rattle.cdb_make.specs.declared.maker.Maker.{Maker}
 use Rattle.cdb_make.proofs.Callers.{follows_same}
 use Rattle.cdb_make.proofs.Rolls.{follows_then}
-use Rattle.cdb_tool.specs.Views.Fault.{text_fault}
-use Rattle.cdb_tool.specs.Views.ItemReader.{form_of, Fails}
-use Rattle.cdb_tool.specs.Runs.Course.{Task, Incoming, from_inputs, Goes, StopsSo}
-use Rattle.cdb_tool.specs.Runs.Inputs.{InputForm, input_form, BeginsWithItems, HasItemFault, InputsLeft, OneInput, ReadsOne, ReadsFirstInputs, AreInputs, OneBegins, FirstBegins, FirstHas, bytes_of}
-use Rattle.cdb_tool.specs.Runs.Inputs as form
-use Rattle.cdb_tool.specs.Runs.Make.{InCourse, PutStops, InputFails, MakeStopsIn, MakeStops, InputsFail, came, IsOfStore, MakeStandsAt, StandsIn, Stands, PutsItems}
+use Rattle.cdb_show.specs.Views.Fault.{text_fault}
+use Rattle.cdb_show.specs.Views.ItemReader.{form_of, Fails}
+use Rattle.cdb_tool.specs.Runs.Course.{Task, Goes, StopsSo}
+use Rattle.cdb_show.specs.Runs.Incoming.{Incoming, from_inputs}
+use Rattle.cdb_show.specs.Runs.Inputs.{InputForm, input_form, BeginsWithItems, HasItemFault, InputsLeft, OneInput, ReadsOne, ReadsFirstInputs, AreInputs, OneBegins, FirstBegins, FirstHas, bytes_of}
+use Rattle.cdb_show.specs.Runs.Inputs as form
+use Rattle.cdb_tool.specs.Runs.Make.{InCourse, PutStops, InputFails, MakeStopsIn, MakeStops, InputsFail, IsOfStore, MakeStandsAt, StandsIn, Stands, PutsItems}
+use Rattle.cdb_show.specs.Runs.Incoming.{came}
 use Rattle.cdb_tool.specs.Runs.Make.{form_of as task_form}
-use Rattle.cdb_tool.specs.declared.fault.Fault.{Fault}
-use Rattle.cdb_tool.specs.declared.fault.Fault.TheVariants.{Text, Make, Duplicate, Missing, Read, Walk, Output, Long, Open, Rename, NoMemory, Old, New, NoOldTables, NoNewTables}
-use Rattle.cdb_tool.specs.Views.Inputs.{one_of, shared_bytes, inputs_left}
-use Rattle.cdb_tool.specs.declared.inputs.Inputs.{Inputs}
-use Rattle.cdb_tool.specs.declared.inputs.SharedInput.{SharedInput}
-use Rattle.cdb_tool.specs.declared.inputs.SharedInput.TheVariants.{Unread}
-use Rattle.cdb_tool.specs.declared.inputs.Turn.{Turn}
-use Rattle.cdb_tool.specs.declared.runs.item_reader.ItemReader.{ItemReader}
+use Rattle.cdb_show.specs.declared.fault.Fault.{Fault}
+use Rattle.cdb_show.specs.declared.fault.Fault.TheVariants.{Text, Make, Duplicate, Missing, Read, Walk, Output, Long, Open, Rename, NoMemory, Old, New, NoOldTables, NoNewTables}
+use Rattle.cdb_show.specs.Views.Inputs.{one_of, shared_bytes, inputs_left}
+use Rattle.cdb_show.specs.declared.inputs.Inputs.{Inputs}
+use Rattle.cdb_show.specs.declared.inputs.SharedInput.{SharedInput}
+use Rattle.cdb_show.specs.declared.inputs.SharedInput.TheVariants.{Unread}
+use Rattle.cdb_show.specs.declared.inputs.Turn.{Turn}
+use Rattle.cdb_show.specs.declared.runs.item_reader.ItemReader.{ItemReader}
 use Rattle.cdb_command.specs.declared.options.MakeOptions.{MakeOptions}
 use Rattle.cdb_command.specs.declared.style.Style.TheVariants as style
 use Rattle.cdb_form.specs.Text.Map.{map_lines}
 use Rattle.cdb_tool.proofs.Courses.{came_more, came_none, course_stands}
 use Rattle.cdb_tool.proofs.ItemTexts.{GaveItems, items_first, items_fault, items_native}
+use Rattle.cdb_show.proofs.NextInputs.{left_now, inputs_next, begins_none, first_begins}
 
 -- nothing was put of an input that begins
 pub none_put : {S L : Type 0} {s : Ghosts S} {l : Widths L} (o : Task) (read : List (List Change)) (start now : Option (List ℕ)) (m : Maker S L s l) → InCourse o (from_inputs 1 read) start now m → InCourse o (came read []) start now m
@@ -98,17 +101,6 @@ halted_here form is g o read input last start now m same b h = record { last = l
 
 -- ---- one input more
 
-pub inputs_next : (st : InputForm) (g : ℕ) (read : List (List Change)) (last : List Change) (inputs mid rest : InputsLeft) → AreInputs st g read inputs mid → ReadsFirstInputs st g last mid rest → AreInputs st g (read ++ last ∷ []) inputs rest
-inputs_next st g [] last inputs mid rest e is = (rest, subst (λ v. ReadsFirstInputs st g last v rest) (sym e) is, refl)
-inputs_next st g (q ∷ read) last inputs mid rest e is = (e.0, e.1, inputs_next st g read last e.0 mid rest e.2 is)
-
--- an input with these bytes that begins with items is the first one
-one_begins : (st : InputForm) (g : ℕ) (last : List Change) (each more : List OneInput) (shared : Option (List ℕ)) (one : OneInput) → each ≡ one ∷ more → IfSome (bytes_of one shared) (BeginsWithItems st g last) → OneBegins st g last each shared
-one_begins st g last each more shared one e b = subst (λ v. OneBegins st g last v shared) (sym e) b
-
-pub first_begins : (st : InputForm) (g : ℕ) (last : List Change) (rest : InputsLeft) (x : Option (List ℕ)) → FirstHas rest x → IfSome x (BeginsWithItems st g last) → FirstBegins st g last rest
-first_begins st g last rest x h b = one_begins st g last rest.each h.more rest.shared h.one h.first (subst (λ v. IfSome v (BeginsWithItems st g last)) h.has b)
-
 stopped : (w g : ℕ) (o : Task) (read : List (List Change)) (x : Option (List ℕ)) (inputs rest : InputsLeft) (start now : Option (List ℕ)) (f : Fault) → AreInputs (task_form o) g read inputs rest → FirstHas rest x → MakeStopsIn w g o read x start now f → MakeStops w g o inputs start now f
 stopped w g o read x inputs rest start now f are first s = record { read = read; last = s.last; rest = rest; are = are; begins = first_begins (task_form o) g s.last rest x first s.begins; stops = s.stops }
 
@@ -131,22 +123,6 @@ run_failed w g o read x inputs rest start now NoNewTables are first h = stopped 
 run_failed w g o read x inputs rest start now (Old side) are first h = stopped w g o read x inputs rest start now (Old side) are first h
 run_failed w g o read x inputs rest start now (New side) are first h = stopped w g o read x inputs rest start now (New side) are first h
 run_failed w g o read x inputs rest start now NoMemory are first h = stopped w g o read x inputs rest start now NoMemory are first h
-
--- readers that are inputs of their own
-abbrev pub own_of : {J : Type 0} → (J → Option (List ℕ)) → J → OneInput
-own_of remaining reader = form.Own (remaining reader)
-
-pub own_bytes : {J : Type 0} (remaining : J → Option (List ℕ)) (readers : List J) → map (own_of remaining) readers ≡ map form.Own (map remaining readers)
-own_bytes remaining [] = refl
-own_bytes remaining (reader ∷ readers) = ap (λ v. form.Own (remaining reader) ∷ v) (own_bytes remaining readers)
-
--- the inputs that are left, while they are read
-abbrev pub left_now : {J I : Type 0} → (J → Option (List ℕ)) → (I → Option (List ℕ)) → List (Turn J) → SharedInput I → InputsLeft
-left_now own shared turns reader = record { each = map (one_of own) turns; shared = shared_bytes shared reader }
-
--- the next one
-pub next_has : {J I : Type 0} (own : J → Option (List ℕ)) (shared : I → Option (List ℕ)) (left rest : List (Turn J)) (turn : Turn J) (reader : SharedInput I) → left ≡ turn ∷ rest → FirstHas (left_now own shared left reader) (bytes_of (one_of own turn) (shared_bytes shared reader))
-next_has own shared left rest turn reader e = record { one = one_of own turn; more = map (one_of own) rest; first = ap (map (one_of own)) e; has = refl }
 
 pub halted : {S K : Type 0} {s : Ghosts S} {k : Widths K} (g : ℕ) (form : InputForm) (o : Task) (read : List (List Change)) (inputs rest : InputsLeft) (x start now : Option (List ℕ)) (m : Maker S K s k) → AreInputs form g read inputs rest → FirstHas rest x → StandsIn form g o read x start now m
     → Stands form g o inputs start now m
@@ -200,14 +176,6 @@ pub inputs_fail : (w g : ℕ) (t : Task) (o : MakeOptions) (amends : Bool) (read
 inputs_fail w g t o amends read inputs rest x start now images f same based are first h =
     let in_form = subst (λ v. AreInputs v g read inputs rest) (sym (form_is t o amends same based)) are in
     record { each = λ b is. run_failed w g t read x inputs rest start now f in_form first (h.each b is) }
-
--- memory for its window was refused before anything was read of it
-pub begins_none : (st : InputForm) (g : ℕ) (input : Option (List ℕ)) → IfSome input (BeginsWithItems st g [])
-begins_none st g None = tt
-begins_none (form.Puts style.Native) g (Some text) = ([], refl, (text, refl))
-begins_none (form.Puts style.Map) g (Some text) = ([], refl, (map_lines text, refl))
-begins_none form.Changes g (Some text) = (text, refl)
-begins_none form.Lists g (Some text) = ([], refl, (text, refl))
 
 pub no_window : {S K : Type 0} {s : Ghosts S} {k : Widths K} (g : ℕ) (t : Task) (read : List (List Change)) (x start now : Option (List ℕ)) (m : Maker S K s k) → InCourse t (from_inputs 1 read) start now m → WhereHonest (s.image m.store) (InputFails k.WORD g t read x start now NoMemory)
 no_window {k = k} g t read x start now m h = record {

@@ -14,16 +14,16 @@ use Rattle.cdb_form.specs.declared.text.fault.TextFault.TheVariants.{Ended}
 use Rattle.cdb_form.specs.declared.text.fault.TextFault.TheVariants as fault
 use Rattle.cdb_form.proofs.NativeTexts.WholeChanges.{SoFar, so_far_none, so_far_more, so_far_fault, so_far_part}
 use Rattle.cdb_tool.specs.Runs.Course.{Task}
-use Rattle.cdb_tool.specs.Runs.Inputs.{InputForm, input_form, HasFaultBehind, HasItemFault, IsInput, InputsBeginWith, IsInputOf, BeginsWithItems}
-use Rattle.cdb_tool.specs.Runs.Inputs as form
+use Rattle.cdb_show.specs.Runs.Inputs.{InputForm, input_form, HasFaultBehind, HasItemFault, IsInput, InputsBeginWith, IsInputOf, BeginsWithItems}
+use Rattle.cdb_show.specs.Runs.Inputs as form
 use Rattle.cdb_tool.specs.Runs.Make.{form_of as task_form}
-use Rattle.cdb_tool.specs.Views.ItemReader.{form_of, unread, asks_left, IsNew, GivesItem, GivesEnd, Fails}
-use Rattle.cdb_tool.specs.declared.runs.item_reader.ItemReader.{ItemReader}
-use Rattle.cdb_tool.specs.declared.runs.item_reader.ItemReader.TheVariants.{Native, Map, Changes}
+use Rattle.cdb_show.specs.Views.ItemReader.{form_of, unread, asks_left, IsNew, GivesItem, GivesEnd, Fails}
+use Rattle.cdb_show.specs.declared.runs.item_reader.ItemReader.{ItemReader}
+use Rattle.cdb_show.specs.declared.runs.item_reader.ItemReader.TheVariants.{Native, Map, Changes}
 use Rattle.cdb_command.specs.declared.style.Style.{Style}
 use Rattle.cdb_command.specs.declared.style.Style.TheVariants as style
-use Rattle.cdb_tool.proofs.InputTexts.{GaveNative, GaveMap, native_none, map_none, native_more, map_more, native_all, map_all, native_first, map_first, native_fault, map_fault, no_map_fault}
-use Rattle.cdb_tool.proofs.NativeInputs.{some_weaker}
+use Rattle.cdb_show.proofs.InputTexts.{GaveNative, GaveMap, native_none, map_none, native_more, map_more, native_all, map_all, native_first, map_first, native_fault, map_fault, no_map_fault}
+use Rattle.cdb_show.proofs.NativeInputs.{some_weaker}
 
 -- it gave these items so far
 abbrev pub GaveItems : {R L : Type 0} → ℕ → (R → Option (List ℕ)) → Option (List ℕ) → ItemReader R L → List Change → Type 0

@@ -25,19 +25,23 @@ use Rattle.cdb_store.specs.declared.make_fault.MakeFault.TheVariants as make
 use Rattle.cdb_read.specs.Views.ReadFault.{damage_fault}
 use Rattle.cdb_read.specs.declared.fault.ReadFault.{ReadFault}
 use Rattle.cdb_read.specs.declared.fault.ReadFault.TheVariants as read
-use Rattle.cdb_tool.specs.Message.{TellsEach, TellsPart, Told}
+use Rattle.cdb_show.specs.Message.{TellsEach, TellsPart, Told}
 use Rattle.cdb_tool.specs.Runs.Base.{NotAdded}
-use Rattle.cdb_tool.specs.Runs.Course.{Course, Task, Incoming, task_of, from_inputs, with_change, with_next, is_going, at_start, course_of, told, mode_of, StopsSo}
+use Rattle.cdb_tool.specs.Runs.Course.{Course, Task, task_of, with_change, with_next, is_going, at_start, course_of, told, mode_of, StopsSo}
+use Rattle.cdb_show.specs.Runs.Incoming.{Incoming, from_inputs}
 use Rattle.cdb_make.specs.Survivors.{put_result}
 use Rattle.cdb_tool.proofs.ToldLines.{part_more, part_none, part_whole}
-use Rattle.cdb_tool.proofs.GivenInputs.{after, all_given, begins_given, first_fails, left_known}
-use Rattle.cdb_tool.specs.Runs.Inputs.{InputForm, HasFaults, Puts, Changes, Lists, input_form, InputsLeft, BeginsWithItems, HasItemFault, OneBegins, FirstBegins, FirstHas}
-use Rattle.cdb_tool.specs.Runs.Make.{records_of, IsSomeBase, Makes, MakesDatabase, MeetsInput, MakeStops, BaseStops, InputsStop, RunFails, MakeRuns, came}
+use Rattle.cdb_show.proofs.GivenInputs.{after, all_given, begins_given, first_fails, left_known}
+use Rattle.cdb_show.specs.Runs.Inputs.{InputForm, HasFaults, Puts, Changes, Lists, input_form, InputsLeft, BeginsWithItems, HasItemFault, OneBegins, FirstBegins, FirstHas}
+use Rattle.cdb_tool.specs.Runs.Make.{records_of, IsSomeBase, Makes, MakesDatabase, MeetsInput, MakeStops, BaseStops, InputsStop, RunFails, MakeRuns}
+use Rattle.cdb_show.specs.Runs.Incoming.{came}
 use Rattle.cdb_tool.specs.Runs.Make as make_run
-use Rattle.cdb_tool.specs.Runs.MakesSo.{Known, MakesSo, IsMakeRefusal, ComesOf}
-use Rattle.cdb_tool.specs.Runs.Made.{Given, given_from, Made, ended_by, made_from, walk_fault, base_fault, unless_stopped, made_of}
-use Rattle.cdb_tool.specs.declared.fault.Fault.{Fault}
-use Rattle.cdb_tool.specs.declared.fault.Fault.TheVariants.{Text, Make, Duplicate, Missing, Read, Walk, Output, Long, Open, Rename, NoMemory, Old, New, NoOldTables, NoNewTables}
+use Rattle.cdb_show.specs.Runs.Incoming.{Known}
+use Rattle.cdb_tool.specs.Runs.MakesSo.{MakesSo, IsMakeRefusal, ComesOf}
+use Rattle.cdb_show.specs.Runs.Given.{Given, given_from}
+use Rattle.cdb_tool.specs.Runs.Made.{Made, ended_by, made_from, walk_fault, base_fault, unless_stopped, made_of}
+use Rattle.cdb_show.specs.declared.fault.Fault.{Fault}
+use Rattle.cdb_show.specs.declared.fault.Fault.TheVariants.{Text, Make, Duplicate, Missing, Read, Walk, Output, Long, Open, Rename, NoMemory, Old, New, NoOldTables, NoNewTables}
 
 -- ---- the course over more items
 

@@ -6,9 +6,9 @@ use Rattle.cdb_make.specs.Views.Maker.{Follows}
 use Rattle.cdb_make.specs.declared.maker.Maker.{Maker}
 use Rattle.cdb_make.proofs.Rolls.{follows_then}
 use Rattle.cdb_tool.specs.Runs.Make.{StepsOn}
-use Rattle.cdb_tool.specs.Views.Output.{OutputSays}
-use Rattle.cdb_tool.specs.declared.fault.Fault.{Fault}
-use Rattle.cdb_tool.specs.declared.fault.Fault.TheVariants.{Output}
+use Rattle.cdb_show.specs.Views.Output.{OutputSays}
+use Rattle.cdb_show.specs.declared.fault.Fault.{Fault}
+use Rattle.cdb_show.specs.declared.fault.Fault.TheVariants.{Output}
 
 output_err : (A B : Type 0) (said : Type 0) (f : Fault) → OutputSays {A = A} said (Err f) → OutputSays {A = B} said (Err f)
 output_err A B said Output says = says

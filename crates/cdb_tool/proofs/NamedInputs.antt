@@ -8,9 +8,11 @@ use Rattle.cdb_make.specs.Survivors.{put_result, put_step}
 use Rattle.cdb_store.specs.declared.make_fault.MakeFault.{MakeFault}
 use Rattle.cdb_make.specs.declared.answer.Put.{Put}
 use Rattle.cdb_make.specs.declared.answer.Put.TheVariants.{Added, AddedAgain, Present, Replaced}
-use Rattle.cdb_tool.specs.Runs.Course.{Course, Incoming, at_start, ends, from_inputs, is_going, mode_of, task_of, told, with_change, with_next}
-use Rattle.cdb_tool.specs.Runs.Inputs.{input_form}
-use Rattle.cdb_tool.specs.Runs.Made.{Given, Made, base_fault, ended_by, given_from, made_from, made_of, unless_stopped}
+use Rattle.cdb_tool.specs.Runs.Course.{Course, at_start, ends, is_going, mode_of, task_of, told, with_change, with_next}
+use Rattle.cdb_show.specs.Runs.Incoming.{Incoming, from_inputs}
+use Rattle.cdb_show.specs.Runs.Inputs.{input_form}
+use Rattle.cdb_show.specs.Runs.Given.{Given, given_from}
+use Rattle.cdb_tool.specs.Runs.Made.{Made, base_fault, ended_by, made_from, made_of, unless_stopped}
 use Rattle.cdb_tool.specs.Runs.Make.{records_of}
 
 -- two options that differ in these names alone

@@ -8,8 +8,8 @@ use Rattle.cdb_form.specs.Format.Record.{KeyValue, IsRecord, record_size}
 use Rattle.cdb_form.specs.Format.File.{file_size}
 use Rattle.cdb_form.proofs.NativeTexts.TextLaws.{text_reads_back}
 use Rattle.cdb_form.proofs.Files.WalkLaws.{walk_of-file_bytes}
-use Rattle.cdb_tool.specs.Runs.Form.{dump_form}
-use Rattle.cdb_tool.specs.Runs.WalkText.{walk_text}
+use Rattle.cdb_show.specs.Runs.Form.{dump_form}
+use Rattle.cdb_show.specs.Runs.WalkText.{walk_text}
 use Rattle.cdb_command.specs.declared.style.Style.TheVariants.{Native}
 use Rattle.cdb_tool.specs.Laws.{Restores}
 

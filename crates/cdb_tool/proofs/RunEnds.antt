@@ -16,30 +16,26 @@ use Rattle.cdb_store.specs.declared.make_fault.MakeFault.{MakeFault}
 use Rattle.cdb_store.specs.declared.make_fault.MakeFault.TheVariants as make
 use Rattle.cdb_make.specs.declared.maker.Maker.{Maker}
 use Rattle.cdb_make.proofs.Callers.{holds_fits}
-use Rattle.cdb_tool.specs.Message.{TellsPart}
-use Rattle.cdb_tool.specs.Views.Fault.{make_fault}
-use Rattle.cdb_tool.specs.Runs.Flushed.{Flushed}
-use Rattle.cdb_tool.specs.Runs.Course.{Task, task_of, Incoming, from_inputs, course_of, Goes, EndsSo, StopsSo}
-use Rattle.cdb_tool.specs.Runs.Inputs.{InputForm, InputsLeft, OneInput, AreAllInputs, OneBegins, FirstBegins, bytes_of}
-use Rattle.cdb_tool.specs.Runs.Inputs as form
-use Rattle.cdb_tool.specs.Runs.Make.{InCourse, MakeStops, InputsFail, RunFails, MakeRuns, came, form_of, records_of, OfBase, HoldsBase, BaseStopped, HandsBack, IsBase, IsSomeBase, BaseFails, IsOfStore}
-use Rattle.cdb_tool.specs.declared.fault.Fault.{Fault}
-use Rattle.cdb_tool.specs.declared.fault.Fault.TheVariants.{Text, Make, Duplicate, Missing, Read, Walk, Output, Long, Open, Rename, NoMemory, Old, New, NoOldTables, NoNewTables}
+use Rattle.cdb_show.specs.Message.{TellsPart}
+use Rattle.cdb_show.specs.Views.Fault.{make_fault}
+use Rattle.cdb_show.specs.Runs.Flushed.{Flushed}
+use Rattle.cdb_tool.specs.Runs.Course.{Task, task_of, course_of, Goes, EndsSo, StopsSo}
+use Rattle.cdb_show.specs.Runs.Incoming.{Incoming, from_inputs}
+use Rattle.cdb_show.specs.Runs.Inputs.{InputForm, InputsLeft, OneInput, AreAllInputs, OneBegins, FirstBegins, bytes_of}
+use Rattle.cdb_show.specs.Runs.Inputs as form
+use Rattle.cdb_tool.specs.Runs.Make.{InCourse, MakeStops, InputsFail, RunFails, MakeRuns, form_of, records_of, OfBase, HoldsBase, BaseStopped, HandsBack, IsBase, IsSomeBase, BaseFails, IsOfStore}
+use Rattle.cdb_show.specs.Runs.Incoming.{came}
+use Rattle.cdb_show.specs.declared.fault.Fault.{Fault}
+use Rattle.cdb_show.specs.declared.fault.Fault.TheVariants.{Text, Make, Duplicate, Missing, Read, Walk, Output, Long, Open, Rename, NoMemory, Old, New, NoOldTables, NoNewTables}
 use Rattle.cdb_command.specs.declared.options.MakeOptions.{MakeOptions}
 use Rattle.cdb_tool.proofs.ToldLines.{part_kept, part_whole, tells_kept, tells_none}
-use Rattle.cdb_tool.proofs.WholeRuns.{not_ok}
-use Rattle.cdb_tool.proofs.InputRuns.{begins_none}
+use Rattle.cdb_show.proofs.Writers.{not_ok}
+use Rattle.cdb_show.proofs.NextInputs.{begins_none}
 use Rattle.cdb_form.proofs.Bytes.WritingLemmas.{appends_none}
 use Rattle.cdb_tool.proofs.Courses.{came_none, course_starts}
+use Rattle.cdb_show.proofs.NextInputs.{first_none}
 
 -- ---- no maker was made
-
-one_none : (st : InputForm) (g : ℕ) (each : List OneInput) (shared : Option (List ℕ)) → OneBegins st g [] each shared
-one_none st g [] shared = refl
-one_none st g (one ∷ each) shared = begins_none st g (bytes_of one shared)
-
-pub first_none : (st : InputForm) (g : ℕ) (inputs : InputsLeft) → FirstBegins st g [] inputs
-first_none st g inputs = one_none st g inputs.each inputs.shared
 
 -- nothing was read
 stops_none : (w g : ℕ) (t : Task) (inputs : InputsLeft) (start : Option (List ℕ)) (f : Fault) → StopsSo w t [] start start f → MakeStops w g t inputs start start f

@@ -10,8 +10,8 @@ use Rattle.cdb_form.proofs.Bytes.WritingLemmas.{appends_kept, appends_none, appe
 use Rattle.cdb_command.specs.declared.options.MakeOptions.{MakeOptions}
 use Rattle.cdb_make.specs.declared.answer.Put.{Put}
 use Rattle.cdb_tool.specs.Runs.Course.{meets_key, told}
-use Rattle.cdb_tool.specs.Message.{AreLines, TellsEach, TellsPart, Told, duplicate_line, duplicate_lines, plain_lines}
-use Rattle.cdb_tool.proofs.WholeRuns.{prefix_kept, whole_prefix}
+use Rattle.cdb_show.specs.Message.{AreLines, TellsEach, TellsPart, Told, duplicate_line, duplicate_lines, plain_lines}
+use Rattle.cdb_show.proofs.Writers.{prefix_kept, whole_prefix}
 
 -- the lines of some, and of some more
 lines_both : {Z : Type 0} (names : Option (Bor (List (String Z)))) (ds es : List Told) (text more : List ℕ) → AreLines names ds text → AreLines names es more → AreLines names (ds ++ es) (text ++ more)

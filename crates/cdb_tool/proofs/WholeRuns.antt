@@ -22,31 +22,15 @@ use Rattle.cdb_make.specs.declared.maker.Maker.{Maker}
 use Rattle.cdb_form.specs.declared.mode.Mode.TheVariants as mode
 use Rattle.cdb_store.specs.declared.make_fault.MakeFault.{MakeFault}
 use Rattle.cdb_store.specs.declared.make_fault.MakeFault.TheVariants as make
-use Rattle.cdb_tool.specs.Views.Fault as run
-use Rattle.cdb_tool.proofs.NativeInputs.{some_weaker, fault_of_text, fault_of_part, prefix_of}
-use Rattle.cdb_tool.specs.Runs.Flushed.{Flushed}
+use Rattle.cdb_show.specs.Views.Fault as run
+use Rattle.cdb_show.proofs.NativeInputs.{some_weaker, fault_of_text, fault_of_part, prefix_of}
+use Rattle.cdb_show.specs.Runs.Flushed.{Flushed}
 use Rattle.cdb_tool.specs.Runs.MakeBytes.{IsNewText, FailsText, FailsRead, PassesGreatest, TextNotRead, ReadsFitting, MakesFile, MakesBytes}
-use Rattle.cdb_tool.specs.declared.fault.Fault.{Fault}
-use Rattle.cdb_tool.specs.declared.fault.Fault.TheVariants.{Text, Make, Duplicate, Missing, Read, Walk, Output, Long, Open, Rename, NoMemory, Old, New, NoOldTables, NoNewTables}
+use Rattle.cdb_show.specs.declared.fault.Fault.{Fault}
+use Rattle.cdb_show.specs.declared.fault.Fault.TheVariants.{Text, Make, Duplicate, Missing, Read, Walk, Output, Long, Open, Rename, NoMemory, Old, New, NoOldTables, NoNewTables}
+use Rattle.cdb_show.proofs.Writers.{prefix_kept, whole_prefix, keeps_self, keeps_then, not_ok}
 
 -- ---- what a writer holds
-
-pub keeps_self : (o : Option (List ℕ)) → Keeps o o
-keeps_self None = tt
-keeps_self (Some xs) = refl
-
-pub keeps_then : (old mid new : Option (List ℕ)) → Keeps old mid → Keeps mid new → Keeps old new
-keeps_then None mid new a b = tt
-keeps_then (Some o) None new a b = absurd a
-keeps_then (Some o) (Some m) None a b = absurd b
-keeps_then (Some o) (Some m) (Some n) a b = b ∙ a
-
-pub prefix_kept : (old mid new : Option (List ℕ)) (bytes : List ℕ) → AppendsPrefix old mid bytes → Keeps mid new → AppendsPrefix old new bytes
-prefix_kept old mid new bytes a k = record { front = a.front; more = a.more; split = a.split; appended = appends_kept old mid new a.front a.appended k }
-
--- the whole is a prefix
-pub whole_prefix : (old new : Option (List ℕ)) (bytes : List ℕ) → Appends old new bytes → AppendsPrefix old new bytes
-whole_prefix old new bytes a = record { front = bytes; more = []; split = sym (append-nil bytes); appended = a }
 
 -- ---- the records of a text
 
@@ -204,10 +188,6 @@ makes_kept w g text rest old mid new (Err (New side)) m k = record { ok = tt; er
 makes_kept w g text rest old mid new (Err NoMemory) m k = record { ok = tt; err = (m.err.0, keeps_then old mid new m.err.1 k) }
 makes_kept w g text rest old mid new (Err Output) m k =
     record { ok = tt; err = record { records = m.err.records; read = m.err.read; appended = prefix_kept old mid new (file_bytes w m.err.records) m.err.appended k } }
-
--- a fault is no Ok
-pub not_ok : false ≡ true → ⊥
-not_ok e = cc
 
 -- the whole file was written, but it wasn't flushed
 flush_fails : (w g : ℕ) (text rest old mid new : Option (List ℕ)) (r : Result Unit Fault) → MakesBytes w g text rest old mid r → Keeps mid new → IsOk r → MakesBytes w g text rest old new (Err Output)

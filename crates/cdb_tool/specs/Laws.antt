@@ -7,9 +7,10 @@ use Rattle.cdb_form.specs.Format.Walk.{walk_of}
 use Rattle.cdb_form.specs.Text.Native.{text_of}
 use Rattle.cdb_read.specs.Difference.{difference}
 use Rattle.cdb_read.specs.Laws.{brought_up}
-use Rattle.cdb_tool.specs.Runs.Course.{course_of, from_inputs, task_of}
-use Rattle.cdb_tool.specs.Runs.Form.{dump_form}
-use Rattle.cdb_tool.specs.Runs.WalkText.{walk_text}
+use Rattle.cdb_tool.specs.Runs.Course.{course_of, task_of}
+use Rattle.cdb_show.specs.Runs.Incoming.{from_inputs}
+use Rattle.cdb_show.specs.Runs.Form.{dump_form}
+use Rattle.cdb_show.specs.Runs.WalkText.{walk_text}
 use Rattle.cdb_command.specs.declared.options.MakeOptions.{MakeOptions}
 use Rattle.cdb_command.specs.declared.style.Style.TheVariants.{Native}
 

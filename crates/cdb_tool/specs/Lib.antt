@@ -1,8 +1,3 @@
--- What the runs of the program are to do, and what clauses read of its types.
-pub mod Command
-pub mod Message
+-- What the runs that make a database are to do.
 pub mod Runs
-pub mod Views
 pub mod Laws
-pub mod Lines
-pub mod Status

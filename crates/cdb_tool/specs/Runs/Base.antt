@@ -11,8 +11,8 @@ use Rattle.cdb_store.specs.declared.make_fault.MakeFault.TheVariants.{TooBig, Wr
 use Rattle.cdb_make.specs.declared.maker.Maker.{Maker}
 use Rattle.cdb_read.specs.Views.ReadFault.{damage_fault}
 use Rattle.cdb_read.specs.declared.fault.ReadFault.TheVariants as read
-use Rattle.cdb_tool.specs.declared.fault.Fault.{Fault}
-use Rattle.cdb_tool.specs.declared.fault.Fault.TheVariants.{Make, Read, NoMemory}
+use Rattle.cdb_show.specs.declared.fault.Fault.{Fault}
+use Rattle.cdb_show.specs.declared.fault.Fault.TheVariants.{Make, Read, NoMemory}
 
 -- the first records of what a walk had left were added; or nothing was left
 pub record AddsNext {S L : Type 0} {s : Ghosts S} {l : Widths L} (w : ℕ) (images : List ℕ → Type 0)

@@ -11,10 +11,11 @@ use Rattle.cdb_form.specs.declared.mode.Mode.{Mode}
 use Rattle.cdb_form.specs.declared.mode.Mode.TheVariants.{Insert}
 use Rattle.cdb_make.specs.declared.answer.Put.{Put}
 use Rattle.cdb_make.specs.declared.answer.Put.TheVariants.{Added, AddedAgain, Present, Replaced}
-use Rattle.cdb_tool.specs.Message.{TellsEach, TellsPart, Told}
-use Rattle.cdb_tool.specs.declared.fault.Fault.{Fault}
-use Rattle.cdb_tool.specs.declared.fault.Fault.TheVariants.{Make, Duplicate, Output, NoMemory}
+use Rattle.cdb_show.specs.Message.{TellsEach, TellsPart, Told}
+use Rattle.cdb_show.specs.declared.fault.Fault.{Fault}
+use Rattle.cdb_show.specs.declared.fault.Fault.TheVariants.{Make, Duplicate, Output, NoMemory}
 use Rattle.cdb_command.specs.declared.options.MakeOptions.{MakeOptions}
+use Rattle.cdb_show.specs.Runs.Incoming.{Incoming}
 
 -- what a run is to do: its options, and the records of its base, if it has one
 pub record Task : Type 0 where
@@ -23,23 +24,6 @@ pub record Task : Type 0 where
 
 abbrev pub task_of : MakeOptions → Option (List KeyValue) → Task
 task_of options base = record { options = options; base = base }
-
--- an item that comes, the number of its input, and its own there, each from 1 on
-pub record Incoming : Type 0 where
-  pub input : ℕ
-  pub number : ℕ
-  pub it : Change
-
--- the items of an input from a number on
-abbrev pub from_input : ℕ → ℕ → List Change → List Incoming
-from_input input number [] = []
-from_input input number (c ∷ cs) =
-    record { input = input; number = number; it = c } ∷ from_input input (number + 1) cs
-
--- the items of all inputs from one on
-abbrev pub from_inputs : ℕ → List (List Change) → List Incoming
-from_inputs input [] = []
-from_inputs input (cs ∷ inputs) = from_input input 1 cs ++ from_inputs (input + 1) inputs
 
 -- how each record is put
 abbrev pub mode_of : MakeOptions → Mode

@@ -18,15 +18,17 @@ use Rattle.cdb_store.specs.declared.make_fault.MakeFault.TheVariants.{Lookup, Wr
 use Rattle.cdb_make.specs.declared.maker.Maker.{Maker}
 use Rattle.cdb_read.specs.declared.fault.ReadFault.TheVariants as read
 use Rattle.cdb_tool.specs.Runs.Base.{NotAdded}
-use Rattle.cdb_tool.specs.Runs.Course.{Task, task_of, Incoming, from_inputs, course_of, Goes}
+use Rattle.cdb_tool.specs.Runs.Course.{Task, task_of, course_of, Goes}
+use Rattle.cdb_show.specs.Runs.Incoming.{Incoming, from_inputs}
 use Rattle.cdb_tool.specs.Runs.Course.{StopsSo}
-use Rattle.cdb_tool.specs.Runs.Inputs.{InputForm, input_form, HasItemFault, BeginsWithItems}
-use Rattle.cdb_tool.specs.Runs.Inputs.{InputsLeft, AreInputs, AreAllInputs, FirstBegins, FirstHas}
-use Rattle.cdb_tool.specs.Views.Output.{OutputSays}
-use Rattle.cdb_tool.specs.declared.fault.Fault.{Fault}
-use Rattle.cdb_tool.specs.declared.fault.Fault.TheVariants.{Text, Make, Read, NoMemory}
+use Rattle.cdb_show.specs.Runs.Inputs.{InputForm, input_form, HasItemFault, BeginsWithItems}
+use Rattle.cdb_show.specs.Runs.Inputs.{InputsLeft, AreInputs, AreAllInputs, FirstBegins, FirstHas}
+use Rattle.cdb_show.specs.Views.Output.{OutputSays}
+use Rattle.cdb_show.specs.declared.fault.Fault.{Fault}
+use Rattle.cdb_show.specs.declared.fault.Fault.TheVariants.{Text, Make, Read, NoMemory}
 use Rattle.cdb_command.specs.declared.options.MakeOptions.{MakeOptions}
 use Rattle.cdb_command.specs.declared.style.Style.TheVariants.{Native}
+use Rattle.cdb_show.specs.Runs.Incoming.{came}
 
 -- ---- the base
 
@@ -74,10 +76,6 @@ BaseHasFailed s old new = ⊥
 -- the form of the inputs of a run
 abbrev pub form_of : Task → InputForm
 form_of t = input_form t.options.style (is_some t.base)
-
--- the items of some inputs, and then of one more, as they come
-abbrev pub came : List (List Change) → List Change → List Incoming
-came read last = from_inputs 1 (read ++ last ∷ [])
 
 -- all inputs were read, and each image is the file of the records that the run came to
 pub record MakesDatabase (w greatest : ℕ) (t : Task) (inputs : InputsLeft)

@@ -14,9 +14,9 @@ use Rattle.cdb_form.specs.declared.text.fault.TextFault.{TextFault}
 use Rattle.cdb_form.specs.declared.text.fault.TextFault.TheVariants as text_fault
 use Rattle.cdb_form.specs.declared.text.fault.TextFault.TheVariants.{Ended, Endless}
 use Rattle.cdb_store.specs.declared.make_fault.MakeFault.TheVariants.{TooBig}
-use Rattle.cdb_tool.specs.Runs.Inputs.{HasFaultBehind}
-use Rattle.cdb_tool.specs.declared.fault.Fault.{Fault}
-use Rattle.cdb_tool.specs.declared.fault.Fault.TheVariants.{Text, Make, Output, NoMemory}
+use Rattle.cdb_show.specs.Runs.Inputs.{HasFaultBehind}
+use Rattle.cdb_show.specs.declared.fault.Fault.{Fault}
+use Rattle.cdb_show.specs.declared.fault.Fault.TheVariants.{Text, Make, Output, NoMemory}
 
 -- nothing was read of it, and its reader may be asked 2^48 times
 pub record IsNewText {R L : Type 0} (text : TextReader R L) : Type 0 where

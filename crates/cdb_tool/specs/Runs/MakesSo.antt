@@ -7,36 +7,14 @@ use Rattle.cdb_form.specs.declared.text.fault.TextFault.TheVariants as text
 use Rattle.cdb_make.specs.Views.Maker.{IsFile}
 use Rattle.cdb_store.specs.declared.make_fault.MakeFault.TheVariants as make
 use Rattle.cdb_read.specs.declared.fault.ReadFault.TheVariants as read
-use Rattle.cdb_tool.specs.Message.{TellsEach, TellsPart}
-use Rattle.cdb_tool.specs.Runs.Inputs.{OneInput, InputsLeft}
-use Rattle.cdb_tool.specs.Runs.Inputs as form
+use Rattle.cdb_show.specs.Message.{TellsEach, TellsPart}
+use Rattle.cdb_show.specs.Runs.Inputs.{OneInput, InputsLeft}
+use Rattle.cdb_show.specs.Runs.Inputs as form
 use Rattle.cdb_tool.specs.Runs.Made.{Made, made_of}
 use Rattle.cdb_tool.specs.Runs.Make.{MakeRuns}
-use Rattle.cdb_tool.specs.declared.fault.Fault.{Fault}
-use Rattle.cdb_tool.specs.declared.fault.Fault.TheVariants.{Text, Make, Read, Output, NoMemory}
-
--- an input, by its bytes
-abbrev pub one_input : Option (List ℕ) → OneInput
-one_input None = form.Shared
-one_input (Some input) = form.Own (Some input)
-
--- the shared bytes are known, if an input begins with them
-abbrev pub KnownFor : List (Option (List ℕ)) → Option (List ℕ) → List ℕ → Type 0
-KnownFor [] given shared = ⊤
-KnownFor (None ∷ inputs) given shared = given ≡ Some shared
-KnownFor (Some input ∷ inputs) given shared = KnownFor inputs given shared
-
-abbrev pub EachOfBytes : List (Option (List ℕ)) → Type 0
-EachOfBytes [] = ⊤
-EachOfBytes (None ∷ inputs) = EachOfBytes inputs
-EachOfBytes (Some input ∷ inputs) = AreBytes input × EachOfBytes inputs
-
--- the inputs that are left have these bytes
-pub record Known (inputs : List (Option (List ℕ))) (shared : List ℕ) (left : InputsLeft) : Type 0 where
-  pub each : left.each ≡ map one_input inputs
-  pub known : KnownFor inputs left.shared shared
-  pub own : EachOfBytes inputs
-  pub bytes : AreBytes shared
+use Rattle.cdb_show.specs.declared.fault.Fault.{Fault}
+use Rattle.cdb_show.specs.declared.fault.Fault.TheVariants.{Text, Make, Read, Output, NoMemory}
+use Rattle.cdb_show.specs.Runs.Incoming.{Known}
 
 -- it came to what was said, and its duplicates were told
 pub record MakesSo (w : ℕ) (o : MakeOptions) (m : Made) (images : List ℕ → Type 0) (old new : Option (List ℕ)) (result : Result Unit Fault) : Type 0 where

@@ -1,32 +1,31 @@
 // A database made of the records of a base, if there is one, and of what some inputs say.
 ghost use Rattle.std.specs.Prelude.{◌≡◌, ◌+◌, ◌<◌, ◌≤◌, ℕ, List, [], ◌∷◌, ◌++◌, map, Option, is_some};
 ghost use Rattle.std.specs.Prelude.{length, IfOk, IfErr, OnOk};
-ghost use Rattle.cdb_tool.specs.Views.Output.{OutputSays};
+ghost use Rattle.cdb_show.specs.Views.Output.{OutputSays};
 ghost use Rattle.cdb_form.specs.Format.Pair.{head_size};
 ghost use Rattle.cdb_form.specs.Text.Amending.{Change};
 ghost use Rattle.cdb_form.specs.Views.KnownBytes.{FromTo};
 ghost use Rattle.cdb_make.specs.Views.Maker.{Follows, WhereHonest, store_of};
-ghost use Rattle.cdb_tool.specs.Runs.Course.{Task, from_inputs};
-ghost use Rattle.cdb_tool.specs.Runs.Inputs.{AreAllInputs, IsInputOf, ReadsOne, bytes_of, input_form};
-ghost use Rattle.cdb_tool.specs.Runs.Inputs.{own_inputs};
+ghost use Rattle.cdb_tool.specs.Runs.Course.{Task};
+ghost use Rattle.cdb_show.specs.Runs.Incoming.{from_inputs};
+ghost use Rattle.cdb_show.specs.Runs.Inputs.{AreAllInputs, IsInputOf, ReadsOne, bytes_of, input_form};
+ghost use Rattle.cdb_show.specs.Runs.Inputs.{own_inputs};
 ghost use Rattle.cdb_tool.specs.Runs.Make.{InCourse, StepsOn, MakeRuns, InputFails, InputsFail, IsOfStore, IsOfBase};
 ghost use Rattle.cdb_tool.specs.Runs.Make.{OfBase, HandsBack, BaseHasFailed, Stands, StandsIn, IsHalt};
 ghost use Rattle.cdb_tool.specs.Runs.Make.{PutsItems};
-ghost use Rattle.cdb_tool.specs.Views.Input.{input_bytes};
-ghost use Rattle.cdb_tool.specs.Views.Inputs.{inputs_left, one_of, shared_bytes};
-ghost use Rattle.cdb_tool.specs.declared.fault.Fault.TheVariants.{NoMemory};
+ghost use Rattle.cdb_show.specs.Views.Input.{input_bytes};
+ghost use Rattle.cdb_show.specs.Views.Inputs.{inputs_left, one_of, shared_bytes};
+ghost use Rattle.cdb_show.specs.declared.fault.Fault.TheVariants.{NoMemory};
 
-use crate::fault::Fault;
-use crate::input::{InWindow, Input};
-use crate::inputs::{Inputs, SharedInput, Turn};
-use crate::lines::{InLined, LinedInput, Lines};
-use crate::runs::flushed::flushed;
-use crate::runs::item_reader::ItemReader;
 use crate::runs::make_base::add_base;
 use crate::runs::make_input::put_input;
 use cdb_command::MakeOptions;
 use cdb_form::{Sink, Width};
 use cdb_make::Maker;
+use cdb_show::{
+    Fault, InLined, InWindow, Input, Inputs, ItemReader, LinedInput, Lines, SharedInput, Turn,
+    flushed,
+};
 use cdb_store::Store;
 use std::alloc::Global;
 use std::io::Read;

@@ -5,16 +5,16 @@ ghost use Rattle.cdb_form.specs.Format.Record.{KeyValue};
 ghost use Rattle.cdb_form.specs.Format.Walk.{with_records};
 ghost use Rattle.cdb_make.specs.Views.Maker.{Follows, Holds, WhereHonest, limit_of, store_of};
 ghost use Rattle.cdb_read.specs.Views.Walk.{left_of, bytes_left};
-ghost use Rattle.cdb_tool.specs.Views.Output.{OutputSays};
+ghost use Rattle.cdb_show.specs.Views.Output.{OutputSays};
 ghost use Rattle.cdb_tool.specs.Runs.Base.{AddsNext, NotAdded};
 ghost use Rattle.cdb_tool.specs.Runs.Make.{BaseFails, HandsBack, BaseHasFailed, StepsOn};
 ghost use Rattle.cdb_tool.specs.Runs.Make.{AddsBase, HoldsBase, BaseStopped};
-ghost use Rattle.cdb_tool.specs.declared.fault.Fault.TheVariants.{NoMemory};
+ghost use Rattle.cdb_show.specs.declared.fault.Fault.TheVariants.{NoMemory};
 
-use crate::fault::Fault;
 use cdb_form::Width;
 use cdb_make::{Maker, Mode};
 use cdb_read::{Reader, Walk, walk};
+use cdb_show::Fault;
 use cdb_store::Store;
 use std::alloc::{AllocError, Global};
 

@@ -1,17 +1,16 @@
 // A text made a file.
 ghost use Rattle.std.specs.Prelude.{◌≡◌, ℕ, [], List, Option, IfOk, IfErr};
-ghost use Rattle.cdb_tool.specs.Views.Output.{OutputSays};
+ghost use Rattle.cdb_show.specs.Views.Output.{OutputSays};
 ghost use Rattle.cdb_form.specs.Format.File.{file_bytes};
 ghost use Rattle.cdb_form.specs.Format.Record.{KeyValue};
 ghost use Rattle.cdb_form.specs.Views.TextReader.{unread};
 ghost use Rattle.cdb_make.specs.Views.Maker.{Holds, limit_of};
-ghost use Rattle.cdb_tool.specs.declared.fault.Fault.TheVariants.{NoMemory};
+ghost use Rattle.cdb_show.specs.declared.fault.Fault.TheVariants.{NoMemory};
 ghost use Rattle.cdb_tool.specs.Runs.MakeBytes.{IsNewText, ReadsFitting, TextNotRead, MakesBytes};
 
-use crate::fault::Fault;
-use crate::runs::flushed::flushed;
 use cdb_form::{Record, Sink, TextReader, Width, write_whole};
 use cdb_make::{Maker, Mode};
+use cdb_show::{Fault, flushed};
 use cdb_store::MemStore;
 use std::alloc::Global;
 use std::io::Read;

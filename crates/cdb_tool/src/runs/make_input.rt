@@ -1,30 +1,28 @@
 // The items of an input, one after the other: records are put, and keys removed.
 ghost use Rattle.std.specs.Prelude.{◌≡◌, ◌+◌, ◌<◌, ◌≤◌, ℕ, List, [], ◌∷◌, ◌++◌, length, Option};
 ghost use Rattle.std.specs.Prelude.{◌||◌, None, OnOk, OnErr, IfOk, IfErr};
-ghost use Rattle.cdb_tool.specs.Views.Output.{OutputSays};
+ghost use Rattle.cdb_show.specs.Views.Output.{OutputSays};
 ghost use Rattle.cdb_form.specs.Format.Record.{KeyValue};
 ghost use Rattle.cdb_form.specs.Text.Amending.{Change, Putting, Removing};
 ghost use Rattle.cdb_form.specs.Views.KnownBytes.{FromTo};
 ghost use Rattle.cdb_form.specs.Views.Pairs.{change_in};
 ghost use Rattle.cdb_make.specs.Views.Maker.{Follows, WhereHonest, store_of};
-ghost use Rattle.cdb_tool.specs.Views.ItemReader.{form_of, unread, IsNew};
-ghost use Rattle.cdb_tool.specs.Message.{TellsEach, TellsPart};
-ghost use Rattle.cdb_tool.specs.Runs.Course.{Incoming, from_inputs, mode_of, meets_key, told};
+ghost use Rattle.cdb_show.specs.Views.ItemReader.{form_of, unread, IsNew};
+ghost use Rattle.cdb_show.specs.Message.{TellsEach, TellsPart};
+ghost use Rattle.cdb_show.specs.Runs.Incoming.{Incoming, from_inputs};
+ghost use Rattle.cdb_tool.specs.Runs.Course.{mode_of, meets_key, told};
 ghost use Rattle.cdb_tool.specs.Runs.Course.{Task, ends, TellFails};
-ghost use Rattle.cdb_tool.specs.Runs.Inputs.{IsInputOf};
+ghost use Rattle.cdb_show.specs.Runs.Inputs.{IsInputOf};
 ghost use Rattle.cdb_tool.specs.Runs.Make.{InCourse, StepsOn, PutStops, InputFails, IsOfStore, IsOfBase};
 ghost use Rattle.cdb_tool.specs.Runs.Make.{MakeStandsAt, StandsIn, IsHalt, TakesNext, PutsItems};
 ghost use Rattle.cdb_tool.specs.Runs.Course.{StopsSo};
-ghost use Rattle.cdb_tool.specs.declared.fault.Fault.TheVariants.{NoMemory};
+ghost use Rattle.cdb_show.specs.declared.fault.Fault.TheVariants.{NoMemory};
 ghost use Rattle.cdb_tool.specs.Runs.Make.{form_of as task_form};
 
-use crate::fault::Fault;
-use crate::key_line::write_duplicates;
-use crate::lines::Lines;
-use crate::runs::item_reader::ItemReader;
 use cdb_command::{MakeOptions, Style};
 use cdb_form::{AtHand, ChangeKind, OutFault, Record, Sink, Width};
 use cdb_make::{Maker, Mode, Put};
+use cdb_show::{Fault, ItemReader, Lines, write_duplicates};
 use cdb_store::Store;
 use std::alloc::Global;
 use std::io::Read;

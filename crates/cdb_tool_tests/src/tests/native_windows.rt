@@ -79,7 +79,7 @@ impl Read for Lent<'_, '_> {
 pub(super) struct InLent;
 
 impl AtHand<Lent<'_, '_>> for InLent {
-    ghost use Rattle.cdb_tool.specs.Views.Input.{window_of};
+    ghost use Rattle.cdb_show.specs.Views.Input.{window_of};
 
     ghost held = { λ lent. window_of lent.input.now };
 

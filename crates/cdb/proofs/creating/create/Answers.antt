@@ -1,6 +1,6 @@
 use Rattle.std.proofs.Common.{inl, inr, refl, rules}
 use Rattle.std.proofs.KnownBytes.{Keeps-refl}
-use Rattle.cdb_tool.specs.Views.Inputs.{inputs_left}
+use Rattle.cdb_show.specs.Views.Inputs.{inputs_left}
 use Rattle.cdb.proofs.creating.create.Goals as goal
 
 pub returns-then-is_standard-clause-creates : goal.returns-then-is_standard-clause-creates

@@ -1,5 +1,5 @@
 use Rattle.std.proofs.Common.{rules, inr}
-use Rattle.cdb_tool.specs.Views.Output.{held_by}
+use Rattle.cdb_show.specs.Views.Output.{held_by}
 use Rattle.cdb.proofs.steps.handed_on.Goals as goal
 
 pub returns-in-Ok-Err-clause-hands : goal.returns-in-Ok-Err-clause-hands

@@ -1,6 +1,6 @@
 use Rattle.std.proofs.Common.{◌≡◌, ◌∙◌, true, false, subst, sym}
-use Rattle.cdb_tool.specs.Command.{asked_in, has_wide_words}
-use Rattle.cdb_tool.specs.Views.Output.{output_bytes}
+use Rattle.cdb_show.specs.Command.{asked_in, has_wide_words}
+use Rattle.cdb_show.specs.Views.Output.{output_bytes}
 use Rattle.cdb.specs.Performs.{PerformsIn}
 use Rattle.cdb.proofs.steps.perform.Goals.{then-is_wide, else-is_wide}
 use Rattle.cdb.proofs.steps.perform.Goals as goal

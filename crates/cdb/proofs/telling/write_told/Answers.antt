@@ -1,7 +1,7 @@
 use Rattle.std.proofs.Common.{refl}
 use Rattle.std.proofs.lemmas.Result.{err_from_is_err_and}
 use Rattle.cdb_form.proofs.Bytes.WritingLemmas.{prefix_in, writes_last, writes_prefix}
-use Rattle.cdb_tool.specs.Message.{fault_line}
+use Rattle.cdb_show.specs.Message.{fault_line}
 use Rattle.cdb.proofs.telling.write_told.Goals as goal
 
 pub returns-in_err-write_fault-clause-writes : goal.returns-in_err-write_fault-clause-writes

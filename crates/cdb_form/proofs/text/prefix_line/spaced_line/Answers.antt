@@ -31,6 +31,3 @@ returns c =
 
 pub overflow_add-result-3 : goal.overflow_add-result-3
 overflow_add-result-3 c = grind (arith, common_steps)
-
-pub overflow_add-result-2 : goal.overflow_add-result-2
-overflow_add-result-2 c = omega arith

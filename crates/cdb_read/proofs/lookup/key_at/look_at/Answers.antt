@@ -40,9 +40,6 @@ returns-clause-looks g c =
     subst (λ t. TellsSame t c.in-Some.record.key.place c.args.key.now (g.S.Store.image c.bytes_are_at.new.store)) agree c.in_ok-bytes_are_at.ensures.same in
     same_key c.args.key.now (fewer_lengths c.bytes_are_at.ensures.reads.images h) low c.in-Some.ensures c.if-record-key.false tells
 
-pub cover-requires-clause-inside : goal.cover-requires-clause-inside
-cover-requires-clause-inside g c = search rules
-
 pub returns-then-record-key-clause-reads : goal.returns-then-record-key-clause-reads
 returns-then-record-key-clause-reads g c = grind (arith, common_steps)
 

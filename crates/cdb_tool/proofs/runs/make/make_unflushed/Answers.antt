@@ -2,8 +2,8 @@ use Rattle.std.proofs.lemmas.Grind.{common_steps}
 use Rattle.cdb_tool.proofs.RunEnds.{runs_not, runs_unbased, runs_stopped, runs_whole, runs_unfinished, hands_same, hands_some, unmade_memory, unfinished_store, unfinished_memory}
 use Rattle.std.proofs.Common.{sym, subst, ◌∙◌, Bool, arith}
 use Rattle.cdb_tool.proofs.BaseRecords.{make_no_base}
-use Rattle.cdb_tool.specs.Runs.Inputs.{input_form, AreAllInputs}
-use Rattle.cdb_tool.specs.Views.Inputs.{inputs_left}
+use Rattle.cdb_show.specs.Runs.Inputs.{input_form, AreAllInputs}
+use Rattle.cdb_show.specs.Views.Inputs.{inputs_left}
 use Rattle.cdb_tool.proofs.runs.make.make_unflushed.Goals as goal
 
 pub returns-in-Err-clause-runs : goal.returns-in-Err-clause-runs

@@ -1,6 +1,7 @@
 use Rattle.std.proofs.Common.{refl, ap, ◌∙◌, ◌+◌, ℕ}
 use Rattle.std.proofs.lemmas.Result.{err_from_is_err_and}
-use Rattle.cdb_tool.proofs.InputRuns.{put_none, put_next, inputs_fail, next_has, halted}
+use Rattle.cdb_tool.proofs.InputRuns.{put_none, put_next, inputs_fail, halted}
+use Rattle.cdb_show.proofs.NextInputs.{next_has}
 use Rattle.cdb_tool.proofs.MakerSteps.{step_failed}
 use Rattle.cdb_tool.proofs.runs.make.put_inputs.Goals as goal
 

@@ -1,5 +1,5 @@
 use Rattle.std.proofs.Common.{◌≡◌}
-use Rattle.cdb_tool.specs.Runs.Inputs.{input_form}
+use Rattle.cdb_show.specs.Runs.Inputs.{input_form}
 use Rattle.cdb_tool.proofs.InputRuns.{PutSoFar}
 use Rattle.cdb_tool.proofs.runs.make.put_inputs.Given as goal
 

@@ -7,9 +7,9 @@ use Rattle.cdb_form.specs.Views.KnownBytes.{FromTo}
 use Rattle.cdb_form.specs.Views.Pairs.{change_in}
 use Rattle.cdb_make.proofs.Callers.{follows_same}
 use Rattle.cdb_make.proofs.Rolls.{follows_then}
-use Rattle.cdb_tool.specs.Runs.Inputs.{IsInputOf}
+use Rattle.cdb_show.specs.Runs.Inputs.{IsInputOf}
 use Rattle.cdb_tool.specs.Runs.Make.{InCourse, form_of as task_form}
-use Rattle.cdb_tool.specs.Views.ItemReader.{form_of, unread}
+use Rattle.cdb_show.specs.Views.ItemReader.{form_of, unread}
 use Rattle.cdb_tool.proofs.Courses.{came_more, course_stands}
 use Rattle.cdb_tool.proofs.ItemTexts.{items_none, items_more, items_all, items_first, items_begin, items_behind, items_fewer, same_form}
 use Rattle.cdb_tool.proofs.InputRuns.{none_put, put_stops, input_fails, halted_here}

@@ -1,9 +1,11 @@
 use Rattle.std.proofs.Common.{◌≡◌, ◌+◌, ◌^◌, ◌≤◌, ℕ, List, length, Option}
 use Rattle.cdb_form.specs.Text.Amending.{Change}
 use Rattle.cdb_make.specs.Views.Maker.{Follows}
-use Rattle.cdb_tool.specs.Runs.Course.{Task, from_inputs}
-use Rattle.cdb_tool.specs.Runs.Make.{InCourse, came}
-use Rattle.cdb_tool.specs.Views.ItemReader.{form_of, unread, asks_left}
+use Rattle.cdb_tool.specs.Runs.Course.{Task}
+use Rattle.cdb_show.specs.Runs.Incoming.{from_inputs}
+use Rattle.cdb_tool.specs.Runs.Make.{InCourse}
+use Rattle.cdb_show.specs.Runs.Incoming.{came}
+use Rattle.cdb_show.specs.Views.ItemReader.{form_of, unread, asks_left}
 use Rattle.cdb_tool.proofs.ItemTexts.{GaveItems}
 use Rattle.cdb_tool.proofs.runs.make_input.put_input.Given as goal
 

@@ -1,9 +1,6 @@
-use Rattle.std.proofs.Common.{ℕ, subst, sym, rules}
+use Rattle.std.proofs.Common.{ℕ, subst, sym}
 use Rattle.cdb_read.specs.Views.Probing.{IsSearchInside}
 use Rattle.cdb_read.proofs.lookup.finder.Finder.copy.Goals as goal
 
 pub invariant_of-self : goal.invariant_of-self
 invariant_of-self g c = record { inside = subst (λ (n : ℕ). IsSearchInside g.L.Width.WORD n c.args.self.now.searching) (sym c.copy.ensures.reads.size) c.args.self.now.inside; hashed = c.args.self.now.hashed }
-
-pub returns-clause-copies : goal.returns-clause-copies
-returns-clause-copies g c = search rules

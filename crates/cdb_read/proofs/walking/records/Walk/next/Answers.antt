@@ -1,4 +1,4 @@
-use Rattle.std.proofs.Common.{drop, refl, ap, ◌∙◌, rules, arith}
+use Rattle.std.proofs.Common.{drop, refl, ap, ◌∙◌, arith}
 use Rattle.cdb_form.proofs.Files.WalkSteps.{walk_from-end}
 use Rattle.cdb_read.specs.Views.Walking.{walk_ahead}
 use Rattle.std.proofs.lemmas.Grind.{common_steps}
@@ -11,9 +11,6 @@ returns-then-rest-clause-gives g c =
       none = λ b image. ap (walk_ahead w b) c.in-At.is ∙ walk_from-end w c.in-At.rest.place c.in-At.rest.end (drop c.in-At.rest.place b) c.if-rest.true;
       ended = refl;
     }
-
-pub returns-in-None-clause-fails : goal.returns-in-None-clause-fails
-returns-in-None-clause-fails g c = search rules
 
 pub returns-in-None-clause-no_record : goal.returns-in-None-clause-no_record
 returns-in-None-clause-no_record g c = grind (arith, common_steps)

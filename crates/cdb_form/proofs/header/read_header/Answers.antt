@@ -1,5 +1,0 @@
-use Rattle.std.proofs.Common.{rules}
-use Rattle.cdb_form.proofs.header.read_header.Goals as goal
-
-pub returns-clause-read : goal.returns-clause-read
-returns-clause-read g c = search rules

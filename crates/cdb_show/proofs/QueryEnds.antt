@@ -1,0 +1,83 @@
+-- How a query ends: with a store that was not opened, or with the flush.
+use Rattle.std.proofs.Common.{ℕ, inl, inr, List, sym, subst, Option, Result, Ok, Err}
+use Rattle.std.specs.Prelude.{IsOk}
+use Rattle.std.specs.Io.KnownBytes.{Keeps}
+use Rattle.cdb_store.specs.declared.store.Store.{Ghosts}
+use Rattle.cdb_form.proofs.Bytes.WritingLemmas.{appends_kept}
+use Rattle.cdb_store.specs.Reads.{OnlyReads}
+use Rattle.cdb_read.specs.Views.Reads.{OpeningFails}
+use Rattle.cdb_read.specs.declared.fault.ReadFault.{ReadFault}
+use Rattle.cdb_read.specs.declared.fault.ReadFault.TheVariants as read
+use Rattle.cdb_show.specs.Views.Fault.{read_fault}
+use Rattle.cdb_show.specs.Runs.Flushed.{Flushed}
+use Rattle.cdb_show.specs.Runs.Query.{Query, query_text, QueryAnswers, WritesQueryPrefix, QueryFails, Queries}
+use Rattle.cdb_show.specs.declared.fault.Fault.{Fault}
+use Rattle.cdb_show.specs.declared.fault.Fault.TheVariants.{Text, Make, Duplicate, Missing, Read, Walk, Output, Long, Open, Rename, NoMemory, Old, New, NoOldTables, NoNewTables}
+use Rattle.cdb_form.proofs.Bytes.WritingLemmas.{appends_none}
+use Rattle.cdb_read.proofs.FoundSoFar.{reads_none}
+use Rattle.cdb_show.proofs.Queries.{none_prefix}
+use Rattle.cdb_show.proofs.Writers.{keeps_self, keeps_then, prefix_kept, whole_prefix, not_ok}
+
+-- ---- the store was not opened
+
+pub opening_fails : {S : Type 0} (w : ℕ) (s : Ghosts S) (q : Query) (old new : S) (start : Option (List ℕ)) (f : ReadFault) → OpeningFails w s old new f → Queries w s q old new start start (Err (read_fault f))
+opening_fails w s q old new start read.Short h =
+    record { reads = subst (OnlyReads s old) (sym h.1) (reads_none s old); ok = tt; err = record { short = h.0; unread = h.1; kept = keeps_self start } }
+opening_fails w s q old new start read.Device h = record { reads = h.0; ok = tt; err = (h.1, record { written = λ b is. none_prefix start start _ (appends_none start) }) }
+opening_fails w s q old new start (read.Table n) h = absurd h
+opening_fails w s q old new start (read.Record place) h = absurd h
+opening_fails w s q old new start (read.Slot n i) h = absurd h
+opening_fails w s q old new start (read.Twice place) h = absurd h
+opening_fails w s q old new start (read.Unindexed place) h = absurd h
+opening_fails w s q old new start read.NoMemory h = absurd h
+opening_fails w s q old new start read.Output h = absurd h
+
+-- ---- the flush
+
+answers_kept : {S : Type 0} (w : ℕ) (s : Ghosts S) (q : Query) (store : S) (start mid now : Option (List ℕ)) (r : Result Unit Fault) → QueryAnswers w s q store start mid r → Keeps mid now → QueryAnswers w s q store start now r
+answers_kept w s q store start mid now r h k = record { long = h.long; answered = h.answered; written = λ b is. appends_kept start mid now (query_text w b q) (h.written b is) k }
+
+fronts_kept : {S : Type 0} (w : ℕ) (s : Ghosts S) (q : Query) (store : S) (start mid now : Option (List ℕ)) → WritesQueryPrefix w s q store start mid → Keeps mid now → WritesQueryPrefix w s q store start now
+fronts_kept w s q store start mid now h k = record { written = λ b is. prefix_kept start mid now (query_text w b q) (h.written b is) k }
+
+fault_kept : {S : Type 0} (w : ℕ) (s : Ghosts S) (q : Query) (old new : S) (start mid now : Option (List ℕ)) (f : Fault) → QueryFails w s q old new start mid f → Keeps mid now → QueryFails w s q old new start now f
+fault_kept w s q old new start mid now Missing h k = answers_kept w s q new start mid now _ h k
+fault_kept w s q old new start mid now (Read read.Short) h k = record { short = h.short; unread = h.unread; kept = keeps_then start mid now h.kept k }
+fault_kept w s q old new start mid now (Read (read.Table n)) h k = answers_kept w s q new start mid now _ h k
+fault_kept w s q old new start mid now (Read (read.Record place)) h k = answers_kept w s q new start mid now _ h k
+fault_kept w s q old new start mid now (Read read.Device) h k = (h.0, fronts_kept w s q new start mid now h.1 k)
+fault_kept w s q old new start mid now (Read (read.Slot n i)) h k = absurd h
+fault_kept w s q old new start mid now (Read (read.Twice place)) h k = absurd h
+fault_kept w s q old new start mid now (Read (read.Unindexed place)) h k = absurd h
+fault_kept w s q old new start mid now (Read read.NoMemory) h k = absurd h
+fault_kept w s q old new start mid now (Read read.Output) h k = absurd h
+fault_kept w s q old new start mid now Output h k = (h.0, fronts_kept w s q new start mid now h.1 k)
+fault_kept w s q old new start mid now (Text n f) h k = absurd h
+fault_kept w s q old new start mid now (Make f) h k = absurd h
+fault_kept w s q old new start mid now Duplicate h k = absurd h
+fault_kept w s q old new start mid now (Walk f) h k = absurd h
+fault_kept w s q old new start mid now Long h k = absurd h
+fault_kept w s q old new start mid now Open h k = absurd h
+fault_kept w s q old new start mid now Rename h k = absurd h
+fault_kept w s q old new start mid now NoOldTables h k = absurd h
+fault_kept w s q old new start mid now NoNewTables h k = absurd h
+fault_kept w s q old new start mid now (Old side) h k = absurd h
+fault_kept w s q old new start mid now (New side) h k = absurd h
+fault_kept w s q old new start mid now NoMemory h k = absurd h
+
+query_kept : {S : Type 0} (w : ℕ) (s : Ghosts S) (q : Query) (old new : S) (start mid now : Option (List ℕ)) (r : Result Unit Fault) → Queries w s q old new start mid r → Keeps mid now → Queries w s q old new start now r
+query_kept w s q old new start mid now (Ok u) h k = record { reads = h.reads; ok = answers_kept w s q new start mid now _ h.ok k; err = tt }
+query_kept w s q old new start mid now (Err f) h k = record { reads = h.reads; ok = tt; err = fault_kept w s q old new start mid now f h.err k }
+
+-- all was written, but not flushed
+flush_fails : {S : Type 0} (w : ℕ) (s : Ghosts S) (q : Query) (old new : S) (start mid now : Option (List ℕ)) (r : Result Unit Fault) → Queries w s q old new start mid r → Keeps mid now → IsOk r → Queries w s q old new start now (Err Output)
+flush_fails w s q old new start mid now (Ok u) h k is =
+    let all = answers_kept w s q new start mid now _ h.ok k in
+    record { reads = h.reads; ok = tt; err = (all.long, record { written = λ b is. whole_prefix start now (query_text w b q) (all.written b is) }) }
+flush_fails w s q old new start mid now (Err f) h k is = absurd (not_ok is)
+
+pub query_flushed : {S : Type 0} (w : ℕ) (s : Ghosts S) (q : Query) (old new : S) (start mid now : Option (List ℕ)) (answer result : Result Unit Fault) → Queries w s q old new start mid answer → Flushed mid now answer result → Queries w s q old new start now result
+query_flushed w s q old new start mid now answer result h f = elim f.answered as (λ _. Queries w s q old new start now result) [
+  | inl e ↦ subst (Queries w s q old new start now) (sym e) (query_kept w s q old new start mid now answer h f.kept)
+  | inr e ↦ subst (Queries w s q old new start now) (sym e.1) (flush_fails w s q old new start mid now answer h f.kept e.0)
+]

@@ -1,0 +1,6 @@
+use Rattle.std.proofs.Common.{arith}
+use Rattle.cdb_show.proofs.InputLemmas.{given}
+use Rattle.cdb_show.proofs.input.Input.take_at_hand.Goals as goal
+
+pub returns : goal.returns
+returns g c = given c.args.self.now.window.items c.args.self.now.start c.args.self.now.end c.args.n (g.R.Read.remaining c.args.self.now.reader) (grind arith)

@@ -1,0 +1,16 @@
+use Rattle.std.proofs.Common.{rules, arith}
+use Rattle.cdb_show.proofs.Checks.{opening_unchecked}
+use Rattle.std.proofs.lemmas.Grind.{common_steps}
+use Rattle.cdb_show.proofs.runs.check.check_run.Goals as goal
+
+pub returns-in-Err-clause-fails : goal.returns-in-Err-clause-fails
+returns-in-Err-clause-fails g c = rw c.from.ensures (opening_unchecked _ g.S.Store _ _ c.in-Err.unread.fault (g.met.S.Store.image_size c.in-Err.unread.store) c.in-Err.ensures.fails)
+
+pub returns-clause-sound : goal.returns-clause-sound
+returns-clause-sound g c = search rules
+
+pub returns-clause-fails : goal.returns-clause-fails
+returns-clause-fails g c = grind (arith, common_steps)
+
+pub returns-clause-reads : goal.returns-clause-reads
+returns-clause-reads g c = grind (arith, common_steps)

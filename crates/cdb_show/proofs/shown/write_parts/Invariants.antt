@@ -1,0 +1,8 @@
+use Rattle.std.proofs.Common.{◌++◌, take, flat_map}
+use Rattle.std.specs.Io.KnownBytes.{Appends}
+use Rattle.cdb_command.specs.Shown.{shown}
+use Rattle.cdb_show.proofs.shown.write_parts.Given as goal
+
+-- the parts so far were written
+abbrev pub invariant-loop-text : goal.invariant-loop-text
+invariant-loop-text g l = Appends (g.E.Sink.contents l.fn.errors) (g.E.Sink.contents l.errors) (flat_map (λ p. p.0.now ++ shown p.1.now) (take l.text-index l.parts))

@@ -1,0 +1,151 @@
+-- What a query of the keys that some inputs give leaves, in words of w bytes. An image is one of its
+-- store as it was handed back.
+use Rattle.std.specs.Prelude.{ℕ, ◌≡◌, ◌≢◌, ◌+◌, ◌<◌, ◌≤◌, ◌⊎◌, Bool, true, false, List, ◌++◌, length}
+use Rattle.std.specs.Prelude.{Option, Result, Ok, Err, IfSome}
+use Rattle.std.specs.Io.KnownBytes.{Appends}
+use Rattle.cdb_store.specs.Reads.{OnlyReads}
+use Rattle.cdb_store.specs.declared.store.Store.{Ghosts}
+use Rattle.cdb_form.specs.Format.Pair.{head_size}
+use Rattle.cdb_form.specs.Text.Amending.{Change}
+use Rattle.cdb_form.specs.Views.KnownBytes.{AppendsPrefix}
+use Rattle.cdb_form.specs.Views.TextFault.{IsOfText}
+use Rattle.cdb_form.specs.declared.text.fault.TextFault.{TextFault}
+use Rattle.cdb_form.specs.declared.text.fault.TextFault.TheVariants as text_fault
+use Rattle.cdb_read.specs.declared.fault.ReadFault.TheVariants as read
+use Rattle.cdb_command.specs.declared.style.Style.{Style}
+use Rattle.cdb_show.specs.Runs.Flushed.{FlushedWhole}
+use Rattle.cdb_show.specs.Runs.Form.{end_of}
+use Rattle.cdb_show.specs.Runs.Inputs.{InputForm, InputsLeft, AreAllInputs, AreInputs, FirstBegins}
+use Rattle.cdb_show.specs.Runs.Inputs.{FirstHas, BeginsWithItems, HasFaults, HasItemFault, keys_form, keys_of}
+use Rattle.cdb_show.specs.Runs.Inputs.{keys_of_each}
+use Rattle.cdb_show.specs.Runs.LookedUp.{looked_up}
+use Rattle.cdb_show.specs.Runs.Query.{IsShortForQuery}
+use Rattle.cdb_show.specs.declared.fault.Fault.{Fault}
+use Rattle.cdb_show.specs.declared.fault.Fault.TheVariants.{Text, Missing, Read, Output, NoMemory}
+
+-- ---- the keys, one after the other
+
+-- the file has a head, in each image they came to this answer, and their text was appended
+pub record ComesTo {S : Type 0} (w : ℕ) (s : Ghosts S) (number : Option ℕ) (style : Style)
+    (keys : List (List ℕ)) (store : S) (start end : Option (List ℕ)) (answer : Result Unit Fault)
+    : Type 0 where
+  pub long : head_size w ≤ s.size store
+  pub answered : (b : List ℕ) → s.image store b → (looked_up w b number style keys).answer ≡ answer
+  pub written : (b : List ℕ) → s.image store b
+      → Appends start end (looked_up w b number style keys).text
+
+-- the answer without damage, by whether a key had no value
+abbrev pub missing_answer : Bool → Result Unit Fault
+missing_answer true = Err Missing
+missing_answer false = Ok tt
+
+abbrev pub HasLooked : {S : Type 0} → ℕ → Ghosts S → Option ℕ → Style → List (List ℕ) → S
+    → (start end : Option (List ℕ)) → (missing : Bool) → Type 0
+HasLooked w s number style keys store start end missing =
+    ComesTo w s number style keys store start end (missing_answer missing)
+
+-- how it stopped in these keys: by a damage that the last one meets; or the store or the writer
+-- failed, and a prefix of their text was appended; or behind them
+abbrev pub LookupsStopAt : {S : Type 0} → ℕ → Ghosts S → Option ℕ → Style → List (List ℕ) → (old new : S)
+    → (start end : Option (List ℕ)) → Fault → Type 0
+LookupsStopAt w s number style keys old new start end (Read (read.Table n)) =
+    ComesTo w s number style keys new start end (Err (Read (read.Table n)))
+LookupsStopAt w s number style keys old new start end (Read (read.Record place)) =
+    ComesTo w s number style keys new start end (Err (Read (read.Record place)))
+LookupsStopAt w s number style keys old new start end (Read read.Device) =
+    (s.failures old < s.failures new)
+    × ((b : List ℕ) → s.image new b
+    → AppendsPrefix start end (looked_up w b number style keys).text)
+LookupsStopAt w s number style keys old new start end Output =
+    (head_size w ≤ s.size new)
+    × ((b : List ℕ) → s.image new b
+    → AppendsPrefix start end (looked_up w b number style keys).text)
+LookupsStopAt w s number style keys old new start end NoMemory =
+    (missing : Bool) × HasLooked w s number style keys new start end missing
+LookupsStopAt w s number style keys old new start end (Text input fault) =
+    (missing : Bool) × HasLooked w s number style keys new start end missing
+LookupsStopAt w s number style keys old new start end fault = ⊥
+
+-- ---- the inputs that give them
+
+-- an input with these bytes has this fault behind these items: no allocation, and a map text has none
+-- of its own
+pub record FaultOf (form : InputForm) (greatest : ℕ) (last : List Change) (bytes : Option (List ℕ))
+    (f : TextFault) : Type 0 where
+  pub has : IfSome bytes (HasItemFault form greatest last f)
+  pub own : IsOfText f → HasFaults form
+  pub memory : f ≢ text_fault.NoMemory
+
+-- it stopped in an input with these bytes, of this number, behind these items
+pub record LookupsStopIn {S : Type 0} (w greatest : ℕ) (s : Ghosts S) (number : Option ℕ) (style : Style)
+    (form : InputForm) (input : ℕ) (before : List (List ℕ)) (bytes : Option (List ℕ)) (old new : S)
+    (start end : Option (List ℕ)) (fault : Fault) : Type 0 where
+  pub last : List Change
+  pub begins : IfSome bytes (BeginsWithItems form greatest last)
+  pub stops : LookupsStopAt w s number style (before ++ keys_of last) old new start end fault
+  pub of_text : (n : ℕ) (f : TextFault) → fault ≡ Text n f
+      → (n ≡ input) × FaultOf form greatest last bytes f
+
+-- the first of the inputs that are left has this fault, behind these items
+pub record HasFaultIn (form : InputForm) (greatest : ℕ) (last : List Change) (rest : InputsLeft)
+    (f : TextFault) : Type 0 where
+  pub input : Option (List ℕ)
+  pub first : FirstHas rest input
+  pub has : FaultOf form greatest last input f
+
+-- in one of the inputs, behind these of them
+pub record LookupsStop {S : Type 0} (w greatest : ℕ) (s : Ghosts S) (number : Option ℕ) (style : Style)
+    (inputs : InputsLeft) (old new : S) (start end : Option (List ℕ)) (fault : Fault) : Type 0
+  where
+    pub read : List (List Change)
+    pub last : List Change
+    pub rest : InputsLeft
+    pub are : AreInputs (keys_form style) greatest read inputs rest
+    pub begins : FirstBegins (keys_form style) greatest last rest
+    pub stops : LookupsStopAt w s number style (keys_of_each read ++ keys_of last) old new start end fault
+    pub of_text : (n : ℕ) (f : TextFault) → fault ≡ Text n f
+        → (n ≡ length read + 1) × HasFaultIn (keys_form style) greatest last rest f
+
+-- all keys of all inputs were looked up, and this holds of their text and of what ends it
+pub record LooksUpAll {S : Type 0} (w greatest : ℕ) (s : Ghosts S) (number : Option ℕ)
+    (style : Style) (inputs : InputsLeft) (store : S) (missing : Bool) (Writes : List ℕ → Type 0)
+    : Type 0 where
+  pub read : List (List Change)
+  pub are : AreAllInputs (keys_form style) greatest read inputs
+  pub long : head_size w ≤ s.size store
+  pub answered : (b : List ℕ) → s.image store b
+      → (looked_up w b number style (keys_of_each read)).answer ≡ missing_answer missing
+  pub written : (b : List ℕ) → s.image store b
+      → Writes ((looked_up w b number style (keys_of_each read)).text ++ end_of style)
+
+-- what a fault leaves: nothing of a store without a head; if the writer failed, a prefix of the text of
+-- the keys so far, or of all and of what ends it
+abbrev pub LookupsFail : {S : Type 0} → ℕ → ℕ → Ghosts S → Option ℕ → Style → InputsLeft → (old new : S)
+    → (start end : Option (List ℕ)) → Fault → Type 0
+LookupsFail w greatest s number style inputs old new start end (Read read.Short) =
+    IsShortForQuery w s old new start end
+LookupsFail w greatest s number style inputs old new start end Output =
+    LookupsStop w greatest s number style inputs old new start end Output
+    ⊎ ((missing : Bool)
+    × LooksUpAll w greatest s number style inputs new missing (AppendsPrefix start end))
+LookupsFail w greatest s number style inputs old new start end fault =
+    LookupsStop w greatest s number style inputs old new start end fault
+
+-- what the run leaves before its writer is flushed
+pub record LookupsLeave {S : Type 0} (w greatest : ℕ) (s : Ghosts S) (number : Option ℕ) (style : Style)
+    (inputs : InputsLeft) (old new : S) (start end : Option (List ℕ)) (result : Result Unit Fault)
+    : Type 0 where
+  pub reads : OnlyReads s old new
+  pub all : (missing : Bool) → result ≡ missing_answer missing
+      → LooksUpAll w greatest s number style inputs new missing (Appends start end)
+  pub fails : (fault : Fault) → result ≡ Err fault → fault ≢ Missing
+      → LookupsFail w greatest s number style inputs old new start end fault
+
+-- and then
+pub record LooksUp {S : Type 0} (w greatest : ℕ) (s : Ghosts S) (number : Option ℕ) (style : Style)
+    (inputs : InputsLeft) (old new : S) (start end : Option (List ℕ)) (result : Result Unit Fault)
+    : Type 0 where
+  pub mid : Option (List ℕ)
+  pub answer : Result Unit Fault
+  pub leaves : LookupsLeave w greatest s number style inputs old new start mid answer
+  pub flushed : FlushedWhole mid end answer result

@@ -1,0 +1,13 @@
+-- What a writer that notes its writes took.
+use Rattle.std.specs.Prelude.{ℕ, List, [], ◌∷◌, ◌++◌}
+use Rattle.cdb_store.specs.Calls.{Calls}
+use Rattle.cdb_show.specs.declared.noted.Noted.{Noted}
+
+-- the bytes of some calls, the first ones first
+abbrev pub bytes_noted : Calls → List ℕ
+bytes_noted [] = []
+bytes_noted ((call, bytes) ∷ calls) = bytes_noted calls ++ bytes
+
+-- what it took
+abbrev pub noted_by : {W : Type 0} → Noted W → List ℕ
+noted_by n = bytes_noted n.trace.events

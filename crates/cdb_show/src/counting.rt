@@ -1,0 +1,32 @@
+// How many newlines some bytes have.
+ghost use Rattle.std.specs.Prelude.{◌≡◌, ◌≤◌, length};
+ghost use Rattle.cdb_show.specs.Lines.{newlines};
+
+/// How many bytes are counted at once: as many as one byte can count, in which it is quick.
+const FEW: usize = 255;
+
+/// How many newlines a few bytes have.
+fn few_newlines(bytes: &[u8]) -> u8
+    requires { length bytes.now ≤ 255 }
+    ensures { result ≡ newlines bytes.now }
+{
+    let mut count = 0u8;
+    for byte in bytes {
+        count += u8::from(*byte == b'\n');
+    }
+    count
+}
+
+/// How many newlines some bytes have.
+pub(crate) fn newlines(bytes: &[u8]) -> u64
+    ensures { result ≡ newlines bytes.now }
+{
+    let mut count = 0u64;
+    let mut at = 0;
+    while at < bytes.len() {
+        let few = (bytes.len() - at).min(FEW);
+        count += u64::from(few_newlines(&bytes[at..at + few]));
+        at += few;
+    }
+    count
+}

@@ -1,0 +1,42 @@
+//! What the program `cdb` shows of inputs and stores: a run each that only reads, which a program of
+//! one's own may call as well. Beside them is what the runs that make a database share with them:
+//! inputs, outputs, faults and lines.
+#![tactic(auto)]
+
+mod counting;
+mod fault;
+mod input;
+mod input_name;
+mod inputs;
+mod key_line;
+mod lines;
+mod message;
+mod noted;
+mod output;
+mod runs;
+mod shown;
+mod status;
+mod word_message;
+
+pub use fault::Fault;
+pub use input::{InWindow, Input};
+pub use input_name::{STANDARD_INPUT, input_at};
+pub use inputs::{Inputs, SharedInput, Turn};
+pub use key_line::write_duplicates;
+pub use lines::{InLined, LinedInput, Lines};
+pub use message::write_fault;
+pub use noted::Noted;
+pub use output::Output;
+pub use runs::check::check_run;
+pub use runs::content::Content;
+pub use runs::difference::difference_run;
+pub use runs::flushed::flushed;
+pub use runs::item_reader::ItemReader;
+pub use runs::load::{load, load_from};
+pub use runs::lookups::lookups_run;
+pub use runs::query::{query_from, query_run};
+pub use runs::shown::Shown;
+pub use runs::stats::stats_run;
+pub use runs::texts::{dump_run, list_run, text_run_buffered};
+pub use status::{BAD_USAGE, DONE, FAILED, status_of};
+pub use word_message::write_word_fault;

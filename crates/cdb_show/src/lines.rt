@@ -1,0 +1,149 @@
+// The lines of inputs, which are counted as their bytes are taken.
+ghost use Rattle.std.specs.Prelude.{◌≡◌};
+ghost use Rattle.cdb_show.specs.Views.Input.{input_bytes, window_of};
+
+use crate::counting::newlines;
+use crate::input::{InWindow, Input};
+use cdb_form::AtHand;
+use std::cell::Cell;
+use std::io::{self, Read};
+
+/// The lines of the inputs of a run, as their bytes are taken: those of an input from its first byte on, and
+/// those of inputs that share a reader from the first byte of that. They are kept in cells, of which no
+/// clause says anything.
+#[derive(Drop)]
+pub struct Lines {
+    /// Whether they are counted.
+    pub counts: bool,
+    /// How many newlines were taken.
+    newlines: Cell<u64>,
+    /// Whether the byte that was taken last is none of them.
+    amid: Cell<bool>,
+    /// How many bytes were taken of the input.
+    bytes: Cell<u64>,
+    /// Whether the input shares its reader with others.
+    is_shared: Cell<bool>,
+    /// How many newlines were taken of that reader before another input began.
+    shared: Cell<u64>,
+}
+
+impl Lines {
+    /// Nothing was taken yet.
+    pub fn new(counts: bool) -> Lines
+        ensures { result.counts ≡ counts }
+    {
+        Lines {
+            counts,
+            newlines: Cell::new(0),
+            amid: Cell::new(false),
+            bytes: Cell::new(0),
+            is_shared: Cell::new(false),
+            shared: Cell::new(0),
+        }
+    }
+
+    /// An input begins: with a reader of its own, or where the one before it stopped that shares its reader.
+    pub fn begin(&self, is_shared: bool) {
+        if self.is_shared.get() {
+            self.shared.set(self.newlines.get());
+        }
+        let before = if is_shared { self.shared.get() } else { 0 };
+        self.newlines.set(before);
+        self.amid.set(false);
+        self.bytes.set(0);
+        self.is_shared.set(is_shared);
+    }
+
+    /// Counts the lines of bytes that are taken.
+    #[cold]
+    #[inline(never)]
+    fn take(&self, bytes: &[u8]) {
+        let Some(last) = bytes.last() else {
+            return;
+        };
+        self.amid.set(*last != b'\n');
+        let lines = self.newlines.get();
+        self.newlines.set(lines.saturating_add(newlines(bytes)));
+        let taken = self.bytes.get();
+        self.bytes.set(taken.saturating_add(bytes.len() as u64));
+    }
+
+    /// The line, counted from 1, of the byte that comes next.
+    #[inline(always)]
+    pub fn next(&self) -> u64 {
+        self.newlines.get().saturating_add(1)
+    }
+
+    /// The line, counted from 1, of the byte that was taken last.
+    pub fn last(&self) -> u64 {
+        if self.amid.get() {
+            self.next()
+        } else {
+            self.newlines.get()
+        }
+    }
+
+    /// The line, counted from 1, of a fault of the input that was read last, whose place is counted in bytes
+    /// from the first one of that input: nothing after that byte was taken.
+    pub fn line_at(&self, place: u64) -> u64 {
+        if place < self.bytes.get() {
+            self.last()
+        } else {
+            self.next()
+        }
+    }
+}
+
+/// An input whose lines are counted.
+#[derive(Drop)]
+pub struct LinedInput<'a, R> {
+    input: Input<R>,
+    lines: &'a Lines,
+}
+
+impl<'a, R> LinedInput<'a, R> {
+    /// An input over which the lines are counted from here on.
+    pub fn new(input: Input<R>, lines: &'a Lines) -> LinedInput<'a, R>
+        ensures { result.input ≡ input }
+    {
+        LinedInput { input, lines }
+    }
+
+    /// The input, which goes on after what was taken.
+    pub fn into_input(self) -> Input<R>
+        ensures { result ≡ self.entry.input }
+    {
+        self.input
+    }
+}
+
+impl<'a, R: Read> Read for LinedInput<'a, R> {
+    ghost remaining = { λ r. input_bytes R.remaining r.input };
+
+    #[inline(always)]
+    fn read(&mut self, buf: &mut [u8]) -> io::Result<usize> {
+        let n = self.input.read(buf)?;
+        self.lines.take(&buf[..n]);
+        Ok(n)
+    }
+}
+
+/// The bytes of its window are at hand.
+#[derive(Clone, Copy, Debug)]
+pub struct InLined;
+
+impl<'a, R: Read> AtHand<LinedInput<'a, R>> for InLined {
+    ghost held = { λ r. window_of r.input };
+
+    #[inline(always)]
+    fn window<'w>(reader: &'w LinedInput<'a, R>) -> &'w [u8] {
+        InWindow::window(&reader.input)
+    }
+
+    #[inline(always)]
+    fn take(reader: &mut LinedInput<'a, R>, n: usize) {
+        let window = InWindow::window(&reader.input);
+        reader.lines.take(&window[..n]);
+        InWindow::take(&mut reader.input, n);
+    }
+}

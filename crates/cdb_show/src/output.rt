@@ -1,0 +1,161 @@
+// Output through a buffer, from which many bytes go at once.
+ghost use Rattle.std.specs.Prelude.{◌≡◌, ℕ, ◌+◌, ◌<◌, ◌≤◌, [], ◌-◌, length, take, min, true, false};
+ghost use Rattle.std.specs.Prelude.{IfOk, OnOk, OnErr, flat_map, vec_len};
+ghost use Rattle.std.specs.Io.KnownBytes.{Keeps, Appends};
+ghost use Rattle.cdb_form.specs.Views.KnownBytes.{Writes};
+
+use cdb_form::{OutFault, Sink, flush_whole, write_some};
+use std::alloc::{AllocError, Global};
+use std::io::Write;
+
+/// How many bytes go straight on at once. Of more a file's cache takes memory in larger blocks,
+/// which costs the system more.
+const MOST: usize = 131072;
+
+/// Takes the bytes for a writer, which is given many at once.
+#[derive(Drop)]
+pub struct Output<W> {
+    writer: W,
+    /// The bytes that were taken, of which the writer has those before `start`.
+    buffer: Vec<u8>,
+    start: usize,
+    size: usize,
+    /// The writer has failed, or an allocation for it has.
+    failed: bool,
+    ghost some: { 0 < size },
+    ghost within: { start ≤ vec_len buffer },
+    ghost room: { vec_len buffer ≤ size },
+}
+
+impl<W: Write> Output<W> {
+    ghost use Rattle.cdb_show.specs.Views.Output.{output_bytes, held_by};
+
+    /// An output over a writer, with a buffer for so many bytes, which is empty yet.
+    pub fn new(alloc: Global, writer: W, size: usize) -> Result<Output<W>, AllocError>
+    where
+        W: Drop,
+        requires { 0 < size }
+        ensures bytes { IfOk result (λ o. output_bytes W.contents o ≡ W.contents writer) }
+        ensures empty { IfOk result (λ o. held_by o ≡ []) }
+        ensures size { IfOk result (λ o. o.size ≡ size) }
+        ensures sound { IfOk result (λ o. o.failed ≡ false) }
+    {
+        let buffer = Vec::with_capacity(alloc, size)?;
+        Ok(Output {
+            writer,
+            buffer,
+            start: 0,
+            size,
+            failed: false,
+        })
+    }
+
+    /// Hands all bytes on to the writer. After a fault those that it did not take stay here.
+    #[cold]
+    #[inline(never)]
+    fn hand_on(&mut self) -> Result<(), OutFault>
+        ensures bytes { Keeps (output_bytes W.contents self.old)
+            (output_bytes W.contents self.new) }
+        ensures empty { OnOk result (vec_len self.new.buffer ≡ 0) }
+        ensures failed { OnErr result (self.new.failed ≡ true) }
+        ensures sound { OnOk result (self.new.failed ≡ self.old.failed) }
+    {
+        while self.start < self.buffer.len() {
+            let gone = write_some(&mut self.writer, &self.buffer[self.start..]);
+            self.failed |= gone.is_err();
+            self.start += gone?;
+        }
+        self.buffer.clear();
+        self.start = 0;
+        Ok(())
+    }
+
+    /// Hands the bytes on that are held, and some more straight to the writer, at least one.
+    #[cold]
+    #[inline(never)]
+    fn pass_on(&mut self, bytes: &[u8]) -> Result<usize, OutFault>
+        requires { 0 < length bytes.now }
+        ensures count { IfOk result (λ n. (0 < n) × (n ≤ length bytes.now)) }
+        ensures ok { IfOk result (λ n. Appends (output_bytes W.contents self.old)
+            (output_bytes W.contents self.new) (take n bytes.now)) }
+        ensures err { OnErr result
+            (Keeps (output_bytes W.contents self.old) (output_bytes W.contents self.new)) }
+        ensures failed { OnErr result (self.new.failed ≡ true) }
+        ensures sound { OnOk result (self.new.failed ≡ self.old.failed) }
+    {
+        self.hand_on()?;
+        let most = bytes.len().min(MOST);
+        let gone = write_some(&mut self.writer, &bytes[..most]);
+        self.failed |= gone.is_err();
+        gone
+    }
+
+    /// Takes bytes into the buffer, as many as it has room for.
+    fn take(&mut self, bytes: &[u8]) -> Result<usize, AllocError>
+        ensures count { IfOk result (λ n.
+            n ≡ min (length bytes.now) (self.old.size - vec_len self.old.buffer)) }
+        ensures ok { IfOk result (λ n. Appends (output_bytes W.contents self.old)
+            (output_bytes W.contents self.new) (take n bytes.now)) }
+        ensures err { OnErr result
+            (Keeps (output_bytes W.contents self.old) (output_bytes W.contents self.new)) }
+        ensures sound { self.new.failed ≡ self.old.failed }
+    {
+        let n = bytes.len().min(self.size - self.buffer.len());
+        self.buffer.extend_from_slice(&bytes[..n])?;
+        Ok(n)
+    }
+}
+
+impl<W: Write> Sink for Output<W> {
+    ghost use Rattle.std.specs.Prelude.{◌≡◌, true};
+    ghost use Rattle.cdb_show.specs.Views.Output.{output_bytes, held_by, HasHandedOn};
+
+    ghost contents = { output_bytes W.contents };
+
+    ghost failed = { λ output. output.failed ≡ true };
+
+    #[inline(always)]
+    fn write_some(&mut self, bytes: &[u8]) -> Result<usize, OutFault>
+        requires { 0 < length bytes.now }
+        ensures count { IfOk result (λ n. (0 < n) × (n ≤ length bytes.now)) }
+        ensures ok { IfOk result (λ n. Appends (output_bytes W.contents self.old)
+            (output_bytes W.contents self.new) (take n bytes.now)) }
+        ensures err { OnErr result
+            (Keeps (output_bytes W.contents self.old) (output_bytes W.contents self.new)) }
+        ensures failed { OnErr result (self.new.failed ≡ true) }
+        ensures stays { self.old.failed ≡ true → self.new.failed ≡ true }
+        ensures sound { OnOk result (self.new.failed ≡ self.old.failed) }
+    {
+        // More than the buffer has room for isn't copied.
+        if self.size < bytes.len() {
+            return self.pass_on(bytes);
+        }
+        if self.buffer.len() == self.size {
+            self.hand_on()?;
+        }
+        match self.take(bytes) {
+            Ok(n) => Ok(n),
+            Err(_) => {
+                self.failed = true;
+                Err(OutFault)
+            }
+        }
+    }
+
+    fn flush_whole(&mut self) -> Result<(), OutFault>
+        ensures bytes { Keeps (output_bytes W.contents self.old)
+            (output_bytes W.contents self.new) }
+        ensures failed { OnErr result (self.new.failed ≡ true) }
+        ensures stays { self.old.failed ≡ true → self.new.failed ≡ true }
+        // The writer has all that was taken, or it failed.
+        ensures empty { OnOk result (held_by self.new ≡ []) }
+        ensures handed { HasHandedOn self.new }
+        ensures sound { OnOk result (self.new.failed ≡ self.old.failed) }
+    {
+        let handed = self.hand_on();
+        handed?;
+        let flushed = flush_whole(&mut self.writer);
+        self.failed |= flushed.is_err();
+        flushed
+    }
+}

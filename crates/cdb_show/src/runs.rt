@@ -1,0 +1,15 @@
+// What the program is asked to show, a run each.
+pub mod check;
+pub mod content;
+pub mod difference;
+pub mod flushed;
+pub mod item_reader;
+mod key_reader;
+pub mod load;
+pub mod lookups;
+pub mod query;
+pub mod shown;
+pub mod stats;
+mod stats_text;
+pub mod texts;
+mod walk_text;

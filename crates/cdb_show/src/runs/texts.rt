@@ -1,0 +1,72 @@
+// A file made a text: a dump has its records, a list their keys.
+ghost use Rattle.std.specs.Prelude.{ℕ, List, Option};
+ghost use Rattle.cdb_show.specs.Views.Output.{OutputSays};
+ghost use Rattle.cdb_show.specs.Runs.Form.{form_of, dump_form, list_form};
+ghost use Rattle.cdb_show.specs.Runs.WalkText.{WritesWalk};
+
+use crate::fault::Fault;
+use crate::runs::content::Content;
+use crate::runs::walk_text::write_walk;
+use cdb_command::Style;
+use cdb_form::{AtHand, NoneAtHand, RecordReader, Sink, Width};
+use std::alloc::Global;
+use std::io::Read;
+
+/// Writes the text of the records of a database file, in one pass over the file.
+///
+/// The file is read up to the end of its records and no further, and one record is held at a time.
+/// The faults:
+/// - `Walk(Short)`, `Walk(Table(n))`, `Walk(Record(place))`: the file is damaged; the texts of all
+///   whole records before the damage were written, and no closing newline;
+/// - `Walk(Input)`: the reader failed; the texts of all records that were read were written;
+/// - `NoMemory`: an allocation failed; the texts of all records that were read were written;
+/// - `Output`: the writer failed, and holds a prefix of the text.
+///
+/// The writer is flushed last, after a fault too.
+///
+/// The reader is dropped, and what it gave is not seen then. So of `Walk(Input)` and `NoMemory` the
+/// contract says that the texts of some first records of the file were written.
+pub fn dump_run<L: Width, R: Read + Drop, W: Sink>(
+    alloc: Global,
+    reader: R,
+    style: Style,
+    w: &mut W,
+) -> Result<(), Fault>
+    ensures writes { (rest : Option (List ℕ)) × WritesWalk L.WORD (dump_form style)
+        (R.remaining reader) rest (W.contents w.old) (W.contents w.new) result }
+    ensures output { OutputSays (W.failed w.new) result }
+{
+    text_run_buffered::<L, R, W, NoneAtHand>(alloc, Content::Records, reader, style, w)
+}
+
+/// Writes the text of the keys of a database file, as `dump_run` does that of its records. Values are
+/// passed over, so they take no memory.
+pub fn list_run<L: Width, R: Read + Drop, W: Sink>(
+    alloc: Global,
+    reader: R,
+    style: Style,
+    w: &mut W,
+) -> Result<(), Fault>
+    ensures writes { (rest : Option (List ℕ)) × WritesWalk L.WORD (list_form style)
+        (R.remaining reader) rest (W.contents w.old) (W.contents w.new) result }
+    ensures output { OutputSays (W.failed w.new) result }
+{
+    text_run_buffered::<L, R, W, NoneAtHand>(alloc, Content::Keys, reader, style, w)
+}
+
+/// Does what `dump_run` or `list_run` does, and takes a record that the reader has at hand without
+/// asking for it.
+pub fn text_run_buffered<L: Width, R: Read + Drop, W: Sink, A: AtHand<R>>(
+    alloc: Global,
+    content: Content,
+    reader: R,
+    style: Style,
+    w: &mut W,
+) -> Result<(), Fault>
+    ensures writes { (rest : Option (List ℕ)) × WritesWalk L.WORD (form_of content style)
+        (R.remaining reader) rest (W.contents w.old) (W.contents w.new) result }
+    ensures output { OutputSays (W.failed w.new) result }
+{
+    let mut records = RecordReader::<R, L>::new(alloc, reader);
+    write_walk::<L, R, W, A>(alloc, &mut records, content, style, w)
+}

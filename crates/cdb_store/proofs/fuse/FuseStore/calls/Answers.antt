@@ -1,5 +1,0 @@
-use Rattle.std.proofs.Common.{rules}
-use Rattle.cdb_store.proofs.fuse.FuseStore.calls.Goals as goal
-
-pub returns : goal.returns
-returns g c = search rules

@@ -1,7 +1,0 @@
-use Rattle.std.proofs.Common.{◌≡◌, take}
-use Rattle.cdb_tool.specs.Lines.{newlines}
-use Rattle.cdb_tool.proofs.counting.few_newlines.Given as goal
-
--- those of the bytes so far were counted
-abbrev pub invariant-loop-byte : goal.invariant-loop-byte
-invariant-loop-byte l = l.count ≡ newlines (take l.byte-index l.fn.bytes)

@@ -1,5 +1,0 @@
-use Rattle.std.proofs.Common.{rules}
-use Rattle.cdb_tool.proofs.fault.Fault.message.Goals as goal
-
-pub returns-in-Output : goal.returns-in-Output
-returns-in-Output c = search rules

@@ -1,6 +1,0 @@
-use Rattle.std.proofs.Common.{arith}
-use Rattle.cdb_tool.proofs.InputLemmas.{given}
-use Rattle.cdb_tool.proofs.input.Input.take_at_hand.Goals as goal
-
-pub returns : goal.returns
-returns g c = given c.args.self.now.window.items c.args.self.now.start c.args.self.now.end c.args.n (g.R.Read.remaining c.args.self.now.reader) (grind arith)

@@ -1,5 +1,0 @@
-use Rattle.std.proofs.Common.{rules}
-use Rattle.cdb_tool.proofs.runs.load.load_from.Goals as goal
-
-pub returns-in-More-clause-all : goal.returns-in-More-clause-all
-returns-in-More-clause-all g c = search rules

@@ -1,6 +1,0 @@
-use Rattle.std.proofs.Common.{arith}
-use Rattle.std.proofs.lemmas.Grind.{common_steps}
-use Rattle.cdb_tool.proofs.runs.stats.write_counted.Goals as goal
-
-pub returns-clause-tells : goal.returns-clause-tells
-returns-clause-tells g c = grind (arith, common_steps)

@@ -1,8 +1,0 @@
-use Rattle.std.proofs.Common.{take}
-use Rattle.std.specs.Io.KnownBytes.{Appends}
-use Rattle.cdb_command.specs.Shown.{shown}
-use Rattle.cdb_tool.proofs.shown.write_shown.Given as goal
-
--- the bytes so far were shown
-abbrev pub invariant-loop-byte : goal.invariant-loop-byte
-invariant-loop-byte g l = Appends (g.E.Sink.contents l.fn.errors) (g.E.Sink.contents l.errors) (shown (take l.byte-index l.bytes))

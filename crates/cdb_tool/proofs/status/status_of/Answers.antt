@@ -1,5 +1,0 @@
-use Rattle.std.proofs.Common.{rules}
-use Rattle.cdb_tool.proofs.status.status_of.Goals as goal
-
-pub returns-in-Check-Read : goal.returns-in-Check-Read
-returns-in-Check-Read c = search rules
