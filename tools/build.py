@@ -58,7 +58,7 @@ SECONDS = {
     "cdb_command": 190,
     "cdb_read": 270,
     "cdb_make": 570,
-    "cdb_files": 330,
+    "cdb_names": 270,
     "cdb_difference": 230,
     "cdb_show": 310,
     "cdb_tool": 270,

@@ -13,7 +13,7 @@ use Rattle.cdb_form.specs.Text.Amending.{amending_text}
 use Rattle.cdb_form.specs.declared.damage.Damage.{Damage}
 use Rattle.cdb_form.specs.declared.damage.Damage.TheVariants as damage
 use Rattle.cdb_form.specs.declared.damage.Damage.TheVariants.{Short}
-use Rattle.cdb_files.specs.declared.answer.Answer.TheVariants as looks
+use Rattle.cdb_names.specs.declared.answer.Answer.TheVariants as looks
 use Rattle.cdb_read.specs.InOrder.{FindsInOrder}
 use Rattle.cdb_read.specs.Statistics.{outside_table}
 use Rattle.cdb_read.specs.declared.fault.ReadFault.{ReadFault}

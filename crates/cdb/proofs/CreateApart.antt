@@ -5,15 +5,15 @@ use Rattle.std.specs.List.{AllByRecursion}
 use Rattle.std.proofs.lemmas.Bool.{eqb-true, cond-true, cond-false, or_right, cases_Bool}
 use Rattle.std.specs.Io.KnownBytes.{Appends, Keeps}
 use Rattle.cdb_command.specs.declared.options.MakeOptions.{MakeOptions}
-use Rattle.cdb_files.specs.Folder.{Has, MayHave, NameCalls}
-use Rattle.cdb_files.specs.declared.replace.ReplaceFault.{ReplaceFault}
-use Rattle.cdb_files.specs.declared.replace.ReplaceFault.TheVariants as replace
+use Rattle.cdb_names.specs.Folder.{Has, MayHave, NameCalls}
+use Rattle.cdb_names.specs.declared.replace.ReplaceFault.{ReplaceFault}
+use Rattle.cdb_names.specs.declared.replace.ReplaceFault.TheVariants as replace
 use Rattle.cdb_store.specs.FileStore.{calls_of}
 use Rattle.std.proofs.KnownBytes.{Keeps-refl}
-use Rattle.cdb_files.specs.Replacing.{AtEach, AtEachMoment, ClearsFile, IsNoName, BuilderTells, IsRenamed, renames}
-use Rattle.cdb_files.specs.declared.name_trace.NameCall.{NameCall}
+use Rattle.cdb_names.specs.Replacing.{AtEach, AtEachMoment, ClearsFile, IsNoName, BuilderTells, IsRenamed, renames}
+use Rattle.cdb_names.specs.declared.name_trace.NameCall.{NameCall}
 use Rattle.cdb_store.specs.Calls.{Calls}
-use Rattle.cdb_files.specs.declared.name_trace.NameCall.TheVariants as name_call
+use Rattle.cdb_names.specs.declared.name_trace.NameCall.TheVariants as name_call
 use Rattle.cdb_form.specs.Views.KnownBytes.{AppendsPrefix}
 use Rattle.cdb_store.specs.declared.raw.RawFile.{Ghosts as Raw}
 use Rattle.cdb_store.specs.declared.store.Store.{Ghosts}

@@ -8,14 +8,14 @@ use Rattle.std.proofs.lemmas.List.{append_cancel_right}
 use Rattle.std.proofs.lemmas.Slice.Eq.{bytes_eq-Decides}
 use Rattle.std.specs.Io.KnownBytes.{Appends, Keeps}
 use Rattle.cdb_command.specs.declared.options.MakeOptions.{MakeOptions}
-use Rattle.cdb_files.specs.Folder.{Has, MayHave, NameCalls}
-use Rattle.cdb_files.specs.Replacing.{AtEach, AtEachMoment}
-use Rattle.cdb_files.specs.declared.answer.Answer.TheVariants as looks
-use Rattle.cdb_files.specs.declared.answer.Answer.{Answer}
-use Rattle.cdb_files.specs.declared.name_fault.NameFault.{NameFault}
-use Rattle.cdb_files.specs.declared.refusal.Cause.{Cause}
-use Rattle.cdb_files.specs.declared.name_fault.NameFault.TheVariants as why
-use Rattle.cdb_files.specs.declared.name_trace.NameCall.TheVariants as name_call
+use Rattle.cdb_names.specs.Folder.{Has, MayHave, NameCalls}
+use Rattle.cdb_names.specs.Replacing.{AtEach, AtEachMoment}
+use Rattle.cdb_names.specs.declared.answer.Answer.TheVariants as looks
+use Rattle.cdb_names.specs.declared.answer.Answer.{Answer}
+use Rattle.cdb_names.specs.declared.name_fault.NameFault.{NameFault}
+use Rattle.cdb_names.specs.declared.refusal.Cause.{Cause}
+use Rattle.cdb_names.specs.declared.name_fault.NameFault.TheVariants as why
+use Rattle.cdb_names.specs.declared.name_trace.NameCall.TheVariants as name_call
 use Rattle.cdb_form.specs.Views.KnownBytes.{AppendsPrefix}
 use Rattle.cdb_store.specs.declared.raw.RawFile.{Ghosts as Raw}
 use Rattle.cdb_store.specs.declared.store.Store.{Ghosts}

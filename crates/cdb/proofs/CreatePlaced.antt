@@ -6,16 +6,16 @@ use Rattle.std.specs.Prelude.{OnErr, OnOk, IfErr}
 use Rattle.std.proofs.lemmas.Bool.{cond-true, cond-false}
 use Rattle.std.specs.Io.KnownBytes.{Appends, Keeps}
 use Rattle.cdb_command.specs.declared.options.MakeOptions.{MakeOptions}
-use Rattle.cdb_files.specs.Folder.{NameCalls}
-use Rattle.cdb_files.specs.Replacing.{IsNew}
+use Rattle.cdb_names.specs.Folder.{NameCalls}
+use Rattle.cdb_names.specs.Replacing.{IsNew}
 use Rattle.cdb_store.specs.Contents.{contents}
 use Rattle.cdb_store.specs.contracts.memory.MemStoreStore.TheImpl.{ghosts as in_memory}
 use Rattle.cdb_store.specs.declared.memory.MemStore.{MemStore}
 use Rattle.cdb_store.specs.declared.make_fault.MakeFault.TheVariants.{Writing}
-use Rattle.cdb_files.specs.declared.answer.Answer.{Answer}
-use Rattle.cdb_files.specs.declared.answer.Answer.TheVariants.{No, Unknown, Yes}
-use Rattle.cdb_files.specs.declared.name_fault.NameFault.{NameFault}
-use Rattle.cdb_files.specs.declared.name_fault.NameFault.TheVariants as why
+use Rattle.cdb_names.specs.declared.answer.Answer.{Answer}
+use Rattle.cdb_names.specs.declared.answer.Answer.TheVariants.{No, Unknown, Yes}
+use Rattle.cdb_names.specs.declared.name_fault.NameFault.{NameFault}
+use Rattle.cdb_names.specs.declared.name_fault.NameFault.TheVariants as why
 use Rattle.cdb_form.specs.Views.KnownBytes.{AppendsPrefix}
 use Rattle.cdb_store.specs.declared.store.Store.{Ghosts}
 use Rattle.cdb_show.specs.Runs.Inputs.{InputsLeft}

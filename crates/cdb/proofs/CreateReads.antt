@@ -5,10 +5,10 @@ use Rattle.std.specs.List.{AllByRecursion}
 use Rattle.std.proofs.lemmas.Bool.{cond-true, cond-false, false_from_ne_true, or_from}
 use Rattle.std.proofs.lemmas.List.{append_cancel_right}
 use Rattle.std.proofs.lemmas.Slice.Eq.{bytes_eq-Decides}
-use Rattle.cdb_files.specs.Folder.{MayHave, NameCalls}
-use Rattle.cdb_files.specs.Replacing.{AtEach, AtEachMoment, NameEvent, renames}
-use Rattle.cdb_files.specs.declared.answer.Answer.TheVariants as looks
-use Rattle.cdb_files.specs.declared.name_trace.NameCall.TheVariants as name_call
+use Rattle.cdb_names.specs.Folder.{MayHave, NameCalls}
+use Rattle.cdb_names.specs.Replacing.{AtEach, AtEachMoment, NameEvent, renames}
+use Rattle.cdb_names.specs.declared.answer.Answer.TheVariants as looks
+use Rattle.cdb_names.specs.declared.name_trace.NameCall.TheVariants as name_call
 use Rattle.cdb_form.specs.Format.Record.{AreBytes}
 use Rattle.cdb_store.specs.declared.store.Store.{Ghosts}
 use Rattle.cdb_show.specs.Runs.Inputs.{InputsLeft, OneInput}

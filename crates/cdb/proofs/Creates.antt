@@ -3,7 +3,7 @@ use Rattle.std.proofs.Common.{ℕ, true, false, List, [], Option, Some, None, Re
 use Rattle.std.proofs.lemmas.Bool.{false_from_ne_true, or_from, or_left, or_right}
 use Rattle.std.proofs.lemmas.Slice.Eq.{bytes_eq-Decides}
 use Rattle.cdb_command.specs.declared.options.MakeOptions.{MakeOptions}
-use Rattle.cdb_files.specs.Folder.{NameCalls}
+use Rattle.cdb_names.specs.Folder.{NameCalls}
 use Rattle.cdb_store.specs.declared.raw.RawFile.{Ghosts as Raw}
 use Rattle.cdb_store.specs.declared.store.Store.{Ghosts}
 use Rattle.cdb_show.specs.declared.fault.Fault.{Fault}

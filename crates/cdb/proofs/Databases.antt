@@ -5,10 +5,10 @@ use Rattle.std.specs.Io.KnownBytes.{Keeps}
 use Rattle.std.proofs.KnownBytes.{Appends-kept, Keeps-trans}
 use Rattle.cdb_command.specs.Asked.{Asked}
 use Rattle.cdb_command.specs.Refused.{Refused}
-use Rattle.cdb_files.specs.Folder.{NameCalls}
-use Rattle.cdb_files.specs.declared.answer.Answer.TheVariants.{No, Unknown, Yes}
-use Rattle.cdb_files.specs.Replacing.{BuilderTells}
-use Rattle.cdb_files.specs.declared.replace.ReplaceFault.{ReplaceFault}
+use Rattle.cdb_names.specs.Folder.{NameCalls}
+use Rattle.cdb_names.specs.declared.answer.Answer.TheVariants.{No, Unknown, Yes}
+use Rattle.cdb_names.specs.Replacing.{BuilderTells}
+use Rattle.cdb_names.specs.declared.replace.ReplaceFault.{ReplaceFault}
 use Rattle.cdb_form.specs.Views.KnownBytes.{Writes}
 use Rattle.cdb_store.specs.declared.raw.RawFile.{Ghosts as Raw}
 use Rattle.cdb_store.specs.declared.store.Store.{Ghosts}

@@ -4,7 +4,7 @@ use Rattle.std.proofs.lemmas.List.{append-nil}
 use Rattle.std.specs.Prelude.{Option}
 use Rattle.std.specs.Io.KnownBytes.{Keeps}
 use Rattle.cdb_command.specs.Asked.{Asked}
-use Rattle.cdb_files.specs.Folder.{NameCalls}
+use Rattle.cdb_names.specs.Folder.{NameCalls}
 use Rattle.cdb_show.specs.Message.{fault_line}
 use Rattle.cdb_show.specs.declared.fault.Fault.{Fault}
 use Rattle.cdb.specs.Causes.{Explains}

@@ -4,9 +4,9 @@ use Rattle.std.proofs.Common.{ℕ, true, ◌<◌, ◌≤◌, List, [], ◌∷◌
 use Rattle.std.specs.List.{AllByRecursion}
 use Rattle.std.specs.Io.KnownBytes.{Keeps}
 use Rattle.cdb_command.specs.declared.style.Style.{Style}
-use Rattle.cdb_files.specs.declared.name_fault.NameFault.{NameFault}
-use Rattle.cdb_files.specs.declared.refusal.Cause.{Cause}
-use Rattle.cdb_files.specs.declared.name_fault.NameFault.TheVariants as why
+use Rattle.cdb_names.specs.declared.name_fault.NameFault.{NameFault}
+use Rattle.cdb_names.specs.declared.refusal.Cause.{Cause}
+use Rattle.cdb_names.specs.declared.name_fault.NameFault.TheVariants as why
 use Rattle.cdb_form.specs.Format.Pair.{head_size}
 use Rattle.cdb_form.specs.Views.KnownBytes.{AppendsPrefix}
 use Rattle.cdb_form.specs.declared.text.fault.TextFault.TheVariants as text

@@ -2,7 +2,7 @@
 use Rattle.std.proofs.Common.{ℕ, ◌+◌, ◌<◌, List, [], ◌∷◌, ◌++◌, ◌≡◌, inl, inr, refl, sym, ap, subst, ◌∙◌, map, take, drop, length, get_or, Result, Ok, Err}
 use Rattle.std.proofs.lemmas.List.{map_push, take_more, take-append-drop, map-append, drop_more}
 use Rattle.std.specs.Prelude.{OnOk, codes}
-use Rattle.cdb_files.specs.Folder.{NameCalls}
+use Rattle.cdb_names.specs.Folder.{NameCalls}
 use Rattle.cdb_show.specs.declared.inputs.Turn.{Turn}
 use Rattle.cdb.specs.Creating.{AsksEach, AsksOne, FindsInput, MayBeInput}
 use Rattle.cdb_show.specs.declared.fault.Fault.{Fault}

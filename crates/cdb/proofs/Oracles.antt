@@ -23,8 +23,8 @@ use Rattle.cdb_command.specs.Usage.{usage_text, version_text}
 use Rattle.cdb_command.specs.Refused.{Refused, usage_of}
 use Rattle.cdb_command.specs.declared.command.Command.{Command}
 use Rattle.cdb_command.specs.declared.command.Command.TheVariants as command
-use Rattle.cdb_files.specs.Folder.{NameCalls}
-use Rattle.cdb_files.specs.declared.answer.Answer.TheVariants as looks
+use Rattle.cdb_names.specs.Folder.{NameCalls}
+use Rattle.cdb_names.specs.declared.answer.Answer.TheVariants as looks
 use Rattle.cdb_read.proofs.WholeFiles.FaultLaws.{sound_is_no_damage}
 use Rattle.cdb_read.specs.Faults.{first_fault}
 use Rattle.cdb_read.specs.Statistics.{statistics_damage}

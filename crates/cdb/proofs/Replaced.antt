@@ -9,13 +9,13 @@ use Rattle.std.proofs.lemmas.Slice.Eq.{bytes_eq-Decides}
 use Rattle.std.specs.Io.KnownBytes.{Appends, Keeps}
 use Rattle.std.proofs.KnownBytes.{Keeps-refl}
 use Rattle.cdb_command.specs.declared.options.MakeOptions.{MakeOptions}
-use Rattle.cdb_files.specs.Folder.{Has, LeavesFile, MayHave, NameCalls}
-use Rattle.cdb_files.specs.Replacing.{BuilderAnswers, AreOfReplacing, AtEach, ClearsFile, HasCleared, IsNew, IsOfReplacing, IsReady, IsRenamed, LeavesOldOrNew, NameEvent, BuilderTells, TellsOfFile, StopsUnbuilt, renames}
-use Rattle.cdb_files.specs.declared.name_trace.NameCall.{NameCall}
-use Rattle.cdb_files.specs.declared.name_trace.NameCall.TheVariants.{NotRemoved, NotRenamed, NotSynced, Removed, Renamed, Synced}
-use Rattle.cdb_files.specs.declared.name_trace.NameCall.TheVariants as name_call
-use Rattle.cdb_files.specs.declared.replace.ReplaceFault.{ReplaceFault}
-use Rattle.cdb_files.specs.declared.replace.ReplaceFault.TheVariants as replace
+use Rattle.cdb_names.specs.Folder.{Has, LeavesFile, MayHave, NameCalls}
+use Rattle.cdb_names.specs.Replacing.{BuilderAnswers, AreOfReplacing, AtEach, ClearsFile, HasCleared, IsNew, IsOfReplacing, IsReady, IsRenamed, LeavesOldOrNew, NameEvent, BuilderTells, TellsOfFile, StopsUnbuilt, renames}
+use Rattle.cdb_names.specs.declared.name_trace.NameCall.{NameCall}
+use Rattle.cdb_names.specs.declared.name_trace.NameCall.TheVariants.{NotRemoved, NotRenamed, NotSynced, Removed, Renamed, Synced}
+use Rattle.cdb_names.specs.declared.name_trace.NameCall.TheVariants as name_call
+use Rattle.cdb_names.specs.declared.replace.ReplaceFault.{ReplaceFault}
+use Rattle.cdb_names.specs.declared.replace.ReplaceFault.TheVariants as replace
 use Rattle.cdb_form.specs.Views.KnownBytes.{AppendsPrefix}
 use Rattle.cdb_store.specs.Calls.{Calls, FileImage, IsSynced}
 use Rattle.cdb_store.specs.FileStore.{calls_of, images_of}

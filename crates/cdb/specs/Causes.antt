@@ -11,11 +11,11 @@ use Rattle.cdb_form.specs.declared.walk.fault.WalkFault.TheVariants as walk
 use Rattle.cdb_read.specs.declared.fault.ReadFault.{ReadFault}
 use Rattle.cdb_read.specs.declared.fault.ReadFault.TheVariants as read
 use Rattle.cdb_show.specs.Message.{input_at}
-use Rattle.cdb_files.specs.declared.refusal.Cause.{Cause}
-use Rattle.cdb_files.specs.declared.refusal.Cause.TheVariants as cause
-use Rattle.cdb_files.specs.Folder.{NameCalls}
-use Rattle.cdb_files.specs.Refusals.{refused_for}
-use Rattle.cdb_files.specs.Replacing.{IsNoName}
+use Rattle.cdb_names.specs.declared.refusal.Cause.{Cause}
+use Rattle.cdb_names.specs.declared.refusal.Cause.TheVariants as cause
+use Rattle.cdb_names.specs.Folder.{NameCalls}
+use Rattle.cdb_names.specs.Refusals.{refused_for}
+use Rattle.cdb_names.specs.Replacing.{IsNoName}
 use Rattle.cdb_show.specs.declared.fault.Fault.{Fault}
 use Rattle.cdb_show.specs.declared.fault.Fault.TheVariants.{Text, Make, Read, Walk, Output, Open}
 use Rattle.cdb_show.specs.declared.fault.Fault.TheVariants.{Rename, NoMemory, Old, New}

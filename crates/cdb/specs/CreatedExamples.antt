@@ -3,9 +3,9 @@ use Rattle.std.specs.Fmt.{digits}
 use Rattle.std.specs.Prelude.{ℕ, ◌≡◌, true, false, bytes_eq, if◌then◌else◌, List, [], ◌∷◌}
 use Rattle.std.specs.Prelude.{length, codes, Option, None, Some, Ok, refl, zero, suc, IfSome}
 use Rattle.std.proofs.Common.{arith, inl, subst}
-use Rattle.cdb_files.specs.Folder.{NameCalls}
-use Rattle.cdb_files.specs.declared.answer.Answer.TheVariants as looks
-use Rattle.cdb_files.specs.declared.name_trace.NameCall.TheVariants as name_call
+use Rattle.cdb_names.specs.Folder.{NameCalls}
+use Rattle.cdb_names.specs.declared.answer.Answer.TheVariants as looks
+use Rattle.cdb_names.specs.declared.name_trace.NameCall.TheVariants as name_call
 use Rattle.cdb_store.specs.Calls.{Calls, FileImage}
 use Rattle.cdb_store.specs.contracts.memory.MemStoreStore.TheImpl.{ghosts as in_memory}
 use Rattle.cdb_store.specs.declared.memory.MemStore.{MemStore}

@@ -3,14 +3,14 @@ use Rattle.std.specs.Prelude.{ℕ, ◌≡◌, ◌≢◌, ◌<◌, ◌+◌, ◌�
 use Rattle.std.specs.Prelude.{Ok, Err, OnOk, OnErr, IfErr, codes}
 use Rattle.std.specs.Io.KnownBytes.{Keeps, Appends}
 use Rattle.cdb_command.specs.declared.options.MakeOptions.{MakeOptions}
-use Rattle.cdb_files.specs.Folder.{AreGuarded, NameCalls}
-use Rattle.cdb_files.specs.Replacing.{AreOfReplacing, AtEachMoment, EndsIn, IsRenamed, LeavesNew}
-use Rattle.cdb_files.specs.Replacing.{FailsToBuild, IsNoName, IsOfBuilder, LeavesOldOrNew, BuilderTells, renames}
-use Rattle.cdb_files.specs.declared.answer.Answer.{Answer}
-use Rattle.cdb_files.specs.declared.answer.Answer.TheVariants as looks
-use Rattle.cdb_files.specs.declared.name_trace.NameCall.TheVariants as name_call
-use Rattle.cdb_files.specs.declared.replace.ReplaceFault.{ReplaceFault}
-use Rattle.cdb_files.specs.declared.replace.ReplaceFault.TheVariants as replace
+use Rattle.cdb_names.specs.Folder.{AreGuarded, NameCalls}
+use Rattle.cdb_names.specs.Replacing.{AreOfReplacing, AtEachMoment, EndsIn, IsRenamed, LeavesNew}
+use Rattle.cdb_names.specs.Replacing.{FailsToBuild, IsNoName, IsOfBuilder, LeavesOldOrNew, BuilderTells, renames}
+use Rattle.cdb_names.specs.declared.answer.Answer.{Answer}
+use Rattle.cdb_names.specs.declared.answer.Answer.TheVariants as looks
+use Rattle.cdb_names.specs.declared.name_trace.NameCall.TheVariants as name_call
+use Rattle.cdb_names.specs.declared.replace.ReplaceFault.{ReplaceFault}
+use Rattle.cdb_names.specs.declared.replace.ReplaceFault.TheVariants as replace
 use Rattle.cdb_form.specs.Views.KnownBytes.{AppendsPrefix}
 use Rattle.cdb_store.specs.Contents.{contents}
 use Rattle.cdb_store.specs.FileStore.{failures_of}

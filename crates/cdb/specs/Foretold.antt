@@ -4,8 +4,8 @@ use Rattle.std.specs.Io.KnownBytes.{Appends}
 use Rattle.cdb_command.specs.Asked.{Asked}
 use Rattle.cdb_command.specs.Asked as asked
 use Rattle.cdb_command.specs.Refused.{Refused}
-use Rattle.cdb_files.specs.declared.answer.Answer.TheVariants.{No}
-use Rattle.cdb_files.specs.declared.name_fault.NameFault.TheVariants as why
+use Rattle.cdb_names.specs.declared.answer.Answer.TheVariants.{No}
+use Rattle.cdb_names.specs.declared.name_fault.NameFault.TheVariants as why
 use Rattle.cdb_form.specs.Format.Walk.{walk_of}
 use Rattle.cdb_form.specs.Format.Record.{AreBytes}
 use Rattle.cdb_form.specs.Views.KnownBytes.{AppendsPrefix}

@@ -7,10 +7,10 @@ use Rattle.std.specs.Io.KnownBytes.{Appends}
 use Rattle.cdb_command.specs.Asked.{Asked, Create}
 use Rattle.cdb_command.specs.declared.options.MakeOptions.{MakeOptions}
 use Rattle.cdb_command.specs.Refused.{Refused}
-use Rattle.cdb_files.specs.Folder.{Has, IsCleared, MayHave, NameCalls}
-use Rattle.cdb_files.specs.Replacing.{AtEachMoment, IsNew, NameEvent}
-use Rattle.cdb_files.specs.declared.answer.Answer.TheVariants.{No, Yes}
-use Rattle.cdb_files.specs.declared.name_trace.NameCall.TheVariants.{Input, NotRemoved, NotRenamed, Same}
+use Rattle.cdb_names.specs.Folder.{Has, IsCleared, MayHave, NameCalls}
+use Rattle.cdb_names.specs.Replacing.{AtEachMoment, IsNew, NameEvent}
+use Rattle.cdb_names.specs.declared.answer.Answer.TheVariants.{No, Yes}
+use Rattle.cdb_names.specs.declared.name_trace.NameCall.TheVariants.{Input, NotRemoved, NotRenamed, Same}
 use Rattle.cdb_form.specs.Views.KnownBytes.{AppendsPrefix}
 use Rattle.cdb_store.specs.Calls.{Agrees, Calls, lost}
 use Rattle.cdb_store.specs.declared.store.Store.{Ghosts}

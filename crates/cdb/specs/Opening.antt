@@ -1,17 +1,17 @@
 -- The calls on files, and why one is not opened. The newest call comes first.
 use Rattle.std.specs.Prelude.{ℕ, ◌≡◌, ◌≢◌, ◌⊎◌, Bool, true, false, List, [], ◌∷◌}
 use Rattle.std.specs.Prelude.{Option, None, Some, Result, Ok, Err, string_bytes}
-use Rattle.cdb_files.specs.Refusals.{is_of_system, may_be_for}
-use Rattle.cdb_files.specs.declared.answer.Answer.{Answer}
-use Rattle.cdb_files.specs.declared.answer.Answer.TheVariants.{No, Unknown, Yes}
-use Rattle.cdb_files.specs.declared.answer.Lock.{Lock}
-use Rattle.cdb_files.specs.declared.answer.Lock.TheVariants.{Held}
-use Rattle.cdb_files.specs.declared.name_fault.NameFault.{NameFault}
-use Rattle.cdb_files.specs.declared.name_fault.NameFault.TheVariants as why
-use Rattle.cdb_files.specs.declared.name_trace.NameCall.TheVariants as call
-use Rattle.cdb_files.specs.declared.refusal.Cause.{Cause}
-use Rattle.cdb_files.specs.declared.refusal.Cause.TheVariants.{Failed, Lost}
-use Rattle.cdb_files.specs.declared.refusal.Refusal.{Refusal}
+use Rattle.cdb_names.specs.Refusals.{is_of_system, may_be_for}
+use Rattle.cdb_names.specs.declared.answer.Answer.{Answer}
+use Rattle.cdb_names.specs.declared.answer.Answer.TheVariants.{No, Unknown, Yes}
+use Rattle.cdb_names.specs.declared.answer.Lock.{Lock}
+use Rattle.cdb_names.specs.declared.answer.Lock.TheVariants.{Held}
+use Rattle.cdb_names.specs.declared.name_fault.NameFault.{NameFault}
+use Rattle.cdb_names.specs.declared.name_fault.NameFault.TheVariants as why
+use Rattle.cdb_names.specs.declared.name_trace.NameCall.TheVariants as call
+use Rattle.cdb_names.specs.declared.refusal.Cause.{Cause}
+use Rattle.cdb_names.specs.declared.refusal.Cause.TheVariants.{Failed, Lost}
+use Rattle.cdb_names.specs.declared.refusal.Refusal.{Refusal}
 use Rattle.cdb.specs.declared.left.Left.{Left}
 use Rattle.cdb.specs.declared.open_trace.OpenCall.{OpenCall}
 use Rattle.cdb.specs.declared.open_trace.OpenCall.TheVariants.{Emptied, Locked, Own, Stream, ToEmpty}

@@ -35,7 +35,7 @@ use Rattle.cdb_show.specs.Views.Inputs.{one_of}
 use Rattle.cdb_show.specs.Views.Output.{OutputSays}
 use Rattle.cdb_show.specs.declared.fault.Fault.{Fault}
 use Rattle.cdb_show.specs.declared.fault.Fault.TheVariants.{Open, NoMemory as NoRoom, Output}
-use Rattle.cdb_files.specs.declared.answer.Answer.TheVariants as looks
+use Rattle.cdb_names.specs.declared.answer.Answer.TheVariants as looks
 use Rattle.cdb.specs.Creating.{Creates}
 use Rattle.cdb.specs.Causes.{Explains}
 use Rattle.cdb.specs.Files.{Files}

@@ -1,6 +1,6 @@
 -- What a command is given, and what it has asked of the system and written so far.
 use Rattle.std.specs.Prelude.{ℕ, Bool, List, Option}
-use Rattle.cdb_files.specs.Folder.{NameCalls}
+use Rattle.cdb_names.specs.Folder.{NameCalls}
 use Rattle.cdb.specs.Files.{Files}
 use Rattle.cdb.specs.Opening.{OpenCalls}
 

@@ -5,8 +5,8 @@ ghost use Rattle.cdb.specs.Creating.{IsBufferedRun, IsCaused, IsDatabase, MakesI
 ghost use Rattle.cdb.specs.Contents.{making_of};
 
 use crate::contents::Contents;
-use cdb_files::{Builder, Unsynced};
 use cdb_form::{PIPE, Sink, Width};
+use cdb_names::{Builder, Unsynced};
 use cdb_store::{BufferedStore, Store};
 use cdb_tool::{Fault, make_run_from};
 use std::alloc::Global;

@@ -10,9 +10,9 @@ ghost use Rattle.cdb.specs.Causes.{cause_words, input_name, new_name, read_name,
 use crate::creating::is_in_place;
 use crate::left::Left;
 use crate::system::System;
-use cdb_files::{Cause, Names, Refusal};
 use cdb_form::{TextFault, WalkFault};
 use cdb_make::MakeFault;
+use cdb_names::{Cause, Names, Refusal};
 use cdb_read::ReadFault;
 use cdb_tool::{Command, Fault, Lines, STANDARD_INPUT, input_at};
 

@@ -1,7 +1,7 @@
 // The command that compares two files.
 ghost use Rattle.std.specs.Prelude.{List, ℕ, Option};
 ghost use Rattle.cdb_show.specs.Views.Output.{OutputSays};
-ghost use Rattle.cdb_files.specs.Folder.{NameCalls};
+ghost use Rattle.cdb_names.specs.Folder.{NameCalls};
 ghost use Rattle.cdb.specs.Files.{files_of};
 ghost use Rattle.cdb.specs.Performs.{PerformsDifference};
 ghost use Rattle.cdb.specs.State.{state_of};

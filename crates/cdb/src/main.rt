@@ -23,8 +23,8 @@ mod telling;
 
 use crate::real_system::RealSystem;
 use crate::seen::{Seen, SeenReader, SeenWriter};
-use cdb_files::RealNames;
 use cdb_form::PIPE;
+use cdb_names::RealNames;
 use cdb_store::LAST_STANDARD;
 use cdb_tool::{Noted, Output, Usage};
 use std::fs::File;

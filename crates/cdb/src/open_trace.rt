@@ -3,7 +3,7 @@ ghost use Rattle.std.specs.Prelude.{◌≡◌, List, ℕ, [], ◌∷◌};
 ghost use Rattle.std.specs.Borrow.{ftrue};
 ghost use Rattle.cdb.specs.declared.open_trace.OpenCall.{OpenCall};
 
-use cdb_files::{Answer, Cause, Lock, NameFault};
+use cdb_names::{Answer, Cause, Lock, NameFault};
 use std::marker::{Model, PhantomData};
 
 /// A call on the file of a name.

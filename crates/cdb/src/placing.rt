@@ -10,8 +10,8 @@ ghost use Rattle.cdb.specs.Opening.{Empties, MissesEmptying, OpenCalls, named_as
 ghost use Rattle.cdb.specs.Creating.{MakesApart, MakesInPlace, SeesName, Syncs, answer_of};
 ghost use Rattle.cdb.specs.Files.{files_of};
 ghost use Rattle.cdb.specs.State.{state_of};
-ghost use Rattle.cdb_files.specs.declared.answer.Answer.TheVariants.{No, Yes};
-ghost use Rattle.cdb_files.specs.declared.name_trace.NameCall.TheVariants.{Input, Same};
+ghost use Rattle.cdb_names.specs.declared.answer.Answer.TheVariants.{No, Yes};
+ghost use Rattle.cdb_names.specs.declared.name_trace.NameCall.TheVariants.{Input, Same};
 ghost use Rattle.cdb.specs.Contents.{making_of, wanted_of};
 
 use crate::building::Building;
@@ -20,9 +20,9 @@ use crate::creating::Creation;
 use crate::inputs::{STANDARD_INPUT, is_standard};
 use crate::left::{Left, base_left};
 use crate::system::System;
-use cdb_files::{Answer, Builder, Lock, Names, ReplaceFault, replace_file};
 use cdb_form::{Sink, Width};
 use cdb_make::MakeFault;
+use cdb_names::{Answer, Builder, Lock, Names, ReplaceFault, replace_file};
 use cdb_store::Store;
 use cdb_tool::Fault;
 use std::alloc::Global;

@@ -7,7 +7,7 @@ ghost use Rattle.cdb_store.specs.Contents.{contents};
 ghost use Rattle.cdb_show.specs.Runs.Form.{form_of};
 ghost use Rattle.cdb_show.specs.Runs.Load.{IsNotLoaded};
 ghost use Rattle.cdb_show.specs.Runs.Query.{value_text};
-ghost use Rattle.cdb_files.specs.Folder.{NameCalls};
+ghost use Rattle.cdb_names.specs.Folder.{NameCalls};
 ghost use Rattle.cdb.specs.Files.{files_of};
 ghost use Rattle.cdb.specs.State.{state_of};
 ghost use Rattle.cdb.specs.Performs.{PerformsQuery, PerformsText, PerformsOn, LacksMemory, WritesText};
@@ -15,8 +15,8 @@ ghost use Rattle.cdb.specs.Performs.{Takes, TellsStore, ChecksStore};
 
 use crate::left::{Left, none_left, read_left};
 use crate::system::System;
-use cdb_files::Answer;
 use cdb_form::{PIPE, Sink, Width};
+use cdb_names::Answer;
 use cdb_store::{MemStore, Store};
 use cdb_tool::{
     Content, Fault, InWindow, Input, Style, check_run, load, query_run, stats_run,

@@ -1,14 +1,14 @@
 // The system's files: the lines that open them, and note it.
 ghost use Rattle.std.specs.Prelude.{◌≡◌, [], ◌∷◌, IfErr, None, Some, string_bytes, true};
 ghost use Rattle.std.specs.Option.{ForSome};
-ghost use Rattle.cdb_files.specs.Refusals.{is_of_system};
+ghost use Rattle.cdb_names.specs.Refusals.{is_of_system};
 ghost use Rattle.cdb.specs.Opening.{refused_by, refused_open, unopened};
 ghost use Rattle.cdb.specs.declared.open_trace.OpenCall.TheVariants.{Unopened};
 
 use crate::open_trace::{OpenCall, OpenTrace};
 use crate::seen::{Seen, SeenReader};
 use crate::system::System;
-use cdb_files::{Answer, Cause, Lock, NameFault, Refusal, has_name, locked};
+use cdb_names::{Answer, Cause, Lock, NameFault, Refusal, has_name, locked};
 use cdb_store::{FileStore, LAST_STANDARD, RealFile, StoreFault};
 use cdb_tool::Fault;
 use std::fs::{self, File};

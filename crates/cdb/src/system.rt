@@ -4,7 +4,7 @@ ghost use Rattle.cdb.specs.Opening.{IsOpenRefusal, OpenCalls, Misses, MayEmpty};
 ghost use Rattle.cdb.specs.declared.open_trace.OpenCall.TheVariants.{AtPlaces, InTurn, Stream};
 ghost use Rattle.cdb.specs.declared.open_trace.OpenCall.TheVariants.{Emptied, Locked, Own, ToEmpty};
 
-use cdb_files::{Answer, Lock, Refusal};
+use cdb_names::{Answer, Lock, Refusal};
 use cdb_store::{RealFile, Store};
 use cdb_tool::Fault;
 use std::io::Read;

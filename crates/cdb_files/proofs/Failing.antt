@@ -18,9 +18,9 @@ use Rattle.cdb_store.specs.declared.make_fault.MakeFault.TheVariants.{Broken, Lo
 use Rattle.cdb_make.specs.declared.maker.Maker.{Maker}
 use Rattle.cdb_files.specs.FileFault.{of_replace}
 use Rattle.cdb_files.specs.Made.{FailsBuilding, IsOfBuilding}
-use Rattle.cdb_files.specs.Replacing.{IsOfBuilder}
-use Rattle.cdb_files.specs.declared.replace.ReplaceFault.{ReplaceFault}
-use Rattle.cdb_files.specs.declared.replace.ReplaceFault.TheVariants as replacing
+use Rattle.cdb_names.specs.Replacing.{IsOfBuilder}
+use Rattle.cdb_names.specs.declared.replace.ReplaceFault.{ReplaceFault}
+use Rattle.cdb_names.specs.declared.replace.ReplaceFault.TheVariants as replacing
 
 -- the file of the first records is no longer than that of all
 first_fit : (w n : ℕ) (records : List Record) → file_size w (key_values (take n records)) ≤ file_size w (key_values records)

@@ -1,4 +1,1 @@
-mod Replacing
 mod Failing
-mod Locking
-mod Stops

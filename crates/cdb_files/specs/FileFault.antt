@@ -6,8 +6,8 @@ use Rattle.cdb_read.specs.Views.ReadFault.{read_display}
 use Rattle.cdb_files.specs.declared.fault.FileFault.{FileFault}
 use Rattle.cdb_files.specs.declared.fault.FileFault.TheVariants.{Open, NoMemory, Write}
 use Rattle.cdb_files.specs.declared.fault.FileFault.TheVariants.{Rename, Make, Read}
-use Rattle.cdb_files.specs.declared.replace.ReplaceFault.{ReplaceFault}
-use Rattle.cdb_files.specs.declared.replace.ReplaceFault.TheVariants as replacing
+use Rattle.cdb_names.specs.declared.replace.ReplaceFault.{ReplaceFault}
+use Rattle.cdb_names.specs.declared.replace.ReplaceFault.TheVariants as replacing
 
 -- its words
 abbrev pub file_display : FileFault → List ℕ

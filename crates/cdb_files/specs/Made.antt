@@ -12,10 +12,10 @@ use Rattle.cdb_store.specs.declared.make_fault.MakeFault.TheVariants.{Broken, Lo
 use Rattle.cdb_store.specs.declared.make_fault.MakeFault.TheVariants.{Writing}
 use Rattle.cdb_files.specs.declared.fault.FileFault.{FileFault}
 use Rattle.cdb_files.specs.declared.fault.FileFault.TheVariants as file
-use Rattle.cdb_files.specs.declared.replace.ReplaceFault.{ReplaceFault}
+use Rattle.cdb_names.specs.declared.replace.ReplaceFault.{ReplaceFault}
 use Rattle.cdb_files.specs.FileFault.{of_replace}
-use Rattle.cdb_files.specs.Folder.{NameCalls}
-use Rattle.cdb_files.specs.Replacing.{EndsIn, FailsToBuild}
+use Rattle.cdb_names.specs.Folder.{NameCalls}
+use Rattle.cdb_names.specs.Replacing.{EndsIn, FailsToBuild}
 
 -- these bytes are the file of the records, in words of w bytes
 abbrev pub IsFileOf : (w : ℕ) → List Record → List ℕ → Type 0

@@ -2,8 +2,8 @@
 ghost use Rattle.std.specs.Prelude.{◌≡◌, Some};
 ghost use Rattle.cdb_files.specs.FileFault.{file_display, of_replace};
 
-use crate::replace::ReplaceFault;
 use cdb_make::MakeFault;
+use cdb_names::ReplaceFault;
 use cdb_read::{ReadFault, Unread};
 use std::alloc::AllocFailed;
 use std::error::Error;

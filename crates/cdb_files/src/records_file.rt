@@ -2,7 +2,7 @@
 ghost use Rattle.std.specs.Prelude.{◌≡◌, ◌≤◌, ◌+◌, ◌++◌, [], ⊤, codes, IfErr, OnOk, OnErr};
 ghost use Rattle.cdb_form.specs.Views.Pairs.{key_values};
 ghost use Rattle.cdb_make.specs.Views.Maker.{Holds, IsFile, limit_of};
-ghost use Rattle.cdb_files.specs.Folder.{AreGuarded};
+ghost use Rattle.cdb_names.specs.Folder.{AreGuarded};
 ghost use Rattle.cdb_files.specs.Made.{
   FailsBeside,
   FailsBuilding,
@@ -11,14 +11,12 @@ ghost use Rattle.cdb_files.specs.Made.{
   IsFileOf,
   IsOfBuilding,
 };
-ghost use Rattle.cdb_files.specs.Replacing.{AreOfReplacing, AtEachMoment, IsRenamed, LeavesNew, LeavesOldOrNew, renames};
+ghost use Rattle.cdb_names.specs.Replacing.{AreOfReplacing, AtEachMoment, IsRenamed, LeavesNew, LeavesOldOrNew, renames};
 
 use crate::fault::FileFault;
-use crate::names::Names;
-use crate::replace::{Builder, replace_file};
-use crate::unsynced::Unsynced;
 use cdb_form::{PIPE, Record, Width};
 use cdb_make::{MakeFault, Maker, Mode};
+use cdb_names::{Builder, Names, Unsynced, replace_file};
 use cdb_store::{BufferedStore, Store};
 use std::alloc::Global;
 use std::marker::PhantomData;

@@ -1,7 +1,7 @@
 // A folder in memory that fails its calls from one on.
 ghost use Rattle.std.specs.Prelude.{◌≡◌, [], ◌∷◌, IfErr, OnOk};
-ghost use Rattle.cdb_files.specs.Folder.{IsCleared};
-ghost use Rattle.cdb_files.specs.declared.name_trace.NameCall.TheVariants.{Renamed, NotRenamed};
+ghost use Rattle.cdb_names.specs.Folder.{IsCleared};
+ghost use Rattle.cdb_names.specs.declared.name_trace.NameCall.TheVariants.{Renamed, NotRenamed};
 
 use super::fake_file::FakeFile;
 use cdb_files::{

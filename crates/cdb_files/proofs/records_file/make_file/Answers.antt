@@ -2,8 +2,8 @@ use Rattle.std.proofs.Common.{List, [], ℕ, inr, subst, ◌∙◌}
 use Rattle.std.specs.Prelude.{IfErr}
 use Rattle.std.proofs.lemmas.Result.{IfErr-weaker}
 use Rattle.cdb_files.specs.Made.{FailsMaking, IsFileOf}
-use Rattle.cdb_files.specs.Replacing.{AtEachMoment, LeavesOldOrNew}
-use Rattle.cdb_files.proofs.Replacing.{no_step, are_of_replacing, are_guarded, at_each_moment}
+use Rattle.cdb_names.specs.Replacing.{AtEachMoment, LeavesOldOrNew}
+use Rattle.cdb_names.proofs.Replacing.{no_step, are_of_replacing, are_guarded, at_each_moment}
 use Rattle.cdb_files.proofs.records_file.make_file.Goals as goal
 
 pub returns-in_default-clause-calls : goal.returns-in_default-clause-calls

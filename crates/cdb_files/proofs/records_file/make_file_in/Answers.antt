@@ -4,7 +4,7 @@ use Rattle.cdb_form.specs.Format.File.{file_bytes}
 use Rattle.cdb_form.specs.Views.Pairs.{key_values}
 use Rattle.cdb_files.specs.Made.{FailsToMake, IsFileOf}
 use Rattle.cdb_files.proofs.Failing.{building_fault}
-use Rattle.cdb_files.proofs.Replacing.{at_each_moment, weaker_replacing, weaker_sure}
+use Rattle.cdb_names.proofs.Replacing.{at_each_moment, weaker_replacing, weaker_sure}
 use Rattle.cdb_files.proofs.records_file.make_file_in.Goals as goal
 
 -- what was built is the file of the same records

@@ -1,0 +1,3 @@
+pub mod Replacing
+mod Locking
+mod Stops

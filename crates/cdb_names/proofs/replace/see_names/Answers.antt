@@ -1,0 +1,33 @@
+use Rattle.std.proofs.Common.{[], None, inl, inr, refl}
+use Rattle.cdb_names.specs.declared.answer.Answer.TheVariants.{Unknown}
+use Rattle.cdb_names.specs.declared.name_trace.NameCall.TheVariants.{Bits, Special}
+use Rattle.cdb_names.proofs.Replacing.{no_step, step}
+use Rattle.cdb_names.proofs.Stops.{no_more, one_more}
+use Rattle.cdb_names.proofs.replace.see_names.Goals as goal
+
+pub returns-in-Some-clause-steps : goal.returns-in-Some-clause-steps
+returns-in-Some-clause-steps g c =
+    step _ (Bits c.bits_for.result, c.args.name.now, [], []) (step _ (Special c.is_special.result, c.args.name.now, [], []) (no_step _) c.is_special.ensures tt tt) c.bits_for.ensures.trace tt tt
+
+pub returns-in-None-clause-steps : goal.returns-in-None-clause-steps
+returns-in-None-clause-steps g c =
+    step _ (Bits c.bits_for.result, c.args.name.now, [], []) (step _ (Special c.is_special.result, c.args.name.now, [], []) (no_step _) c.is_special.ensures tt tt) c.bits_for.ensures.trace tt tt
+
+pub returns-in-None-clause-err : goal.returns-in-None-clause-err
+returns-in-None-clause-err g c =
+    inr ((Bits None, c.args.name.now, [], []), _, one_more _ _ _ _ (no_more (g.N.Names.calls c.args.names.now)) c.is_special.ensures, inl (refl, c.in-None.ensures.trace))
+
+pub returns-in-Yes-clause-steps : goal.returns-in-Yes-clause-steps
+returns-in-Yes-clause-steps g c =
+    step _ (Special c.is_special.result, c.args.name.now, [], []) (no_step _) c.is_special.ensures tt tt
+
+pub returns-in-Unknown-clause-steps : goal.returns-in-Unknown-clause-steps
+returns-in-Unknown-clause-steps g c =
+    step _ (Special c.is_special.result, c.args.name.now, [], []) (no_step _) c.is_special.ensures tt tt
+
+pub returns-in-Unknown-clause-err : goal.returns-in-Unknown-clause-err
+returns-in-Unknown-clause-err g c =
+    inr ((Special Unknown, c.args.name.now, [], []), g.N.Names.calls c.args.names.now, no_more _, inl (refl, c.in-Unknown.ensures))
+
+pub returns-in-Some-clause-seen : goal.returns-in-Some-clause-seen
+returns-in-Some-clause-seen g c = (_, c.in-Some.ensures.trace)

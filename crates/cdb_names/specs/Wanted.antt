@@ -1,0 +1,28 @@
+-- The permission bits with which a file may get its name.
+use Rattle.std.specs.Prelude.{◌≡◌, ⊤, ℕ, bit_and}
+use Rattle.cdb_names.specs.declared.wanted.Wanted.{Wanted}
+use Rattle.cdb_names.specs.declared.wanted.Wanted.TheVariants.{Old, New}
+
+-- the bits that are wanted
+abbrev pub wanted_bits : Wanted → ℕ
+wanted_bits (Old bits) = bits
+wanted_bits (New bits) = bits
+
+-- those of a file that this user alone may read and write
+abbrev pub private_bits : ℕ
+private_bits = 384
+
+-- those that are asked for a plain new file, which all may read and write but for what the system takes
+abbrev pub plain_bits : ℕ
+plain_bits = 438
+
+-- the bits that are wanted are those of a file that is replaced, or else these
+abbrev pub IsOldOr : (bits : ℕ) → Wanted → Type 0
+IsOldOr bits (Old old) = ⊤
+IsOldOr bits (New new) = new ≡ bits
+
+-- a file with these bits may get its name: they are those of the file that it replaces, or no others than a
+-- plain new file gets
+abbrev pub Suits : Wanted → (bits : ℕ) → Type 0
+Suits (Old old) bits = bits ≡ old
+Suits (New new) bits = bit_and bits new ≡ bits

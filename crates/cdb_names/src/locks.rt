@@ -1,0 +1,42 @@
+// What the system answers to the request for a lock.
+ghost use Rattle.std.specs.Prelude.{◌≡◌, IfErr, true};
+ghost use Rattle.cdb_names.specs.Refusals.{may_be_for};
+ghost use Rattle.cdb_names.specs.declared.answer.Lock.TheVariants.{Held};
+ghost use Rattle.cdb_names.specs.declared.name_trace.NameCall.TheVariants.{Locked};
+
+use crate::refusal::Cause;
+use cdb_store::RealFile;
+use std::fs::TryLockError;
+
+/// Requests the lock of an open file, and does not wait for it. `Ok(false)`: its file system knows none.
+/// Otherwise another process holds it, or the system refused it.
+pub fn locked(file: &RealFile) -> Result<bool, Cause>
+    ensures { IfErr result (λ cause. may_be_for (Locked Held) cause ≡ true) }
+{
+    lock_of(file.try_lock())
+}
+
+/// What came of the request for a lock. Only a file system that knows none says so: by `ENOLCK`,
+/// `ENOSYS` or `ENOTSUP`. Each other fault may hide a lock, as that of a file which was not opened
+/// to write does over NFS.
+fn lock_of(answer: Result<(), TryLockError>) -> Result<bool, Cause>
+    ensures { IfErr result (λ cause. may_be_for (Locked Held) cause ≡ true) }
+{
+    match answer {
+        Ok(()) => Ok(true),
+        Err(TryLockError::WouldBlock) => Err(Cause::Held),
+        Err(TryLockError::Error(error)) => match error.raw_os_error() {
+            Some(ENOLCK | ENOSYS | ENOTSUP) => Ok(false),
+            number => Err(Cause::of_number(number)),
+        },
+    }
+}
+
+/// The system's number for "no locks available".
+const ENOLCK: i32 = 37;
+
+/// The system's number for "function not implemented".
+const ENOSYS: i32 = 38;
+
+/// The system's number for "operation not supported".
+const ENOTSUP: i32 = 95;

@@ -1,0 +1,83 @@
+//! The calls on names and what they answered, which only clauses read.
+ghost use Rattle.std.specs.Prelude.{◌≡◌, List, ℕ, [], ◌∷◌};
+ghost use Rattle.std.specs.Borrow.{ftrue};
+ghost use Rattle.cdb_store.specs.Calls.{Calls};
+ghost use Rattle.cdb_names.specs.declared.name_trace.NameCall.{NameCall};
+
+use crate::answer::{Answer, Found, Lock};
+use crate::name_fault::NameFault;
+use crate::wanted::Wanted;
+use cdb_store::Trace;
+use std::marker::{Model, PhantomData};
+
+/// What a call on names answered.
+#[derive(Clone, Copy)]
+pub enum NameCall {
+    /// Whether the name leads to something that is no regular file.
+    Special(Answer),
+    /// Whether the file of the name is that of the other name too.
+    Same(Answer),
+    /// What the name has.
+    Looked(Found),
+    /// The regular file of the name was opened.
+    Opened,
+    /// It was not.
+    NotOpened(NameFault),
+    /// A new file was made under the name, for which these permission bits were asked.
+    Made(u32),
+    /// None was made.
+    NotMade(NameFault),
+    /// What came of the request for the lock of the file that was opened or made last.
+    Locked(Lock),
+    /// Whether the name has that file.
+    Own(Answer),
+    /// Whether standard input is the file of the name.
+    Input(Answer),
+    /// The permission bits for a file that gets the name, if the system said.
+    Bits(Option<Wanted>),
+    /// The permission bits that the file of the name was seen to have, if the system said.
+    Seen(Option<u32>),
+    /// The system was asked to give the file of the name these permission bits.
+    Set(u32),
+    /// The name was taken from its file, or had none.
+    Removed,
+    /// The removal failed, or its outcome is unknown.
+    NotRemoved,
+    /// The file of the name, which has so many bytes, replaced what had the other name.
+    Renamed(u64),
+    /// The rename failed, or its outcome is unknown.
+    NotRenamed(u64, NameFault),
+    /// The folder of the name was synced.
+    Synced,
+    /// It was not.
+    NotSynced,
+}
+
+/// A list of calls, the newest first, each with its name, its other name, and the calls on its
+/// file. It takes no memory, and its methods do nothing at run time.
+#[derive(Drop)]
+pub struct NameTrace {
+    marker: PhantomData<u8>,
+    pub ghost events: { List (NameCall × List ℕ × List ℕ × Calls) },
+}
+
+impl Model for NameTrace {
+    ghost also_owns = { λ _. ftrue };
+}
+
+impl NameTrace {
+    /// No calls.
+    pub fn new() -> NameTrace
+        ensures { result.events ≡ [] }
+    {
+        NameTrace {
+            marker: PhantomData,
+        }
+    }
+
+    /// Adds a call.
+    pub fn note(&mut self, _call: &NameCall, _name: &[u8], _other: &[u8], _file: &Trace)
+        ensures { self.new.events
+            ≡ (_call.now, _name.now, _other.now, _file.now.events) ∷ self.old.events }
+    {}
+}

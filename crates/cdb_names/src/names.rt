@@ -1,0 +1,147 @@
+// Names in folders, by the calls on them.
+ghost use Rattle.std.specs.Prelude.{◌≡◌, [], ◌∷◌, IfOk, IfErr, IfSome, OnOk};
+ghost use Rattle.cdb_store.specs.declared.trace.Call.TheVariants.{Made as FileMade};
+ghost use Rattle.cdb_names.specs.Folder.{IsCleared, HasLock, NameCalls};
+ghost use Rattle.cdb_names.specs.Refusals.{IsNameRefusal};
+ghost use Rattle.cdb_names.specs.Wanted.{IsOldOr};
+ghost use Rattle.cdb_names.specs.declared.name_trace.NameCall.TheVariants.{
+  Special,
+  Same,
+  Looked,
+  Opened,
+  NotOpened,
+  Made,
+  NotMade,
+  Locked,
+  Own,
+  Input,
+  Bits,
+  Seen,
+  Set,
+  Renamed,
+  NotRenamed,
+  Synced,
+  NotSynced,
+};
+ghost use Rattle.std.specs.Prelude.{cond};
+
+use crate::answer::{Answer, Found, Lock};
+use crate::name_fault::NameFault;
+use crate::refusal::Refusal;
+use crate::wanted::Wanted;
+use cdb_store::RawFile;
+
+/// A file that was not renamed, and why.
+#[derive(Drop)]
+pub struct Unrenamed<F> {
+    /// The file.
+    pub file: F,
+    /// Why.
+    pub fault: NameFault,
+}
+
+/// The names of files, by the calls on them, each of which notes what it answered in proof-only
+/// data. A call that failed never counts as an answer: who asks decides what follows from it.
+pub trait Names {
+    /// A file that was opened or made.
+    type File: RawFile + Drop;
+
+    /// The calls, the newest first.
+    ghost calls: { Self → NameCalls };
+
+    /// The name that was refused last, and why. `None`: none was, or it is not known.
+    fn refusal(&self) -> Option<&Refusal>
+        ensures { IfSome result (λ refusal. IsNameRefusal refusal.now (calls self.now)) };
+
+    /// The number of the error of the last call that failed on the file from which a name was taken last,
+    /// if the system gave one.
+    fn file_error(&self) -> Option<i32>;
+
+    /// Whether a name leads to something that is no regular file, and so is not to be replaced: a
+    /// folder, a device, a socket or a pipe. A name that leads to nothing does not.
+    fn is_special(&mut self, name: &str) -> Answer
+        ensures { calls self.new ≡ (Special result, name.now, [], []) ∷ calls self.old };
+
+    /// Whether what has a name, be it a file or a link, has the other name too, or is the file that
+    /// the other leads to as a link. So a file is known by another spelling of its name and by a
+    /// link to it, and a link by another spelling.
+    fn is_file_of(&mut self, name: &str, other: &str) -> Answer
+        ensures { calls self.new ≡ (Same result, name.now, other.now, []) ∷ calls self.old };
+
+    /// What a name has. A link is not followed.
+    fn look(&mut self, name: &str) -> Found
+        ensures { calls self.new ≡ (Looked result, name.now, [], []) ∷ calls self.old };
+
+    /// Opens the regular file of a name to read and write it. It does not wait, whatever has the
+    /// name by now. `Failed`: it cannot be opened, or what was opened is no regular file.
+    fn open_old(&mut self, name: &str) -> Result<Self::File, NameFault>
+        ensures ok { OnOk result
+            (calls self.new ≡ (Opened, name.now, [], []) ∷ calls self.old) }
+        ensures err { IfErr result
+            (λ f. calls self.new ≡ (NotOpened f, name.now, [], []) ∷ calls self.old) };
+
+    /// Makes a file under a name that nothing has, reads and writes it, and follows no link. It gets
+    /// these permission bits, but for those that the umask or the folder's access list takes.
+    fn make_new(&mut self, name: &str, bits: u32) -> Result<Self::File, NameFault>
+        ensures ok { OnOk result (calls self.new ≡ (Made bits, name.now, [], []) ∷ calls self.old) }
+        ensures err { IfErr result
+            (λ f. calls self.new ≡ (NotMade f, name.now, [], []) ∷ calls self.old) }
+        ensures file { IfOk result (λ f. Self.File.calls f ≡ (FileMade, []) ∷ []) };
+
+    /// Requests the lock of an open file of a name, and does not wait for it.
+    fn lock(&mut self, name: &str, file: &Self::File) -> Lock
+        ensures { calls self.new ≡ (Locked result, name.now, [], []) ∷ calls self.old };
+
+    /// Whether a name has an open file. A link is not followed.
+    fn has_file(&mut self, name: &str, file: &Self::File) -> Answer
+        ensures { calls self.new ≡ (Own result, name.now, [], []) ∷ calls self.old };
+
+    /// Whether what has a name is the file of standard input. A link is not followed.
+    fn is_input(&mut self, name: &str) -> Answer
+        ensures { calls self.new ≡ (Input result, name.now, [], []) ∷ calls self.old };
+
+    /// The permission bits for a file that is to get a name: those of the regular file there, which is
+    /// not followed as a link, or else these. `None`: the system did not say what is there.
+    fn bits_for(&mut self, name: &str, bits: u32) -> Option<Wanted>
+        ensures trace { calls self.new ≡ (Bits result, name.now, [], []) ∷ calls self.old }
+        ensures old_or { IfSome result (IsOldOr bits) };
+
+    /// The permission bits of an open file of a name. `None`: the system did not say.
+    fn bits_of(&mut self, name: &str, file: &Self::File) -> Option<u32>
+        ensures { calls self.new
+            ≡ (Seen result, name.now, [], Self.File.calls file.now) ∷ calls self.old };
+
+    /// Asks the system to give an open file of a name these permission bits, whatever the umask.
+    /// Whether it has them then, `bits_of` says. Owner and group stay this user's, and bits beyond
+    /// read, write and execute are not given.
+    fn set_bits(&mut self, name: &str, file: &Self::File, bits: u32)
+        ensures { calls self.new
+            ≡ (Set bits, name.now, [], Self.File.calls file.now) ∷ calls self.old };
+
+    /// Takes a name from an open file whose lock is held, if the file still has it.
+    fn remove_own(&mut self, name: &str, file: &Self::File)
+        requires { HasLock name.now (calls self.old) }
+        ensures { IsCleared name.now (Self.File.calls file.now) (calls self.old) (calls self.new) };
+
+    /// Gives an open file, which is closed then, the other name in place of its own and of what had
+    /// the other. A file that is of another length, or does not have its name any more, is `Failed`.
+    fn rename(
+        &mut self,
+        file: Self::File,
+        len: u64,
+        name: &str,
+        other: &str,
+    ) -> Result<(), Unrenamed<Self::File>>
+        ensures ok { OnOk result (calls self.new
+            ≡ (Renamed len, name.now, other.now, Self.File.calls file) ∷ calls self.old) }
+        ensures err { IfErr result (λ u. calls self.new
+            ≡ (NotRenamed len u.fault, name.now, other.now, Self.File.calls file)
+            ∷ calls self.old) }
+        ensures kept { IfErr result (λ u. u.file ≡ file) };
+
+    /// Syncs the folder of a name, so that its names survive a loss of power, and answers
+    /// whether it did.
+    fn sync_folder(&mut self, name: &str) -> bool
+        ensures { calls self.new
+            ≡ (cond result Synced NotSynced, name.now, [], []) ∷ calls self.old };
+}
