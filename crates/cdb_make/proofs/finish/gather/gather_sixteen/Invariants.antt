@@ -1,4 +1,4 @@
-use Rattle.std.proofs.Common.{◌≡◌, ◌+◌, ◌-◌, ◌%◌, ◌≤◌, ℕ, drop, length, map, take}
+use Rattle.std.proofs.Common.{◌≡◌, ◌+◌, ◌-◌, ◌%◌, ◌≤◌, drop, length, map, take}
 use Rattle.std.specs.Simd.Lanes.{mask_l}
 use Rattle.cdb_make.specs.Gathering.{is_among}
 use Rattle.cdb_make.specs.Tables.{all_gathered, rooms_of, roll_entries, tables_of}

@@ -1,4 +1,4 @@
-use Rattle.std.proofs.Common.{◌≡◌, ◌∙◌, ◌+◌, ◌-◌, ◌%◌, ◌<◌, ◌^◌, ap, arith, cond, length, map, sym, w8, replicate, ℕ, List, refl, leb}
+use Rattle.std.proofs.Common.{◌∙◌, ◌+◌, ◌-◌, ◌%◌, ◌^◌, ap, arith, cond, map, w8, replicate, ℕ, List, leb}
 use Rattle.std.specs.Prelude.{bit_and}
 use Rattle.std.specs.Simd.Lanes.{mask_l, zip2, top}
 use Rattle.std.proofs.lemmas.Simd.{bitmask_splat, Each1-zip2, Each2-splat, Each1-all, map-map}
