@@ -399,4 +399,14 @@ impl<L: Width> Roll<L> {
         let searched = searched(self.tagged, &self.tags, &self.hashes);
         self.chains.link_all(searched, &self.marks);
     }
+
+    /// Lets the chains go, and their memory. A later look makes them again.
+    pub(crate) fn unchain(&mut self, alloc: Global)
+        ensures same { SameRecords self.old self.new }
+        ensures marks { self.new.marks ≡ self.old.marks }
+        ensures gone { self.new.gone ≡ self.old.gone }
+        ensures found { self.new.found ≡ self.old.found }
+    {
+        self.chains = Chains::new(alloc);
+    }
 }
