@@ -22,7 +22,8 @@ use std::marker::PhantomData;
 /// Some records of a roll.
 #[derive(Clone, Copy)]
 pub(crate) struct Picked {
-    /// The number of the first of them. If there are none, it is past all, however many records follow.
+    /// The number of the first of them. If there are none, it is past all, however many records
+    /// follow.
     pub(crate) first: usize,
     /// How many they are.
     pub(crate) count: u64,

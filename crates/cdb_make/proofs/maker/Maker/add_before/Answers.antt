@@ -1,5 +1,6 @@
 use Rattle.std.proofs.Common.{arith, refl, inl}
 use Rattle.std.proofs.lemmas.Grind.{common_steps}
+use Rattle.cdb_make.proofs.Settling.{stays_self}
 use Rattle.cdb_make.proofs.maker.Maker.add_before.Goals as goal
 
 pub returns-in-Err-NoMemory-clause-done : goal.returns-in-Err-NoMemory-clause-done
@@ -25,14 +26,7 @@ returns-in-Err-NoMemory-clause-fine g c = grind (arith, common_steps)
 
 pub returns-then-not-has_room-clause-waits : goal.returns-then-not-has_room-clause-waits
 returns-then-not-has_room-clause-waits g c = λ e. record {
-  stays = record {
-    same = record { hashes = refl; searched = refl; tagged = λ some. refl; places = refl; end = refl };
-    marks = refl;
-    gone = refl;
-    found = refl;
-    broken = refl;
-    goes = record { each = λ b is. (b, is, λ all sees. (all, sees, refl)) };
-  };
+  stays = stays_self c.args.self.now;
   written = refl;
   fine = refl;
   short = inl (omega (arith, c.has_room.ensures.none c.if-not-has_room.true, c.full_size.ensures.is));
