@@ -40,9 +40,7 @@ find-requires-clause-before g c =
     let first : ℕ = m.found.first in
     elim (cases_lt (c.loop-at.at - 1) first) [
       | inl lt ↦ lt
-      | inr le ↦ absurd (
-          let in_all : first < length (found_of m.marks.items) = omega (arith, le, c.loop-at-test.true, inv.within, length-map m.marks.items is_found, m.marked) in
-          let t : false ≡ true = sym (inv.below first (omega (arith, le, c.loop-at-test.true))) ∙ m.sought.first.here in_all in cc)
+      | inr le ↦ absurd (let t : false ≡ true = sym (inv.below first (omega (arith, le, c.loop-at-test.true))) ∙ m.sought.first.here (omega (arith, le, c.loop-at-test.true)) in cc)
     ]
 
 pub returns-in_err-at-2-clause-reads : goal.returns-in_err-at-2-clause-reads
