@@ -1,7 +1,8 @@
-use Rattle.std.proofs.Common.{◌≡◌, ℕ, ◌-◌, ◌<◌, Bool, List, true, false, length, get_or, set, sym, ap, ◌∙◌, arith, inl, inr}
+use Rattle.std.proofs.Common.{rules, Err, ◌≡◌, ℕ, ◌-◌, ◌<◌, Bool, List, true, false, length, get_or, set, sym, ap, ◌∙◌, arith, inl, inr}
 use Rattle.std.proofs.lemmas.Bool.{cases_eq, cases_lt}
 use Rattle.std.proofs.lemmas.List.{length-map, ext_get_or, get_or-set_same, get_or-set_other}
 use Rattle.cdb_store.proofs.Reading.{reads_more}
+use Rattle.cdb_make.specs.declared.key_at.LookFault.TheVariants.{Failed}
 use Rattle.cdb_make.specs.Marks.{gone_of, found_of, is_found, is_gone}
 use Rattle.cdb_make.specs.Rolls.{fresh}
 use Rattle.cdb_make.specs.Views.Roll.{searched}
@@ -133,3 +134,8 @@ last_with_key-requires-clause-hash g c = grind (arith, common_steps)
 
 pub returns-clause-ok_failures : goal.returns-clause-ok_failures
 returns-clause-ok_failures g c = grind (arith, common_steps)
+
+pub returns-in_err-at-2-clause-failed : goal.returns-in_err-at-2-clause-failed
+returns-in_err-at-2-clause-failed g c = λ h.
+    let was : c.in_err-at-2.field-0.0 ≡ Failed = search (rules, h, c.from_residual-in_err-at-2.ensures) in
+    omega (arith, c.in_err-at-2.ensures.failed (ap Err was), c.loop-at.invariant.failures)
