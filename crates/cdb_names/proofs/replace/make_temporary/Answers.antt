@@ -1,3 +1,5 @@
+use Rattle.std.proofs.lemmas.Grind.{common_steps}
+use Rattle.std.proofs.Common.{arith}
 use Rattle.cdb_names.proofs.Replacing.{go_on}
 use Rattle.cdb_names.proofs.Stops.{free_since, seen_since, steps_go_on, stops_since, unbuilt}
 use Rattle.std.proofs.lemmas.Result.{err_from_is_err_and}
@@ -46,3 +48,9 @@ returns-in_err-empty-clause-err g c =
 
 pub returns-clause-seen : goal.returns-clause-seen
 returns-clause-seen g c = seen_since c.args.temporary.now c.args.name.now _ _ _ (steps_go_on c.make_own.ensures.steps) c.in_ok-bits.ensures.seen
+
+pub returns-clause-one_name : goal.returns-clause-one_name
+returns-clause-one_name g c = grind (arith, common_steps)
+
+pub show_bits-requires-clause-free : goal.show_bits-requires-clause-free
+show_bits-requires-clause-free g c = grind (arith, common_steps)
