@@ -1,5 +1,5 @@
 -- What is asked of the files that are read, input by input.
-use Rattle.std.proofs.Common.{ℕ, ◌+◌, List, [], ◌∷◌, ◌++◌, ◌≡◌, inl, inr, refl, sym, subst, map, Result, Ok, Err}
+use Rattle.std.proofs.Common.{ℕ, List, [], ◌∷◌, ◌++◌, ◌≡◌, inl, inr, refl, sym, subst, map, Result, Ok, Err}
 use Rattle.std.specs.Prelude.{OnOk, codes}
 use Rattle.cdb_names.specs.Folder.{NameCalls}
 use Rattle.cdb.specs.Creating.{AsksEach, AsksOne, FindsInput, MayBeInput}

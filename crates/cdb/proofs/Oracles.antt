@@ -22,7 +22,6 @@ use Rattle.cdb_show.specs.Message.{fault_line}
 use Rattle.cdb_show.specs.Runs.Form.{dump_form, list_form}
 use Rattle.cdb_show.specs.Views.Output.{HasHandedOn, held_by, OutputFailed, OutputSays, output_bytes}
 use Rattle.cdb_show.specs.declared.output.Output.{Output as Writer}
-use Rattle.cdb_show.specs.Runs.Query.{Query}
 use Rattle.cdb_show.specs.Status.{plain_status, check_status, exit_status}
 use Rattle.cdb_show.proofs.Writers.{prefix_kept}
 use Rattle.cdb_show.specs.declared.fault.Fault.{Fault}

@@ -8,12 +8,11 @@ use Rattle.cdb_command.specs.declared.command.Command.{Command}
 use Rattle.cdb_command.specs.Refused.{Refused, usage_of}
 use Rattle.cdb_command.specs.Refused as words
 use Rattle.cdb_command.specs.declared.options.MakeOptions.{MakeOptions}
-use Rattle.cdb_command.specs.declared.usage.Usage.TheVariants.{NoMemory}
 use Rattle.cdb_store.specs.contracts.memory.MemStoreStore.TheImpl.{ghosts as in_memory}
 use Rattle.cdb_store.specs.declared.raw.RawFile.{Ghosts as Raw}
 use Rattle.cdb_show.specs.Runs.Form.{dump_form, list_form}
 use Rattle.cdb_show.specs.Runs.Flushed.{IsWhole}
-use Rattle.cdb_show.specs.Runs.Query.{Query, value_text}
+use Rattle.cdb_show.specs.Runs.Query.{value_text}
 use Rattle.cdb_show.specs.Status.{exit_status}
 use Rattle.cdb_show.specs.Views.Output.{OutputSays}
 use Rattle.cdb_show.specs.declared.fault.Fault.{Fault}
@@ -24,7 +23,7 @@ use Rattle.cdb_system.specs.Files.{Files}
 use Rattle.cdb_system.specs.Opening.{none_left}
 use Rattle.cdb_system.specs.State.{Failed, Given, State, calls_in, given_of, with_calls}
 use Rattle.cdb_system.specs.declared.left.Left.{Left}
-use Rattle.cdb_system.specs.Reading.{PerformsQuery, PerformsText, TellsStore, ChecksStore, PerformsOn, PerformsDifference, Lookups, PerformsLookups, Tells}
+use Rattle.cdb_system.specs.Reading.{PerformsQuery, PerformsText, TellsStore, ChecksStore, PerformsOn, PerformsDifference, PerformsLookups, Tells}
 use Rattle.cdb_system.specs.Telling.{refused_lines, SaysLine, Says, usage_status}
 
 -- ---- the options of a create, with the names of its inputs if duplicates are explained
