@@ -98,7 +98,7 @@ pub extern "C" fn cdb_c_find(file: &[u8], key: &[u8], found: &mut Found) -> i32
     }
 }
 
-/// SearchBegins the search of a key in a file, which has at least a head. 0 says that it ends at once.
+/// Begins the search of a key in a file, which has at least a head. 0 says that it ends at once.
 #[unsafe(no_mangle)]
 pub extern "C" fn cdb_c_begin(file: &[u8], key: &[u8], state: &mut State) -> i32
     requires { head_size 4 ≤ length file.now }

@@ -100,6 +100,31 @@ closes_all_by i j was some h none end = record {
   lone = λ lone. absurd (lone (gone_lazy i was some, some));
 }
 
+-- the records that stand are the same
+pub closes_all_then : {S L : Type 0} {s : Ghosts S} {l : Widths L} (i j k : Maker S L s l) → ClosesAll i j → k.store ≡ j.store → k.broken ≡ j.broken → SameRecords j.roll k.roll → k.roll.marks ≡ j.roll.marks → k.roll.gone ≡ j.roll.gone → ClosesAll i k
+closes_all_then {s = s} i j k h store broken same marks gone =
+    let goes = h.goes in
+    record {
+      stays = record {
+        was = h.stays.was;
+        whole = broken ∙ h.stays.whole;
+        holds = λ rs held. record {
+          whole = broken ∙ h.stays.whole;
+          each = λ b is.
+              let in_j = (h.stays.holds rs held).each b (subst (λ v. s.image v b) store is) in
+              record { all = in_j.all; sees = sees_same j.roll k.roll in_j.all b same in_j.sees; left = in_j.left ∙ ap (λ v. left (gone_of v.items) in_j.all) (sym marks) };
+        };
+      };
+      none = ap (λ v. v.count) gone ∙ h.none;
+      end = same.end ∙ h.end;
+      goes = record {
+        each = λ b is.
+            let g = goes.each b (subst (λ v. s.image v b) store is) in
+            (g.0, g.1, λ all sees. let q = g.2 all sees in (q.0, sees_same j.roll k.roll q.0 b same q.1, (q.2.0, ap s.written store ∙ q.2.1)));
+      };
+      lone = λ lone. ap s.written store ∙ h.lone lone;
+    }
+
 -- or none
 pub closes_all_none : {S L : Type 0} {s : Ghosts S} {l : Widths L} (i : Maker S L s l) → i.broken ≡ false → i.roll.gone.count ≡ 0 → ClosesAll i i
 closes_all_none {l = l} i was none = record {

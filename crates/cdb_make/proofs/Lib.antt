@@ -5,6 +5,7 @@ pub mod Finishing
 pub mod Appends
 pub mod Tables
 pub mod Gathered
+pub mod Gathering
 pub mod Halves
 pub mod Spans
 pub mod Marking

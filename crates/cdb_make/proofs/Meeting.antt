@@ -5,6 +5,7 @@ use Rattle.std.specs.Result.{IsErrAnd}
 use Rattle.std.proofs.lemmas.Bool.{false_from_ne_true, cases_lt}
 use Rattle.std.proofs.lemmas.List.{length-map}
 use Rattle.std.proofs.lemmas.List.Sums.{sum_by-cons, sum_by_push}
+use Rattle.cdb_store.proofs.Reading.{reads_nothing}
 use Rattle.cdb_store.specs.declared.store.Store.{Ghosts}
 use Rattle.cdb_form.specs.declared.width.Width.{Ghosts as Widths}
 use Rattle.cdb_form.specs.declared.mode.Mode.{Mode}
@@ -27,7 +28,7 @@ use Rattle.cdb_make.specs.Views.Roll.{searched, HasRoom}
 use Rattle.cdb_make.specs.Views.Maker.{gone_in, found_in, Holds, Rests, Stays, Seeks, Meets, Settles, Puts, Follows, IsOver, IsWithin, IsTooBig, WouldPut, WantsRoom, OnlyAdds, PassesRoom, DoesNothing, WritesNothing, HasFailedToWrite, HasNotFailed, HasStoreFailed, HasGone, HasGoneOr, IsTorn, IsMarked, IsHalfway, FailsSettling, FailsPutting, IsAlone, IsShort, put_bytes, lone_bytes, goes_with, is_present}
 use Rattle.cdb_make.proofs.Ends.{end_passed}
 use Rattle.cdb_make.proofs.Finishing.{gone_lazy}
-use Rattle.cdb_make.proofs.Looking.{sees_long, sees_same, same_back}
+use Rattle.cdb_make.proofs.Looking.{same_back, same_self, sees_long, sees_same}
 use Rattle.cdb_make.proofs.Picking.{left_all_stay, left_sum, end_sum, number_none, gone_taken, number_taken, both_within, both_few}
 use Rattle.cdb_make.proofs.Rolls.{left_file, slots_add, whole_push}
 use Rattle.cdb_make.proofs.Removing.{one_of, rest_of, sought, kept_picked, left-sum_by, behind-sum_by, moved_first}
@@ -430,6 +431,12 @@ put_failed i j k hash mode r put (Err v) f w np m fine follows h e = subst (Fail
 
 pub meets_add : {S L : Type 0} {s : Ghosts S} {l : Widths L} (i j : Maker S L s l) (hash : ℕ) (mode : Mode) (r : KeyValue) → mode ≡ Add → Rests i j → AreNone (found_in j) → Meets i j hash mode r Added
 meets_add {l = l} i j hash mode r is rests none = subst (λ v. Meets i j hash v r Added) (sym is) (meets_by i j hash Add r Added (λ e. (let t : Add ≡ Replace = e in cc)) rests none (λ rs h b at. plain_add l.WORD r rs))
+
+-- no other goes and none was found
+pub meets_alone : {S L : Type 0} {s : Ghosts S} {l : Widths L} (i : Maker S L s l) (hash : ℕ) (mode : Mode) (r : KeyValue) → mode ≡ Add → i.broken ≡ false → i.roll.gone.count + i.roll.found.count ≡ 0 → Meets i i hash mode r Added
+meets_alone i hash mode r is whole none =
+    meets_add i i hash mode r is (record { was = whole; whole = whole; same = same_self i.roll; gone = refl; picked = refl; limit = refl; lazy = refl; reads = reads_nothing _ _ refl })
+    (number_zero (found_in i) (omega (arith, i.roll.sought.count, none)))
 
 -- a replacement is taken, and no record is in its way
 pub replaces_it : (n : ℕ) → Replaced n ≢ Present

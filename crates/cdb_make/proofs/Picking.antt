@@ -1,8 +1,8 @@
 -- Marked records: how many they are, how many bytes they have, and which is the first.
-use Rattle.std.proofs.Common.{◌≡◌, ◌≢◌, ℕ, zero, suc, ◌+◌, ◌-◌, ◌<◌, ◌≤◌, Bool, true, false, cond, List, [], ◌∷◌, ◌++◌, length, map, take, drop, min, get_or, set, refl, sym, ap, subst, ◌∙◌, arith, inl, inr, length-set}
+use Rattle.std.proofs.Common.{◌≡◌, ℕ, zero, suc, ◌+◌, ◌-◌, ◌^◌, ◌⊎◌, ◌<◌, ◌≤◌, Bool, true, false, cond, List, [], ◌∷◌, ◌++◌, length, map, take, drop, min, get_or, set, refl, sym, ap, subst, ◌∙◌, arith, inl, inr}
 use Rattle.std.specs.Prelude.{sum, slice_index}
 use Rattle.std.proofs.lemmas.Bool.{cases_eq, cases_lt, false_from_ne_true}
-use Rattle.std.proofs.lemmas.List.{ext_get_or, get_or_default, get_or_append_left, get_or_push, get_or_past, length_push, length-map, take_at, get_or-set_same, get_or-set_other}
+use Rattle.std.proofs.lemmas.List.{ext_get_or, get_or_default, get_or_past, length-map, take_at, get_or-set_same, get_or-set_other}
 use Rattle.std.proofs.lemmas.List.Sums.{sum_by-cons}
 use Rattle.std.proofs.Math.Seq.{map-set_same}
 use Rattle.std.proofs.Math.ListN.{get_or-map}
@@ -13,7 +13,7 @@ use Rattle.cdb_form.specs.Format.Pair.{head_size}
 use Rattle.cdb_make.specs.Views.Places.{places_in}
 use Rattle.cdb_make.specs.declared.roll.Roll.{Roll}
 use Rattle.cdb_make.specs.declared.roll.Picked.{Picked}
-use Rattle.cdb_make.specs.Marks.{is_gone, is_found, gone_of, found_of, taken, put_back, IsFirstMarked, AreNone, HaveHash, IsPutBackFrom}
+use Rattle.cdb_make.specs.Marks.{is_gone, is_found, gone_of, found_of, taken, put_back, IsFirstMarked, IsFirstOrPast, AreNone, HaveHash, IsPutBackFrom}
 use Rattle.cdb_make.specs.Spans.{left, picked, number, or_each, AreOf, IsPicked, places_from, end_from}
 use Rattle.cdb_make.proofs.Spans.{long_as, place_size, spans_of}
 use Rattle.cdb_make.proofs.Marking.{gone_or, found_or}
@@ -149,88 +149,77 @@ put_back_same Stays e = refl
 put_back_same Found e = absurd (let t : true ≡ false = e in cc)
 put_back_same Gone e = refl
 
-pub put_back_all : (old new : List Mark) (first : ℕ) → length new ≡ length old → ((k : ℕ) → k < first → get_or (found_of old) k true ≡ false) → first ≤ length old → IsPutBackFrom first (length old) old new → new ≡ map put_back old
+pub put_back_all : (old new : List Mark) (first : ℕ) → length new ≡ length old → ((k : ℕ) → k < first → get_or (found_of old) k false ≡ false) → first ≤ length old → IsPutBackFrom first (length old) old new → new ≡ map put_back old
 put_back_all old new first long none within h = ext_get_or Gone new (map put_back old) (long ∙ sym (length-map old put_back)) (λ k lt.
     elim (cases_lt k first) [
-      | inl below ↦ h.before k below ∙ put_back_same (get_or old k Gone) (sym (found_or old k) ∙ get_or_default (found_of old) k false true (omega (arith, length-map old is_found)) ∙ none k below)
+      | inl below ↦ h.before k below ∙ put_back_same (get_or old k Gone) (sym (found_or old k) ∙ none k below)
       | inr over ↦ h.within k (omega arith) (omega arith)
     ] ∙ sym (get_or-map put_back old k Gone))
 
 -- ---- the first of them
 
-pub first_push : (ms : List Bool) (n m : ℕ) → (n ≡ length ms → m ≡ length ms + 1) → (n ≢ length ms → m ≡ n) → IsFirstMarked ms n → IsFirstMarked (ms ++ false ∷ []) m
-first_push ms n m all some h =
-    let long : length (ms ++ false ∷ []) ≡ length ms + 1 = length_push ms false in
-    let old : (k : ℕ) (d : Bool) → k < length ms → get_or (ms ++ false ∷ []) k d ≡ get_or ms k d = λ k d lt. get_or_append_left ms (false ∷ []) d k lt in
-    let last : (d : Bool) → get_or (ms ++ false ∷ []) (length ms) d ≡ false = λ d. get_or_push ms false d (length ms) refl in
-    elim (cases_eq n (length ms)) [
-      | inl e ↦
-          let is : m ≡ length ms + 1 = all e in
-          record {
-            within = omega arith;
-            before = λ k lt. elim (cases_eq k (length ms)) [
-              | inl here ↦ ap (λ (v : ℕ). get_or (ms ++ false ∷ []) v true) here ∙ last true
-              | inr apart ↦ let low : k < length ms = omega arith in old k true low ∙ h.before k (omega arith)
-            ];
-            here = λ lt. absurd (omega arith);
-          }
-      | inr apart ↦
-          let is : m ≡ n = some apart in
-          let low : n < length ms = omega (arith, h.within) in
-          record {
-            within = omega arith;
-            before = λ k lt. (let below : k < length ms = omega arith in old k true below ∙ h.before k (omega arith));
-            here = λ lt. ap (λ (v : ℕ). get_or (ms ++ false ∷ []) v false) is ∙ old n false low ∙ h.here low;
-          }
-    ]
+more_same : (ms : List Bool) (k : ℕ) → get_or (ms ++ false ∷ []) k false ≡ get_or ms k false
+more_same [] zero = refl
+more_same [] (suc k) = refl
+more_same (m ∷ ms) zero = refl
+more_same (m ∷ ms) (suc k) = more_same ms k
 
-is_left : (m : Mark) → is_gone m ≡ false → is_found m ≡ false → taken m ≡ Stays
-is_left Stays g f = refl
-is_left Found g f = absurd (let t : true ≡ false = f in cc)
-is_left Gone g f = absurd (let t : true ≡ false = g in cc)
+first_push : (ms : List Bool) (n : ℕ) → IsFirstOrPast ms n → IsFirstOrPast (ms ++ false ∷ []) n
+first_push ms n h = record { before = λ k lt. more_same ms k ∙ h.before k lt; here = λ lt. more_same ms n ∙ h.here lt }
 
-goes_gone : (m : Mark) → is_gone m ≡ true → is_gone (taken m) ≡ true
-goes_gone Stays e = absurd (let t : false ≡ true = e in cc)
-goes_gone Found e = refl
-goes_gone Gone e = refl
+taken_stays : (ms : List Mark) (k : ℕ) → get_or (gone_of ms) k false ≡ false → get_or (found_of ms) k false ≡ false → get_or (gone_of (map taken ms)) k false ≡ false
+taken_stays [] k g f = refl
+taken_stays (Stays ∷ ms) zero g f = refl
+taken_stays (Found ∷ ms) zero g f = f
+taken_stays (Gone ∷ ms) zero g f = g
+taken_stays (m ∷ ms) (suc k) g f = taken_stays ms k g f
 
-goes_found : (m : Mark) → is_found m ≡ true → is_gone (taken m) ≡ true
-goes_found Stays e = absurd (let t : false ≡ true = e in cc)
-goes_found Found e = refl
-goes_found Gone e = absurd (let t : false ≡ true = e in cc)
+taken_goes : (ms : List Mark) (k : ℕ) → (get_or (gone_of ms) k false ≡ true) ⊎ (get_or (found_of ms) k false ≡ true) → get_or (gone_of (map taken ms)) k false ≡ true
+taken_goes [] k (inl e) = e
+taken_goes [] k (inr e) = e
+taken_goes (Stays ∷ ms) zero (inl e) = e
+taken_goes (Stays ∷ ms) zero (inr e) = e
+taken_goes (Found ∷ ms) zero h = refl
+taken_goes (Gone ∷ ms) zero h = refl
+taken_goes (m ∷ ms) (suc k) h = taken_goes ms k h
 
-pub first_taken : (ms : List Mark) (a b : ℕ) → IsFirstMarked (gone_of ms) a → IsFirstMarked (found_of ms) b → IsFirstMarked (gone_of (map taken ms)) (min a b)
-first_taken ms a b g f =
-    let long : length (gone_of (map taken ms)) ≡ length ms = length-map (map taken ms) is_gone ∙ length-map ms taken in
-    let at : (k : ℕ) → get_or (gone_of (map taken ms)) k true ≡ is_gone (taken (get_or ms k Gone)) = λ k. gone_or (map taken ms) k ∙ ap is_gone (get_or-map taken ms k Gone) in
-    record {
-      within = omega (arith, g.within, length-map ms is_gone);
-      before = λ k lt.
-          let in_found : k < length (found_of ms) = omega (arith, f.within) in
-          let m : Mark = get_or ms k Gone in
-          at k ∙ ap is_gone (is_left m (sym (gone_or ms k) ∙ g.before k (omega arith)) (sym (found_or ms k) ∙ get_or_default (found_of ms) k false true in_found ∙ f.before k (omega arith)));
-      here = λ lt.
-          let n : ℕ = min a b in
-          let in_all : n < length (gone_of (map taken ms)) = lt in
-          get_or_default (gone_of (map taken ms)) n false true in_all ∙ at n
-          ∙ elim (cases_lt b a) [
-            | inl below ↦
-                let e : n ≡ b = omega arith in
-                let in_b : b < length (found_of ms) = omega (arith, length-map ms is_found) in
-                ap (λ (v : ℕ). is_gone (taken (get_or ms v Gone))) e ∙ goes_found (get_or ms b Gone) (sym (found_or ms b) ∙ f.here in_b)
-            | inr over ↦
-                let e : n ≡ a = omega arith in
-                let in_a : a < length (gone_of ms) = omega (arith, length-map ms is_gone) in
-                ap (λ (v : ℕ). is_gone (taken (get_or ms v Gone))) e ∙ goes_gone (get_or ms a Gone) (sym (gone_or ms a) ∙ get_or_default (gone_of ms) a true false in_a ∙ g.here in_a)
-          ];
-    }
-
-pub first_none : (ms : List Bool) → AreNone ms → IsFirstMarked ms (length ms)
-first_none ms none = record {
-  within = omega arith;
-  before = λ k lt. get_or_default ms k true false lt ∙ none k;
-  here = λ lt. absurd (omega arith);
+first_taken : (ms : List Mark) (a b : ℕ) → IsFirstOrPast (gone_of ms) a → IsFirstOrPast (found_of ms) b → IsFirstOrPast (gone_of (map taken ms)) (min a b)
+first_taken ms a b g f = record {
+  before = λ k lt. taken_stays ms k (g.before k (omega arith)) (f.before k (omega arith));
+  here = λ lt. elim (cases_lt b a) [
+    | inl below ↦
+        let e : min a b ≡ b = omega arith in
+        ap (λ (v : ℕ). get_or (gone_of (map taken ms)) v false) e ∙ taken_goes ms b (inr (f.here (omega arith)))
+    | inr over ↦
+        let e : min a b ≡ a = omega arith in
+        ap (λ (v : ℕ). get_or (gone_of (map taken ms)) v false) e ∙ taken_goes ms a (inl (g.here (omega arith)))
+  ];
 }
+
+first_none : (ms : List Bool) → AreNone ms → IsFirstOrPast ms (2 ^ 64 - 1)
+first_none ms none = record { before = λ k lt. none k; here = λ lt. absurd (omega arith) }
+
+-- among so many it is the first of them, or all; and there is a first if some are marked
+pub first_among : (ms : List Bool) (n : ℕ) → length ms < 2 ^ 63 → IsFirstOrPast ms n → IsFirstMarked ms (min n (length ms))
+first_among ms n few h = record {
+  within = omega arith;
+  before = λ k lt. get_or_default ms k true false (omega arith) ∙ h.before k (omega arith);
+  here = λ lt.
+      let e : min n (length ms) ≡ n = omega arith in
+      ap (λ (v : ℕ). get_or ms v false) e ∙ h.here (omega arith);
+}
+
+pub first_within : (ms : List Bool) (n : ℕ) → IsFirstOrPast ms n → 0 < number ms → n < length ms
+first_within ms n h some = elim (cases_lt n (length ms)) [
+  | inl lt ↦ lt
+  | inr le ↦ absurd (omega (
+    arith,
+    number_none ms (λ k. elim (cases_lt k n) [
+      | inl low ↦ h.before k low
+      | inr past ↦ get_or_past ms k false (omega arith)
+    ]),
+  ))
+]
 
 -- what stands before the first that has a mark
 pub left_front : {A : Type 0} (ms : List Bool) (xs : List A) (first k : ℕ) (d : A) → ((i : ℕ) → i < first → get_or ms i true ≡ false) → k < first → length ms ≡ length xs → get_or (left ms xs) k d ≡ get_or xs k d
@@ -242,19 +231,19 @@ left_front (false ∷ ms) (x ∷ xs) first (suc k) d none lt e = left_front ms x
 
 -- ---- all together
 
-pub picks_push : {from end : ℕ} {places new sizes : List ℕ} (ms : List Bool) (p q : Picked) (n : ℕ) → length ms ≡ length sizes → AreOf from places end sizes → AreOf from new (end + n) (sizes ++ n ∷ []) → (p.first ≡ length ms → q.first ≡ length ms + 1) → (p.first ≢ length ms → q.first ≡ p.first) → q.count ≡ p.count → q.size ≡ p.size
-    → IsPicked from places end ms p → IsPicked from new (end + n) (ms ++ false ∷ []) q
-picks_push {from = from} {sizes = sizes} ms p q n long of of₁ all some count size h = record {
-  first = first_push ms p.first q.first all some h.first;
-  count = count ∙ h.count ∙ sym (number_push ms);
+pub picks_push : {from end : ℕ} {places new sizes : List ℕ} (ms : List Bool) (p : Picked) (n : ℕ) → length ms ≡ length sizes → AreOf from places end sizes → AreOf from new (end + n) (sizes ++ n ∷ [])
+    → IsPicked from places end ms p → IsPicked from new (end + n) (ms ++ false ∷ []) p
+picks_push {from = from} {sizes = sizes} ms p n long of of₁ h = record {
+  first = first_push ms p.first h.first;
+  count = h.count ∙ sym (number_push ms);
   size = λ ns are.
       let e : ns ≡ sizes ++ n ∷ [] = of_same from ns (sizes ++ n ∷ []) (sym are.are ∙ of₁.are) (sym are.ends ∙ of₁.ends) in
-      size ∙ h.size sizes of ∙ ap sum (sym (picked_push ms sizes n long)) ∙ ap (λ (v : List ℕ). sum (picked (ms ++ false ∷ []) v)) (sym e);
+      h.size sizes of ∙ ap sum (sym (picked_push ms sizes n long)) ∙ ap (λ (v : List ℕ). sum (picked (ms ++ false ∷ []) v)) (sym e);
 }
 
-pub picks_none : (from end : ℕ) (places : List ℕ) (ms : List Bool) (p : Picked) → AreNone ms → p.first ≡ length ms → p.count ≡ 0 → p.size ≡ 0 → IsPicked from places end ms p
+pub picks_none : (from end : ℕ) (places : List ℕ) (ms : List Bool) (p : Picked) → AreNone ms → p.first ≡ 2 ^ 64 - 1 → p.count ≡ 0 → p.size ≡ 0 → IsPicked from places end ms p
 picks_none from end places ms p none first count size = record {
-  first = subst (IsFirstMarked ms) (sym first) (first_none ms none);
+  first = subst (IsFirstOrPast ms) (sym first) (first_none ms none);
   count = count ∙ sym (number_none ms none);
   size = λ ns of. size ∙ sym (ap sum (picked_none ms ns none));
 }
@@ -262,17 +251,17 @@ picks_none from end places ms p none first count size = record {
 pub picks_taken : {from end : ℕ} {places : List ℕ} (ms : List Mark) (p q r : Picked) → length ms ≡ length places → r.first ≡ min p.first q.first → r.count ≡ p.count + q.count → r.size ≡ p.size + q.size → IsPicked from places end (gone_of ms) p → IsPicked from places end (found_of ms) q
     → IsPicked from places end (gone_of (map taken ms)) r
 picks_taken ms p q r long first count size g f = record {
-  first = subst (IsFirstMarked (gone_of (map taken ms))) (sym first) (first_taken ms p.first q.first g.first f.first);
+  first = subst (IsFirstOrPast (gone_of (map taken ms))) (sym first) (first_taken ms p.first q.first g.first f.first);
   count = omega (arith, count, g.count, f.count, number_taken ms);
   size = λ ns of. omega (arith, size, g.size ns of, f.size ns of, picked_taken ms ns (long ∙ long_as of));
 }
 
 -- ---- the marks of a vector
 
-pub back_items : (now old new rest : List Mark) (len first : ℕ) → now ≡ old → len ≡ length old → IsFirstMarked (found_of old) first → length new ≡ length now → IsPutBackFrom first (length now) now new → take len (new ++ rest) ≡ map put_back old
-back_items now old new rest len first value long h same back =
+pub back_items : (now old new rest : List Mark) (len first : ℕ) → now ≡ old → len ≡ length old → IsFirstOrPast (found_of old) first → 0 < number (found_of old) → length new ≡ length now → IsPutBackFrom first (length now) now new → take len (new ++ rest) ≡ map put_back old
+back_items now old new rest len first value long h some same back =
     let all : length new ≡ length old = same ∙ ap length value in
-    take_at new rest len (all ∙ sym long) ∙ put_back_all old new first all h.before (omega (arith, h.within, length-map old is_found)) (subst (λ (v : List Mark). IsPutBackFrom first (length v) v new) value back)
+    take_at new rest len (all ∙ sym long) ∙ put_back_all old new first all h.before (omega (arith, first_within (found_of old) first h some, length-map old is_found)) (subst (λ (v : List Mark). IsPutBackFrom first (length v) v new) value back)
 
 pub taken_items : (now old new rest : List Mark) (len : ℕ) → now ≡ old → len ≡ length old → new ≡ map taken now → take len (new ++ rest) ≡ map taken old
 taken_items now old new rest len value long is =
@@ -324,22 +313,18 @@ picked_set (true ∷ ms) (x ∷ xs) (suc n) e lt off =
     let f : sum (x ∷ a) ≡ sum (x ∷ b) + get_or xs n 0 = omega (arith, h, sum-cons x a, sum-cons x b) in f
 picked_set (false ∷ ms) (x ∷ xs) (suc n) e lt off = picked_set ms xs n (omega arith) (omega arith) off
 
-first_set : (ms : List Bool) (n first : ℕ) → n < first → IsFirstMarked ms first → IsFirstMarked (set ms n true) n
-first_set ms n first lt h =
-    let in_ms : n < length ms = omega (arith, h.within) in
-    record {
-      within = omega (arith, length-set ms n true);
-      before = λ k below. get_or-set_other ms n k true true (λ e. omega arith) ∙ h.before k (omega arith);
-      here = λ in_set. get_or-set_same ms n true false in_ms;
-    }
+first_set : (ms : List Bool) (n first : ℕ) → n < length ms → n < first → IsFirstOrPast ms first → IsFirstOrPast (set ms n true) n
+first_set ms n first in_ms lt h = record {
+  before = λ k below. get_or-set_other ms n k true false (λ e. omega arith) ∙ h.before k (omega arith);
+  here = λ past. get_or-set_same ms n true false in_ms;
+}
 
-pub picks_set : {from end : ℕ} {places : List ℕ} (ms : List Bool) (p q : Picked) (n : ℕ) → length ms ≡ length places → n < p.first → q.first ≡ n → q.count ≡ p.count + 1 → q.size ≡ p.size + (get_or places (n + 1) end - get_or places n end) → IsPicked from places end ms p
+pub picks_set : {from end : ℕ} {places : List ℕ} (ms : List Bool) (p q : Picked) (n : ℕ) → length ms ≡ length places → n < length ms → n < p.first → q.first ≡ n → q.count ≡ p.count + 1 → q.size ≡ p.size + (get_or places (n + 1) end - get_or places n end) → IsPicked from places end ms p
     → IsPicked from places end (set ms n true) q
-picks_set {end = end} {places = places} ms p q n long lt first count size h =
-    let in_ms : n < length ms = omega (arith, h.first.within) in
-    let off : get_or ms n false ≡ false = get_or_default ms n false true in_ms ∙ h.first.before n lt in
+picks_set {end = end} {places = places} ms p q n long in_ms lt first count size h =
+    let off : get_or ms n false ≡ false = h.first.before n lt in
     record {
-      first = subst (IsFirstMarked (set ms n true)) (sym first) (first_set ms n p.first lt h.first);
+      first = subst (IsFirstOrPast (set ms n true)) (sym first) (first_set ms n p.first in_ms lt h.first);
       count = omega (arith, count, h.count, number_set ms n in_ms off);
       size = λ ns of. omega (arith, size, h.size ns of, picked_set ms ns n (long ∙ long_as of) in_ms off, place_size n of (omega (arith, long, long_as of)));
     }

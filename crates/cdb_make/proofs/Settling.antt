@@ -127,6 +127,16 @@ settles_after {s = s} {l = l} i j k r w lazy t = record {
   };
 }
 
+pub stays_self : {S L : Type 0} {s : Ghosts S} {l : Widths L} (i : Maker S L s l) → Stays i i
+stays_self i = record {
+  same = same_self i.roll;
+  marks = refl;
+  gone = refl;
+  found = refl;
+  broken = refl;
+  goes = record { each = λ b is. (b, is, λ all sees. (all, sees, refl)) };
+}
+
 pub stays_then : {S L : Type 0} {s : Ghosts S} {l : Widths L} (i j k : Maker S L s l) → Stays i j → Stays j k → Stays i k
 stays_then i j k f h = record {
   same = same_then i.roll j.roll k.roll f.same h.same;

@@ -6,6 +6,7 @@ pub mod Unfinished
 pub mod Parts
 pub mod Finished
 pub mod Tables
+pub mod Gathering
 pub mod Marks
 pub mod Spans
 pub mod Tags

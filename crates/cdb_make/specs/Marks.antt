@@ -1,5 +1,5 @@
 -- The marks of records, in their order: which go, and which a look has found.
-use Rattle.std.specs.Prelude.{ℕ, ◌≡◌, ◌<◌, ◌≤◌, Bool, true, false, List, length, map, get_or, slice_index}
+use Rattle.std.specs.Prelude.{ℕ, ◌≡◌, ◌-◌, ◌^◌, ◌<◌, ◌≤◌, Bool, true, false, List, length, map, get_or, slice_index}
 use Rattle.cdb_make.specs.declared.mark.Mark.{Mark}
 use Rattle.cdb_make.specs.declared.mark.Mark.TheVariants.{Stays, Found, Gone}
 
@@ -36,6 +36,11 @@ pub record IsFirstMarked (ms : List Bool) (n : ℕ) : Type 0 where
   pub within : n ≤ length ms
   pub before : (k : ℕ) → k < n → get_or ms k true ≡ false
   pub here : n < length ms → get_or ms n false ≡ true
+
+-- n is the number of the first that is true, or past all if there is none
+pub record IsFirstOrPast (ms : List Bool) (n : ℕ) : Type 0 where
+  pub before : (k : ℕ) → k < n → get_or ms k false ≡ false
+  pub here : n < 2 ^ 64 - 1 → get_or ms n false ≡ true
 
 -- none is true
 abbrev pub AreNone : List Bool → Type 0

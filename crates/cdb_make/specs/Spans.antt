@@ -1,7 +1,7 @@
 -- Pieces that stand one after another, of which some are marked: these are to go.
 use Rattle.std.specs.Prelude.{ℕ, ◌+◌, ◌≤◌, ◌≡◌, get_or, Bool, true, cond, List, [], ◌∷◌, length, map, take, flat_map, sum}
 use Rattle.cdb_store.specs.Images.{part}
-use Rattle.cdb_make.specs.Marks.{IsFirstMarked}
+use Rattle.cdb_make.specs.Marks.{IsFirstOrPast}
 use Rattle.cdb_make.specs.declared.roll.Picked.{Picked}
 
 -- what has no mark
@@ -57,9 +57,10 @@ pub record AreRising (from : ℕ) (places : List ℕ) (end : ℕ) : Type 0 where
   pub first : get_or places 0 end ≡ from
   pub rises : (k : ℕ) → get_or places k end ≤ get_or places (k + 1) end
 
--- the first of the pieces with a mark, how many they are, and how many bytes they have
+-- of the pieces with a mark: first is the number of the first, or past all if there is none, and so many
+-- they are and so many bytes they have
 pub record IsPicked (from : ℕ) (places : List ℕ) (end : ℕ) (marks : List Bool) (p : Picked) : Type 0 where
-  pub first : IsFirstMarked marks p.first
+  pub first : IsFirstOrPast marks p.first
   pub count : p.count ≡ number marks
   pub size : (sizes : List ℕ) → AreOf from places end sizes → p.size ≡ sum (picked marks sizes)
 

@@ -119,8 +119,8 @@ impl<S: Store, L: Width> Maker<S, L> {
     {
         self.counted = self.counts();
         self.broken = true;
+        let (start, first) = (head_size::<L>() as u64, self.roll.first_gone());
         let (places, marks) = (&self.roll.places, &self.roll.marks);
-        let (start, first) = (head_size::<L>() as u64, self.roll.gone.first);
         close_bytes(&mut self.store, start, places, marks, first, self.roll.end)?;
         self.roll.close();
         self.broken = false;

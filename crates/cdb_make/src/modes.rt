@@ -1,7 +1,8 @@
 // A record, put by one of four modes.
-ghost use Rattle.std.specs.Prelude.{◌≡◌, ◌≢◌, ℕ, List, true, IfOk, IfErr, OnOk, OnErr};
+ghost use Rattle.std.specs.Prelude.{◌≡◌, ◌≢◌, ℕ, ◌+◌, List, true, false, IfOk, IfErr, OnOk, OnErr};
 ghost use Rattle.cdb_form.specs.declared.mode.Mode.TheVariants.{Add};
 ghost use Rattle.cdb_store.specs.declared.make_fault.MakeFault.TheVariants.{Lookup};
+ghost use Rattle.cdb_form.specs.Format.Hash.{key_hash};
 ghost use Rattle.cdb_form.specs.Format.Record.{record_of};
 ghost use Rattle.cdb_make.specs.Tags.{second_hash};
 ghost use Rattle.cdb_make.specs.Views.Roll.{IsSought, HasRoom};
@@ -59,6 +60,45 @@ impl<S: Store, L: Width> Maker<S, L> {
         }
     }
 
+    /// Whether a put adds its record and does no more: no other goes or was found, and none is tagged.
+    #[inline(always)]
+    fn only_adds(&self, mode: Mode) -> bool
+        ensures add { result ≡ true → mode ≡ Add }
+        ensures whole { result ≡ true → self.now.broken ≡ false }
+        ensures none { result ≡ true
+            → self.now.roll.gone.count + self.now.roll.found.count ≡ 0 }
+        ensures untagged { result ≡ true → self.now.roll.tagged ≡ false }
+    {
+        mode == Mode::Add && !self.broken && !self.roll.tagged && self.roll.takes_none()
+    }
+
+    /// Puts a record as `put` does, once the hash of its key is known.
+    #[cold]
+    #[inline(never)]
+    fn put_by_mode(
+        &mut self,
+        mode: Mode,
+        hash: u32,
+        key: &[u8],
+        value: &[u8],
+    ) -> Result<Put, MakeFault>
+        requires { hash ≡ key_hash key.now }
+        ensures puts { IfOk result
+            (Puts self.old self.new mode (record_of key.now value.now)) }
+        ensures fails { IfErr result
+            (FailsPutting self.old self.new mode (record_of key.now value.now)) }
+        ensures follows { Follows self.old self.new }
+        ensures fine { OnOk result (HasNotFailed self.old self.new) }
+        ensures counts { OnErr result (SameCounts self.old self.new) }
+    {
+        let sought = self.roll.sought_by_look(hash, key);
+        let put = self.meet(mode, sought, key)?;
+        if !put.is_present() {
+            self.settle(hash, sought, key, value)?;
+        }
+        Ok(put)
+    }
+
     /// Puts a record: the mode says what is done if its key is there already.
     ///
     /// `Lookup`: the store failed while it was read. `TooBig`: the file would pass the limit.
@@ -66,6 +106,7 @@ impl<S: Store, L: Width> Maker<S, L> {
     /// records as they were, and nothing was written. `Writing`: the store failed; if records were to
     /// be taken out, the maker is broken, else its records are what they were. `Broken`: an earlier
     /// call broke it, or the store gave back other bytes than were written.
+    #[inline(always)]
     pub fn put(&mut self, mode: Mode, key: &[u8], value: &[u8]) -> Result<Put, MakeFault>
         ensures puts { IfOk result
             (Puts self.old self.new mode (record_of key.now value.now)) }
@@ -76,11 +117,10 @@ impl<S: Store, L: Width> Maker<S, L> {
         ensures counts { OnErr result (SameCounts self.old self.new) }
     {
         let hash = hash(key);
-        let sought = self.roll.sought_by_look(hash, key);
-        let put = self.meet(mode, sought, key)?;
-        if !put.is_present() {
-            self.settle(hash, sought, key, value)?;
+        if self.only_adds(mode) {
+            self.add_alone(hash, hash, key, value)?;
+            return Ok(Put::Added);
         }
-        Ok(put)
+        self.put_by_mode(mode, hash, key, value)
     }
 }

@@ -1,10 +1,10 @@
 // What is noted of the records on a store.
-ghost use Rattle.std.specs.Prelude.{◌≡◌, ◌≢◌, ℕ, ◌+◌, ◌<◌, ◌≤◌, ◌^◌, ◌⊎◌, List, Bool, [], ◌∷◌, ◌++◌, true, false, get_or, slice_set, length, min, cond, vec_capacity, OnOk, OnErr};
+ghost use Rattle.std.specs.Prelude.{◌≡◌, ℕ, ◌+◌, ◌-◌, ◌<◌, ◌≤◌, ◌^◌, ◌⊎◌, List, Bool, [], ◌∷◌, ◌++◌, true, false, get_or, slice_set, length, min, cond, vec_capacity, OnOk, OnErr};
 ghost use Rattle.cdb_form.specs.Format.Pair.{head_size};
 ghost use Rattle.cdb_form.specs.Format.Hash.{key_hash};
 ghost use Rattle.cdb_make.specs.Tags.{second_hash, searched_by};
 ghost use Rattle.cdb_make.specs.Chains.{AreChained, Has, IsLast};
-ghost use Rattle.cdb_make.specs.Marks.{gone_of, found_of, HaveHash, IsPutBackFrom, AreNone};
+ghost use Rattle.cdb_make.specs.Marks.{gone_of, found_of, HaveHash, IsFirstMarked, IsPutBackFrom, AreNone};
 ghost use Rattle.cdb_make.specs.declared.mark.Mark.TheVariants.{Stays, Gone};
 ghost use Rattle.cdb_make.specs.Spans.{AreRising, AreOf, IsPicked, left, or_each};
 ghost use Rattle.cdb_make.specs.Views.Places.{places_in, places_room};
@@ -22,7 +22,8 @@ use std::marker::PhantomData;
 /// Some records of a roll.
 #[derive(Clone, Copy)]
 pub(crate) struct Picked {
-    /// The number of the first of them, or of all records.
+    /// The number of the first of them. If there are none, it is past all, however many records
+    /// follow.
     pub(crate) first: usize,
     /// How many they are.
     pub(crate) count: u64,
@@ -30,26 +31,17 @@ pub(crate) struct Picked {
     pub(crate) size: u64,
 }
 
-/// No records, of so many in all.
-fn none(count: usize) -> Picked
-    ensures first { result.first ≡ count }
+/// No records.
+fn none() -> Picked
+    ensures first { result.first ≡ 2 ^ 64 - 1 }
     ensures count { result.count ≡ 0 }
     ensures size { result.size ≡ 0 }
 {
     Picked {
-        first: count,
+        first: usize::MAX,
         count: 0,
         size: 0,
     }
-}
-
-/// The number of the first record that is picked, or of all, once there is one more that stays.
-fn first_after(first: usize, count: usize) -> usize
-    requires { count < 2 ^ 63 }
-    ensures none { first ≡ count → result ≡ count + 1 }
-    ensures some { first ≢ count → result ≡ first }
-{
-    if first == count { count + 1 } else { first }
 }
 
 /// Leaves the records from `from` on as if no look had found them.
@@ -137,8 +129,8 @@ impl<L: Width> Roll<L> {
             places: Places::new(alloc),
             marks: Vec::new(alloc),
             chains: Chains::new(alloc),
-            gone: none(0),
-            found: none(0),
+            gone: none(),
+            found: none(),
             end: head_size::<L>() as u64,
             width: PhantomData,
         }
@@ -186,6 +178,13 @@ impl<L: Width> Roll<L> {
         ensures some { result ≡ false → 0 < self.now.gone.count + self.now.found.count }
     {
         self.gone.count == 0 && self.found.count == 0
+    }
+
+    /// The number of the first record that goes, or of all records.
+    pub(crate) fn first_gone(&self) -> usize
+        ensures { IsFirstMarked (gone_of self.now.marks.items) result }
+    {
+        self.gone.first.min(self.marks.len())
     }
 
     /// The number by which the records of a key are found.
@@ -279,8 +278,6 @@ impl<L: Width> Roll<L> {
         ensures found_count { self.new.found.count ≡ self.old.found.count }
         ensures found_size { self.new.found.size ≡ self.old.found.size }
     {
-        self.gone.first = first_after(self.gone.first, self.marks.len());
-        self.found.first = first_after(self.found.first, self.marks.len());
         self.hashes.push_reserved(hash);
         push_tag(self.tagged, &mut self.tags, tag);
         self.places.push(self.end);
@@ -308,7 +305,7 @@ impl<L: Width> Roll<L> {
     {
         self.put_back();
         let start = head_size::<L>() as u64;
-        let first = self.gone.first;
+        let first = self.first_gone();
         let searched = searched(self.tagged, &self.tags, &self.hashes);
         self.chains.cut(searched, &self.marks, first);
         close_tags(self.tagged, &mut self.tags, &self.marks, first);
@@ -317,8 +314,8 @@ impl<L: Width> Roll<L> {
         self.hashes.truncate(kept.count);
         self.places.truncate(kept.count);
         close_marks(&mut self.marks, first, kept.count);
-        self.gone = none(kept.count);
-        self.found = none(kept.count);
+        self.gone = none();
+        self.found = none();
         self.end = kept.end;
     }
 
@@ -366,7 +363,7 @@ impl<L: Width> Roll<L> {
             count: self.gone.count + self.found.count,
             size: self.gone.size + self.found.size,
         };
-        self.found = none(self.marks.len());
+        self.found = none();
     }
 
     /// Leaves the records that a look has found as if none had.
@@ -381,8 +378,11 @@ impl<L: Width> Roll<L> {
         ensures mark_room { vec_capacity self.new.marks ≡ vec_capacity self.old.marks }
         ensures has { HasRoom self.old → HasRoom self.new }
     {
+        if self.found.count == 0 {
+            return;
+        }
         put_each_back(&mut self.marks, self.found.first);
-        self.found = none(self.marks.len());
+        self.found = none();
     }
 
     /// Puts the entries into chains before a look, if memory is given for it. If no record was noted so
@@ -398,5 +398,15 @@ impl<L: Width> Roll<L> {
         self.tag(true);
         let searched = searched(self.tagged, &self.tags, &self.hashes);
         self.chains.link_all(searched, &self.marks);
+    }
+
+    /// Lets the chains go, and their memory. A later look makes them again.
+    pub(crate) fn unchain(&mut self, alloc: Global)
+        ensures same { SameRecords self.old self.new }
+        ensures marks { self.new.marks ≡ self.old.marks }
+        ensures gone { self.new.gone ≡ self.old.gone }
+        ensures found { self.new.found ≡ self.old.found }
+    {
+        self.chains = Chains::new(alloc);
     }
 }

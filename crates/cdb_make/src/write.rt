@@ -6,8 +6,8 @@ ghost use Rattle.cdb_make.specs.Views.Writing.{WritesBehind, WritesWithin};
 use cdb_form::{GREATEST_PAIR, Header, Width, pair_size, write_header};
 use cdb_store::{Store, StoreFault};
 
-/// WritesBehind a record's header, key and value from `pos` on, one after another, as one
-/// write would: over what is there, and past the end.
+/// Writes a record's header, key and value from `pos` on, one after another, as one write would:
+/// over what is there, and past the end.
 ///
 /// `pos` is at most the store's length. The store's room is made first, so if memory is refused
 /// (`NoMemory`) nothing has changed. After `Device` the record's range may hold any bytes, and

@@ -81,7 +81,7 @@ fn first_of<L: Width>(file: &[u8], hash: u64) -> Searching
     first_probe::<L>(table, hash, file.len() as u64)
 }
 
-/// SearchBegins the search of a key in a file, which has at least a head. `next` goes on with it.
+/// Begins the search of a key in a file, which has at least a head. `next` goes on with it.
 pub fn begin<L: Width>(file: &[u8], key: &[u8]) -> Result<Search, Damage>
     requires { head_size L.WORD ≤ length file.now }
     ensures begins { IfOk result (SearchBegins L.WORD file.now key.now) }

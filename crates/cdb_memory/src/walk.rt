@@ -36,7 +36,7 @@ fn record_at<L: Width>(file: &[u8], place: u64, end: u64) -> Option<PlacedRecord
     spans::<L>(place, header, limit)
 }
 
-/// WalkBegins a walk over the records of a file, which has at least a head.
+/// Begins a walk over the records of a file, which has at least a head.
 pub fn first_record<L: Width>(file: &[u8]) -> Result<RecordArea, Damage>
     requires { head_size L.WORD ≤ length file.now }
     ensures begins { IfOk result (WalkBegins L.WORD file.now) }

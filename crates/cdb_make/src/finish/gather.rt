@@ -1,6 +1,8 @@
 // The entries of some tables, gathered in their order.
 ghost use Rattle.std.specs.Prelude.{◌≡◌, ℕ, ◌+◌, ◌*◌, ◌<◌, ◌≤◌, ◌++◌, ◌∷◌, [], length, get_or, IfOk};
 ghost use Rattle.std.specs.Prelude.{slice_set, All, map};
+ghost use Rattle.std.specs.Simd.Lanes.{mask_l};
+ghost use Rattle.cdb_make.specs.Gathering.{is_among, AreGathered, HaveRoomFor};
 ghost use Rattle.cdb_make.specs.Tables.{all_gathered, gathered_in, rooms_of, roll_entries, tables_of, HaveRoom};
 
 use crate::finish::counts::most_of;
@@ -8,6 +10,7 @@ use crate::finish::gathered::Gathered;
 use crate::roll::Roll;
 use cdb_form::{Width, table_number};
 use std::alloc::{AllocError, Global};
+use std::simd::prelude::*;
 
 /// So many tables are gathered at once, and so many times. More at once would take more memory, and
 /// fewer more passes over all hashes.
@@ -56,6 +59,76 @@ fn push<L: Width>(gathered: &mut [Gathered<L>], n: usize, hash: u32, place: u64)
     gathered[n].push(hash, place);
 }
 
+/// Which of 16 hashes belong to a table or to so many more after it, one bit for each. Table 0 follows
+/// table 255.
+#[inline(always)]
+fn of_tables(hashes: u32x16, first: u8, more: u8) -> u64
+    ensures { result ≡ mask_l (map (is_among first more) hashes) }
+{
+    let tables = (hashes & u32x16::splat(0xff)).cast::<u8>();
+    let after = tables - u8x16::splat(first);
+    after.simd_le(u8x16::splat(more)).to_bitmask()
+}
+
+/// Gathers the entry of a record, if it belongs to one of the tables.
+#[inline(always)]
+fn gather_one<L: Width>(gathered: &mut [Gathered<L>], roll: &Roll<L>, first: usize, n: usize)
+    requires inside { n < length roll.now.hashes.items }
+    requires room { HaveRoomFor roll.now first gathered.old }
+    requires before { AreGathered roll.now first n gathered.old }
+    ensures all { AreGathered roll.now first (n + 1) gathered.new }
+    ensures rooms { rooms_of gathered.new ≡ rooms_of gathered.old }
+    ensures long { length gathered.new ≡ length gathered.old }
+{
+    let hash = roll.hashes[n];
+    let table = table_number(u64::from(hash));
+    if first <= table && table - first < gathered.len() {
+        let place = roll.places.at(n);
+        push(gathered, table - first, hash, place);
+    }
+}
+
+/// Gathers the entries of 16 records. Of these it visits only the records of the tables.
+#[inline(always)]
+fn gather_sixteen<L: Width>(gathered: &mut [Gathered<L>], roll: &Roll<L>, first: usize, n: usize)
+    requires within { first + length gathered.old ≤ 256 }
+    requires inside { n + 16 ≤ length roll.now.hashes.items }
+    requires room { HaveRoomFor roll.now first gathered.old }
+    requires before { AreGathered roll.now first n gathered.old }
+    ensures all { AreGathered roll.now first (n + 16) gathered.new }
+    ensures rooms { rooms_of gathered.new ≡ rooms_of gathered.old }
+    ensures long { length gathered.new ≡ length gathered.old }
+{
+    let hashes = u32x16::from_slice(&roll.hashes[n..]);
+    let more = gathered.len().saturating_sub(1) as u8;
+    let mut left = of_tables(hashes, (first % 256) as u8, more);
+    let mut at = n;
+    while left != 0 {
+        let apart = left.trailing_zeros();
+        gather_one(gathered, roll, first, at + apart as usize);
+        at += apart as usize + 1;
+        left = left >> apart >> 1;
+    }
+}
+
+/// Gathers the entries of a roll 16 records at a time, and answers how many it has looked at.
+fn gather_sixteens<L: Width>(gathered: &mut [Gathered<L>], roll: &Roll<L>, first: usize) -> usize
+    requires within { first + length gathered.old ≤ 256 }
+    requires room { HaveRoomFor roll.now first gathered.old }
+    requires none { AreGathered roll.now first 0 gathered.old }
+    ensures inside { result ≤ length roll.now.hashes.items }
+    ensures all { AreGathered roll.now first result gathered.new }
+    ensures rooms { rooms_of gathered.new ≡ rooms_of gathered.old }
+    ensures long { length gathered.new ≡ length gathered.old }
+{
+    let mut n = 0;
+    while 16 <= roll.len() - n {
+        gather_sixteen(gathered, roll, first, n);
+        n += 16;
+    }
+    n
+}
+
 /// Gathers the entries of some tables, from the first of them on, in their order. It takes no memory.
 pub(crate) fn gather<L: Width>(gathered: &mut [Gathered<L>], roll: &Roll<L>, first: usize)
     requires within { first + length gathered.old ≤ 256 }
@@ -68,12 +141,7 @@ pub(crate) fn gather<L: Width>(gathered: &mut [Gathered<L>], roll: &Roll<L>, fir
     ensures long { length gathered.new ≡ length gathered.old }
 {
     clear(gathered);
-    for n in 0..roll.len() {
-        let hash = roll.hashes[n];
-        let table = table_number(u64::from(hash));
-        if first <= table && table - first < gathered.len() {
-            let place = roll.places.at(n);
-            push(gathered, table - first, hash, place);
-        }
+    for n in gather_sixteens(gathered, roll, first)..roll.len() {
+        gather_one(gathered, roll, first, n);
     }
 }

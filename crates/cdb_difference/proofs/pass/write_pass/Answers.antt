@@ -1,3 +1,4 @@
+use Rattle.std.proofs.lemmas.Grind.{common_steps}
 use Rattle.std.proofs.Common.{rules, ◌∙◌, ◌≤◌, ℕ, List, refl, sym, ap, subst, arith, inl, inr}
 use Rattle.std.proofs.lemmas.Result.{err_from_is_err_and}
 use Rattle.cdb_store.proofs.Reading.{reads_more, reads_nothing}
@@ -188,3 +189,33 @@ returns-clause-ok g c = λ b d is it.
     let mine : g.S.Store.image c.next_record.new.reader.store b = search rules in
     let theirs : g.T.Store.image c.loop-key.other.store d = search rules in
     ended g.L.Width.WORD c.args.kind b d _ _ _ _ (inv.passed b d (c.next_record.ensures.reads.images b mine) theirs) (none b mine)
+
+pub is_change-requires-clause-inside : goal.is_change-requires-clause-inside
+is_change-requires-clause-inside g c = grind (arith, common_steps)
+
+pub is_change-requires-clause-piece : goal.is_change-requires-clause-piece
+is_change-requires-clause-piece g c = grind (arith, common_steps)
+
+pub is_change-requires-clause-pieces : goal.is_change-requires-clause-pieces
+is_change-requires-clause-pieces g c = grind (arith, common_steps)
+
+pub loop-key-smaller : goal.loop-key-smaller
+loop-key-smaller g c = grind (arith, common_steps)
+
+pub loop-key-smaller-in-Continue-branch-4 : goal.loop-key-smaller-in-Continue-branch-4
+loop-key-smaller-in-Continue-branch-4 g c = grind (arith, common_steps)
+
+pub returns-clause-fails : goal.returns-clause-fails
+returns-clause-fails g c = grind (arith, common_steps)
+
+pub returns-clause-front : goal.returns-clause-front
+returns-clause-front g c = grind (arith, common_steps)
+
+pub returns-clause-reads : goal.returns-clause-reads
+returns-clause-reads g c = grind (arith, common_steps)
+
+pub slice_bounds-is_change-end : goal.slice_bounds-is_change-end
+slice_bounds-is_change-end g c = grind (arith, common_steps)
+
+pub slice_bounds-is_change-end-in-Some : goal.slice_bounds-is_change-end-in-Some
+slice_bounds-is_change-end-in-Some g c = grind (arith, common_steps)

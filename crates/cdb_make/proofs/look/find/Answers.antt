@@ -1,7 +1,8 @@
-use Rattle.std.proofs.Common.{◌≡◌, ℕ, ◌-◌, ◌<◌, Bool, List, true, false, length, get_or, set, sym, ap, ◌∙◌, arith, inl, inr}
+use Rattle.std.proofs.Common.{rules, Err, ◌≡◌, ℕ, ◌-◌, ◌<◌, Bool, List, true, false, length, get_or, set, sym, ap, ◌∙◌, arith, inl, inr}
 use Rattle.std.proofs.lemmas.Bool.{cases_eq, cases_lt}
 use Rattle.std.proofs.lemmas.List.{length-map, ext_get_or, get_or-set_same, get_or-set_other}
 use Rattle.cdb_store.proofs.Reading.{reads_more}
+use Rattle.cdb_make.specs.declared.key_at.LookFault.TheVariants.{Failed}
 use Rattle.cdb_make.specs.Marks.{gone_of, found_of, is_found, is_gone}
 use Rattle.cdb_make.specs.Rolls.{fresh}
 use Rattle.cdb_make.specs.Views.Roll.{searched}
@@ -40,9 +41,7 @@ find-requires-clause-before g c =
     let first : ℕ = m.found.first in
     elim (cases_lt (c.loop-at.at - 1) first) [
       | inl lt ↦ lt
-      | inr le ↦ absurd (
-          let in_all : first < length (found_of m.marks.items) = omega (arith, le, c.loop-at-test.true, inv.within, length-map m.marks.items is_found, m.marked) in
-          let t : false ≡ true = sym (inv.below first (omega (arith, le, c.loop-at-test.true))) ∙ m.sought.first.here in_all in cc)
+      | inr le ↦ absurd (let t : false ≡ true = sym (inv.below first (omega (arith, le, c.loop-at-test.true))) ∙ m.sought.first.here (omega (arith, le, c.loop-at-test.true)) in cc)
     ]
 
 pub returns-in_err-at-2-clause-reads : goal.returns-in_err-at-2-clause-reads
@@ -135,3 +134,8 @@ last_with_key-requires-clause-hash g c = grind (arith, common_steps)
 
 pub returns-clause-ok_failures : goal.returns-clause-ok_failures
 returns-clause-ok_failures g c = grind (arith, common_steps)
+
+pub returns-in_err-at-2-clause-failed : goal.returns-in_err-at-2-clause-failed
+returns-in_err-at-2-clause-failed g c = λ h.
+    let was : c.in_err-at-2.field-0.0 ≡ Failed = search (rules, h, c.from_residual-in_err-at-2.ensures) in
+    omega (arith, c.in_err-at-2.ensures.failed (ap Err was), c.loop-at.invariant.failures)

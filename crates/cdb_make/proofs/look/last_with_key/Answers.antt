@@ -122,7 +122,7 @@ pub returns-then-is_some-clause-foreign : goal.returns-then-is_some-clause-forei
 returns-then-is_some-clause-foreign g c = grind (arith, common_steps)
 
 pub returns-in_err-look_at-clause-reads : goal.returns-in_err-look_at-clause-reads
-returns-in_err-look_at-clause-reads g c = grind (arith, common_steps)
+returns-in_err-look_at-clause-reads g c = reads_more c.loop-at.invariant.reads c.look_at.ensures.reads
 
 pub returns-clause-failed : goal.returns-clause-failed
 returns-clause-failed g c = grind (arith, common_steps)

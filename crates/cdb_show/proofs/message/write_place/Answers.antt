@@ -1,4 +1,5 @@
-use Rattle.std.proofs.Common.{refl, codes}
+use Rattle.std.proofs.lemmas.Grind.{common_steps}
+use Rattle.std.proofs.Common.{arith, refl, codes}
 use Rattle.std.proofs.lemmas.Result.{err_from_is_err_and}
 use Rattle.cdb_form.proofs.Bytes.WritingLemmas.{prefix_in, writes_prefix, writes_last}
 use Rattle.cdb_show.specs.Message.{numbered}
@@ -23,3 +24,9 @@ returns-in_err-write_numbered-in-Slot-clause-writes g c =
 pub returns-in_ok-write_numbered-in-Slot-clause-writes : goal.returns-in_ok-write_numbered-in-Slot-clause-writes
 returns-in_ok-write_numbered-in-Slot-clause-writes g c =
     rw c.in-Slot.is (writes_last c.write_numbered-in-Slot-2.result _ _ _ (numbered (codes "table ") c.in-Slot.n) _ _ c.in_ok-write_numbered-in-Slot.ensures.writes.ok c.write_numbered-in-Slot-2.ensures.writes refl)
+
+pub returns-in_ok-write_numbered-in-Byte-clause-stays : goal.returns-in_ok-write_numbered-in-Byte-clause-stays
+returns-in_ok-write_numbered-in-Byte-clause-stays g c = grind (arith, common_steps)
+
+pub returns-in_ok-write_numbered-in-Slot-clause-stays : goal.returns-in_ok-write_numbered-in-Slot-clause-stays
+returns-in_ok-write_numbered-in-Slot-clause-stays g c = grind (arith, common_steps)

@@ -1,4 +1,5 @@
-use Rattle.std.proofs.Common.{◌≡◌, ◌∙◌, sym, ◌++◌, ap, append_assoc}
+use Rattle.std.proofs.lemmas.Grind.{common_steps}
+use Rattle.std.proofs.Common.{arith, ◌≡◌, ◌∙◌, sym, ◌++◌, ap, append_assoc}
 use Rattle.std.proofs.lemmas.List.{append-nil}
 use Rattle.std.proofs.lemmas.Result.{err_from_is_err_and}
 use Rattle.std.specs.Prelude.{codes}
@@ -37,3 +38,9 @@ returns-clause-writes g c =
     let before = appends_then _ _ _ (codes "cdb: " ++ fault_side f) (said_place (fault_place f)) first place in
     let line = same_writes c.write_pieces-2.result _ _ _ _ (ap (λ t. t ++ codes "\n") (c.as_bytes-2.ensures.value ∙ c.message.ensures)) c.write_pieces-2.ensures.writes in
     writes_last c.write_pieces-2.result _ _ _ ((codes "cdb: " ++ fault_side f) ++ said_place (fault_place f)) (fault_message f ++ codes "\n") (said_line f) before line (in_three f ∙ sym (append_assoc (codes "cdb: " ++ fault_side f) (said_place (fault_place f)) (fault_message f ++ codes "\n")))
+
+pub returns-clause-failed : goal.returns-clause-failed
+returns-clause-failed g c = grind (arith, common_steps)
+
+pub returns-clause-stays : goal.returns-clause-stays
+returns-clause-stays g c = grind (arith, common_steps)

@@ -4,7 +4,7 @@ use Rattle.cdb_store.proofs.Moves.{kept_torn}
 use Rattle.cdb_form.specs.Format.Pair.{head_size}
 use Rattle.cdb_form.specs.Format.Record.{KeyValue, IsRecord, record_size}
 use Rattle.cdb_form.proofs.Files.Sizes.{length-record_bytes}
-use Rattle.cdb_make.specs.Marks.{gone_of, found_of}
+use Rattle.cdb_make.specs.Marks.{gone_of, found_of, AreNone}
 use Rattle.cdb_make.specs.Spans.{AreOf}
 use Rattle.cdb_make.specs.Tags.{sought_by}
 use Rattle.cdb_make.specs.Views.Roll.{searched}
@@ -148,3 +148,29 @@ invariant_of-self-2-clause-eager g c = λ eager whole.
 
 pub push-requires-clause-room : goal.push-requires-clause-room
 push-requires-clause-room g c = grind (arith, common_steps)
+
+pub invariant_of-self : goal.invariant_of-self
+invariant_of-self g c =
+    let m = c.args.self.now in
+    let k = c.reserve.ensures in
+    record {
+      inside = omega (arith, k.same.end, m.inside);
+      within = omega (arith, k.same.end, ap (λ (v : List ℕ). 4 * g.L.Width.WORD * length v) k.same.hashes, m.within);
+      limited = m.limited;
+      told = m.told;
+      eager = λ eager whole. subst (λ v. AreNone (gone_of v)) (sym k.marks) (m.eager eager whole);
+      spare = λ whole. omega (arith, m.spare whole, ap (λ q. q.size) k.gone, k.same.end);
+    }
+
+pub invariant_of-self-in-Break-branch-2 : goal.invariant_of-self-in-Break-branch-2
+invariant_of-self-in-Break-branch-2 g c =
+    let m = c.args.self.now in
+    let k = c.reserve.ensures in
+    record {
+      inside = omega (arith, k.same.end, m.inside, c.append_record.ensures.within.longer);
+      within = omega (arith, k.same.end, ap (λ (v : List ℕ). 4 * g.L.Width.WORD * length v) k.same.hashes, m.within);
+      limited = m.limited;
+      told = m.told;
+      eager = λ eager whole. subst (λ v. AreNone (gone_of v)) (sym k.marks) (m.eager eager whole);
+      spare = λ whole. omega (arith, m.spare whole, ap (λ q. q.size) k.gone, k.same.end);
+    }

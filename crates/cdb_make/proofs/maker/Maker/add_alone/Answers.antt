@@ -1,8 +1,8 @@
-use Rattle.std.proofs.Common.{◌≡◌, ◌+◌, ◌*◌, ℕ, ap, arith}
+use Rattle.std.proofs.Common.{◌≡◌, ◌+◌, ◌*◌, ℕ, ap, refl, arith}
 use Rattle.std.proofs.lemmas.Result.{on_ok_weaker}
 use Rattle.cdb_form.specs.Format.Record.{KeyValue}
 use Rattle.cdb_make.proofs.Finishing.{found_size, none_size}
-use Rattle.cdb_make.proofs.Settling.{settles_alone}
+use Rattle.cdb_make.proofs.Settling.{settles_alone, stays_self}
 use Rattle.cdb_make.proofs.maker.Maker.add_alone.Goals as goal
 
 pub returns-clause-settles : goal.returns-clause-settles
@@ -11,8 +11,11 @@ returns-clause-settles g c =
     on_ok_weaker c.add.result (settles_alone c.args.self.now c.add.new.self c.args.hash r c.requires.none c.requires.whole) c.add.ensures.adds
 
 pub add-requires-clause-fits : goal.add-requires-clause-fits
-add-requires-clause-fits g c =
+add-requires-clause-fits g c = omega (arith, c.has_room.ensures.room c.if-not-has_room.false, c.full_size.ensures.is)
+
+pub returns-then-not-has_room-clause-fails : goal.returns-then-not-has_room-clause-fails
+returns-then-not-has_room-clause-fails g c =
     let m = c.args.self.now.roll in
     let none = c.requires.none in
     let slots : 4 * g.L.Width.WORD * (m.gone.count + m.found.count) ≡ 4 * g.L.Width.WORD * 0 = ap (λ (n : ℕ). 4 * g.L.Width.WORD * n) none in
-    omega (arith, c.requires.fits, slots, none_size m (omega (arith, none)), found_size m (omega (arith, none)))
+    (record { stays = stays_self c.args.self.now; written = refl; fine = refl }, omega (arith, c.has_room.ensures.none c.if-not-has_room.true, c.full_size.ensures.is, slots, none_size m (omega (arith, none)), found_size m (omega (arith, none))))

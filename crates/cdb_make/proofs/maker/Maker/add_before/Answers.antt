@@ -1,5 +1,6 @@
-use Rattle.std.proofs.Common.{arith}
+use Rattle.std.proofs.Common.{arith, refl, inl}
 use Rattle.std.proofs.lemmas.Grind.{common_steps}
+use Rattle.cdb_make.proofs.Settling.{stays_self}
 use Rattle.cdb_make.proofs.maker.Maker.add_before.Goals as goal
 
 pub returns-in-Err-NoMemory-clause-done : goal.returns-in-Err-NoMemory-clause-done
@@ -22,3 +23,14 @@ returns-in-Ok-clause-done g c = grind (arith, common_steps)
 
 pub returns-in-Err-NoMemory-clause-fine : goal.returns-in-Err-NoMemory-clause-fine
 returns-in-Err-NoMemory-clause-fine g c = grind (arith, common_steps)
+
+pub returns-then-not-has_room-clause-waits : goal.returns-then-not-has_room-clause-waits
+returns-then-not-has_room-clause-waits g c = λ e. record {
+  stays = stays_self c.args.self.now;
+  written = refl;
+  fine = refl;
+  short = inl (omega (arith, c.has_room.ensures.none c.if-not-has_room.true, c.full_size.ensures.is));
+}
+
+pub returns-in-Err-clause-counted : goal.returns-in-Err-clause-counted
+returns-in-Err-clause-counted g c = c.add.ensures.counted

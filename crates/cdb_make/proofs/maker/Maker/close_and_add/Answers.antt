@@ -1,4 +1,5 @@
-use Rattle.std.proofs.Common.{◌≡◌, ◌+◌, length, inr, refl, ◌∙◌, arith}
+use Rattle.std.proofs.lemmas.Bool.{false_from_ne_true}
+use Rattle.std.proofs.Common.{◌≡◌, ◌+◌, length, inr, refl, ◌∙◌, arith, true, false, sym}
 use Rattle.std.proofs.lemmas.List.{length-map}
 use Rattle.cdb_form.specs.Format.Record.{KeyValue}
 use Rattle.cdb_make.specs.Marks.{is_gone}
@@ -68,3 +69,11 @@ returns-in-Ok-clause-settles g c =
 
 pub exchange-requires-clause-have : goal.exchange-requires-clause-have
 exchange-requires-clause-have g c = grind (arith, common_steps)
+
+pub invariant_of-self-in-Err-clause-told : goal.invariant_of-self-in-Err-clause-told
+invariant_of-self-in-Err-clause-told g c = c.exchange.new.self.told
+
+pub invariant_of-self-in-Err-clause-eager : goal.invariant_of-self-in-Err-clause-eager
+invariant_of-self-in-Err-clause-eager g c = λ eager whole.
+    let k = c.exchange.new.self in
+    k.eager eager (false_from_ne_true k.broken (λ torn. let t : true ≡ false = sym (c.is_lost-self.ensures.torn torn) ∙ whole in cc))

@@ -1,7 +1,7 @@
 use Rattle.std.proofs.Common.{◌≡◌, ◌+◌, ◌*◌, ◌∷◌, ◌++◌, [], ℕ, false, List, length, refl, inl, inr, ap, sym, subst, ◌∙◌, arith, true}
 use Rattle.std.proofs.lemmas.List.{length_push}
 use Rattle.cdb_form.specs.Format.Pair.{head_size}
-use Rattle.cdb_make.specs.Marks.{gone_of}
+use Rattle.cdb_make.specs.Marks.{gone_of, AreNone}
 use Rattle.cdb_make.specs.Spans.{AreOf}
 use Rattle.cdb_make.specs.Views.Places.{places_in}
 use Rattle.cdb_make.specs.Tags.{second_hash}
@@ -62,3 +62,17 @@ returns-clause-gone g c = grind (arith, common_steps)
 
 pub push-requires-clause-room : goal.push-requires-clause-room
 push-requires-clause-room g c = grind (arith, common_steps)
+
+pub invariant_of-self : goal.invariant_of-self
+invariant_of-self g c =
+    let m = c.args.self.now in
+    let t = c.tag.ensures in
+    let k = c.reserve.ensures in
+    record {
+      inside = omega (arith, k.same.end, t.same.end, m.inside);
+      within = omega (arith, k.same.end, t.same.end, ap (λ (v : List ℕ). 4 * g.L.Width.WORD * length v) (k.same.hashes ∙ t.same.hashes), m.within);
+      limited = m.limited;
+      told = m.told;
+      eager = λ eager whole. subst (λ v. AreNone (gone_of v)) (sym (k.marks ∙ ap (λ v. v.items) t.marks)) (m.eager eager whole);
+      spare = λ whole. omega (arith, m.spare whole, ap (λ q. q.size) (k.gone ∙ t.gone), k.same.end, t.same.end);
+    }

@@ -101,3 +101,9 @@ loop-preserved g c =
       store = c.enter.ensures.store ∙ i.store;
       lazy = c.enter.ensures.lazy ∙ i.lazy;
     }
+
+pub returns-clause-ok : goal.returns-clause-ok
+returns-clause-ok g c =
+    let all : List KeyValue = records_at g.L.Width.WORD c.args.bytes.now in
+    let end : c.loop.counter ≡ c.args.count = omega (arith, c.loop-test.false) in
+    subst (λ (n : ℕ). Enters c.args.self.now c.loop.self (take n all)) end c.loop.invariant.entered

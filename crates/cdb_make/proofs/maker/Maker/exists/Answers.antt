@@ -57,3 +57,8 @@ returns-in-Ok-clause-ok g c =
 
 pub invariant_of-self : goal.invariant_of-self
 invariant_of-self g c = grind (arith, common_steps)
+
+pub returns-in-Err-clause-images : goal.returns-in-Err-clause-images
+returns-in-Err-clause-images g c = record {
+  no_other = λ b is. c.last_with_key.ensures.reads.images b (subst (λ v. g.S.Store.image v b) c.failed_look.ensures.store is);
+}

@@ -1,8 +1,9 @@
+use Rattle.cdb_make.specs.Tags.{sought_by}
 use Rattle.std.proofs.Common.{◌≡◌, ◌<◌, Err, List, Bool, length, subst, ap, sym, ◌∙◌, refl, arith}
 use Rattle.std.proofs.lemmas.List.{length-map}
 use Rattle.cdb_store.specs.Reads.{OnlyReads}
 use Rattle.cdb_store.proofs.Reading.{reads_nothing}
-use Rattle.cdb_make.specs.Marks.{is_gone, gone_of}
+use Rattle.cdb_make.specs.Marks.{is_gone, gone_of, AreNone}
 use Rattle.cdb_make.specs.Rolls.{SeesNone}
 use Rattle.cdb_make.specs.Spans.{left}
 use Rattle.cdb_make.specs.Survivors.{is_there}
@@ -72,11 +73,23 @@ returns-in-Err-clause-follows g c =
 pub returns-in-Err-clause-counts : goal.returns-in-Err-clause-counts
 returns-in-Err-clause-counts g c = grind (arith, common_steps)
 
-pub last_with_key-requires-clause-hash : goal.last_with_key-requires-clause-hash
-last_with_key-requires-clause-hash g c = grind (arith, common_steps)
-
 pub returns-in-Ok-clause-counts : goal.returns-in-Ok-clause-counts
 returns-in-Ok-clause-counts g c = grind (arith, common_steps)
 
 pub returns-in-Ok-clause-room : goal.returns-in-Ok-clause-room
 returns-in-Ok-clause-room g c = grind (arith, common_steps)
+
+pub invariant_of-self-clause-told : goal.invariant_of-self-clause-told
+invariant_of-self-clause-told g c = c.args.self.now.told
+
+pub invariant_of-self-clause-eager : goal.invariant_of-self-clause-eager
+invariant_of-self-clause-eager g c = λ eager whole.
+    subst AreNone (sym (c.put_back.ensures.gone ∙ ap (λ v. gone_of v.items) c.link.ensures.marks)) (c.args.self.now.eager eager whole)
+
+pub returns-in-Ok-clause-tagged : goal.returns-in-Ok-clause-tagged
+returns-in-Ok-clause-tagged g c = λ tagged.
+    c.link.ensures.sought c.args.key.now c.args.sought c.requires ∙ ap (λ v. sought_by v c.args.key.now) (sym c.put_back.ensures.tagged ∙ tagged)
+
+pub last_with_key-requires-clause-hash : goal.last_with_key-requires-clause-hash
+last_with_key-requires-clause-hash g c =
+    c.link.ensures.sought c.args.key.now c.args.sought c.requires ∙ ap (λ v. sought_by v c.args.key.now) (sym c.put_back.ensures.tagged)

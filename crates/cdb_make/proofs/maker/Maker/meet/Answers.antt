@@ -1,3 +1,4 @@
+use Rattle.cdb_make.specs.Marks.{AreNone}
 use Rattle.std.proofs.Common.{◌≡◌, ◌<◌, ℕ, refl, sym, subst, ◌∙◌, arith}
 use Rattle.cdb_store.proofs.Reading.{reads_nothing}
 use Rattle.cdb_form.specs.declared.mode.Mode.TheVariants.{Warn, Insert, Replace}
@@ -88,3 +89,9 @@ returns-else-taken-eq0-clause-room g c = grind (arith, common_steps)
 
 pub returns-then-branch-clause-room : goal.returns-then-branch-clause-room
 returns-then-branch-clause-room g c = grind (arith, common_steps)
+
+pub invariant_of-self-clause-told : goal.invariant_of-self-clause-told
+invariant_of-self-clause-told g c = c.args.self.now.told
+
+pub invariant_of-self-clause-eager : goal.invariant_of-self-clause-eager
+invariant_of-self-clause-eager g c = λ eager whole. subst AreNone (sym c.put_back.ensures.gone) (c.args.self.now.eager eager whole)

@@ -1,7 +1,8 @@
+use Rattle.cdb_make.specs.Tags.{sought_by}
 use Rattle.std.proofs.Common.{refl, ◌<◌, Err, subst, ap, sym, ◌∙◌, arith}
 use Rattle.cdb_store.specs.Reads.{OnlyReads}
 use Rattle.cdb_store.proofs.Reading.{reads_nothing}
-use Rattle.cdb_make.specs.Marks.{gone_of}
+use Rattle.cdb_make.specs.Marks.{gone_of, AreNone}
 use Rattle.cdb_make.specs.Rolls.{SeesNone}
 use Rattle.cdb_make.specs.Views.Roll.{SameRecords}
 use Rattle.cdb_make.specs.Views.Maker.{FailsLooking}
@@ -35,9 +36,6 @@ returns-in-Err-clause-follows g c =
     let f = c.failed_look.ensures in
     follows_read c.args.self.now c.failed_look.new.self f.limit f.lazy (subst (λ v. OnlyReads g.S.Store c.args.self.now.store v) (sym f.store) c.find.ensures.reads)
 
-pub find-requires-clause-hash : goal.find-requires-clause-hash
-find-requires-clause-hash g c = grind (arith, common_steps)
-
 pub returns-in-Ok-clause-room : goal.returns-in-Ok-clause-room
 returns-in-Ok-clause-room g c = grind (arith, common_steps)
 
@@ -46,3 +44,38 @@ returns-in-Err-clause-counts g c = grind (arith, common_steps)
 
 pub returns-in-Ok-clause-counts : goal.returns-in-Ok-clause-counts
 returns-in-Ok-clause-counts g c = grind (arith, common_steps)
+
+pub invariant_of-self-clause-told : goal.invariant_of-self-clause-told
+invariant_of-self-clause-told g c = c.args.self.now.told
+
+pub invariant_of-self-clause-eager : goal.invariant_of-self-clause-eager
+invariant_of-self-clause-eager g c = λ eager whole.
+    subst AreNone (sym (c.find.ensures.gone ∙ ap (λ v. gone_of v.items) c.link.ensures.marks)) (c.args.self.now.eager eager whole)
+
+pub returns-in-Ok-clause-seeks : goal.returns-in-Ok-clause-seeks
+returns-in-Ok-clause-seeks g c =
+    let f = c.find.ensures in
+    let ok = c.in-Ok.ensures in
+    record {
+      rests = record {
+        was = c.if-self.false;
+        whole = c.if-self.false;
+        same = same_then c.args.self.now.roll c.link.new.self c.find.new.roll c.link.ensures.same f.same;
+        gone = f.gone ∙ ap (λ v. gone_of v.items) c.link.ensures.marks;
+        picked = f.kept ∙ c.link.ensures.gone;
+        limit = refl;
+        lazy = refl;
+        reads = f.reads;
+      };
+      fine = ok.ok_failures;
+      have = ok.hash;
+      looks = ok.all;
+      count = refl;
+    }
+
+pub returns-in-Ok-clause-tagged : goal.returns-in-Ok-clause-tagged
+returns-in-Ok-clause-tagged g c = λ tagged.
+    c.link.ensures.sought c.args.key.now c.args.sought c.requires ∙ ap (λ v. sought_by v c.args.key.now) (sym c.find.ensures.tagged ∙ tagged)
+
+pub find-requires-clause-hash : goal.find-requires-clause-hash
+find-requires-clause-hash g c = c.link.ensures.sought c.args.key.now c.args.sought c.requires

@@ -11,9 +11,6 @@ add_alone-requires-clause-none g c = grind (arith, common_steps)
 pub add_alone-requires-clause-tag : goal.add_alone-requires-clause-tag
 add_alone-requires-clause-tag g c = grind (arith, common_steps)
 
-pub add_alone-requires-clause-fits : goal.add_alone-requires-clause-fits
-add_alone-requires-clause-fits g c = grind (arith, common_steps)
-
 pub add_then_take-requires-clause-tag : goal.add_then_take-requires-clause-tag
 add_then_take-requires-clause-tag g c = grind (arith, common_steps)
 

@@ -4,8 +4,7 @@ use Rattle.cdb_form.specs.Format.File.{file_size}
 use Rattle.cdb_make.specs.Marks.{is_gone}
 use Rattle.cdb_make.specs.Views.Maker.{gone_in}
 use Rattle.cdb_make.proofs.Looking.{sees_long}
-use Rattle.cdb_make.proofs.Rolls.{left_file, two_slots}
-use Rattle.std.proofs.lemmas.Grind.{common_steps}
+use Rattle.cdb_make.proofs.Rolls.{fewer_slots, left_file, two_slots}
 use Rattle.cdb_make.proofs.maker.Maker.size.Goals as goal
 
 pub returns-clause-holds : goal.returns-clause-holds
@@ -19,5 +18,23 @@ returns-clause-holds g c = λ rs h. record {
       ap (λ n. c.left_end.result + n) (two_slots g.L.Width.WORD c.pair_size.result c.left_count.result c.pair_size.ensures g.met.L.Width.four_or_eight) ∙ sym file ∙ ap (file_size g.L.Width.WORD) (sym held.left);
 }
 
+pub overflow_mul-result-2 : goal.overflow_mul-result-2
+overflow_mul-result-2 g c =
+    let m = c.args.self.now in
+    let few = fewer_slots g.L.Width.WORD c.left_count.result (length m.roll.hashes.items) g.met.L.Width.four_or_eight (omega (arith, c.left_count.ensures)) in
+    let slots = two_slots g.L.Width.WORD c.pair_size.result c.left_count.result c.pair_size.ensures g.met.L.Width.four_or_eight in
+    omega (arith, few, slots, m.within, m.limited, g.met.L.Width.greatest_fits)
+
 pub overflow_add-result : goal.overflow_add-result
-overflow_add-result g c = grind (arith, common_steps)
+overflow_add-result g c =
+    let m = c.args.self.now in
+    let few = fewer_slots g.L.Width.WORD c.left_count.result (length m.roll.hashes.items) g.met.L.Width.four_or_eight (omega (arith, c.left_count.ensures)) in
+    let slots = two_slots g.L.Width.WORD c.pair_size.result c.left_count.result c.pair_size.ensures g.met.L.Width.four_or_eight in
+    omega (arith, few, slots, c.left_end.ensures, m.within, m.limited, g.met.L.Width.greatest_fits)
+
+pub returns-clause-within : goal.returns-clause-within
+returns-clause-within g c =
+    let m = c.args.self.now in
+    let few = fewer_slots g.L.Width.WORD c.left_count.result (length m.roll.hashes.items) g.met.L.Width.four_or_eight (omega (arith, c.left_count.ensures)) in
+    let slots = two_slots g.L.Width.WORD c.pair_size.result c.left_count.result c.pair_size.ensures g.met.L.Width.four_or_eight in
+    omega (arith, few, slots, c.left_end.ensures, m.within)

@@ -5,7 +5,7 @@ use Rattle.cdb_form.specs.Format.Pair.{head_size}
 use Rattle.cdb_make.specs.declared.mark.Mark.{Mark}
 use Rattle.cdb_make.specs.declared.roll.Picked.{Picked}
 use Rattle.cdb_make.specs.Chains.{AreChained}
-use Rattle.cdb_make.specs.Marks.{gone_of, found_of, is_gone, is_found}
+use Rattle.cdb_make.specs.Marks.{gone_of, found_of, is_gone}
 use Rattle.cdb_make.specs.Spans.{AreSpans, AreRising, AreOf, left, number}
 use Rattle.cdb_make.specs.Tags.{searched_by}
 use Rattle.cdb_make.specs.Views.Roll.{searched}
@@ -22,7 +22,7 @@ close_entries-kept-requires-clause-spans g c =
     subst (λ (v : ℕ). AreSpans v (places_in m.places) m.end) (sym c.head_size-start.ensures) (spans_of (head_size g.L.Width.WORD) m.end (places_in m.places) m.spans)
 
 pub close_marks-requires-clause-stayed : goal.close_marks-requires-clause-stayed
-close_marks-requires-clause-stayed g c = λ k lt. stays_at c.put_back.new.self.marks.items c.put_back.new.self.gone.first k c.put_back.new.self.picked.first c.put_back.ensures.found lt
+close_marks-requires-clause-stayed g c = λ k lt. stays_at c.put_back.new.self.marks.items c.first_gone-first.result k c.first_gone-first.ensures c.put_back.ensures.found lt
 
 pub returns-clause-of : goal.returns-clause-of
 returns-clause-of g c = λ sizes of.
@@ -48,7 +48,7 @@ pub invariant_of-self-clause-picked : goal.invariant_of-self-clause-picked
 invariant_of-self-clause-picked g c =
     let ms : List Mark = c.close_marks.new.marks.items in
     let n : ℕ = c.close_entries-kept.result.count in
-    picks_none _ _ _ (gone_of ms) _ (none_gone ms n c.close_marks.ensures.long c.close_marks.ensures.stay) (omega (arith, length-map ms is_gone, c.close_marks.ensures.long, c.none-self.ensures.first)) c.none-self.ensures.count c.none-self.ensures.size
+    picks_none _ _ _ (gone_of ms) _ (none_gone ms n c.close_marks.ensures.long c.close_marks.ensures.stay) c.none-self.ensures.first c.none-self.ensures.count c.none-self.ensures.size
 
 pub invariant_of-self-clause-spans : goal.invariant_of-self-clause-spans
 invariant_of-self-clause-spans g c =
@@ -101,7 +101,7 @@ invariant_of-self-clause-chained g c =
     subst (λ (v : List Mark). searched_by m.tagged c.close_tags.new.tags.items (left (gone_of v) m.hashes.items) ≡ left (gone_of v) (searched m)) c.deref-4.ensures.value (c.close_tags.ensures.left m.hashes.items) in
     let news : List ℕ = searched_by m.tagged c.close_tags.new.tags.items c.truncate.new.self.items in
     let all : news ≡ left ms (searched m) = ap (searched_by m.tagged c.close_tags.new.tags.items) hashes ∙ tags in
-    let first : ℕ = m.gone.first in
+    let first : ℕ = c.first_gone-first.result in
     let many : length ms ≡ length m.hashes.items = length-map m.marks.items is_gone ∙ m.marked in
     let same : length ms ≡ length (searched m) = many ∙ sym m.numbered in
     let numbers : c.searched-searched.result.now ≡ searched m = c.searched-searched.ensures ∙ ap (λ (v : List ℕ). searched_by m.tagged v c.deref-2.result.now) c.deref.ensures.value ∙ ap (searched_by m.tagged m.tags.items) c.deref-2.ensures.value in
@@ -110,17 +110,17 @@ invariant_of-self-clause-chained g c =
     let none = none_gone c.close_marks.new.marks.items kept.result.count c.close_marks.ensures.long c.close_marks.ensures.stay in
     chained_same s.heads.items s.before.items (searched m) news ms (gone_of c.close_marks.new.marks.items)
     (omega (arith, ap length all, left_number ms (searched m) same, left_number ms m.hashes.items many, m.numbered, ap length hashes, c.truncate.ensures.len, c.truncate.new.self.ok.0, kept.ensures.past, kept.ensures.within, c.cut.ensures.left, m.paired, m.hashes.ok.0, long))
-    (λ k lt. ap (λ (v : List ℕ). slice_index v k) all ∙ left_front ms (searched m) first k 0 m.picked.first.before (omega (arith, lt, c.cut.ensures.left)) same)
+    (λ k lt. ap (λ (v : List ℕ). slice_index v k) all ∙ left_front ms (searched m) first k 0 c.first_gone-first.ensures.before (omega (arith, lt, c.cut.ensures.left)) same)
     (λ k lt.
     let low : k < first = omega (arith, lt, c.cut.ensures.left) in
-    get_or_default (gone_of c.close_marks.new.marks.items) k true false (omega (arith, low, kept.ensures.past, length-map c.close_marks.new.marks.items is_gone, c.close_marks.ensures.long)) ∙ none k ∙ sym (m.picked.first.before k low))
+    get_or_default (gone_of c.close_marks.new.marks.items) k true false (omega (arith, low, kept.ensures.past, length-map c.close_marks.new.marks.items is_gone, c.close_marks.ensures.long)) ∙ none k ∙ sym (c.first_gone-first.ensures.before k low))
     chained
 
 pub invariant_of-self-clause-sought : goal.invariant_of-self-clause-sought
 invariant_of-self-clause-sought g c =
     let ms : List Mark = c.close_marks.new.marks.items in
     let n : ℕ = c.close_entries-kept.result.count in
-    picks_none _ _ _ (found_of ms) _ (none_found ms n c.close_marks.ensures.long c.close_marks.ensures.stay) (omega (arith, length-map ms is_found, c.close_marks.ensures.long, c.none-self-2.ensures.first)) c.none-self-2.ensures.count c.none-self-2.ensures.size
+    picks_none _ _ _ (found_of ms) _ (none_found ms n c.close_marks.ensures.long c.close_marks.ensures.stay) c.none-self-2.ensures.first c.none-self-2.ensures.count c.none-self-2.ensures.size
 
 pub returns-clause-end : goal.returns-clause-end
 returns-clause-end g c =

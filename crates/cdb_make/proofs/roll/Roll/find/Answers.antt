@@ -28,7 +28,7 @@ invariant_of-self-clause-sought g c =
     let place : c.at.result ≡ get_or (places_in m.places) n m.end = c.at.ensures.at ∙ get_or_default (places_in m.places) n c.at.result m.end (omega (arith, c.requires.within, m.paired)) in
     let size : q.size ≡ m.found.size + (get_or (places_in m.places) (n + 1) m.end - get_or (places_in m.places) n m.end) = omega (arith, place, c.place_at.ensures) in
     subst (λ (v : List Bool). IsPicked (head_size g.L.Width.WORD) (places_in m.places) m.end v q) (sym (map-set is_found m.marks.items n Found))
-    (picks_set ms m.found q n (omega (arith, length-map m.marks.items is_found, m.marked, m.paired)) c.requires.before refl refl size m.sought)
+    (picks_set ms m.found q n (omega (arith, length-map m.marks.items is_found, m.marked, m.paired)) (omega (arith, length-map m.marks.items is_found, m.marked, c.requires.within)) c.requires.before refl refl size m.sought)
 
 pub overflow_add-self : goal.overflow_add-self
 overflow_add-self g c =

@@ -1,4 +1,4 @@
-use Rattle.std.proofs.Common.{◌≡◌, ◌∷◌, ◌++◌, [], ℕ, ◌+◌, List, Bool, true, false, cond, length, get_or, refl, ap, sym, subst, ◌∙◌, arith}
+use Rattle.std.proofs.Common.{◌≡◌, ◌∷◌, ◌++◌, [], ℕ, ◌+◌, List, Bool, true, false, cond, length, get_or, ap, sym, subst, ◌∙◌, arith}
 use Rattle.std.specs.Prelude.{slice_index}
 use Rattle.std.proofs.lemmas.List.{length-map, map-append, length_push, get_or_append_left}
 use Rattle.cdb_form.specs.Format.Pair.{head_size}
@@ -27,12 +27,10 @@ invariant_of-self-clause-picked g c =
     let m = c.args.self.now in
     let ms : List Bool = gone_of m.marks.items in
     let spans = spans_of (head_size g.L.Width.WORD) m.end (places_in m.places) m.spans in
-    let count : c.len.result ≡ length ms = omega (arith, c.len.ensures, m.marks.ok.0, length-map m.marks.items is_gone) in
     let items : gone_of c.push_reserved-2.new.self.items ≡ ms ++ false ∷ [] = ap gone_of c.push_reserved-2.ensures.items ∙ map-append is_gone m.marks.items (Stays ∷ []) in
-    subst (λ (v : List Bool). IsPicked (head_size g.L.Width.WORD) (places_in c.push.new.self) (m.end + c.args.size) v (record { first = c.first_after-self.result; count = m.gone.count; size = m.gone.size })) (sym items)
-    (picks_push ms m.gone (record { first = c.first_after-self.result; count = m.gone.count; size = m.gone.size }) c.args.size
-    (omega (arith, length-map m.marks.items is_gone, m.marked, m.paired, long_as spans.of)) spans.of (pushed_of c.args.size c.push.ensures.places spans.of)
-    (λ e. c.first_after-self.ensures.none (e ∙ sym count) ∙ ap (λ (n : ℕ). n + 1) count) (λ apart. c.first_after-self.ensures.some (λ e. apart (e ∙ count))) refl refl m.picked)
+    subst (λ (v : List Bool). IsPicked (head_size g.L.Width.WORD) (places_in c.push.new.self) (m.end + c.args.size) v m.gone) (sym items)
+    (picks_push ms m.gone c.args.size
+    (omega (arith, length-map m.marks.items is_gone, m.marked, m.paired, long_as spans.of)) spans.of (pushed_of c.args.size c.push.ensures.places spans.of) m.picked)
 
 pub invariant_of-self-clause-chained : goal.invariant_of-self-clause-chained
 invariant_of-self-clause-chained g c =
@@ -61,12 +59,10 @@ invariant_of-self-clause-sought g c =
     let m = c.args.self.now in
     let ms : List Bool = found_of m.marks.items in
     let spans = spans_of (head_size g.L.Width.WORD) m.end (places_in m.places) m.spans in
-    let count : c.len-2.result ≡ length ms = omega (arith, c.len-2.ensures, m.marks.ok.0, length-map m.marks.items is_found) in
     let items : found_of c.push_reserved-2.new.self.items ≡ ms ++ false ∷ [] = ap found_of c.push_reserved-2.ensures.items ∙ map-append is_found m.marks.items (Stays ∷ []) in
-    subst (λ (v : List Bool). IsPicked (head_size g.L.Width.WORD) (places_in c.push.new.self) (m.end + c.args.size) v (record { first = c.first_after-self-2.result; count = m.found.count; size = m.found.size })) (sym items)
-    (picks_push ms m.found (record { first = c.first_after-self-2.result; count = m.found.count; size = m.found.size }) c.args.size
-    (omega (arith, length-map m.marks.items is_found, m.marked, m.paired, long_as spans.of)) spans.of (pushed_of c.args.size c.push.ensures.places spans.of)
-    (λ e. c.first_after-self-2.ensures.none (e ∙ sym count) ∙ ap (λ (n : ℕ). n + 1) count) (λ apart. c.first_after-self-2.ensures.some (λ e. apart (e ∙ count))) refl refl m.sought)
+    subst (λ (v : List Bool). IsPicked (head_size g.L.Width.WORD) (places_in c.push.new.self) (m.end + c.args.size) v m.found) (sym items)
+    (picks_push ms m.found c.args.size
+    (omega (arith, length-map m.marks.items is_found, m.marked, m.paired, long_as spans.of)) spans.of (pushed_of c.args.size c.push.ensures.places spans.of) m.sought)
 
 pub invariant_of-self-clause-paired : goal.invariant_of-self-clause-paired
 invariant_of-self-clause-paired g c = grind (arith, common_steps)

@@ -39,7 +39,7 @@ invariant_of-self-clause-sought g c =
     let m = c.args.self.now in
     let ms : List Mark = map taken m.marks.items in
     subst (λ (v : List Mark). IsPicked (head_size g.L.Width.WORD) (places_in m.places) m.end (found_of v) c.none-self.result) (sym (taken_items c.deref_mut.result.now m.marks.items c.take.new.marks _ m.marks.len c.deref_mut.ensures.value m.marks.ok.0 c.take.ensures.marks))
-    (picks_none _ _ _ (found_of ms) _ (found_taken m.marks.items) (omega (arith, c.none-self.ensures.first, c.len.ensures, m.marks.ok.0, length-map ms is_found, length-map m.marks.items taken)) c.none-self.ensures.count c.none-self.ensures.size)
+    (picks_none _ _ _ (found_of ms) _ (found_taken m.marks.items) c.none-self.ensures.first c.none-self.ensures.count c.none-self.ensures.size)
 
 pub invariant_of-self-clause-picked : goal.invariant_of-self-clause-picked
 invariant_of-self-clause-picked g c =

@@ -15,6 +15,3 @@ returns-clause-bytes g c =
     let long : length copied ≡ n = c.copy_from_slice.ensures.len ∙ length-take-le n buf (grind arith) in
     let same : copied ≡ take n (window_of self) = c.copy_from_slice.ensures.after ∙ ap (take n) c.at_hand-window.ensures in
     subst (λ t. Consumes (input_bytes remaining self) (input_bytes remaining c.take_at_hand.new.self) t) (sym (take_at copied (drop n buf) n long ∙ same)) c.take_at_hand.ensures
-
-pub returns-clause-count : goal.returns-clause-count
-returns-clause-count g c = grind (arith, common_steps)

@@ -7,3 +7,9 @@ returns-2-clause-bytes g c = grind (arith, common_steps)
 
 pub returns-then-self-clause-bytes : goal.returns-then-self-clause-bytes
 returns-then-self-clause-bytes g c = grind (arith, common_steps)
+
+pub returns-2-clause-bound : goal.returns-2-clause-bound
+returns-2-clause-bound g c = grind (arith, common_steps)
+
+pub returns-then-self-clause-bound : goal.returns-then-self-clause-bound
+returns-then-self-clause-bound g c = grind (arith, common_steps)

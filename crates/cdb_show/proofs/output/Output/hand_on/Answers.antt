@@ -9,6 +9,3 @@ pub loop-self-preserved : goal.loop-self-preserved
 loop-self-preserved g c =
     let o = c.loop-self.self in
     record { kept = keeps_then _ _ _ c.loop-self.invariant.kept (handed_on o.buffer.items _ o.start c.in_ok-self.field-0 _ _ (take_rest c.deref.result.now o.start ∙ ap (drop o.start) c.deref.ensures.value) (rw c.in_ok-self.was at c.write_some-gone.ensures.ok)); sound = search rules }
-
-pub returns-clause-bytes : goal.returns-clause-bytes
-returns-clause-bytes g c = grind (arith, common_steps)

@@ -1,3 +1,4 @@
+use Rattle.std.proofs.lemmas.Grind.{common_steps}
 use Rattle.std.proofs.Common.{arith}
 use Rattle.cdb_show.proofs.OutputLemmas.{some_passed_on}
 use Rattle.cdb_show.proofs.output.Output.pass_on.Goals as goal
@@ -6,3 +7,15 @@ pub returns-clause-ok : goal.returns-clause-ok
 returns-clause-ok g c =
     let o = c.hand_on.new.self in
     some_passed_on c.write_some-gone.result o.buffer.items c.args.bytes.now c.min-most.result o.start _ _ _ (omega (arith, c.in_ok-hand_on.ensures.empty, o.buffer.ok.0)) c.hand_on.ensures.bytes c.write_some-gone.ensures.count c.write_some-gone.ensures.ok
+
+pub returns-clause-count : goal.returns-clause-count
+returns-clause-count g c = grind (arith, common_steps)
+
+pub returns-clause-err : goal.returns-clause-err
+returns-clause-err g c = grind (arith, common_steps)
+
+pub returns-clause-failed : goal.returns-clause-failed
+returns-clause-failed g c = grind (arith, common_steps)
+
+pub returns-clause-sound : goal.returns-clause-sound
+returns-clause-sound g c = grind (arith, common_steps)

@@ -9,8 +9,5 @@ returns-in-Err-clause-fails g c = rw c.from.ensures (opening_unchecked _ g.S.Sto
 pub returns-clause-sound : goal.returns-clause-sound
 returns-clause-sound g c = search rules
 
-pub returns-clause-fails : goal.returns-clause-fails
-returns-clause-fails g c = grind (arith, common_steps)
-
 pub returns-clause-reads : goal.returns-clause-reads
 returns-clause-reads g c = grind (arith, common_steps)

@@ -1,4 +1,5 @@
-use Rattle.std.proofs.Common.{sym, subst, ◌∙◌}
+use Rattle.std.proofs.lemmas.Grind.{common_steps}
+use Rattle.std.proofs.Common.{arith, sym, subst, ◌∙◌}
 use Rattle.cdb_difference.specs.Difference.{SaysDifference}
 use Rattle.cdb_show.proofs.DifferenceRuns.{new_lacks, new_outside, old_lacks, old_outside, tells_stopped}
 use Rattle.cdb_show.proofs.runs.difference.write_opened.Goals as goal
@@ -62,3 +63,6 @@ returns-in-Err-clause-tells g c =
     })
     c.in-Err.stop
     (subst (SaysDifference g.L.Width.WORD g.S.Store g.T.Store old.store left.old.store new.store left.new.store (g.W.Sink.contents c.args.w.now) (g.W.Sink.contents left.w) (g.W.Sink.failed left.w)) c.in-Err.is c.write_difference.ensures))
+
+pub returns-in-Ok-clause-tells : goal.returns-in-Ok-clause-tells
+returns-in-Ok-clause-tells g c = grind (arith, common_steps)

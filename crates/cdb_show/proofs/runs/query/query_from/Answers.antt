@@ -39,9 +39,6 @@ returns-in_err-write_shown-clause-fails g c =
     (value_fails {s = g.S.Store} {l = g.L.Width} _ _ c.args.finder.now c.next.new.self c.write_shown.new.finder _ _ _ _ c.in-Some.value c.in_err-write_shown.field-0.0 found next.reads.failures c.in_err-write_shown.ensures.fails
     (λ b is. inv.written.written b (c.next.ensures.reads.images b (written.reads.images b is))) (λ b is. (c.in_err-write_shown.ensures.writes b is).err))
 
-pub returns-then-found-clause-reads : goal.returns-then-found-clause-reads
-returns-then-found-clause-reads g c = grind (arith, common_steps)
-
 pub returns-else-found-clause-reads : goal.returns-else-found-clause-reads
 returns-else-found-clause-reads g c = grind (arith, common_steps)
 

@@ -1,4 +1,5 @@
-use Rattle.std.proofs.Common.{◌≡◌, ◌∙◌, ◌++◌, ℕ, List, refl, sym, append_assoc, codes}
+use Rattle.std.proofs.lemmas.Grind.{common_steps}
+use Rattle.std.proofs.Common.{arith, ◌≡◌, ◌∙◌, ◌++◌, ℕ, List, refl, sym, append_assoc, codes}
 use Rattle.std.proofs.lemmas.Result.{err_from_is_err_and}
 use Rattle.cdb_form.proofs.Bytes.WritingLemmas.{appends_then, prefix_in, prefix_last, prefix_then, same_appends, writes_prefix}
 use Rattle.cdb_read.specs.Lookup.{bytes_of}
@@ -44,3 +45,12 @@ returns-clause-writes g c = λ b is.
           (appends_then _ _ _ (key ++ codes " ") (bytes_of b value) c.in_ok-write_map_head.ensures.writes.ok (c.in_ok-copy.ensures.copies b is).ok) c.in_ok-write_whole.ensures.writes.ok);
       err = tt;
     }
+
+pub returns-clause-key : goal.returns-clause-key
+returns-clause-key g c = grind (arith, common_steps)
+
+pub returns-clause-same_reader : goal.returns-clause-same_reader
+returns-clause-same_reader g c = grind (arith, common_steps)
+
+pub returns-clause-stays : goal.returns-clause-stays
+returns-clause-stays g c = grind (arith, common_steps)

@@ -23,5 +23,5 @@ returns-in_ok-write_whole-clause-writes g c = λ b is.
     let copied = c.in_ok-copy.ensures.copies b is in
     record { ok = same_appends _ _ _ _ (sym (in_lines c.args.lines (bytes_of b c.args.value) c.if-lines.true)) (appends_then _ _ _ (bytes_of b c.args.value) (codes "\n") copied.ok c.in_ok-write_whole.ensures.writes.ok); err = tt }
 
-pub returns-else-lines-clause-writes : goal.returns-else-lines-clause-writes
-returns-else-lines-clause-writes g c = grind (arith, common_steps)
+pub returns-in_ok-write_whole-clause-same_reader : goal.returns-in_ok-write_whole-clause-same_reader
+returns-in_ok-write_whole-clause-same_reader g c = grind (arith, common_steps)

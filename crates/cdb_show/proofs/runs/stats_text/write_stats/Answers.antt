@@ -1,4 +1,5 @@
-use Rattle.std.proofs.Common.{refl}
+use Rattle.std.proofs.lemmas.Grind.{common_steps}
+use Rattle.std.proofs.Common.{arith, refl}
 use Rattle.std.proofs.lemmas.Result.{err_from_is_err_and}
 use Rattle.cdb_form.proofs.Bytes.WritingLemmas.{prefix_in, writes_prefix}
 use Rattle.cdb_show.specs.Runs.StatsText.{records_line, keys_line, values_line, tables_line, sizes_line, distance_lines}
@@ -49,3 +50,6 @@ returns-clause-writes g c =
     let four = after_tables _ _ _ s three c.in_ok-write_triple-3.ensures.writes.ok in
     let five = after_sizes _ _ _ s four c.in_ok-write_triple-4.ensures.writes.ok in
     amid_last c.write_distances.result _ _ _ _ _ five c.write_distances.ensures.writes
+
+pub returns-clause-failed : goal.returns-clause-failed
+returns-clause-failed g c = grind (arith, common_steps)

@@ -1,0 +1,15 @@
+use Rattle.std.proofs.Common.{◌≡◌, ◌-◌, ◌≤◌, length, take}
+use Rattle.cdb_make.specs.Tables.{all_gathered, rooms_of, roll_entries, tables_of}
+use Rattle.cdb_make.proofs.finish.gather.gather_sixteens.Given as goal
+
+-- the entries so far are gathered
+abbrev pub invariant-loop-n : goal.invariant-loop-n
+invariant-loop-n g l = record {
+  inside : l.n ≤ length l.roll.hashes.items;
+  all : all_gathered l.gathered ≡ tables_of (take l.n (roll_entries l.roll)) l.first (length l.fn.gathered);
+  rooms : rooms_of l.gathered ≡ rooms_of l.fn.gathered;
+  long : length l.gathered ≡ length l.fn.gathered;
+}
+
+abbrev pub decreases-loop-n : goal.decreases-loop-n
+decreases-loop-n g l = length l.roll.hashes.items - l.n

@@ -1,0 +1,6 @@
+use Rattle.std.proofs.lemmas.Grind.{common_steps}
+use Rattle.std.proofs.Common.{arith}
+use Rattle.cdb_show.proofs.runs.stats.stats_run.Goals as goal
+
+pub returns-clause-output : goal.returns-clause-output
+returns-clause-output g c = grind (arith, common_steps)
