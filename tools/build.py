@@ -62,7 +62,8 @@ SECONDS = {
     "cdb_difference": 230,
     "cdb_show": 310,
     "cdb_tool": 270,
-    "cdb": 560,
+    "cdb_system": 240,
+    "cdb": 330,
 }
 BYTES_A_SECOND = 220
 # How many jobs a check gets at most: a third takes more of the processors' time than it saves.

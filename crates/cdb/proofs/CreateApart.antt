@@ -22,17 +22,18 @@ use Rattle.cdb_show.specs.declared.fault.Fault.{Fault}
 use Rattle.cdb_show.specs.declared.fault.Fault.TheVariants.{Open}
 use Rattle.cdb_tool.specs.Runs.Made.{Made, made_file, made_lines, made_of}
 use Rattle.cdb.specs.Created.{Created, base_of, create_of, in_temporary, is_in_place, is_no_name, in_place, is_read, placed, unopened}
-use Rattle.cdb.specs.Creating.{IsBufferedRun, AsksAll, Making, OpensAll, Replaces, answer_of, temporary_of}
+use Rattle.cdb.specs.Creating.{IsBufferedRun, AsksAll, Making, OpensAll, Replaces, answer_of}
+use Rattle.cdb_system.specs.Places.{temporary_of}
 use Rattle.cdb.specs.ForetoldCreate.{HadBytes, HoldsAll, HonestCreate, IsNoFailedRemoval, IsNoFailedRename, KeepsAll, LeavesAll, passing, place_of}
-use Rattle.cdb.specs.Opening.{OpenCalls}
-use Rattle.cdb.specs.Oracle.{Disk, inputs_of, is_standard}
-use Rattle.cdb.specs.declared.system.System.{Ghosts as Systems}
+use Rattle.cdb_system.specs.Opening.{OpenCalls}
+use Rattle.cdb_system.specs.Oracle.{Disk, inputs_of, is_standard}
+use Rattle.cdb_system.specs.declared.system.System.{Ghosts as Systems}
 use Rattle.cdb.proofs.Replaced.{IsGone, KeepsOthers, LeavesOldOrMade, ReplacesSo, at_name, none_appended, not_at, replaces_so, said_nothing}
 use Rattle.cdb.proofs.CreateReads.{Asking, all_known_by, asked_all, asked_kept, asking_all, moments_first}
 use Rattle.cdb.proofs.CreateEnds.{Came, CreateSo, apart_is, constant, ends_early, first_is, has_may, last_leaves, last_moment, lines_of, name_holds, open_so, oracle_is, other_name, result_of, same_name, same_some, since_asked}
-use Rattle.cdb.specs.State.{state_of}
-use Rattle.cdb.specs.Files.{files_of}
-use Rattle.cdb.specs.Foretold.{GivesInputs}
+use Rattle.cdb_system.specs.State.{state_of}
+use Rattle.cdb_system.specs.Files.{files_of}
+use Rattle.cdb_system.specs.Answered.{GivesInputs}
 
 -- ---- in a temporary file
 

@@ -1,5 +1,5 @@
 -- What a create comes to that makes nothing, and what each name has then.
-use Rattle.cdb.proofs.OutputTaken.{MayGiveUpCreate}
+use Rattle.cdb.proofs.CreateTaken.{MayGiveUpCreate}
 use Rattle.std.proofs.Common.{ℕ, Bool, true, false, ◌||◌, ◌≢◌, ◌⊎◌, List, [], ◌∷◌, ◌++◌, Option, Some, None, Result, Ok, Err, ◌≡◌, ◌∙◌, ap, inl, inr, refl, subst, sym, append_assoc, length, length-append, arith, bytes_eq, option_map, codes}
 use Rattle.std.specs.Prelude.{OnErr, OnOk}
 use Rattle.std.specs.List.{AllByRecursion}
@@ -25,17 +25,19 @@ use Rattle.cdb_show.specs.declared.fault.Fault.{Fault}
 use Rattle.cdb_show.specs.declared.fault.Fault.TheVariants.{NoMemory, Open}
 use Rattle.cdb_tool.specs.Runs.Made.{Made, made_file, made_lines, made_of}
 use Rattle.cdb.specs.Created.{Created, base_of, create_of, if_opened, in_temporary, is_base, is_in_place, is_input, is_no_name, in_place, is_read, placed, unopened}
-use Rattle.cdb.specs.Creating.{AsksBase, AsksOne, FindsBase, FindsInput, FindsOne, Making, MayBeOne, NotOpened, Replaces, temporary_of}
-use Rattle.cdb.specs.Foretold.{IsAnswered, if_some}
+use Rattle.cdb.specs.Creating.{AsksBase, AsksOne, FindsBase, FindsInput, FindsOne, Making, MayBeOne, NotOpened, Replaces}
+use Rattle.cdb_system.specs.Places.{temporary_of}
+use Rattle.cdb_system.specs.Answered.{IsAnswered, if_some}
 use Rattle.cdb.specs.ForetoldCreate.{HadBytes, HasBytes, HoldsAll, IsNoAlias, IsNoFailedRemoval, IsNoFailedRename, KeepsAll, LeavesAll, passing, place_of}
-use Rattle.cdb.specs.Inputs.{inputs_read, IsStandard, MissesBase}
-use Rattle.cdb.specs.Opening.{OpenCalls, unopened as unopened_fault}
-use Rattle.cdb.specs.Oracle.{Disk, both, each_of, input_of, inputs_of, is_standard}
-use Rattle.cdb.specs.declared.open_trace.OpenCall.TheVariants.{Unopened}
-use Rattle.cdb.specs.declared.system.System.{Ghosts as Systems}
+use Rattle.cdb_system.specs.Inputs.{inputs_read, MissesBase}
+use Rattle.cdb_system.specs.Opening.{OpenCalls, unopened as unopened_fault}
+use Rattle.cdb_system.specs.Oracle.{Disk, both, inputs_of, is_standard}
+use Rattle.cdb_system.specs.declared.open_trace.OpenCall.TheVariants.{Unopened}
+use Rattle.cdb_system.specs.declared.system.System.{Ghosts as Systems}
 use Rattle.cdb.proofs.Replaced.{IsPlain, none_appended, said_nothing}
-use Rattle.cdb.proofs.CreateReads.{AllKnown, Asking, all_back, asked_kept, base_grows, grows, moments_first, read_input, standard_not}
-use Rattle.cdb.specs.State.{State}
+use Rattle.cdb.proofs.CreateReads.{AllKnown, Asking, asked_kept, base_grows, moments_first, read_input}
+use Rattle.cdb_system.proofs.InputsKnown.{all_back, grows, standard_not, both_none, missing_inputs, input_missing}
+use Rattle.cdb_system.specs.State.{State}
 
 -- ---- the oracle
 
@@ -196,22 +198,6 @@ missed_why : (o : MakeOptions) (c : Created) (disk : Disk) (start end told said 
 missed_why o c disk start end told said fault why.Failed e h k = subst (λ f. EndsEarly o c disk start end told said f) (sym e) (open_so o c disk start end told said (h refl) k)
 missed_why o c disk start end told said fault why.NoMemory e h k = memory_so o c disk start end told said fault e k
 
--- ---- what was not opened
-
-both_none : {A B C : Type 0} (f : A → B → C) (x : Option A) → both f x None ≡ None
-both_none f None = refl
-both_none f (Some a) = refl
-
--- an input is not there
-missing_each : (disk : Disk) (first : List (List ℕ)) (name : List ℕ) (more : List (List ℕ)) → input_of disk name ≡ None → each_of disk (first ++ name ∷ more) ≡ None
-missing_each disk [] name more e = ap (λ o. both (λ p ps. p ∷ ps) o (each_of disk more)) e
-missing_each disk (n ∷ first) name more e = ap (λ o. both (λ p ps. p ∷ ps) (input_of disk n) o) (missing_each disk first name more e) ∙ both_none (λ p ps. p ∷ ps) (input_of disk n)
-
-pub missing_inputs : (disk : Disk) (names first : List (List ℕ)) (name : List ℕ) (more : List (List ℕ)) → names ≡ first ++ name ∷ more → input_of disk name ≡ None → inputs_of disk names ≡ None
-missing_inputs disk [] [] name more e h = absurd (let no : ◌≡◌ {A = List (List ℕ)} [] (name ∷ more) = e in cc)
-missing_inputs disk [] (n ∷ first) name more e h = absurd (let no : ◌≡◌ {A = List (List ℕ)} [] (n ∷ (first ++ name ∷ more)) = e in cc)
-missing_inputs disk (n ∷ names) first name more e h = ap (each_of disk) e ∙ missing_each disk first name more h
-
 no_inputs : (w g : ℕ) (disk : Disk) (input name : List ℕ) (base : Option (List ℕ)) (inputs : List (List ℕ)) (temporary : Option (List ℕ)) (o : MakeOptions) → inputs_of disk inputs ≡ None → create_of w g disk input name base inputs temporary o ≡ unopened disk
 no_inputs w g disk input name base inputs temporary o e =
     let f : Option (List ℕ) → List (Option (List ℕ)) → Created = λ old files. placed w disk name base inputs temporary (made_of w g o old files input) in
@@ -229,9 +215,6 @@ head_answered s remaining y disk read old mid new calls cause found name e befor
     let split : calls ≡ (Unopened cause found, name) ∷ before.0 = append_cancel_right calls ((Unopened cause found, name) ∷ before.0) old (sym e ∙ is ∙ ap (λ c. (Unopened cause found, name) ∷ c) before.1) in
     let answered = (subst (AllByRecursion (λ c. IsAnswered s remaining y disk (if_some read) c.0 c.1)) split all).0 in
     subst (λ v. IsAnswered s remaining y disk (if_some read) (Unopened v found) name) failed answered
-
-pub input_missing : (disk : Disk) (name : List ℕ) → (IsStandard name → ⊥) → disk name ≡ None → input_of disk name ≡ None
-input_missing disk name other e = cond-false (is_standard name) _ _ (standard_not name other) ∙ ap (option_map (λ b. Some b)) e
 
 base_missed : {F I M Y : Type 0} (s : Ghosts F) (remaining : I → Option (List ℕ)) (y : Systems Y F I M) (w g : ℕ) (disk : Disk) (input name : List ℕ) (base : Option (List ℕ)) (inputs : List (List ℕ)) (temporary : Option (List ℕ)) (o : MakeOptions) (old new calls : OpenCalls) (read : Option F) (start end told said : Option (List ℕ)) (fault : Fault)
     → new ≡ calls ++ old → AllByRecursion (λ c. IsAnswered s remaining y disk (if_some read) c.0 c.1) calls → MissesBase base old new fault → Keeps start end × Keeps told said

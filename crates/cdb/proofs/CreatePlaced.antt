@@ -1,5 +1,5 @@
 -- A create in place, and one on standard output, come to what the oracle says.
-use Rattle.cdb.proofs.OutputTaken.{MayGiveUpCreate}
+use Rattle.cdb.proofs.CreateTaken.{MayGiveUpCreate}
 use Rattle.std.proofs.Common.{ℕ, true, false, ◌⊎◌, List, [], ◌∷◌, ◌++◌, Option, Some, None, Result, Ok, Err, ◌≡◌, ◌∙◌, ap, inl, inr, refl, subst, sym, bytes_eq}
 use Rattle.std.specs.List.{AllByRecursion}
 use Rattle.std.specs.Prelude.{OnErr, OnOk, IfErr}
@@ -26,17 +26,17 @@ use Rattle.cdb_show.specs.Runs.Incoming.{Known}
 use Rattle.cdb.specs.Created.{Created, base_of, create_of, if_opened, is_in_place, in_place, is_read, on_output, placed, unopened}
 use Rattle.cdb.specs.Creating.{HasDatabase, IsBufferedRun, IsMakeRun, MakesEmptied, MakesOnOutput, SeesName, Syncs, WritesAll, AsksAll, Making, OpensAll}
 use Rattle.cdb.specs.ForetoldCreate.{HoldsAll, HonestCreate, IsNamed, IsNoFailedRename, KeepsAll, passing}
-use Rattle.cdb.specs.Opening.{Empties, MissesEmptying, OpenCalls, named_as, unopened as unopened_fault}
-use Rattle.cdb.specs.Oracle.{Disk, both, inputs_of, is_standard}
-use Rattle.cdb.specs.declared.open_trace.OpenCall.TheVariants.{Emptied, Locked, Own, ToEmpty}
-use Rattle.cdb.specs.declared.system.System.{Ghosts as Systems}
-use Rattle.cdb.specs.declared.left.Left.{Left}
+use Rattle.cdb_system.specs.Opening.{Empties, MissesEmptying, OpenCalls, named_as, unopened as unopened_fault}
+use Rattle.cdb_system.specs.Oracle.{Disk, both, inputs_of, is_standard}
+use Rattle.cdb_system.specs.declared.open_trace.OpenCall.TheVariants.{Emptied, Locked, Own, ToEmpty}
+use Rattle.cdb_system.specs.declared.system.System.{Ghosts as Systems}
+use Rattle.cdb_system.specs.declared.left.Left.{Left}
 use Rattle.cdb.proofs.Replaced.{BaseHas, EndsSo, IsPlain, WasRefused, database_is, made_here, ran_err, ran_ok, whole_lines, none_appended, said_nothing}
 use Rattle.cdb.proofs.CreateReads.{AllKnown, Asking, all_known_by, asked_all, asking_all, asking_none, moments_first}
 use Rattle.cdb.proofs.CreateEnds.{Came, CameTrue, CreateSo, GaveUp, constant, hands_none, has_first, holds_first, keeps_first, same_name}
-use Rattle.cdb.specs.State.{state_of}
-use Rattle.cdb.specs.Files.{files_of}
-use Rattle.cdb.specs.Foretold.{GivesInputs}
+use Rattle.cdb_system.specs.State.{state_of}
+use Rattle.cdb_system.specs.Files.{files_of}
+use Rattle.cdb_system.specs.Answered.{GivesInputs}
 
 -- ---- in place
 

@@ -9,19 +9,21 @@ use Rattle.cdb_store.specs.declared.store.Store.{Ghosts}
 use Rattle.cdb_show.specs.declared.fault.Fault.{Fault}
 use Rattle.cdb_show.specs.declared.fault.Fault.TheVariants.{NoMemory, Open}
 use Rattle.cdb.specs.Created.{Created, create_of, is_in_place}
-use Rattle.cdb.specs.Creating.{Creates, IsInPlace, Making, temporary_of}
+use Rattle.cdb.specs.Creating.{Creates, Making}
+use Rattle.cdb_system.specs.Places.{IsInPlace, temporary_of}
 use Rattle.cdb.specs.ForetoldCreate.{HonestCreate}
-use Rattle.cdb.specs.Opening.{OpenCalls, base_left}
-use Rattle.cdb.specs.Oracle.{Disk}
-use Rattle.cdb.specs.declared.system.System.{Ghosts as Systems}
-use Rattle.cdb.specs.declared.left.Left.{Left}
-use Rattle.cdb.proofs.CreateReads.{asking_all, asking_finds, asking_none, standard_is, standard_not}
+use Rattle.cdb_system.specs.Opening.{OpenCalls, base_left}
+use Rattle.cdb_system.specs.Oracle.{Disk}
+use Rattle.cdb_system.specs.declared.system.System.{Ghosts as Systems}
+use Rattle.cdb_system.specs.declared.left.Left.{Left}
+use Rattle.cdb.proofs.CreateReads.{asking_all, asking_finds, asking_none}
+use Rattle.cdb_system.proofs.InputsKnown.{standard_is, standard_not}
 use Rattle.cdb.proofs.CreateEnds.{CreateSo, back_none, ends_early, found, memory_so, not_opened_so, open_so, read_unopened, refused_early}
 use Rattle.cdb.proofs.CreateApart.{replacing_so}
 use Rattle.cdb.proofs.CreatePlaced.{emptied_so, emptying_refused, in_place_unopened, output_so}
-use Rattle.cdb.specs.State.{state_of}
-use Rattle.cdb.specs.Files.{files_of}
-use Rattle.cdb.specs.Foretold.{GivesInputs}
+use Rattle.cdb_system.specs.State.{state_of}
+use Rattle.cdb_system.specs.Files.{files_of}
+use Rattle.cdb_system.specs.Answered.{GivesInputs}
 
 -- ---- each create
 

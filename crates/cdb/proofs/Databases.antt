@@ -1,32 +1,30 @@
 -- What a store has once a run over it succeeded, and what a run says whose lines were handed on.
-use Rattle.std.proofs.Common.{ℕ, Bool, true, List, Option, Some, None, Result, Ok, Err, ◌≡◌, ◌∙◌, ◌++◌, ap, inl, inr, subst, sym}
+use Rattle.std.proofs.Common.{ℕ, Bool, true, List, Option, Some, None, Result, Ok, Err, ◌≡◌, ◌∙◌, ap, inl, inr, subst, sym}
 use Rattle.std.specs.Prelude.{OnOk, OnErr}
 use Rattle.std.specs.Io.KnownBytes.{Keeps}
-use Rattle.std.proofs.KnownBytes.{Appends-kept, Keeps-trans}
 use Rattle.cdb_command.specs.Asked.{Asked}
 use Rattle.cdb_command.specs.Refused.{Refused}
 use Rattle.cdb_names.specs.Folder.{NameCalls}
 use Rattle.cdb_names.specs.declared.answer.Answer.TheVariants.{No, Unknown, Yes}
 use Rattle.cdb_names.specs.Replacing.{BuilderTells}
 use Rattle.cdb_names.specs.declared.replace.ReplaceFault.{ReplaceFault}
-use Rattle.cdb_form.specs.Views.KnownBytes.{Writes}
 use Rattle.cdb_store.specs.declared.raw.RawFile.{Ghosts as Raw}
 use Rattle.cdb_store.specs.declared.store.Store.{Ghosts}
 use Rattle.cdb_make.specs.Views.Maker.{WhereHonest}
 use Rattle.cdb_show.proofs.OutputFaults.{says_more}
 use Rattle.cdb_show.specs.Views.Output.{OutputSays}
-use Rattle.cdb_show.specs.Message.{fault_line}
 use Rattle.cdb_tool.specs.Runs.Make.{HandsBack, OfBase, Makes}
 use Rattle.cdb_tool.specs.Runs.Make as run
 use Rattle.cdb_show.specs.declared.fault.Fault.{Fault}
-use Rattle.cdb_show.proofs.Writers.{prefix_kept}
 use Rattle.cdb.specs.Creating.{Making, HasDatabase, IsBufferedRun, IsDatabase, IsMakeRun, SeesName, Syncs}
-use Rattle.cdb.specs.Opening.{OpenCalls}
-use Rattle.cdb.specs.Performs.{Says, SaysLine, Runs, refused_lines}
-use Rattle.cdb.specs.declared.left.Left.{Left}
-use Rattle.cdb.specs.declared.system.System.{Ghosts as Systems}
-use Rattle.cdb.specs.State.{failed_of, given_of, state_of}
-use Rattle.cdb.specs.Files.{files_of}
+use Rattle.cdb_system.specs.Opening.{OpenCalls}
+use Rattle.cdb_system.specs.Telling.{refused_lines}
+use Rattle.cdb.specs.Performs.{Runs}
+use Rattle.cdb_system.specs.declared.left.Left.{Left}
+use Rattle.cdb_system.specs.declared.system.System.{Ghosts as Systems}
+use Rattle.cdb_system.specs.State.{failed_of, given_of, state_of}
+use Rattle.cdb_system.specs.Files.{files_of}
+use Rattle.cdb_system.proofs.Said.{line_kept, says_kept}
 
 of_weaker : {F : Type 0} (f : Ghosts F) (base : Option F) (P Q : Option (List ℕ) → Type 0) → ((x : Option (List ℕ)) → P x → Q x) → OfBase f base P → OfBase f base Q
 of_weaker f None P Q g h = g None h
@@ -104,19 +102,6 @@ database_synced f s m back built left made (Ok done) syncs has = λ b is. elim s
 pub failed_stays : {T E : Type 0} (r : Result T E) (old new : Bool) → OnOk r (new ≡ old) → OnErr r (new ≡ true) → old ≡ true → new ≡ true
 failed_stays (Ok done) old new same failed is = same ∙ is
 failed_stays (Err e) old new same failed is = failed
-
--- a line was written, or its writer failed
-pub says_line : {T E : Type 0} (r : Result T E) (told said : Option (List ℕ)) (line : List ℕ) (unsaid : Type 0) → Writes r told said line → OnErr r unsaid → SaysLine line told said unsaid
-says_line (Ok done) told said line unsaid w failed = inl w.ok
-says_line (Err e) told said line unsaid w failed = inr (w.err, failed)
-
-line_kept : (line : List ℕ) (told mid said : Option (List ℕ)) (was is : Type 0) → (was → is) → SaysLine line told mid was → Keeps mid said → SaysLine line told said is
-line_kept line told mid said was is stays (inl whole) k = inl (Appends-kept told mid said line whole k)
-line_kept line told mid said was is stays (inr part) k = inr (prefix_kept told mid said line part.0 k, stays part.1)
-
-says_kept : (result : Result Unit Fault) (more : List ℕ) (told mid said : Option (List ℕ)) (was is : Type 0) → (was → is) → Says result more told mid was → Keeps mid said → Says result more told said is
-says_kept (Ok done) more told mid said was is stays h k = Keeps-trans told mid said h k
-says_kept (Err fault) more told mid said was is stays h k = line_kept (fault_line fault ++ more) told mid said was is stays h k
 
 pub run_kept : {F I M R Y : Type 0} (s : Ghosts F) (m : Ghosts M) (r : Raw R) (remaining : I → Option (List ℕ)) (y : Systems Y F I M) (planned : Result Asked Refused) (explained : Bool) (input : Option (List ℕ)) (old new : Y) (was now : NameCalls) (left : Left F M) (start end final told mid said : Option (List ℕ)) (unwritten before after : Type 0) (status : ℕ)
     → Runs (files_of s m remaining y) r (given_of planned explained input) (state_of old was start told) (state_of new now end mid) final left (failed_of unwritten before) status → (before → after) → Keeps mid said → Runs (files_of s m remaining y) r (given_of planned explained input) (state_of old was start told) (state_of new now end said) final left (failed_of unwritten after) status

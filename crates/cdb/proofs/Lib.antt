@@ -1,10 +1,6 @@
 mod Databases
-mod Opens
-mod Coming
-mod ManyKeys
-mod ComparedFiles
+mod Asks
 mod Oracles
-mod Explained
 mod Replaced
 mod CreateReads
 mod CreateEnds
@@ -13,4 +9,4 @@ mod CreatePlaced
 mod Creates
 mod NamedCreates
 mod RunCreates
-pub mod OutputTaken
+mod CreateTaken

@@ -5,11 +5,11 @@ use Rattle.cdb_store.specs.declared.store.Store.{Ghosts}
 use Rattle.cdb_tool.proofs.NamedInputs.{IsNamed, named_made}
 use Rattle.cdb.specs.Created.{Created, base_of, create_of, if_opened, placed}
 use Rattle.cdb.specs.ForetoldCreate.{CreateHolds, expected_of}
-use Rattle.cdb.specs.Opening.{OpenCalls}
-use Rattle.cdb.specs.Oracle.{Disk, both, inputs_of}
+use Rattle.cdb_system.specs.Opening.{OpenCalls}
+use Rattle.cdb_system.specs.Oracle.{Disk, both, inputs_of}
 use Rattle.cdb.specs.Performs.{IsShown}
 use Rattle.cdb.proofs.Replaced.{IsPlain}
-use Rattle.cdb.specs.State.{State}
+use Rattle.cdb_system.specs.State.{State}
 
 -- ---- a create
 

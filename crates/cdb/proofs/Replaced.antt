@@ -1,5 +1,5 @@
 -- A create in a temporary file comes to what the function of its bytes says.
-use Rattle.cdb.proofs.OutputTaken.{MayGiveUpCreate}
+use Rattle.cdb.proofs.CreateTaken.{MayGiveUpCreate}
 use Rattle.std.proofs.Common.{ℕ, true, false, ◌+◌, ◌≢◌, ◌⊎◌, List, [], ◌∷◌, ◌++◌, take, Option, Some, None, Result, Ok, Err, ◌≡◌, ◌∙◌, ap, inl, inr, refl, subst, sym, arith, append-nil, bytes_eq}
 use Rattle.std.specs.Prelude.{OnErr, OnOk, IfErr, ⊤}
 use Rattle.std.specs.List.{AllByRecursion}
@@ -34,8 +34,8 @@ use Rattle.cdb_tool.proofs.MadeOf.{made_so, run_comes}
 use Rattle.cdb_tool.proofs.ToldLines.{part_plain, tells_plain}
 use Rattle.cdb.specs.Creating.{IsBufferedRun, IsDatabase, IsMakeRun, Making, Replaces, answer_of, fault_of}
 use Rattle.cdb.specs.ForetoldCreate.{HadBytes, IsNoFailedRename, place_of}
-use Rattle.cdb.specs.State.{state_of}
-use Rattle.cdb.specs.Opening.{OpenCalls}
+use Rattle.cdb_system.specs.State.{state_of}
+use Rattle.cdb_system.specs.Opening.{OpenCalls}
 
 -- ---- what it comes to
 

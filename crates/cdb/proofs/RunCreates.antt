@@ -1,6 +1,6 @@
 -- A run whose words ask for a create comes to what the oracle says.
 use Rattle.cdb_show.specs.Views.Output.{OutputSays}
-use Rattle.cdb.proofs.OutputTaken.{MayGiveUpCreate, taken_create}
+use Rattle.cdb.proofs.CreateTaken.{MayGiveUpCreate, taken_create}
 use Rattle.std.proofs.Common.{ℕ, Bool, true, false, ◌⊎◌, List, [], ◌++◌, Option, Result, Ok, Err, ◌≡◌, ◌∙◌, ap, inl, inr, refl, subst, sym, append-nil, option_map, arith, string_bytes}
 use Rattle.std.specs.Prelude.{OnErr, OnOk}
 use Rattle.std.specs.Io.KnownBytes.{Appends, Keeps}
@@ -21,26 +21,28 @@ use Rattle.cdb_show.specs.declared.fault.Fault.{Fault}
 use Rattle.cdb_show.specs.declared.fault.Fault.TheVariants.{Missing, NoMemory}
 use Rattle.cdb.specs.Created.{Created, create_of}
 use Rattle.cdb.specs.Creating.{Creates}
-use Rattle.cdb.specs.Foretold.{GivesInputs, IsTaken}
+use Rattle.cdb_system.specs.Answered.{GivesInputs}
+use Rattle.cdb.specs.Foretold.{IsTaken}
 use Rattle.cdb.specs.ForetoldCreate.{CreateHolds, HonestCreate, IsCreateForetold, IsCreated, IsGivenUp, expected_of, passing}
-use Rattle.cdb.specs.Oracle.{Disk, ended, greatest_size, word_size}
-use Rattle.cdb.specs.Performs.{IsShown, PerformsIn, Runs, SaysLine, refused_lines, status_of, usage_line, usage_status}
-use Rattle.cdb.specs.declared.left.Left.{Left}
-use Rattle.cdb.specs.declared.system.System.{Ghosts as Systems}
+use Rattle.cdb_system.specs.Oracle.{Disk, ended, greatest_size, word_size}
+use Rattle.cdb.specs.Performs.{IsShown, PerformsIn, Runs, status_of}
+use Rattle.cdb_system.specs.Telling.{SaysLine, refused_lines, usage_line, usage_status}
+use Rattle.cdb_system.specs.declared.left.Left.{Left}
+use Rattle.cdb_system.specs.declared.system.System.{Ghosts as Systems}
 use Rattle.cdb_show.specs.Views.Output.{HasHandedOn, OutputFailed, held_by, output_bytes}
 use Rattle.cdb_show.specs.declared.output.Output.{Output as Writer}
 use Rattle.cdb_show.proofs.Writers.{prefix_kept}
 use Rattle.cdb.proofs.NamedCreates.{named_holds, shown_plain}
 use Rattle.cdb.proofs.Replaced.{IsPlain}
-use Rattle.cdb.proofs.Explained.{SaysOnly, says_only}
+use Rattle.cdb_system.proofs.Explained.{SaysOnly, says_only}
 use Rattle.cdb.proofs.CreateEnds.{Came, keeps_first}
 use Rattle.cdb.proofs.CreateReads.{asking_none, moments_first}
 use Rattle.cdb.proofs.Creates.{creates_so}
 use Rattle.cdb.proofs.Oracles.{all_taken, handed_all}
 use Rattle.cdb.proofs.Replaced.{said_nothing}
-use Rattle.cdb.specs.State.{failed_of, given_of, state_of}
-use Rattle.cdb.specs.Files.{Files, files_of}
-use Rattle.cdb.specs.Opening.{OpenCalls}
+use Rattle.cdb_system.specs.State.{failed_of, given_of, state_of}
+use Rattle.cdb_system.specs.Files.{Files, files_of}
+use Rattle.cdb_system.specs.Opening.{OpenCalls}
 
 -- ---- the end
 

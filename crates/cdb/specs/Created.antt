@@ -10,9 +10,9 @@ use Rattle.cdb_tool.specs.Runs.Made.{Made, made_file, made_lines, made_of}
 use Rattle.cdb_show.specs.Status.{plain_status}
 use Rattle.cdb_show.specs.declared.fault.Fault.{Fault}
 use Rattle.cdb_show.specs.declared.fault.Fault.TheVariants.{Open}
-use Rattle.cdb.specs.Creating.{temporary_of}
-use Rattle.cdb.specs.Oracle.{Disk, Outcome, both, command_outcome, ended, greatest_size, inputs_of}
-use Rattle.cdb.specs.Oracle.{is_standard, oracle, word_size}
+use Rattle.cdb_system.specs.Places.{temporary_of}
+use Rattle.cdb_system.specs.Oracle.{Disk, Outcome, both, command_outcome, ended, greatest_size, inputs_of}
+use Rattle.cdb_system.specs.Oracle.{is_standard, oracle, word_size}
 
 -- ---- the disk
 

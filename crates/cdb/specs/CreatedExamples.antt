@@ -12,12 +12,12 @@ use Rattle.cdb_store.specs.declared.memory.MemStore.{MemStore}
 use Rattle.cdb_store.specs.declared.trace.Call.TheVariants as file_call
 use Rattle.cdb_form.specs.Format.Record.{AreBytes}
 use Rattle.cdb_show.specs.Runs.Incoming.{KnownFor}
-use Rattle.cdb.specs.Files.{files_of}
-use Rattle.cdb.specs.Foretold.{GivesInputs}
+use Rattle.cdb_system.specs.Files.{files_of}
+use Rattle.cdb_system.specs.Answered.{GivesInputs}
 use Rattle.cdb.specs.ForetoldCreate.{HonestCreate}
-use Rattle.cdb.specs.Opening.{OpenCalls}
-use Rattle.cdb.specs.State.{state_of}
-use Rattle.cdb.specs.declared.system.System.{Ghosts as Systems}
+use Rattle.cdb_system.specs.Opening.{OpenCalls}
+use Rattle.cdb_system.specs.State.{state_of}
+use Rattle.cdb_system.specs.declared.system.System.{Ghosts as Systems}
 use Rattle.cdb_command.specs.Asked.{Create}
 use Rattle.cdb_command.specs.declared.options.MakeOptions.{MakeOptions}
 use Rattle.cdb_command.specs.declared.style.Style.TheVariants.{Native}
@@ -31,7 +31,7 @@ use Rattle.cdb_form.specs.Format.Walk.{walk_of, walk_from, whole_records, record
 use Rattle.cdb_form.specs.Text.Parse.{text_from}
 use Rattle.cdb_form.specs.declared.mode.Mode.TheVariants.{Add}
 use Rattle.cdb.specs.Created.{Ending, foretell}
-use Rattle.cdb.specs.Oracle.{Disk}
+use Rattle.cdb_system.specs.Oracle.{Disk}
 
 -- an empty disk, and one with the file of the two records
 unfoldable nothing : Disk

@@ -1,11 +1,9 @@
 -- What a create makes of what it reads, and under which names. The newest call comes first.
-use Rattle.std.specs.Prelude.{ℕ, ◌≡◌, ◌≢◌, ◌<◌, ◌+◌, ◌⊎◌, IsOk, List, [], ◌∷◌, ◌++◌, map, Option, Some, None, Result}
-use Rattle.std.specs.Prelude.{Ok, Err, OnOk, OnErr, IfErr, codes}
+use Rattle.std.specs.Prelude.{ℕ, ◌≡◌, ◌≢◌, ◌<◌, ◌+◌, ◌⊎◌, IsOk, List, [], ◌∷◌, map, Option, Some, None, Result, Ok, Err, OnOk, OnErr, IfErr}
 use Rattle.std.specs.Io.KnownBytes.{Keeps, Appends}
 use Rattle.cdb_command.specs.declared.options.MakeOptions.{MakeOptions}
 use Rattle.cdb_names.specs.Folder.{AreGuarded, NameCalls}
-use Rattle.cdb_names.specs.Replacing.{AreOfReplacing, AtEachMoment, EndsIn, IsRenamed, LeavesNew}
-use Rattle.cdb_names.specs.Replacing.{FailsToBuild, IsNoName, IsOfBuilder, LeavesOldOrNew, BuilderTells, renames}
+use Rattle.cdb_names.specs.Replacing.{AreOfReplacing, AtEachMoment, EndsIn, IsRenamed, LeavesNew, FailsToBuild, IsNoName, IsOfBuilder, LeavesOldOrNew, BuilderTells, renames}
 use Rattle.cdb_names.specs.declared.answer.Answer.{Answer}
 use Rattle.cdb_names.specs.declared.answer.Answer.TheVariants as looks
 use Rattle.cdb_names.specs.declared.name_trace.NameCall.TheVariants as name_call
@@ -23,19 +21,18 @@ use Rattle.cdb_make.specs.Views.Maker.{WhereHonest}
 use Rattle.cdb_show.specs.Runs.Inputs.{InputsLeft}
 use Rattle.cdb_tool.specs.Runs.Make.{HandsBack, BaseHasFailed, IsOfBase, IsOfStore, Makes, OfBase, MakeRuns}
 use Rattle.cdb_show.specs.declared.fault.Fault.{Fault}
-use Rattle.cdb_show.specs.declared.fault.Fault.TheVariants.{Open, NoMemory, Output, Rename}
-use Rattle.cdb_show.specs.declared.fault.Fault.TheVariants.{Make}
+use Rattle.cdb_show.specs.declared.fault.Fault.TheVariants.{Open, NoMemory, Output, Rename, Make}
 use Rattle.cdb_store.specs.declared.make_fault.MakeFault.TheVariants.{Writing}
 use Rattle.cdb_show.specs.declared.inputs.Turn.{Turn}
 use Rattle.cdb_show.specs.Views.Inputs.{one_of}
-use Rattle.cdb.specs.Files.{Files}
-use Rattle.cdb.specs.Inputs.{IsStandard, MissesBase, OpensBase, OpensInputs, StopsOpening}
-use Rattle.cdb.specs.Inputs.{inputs_read}
-use Rattle.cdb.specs.Opening.{Empties, MissesEmptying, OpenCalls, base_left, named_as}
-use Rattle.cdb.specs.State.{State}
-use Rattle.cdb.specs.declared.left.Left.{Left}
-use Rattle.cdb.specs.declared.open_trace.OpenCall.TheVariants.{Own}
-use Rattle.cdb.specs.declared.system.System.{Ghosts as Systems}
+use Rattle.cdb_system.specs.Files.{Files}
+use Rattle.cdb_system.specs.Inputs.{IsStandard, MissesBase, OpensBase, OpensInputs, StopsOpening, inputs_read}
+use Rattle.cdb_system.specs.Opening.{Empties, MissesEmptying, OpenCalls, base_left, named_as}
+use Rattle.cdb_system.specs.State.{State}
+use Rattle.cdb_system.specs.declared.left.Left.{Left}
+use Rattle.cdb_system.specs.declared.open_trace.OpenCall.TheVariants.{Own}
+use Rattle.cdb_system.specs.declared.system.System.{Ghosts as Systems}
+use Rattle.cdb_system.specs.Places.{IsInPlace, temporary_of}
 
 -- ---- the database
 
@@ -286,18 +283,6 @@ MakesApart f r m temporary wanted old new back result =
     × (result ≡ Err Open) × Keeps old.errors new.errors)
     ⊎ ((mid : NameCalls) × AsksAll temporary wanted.base wanted.inputs old.named mid
     × Replaces f r m temporary wanted.name (record old { named = mid }) new back result)
-
--- ---- under a name
-
--- the database is made in place: its temporary file is none, or itself
-abbrev pub IsInPlace : (name : List ℕ) → (temporary : Option (List ℕ)) → Type 0
-IsInPlace name None = ⊥
-IsInPlace name (Some temporary) = (temporary ≡ codes "-") ⊎ (temporary ≡ name)
-
--- the name of the temporary file
-abbrev pub temporary_of : (name : List ℕ) → (temporary : Option (List ℕ)) → List ℕ
-temporary_of name None = name ++ codes ".tmp"
-temporary_of name (Some temporary) = temporary
 
 -- it is made in place; or in a temporary file, unless the allocation of its name failed
 abbrev pub MakesNamed : {F I M R Y : Type 0} → Files F I M Y → Raw R → Making F → Wanted

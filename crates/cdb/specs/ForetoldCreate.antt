@@ -19,14 +19,14 @@ use Rattle.cdb_tool.specs.Runs.MakesSo.{IsMakeRefusal}
 use Rattle.cdb_show.specs.declared.fault.Fault.{Fault}
 use Rattle.cdb_show.specs.declared.fault.Fault.TheVariants.{Open, Output, Rename}
 use Rattle.cdb.specs.Created.{Created, create_of, created_ending, is_in_place}
-use Rattle.cdb.specs.Creating.{temporary_of}
-use Rattle.cdb.specs.Files.{Files}
-use Rattle.cdb.specs.Foretold.{GivesInputs, IsAnswered, if_some}
-use Rattle.cdb.specs.Opening.{OpenCalls}
-use Rattle.cdb.specs.Oracle.{Disk, greatest_size, is_standard, word_size}
-use Rattle.cdb.specs.State.{Given, State, with_calls}
-use Rattle.cdb.specs.declared.left.Left.{Left}
-use Rattle.cdb.specs.declared.open_trace.OpenCall.TheVariants.{Own}
+use Rattle.cdb_system.specs.Places.{temporary_of}
+use Rattle.cdb_system.specs.Files.{Files}
+use Rattle.cdb_system.specs.Answered.{GivesInputs, IsAnswered, if_some}
+use Rattle.cdb_system.specs.Opening.{OpenCalls}
+use Rattle.cdb_system.specs.Oracle.{Disk, greatest_size, is_standard, word_size}
+use Rattle.cdb_system.specs.State.{Given, State, with_calls}
+use Rattle.cdb_system.specs.declared.left.Left.{Left}
+use Rattle.cdb_system.specs.declared.open_trace.OpenCall.TheVariants.{Own}
 
 -- ---- the calls
 

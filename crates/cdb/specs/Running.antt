@@ -7,12 +7,12 @@ use Rattle.cdb_store.specs.declared.raw.RawFile.{Ghosts as Raw}
 use Rattle.cdb_show.specs.Command.{explains_in, plan_of}
 use Rattle.cdb_show.specs.Views.Output.{HasHandedOn, OutputFailed, held_by, output_bytes}
 use Rattle.cdb_show.specs.declared.output.Output.{Output as Writer}
-use Rattle.cdb.specs.Files.{Files}
+use Rattle.cdb_system.specs.Files.{Files}
 use Rattle.cdb.specs.Foretold.{IsForetold, IsTaken}
 use Rattle.cdb.specs.ForetoldCreate.{IsCreateForetold}
 use Rattle.cdb.specs.Performs.{Runs}
-use Rattle.cdb.specs.State.{Given, State, failed_of, given_of, state_of}
-use Rattle.cdb.specs.declared.left.Left.{Left}
+use Rattle.cdb_system.specs.State.{Given, State, failed_of, given_of, state_of}
+use Rattle.cdb_system.specs.declared.left.Left.{Left}
 
 -- what it is given: what its words ask for, and what standard input has
 abbrev pub given_by : (words : List (List ℕ)) → (input : Option (List ℕ))

@@ -1,31 +1,27 @@
 // A create: its base and inputs are opened, and then the database is made of them.
-ghost use Rattle.std.specs.Prelude.{◌⊎◌, ◌≡◌, ◌↔◌, ◌≤◌, IsTrue, IfOk, IfErr, map, option_map};
+ghost use Rattle.std.specs.Prelude.{◌⊎◌, ◌≡◌, ◌≤◌, IfOk, IfErr, map, option_map};
 ghost use Rattle.std.specs.Prelude.{string_bytes};
 ghost use Rattle.cdb_show.specs.Views.Output.{OutputSays};
 ghost use Rattle.cdb_form.specs.Format.Pair.{head_size};
 ghost use Rattle.cdb_show.specs.Views.Inputs.{inputs_left};
-ghost use Rattle.cdb.specs.Creating.{Creates, IsInPlace, MakesOnOutput};
-ghost use Rattle.cdb.specs.Creating.{NotOpened, OpensAll, WritesAll, temporary_of};
-ghost use Rattle.cdb.specs.Files.{files_of};
-ghost use Rattle.cdb.specs.State.{state_of};
+ghost use Rattle.cdb.specs.Creating.{Creates, MakesOnOutput};
+ghost use Rattle.cdb.specs.Creating.{NotOpened, OpensAll, WritesAll};
+ghost use Rattle.cdb_system.specs.Places.{temporary_of};
+ghost use Rattle.cdb_system.specs.Files.{files_of};
+ghost use Rattle.cdb_system.specs.State.{state_of};
 ghost use Rattle.cdb.specs.Contents.{making_of, wanted_of};
 
 use crate::building::make_in;
 use crate::contents::Contents;
-use crate::inputs::{is_standard, open_base, open_inputs};
-use crate::left::{Left, base_left};
 use crate::placing::{make_in_place, replace_database};
-use crate::system::System;
 use cdb_form::{Sink, Width, write_whole};
 use cdb_names::Names;
 use cdb_store::{MemStore, Store};
+use cdb_system::{Left, System, base_left, is_in_place, is_standard, open_base, open_inputs};
 use cdb_tool::{Fault, Lines, MakeOptions, flushed};
 use std::alloc::{AllocError, Global};
 use std::io::Read;
 use std::marker::PhantomData;
-
-/// With this name as temporary file there is none.
-const NO_FILE: &str = "-";
 
 /// What is to be made.
 #[derive(Clone, Copy)]
@@ -184,16 +180,6 @@ fn write_bytes<O: Sink>(bytes: &[u8], output: &mut O) -> Result<(), Fault>
 {
     let written = write_whole(output, bytes);
     flushed(output, written.map_err(Fault::from))
-}
-
-/// Whether the database is made in the file of its name.
-pub(crate) fn is_in_place(name: &str, temporary: &Option<String>) -> bool
-    ensures { IsTrue result ↔ IsInPlace name.now (option_map string_bytes temporary.now) }
-{
-    match temporary {
-        Some(temporary) => temporary.as_str() == NO_FILE || temporary.as_str() == name,
-        None => false,
-    }
 }
 
 /// The name of the temporary file.

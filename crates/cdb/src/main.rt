@@ -2,30 +2,16 @@
 #![tactic(auto)]
 
 mod building;
-mod cause_line;
-mod causes;
 mod contents;
 mod creating;
-mod differing;
-mod inputs;
-mod left;
-mod looking;
-mod open_trace;
 mod performing;
 mod placing;
-mod reading;
-mod real_system;
-mod seen;
 mod steps;
-mod system;
-mod system_words;
-mod telling;
 
-use crate::real_system::RealSystem;
-use crate::seen::{Seen, SeenReader, SeenWriter};
 use cdb_form::PIPE;
 use cdb_names::RealNames;
 use cdb_store::LAST_STANDARD;
+use cdb_system::{RealSystem, Seen, SeenReader, SeenWriter, refuse_unbuffered};
 use cdb_tool::{Noted, Output, Usage};
 use std::fs::File;
 use std::io::{ErrorKind, Stderr, Stdout};
@@ -64,7 +50,7 @@ fn main(rt: HostRuntime) -> ExitCode {
             );
             status
         }
-        Err(usage) => telling::refuse_unbuffered(&usage, &mut rt.stderr()).0,
+        Err(usage) => refuse_unbuffered(&usage, &mut rt.stderr()).0,
     };
     ExitCode::from(status)
 }

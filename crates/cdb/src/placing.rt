@@ -5,11 +5,11 @@ ghost use Rattle.cdb_show.specs.Views.Output.{OutputSays};
 ghost use Rattle.cdb.specs.Creating.{AsksAll, AsksBase, AsksEach, AsksOne};
 ghost use Rattle.cdb.specs.Creating.{FindsBase, FindsInput, FindsOne, MayBeInput, MayBeOne};
 ghost use Rattle.cdb.specs.Creating.{MayBeStandard};
-ghost use Rattle.cdb.specs.Inputs.{inputs_read};
-ghost use Rattle.cdb.specs.Opening.{Empties, MissesEmptying, OpenCalls, named_as};
+ghost use Rattle.cdb_system.specs.Inputs.{inputs_read};
+ghost use Rattle.cdb_system.specs.Opening.{Empties, MissesEmptying, OpenCalls, named_as};
 ghost use Rattle.cdb.specs.Creating.{MakesApart, MakesInPlace, SeesName, Syncs, answer_of};
-ghost use Rattle.cdb.specs.Files.{files_of};
-ghost use Rattle.cdb.specs.State.{state_of};
+ghost use Rattle.cdb_system.specs.Files.{files_of};
+ghost use Rattle.cdb_system.specs.State.{state_of};
 ghost use Rattle.cdb_names.specs.declared.answer.Answer.TheVariants.{No, Yes};
 ghost use Rattle.cdb_names.specs.declared.name_trace.NameCall.TheVariants.{Input, Same};
 ghost use Rattle.cdb.specs.Contents.{making_of, wanted_of};
@@ -17,13 +17,11 @@ ghost use Rattle.cdb.specs.Contents.{making_of, wanted_of};
 use crate::building::Building;
 use crate::contents::Contents;
 use crate::creating::Creation;
-use crate::inputs::{STANDARD_INPUT, is_standard};
-use crate::left::{Left, base_left};
-use crate::system::System;
 use cdb_form::{Sink, Width};
 use cdb_make::MakeFault;
 use cdb_names::{Answer, Builder, Lock, Names, ReplaceFault, replace_file};
 use cdb_store::Store;
+use cdb_system::{Left, STANDARD_INPUT, System, base_left, is_standard};
 use cdb_tool::Fault;
 use std::alloc::Global;
 use std::io::Read;
@@ -84,7 +82,7 @@ fn may_be_one_of_inputs<N: Names>(names: &mut N, name: &str, inputs: &[String]) 
 }
 
 /// Whether an input may be, if no input stands for standard input.
-#[tactic(auto, using(crate::proofs::Opens::asks_standard, crate::proofs::Opens::finds_standard, crate::proofs::Opens::asks_named, crate::proofs::Opens::finds_named))]
+#[tactic(auto, using(crate::proofs::Asks::asks_standard, crate::proofs::Asks::finds_standard, crate::proofs::Asks::asks_named, crate::proofs::Asks::finds_named))]
 fn may_be_one_read<N: Names>(names: &mut N, name: &str, inputs: &[String]) -> bool
     ensures others { result ≡ false → AsksEach name.now (inputs_read (map string_bytes inputs.now))
         (N.calls names.old) (N.calls names.new) }

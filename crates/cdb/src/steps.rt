@@ -2,20 +2,16 @@
 ghost use Rattle.std.specs.Prelude.{◌≡◌, ◌⊎◌, Err, map, string_bytes};
 ghost use Rattle.cdb_show.specs.Command.{asked_in, has_wide_words, IsInRange};
 ghost use Rattle.cdb_show.specs.Views.Output.{output_bytes, HasHandedOn, OutputFailed, OutputSays};
-ghost use Rattle.cdb.specs.Causes.{Explains};
-ghost use Rattle.cdb.specs.Files.{files_of};
+ghost use Rattle.cdb_system.specs.Causes.{Explains};
+ghost use Rattle.cdb_system.specs.Files.{files_of};
 ghost use Rattle.cdb.specs.Performs.{Does, HandsOn, IsUntouched};
 ghost use Rattle.cdb.specs.Running.{Answers, IsRun, given_by, taking, world_of};
-ghost use Rattle.cdb.specs.State.{given_of, state_of};
+ghost use Rattle.cdb_system.specs.State.{given_of, state_of};
 
-use crate::cause_line::cause_line;
-use crate::causes::reason_of;
-use crate::left::{Left, none_left};
 use crate::performing::perform_in;
-use crate::system::System;
-use crate::telling::{refuse, tell};
 use cdb_form::{Narrow, Sink, Wide};
 use cdb_names::Names;
+use cdb_system::{Left, System, cause_line, none_left, reason_of, refuse, tell};
 use cdb_tool::{Command, DONE, Fault, Lines, Output, explains, plan, status_of};
 use std::alloc::Global;
 use std::io::{Read, Write};

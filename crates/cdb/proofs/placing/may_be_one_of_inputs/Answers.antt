@@ -1,6 +1,7 @@
 use Rattle.std.proofs.Common.{arith, ℕ, ◌+◌, drop, map, string_bytes, subst, take, rules}
 use Rattle.cdb.specs.Creating.{AsksEach, AsksOne, FindsInput}
-use Rattle.cdb.proofs.Opens.{asks_more, finds_more, names_at, names_more}
+use Rattle.cdb.proofs.Asks.{asks_more, finds_more}
+use Rattle.cdb_system.proofs.Opens.{names_at, names_more}
 use Rattle.cdb.proofs.placing.may_be_one_of_inputs.Goals as goal
 
 pub loop-input-preserved : goal.loop-input-preserved

@@ -1,7 +1,7 @@
 use Rattle.std.proofs.Common.{inr, rules}
 use Rattle.cdb.specs.Contents.{making_of}
 use Rattle.cdb.proofs.Databases.{of_contents}
-use Rattle.cdb.proofs.Opens.{ok_and}
+use Rattle.cdb.proofs.Asks.{ok_and}
 use Rattle.cdb.proofs.Replaced.{replaced_says}
 use Rattle.cdb.proofs.placing.replace_database.Goals as goal
 

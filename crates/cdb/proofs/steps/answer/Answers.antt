@@ -3,7 +3,7 @@ use Rattle.std.proofs.KnownBytes.{Keeps-refl}
 use Rattle.cdb_command.specs.Refused.{refused_in}
 use Rattle.cdb_show.specs.Views.Output.{output_bytes}
 use Rattle.cdb_show.proofs.OutputFaults.{says_more}
-use Rattle.cdb.proofs.Explained.{none_said}
+use Rattle.cdb_system.proofs.Explained.{none_said}
 use Rattle.cdb.proofs.steps.answer.Goals as goal
 
 pub returns-in-Err : goal.returns-in-Err

@@ -4,8 +4,8 @@ use Rattle.cdb_show.specs.Views.Output.{output_bytes}
 use Rattle.cdb.specs.Performs.{PerformsIn}
 use Rattle.cdb.proofs.steps.perform.Goals.{then-is_wide, else-is_wide}
 use Rattle.cdb.proofs.steps.perform.Goals as goal
-use Rattle.cdb.specs.State.{given_of, state_of}
-use Rattle.cdb.specs.Files.{files_of}
+use Rattle.cdb_system.specs.State.{given_of, state_of}
+use Rattle.cdb_system.specs.Files.{files_of}
 
 pub returns-clause-does : goal.returns-clause-does
 returns-clause-does g c = record {

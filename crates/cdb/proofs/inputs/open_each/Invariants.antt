@@ -1,7 +1,0 @@
-use Rattle.std.proofs.Common.{map, string_bytes, take}
-use Rattle.cdb.specs.Inputs.{OpensEach}
-use Rattle.cdb.proofs.inputs.open_each.Given as goal
-
--- the inputs so far were opened
-abbrev pub invariant-loop-name : goal.invariant-loop-name
-invariant-loop-name g l = OpensEach g.Y.System (map string_bytes (take l.name-index l.names)) l.turns.items (g.Y.System.calls l.fn.system) (g.Y.System.calls l.system)

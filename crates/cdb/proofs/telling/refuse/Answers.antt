@@ -1,5 +1,0 @@
-use Rattle.cdb.proofs.Databases.{says_line}
-use Rattle.cdb.proofs.telling.refuse.Goals as goal
-
-pub returns-clause-line : goal.returns-clause-line
-returns-clause-line g c = says_line c.write_refused.result _ _ _ _ c.write_refused.ensures.writes c.write_refused.ensures.failed

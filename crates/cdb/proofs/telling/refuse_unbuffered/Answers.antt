@@ -1,8 +1,0 @@
-use Rattle.std.proofs.Common.{◌∙◌, ◌++◌, ap, codes}
-use Rattle.cdb_form.proofs.Bytes.WritingLemmas.{same_writes}
-use Rattle.cdb.proofs.telling.refuse_unbuffered.Goals as goal
-
-pub returns-clause-line : goal.returns-clause-line
-returns-clause-line g c =
-    let line = ap (λ t. codes "cdb: " ++ (t ++ codes "\n")) (c.as_bytes.ensures.value ∙ c.message.ensures) in
-    same_writes c.write_pieces-written.result _ _ _ _ line c.write_pieces-written.ensures.writes

@@ -1,0 +1,9 @@
+pub mod Coming
+pub mod ComparedFiles
+pub mod Explained
+pub mod FilesRead
+pub mod InputsKnown
+pub mod ManyKeys
+pub mod Opens
+pub mod OutputTaken
+pub mod Said

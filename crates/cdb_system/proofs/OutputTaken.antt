@@ -1,0 +1,36 @@
+-- What may be refused, standard output too; and an output that was taken was not.
+use Rattle.std.proofs.Common.{◌≡◌, Bool, true, false, subst, Result, Err}
+use Rattle.cdb_command.specs.Asked.{Asked}
+use Rattle.cdb_command.specs.Asked as asked
+use Rattle.cdb_show.specs.Views.Output.{OutputSays}
+use Rattle.cdb_show.specs.declared.fault.Fault.{Fault}
+use Rattle.cdb_show.specs.declared.fault.Fault.TheVariants.{Text, Make, Duplicate, Missing, Read, Walk, Output, Long, Open, Rename, NoMemory, Old, New, NoOldTables, NoNewTables}
+use Rattle.cdb_system.specs.Answered.{IsRefusal, Reading}
+
+-- whether a command writes on standard output
+abbrev pub writes_output : Asked → Bool
+writes_output (asked.Check name wide) = false
+writes_output command = true
+
+-- a refusal; or standard output failed, where it is written
+abbrev pub MayGiveUp : (writes : Bool) → Reading → Fault → Type 0
+MayGiveUp writes reads Output = writes ≡ true
+MayGiveUp writes reads fault = IsRefusal reads fault
+
+-- an output that did not fail was not refused
+pub taken : {O : Type 0} (writes : Bool) (reads : Reading) (fault : Fault) (result : Result Unit Fault) → (O → ⊥) → OutputSays O result → result ≡ Err fault → MayGiveUp writes reads fault → IsRefusal reads fault
+taken writes reads Output result works says is h = absurd (works (subst (OutputSays _) is says))
+taken writes reads (Text n g) result works says is h = h
+taken writes reads (Make g) result works says is h = h
+taken writes reads Duplicate result works says is h = h
+taken writes reads Missing result works says is h = h
+taken writes reads (Read g) result works says is h = h
+taken writes reads (Walk g) result works says is h = h
+taken writes reads Long result works says is h = h
+taken writes reads Open result works says is h = h
+taken writes reads Rename result works says is h = h
+taken writes reads NoMemory result works says is h = h
+taken writes reads (Old g) result works says is h = h
+taken writes reads (New g) result works says is h = h
+taken writes reads NoOldTables result works says is h = h
+taken writes reads NoNewTables result works says is h = h

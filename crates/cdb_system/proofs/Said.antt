@@ -1,0 +1,23 @@
+-- The lines on standard error.
+use Rattle.std.proofs.Common.{ℕ, List, Option, Result, Ok, Err, ◌++◌, inl, inr}
+use Rattle.std.specs.Prelude.{OnErr}
+use Rattle.std.specs.Io.KnownBytes.{Keeps}
+use Rattle.std.proofs.KnownBytes.{Appends-kept, Keeps-trans}
+use Rattle.cdb_form.specs.Views.KnownBytes.{Writes}
+use Rattle.cdb_show.specs.Message.{fault_line}
+use Rattle.cdb_show.specs.declared.fault.Fault.{Fault}
+use Rattle.cdb_show.proofs.Writers.{prefix_kept}
+use Rattle.cdb_system.specs.Telling.{Says, SaysLine}
+
+-- a line was written, or its writer failed
+pub says_line : {T E : Type 0} (r : Result T E) (told said : Option (List ℕ)) (line : List ℕ) (unsaid : Type 0) → Writes r told said line → OnErr r unsaid → SaysLine line told said unsaid
+says_line (Ok done) told said line unsaid w failed = inl w.ok
+says_line (Err e) told said line unsaid w failed = inr (w.err, failed)
+
+pub line_kept : (line : List ℕ) (told mid said : Option (List ℕ)) (was is : Type 0) → (was → is) → SaysLine line told mid was → Keeps mid said → SaysLine line told said is
+line_kept line told mid said was is stays (inl whole) k = inl (Appends-kept told mid said line whole k)
+line_kept line told mid said was is stays (inr part) k = inr (prefix_kept told mid said line part.0 k, stays part.1)
+
+pub says_kept : (result : Result Unit Fault) (more : List ℕ) (told mid said : Option (List ℕ)) (was is : Type 0) → (was → is) → Says result more told mid was → Keeps mid said → Says result more told said is
+says_kept (Ok done) more told mid said was is stays h k = Keeps-trans told mid said h k
+says_kept (Err fault) more told mid said was is stays h k = line_kept (fault_line fault ++ more) told mid said was is stays h k

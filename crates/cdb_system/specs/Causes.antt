@@ -1,0 +1,189 @@
+-- Which file a fault is of, what is said of it, and the line that says it.
+use Rattle.std.specs.Prelude.{ℕ, ℤ, ◌≡◌, ◌⊎◌, List, [], ◌∷◌, ◌&&◌, not, Option, None, Some, codes}
+use Rattle.std.specs.Prelude.{bytes_eq, if◌then◌else◌, length, nat_lt, option_map}
+use Rattle.std.specs.Prelude.{Bool, true, false, Result, Ok, Err}
+use Rattle.cdb_command.specs.Asked.{Asked}
+use Rattle.cdb_command.specs.Asked as asked
+use Rattle.cdb_form.specs.declared.text.fault.TextFault.{TextFault}
+use Rattle.cdb_form.specs.declared.text.fault.TextFault.TheVariants as text
+use Rattle.cdb_form.specs.declared.walk.fault.WalkFault.{WalkFault}
+use Rattle.cdb_form.specs.declared.walk.fault.WalkFault.TheVariants as walk
+use Rattle.cdb_read.specs.declared.fault.ReadFault.{ReadFault}
+use Rattle.cdb_read.specs.declared.fault.ReadFault.TheVariants as read
+use Rattle.cdb_show.specs.Message.{input_at}
+use Rattle.cdb_names.specs.declared.refusal.Cause.{Cause}
+use Rattle.cdb_names.specs.declared.refusal.Cause.TheVariants as cause
+use Rattle.cdb_names.specs.Folder.{NameCalls}
+use Rattle.cdb_names.specs.Refusals.{refused_for}
+use Rattle.cdb_names.specs.Replacing.{IsNoName}
+use Rattle.cdb_show.specs.declared.fault.Fault.{Fault}
+use Rattle.cdb_show.specs.declared.fault.Fault.TheVariants.{Text, Make, Read, Walk, Output, Open}
+use Rattle.cdb_show.specs.declared.fault.Fault.TheVariants.{Rename, NoMemory, Old, New}
+use Rattle.cdb_show.specs.declared.fault.Fault.TheVariants.{NoOldTables, NoNewTables}
+use Rattle.cdb_system.specs.CauseLine.{cause_line, error_words, line_words}
+use Rattle.cdb_system.specs.Places.{IsInPlace, temporary_of}
+use Rattle.cdb_system.specs.Opening.{OpenCalls, refused_open}
+
+-- ---- what is said of a name that was refused
+
+-- the other name is that of the base
+abbrev pub is_base : Option (List ℕ) → (other : List ℕ) → Bool
+is_base None other = false
+is_base (Some base) other = bytes_eq base other
+
+-- its file is that of another name too: of the database, of the base, or of an input
+abbrev pub same_words : Asked → (name other : List ℕ) → Option (List ℕ)
+same_words (asked.Create database base inputs temporary options wide) name other = Some
+    (if bytes_eq database other && not (bytes_eq database name) then codes "is the database"
+    else (if is_base base other then codes "is the base" else codes "is an input"))
+same_words command name other = None
+
+-- what is said for a cause
+abbrev pub cause_words : Asked → Cause → (name other : List ℕ) → Option (List ℕ)
+cause_words command (cause.System number) name other = Some (error_words number)
+cause_words command cause.Failed name other = None
+cause_words command cause.Held name other = Some (codes "another create is at work on it")
+cause_words command cause.Link name other = Some (codes "is a link")
+cause_words command cause.Special name other = Some (codes "is no regular file")
+cause_words command cause.NoPlaces name other = Some (codes "a pipe or a device has no places")
+cause_words command cause.Same name other = same_words command name other
+cause_words command cause.Input name other = Some (codes "is an input")
+cause_words command cause.Replaced name other = Some (codes "its temporary file was replaced")
+cause_words command cause.Lost name other = Some (codes "its file was replaced or removed")
+cause_words command cause.Bits name other = Some (codes "does not get its permissions")
+cause_words command cause.Closed name other = Some (codes "a standard stream is closed")
+
+-- what is said of a name that was refused: of an empty one that it is empty
+abbrev pub refusal_words : Asked → Cause → (name other : List ℕ) → Option (List ℕ)
+refusal_words command why name other =
+    if nat_lt 0 (length name) then cause_words command why name other else Some (codes "the name is empty")
+
+-- a name was refused last, for a cause: of the files that are opened, or of those that are replaced
+abbrev pub IsRefusedFor : (opened : OpenCalls) → (named : NameCalls) → Cause
+    → (name other : List ℕ) → Type 0
+IsRefusedFor opened named why name other =
+    (refused_open why opened ≡ Some (name, other, why))
+    ⊎ (refused_for why named ≡ Some (name, other))
+
+abbrev pub IsRefusedOpening : Asked → (opened : OpenCalls) → (named : NameCalls) → (name : List ℕ)
+    → (said : Option (List ℕ)) → Type 0
+IsRefusedOpening command opened named name said = (why : Cause) × (other : List ℕ)
+    × IsRefusedFor opened named why name other × (said ≡ refusal_words command why name other)
+
+-- the name of a database that no file can have: it is empty or ends in a slash
+abbrev pub no_name_words : (name : List ℕ) → List ℕ
+no_name_words [] = codes "the name is empty"
+no_name_words (c ∷ name) = codes "the name ends in a slash"
+
+abbrev pub IsNoNameOf : Asked → (name : List ℕ) → (said : Option (List ℕ)) → Type 0
+IsNoNameOf (asked.Create database base inputs temporary options wide) name said =
+    (name ≡ database) × IsNoName name × (said ≡ Some (no_name_words name))
+IsNoNameOf command name said = ⊥
+
+-- ---- what is said of a file that failed
+
+-- the words of a number, if the system gave one
+abbrev pub IsOfSystem : (said : Option (List ℕ)) → Type 0
+IsOfSystem said = (number : Option ℤ) × (said ≡ option_map error_words number)
+
+-- a line
+abbrev pub IsOfLine : (said : Option (List ℕ)) → Type 0
+IsOfLine said = (line : ℕ) × (said ≡ Some (line_words line))
+
+-- of an input: the line of the fault's place, or why it was not read
+abbrev pub IsOfTextOf : TextFault → (said : Option (List ℕ)) → Type 0
+IsOfTextOf (text.Syntax at) said = IsOfLine said
+IsOfTextOf (text.Ended at) said = IsOfLine said
+IsOfTextOf (text.Large at) said = IsOfLine said
+IsOfTextOf text.Input said = IsOfSystem said
+IsOfTextOf fault said = said ≡ None
+
+-- of a database: why it was not read, and of damage nothing
+abbrev pub IsOfRead : ReadFault → (said : Option (List ℕ)) → Type 0
+IsOfRead read.Device said = IsOfSystem said
+IsOfRead fault said = said ≡ None
+
+abbrev pub IsOfWalk : WalkFault → (said : Option (List ℕ)) → Type 0
+IsOfWalk walk.Input said = IsOfSystem said
+IsOfWalk fault said = said ≡ None
+
+-- ---- which file a fault is of
+
+abbrev pub or_standard : Option (List ℕ) → List ℕ
+or_standard None = codes "standard input"
+or_standard (Some name) = name
+
+-- what a command reads: the old one of two databases, and the base of a create
+abbrev pub base_or : (name : List ℕ) → Option (List ℕ) → List ℕ
+base_or name None = name
+base_or name (Some base) = base
+
+abbrev pub read_name : Asked → List ℕ
+read_name (asked.Query name key number lines wide) = name
+read_name (asked.Lookups name inputs number style wide) = name
+read_name (asked.Dump name style wide) = or_standard name
+read_name (asked.Listing name style wide) = or_standard name
+read_name (asked.Stats name wide) = or_standard name
+read_name (asked.Check name wide) = or_standard name
+read_name (asked.Difference old new wide) = old
+read_name (asked.Create name base inputs temporary options wide) = base_or name base
+read_name asked.Help = []
+read_name asked.Version = []
+
+-- the new one of two
+abbrev pub new_name : Asked → List ℕ
+new_name (asked.Difference old new wide) = new
+new_name command = []
+
+-- where a create makes its database: in place, or in a temporary file
+abbrev pub IsMadeName : Asked → (name : List ℕ) → Type 0
+IsMadeName (asked.Create database base inputs temporary options wide) name =
+    (IsInPlace database temporary × (name ≡ database))
+    ⊎ ((IsInPlace database temporary → ⊥) × (name ≡ temporary_of database temporary))
+IsMadeName command name = ⊥
+
+abbrev pub input_name : Asked → (number : ℕ) → List ℕ
+input_name (asked.Create database base inputs temporary options wide) number =
+    input_at inputs number
+input_name (asked.Lookups database inputs number style wide) n = input_at inputs n
+input_name command number = []
+
+-- a fault that is of a database which is read
+abbrev pub IsOfDatabase : Asked → Fault → (name : List ℕ) → (said : Option (List ℕ)) → Type 0
+IsOfDatabase command (Read fault) name said = (name ≡ read_name command) × IsOfRead fault said
+IsOfDatabase command (Old fault) name said = (name ≡ read_name command) × IsOfRead fault said
+IsOfDatabase command (New fault) name said = (name ≡ new_name command) × IsOfRead fault said
+IsOfDatabase command (Walk fault) name said = (name ≡ read_name command) × IsOfWalk fault said
+IsOfDatabase command NoOldTables name said = (name ≡ read_name command) × (said ≡ None)
+IsOfDatabase command NoNewTables name said = (name ≡ new_name command) × (said ≡ None)
+IsOfDatabase command fault name said = ⊥
+
+-- the file of a fault, and what is said of it
+abbrev pub IsCause : Asked → Fault → (opened : OpenCalls) → (named : NameCalls) → (name : List ℕ)
+    → (said : Option (List ℕ)) → Type 0
+IsCause command Open opened named name said =
+    IsRefusedOpening command opened named name said ⊎ IsNoNameOf command name said
+IsCause command Rename opened named name said = IsRefusedOpening command opened named name said
+IsCause command NoMemory opened named name said = IsRefusedOpening command opened named name said
+IsCause command (Text input fault) opened named name said =
+    (name ≡ input_name command input) × IsOfTextOf fault said
+IsCause command (Make fault) opened named name said = IsMadeName command name × IsOfSystem said
+IsCause command Output opened named name said =
+    ((name ≡ codes "standard output") ⊎ (name ≡ codes "standard error")) × IsOfSystem said
+IsCause command fault opened named name said = IsOfDatabase command fault name said
+
+-- ---- the line that says it
+
+-- after the line of a fault that is to be explained comes the line of its cause, or nothing; after
+-- that of another, nothing
+abbrev pub SaysCause : Asked → Result Unit Fault → (opened : OpenCalls) → (named : NameCalls)
+    → (more : List ℕ) → Type 0
+SaysCause command (Ok done) opened named more = ⊥
+SaysCause command (Err fault) opened named more = (name : List ℕ) × (said : Option (List ℕ))
+    × IsCause command fault opened named name said × (more ≡ cause_line name said)
+
+abbrev pub Explains : (explained : Bool) → Asked → Result Unit Fault → (opened : OpenCalls)
+    → (named : NameCalls) → (more : List ℕ) → Type 0
+Explains false command result opened named more = more ≡ []
+Explains true command result opened named more =
+    (more ≡ []) ⊎ SaysCause command result opened named more

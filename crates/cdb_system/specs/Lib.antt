@@ -1,0 +1,13 @@
+pub mod Answered
+pub mod CauseLine
+pub mod Causes
+pub mod Files
+pub mod Inputs
+pub mod Opening
+pub mod Oracle
+mod OracleExamples
+pub mod Places
+pub mod Reading
+pub mod State
+pub mod SystemWords
+pub mod Telling

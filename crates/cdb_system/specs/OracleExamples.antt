@@ -1,0 +1,235 @@
+-- What the oracle says of worked files, and calls by which it comes true.
+use Rattle.std.specs.Prelude.{ℕ, ◌≡◌, true, false, bytes_eq, if◌then◌else◌, List, [], ◌∷◌, ◌++◌}
+use Rattle.std.specs.Prelude.{take, codes, Option, None, Some, IfSome, ⊤, refl, zero, suc}
+use Rattle.std.proofs.Common.{arith, subst}
+use Rattle.std.proofs.lemmas.Bool.{cond_both}
+use Rattle.std.specs.Fmt.{digits}
+use Rattle.cdb_command.specs.Asked.{Query, Lookups, Dump, Listing, Stats, Check, Difference}
+use Rattle.cdb_command.specs.declared.style.Style.TheVariants.{Native, Map}
+use Rattle.cdb_form.specs.Examples.WorkedFiles.{words_of, repeat, put_at, two_file, foreign_file}
+use Rattle.cdb_form.proofs.Bytes.ByteLemmas.{AreBytes-nil}
+use Rattle.cdb_form.specs.Format.Reading.{head_at}
+use Rattle.cdb_form.specs.Format.Record.{AreBytes}
+use Rattle.cdb_form.specs.Format.Table.{entries_from}
+use Rattle.cdb_form.specs.Format.Walk.{walk_of, walk_from, whole_records, record_end}
+use Rattle.cdb_form.specs.Text.Parse.{text_from}
+use Rattle.cdb_read.specs.Difference.{difference, first_keys, values_eq}
+use Rattle.cdb_read.specs.OtherWidth.{lacks_tables}
+use Rattle.cdb_read.specs.Faults.{first_fault, first_of, slots_fault}
+use Rattle.cdb_read.specs.Lookup.{met_slots, found_at, lookup_of}
+use Rattle.cdb_read.specs.Sound.{all_slots}
+use Rattle.cdb_read.specs.Statistics.{distances_in, statistics_of, statistics_damage}
+use Rattle.cdb_store.specs.Contents.{contents}
+use Rattle.cdb_store.specs.contracts.memory.MemStoreStore.TheImpl.{ghosts as in_memory}
+use Rattle.cdb_store.specs.declared.memory.MemStore.{MemStore}
+use Rattle.cdb_show.specs.Runs.Incoming.{KnownFor}
+use Rattle.cdb_show.specs.Runs.StatsText.{distance_lines, stats_text}
+use Rattle.cdb_system.specs.Files.{files_of}
+use Rattle.cdb_system.specs.Answered.{AreComparable, Honest, Reveals}
+use Rattle.cdb_system.specs.Opening.{OpenCalls, none_left, read_left}
+use Rattle.cdb_system.specs.Oracle.{Disk, Outcome, command_outcome, difference_outcome, lookups_outcome}
+use Rattle.cdb_system.specs.declared.open_trace.OpenCall.TheVariants.{AtPlaces, InTurn}
+use Rattle.cdb_system.specs.declared.system.System.{Ghosts as Systems}
+
+-- two files: one of two records, and another program's of one record
+name : List ℕ
+name = codes "a.cdb"
+
+other : List ℕ
+other = codes "b.cdb"
+
+unfoldable disk : Disk
+unfolding name other
+disk file =
+    if bytes_eq file name then Some two_file
+    else if bytes_eq file other then Some foreign_file else None
+
+comes : (status : ℕ) → (output lines : List ℕ) → Option Outcome
+comes status output lines = Some (record { status = status; output = output; lines = lines })
+
+-- the statistics of the two records
+unfoldable two_stats : List ℕ
+two_stats =
+    codes "records: 2\nkey lengths least/average/greatest: 3/3/3\n"
+    ++ codes "value lengths least/average/greatest: 5/6/7\ntables/entries/collisions: 2/2/0\n"
+    ++ codes "table sizes least/average/greatest: 2/2/2\n"
+    ++ codes "distance 0: 2\ndistance 1: 0\ndistance 2: 0\ndistance 3: 0\ndistance 4: 0\n"
+    ++ codes "distance 5: 0\ndistance 6: 0\ndistance 7: 0\ndistance 8: 0\ndistance 9: 0\n"
+    ++ codes "distance 10 or more: 0\n"
+
+-- a value
+value_is : command_outcome (Query name (codes "two") None true false) disk [] ≡ comes 0 (codes "Goodbye\n") []
+unfolding disk name other comes two_stats two_file put_at words_of repeat walk_of walk_from whole_records record_end head_at lookup_of met_slots found_at statistics_of statistics_damage distances_in stats_text distance_lines first_fault first_of slots_fault all_slots entries_from digits
+value_is = refl
+
+-- one of a key that is not there
+missing_is : command_outcome (Query name (codes "a") None false false) disk [] ≡ comes 100 [] []
+unfolding disk name other comes two_stats two_file put_at words_of repeat walk_of walk_from whole_records record_end head_at lookup_of met_slots found_at statistics_of statistics_damage distances_in stats_text distance_lines first_fault first_of slots_fault all_slots entries_from digits
+missing_is = refl
+
+-- the second of a key that has one
+second_is : command_outcome (Query name (codes "two") (Some 2) false false) disk [] ≡ comes 100 [] []
+unfolding disk name other comes two_stats two_file put_at words_of repeat walk_of walk_from whole_records record_end head_at lookup_of met_slots found_at statistics_of statistics_damage distances_in stats_text distance_lines first_fault first_of slots_fault all_slots entries_from digits
+second_is = refl
+
+-- no such file
+unopened_is : command_outcome (Query (codes "c.cdb") (codes "two") None false false) disk [] ≡ comes 111 [] (codes "cdb: file cannot be opened\n")
+unfolding disk name other comes two_stats two_file put_at words_of repeat walk_of walk_from whole_records record_end head_at lookup_of met_slots found_at statistics_of statistics_damage distances_in stats_text distance_lines first_fault first_of slots_fault all_slots entries_from digits
+unopened_is = refl
+
+-- the records, and the keys as lines
+dump_is : command_outcome (Dump (Some name) Native false) disk [] ≡ comes 0 (codes "+3,5:one->Hello\n+3,7:two->Goodbye\n\n") []
+unfolding disk name other comes two_stats two_file put_at words_of repeat walk_of walk_from whole_records record_end head_at lookup_of met_slots found_at statistics_of statistics_damage distances_in stats_text distance_lines first_fault first_of slots_fault all_slots entries_from digits
+dump_is = refl
+
+keys_are : command_outcome (Listing (Some name) Map false) disk [] ≡ comes 0 (codes "one\ntwo\n") []
+unfolding disk name other comes two_stats two_file put_at words_of repeat walk_of walk_from whole_records record_end head_at lookup_of met_slots found_at statistics_of statistics_damage distances_in stats_text distance_lines first_fault first_of slots_fault all_slots entries_from digits
+keys_are = refl
+
+-- standard input, where the second record reaches behind the record end
+damaged_dump_is : command_outcome (Dump None Native false) disk (put_at 2068 (8 ∷ []) two_file) ≡ comes 111 (codes "+3,5:one->Hello\n") (codes "cdb: record at 2064: not whole\n")
+unfolding disk name other comes two_stats two_file put_at words_of repeat walk_of walk_from whole_records record_end head_at lookup_of met_slots found_at statistics_of statistics_damage distances_in stats_text distance_lines first_fault first_of slots_fault all_slots entries_from digits
+damaged_dump_is = refl
+
+-- statistics
+stats_are : command_outcome (Stats (Some name) false) disk [] ≡ comes 0 two_stats []
+unfolding disk name other comes two_stats two_file put_at words_of repeat walk_of walk_from whole_records record_end head_at lookup_of met_slots found_at statistics_of statistics_damage distances_in stats_text distance_lines first_fault first_of slots_fault all_slots entries_from digits
+stats_are = refl
+
+-- a sound file
+sound_is : command_outcome (Check (Some name) false) disk [] ≡ comes 0 [] []
+unfolding disk name other comes two_stats two_file put_at words_of repeat walk_of walk_from whole_records record_end head_at lookup_of met_slots found_at statistics_of statistics_damage distances_in stats_text distance_lines first_fault first_of slots_fault all_slots entries_from digits
+sound_is = refl
+
+-- one cut within the head
+short_is : command_outcome (Check None false) disk (take 2047 two_file) ≡ comes 100 [] (codes "cdb: database shorter than its head\n")
+unfolding disk name other comes two_stats two_file put_at words_of repeat walk_of walk_from whole_records record_end head_at lookup_of met_slots found_at statistics_of statistics_damage distances_in stats_text distance_lines first_fault first_of slots_fault all_slots entries_from digits
+short_is = refl
+
+-- one with a slot taken away
+unindexed_is : command_outcome (Check None false) disk (put_at 2106 (words_of 4 0 0) two_file) ≡ comes 100 [] (codes "cdb: record at 2048: in no slot\n")
+unfolding disk name other comes two_stats two_file put_at words_of repeat walk_of walk_from whole_records record_end head_at lookup_of met_slots found_at statistics_of statistics_damage distances_in stats_text distance_lines first_fault first_of slots_fault all_slots entries_from digits
+unindexed_is = refl
+
+-- what changed from the one file to the other
+difference_is : command_outcome (Difference name other false) disk [] ≡ comes 0 (codes "-3:one\n-3:two\n+1,1:a->1\n\n") []
+unfolding disk name other comes two_stats two_file foreign_file put_at words_of repeat walk_of walk_from whole_records record_end head_at lookup_of met_slots found_at statistics_of statistics_damage distances_in stats_text distance_lines first_fault first_of slots_fault all_slots entries_from digits difference first_keys values_eq lacks_tables
+difference_is = refl
+
+-- a file that lacks its last byte, or was cut within its first table; both, and one whose head is cut
+unfoldable cut_disk : Disk
+unfolding name other
+cut_disk file =
+    if bytes_eq file name then Some (take 2097 two_file)
+    else if bytes_eq file other then Some (take 2113 two_file) else Some two_file
+
+old_cut_is : command_outcome (Difference other (codes "c.cdb") false) cut_disk [] ≡ comes 111 [] (codes "cdb: old database: table 129: outside the file\n")
+unfolding name other two_file foreign_file put_at words_of repeat head_at digits lacks_tables cut_disk comes
+old_cut_is = refl
+
+new_cut_is : command_outcome (Difference (codes "c.cdb") name false) cut_disk [] ≡ comes 111 [] (codes "cdb: new database: table 41: outside the file\n")
+unfolding name other two_file foreign_file put_at words_of repeat head_at digits lacks_tables cut_disk comes
+new_cut_is = refl
+
+both_cut_is : command_outcome (Difference other name false) cut_disk [] ≡ comes 111 [] (codes "cdb: old database: table 129: outside the file\n")
+unfolding name other two_file foreign_file put_at words_of repeat head_at digits lacks_tables cut_disk comes
+both_cut_is = refl
+
+no_head_is : difference_outcome 4 (take 2113 two_file) (take 2047 two_file) ≡ record { status = 111; output = []; lines = codes "cdb: new database: database shorter than its head\n" }
+unfolding name other two_file foreign_file put_at words_of repeat head_at digits lacks_tables
+no_head_is = refl
+
+-- they are comparable, since their heads say why they are not compared
+cut_are_comparable : AreComparable 4 (Some two_file) (Some (take 2113 two_file))
+unfolding name other two_file foreign_file put_at words_of repeat head_at digits lacks_tables
+cut_are_comparable none = cc
+
+-- the records of two keys of standard input, of which one has no value
+keys_asked : command_outcome (Lookups name [] None Native false) disk (codes "+1:a\n+3:two\n\n") ≡ comes 100 (codes "+3,7:two->Goodbye\n\n") []
+unfolding disk name other comes two_stats two_file put_at words_of repeat walk_of walk_from whole_records record_end head_at lookup_of met_slots found_at statistics_of statistics_damage distances_in stats_text distance_lines first_fault first_of slots_fault all_slots entries_from digits text_from
+keys_asked = refl
+
+-- of a map text, the first of each
+lines_asked : command_outcome (Lookups name (codes "-" ∷ []) (Some 1) Map false) disk (codes "two\none and more\n") ≡ comes 0 (codes "two Goodbye\none Hello\n") []
+unfolding disk name other comes two_stats two_file put_at words_of repeat walk_of walk_from whole_records record_end head_at lookup_of met_slots found_at statistics_of statistics_damage distances_in stats_text distance_lines first_fault first_of slots_fault all_slots entries_from digits text_from
+lines_asked = refl
+
+-- of a list that is cut, and of an input that is not there
+cut_list_is : command_outcome (Lookups name [] None Native false) disk (codes "+3:one\n+3:tw") ≡ comes 111 (codes "+3,5:one->Hello\n") (codes "cdb: input 1: byte 12: text ends early\n")
+unfolding disk name other comes two_stats two_file put_at words_of repeat walk_of walk_from whole_records record_end head_at lookup_of met_slots found_at statistics_of statistics_damage distances_in stats_text distance_lines first_fault first_of slots_fault all_slots entries_from digits text_from
+cut_list_is = refl
+
+no_list_is : command_outcome (Lookups name (codes "-" ∷ codes "c" ∷ []) None Native false) disk (codes "+3:one\n\n") ≡ comes 111 [] (codes "cdb: file cannot be opened\n")
+unfolding disk name other comes two_stats two_file put_at words_of repeat walk_of walk_from whole_records record_end head_at lookup_of met_slots found_at statistics_of statistics_damage distances_in stats_text distance_lines first_fault first_of slots_fault all_slots entries_from digits text_from
+no_list_is = refl
+
+-- the record of the second key reaches past the end of the file; a third is not looked up
+damage_asked : lookups_outcome 4 4294967295 None Native (None ∷ []) (codes "+3:one\n+3:two\n+3:one\n\n") (put_at 2068 (200 ∷ []) two_file) ≡ record { status = 111; output = codes "+3,5:one->Hello\n"; lines = codes "cdb: record at 2064: not whole\n" }
+unfolding disk name other comes two_stats two_file put_at words_of repeat walk_of walk_from whole_records record_end head_at lookup_of met_slots found_at statistics_of statistics_damage distances_in stats_text distance_lines first_fault first_of slots_fault all_slots entries_from digits text_from
+damage_asked = refl
+
+-- ---- calls by which it comes true
+
+-- a system that opens each file of a disk: in memory, to be read at places, or as its bytes
+of_disk : Disk → Systems OpenCalls MemStore (List ℕ) MemStore
+of_disk disk = record {
+  calls = λ calls. calls;
+  gives = λ name store. Reveals (disk name) (Some (contents store));
+  reads = λ name bytes. Reveals (disk name) (Some bytes);
+  makes = λ name store. ⊤;
+}
+
+-- a query of a file that lies in memory, and a dump
+query_is_honest : (store : MemStore) → two_file ≡ contents store
+    → Honest (files_of in_memory in_memory Some (of_disk disk)) disk []
+    (Query name (codes "two") None true false) None
+    [] ((AtPlaces, name) ∷ []) (read_left {M = MemStore} store)
+unfolding disk name other of_disk
+query_is_honest store has = record {
+  calls = (AtPlaces, name) ∷ [];
+  are = refl;
+  answered = ((has, refl), tt);
+  reads = tt;
+  in_order = tt;
+}
+
+dump_is_honest : Honest (files_of in_memory in_memory Some (of_disk disk)) disk []
+    (Dump (Some name) Native false) None
+    [] ((InTurn, name) ∷ []) (none_left {F = MemStore} {M = MemStore})
+unfolding of_disk
+dump_is_honest = record {
+  calls = (InTurn, name) ∷ [];
+  are = refl;
+  answered = (λ reader came. came, tt);
+  reads = tt;
+  in_order = tt;
+}
+
+-- a query of the keys of an empty list, of which standard input is the only input
+empty_list_is : AreBytes (codes "\n")
+empty_list_is zero = omega arith
+empty_list_is (suc k) = omega arith
+
+unfoldable small : Disk
+unfolding name
+small file = if bytes_eq file name then Some [] else None
+
+small_has : (file : List ℕ) → IfSome (small file) AreBytes
+unfolding small name
+small_has file = cond_both (bytes_eq file name) _ _ (λ o. IfSome o AreBytes) (λ is. AreBytes-nil) (λ no. tt)
+
+of_none : (files : List (Option (List ℕ))) → ◌≡◌ {A = Option (List (Option (List ℕ)))} (Some (None ∷ [])) (Some files) → KnownFor files (Some (codes "\n")) (codes "\n")
+of_none files e = subst (λ (v : Option (List (Option (List ℕ)))). IfSome v (λ fs. KnownFor fs (Some (codes "\n")) (codes "\n"))) e refl
+
+lookups_are_honest : (store : MemStore) → [] ≡ contents store
+    → Honest (files_of in_memory in_memory Some (of_disk small)) small (codes "\n")
+    (Lookups name [] None Native false) (Some (codes "\n"))
+    [] ((AtPlaces, name) ∷ []) (read_left {M = MemStore} store)
+unfolding small name of_disk
+lookups_are_honest store has = record {
+  calls = (AtPlaces, name) ∷ [];
+  are = refl;
+  answered = ((has, refl), tt);
+  reads = record { bytes = record { files = small_has; standard = empty_list_is }; known = of_none };
+  in_order = tt;
+}

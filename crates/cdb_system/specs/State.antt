@@ -1,0 +1,50 @@
+-- What a command is given, and what it has asked of the system and written so far.
+use Rattle.std.specs.Prelude.{ℕ, Bool, List, Option}
+use Rattle.cdb_names.specs.Folder.{NameCalls}
+use Rattle.cdb_system.specs.Files.{Files}
+use Rattle.cdb_system.specs.Opening.{OpenCalls}
+
+-- what is asked for, whether its faults are explained, and what standard input has
+pub record Given (A : Type 0) : Type 0 where
+  pub asked : A
+  pub explained : Bool
+  pub input : Option (List ℕ)
+
+abbrev pub given_of : {A : Type 0} → A → (explained : Bool) → (input : Option (List ℕ)) → Given A
+given_of asked explained input = record { asked = asked; explained = explained; input = input }
+
+-- what was opened, as the system itself or as the calls on its files; the calls on names; and what
+-- standard output and standard error took
+--
+-- A relation is of two: before and after. The contract of a function that has no names, say, holds
+-- whatever calls on names there were, and leaves them.
+pub record State (S : Type 0) : Type 0 where
+  pub opened : S
+  pub named : NameCalls
+  pub output : Option (List ℕ)
+  pub errors : Option (List ℕ)
+
+abbrev pub state_of : {S : Type 0} → S → NameCalls → (output errors : Option (List ℕ)) → State S
+state_of opened named output errors =
+    record { opened = opened; named = named; output = output; errors = errors }
+
+-- the calls on files
+abbrev pub calls_in : {F I M Y : Type 0} → Files F I M Y → State Y → OpenCalls
+calls_in files state = files.system.calls state.opened
+
+-- with these for the system
+abbrev pub with_calls : {F I M Y : Type 0} → Files F I M Y → State Y → State OpenCalls
+with_calls files state = record {
+  opened = calls_in files state;
+  named = state.named;
+  output = state.output;
+  errors = state.errors;
+}
+
+-- that standard output failed, or standard error
+pub record Failed : Type 1 where
+  pub output : Type 0
+  pub errors : Type 0
+
+abbrev pub failed_of : (output errors : Type 0) → Failed
+failed_of output errors = record { output = output; errors = errors }

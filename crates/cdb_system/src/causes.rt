@@ -1,0 +1,394 @@
+// The cause of a fault: which file, and why.
+ghost use Rattle.std.specs.Prelude.{◌≡◌, IfSome, option_map, string_bytes};
+ghost use Rattle.cdb_show.specs.Command.{asked_in};
+ghost use Rattle.cdb_show.specs.declared.fault.Fault.TheVariants.{Open};
+ghost use Rattle.cdb_system.specs.CauseLine.{error_words, reason_name, said_of};
+ghost use Rattle.cdb_system.specs.Causes.{IsCause, IsMadeName, IsNoNameOf, IsOfDatabase, IsOfRead};
+ghost use Rattle.cdb_system.specs.Causes.{IsOfSystem, IsOfTextOf, IsRefusedOpening};
+ghost use Rattle.cdb_system.specs.Causes.{cause_words, input_name, new_name, read_name, refusal_words, same_words};
+
+use crate::left::Left;
+use crate::places::is_in_place;
+use crate::system::System;
+use cdb_command::Command;
+use cdb_form::{TextFault, WalkFault};
+use cdb_names::{Cause, Names, Refusal};
+use cdb_read::ReadFault;
+use cdb_show::{Fault, Lines, STANDARD_INPUT, input_at};
+use cdb_store::MakeFault;
+
+/// What is said of a file.
+#[derive(Clone, Copy)]
+pub enum Told {
+    /// Its name alone.
+    Name,
+    /// What was found.
+    Words(&'static str),
+    /// The system's error of this number.
+    Error(i32),
+    /// The line at which it was left.
+    Line(u64),
+}
+
+/// Which file a fault is of, and why.
+#[derive(Clone, Copy)]
+pub struct Reason<'a> {
+    /// The name of the file, but for `.tmp` after it. It is empty if the name itself is.
+    pub name: &'a str,
+    /// Whether `.tmp` stands after it.
+    pub is_temporary: bool,
+    /// Why.
+    pub told: Told,
+}
+
+/// What is said of an empty name.
+const EMPTY: &str = "the name is empty";
+
+/// The name of standard output.
+const STANDARD_OUTPUT: &str = "standard output";
+
+/// The name of standard error, on which the lines of duplicates are written.
+const STANDARD_ERROR: &str = "standard error";
+
+/// The reason of a file of a whole name.
+fn of_name(name: &str, told: Told) -> Reason<'_>
+    ensures name { reason_name result ≡ name.now }
+    ensures told { result.told ≡ told }
+{
+    Reason {
+        name,
+        is_temporary: false,
+        told,
+    }
+}
+
+/// What is said of a call that failed with an error of this number, if the system gave one.
+fn of_number(number: Option<i32>) -> Told
+    ensures { said_of result ≡ option_map error_words number }
+{
+    match number {
+        Some(number) => Told::Error(number),
+        None => Told::Name,
+    }
+}
+
+/// What is said of a name that was refused since its file is that of another name too: of the database, of
+/// the base, or of an input.
+fn of_same(command: &Command, refused: &str, other: &str) -> Told
+    ensures { said_of result ≡ same_words (asked_in command.now) refused.now other.now }
+{
+    let Command::Create { name, base, .. } = command else {
+        return Told::Name;
+    };
+    if name.as_str() == other && name.as_str() != refused {
+        return Told::Words("is the database");
+    }
+    match base {
+        Some(base) if base.as_str() == other => Told::Words("is the base"),
+        _ => Told::Words("is an input"),
+    }
+}
+
+/// What is said of a name that was refused.
+fn of_cause(command: &Command, refusal: &Refusal) -> Told
+    ensures { said_of result ≡ cause_words (asked_in command.now) refusal.now.cause
+        (string_bytes refusal.now.name) (string_bytes refusal.now.other) }
+{
+    match refusal.cause {
+        Cause::System(number) => Told::Error(number),
+        Cause::Failed => Told::Name,
+        Cause::Held => Told::Words("another create is at work on it"),
+        Cause::Link => Told::Words("is a link"),
+        Cause::Special => Told::Words("is no regular file"),
+        Cause::NoPlaces => Told::Words("a pipe or a device has no places"),
+        Cause::Same => of_same(command, refusal.name.as_str(), refusal.other.as_str()),
+        Cause::Input => Told::Words("is an input"),
+        Cause::Replaced => Told::Words("its temporary file was replaced"),
+        Cause::Lost => Told::Words("its file was replaced or removed"),
+        Cause::Bits => Told::Words("does not get its permissions"),
+        Cause::Closed => Told::Words("a standard stream is closed"),
+    }
+}
+
+/// Which name was refused, and what is said of it: of an empty one that it is empty.
+fn of_refusal<'a>(command: &Command, refusal: &'a Refusal) -> Reason<'a>
+    ensures name { reason_name result ≡ string_bytes refusal.now.name }
+    ensures told { said_of result.told ≡ refusal_words (asked_in command.now) refusal.now.cause
+        (string_bytes refusal.now.name) (string_bytes refusal.now.other) }
+{
+    let name = refusal.name.as_str();
+    let told = if name.is_empty() {
+        Told::Words(EMPTY)
+    } else {
+        of_cause(command, refusal)
+    };
+    of_name(name, told)
+}
+
+/// What is said of the name of a create that no file can have.
+fn of_no_name(command: &Command) -> Option<Reason<'_>>
+    ensures { IfSome result (λ r.
+        IsNoNameOf (asked_in command.now) (reason_name r) (said_of r.told)) }
+{
+    let Command::Create { name, .. } = command else {
+        return None;
+    };
+    let told = match name.as_bytes().last() {
+        None => Told::Words(EMPTY),
+        Some(b'/') => Told::Words("the name ends in a slash"),
+        Some(_) => return None,
+    };
+    Some(of_name(name.as_str(), told))
+}
+
+/// Whether a call on another name than that of the database of a create was refused, as files were opened.
+fn is_of_another<Y: System>(command: &Command, system: &Y) -> bool {
+    match (command, system.refusal()) {
+        (Command::Create { name, .. }, Some(refusal)) => name.as_str() != refusal.name.as_str(),
+        _ => false,
+    }
+}
+
+/// What is said of a name that was not opened or made. A name that no file can have is named for that, unless
+/// another name was refused before it.
+fn of_unopened<'a, Y, N>(command: &'a Command, system: &'a Y, names: &'a N) -> Option<Reason<'a>>
+where
+    Y: System,
+    N: Names,
+    ensures { IfSome result (λ r. IsCause (asked_in command.now) Open (Y.calls system.now)
+        (N.calls names.now) (reason_name r) (said_of r.told)) }
+{
+    if !is_of_another::<Y>(command, system)
+        && let Some(reason) = of_no_name(command)
+    {
+        return Some(reason);
+    }
+    of_refusals::<Y, N>(command, system, names)
+}
+
+/// What is said of a name that was refused, if one was.
+fn of_refusals<'a, Y, N>(command: &'a Command, system: &'a Y, names: &'a N) -> Option<Reason<'a>>
+where
+    Y: System,
+    N: Names,
+    ensures { IfSome result (λ r. IsRefusedOpening (asked_in command.now) (Y.calls system.now)
+        (N.calls names.now) (reason_name r) (said_of r.told)) }
+{
+    if let Some(refusal) = system.refusal() {
+        return Some(of_refusal(command, refusal));
+    }
+    if let Some(refusal) = names.refusal() {
+        return Some(of_refusal(command, refusal));
+    }
+    None
+}
+
+/// What a command reads: its database, the base of a create, or standard input.
+fn read_name(command: &Command) -> &str
+    ensures { result.now ≡ read_name (asked_in command.now) }
+{
+    match command {
+        Command::Query { name, .. } | Command::Lookups { name, .. } => name.as_str(),
+        Command::Dump { name, .. }
+        | Command::List { name, .. }
+        | Command::Stats { name, .. }
+        | Command::Check { name, .. } => match name {
+            Some(name) => name.as_str(),
+            None => STANDARD_INPUT,
+        },
+        Command::Create { name, base, .. } => match base {
+            Some(base) => base.as_str(),
+            None => name.as_str(),
+        },
+        Command::Difference { old, .. } => old.as_str(),
+        Command::Help | Command::Version => "",
+    }
+}
+
+/// The new one of two databases.
+fn new_name(command: &Command) -> &str
+    ensures { result.now ≡ new_name (asked_in command.now) }
+{
+    match command {
+        Command::Difference { new, .. } => new.as_str(),
+        _ => "",
+    }
+}
+
+/// What is said of a database that was not read: that its file failed, or its name.
+fn of_unread(name: &str, fault: ReadFault, number: Option<i32>) -> Option<Reason<'_>>
+    ensures name { IfSome result (λ r. reason_name r ≡ name.now) }
+    ensures told { IfSome result (λ r. IsOfRead fault (said_of r.told)) }
+{
+    match fault {
+        ReadFault::Device => Some(of_name(name, of_number(number))),
+        ReadFault::NoMemory | ReadFault::Output => None,
+        _ => Some(of_name(name, Told::Name)),
+    }
+}
+
+/// The number of the error of the last call that failed on a file that was read.
+fn read_number<Y>(system: &Y, file: &Option<Y::File>) -> Option<i32>
+where
+    Y: System,
+{
+    match file {
+        Some(file) => system.store_error(file),
+        None => None,
+    }
+}
+
+/// The name of an input of a command.
+fn input_name(command: &Command, number: u64) -> &str
+    ensures { result.now ≡ input_name (asked_in command.now) number }
+{
+    match command {
+        Command::Create { inputs, .. } | Command::Lookups { inputs, .. } => {
+            input_at(inputs.as_slice(), number)
+        }
+        _ => "",
+    }
+}
+
+/// What is said of an input of which this is the fault: its line, or why it was not read.
+fn of_fault<Y>(fault: TextFault, lines: &Lines, system: &Y) -> Told
+where
+    Y: System,
+    ensures { IsOfTextOf fault (said_of result) }
+{
+    match fault {
+        TextFault::Syntax(at) | TextFault::Ended(at) | TextFault::Large(at) => {
+            Told::Line(lines.line_at(at))
+        }
+        TextFault::Input => of_number(system.read_error()),
+        TextFault::Endless | TextFault::NoMemory => Told::Name,
+    }
+}
+
+/// What is said of an input whose text was not read.
+fn of_text<'a, Y>(
+    command: &'a Command,
+    number: u64,
+    fault: TextFault,
+    lines: &Lines,
+    system: &Y,
+) -> Reason<'a>
+where
+    Y: System,
+    ensures name { reason_name result ≡ input_name (asked_in command.now) number }
+    ensures told { IsOfTextOf fault (said_of result.told) }
+{
+    of_name(input_name(command, number), of_fault(fault, lines, system))
+}
+
+/// The number of the error of the last call that failed on a file that was made in place.
+fn made_number<Y>(system: &Y, file: &Option<Y::Made>) -> Option<i32>
+where
+    Y: System,
+{
+    match file {
+        Some(file) => system.made_error(file),
+        None => None,
+    }
+}
+
+/// What is said of a database that was not made, since its file failed.
+fn of_made<'a, Y, N>(
+    command: &'a Command,
+    system: &Y,
+    names: &N,
+    left: &Left<Y::File, Y::Made>,
+) -> Option<Reason<'a>>
+where
+    Y: System,
+    N: Names,
+    ensures name { IfSome result (λ r. IsMadeName (asked_in command.now) (reason_name r)) }
+    ensures told { IfSome result (λ r. IsOfSystem (said_of r.told)) }
+{
+    let Command::Create {
+        name,
+        temporary,
+        ..
+    } = command
+    else {
+        return None;
+    };
+    if is_in_place(name.as_str(), temporary) {
+        return Some(of_name(name.as_str(), of_number(made_number(system, &left.made))));
+    }
+    let told = of_number(names.file_error());
+    match temporary {
+        Some(temporary) => Some(of_name(temporary.as_str(), told)),
+        None => Some(Reason {
+            name: name.as_str(),
+            is_temporary: true,
+            told,
+        }),
+    }
+}
+
+/// Which file a fault is of, and why, if it is of a file.
+pub fn reason_of<'a, Y, N>(
+    command: &'a Command,
+    fault: &Fault,
+    lines: &Lines,
+    system: &'a Y,
+    names: &'a N,
+    left: &Left<Y::File, Y::Made>,
+) -> Option<Reason<'a>>
+where
+    Y: System,
+    N: Names,
+    ensures { IfSome result (λ r. IsCause (asked_in command.now) fault.now (Y.calls system.now)
+        (N.calls names.now) (reason_name r) (said_of r.told)) }
+{
+    match *fault {
+        Fault::Open => of_unopened::<Y, N>(command, system, names),
+        Fault::Rename | Fault::NoMemory => { of_refusals::<Y, N>(command, system, names) }
+        Fault::Text(number, fault) => { Some(of_text::<Y>(command, number, fault, lines, system)) }
+        Fault::Make(MakeFault::Writing) | Fault::Make(MakeFault::Lookup) => {
+            of_made::<Y, N>(command, system, names, left)
+        }
+        Fault::Walk(WalkFault::Input) => {
+            let told = of_number(system.read_error());
+            Some(of_name(read_name(command), told))
+        }
+        Fault::Output => {
+            let told = of_number(system.write_error());
+            let name = if system.has_failed_on_errors() {
+                STANDARD_ERROR
+            } else {
+                STANDARD_OUTPUT
+            };
+            Some(of_name(name, told))
+        }
+        _ => of_database::<Y>(command, fault, system, left),
+    }
+}
+
+/// Which database a fault is of, and why, if it is of one that is read.
+fn of_database<'a, Y>(
+    command: &'a Command,
+    fault: &Fault,
+    system: &Y,
+    left: &Left<Y::File, Y::Made>,
+) -> Option<Reason<'a>>
+where
+    Y: System,
+    ensures { IfSome result (λ r.
+        IsOfDatabase (asked_in command.now) fault.now (reason_name r) (said_of r.told)) }
+{
+    match *fault {
+        Fault::Read(fault) | Fault::Old(fault) => {
+            let number = read_number::<Y>(system, &left.read);
+            of_unread(read_name(command), fault, number)
+        }
+        Fault::New(fault) => {
+            let number = read_number::<Y>(system, &left.other);
+            of_unread(new_name(command), fault, number)
+        }
+        Fault::Walk(_) | Fault::NoOldTables => Some(of_name(read_name(command), Told::Name)),
+        Fault::NoNewTables => Some(of_name(new_name(command), Told::Name)),
+        _ => None,
+    }
+}

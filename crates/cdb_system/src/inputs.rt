@@ -1,0 +1,91 @@
+// What a create reads: its base and its inputs, which are opened before anything is made.
+ghost use Rattle.std.specs.Prelude.{◌≡◌, ◌≢◌, ◌↔◌, [], map, option_map, string_bytes, codes};
+ghost use Rattle.std.specs.Prelude.{IfOk, IfErr, IsTrue};
+ghost use Rattle.cdb_show.specs.Views.Output.{OutputSays};
+ghost use Rattle.cdb_system.specs.Inputs.{IsStandard, OpensBase, MissesBase, OpensInput, OpensEach};
+ghost use Rattle.cdb_system.specs.Inputs.{OpensInputs, StopsOpening, MissesInput};
+
+use crate::system::System;
+use cdb_show::{Fault, Inputs, Turn};
+use std::alloc::Global;
+use std::io::Read;
+
+/// The name of standard input.
+pub const STANDARD_INPUT: &str = "-";
+
+/// Whether a name is that of standard input.
+pub fn is_standard(name: &str) -> bool
+    ensures { IsTrue result ↔ IsStandard name.now }
+{
+    name == STANDARD_INPUT
+}
+
+/// Opens the base, if there is one.
+pub fn open_base<Y: System>(system: &mut Y, name: &Option<String>) -> Result<Option<Y::File>, Fault>
+    ensures ok { IfOk result (λ base. OpensBase Y.System (option_map string_bytes name.now) base
+        (Y.calls system.old) (Y.calls system.new)) }
+    ensures missed { IfErr result (MissesBase (option_map string_bytes name.now)
+        (Y.calls system.old) (Y.calls system.new)) }
+    ensures output { OutputSays ⊥ result }
+{
+    match name {
+        Some(name) => Ok(Some(system.open_store(name.as_str())?)),
+        None => Ok(None),
+    }
+}
+
+/// Opens an input, unless it is standard input.
+fn open_input<Y: System>(system: &mut Y, name: &str) -> Result<Turn<Y::Stream>, Fault>
+    ensures ok { IfOk result (λ turn. OpensInput Y.System name.now turn
+        (Y.calls system.old) (Y.calls system.new)) }
+    ensures missed { IfErr result (MissesInput name.now
+        (Y.calls system.old) (Y.calls system.new)) }
+{
+    if is_standard(name) {
+        return Ok(Turn::Shared);
+    }
+    Ok(Turn::Own(system.open(name)?))
+}
+
+/// Opens the inputs of these names.
+fn open_each<Y: System>(
+    alloc: Global,
+    system: &mut Y,
+    names: &[String],
+) -> Result<Vec<Turn<Y::Stream>>, Fault>
+    ensures ok { IfOk result (λ turns. OpensEach Y.System (map string_bytes names.now) turns.items
+        (Y.calls system.old) (Y.calls system.new)) }
+    ensures stops { IfErr result (StopsOpening Y.System (map string_bytes names.now)
+        (Y.calls system.old) (Y.calls system.new)) }
+{
+    let mut turns = Vec::new(alloc);
+    for name in names {
+        let turn = open_input::<Y>(system, name.as_str())?;
+        turns.push(turn)?;
+    }
+    Ok(turns)
+}
+
+/// Opens the inputs of these names. No name is standard input, as each `-` is.
+pub fn open_inputs<Y: System, I: Read + Drop>(
+    alloc: Global,
+    system: &mut Y,
+    names: &[String],
+    input: I,
+) -> Result<Inputs<Y::Stream, I>, Fault>
+    ensures ok { IfOk result (λ i. OpensInputs Y.System (map string_bytes names.now) i.turns.items
+        (Y.calls system.old) (Y.calls system.new)) }
+    ensures shared { IfOk result (λ i. i.shared ≡ input) }
+    ensures stops { IfErr result (StopsOpening Y.System (map string_bytes names.now)
+        (Y.calls system.old) (Y.calls system.new)) }
+    ensures output { OutputSays ⊥ result }
+{
+    let mut turns = open_each::<Y>(alloc, system, names)?;
+    if names.is_empty() {
+        turns.push(Turn::Shared)?;
+    }
+    Ok(Inputs {
+        turns,
+        shared: input,
+    })
+}

@@ -1,0 +1,31 @@
+//! What the program `cdb` asks of the system, its commands that only read, and what it says of faults.
+#![tactic(auto)]
+
+mod causes;
+mod differing;
+mod explaining;
+mod inputs;
+mod left;
+mod looking;
+mod open_trace;
+mod places;
+mod reading;
+mod real_system;
+mod seen;
+mod system;
+mod system_words;
+mod telling;
+
+pub use causes::{Reason, Told, reason_of};
+pub use differing::difference;
+pub use explaining::cause_line;
+pub use inputs::{STANDARD_INPUT, is_standard, open_base, open_inputs};
+pub use left::{Left, base_left, both_left, none_left, read_left};
+pub use looking::lookups;
+pub use open_trace::{OpenCall, OpenTrace};
+pub use places::is_in_place;
+pub use reading::{check, query, stats, text};
+pub use real_system::RealSystem;
+pub use seen::{Seen, SeenReader, SeenWriter};
+pub use system::System;
+pub use telling::{refuse, refuse_unbuffered, tell};

@@ -1,0 +1,16 @@
+// Where a create makes its database: in place, or in a temporary file.
+ghost use Rattle.std.specs.Prelude.{◌↔◌, IsTrue, option_map, string_bytes};
+ghost use Rattle.cdb_system.specs.Places.{IsInPlace};
+
+/// With this name as temporary file there is none.
+const NO_FILE: &str = "-";
+
+/// Whether the database is made in the file of its name.
+pub fn is_in_place(name: &str, temporary: &Option<String>) -> bool
+    ensures { IsTrue result ↔ IsInPlace name.now (option_map string_bytes temporary.now) }
+{
+    match temporary {
+        Some(temporary) => temporary.as_str() == NO_FILE || temporary.as_str() == name,
+        None => false,
+    }
+}

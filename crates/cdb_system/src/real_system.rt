@@ -1,0 +1,307 @@
+// The system's files: the lines that open them, and note it.
+ghost use Rattle.std.specs.Prelude.{◌≡◌, [], ◌∷◌, IfErr, None, Some, string_bytes, true};
+ghost use Rattle.std.specs.Option.{ForSome};
+ghost use Rattle.cdb_names.specs.Refusals.{is_of_system};
+ghost use Rattle.cdb_system.specs.Opening.{refused_by, refused_open, unopened};
+ghost use Rattle.cdb_system.specs.declared.open_trace.OpenCall.TheVariants.{Unopened};
+
+use crate::open_trace::{OpenCall, OpenTrace};
+use crate::seen::{Seen, SeenReader};
+use crate::system::System;
+use cdb_names::{Answer, Cause, Lock, NameFault, Refusal, has_name, locked};
+use cdb_show::Fault;
+use cdb_store::{FileStore, LAST_STANDARD, RealFile, StoreFault};
+use std::fs::{self, File};
+use std::io::{self, ErrorKind};
+use std::os::fd::AsRawFd;
+use std::rt::Files;
+
+/// The files of the system, by their names.
+#[derive(Drop)]
+pub struct RealSystem<'a, R> {
+    rt: &'a R,
+    /// What was seen of the streams that were opened, and of the standard ones.
+    seen: &'a Seen,
+    trace: OpenTrace,
+    /// The name that was refused last, if there was memory for it.
+    last: Option<Refusal>,
+    ghost newest: { ForSome last (λ refusal. refused_open refusal.cause trace.events
+        ≡ Some (string_bytes refusal.name, string_bytes refusal.other, refusal.cause)) },
+}
+
+/// Why a file was not opened: the fault, and its cause.
+#[derive(Clone, Copy)]
+struct Why {
+    fault: NameFault,
+    cause: Cause,
+}
+
+impl<'a, R: Files<File = File> + AllocGlobal> RealSystem<'a, R> {
+    /// Files on which no call was made yet.
+    pub fn new(rt: &'a R, seen: &'a Seen) -> RealSystem<'a, R>
+        ensures { result.trace.events ≡ [] }
+    {
+        RealSystem {
+            rt,
+            seen,
+            trace: OpenTrace::new(),
+            last: None,
+        }
+    }
+
+    /// Notes a call that refused no name.
+    fn note(&mut self, call: &OpenCall, name: &str)
+        requires { (why : Cause) → refused_by why call.now name.now ≡ None }
+        ensures trace { self.new.trace.events ≡ (call.now, name.now) ∷ self.old.trace.events }
+    {
+        self.trace.note(call, name.as_bytes());
+    }
+
+    /// Notes a call that refused its name.
+    fn refuse(&mut self, call: &OpenCall, name: &str, cause: Cause)
+        requires { refused_by cause call.now name.now ≡ Some (name.now, [], cause) }
+        ensures trace { self.new.trace.events ≡ (call.now, name.now) ∷ self.old.trace.events }
+    {
+        self.last = Refusal::new(self.rt.alloc(), name, "", cause).ok();
+        self.trace.note(call, name.as_bytes());
+    }
+
+    /// Notes that the file of a name was not opened, and answers which fault that is.
+    fn refused(&mut self, why: Why, name: &str) -> Fault
+        ensures fault { result ≡ unopened why.fault }
+        ensures trace { self.new.trace.events
+            ≡ (Unopened why.fault why.cause, name.now) ∷ self.old.trace.events }
+    {
+        self.refuse(&OpenCall::Unopened(why.fault, why.cause), name, why.cause);
+        match why.fault {
+            NameFault::Failed => Fault::Open,
+            NameFault::NoMemory => Fault::NoMemory,
+        }
+    }
+}
+
+impl<'a, R: Files<File = File> + AllocGlobal> System for RealSystem<'a, R> {
+    type File = FileStore;
+
+    type Stream = SeenReader<'a, File>;
+
+    type Made = FileStore;
+
+    ghost calls = { λ s. s.trace.events };
+
+    ghost gives = { λ _ _. Unit {0} };
+
+    ghost reads = { λ _ _. Unit {0} };
+
+    ghost makes = { λ _ _. Unit {0} };
+
+    fn refusal(&self) -> Option<&Refusal> {
+        self.last.as_ref()
+    }
+
+    fn store_error(&self, file: &FileStore) -> Option<i32> {
+        file.file().last_error()
+    }
+
+    fn made_error(&self, file: &FileStore) -> Option<i32> {
+        file.file().last_error()
+    }
+
+    fn read_error(&self) -> Option<i32> {
+        self.seen.read_error()
+    }
+
+    fn write_error(&self) -> Option<i32> {
+        self.seen.write_error()
+    }
+
+    fn has_failed_on_errors(&self) -> bool {
+        self.seen.has_failed_on_errors()
+    }
+
+    // Shown by tests/cli/cases.py and tests/faults/names.py.
+    fn open_store(&mut self, name: &str) -> Result<FileStore, Fault> {
+        match opened_at_places(self.rt, name) {
+            Ok(store) => {
+                self.note(&OpenCall::AtPlaces, name);
+                Ok(store)
+            }
+            Err(why) => Err(self.refused(why, name)),
+        }
+    }
+
+    // Shown by tests/cli/cases.py and tests/faults/closed.py.
+    /// The file is given up if it got the number of a standard stream that is closed.
+    fn open(&mut self, name: &str) -> Result<SeenReader<'a, File>, Fault> {
+        match opened_in_turn(self.rt, name) {
+            Ok(file) => {
+                self.note(&OpenCall::InTurn, name);
+                Ok(SeenReader::new(file, self.seen))
+            }
+            Err(why) => Err(self.refused(why, name)),
+        }
+    }
+
+    // Shown by tests/cli/cases.py and tests/faults/names.py.
+    fn is_stream(&mut self, name: &str) -> Answer {
+        match is_stream(self.rt, name) {
+            Ok(true) => {
+                self.note(&OpenCall::Stream(Answer::Yes), name);
+                Answer::Yes
+            }
+            Ok(false) => {
+                self.note(&OpenCall::Stream(Answer::No), name);
+                Answer::No
+            }
+            Err(cause) => {
+                self.refuse(&OpenCall::Stream(Answer::Unknown), name, cause);
+                Answer::Unknown
+            }
+        }
+    }
+
+    // Shown by tests/cli/cases.py and tests/faults/others.py.
+    fn open_to_empty(&mut self, name: &str) -> Result<RealFile, Fault> {
+        match RealFile::opened_to_empty(self.rt, name) {
+            Ok(file) => {
+                self.note(&OpenCall::ToEmpty, name);
+                Ok(file)
+            }
+            Err(error) => Err(self.refused(of_emptying(self.rt, name, &error), name)),
+        }
+    }
+
+    // Shown by tests/cli/orders.py and locked.py.
+    /// A pipe or a device is never emptied, and its lock is not requested.
+    fn lock(&mut self, name: &str, file: &RealFile) -> Lock {
+        let lock = match file.metadata() {
+            Ok(found) if !found.is_file() => Ok(false),
+            Ok(_) => locked(file),
+            Err(error) => Err(Cause::of_error(&error)),
+        };
+        match lock {
+            Ok(true) => {
+                self.note(&OpenCall::Locked(Lock::Taken), name);
+                Lock::Taken
+            }
+            Ok(false) => {
+                self.note(&OpenCall::Locked(Lock::Unsupported), name);
+                Lock::Unsupported
+            }
+            Err(cause) => {
+                self.refuse(&OpenCall::Locked(Lock::Held), name, cause);
+                Lock::Held
+            }
+        }
+    }
+
+    // Shown by tests/cli/orders.py, tests/faults/names.py and others.py.
+    fn has_file(&mut self, name: &str, file: &RealFile) -> Answer {
+        match has_name(self.rt, name, file) {
+            Ok(true) => {
+                self.note(&OpenCall::Own(Answer::Yes), name);
+                Answer::Yes
+            }
+            Ok(false) => {
+                self.refuse(&OpenCall::Own(Answer::No), name, Cause::Lost);
+                Answer::No
+            }
+            Err(number) => {
+                let call = OpenCall::Own(Answer::Unknown);
+                self.refuse(&call, name, Cause::of_number(number));
+                Answer::Unknown
+            }
+        }
+    }
+
+    fn has_made(&mut self, name: &str, file: &FileStore) -> Answer {
+        self.has_file(name, file.file())
+    }
+
+    // Shown by tests/cli/cases.py and tests/faults/others.py.
+    fn empty(&mut self, name: &str, file: RealFile) -> Result<FileStore, Fault> {
+        match file.emptied() {
+            Ok(file) => {
+                self.note(&OpenCall::Emptied, name);
+                Ok(FileStore::made(file))
+            }
+            Err(error) => Err(self.refused(of_error(&error), name)),
+        }
+    }
+}
+
+/// Opens the file of a name at places. It has none if it is a pipe or a device.
+fn opened_at_places<R: Files<File = File>>(rt: &R, name: &str) -> Result<FileStore, Why> {
+    match is_stream(rt, name) {
+        Ok(false) => {}
+        Ok(true) => return Err(found(Cause::NoPlaces)),
+        Err(cause) => return Err(found(cause)),
+    }
+    let file = match File::open(rt, name) {
+        Ok(file) => file,
+        Err(error) => return Err(of_error(&error)),
+    };
+    match FileStore::over(RealFile::opened(file)) {
+        Ok(store) => Ok(store),
+        Err(StoreFault::Device) => Err(found(Cause::Failed)),
+        Err(StoreFault::NoMemory) => Err(Why {
+            fault: NameFault::NoMemory,
+            cause: Cause::Failed,
+        }),
+    }
+}
+
+/// Opens the file of a name from its start on, unless it gets the number of a standard stream.
+fn opened_in_turn<R: Files<File = File>>(rt: &R, name: &str) -> Result<File, Why> {
+    match File::open(rt, name) {
+        Ok(file) if file.as_raw_fd() <= LAST_STANDARD => Err(found(Cause::Closed)),
+        Ok(file) => Ok(file),
+        Err(error) => Err(of_error(&error)),
+    }
+}
+
+/// Something was found that is no file for this.
+fn found(cause: Cause) -> Why {
+    Why {
+        fault: NameFault::Failed,
+        cause,
+    }
+}
+
+/// Why the system opened no file, or did not empty one.
+fn of_error(error: &io::Error) -> Why {
+    let fault = if error.kind() == ErrorKind::OutOfMemory {
+        NameFault::NoMemory
+    } else {
+        NameFault::Failed
+    };
+    Why {
+        fault,
+        cause: Cause::of_error(error),
+    }
+}
+
+/// Why the system opened no file to be emptied: one that was there and was not opened is a link, or was
+/// replaced, and one without a number of the system got that of a standard stream.
+fn of_emptying<R: Files<File = File>>(rt: &R, name: &str, error: &io::Error) -> Why {
+    match error.kind() {
+        ErrorKind::AlreadyExists => match fs::symlink_metadata(rt, name) {
+            Ok(now) if now.is_symlink() => found(Cause::Link),
+            _ => found(Cause::Lost),
+        },
+        ErrorKind::InvalidInput if error.raw_os_error().is_none() => found(Cause::Closed),
+        _ => of_error(error),
+    }
+}
+
+/// Whether a name is that of a pipe or a device, which is read from its start to its end alone. A name
+/// that nothing has is not.
+fn is_stream<R: Files<File = File>>(rt: &R, name: &str) -> Result<bool, Cause>
+    ensures { IfErr result (λ cause. is_of_system cause ≡ true) }
+{
+    match fs::metadata(rt, name) {
+        Ok(found) => Ok(!found.is_file() && !found.is_dir()),
+        Err(error) if error.kind() == ErrorKind::NotFound => Ok(false),
+        Err(error) => Err(Cause::of_error(&error)),
+    }
+}

@@ -1,0 +1,151 @@
+// What was seen of the standard streams and of the inputs: why a call on one failed.
+ghost use Rattle.std.specs.Prelude.{◌≡◌};
+
+use std::cell::Cell;
+use std::io::{self, Read, Write};
+
+/// The number of the system's error for a descriptor that is not open.
+const NOT_OPEN: i32 = 9;
+
+/// What was seen last of what is read and written. It is kept in cells, of which no clause says anything.
+#[derive(Drop)]
+pub struct Seen {
+    /// The number of the error of the last read that failed.
+    read_error: Cell<Option<i32>>,
+    /// The number of the error of the last write that failed.
+    write_error: Cell<Option<i32>>,
+    /// Whether that was one on standard error.
+    is_of_errors: Cell<bool>,
+}
+
+impl Seen {
+    /// Nothing was seen yet.
+    pub fn new() -> Seen {
+        Seen {
+            read_error: Cell::new(None),
+            write_error: Cell::new(None),
+            is_of_errors: Cell::new(false),
+        }
+    }
+
+    /// The number of the error of the last read that failed, if the system gave one.
+    pub fn read_error(&self) -> Option<i32> {
+        self.read_error.get()
+    }
+
+    /// The number of the error of the last write that failed, if the system gave one.
+    pub fn write_error(&self) -> Option<i32> {
+        self.write_error.get()
+    }
+
+    /// Whether the last write that failed was one on standard error.
+    pub fn has_failed_on_errors(&self) -> bool {
+        self.is_of_errors.get()
+    }
+
+    /// A write failed, on standard error or on standard output.
+    fn fail(&self, error: &io::Error, is_of_errors: bool) {
+        self.write_error.set(error.raw_os_error());
+        self.is_of_errors.set(is_of_errors);
+    }
+}
+
+/// A reader whose faults are seen.
+#[derive(Drop)]
+pub struct SeenReader<'a, R> {
+    reader: R,
+    seen: &'a Seen,
+    /// Whether it is standard input, and closed: the file that holds its place fails for a reason of its own.
+    is_closed: bool,
+}
+
+impl<'a, R> SeenReader<'a, R> {
+    /// The reader of a file that was opened.
+    pub fn new(reader: R, seen: &'a Seen) -> SeenReader<'a, R> {
+        SeenReader {
+            reader,
+            seen,
+            is_closed: false,
+        }
+    }
+
+    /// The reader of standard input, which may be closed.
+    pub fn input(reader: R, is_closed: bool, seen: &'a Seen) -> SeenReader<'a, R> {
+        SeenReader {
+            reader,
+            seen,
+            is_closed,
+        }
+    }
+
+    /// A read failed.
+    fn fail(&self, error: &io::Error) {
+        let number = if self.is_closed {
+            Some(NOT_OPEN)
+        } else {
+            error.raw_os_error()
+        };
+        self.seen.read_error.set(number);
+    }
+}
+
+impl<'a, R: Read> Read for SeenReader<'a, R> {
+    ghost remaining = { λ r. R.remaining r.reader };
+
+    fn read(&mut self, buf: &mut [u8]) -> io::Result<usize> {
+        let read = self.reader.read(buf);
+        if let Err(error) = &read {
+            self.fail(error);
+        }
+        read
+    }
+}
+
+/// A writer whose faults are seen.
+#[derive(Drop)]
+pub struct SeenWriter<'a, W> {
+    writer: W,
+    seen: &'a Seen,
+    /// Whether it is standard error.
+    is_of_errors: bool,
+}
+
+impl<'a, W> SeenWriter<'a, W> {
+    /// Standard output, to which nothing was written yet.
+    pub fn output(writer: W, seen: &'a Seen) -> SeenWriter<'a, W> {
+        SeenWriter {
+            writer,
+            seen,
+            is_of_errors: false,
+        }
+    }
+
+    /// Standard error.
+    pub fn errors(writer: W, seen: &'a Seen) -> SeenWriter<'a, W> {
+        SeenWriter {
+            writer,
+            seen,
+            is_of_errors: true,
+        }
+    }
+}
+
+impl<'a, W: Write> Write for SeenWriter<'a, W> {
+    ghost contents = { λ w. W.contents w.writer };
+
+    fn write(&mut self, buf: &[u8]) -> io::Result<usize> {
+        let written = self.writer.write(buf);
+        if let Err(error) = &written {
+            self.seen.fail(error, self.is_of_errors);
+        }
+        written
+    }
+
+    fn flush(&mut self) -> io::Result<()> {
+        let flushed = self.writer.flush();
+        if let Err(error) = &flushed {
+            self.seen.fail(error, self.is_of_errors);
+        }
+        flushed
+    }
+}

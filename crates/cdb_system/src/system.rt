@@ -1,0 +1,97 @@
+// The files of a system, by their names and the calls on them.
+ghost use Rattle.std.specs.Prelude.{◌≡◌, ◌∷◌, ℕ, List, IfOk, IfErr, IfSome, OnOk};
+ghost use Rattle.cdb_system.specs.Opening.{IsOpenRefusal, OpenCalls, Misses, MayEmpty};
+ghost use Rattle.cdb_system.specs.declared.open_trace.OpenCall.TheVariants.{AtPlaces, InTurn, Stream};
+ghost use Rattle.cdb_system.specs.declared.open_trace.OpenCall.TheVariants.{Emptied, Locked, Own, ToEmpty};
+
+use cdb_names::{Answer, Lock, Refusal};
+use cdb_show::Fault;
+use cdb_store::{RealFile, Store};
+use std::io::Read;
+
+/// The files of a system, by their names, each call on which is noted in proof-only data.
+pub trait System {
+    /// A file that is read at places.
+    type File: Store + Drop;
+
+    /// A file that is read from its start on.
+    type Stream: Read + Drop;
+
+    /// A file that is made.
+    type Made: Store + Drop;
+
+    /// The calls, the newest first.
+    ghost calls: { Self → OpenCalls };
+
+    /// This file was given for the name, to be read at places.
+    ghost gives: { List ℕ → Self.File → Type 0 };
+
+    /// This file was given for the name, to be read from its start on.
+    ghost reads: { List ℕ → Self.Stream → Type 0 };
+
+    /// This file was given for the name, to be written.
+    ghost makes: { List ℕ → Self.Made → Type 0 };
+
+    /// The name of the file that was not opened last, and why. `None`: each was, or it is not known.
+    fn refusal(&self) -> Option<&Refusal>
+        ensures { IfSome result (λ refusal. IsOpenRefusal refusal.now (calls self.now)) };
+
+    /// The number of the error of the last call that failed on a file that is read at places, if the
+    /// system gave one.
+    fn store_error(&self, file: &Self::File) -> Option<i32>;
+
+    /// The number of the error of the last call that failed on a file that is made.
+    fn made_error(&self, file: &Self::Made) -> Option<i32>;
+
+    /// The number of the error of the last read of an input that failed.
+    fn read_error(&self) -> Option<i32>;
+
+    /// The number of the error of the last write on a standard stream that failed.
+    fn write_error(&self) -> Option<i32>;
+
+    /// Whether that was one on standard error.
+    fn has_failed_on_errors(&self) -> bool;
+
+    /// Opens the file of a name, to be read at places. `Open`: it cannot be opened, or it is a pipe
+    /// or a device, which has no places to be read at.
+    fn open_store(&mut self, name: &str) -> Result<Self::File, Fault>
+        ensures calls { OnOk result (calls self.new ≡ (AtPlaces, name.now) ∷ calls self.old) }
+        ensures gives { IfOk result (gives name.now) }
+        ensures fails { IfErr result (Misses name.now (calls self.old) (calls self.new)) };
+
+    /// Opens the file of a name, to be read from its start on. `Open`: it cannot be opened.
+    fn open(&mut self, name: &str) -> Result<Self::Stream, Fault>
+        ensures calls { OnOk result (calls self.new ≡ (InTurn, name.now) ∷ calls self.old) }
+        ensures reads { IfOk result (reads name.now) }
+        ensures fails { IfErr result (Misses name.now (calls self.old) (calls self.new)) };
+
+    /// Whether a name is that of a pipe or a device, which is read from its start to its end alone.
+    fn is_stream(&mut self, name: &str) -> Answer
+        ensures calls { calls self.new ≡ (Stream result, name.now) ∷ calls self.old };
+
+    /// Opens the file of a name, or makes one, to be emptied. It stays as it is. `Open`: it cannot be
+    /// opened, or the name is that of a link, which is not followed.
+    fn open_to_empty(&mut self, name: &str) -> Result<RealFile, Fault>
+        ensures calls { OnOk result (calls self.new ≡ (ToEmpty, name.now) ∷ calls self.old) }
+        ensures fails { IfErr result (Misses name.now (calls self.old) (calls self.new)) };
+
+    /// Requests the lock of the file that was opened to be emptied, and does not wait for it.
+    fn lock(&mut self, name: &str, file: &RealFile) -> Lock
+        ensures calls { calls self.new ≡ (Locked result, name.now) ∷ calls self.old };
+
+    /// Whether a name has the file that was opened to be emptied. A link is not followed.
+    fn has_file(&mut self, name: &str, file: &RealFile) -> Answer
+        ensures { calls self.new ≡ (Own result, name.now) ∷ calls self.old };
+
+    /// Whether a name has a file that was made. A link is not followed.
+    fn has_made(&mut self, name: &str, file: &Self::Made) -> Answer
+        ensures { calls self.new ≡ (Own result, name.now) ∷ calls self.old };
+
+    /// Empties the file of a name, whose lock is held, to be read and written at places. `Open`: it
+    /// cannot be emptied.
+    fn empty(&mut self, name: &str, file: RealFile) -> Result<Self::Made, Fault>
+        requires held { MayEmpty name.now (calls self.old) }
+        ensures calls { OnOk result (calls self.new ≡ (Emptied, name.now) ∷ calls self.old) }
+        ensures makes { IfOk result (makes name.now) }
+        ensures fails { IfErr result (Misses name.now (calls self.old) (calls self.new)) };
+}

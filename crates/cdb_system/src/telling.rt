@@ -1,0 +1,89 @@
+// The lines on standard error.
+ghost use Rattle.std.specs.Prelude.{◌≡◌, ◌++◌, OnErr};
+ghost use Rattle.cdb_form.specs.Views.KnownBytes.{AppendsPrefix, Writes};
+ghost use Rattle.cdb_show.specs.Command.{refused_in, usage_of};
+ghost use Rattle.cdb_show.specs.Message.{fault_line};
+ghost use Rattle.cdb_show.specs.Views.Output.{output_bytes, OutputFailed};
+ghost use Rattle.cdb_system.specs.Telling.{SaysLine, refused_lines, usage_line, usage_status};
+
+use cdb_command::{Usage, WordFault};
+use cdb_form::{OutFault, Sink, write_pieces, write_whole};
+use cdb_show::{BAD_USAGE, FAILED, Fault, Output, write_fault, write_word_fault};
+use std::io::Write;
+
+/// Writes the line of a fault, and more after it.
+fn write_told<E: Write>(fault: &Fault, more: &[u8], errors: &mut Output<E>) -> Result<(), OutFault>
+    ensures writes { Writes result (output_bytes E.contents errors.old)
+        (output_bytes E.contents errors.new) (fault_line fault.now ++ more.now) }
+    ensures failed { OnErr result (OutputFailed errors.new) }
+    ensures stays { OutputFailed errors.old → OutputFailed errors.new }
+{
+    write_fault(fault, errors)?;
+    write_whole(errors, more)
+}
+
+/// Says what a fault is, and more after it, unless `errors` fails.
+#[cold]
+#[inline(never)]
+pub fn tell<E: Write>(fault: &Fault, more: &[u8], errors: &mut Output<E>)
+    ensures says { SaysLine (fault_line fault.now ++ more.now) (output_bytes E.contents errors.old)
+        (output_bytes E.contents errors.new) (OutputFailed errors.new) }
+    ensures stays { OutputFailed errors.old → OutputFailed errors.new }
+{
+    let _ = write_told(fault, more, errors);
+}
+
+/// The exit status of words that ask for nothing.
+fn refused_status(usage: &Usage) -> u8
+    ensures { result ≡ usage_status usage.now }
+{
+    match usage {
+        Usage::NoMemory => FAILED,
+        _ => BAD_USAGE,
+    }
+}
+
+/// Writes why the words ask for nothing, and if it is to be explained which word or letters that is of.
+fn write_refused<E: Write>(
+    fault: &WordFault<'_>,
+    explains: bool,
+    errors: &mut Output<E>,
+) -> Result<(), OutFault>
+    ensures writes { Writes result (output_bytes E.contents errors.old)
+        (output_bytes E.contents errors.new) (refused_lines explains (refused_in fault.now)) }
+    ensures failed { OnErr result (OutputFailed errors.new) }
+{
+    write_pieces(
+        errors,
+        &[b"cdb: ", fault.usage().message().as_bytes(), b"\n"],
+    )?;
+    if explains {
+        write_word_fault(fault, errors)?;
+    }
+    Ok(())
+}
+
+/// Says why the words ask for nothing, unless `errors` fails, and answers the exit status.
+#[cold]
+#[inline(never)]
+pub fn refuse<E: Write>(fault: &WordFault<'_>, explains: bool, errors: &mut Output<E>) -> u8
+    ensures line { SaysLine (refused_lines explains (refused_in fault.now))
+        (output_bytes E.contents errors.old) (output_bytes E.contents errors.new)
+        (OutputFailed errors.new) }
+    ensures status { result ≡ usage_status (usage_of (refused_in fault.now)) }
+{
+    let _ = write_refused(fault, explains, errors);
+    refused_status(&fault.usage())
+}
+
+/// Says why the program cannot begin, at once, as far as `errors` takes it, and answers the exit
+/// status, and whether `errors` took the line.
+pub fn refuse_unbuffered<E: Sink>(usage: &Usage, errors: &mut E) -> (u8, Result<(), OutFault>)
+    ensures line { Writes result.1 (E.contents errors.old) (E.contents errors.new)
+        (usage_line usage.now) }
+    ensures failed { OnErr result.1 (E.failed errors.new) }
+    ensures status { result.0 ≡ usage_status usage.now }
+{
+    let written = write_pieces(errors, &[b"cdb: ", usage.message().as_bytes(), b"\n"]);
+    (refused_status(usage), written)
+}
