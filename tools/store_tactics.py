@@ -106,10 +106,17 @@ def main(words):
     print(f"{crate}: {gained / 1e6:.1f} M steps less by what is stored, {taken / 1e6:.1f} M by what is taken out; check it now")
 
 
+def is_there(folder, function):
+    """Whether the module of a function is there still: records stay of what was moved away."""
+    parts = function.split("/")
+    return any(Path(folder, "src", *parts[:n]).with_suffix(".rt").is_file() for n in range(1, len(parts)))
+
+
 def functions_of(trees, crate, named):
     """The functions of a crate that are named, or all of which something was proved."""
-    found = sorted({function for function, _ in steps_of(trees.folder(crate))[0]})
-    return [it for it in found if not named or it in named]
+    folder = trees.folder(crate)
+    found = sorted({function for function, _ in steps_of(folder)[0]})
+    return [it for it in found if is_there(folder, it) and (not named or it in named)]
 
 
 if __name__ == "__main__":

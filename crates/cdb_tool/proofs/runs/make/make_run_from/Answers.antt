@@ -8,3 +8,6 @@ returns-clause-runs g c = runs_flushed g.B.Store _ _ _ _ _ _ _ _ _ _ _ c.make_un
 
 pub returns-clause-settled : goal.returns-clause-settled
 returns-clause-settled g c = grind (arith, common_steps)
+
+pub returns-clause-output : goal.returns-clause-output
+returns-clause-output g c = grind (arith, common_steps)

@@ -1,4 +1,5 @@
-use Rattle.std.proofs.Common.{refl, ap, ◌∙◌, ◌+◌, ℕ}
+use Rattle.std.proofs.lemmas.Grind.{common_steps}
+use Rattle.std.proofs.Common.{arith, refl, ap, ◌∙◌, ◌+◌, ℕ}
 use Rattle.std.proofs.lemmas.Result.{err_from_is_err_and}
 use Rattle.cdb_tool.proofs.InputRuns.{put_none, put_next, inputs_fail, halted}
 use Rattle.cdb_show.proofs.NextInputs.{next_has}
@@ -39,3 +40,21 @@ returns-in_err-shared-clause-step g c =
     let p = err_from_is_err_and c.from_residual.result c.from_residual.ensures.1 in
     let inv = c.loop-turn.invariant in
     rw (p.1, p.2) (step_failed c.in_err-shared.field-0.0 inv.put.follows inv.fine (λ is. is) c.in_err-shared.ensures.step)
+
+pub loop-turn-init-derived : goal.loop-turn-init-derived
+loop-turn-init-derived g c = grind (arith, common_steps)
+
+pub overflow_add-number : goal.overflow_add-number
+overflow_add-number g c = grind (arith, common_steps)
+
+pub returns-clause-fails : goal.returns-clause-fails
+returns-clause-fails g c = grind (arith, common_steps)
+
+pub returns-clause-ok : goal.returns-clause-ok
+returns-clause-ok g c = grind (arith, common_steps)
+
+pub returns-clause-stands : goal.returns-clause-stands
+returns-clause-stands g c = grind (arith, common_steps)
+
+pub returns-clause-step : goal.returns-clause-step
+returns-clause-step g c = grind (arith, common_steps)

@@ -1,4 +1,5 @@
-use Rattle.std.proofs.Common.{sym, ◌∙◌}
+use Rattle.std.proofs.lemmas.Grind.{common_steps}
+use Rattle.std.proofs.Common.{arith, sym, ◌∙◌}
 use Rattle.std.proofs.lemmas.Result.{err_from_is_err_and}
 use Rattle.cdb_tool.proofs.InputRuns.{form_is}
 use Rattle.cdb_tool.proofs.runs.make.put_text.Goals as goal
@@ -27,3 +28,12 @@ returns-clause-fails g c = λ t read start same based n h.
 
 pub returns-clause-stands : goal.returns-clause-stands
 returns-clause-stands g c = λ t read start same n h. rw (c.new-items-2.ensures.form, c.new-items-2.ensures.unread) at (c.put_input-2.ensures.stands t read start same n h)
+
+pub returns-then-is_some-clause-fails : goal.returns-then-is_some-clause-fails
+returns-then-is_some-clause-fails g c = grind (arith, common_steps)
+
+pub returns-then-is_some-clause-stands : goal.returns-then-is_some-clause-stands
+returns-then-is_some-clause-stands g c = grind (arith, common_steps)
+
+pub returns-then-is_some-clause-step : goal.returns-then-is_some-clause-step
+returns-then-is_some-clause-step g c = grind (arith, common_steps)

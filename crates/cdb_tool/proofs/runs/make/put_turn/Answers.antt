@@ -1,3 +1,5 @@
+use Rattle.std.proofs.lemmas.Grind.{common_steps}
+use Rattle.std.proofs.Common.{arith}
 use Rattle.std.proofs.lemmas.Result.{err_from_is_err_and}
 use Rattle.cdb_tool.proofs.InputRuns.{no_window, no_window_stands}
 use Rattle.cdb_tool.proofs.runs.make.put_turn.Goals as goal
@@ -41,3 +43,9 @@ pub returns-in_err-left-in-Shared-clause-stands : goal.returns-in_err-left-in-Sh
 returns-in_err-left-in-Shared-clause-stands g c = λ t read start same n h.
     let p = err_from_is_err_and c.from_residual-in_err-left-in-Shared.result c.from_residual-in_err-left-in-Shared.ensures.1 in
     rw (p.1, p.2, c.in-Shared.is) (rw c.in_ok-input-in-Shared.ensures at (c.in_err-left-in-Shared.ensures.stands t read start same n h))
+
+pub returns-in_ok-left-in-Shared-clause-fails : goal.returns-in_ok-left-in-Shared-clause-fails
+returns-in_ok-left-in-Shared-clause-fails g c = grind (arith, common_steps)
+
+pub returns-in_ok-left-in-Shared-clause-ok : goal.returns-in_ok-left-in-Shared-clause-ok
+returns-in_ok-left-in-Shared-clause-ok g c = grind (arith, common_steps)

@@ -14,5 +14,11 @@ returns-in-Err-clause-hands g c = rw c.in-Some.is (unopened_reads g.L.Width.WORD
 pub returns-clause-fails : goal.returns-clause-fails
 returns-clause-fails g c = λ none. rw c.into_store.ensures (c.add_records-added.ensures.fails none)
 
-pub returns-clause-ok : goal.returns-clause-ok
-returns-clause-ok g c = grind (arith, common_steps)
+pub returns-clause-hands : goal.returns-clause-hands
+returns-clause-hands g c = grind (arith, common_steps)
+
+pub returns-in_default-clause-hands : goal.returns-in_default-clause-hands
+returns-in_default-clause-hands g c = grind (arith, common_steps)
+
+pub returns-in_default-clause-step : goal.returns-in_default-clause-step
+returns-in_default-clause-step g c = grind (arith, common_steps)

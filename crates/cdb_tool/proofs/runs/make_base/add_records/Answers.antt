@@ -1,3 +1,4 @@
+use Rattle.std.proofs.lemmas.Grind.{common_steps}
 use Rattle.std.proofs.Common.{refl, ap, ◌∙◌, rules, arith}
 use Rattle.std.proofs.lemmas.Result.{err_from_is_err_and}
 use Rattle.cdb_store.proofs.Reading.{reads_more, reads_nothing}
@@ -66,3 +67,6 @@ returns-clause-step g c =
     let inv = c.loop-room.invariant in
     let step = c.in_ok-add_next.ensures.step in
     record { follows = follows_then _ _ _ inv.follows step.follows; failed = tt; memory = tt; fine = step.fine ∙ inv.fine; base = tt; output = tt }
+
+pub returns-clause-fails : goal.returns-clause-fails
+returns-clause-fails g c = grind (arith, common_steps)

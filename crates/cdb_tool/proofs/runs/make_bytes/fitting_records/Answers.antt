@@ -1,3 +1,4 @@
+use Rattle.std.proofs.lemmas.Grind.{common_steps}
 use Rattle.std.proofs.Common.{arith, ◌++◌, ◌∷◌, [], List, ℕ, refl, subst}
 use Rattle.cdb_form.specs.Format.Record.{KeyValue}
 use Rattle.cdb_make.specs.Views.Maker.{Holds, FailsPutting}
@@ -56,3 +57,9 @@ returns-in_err-put-clause-err g c =
     subst (λ (v : List ℕ). FailsPutting c.loop-fault.maker m Add (record { key = v; value = r.value }) f) c.deref.ensures.value
     (subst (λ (v : List ℕ). FailsPutting c.loop-fault.maker m Add (record { key = c.deref.result.now; value = v }) f) c.deref-in-loop-fault.ensures.value c.in_err-put.ensures.fails) in
     rw (p.1, p.2) (refused _ _ _ _ c.loop-fault.text c.read_into.new.self _ m r f m.store.bytes.items held one.reads refl (λ rose. omega arith) fails)
+
+pub returns-in-Err-clause-ok : goal.returns-in-Err-clause-ok
+returns-in-Err-clause-ok g c = grind (arith, common_steps)
+
+pub returns-in-Ok-false-clause-err : goal.returns-in-Ok-false-clause-err
+returns-in-Ok-false-clause-err g c = grind (arith, common_steps)

@@ -1,3 +1,5 @@
+use Rattle.std.proofs.lemmas.Grind.{common_steps}
+use Rattle.std.proofs.Common.{arith}
 use Rattle.cdb_form.specs.Views.TextReader.{unread}
 use Rattle.cdb_tool.proofs.WholeRuns.{makes_flushed}
 use Rattle.cdb_tool.proofs.runs.make_bytes.make_bytes.Goals as goal
@@ -7,3 +9,6 @@ returns-clause-makes g c = (
   unread g.R.Read.remaining c.make_bytes_unflushed-made.new.text,
   rw c.new-text.ensures.unread at (makes_flushed _ _ _ _ _ _ _ _ _ c.make_bytes_unflushed-made.ensures.makes c.flushed.ensures.flushes),
 )
+
+pub returns-clause-output : goal.returns-clause-output
+returns-clause-output g c = grind (arith, common_steps)

@@ -1,4 +1,5 @@
-use Rattle.std.proofs.Common.{◌∙◌}
+use Rattle.std.proofs.lemmas.Grind.{common_steps}
+use Rattle.std.proofs.Common.{arith, ◌∙◌}
 use Rattle.std.proofs.lemmas.Result.{err_from_is_err_and}
 use Rattle.cdb_form.proofs.Bytes.WritingLemmas.{same_prefix, same_appends}
 use Rattle.cdb_tool.proofs.WholeRuns.{nothing_made, file_made, file_fails}
@@ -33,3 +34,6 @@ returns-in_err-file-clause-output g c =
     let p = err_from_is_err_and c.from_residual-in_err-file.result c.from_residual-in_err-file.ensures.1 in
     let read = c.in_ok-maker.ensures.ok in
     rw (p.1, p.2, c.in_err-file.ensures.err read.0 read.1) tt
+
+pub returns-clause-output : goal.returns-clause-output
+returns-clause-output g c = grind (arith, common_steps)
