@@ -12,13 +12,9 @@ folded n = bit_xor (n % 2 ^ 64) (n / 2 ^ 64)
 abbrev pub tag_step : ℕ → ℕ → ℕ
 tag_step t word = folded (bit_xor t word * 11400714819323198485)
 
--- a word with one more digit in base 256
-abbrev pub word_step : ℕ → ℕ → ℕ
-word_step word byte = (256 * word + byte) % 2 ^ 64
-
--- the word of fewer than 8 bytes: its digits are 1 and they, so no two lists of bytes have one word
+-- the word of fewer than 8 bytes: 1 and they are its digits in base 256, so that no two have one word
 abbrev pub last_word : List ℕ → ℕ
-last_word bytes = fold word_step 1 bytes
+last_word bytes = fold (λ word byte. (256 * word + byte) % 2 ^ 64) 1 bytes
 
 -- the second hash of a key: from 2611923443488327891, word after word of eight bytes, and then the last
 abbrev pub second_hash : List ℕ → ℕ

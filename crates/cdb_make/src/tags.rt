@@ -2,7 +2,7 @@
 ghost use Rattle.std.specs.Prelude.{◌≡◌, ◌<◌, ◌≤◌, ◌∷◌, ◌++◌, [], ℕ, List, true, fold, length, take, cond, vec_capacity, OnOk, OnErr};
 ghost use Rattle.cdb_make.specs.Marks.{gone_of, IsFirstMarked};
 ghost use Rattle.cdb_make.specs.Spans.{left};
-ghost use Rattle.cdb_make.specs.Tags.{tag_step, word_step, last_word, second_hash, searched_by};
+ghost use Rattle.cdb_make.specs.Tags.{tag_step, last_word, second_hash, searched_by};
 
 use crate::growth::reserve_one;
 use crate::mark::{Mark, is_gone_at};
@@ -22,30 +22,16 @@ fn tag_more(tag: u64, word: u64) -> u64
     (product % WORDS) as u64 ^ (product / WORDS) as u64
 }
 
-/// A word with some bytes more, as digits in base 256.
-#[inline(always)]
-fn word_with(word: u64, bytes: &[u8]) -> u64
-    ensures { result ≡ fold word_step word bytes.now }
-{
-    let mut word = word;
-    for byte in bytes {
-        word = word.wrapping_mul(256).wrapping_add(u64::from(*byte));
-    }
-    word
-}
-
-/// The word of the bytes that follow the last eight. It takes four of them at once.
+/// The word of the bytes behind the last eight.
 #[inline(always)]
 fn last_word(bytes: &[u8]) -> u64
     ensures { result ≡ last_word bytes.now }
 {
-    match bytes.split_first_chunk::<4>() {
-        Some((four, rest)) => {
-            let word = 4_294_967_296 + u64::from(u32::from_be_bytes(*four));
-            word_with(word, rest)
-        }
-        None => word_with(1, bytes),
+    let mut word = 1u64;
+    for byte in bytes {
+        word = word.wrapping_mul(256).wrapping_add(u64::from(*byte));
     }
+    word
 }
 
 /// The second hash of a key, which is independent of its cdb hash. Keys that have one cdb hash, as a
