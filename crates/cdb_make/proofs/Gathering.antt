@@ -11,9 +11,10 @@ use Rattle.std.proofs.lemmas.List.{drop-take, length-map, get_or_default, take_m
 use Rattle.cdb_form.specs.Format.Hash.{table_number}
 use Rattle.cdb_form.specs.Format.Pair.{WordPair}
 use Rattle.cdb_form.specs.declared.width.Width.{Ghosts as Widths}
+use Rattle.cdb_make.specs.declared.finish.gathered.Gathered.{Gathered}
 use Rattle.cdb_make.specs.declared.roll.Roll.{Roll}
-use Rattle.cdb_make.specs.Gathering.{is_among}
-use Rattle.cdb_make.specs.Tables.{tables_of, roll_entries}
+use Rattle.cdb_make.specs.Gathering.{HaveRoomFor, is_among}
+use Rattle.cdb_make.specs.Tables.{rooms_of, tables_of, roll_entries}
 use Rattle.cdb_make.specs.Views.Places.{places_in}
 use Rattle.cdb_make.proofs.Tables.{get_or-entries_of, roll_long, tables_same}
 
@@ -122,3 +123,10 @@ behind_first m first count at end left r lt is =
     ∙ mask_drop p (r + 1) (take (r + 1 + n) (drop at hs))
     ∙ ap (λ (v : List ℕ). mask_l (map p v)) (drop-take (r + 1) n (drop at hs))
     ∙ ap (λ (v : List ℕ). mask_l (map p (take n v))) (drop-drop (r + 1) at hs)
+
+-- there is room as long as rooms and lists are the same
+pub room_then : {L : Type 0} {l : Widths L} (m : Roll L l) (first : ℕ) (old new : List (Gathered L l)) → rooms_of new ≡ rooms_of old → length new ≡ length old → HaveRoomFor m first old → HaveRoomFor m first new
+room_then m first old new rooms long room = λ k lt.
+    let entries : length (get_or (tables_of (roll_entries m) first (length new)) k []) ≡ length (get_or (tables_of (roll_entries m) first (length old)) k []) = ap (λ (n : ℕ). length (get_or (tables_of (roll_entries m) first n) k [])) long in
+    let same : get_or (rooms_of new) k 0 ≡ get_or (rooms_of old) k 0 = ap (λ (v : List ℕ). get_or v k 0) rooms in
+    omega (arith, entries, same, room k (omega (arith, lt, long)))

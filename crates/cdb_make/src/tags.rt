@@ -2,49 +2,36 @@
 ghost use Rattle.std.specs.Prelude.{◌≡◌, ◌<◌, ◌≤◌, ◌∷◌, ◌++◌, [], ℕ, List, true, fold, length, take, cond, vec_capacity, OnOk, OnErr};
 ghost use Rattle.cdb_make.specs.Marks.{gone_of, IsFirstMarked};
 ghost use Rattle.cdb_make.specs.Spans.{left};
-ghost use Rattle.cdb_make.specs.Tags.{tag_step, last_word, second_hash, searched_by};
+ghost use Rattle.cdb_make.specs.Tags.{tag_step, second_hash, searched_by};
 
 use crate::growth::reserve_one;
 use crate::mark::{Mark, is_gone_at};
 use std::alloc::AllocError;
 
-/// So many words of 64 bits there are.
-const WORDS: u128 = 18_446_744_073_709_551_616;
-
-/// The tag so far, and then one more word: both halves of a product, exclusive or. So each bit of the
-/// words has a part in the low bits of the tag and in the high ones.
+/// The tag so far with each of these bytes. Inlined over eight of them it has no loop.
 #[inline(always)]
-fn tag_more(tag: u64, word: u64) -> u64
-    ensures { result ≡ tag_step tag word }
+fn tag_each(tag: u32, bytes: &[u8]) -> u32
+    ensures { result ≡ fold tag_step tag bytes.now }
 {
-    let mixed = tag ^ word;
-    let product = u128::from(mixed) * 11_400_714_819_323_198_485;
-    (product % WORDS) as u64 ^ (product / WORDS) as u64
-}
-
-/// The word of the bytes behind the last eight.
-#[inline(always)]
-fn last_word(bytes: &[u8]) -> u64
-    ensures { result ≡ last_word bytes.now }
-{
-    let mut word = 1u64;
+    let mut tag = tag;
     for byte in bytes {
-        word = word.wrapping_mul(256).wrapping_add(u64::from(*byte));
+        tag = tag
+            .wrapping_mul(2_246_822_507)
+            .wrapping_add(u32::from(*byte));
     }
-    word
+    tag
 }
 
-/// The second hash of a key, which is independent of its cdb hash. Keys that have one cdb hash, as a
-/// text may have by intent, differ in it.
+/// The second hash of a key. Keys that have one cdb hash, as a text may have by intent, differ in it.
 pub(crate) fn second_hash(key: &[u8]) -> u32
     ensures { result ≡ second_hash key.now }
 {
-    let mut tag = 2_611_923_443_488_327_891;
+    let mut tag = 2_166_136_261;
     let (eights, rest) = key.as_chunks::<8>();
     for eight in eights {
-        tag = tag_more(tag, u64::from_le_bytes(*eight));
+        tag = tag_each(tag, eight);
     }
-    (tag_more(tag, last_word(rest)) % 4_294_967_296) as u32
+    tag_each(tag, rest)
 }
 
 /// The numbers by which entries are found: their tags if they have some, else their hashes.

@@ -117,6 +117,7 @@ fn gather_sixteens<L: Width>(gathered: &mut [Gathered<L>], roll: &Roll<L>, first
     requires room { HaveRoomFor roll.now first gathered.old }
     requires none { AreGathered roll.now first 0 gathered.old }
     ensures inside { result ≤ length roll.now.hashes.items }
+    ensures far { length roll.now.hashes.items < result + 16 }
     ensures all { AreGathered roll.now first result gathered.new }
     ensures rooms { rooms_of gathered.new ≡ rooms_of gathered.old }
     ensures long { length gathered.new ≡ length gathered.old }

@@ -40,6 +40,12 @@ gather_one-requires-clause-before g c =
     let next = to_first m c.args.first (length c.args.gathered.now) c.loop-left.at (c.args.n + 16) c.loop-left.left c.requires.within inv.up (omega (arith, inv.from)) c.requires.inside inv.left c.loop-left-test.true in
     inv.all ∙ next.1 ∙ ap (tables_of (take (c.loop-left.at + count_trailing_zeros 64 c.loop-left.left) (roll_entries m)) c.args.first) (omega (arith, inv.long))
 
+pub loop-left-smaller : goal.loop-left-smaller
+loop-left-smaller g c =
+    let inv = c.loop-left.invariant in
+    let next = to_first c.args.roll.now c.args.first (length c.args.gathered.now) c.loop-left.at (c.args.n + 16) c.loop-left.left c.requires.within inv.up (omega (arith, inv.from)) c.requires.inside inv.left c.loop-left-test.true in
+    omega (arith, next.0)
+
 pub loop-left-preserved : goal.loop-left-preserved
 loop-left-preserved g c =
     let inv = c.loop-left.invariant in

@@ -1,6 +1,6 @@
 use Rattle.std.proofs.Common.{arith}
 use Rattle.std.proofs.lemmas.Grind.{common_steps}
-use Rattle.cdb_make.proofs.tags.last_word.Goals as goal
+use Rattle.cdb_make.proofs.tags.tag_each.Goals as goal
 
 pub loop-byte-preserved : goal.loop-byte-preserved
 loop-byte-preserved c = grind (arith, common_steps)
