@@ -1,5 +1,5 @@
 -- A base whose records are added to a maker, one after the other.
-use Rattle.std.proofs.Common.{◌≡◌, ℕ, ◌≤◌, ◌⊎◌, List, [], ◌∷◌, ◌++◌, refl, sym, ap, subst, ◌∙◌, arith, append_assoc, length, take, Option, Some, None, Bool, true, false, true≢false, ◌<◌}
+use Rattle.std.proofs.Common.{◌≡◌, ℕ, ◌≤◌, ◌⊎◌, List, [], ◌∷◌, ◌++◌, refl, sym, ap, subst, ◌∙◌, arith, append_assoc, length, take, Option, Some, None, Bool, true, false, true≢false, ◌<◌, Err}
 use Rattle.std.proofs.Math.Seq.{take-append_seam}
 use Rattle.std.proofs.lemmas.List.{append-nil, length-take}
 use Rattle.cdb_store.specs.Reads.{OnlyReads}
@@ -32,6 +32,7 @@ use Rattle.cdb_read.specs.declared.fault.ReadFault.TheVariants as read
 use Rattle.cdb_read.specs.declared.walking.records.Walk.{Walk}
 use Rattle.cdb_read.specs.declared.span.PlacedRecord.{PlacedRecord}
 use Rattle.cdb_show.specs.Views.Fault.{read_fault, make_fault, text_fault}
+use Rattle.cdb_show.specs.Views.Output.{OutputSays}
 use Rattle.cdb_tool.specs.Runs.Course.{TellFails}
 use Rattle.cdb_tool.specs.Runs.Base.{AddsNext, NotAdded}
 use Rattle.cdb_tool.specs.Runs.Make.{AddsBase, BaseFails, IsOfBase}
@@ -218,6 +219,14 @@ make_no_base make.Lookup is = is
 make_no_base make.TooBig is = is
 make_no_base make.NoMemory is = is
 make_no_base make.Writing is = is
+
+-- and says nothing of an output
+pub make_says : (A O : Type 0) (f : MakeFault) → OutputSays {A = A} O (Err (make_fault f))
+make_says A O make.Broken = tt
+make_says A O make.Lookup = tt
+make_says A O make.TooBig = tt
+make_says A O make.NoMemory = tt
+make_says A O make.Writing = tt
 
 -- ---- no database was opened
 

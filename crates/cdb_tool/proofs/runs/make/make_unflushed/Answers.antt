@@ -1,7 +1,7 @@
 use Rattle.std.proofs.lemmas.Grind.{common_steps}
 use Rattle.cdb_tool.proofs.RunEnds.{runs_not, runs_unbased, runs_stopped, runs_whole, runs_unfinished, hands_same, hands_some, unmade_memory, unfinished_store, unfinished_memory}
 use Rattle.std.proofs.Common.{sym, subst, ◌∙◌, Bool, arith}
-use Rattle.cdb_tool.proofs.BaseRecords.{make_no_base}
+use Rattle.cdb_tool.proofs.BaseRecords.{make_no_base, make_says}
 use Rattle.cdb_show.specs.Runs.Inputs.{input_form, AreAllInputs}
 use Rattle.cdb_show.specs.Views.Inputs.{inputs_left}
 use Rattle.cdb_tool.proofs.runs.make.make_unflushed.Goals as goal
@@ -113,3 +113,6 @@ returns-in-Err-finish-clause-memory g c =
     let put = c.in_default-put.ensures.step.fine in
     let late = unfinished_memory {s = g.S.Store} {l = g.L.Width} c.put_inputs-put.new.maker c.in-Err-finish.unfinished.maker c.in-Err-finish.unfinished.fault c.in-Err-finish.ensures.fails is in
     omega (arith, late, put, based, made))
+
+pub returns-in-Err-finish-clause-output : goal.returns-in-Err-finish-clause-output
+returns-in-Err-finish-clause-output g c = rw c.from-in-Err-finish.ensures (make_says Unit (g.E.Sink.failed c.put_inputs-put.new.errors) c.in-Err-finish.unfinished.fault)
