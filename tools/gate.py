@@ -5,8 +5,8 @@
 
 At the top of the repository. The checker's own gate, `rt ci`, proves each crate from nothing and runs its tests, on a
 copy of the files that git tracks, as they are now, without the wrong bodies. What it leaves is tested: the program is
-linked of its object, and the C library made over its libraries, in bin/tested. What it left out, since an earlier run
-on this machine proved the same, `make` builds. Then tools/wrong.py tries the wrong bodies that are not known as
+linked of its object, and the C library made over its libraries, in bin/tested. If an earlier run on this machine proved
+the program, there is no object, and its crate alone is proved again over these libraries. Then tools/wrong.py tries the wrong bodies that are not known as
 refused, over proofs that are made and kept for them alone, and at last tests/run.py runs.
 
 A line a minute says what is done and about how long the rest takes, on a terminal one line that is rewritten. In the
@@ -254,19 +254,26 @@ class Gate:
             self.show(it)
         self.failed += len(lacking) > 0
 
+    def over(self, copy, crate, target):
+        """Builds a crate over the libraries that `rt ci` left, and answers whether that succeeded."""
+        part = self.begin(f"{crate} again", [sys.executable, os.path.join(TOOLS, "over.py"), copy, crate, target])
+        self.wait(part)
+        return part.status == 0
+
     def take(self, copy):
-        """Takes what `rt ci` left for the tests: the folder of the program and of the C library, if it left both."""
+        """Takes what `rt ci` left for the tests: the folder of the program and of the C library, if both were made of it.
+        There is no object of a program that an earlier run proved: its crate alone is proved again."""
         take_tests(self.top, copy)
         shutil.rmtree(TESTED, ignore_errors=True)
         os.makedirs(TESTED)
         made = os.path.join(copy, "crates", "cdb")
+        built = os.path.join(made, KEPT, "cdb.o")
+        if not os.path.isfile(built) and not self.over(copy, "cdb", built):
+            return None
         if not links_statically(made, os.path.join(TESTED, "cdb")):
             return None
         shutil.copy(os.path.join(made, KEPT, "cdb"), os.path.join(TESTED, LOADED))
-        words = [sys.executable, os.path.join(TOOLS, "archive.py"), copy, "cdb_c", os.path.join(TESTED, ARCHIVE)]
-        archive = self.begin("C library", words)
-        self.wait(archive)
-        return TESTED if archive.status == 0 else None
+        return TESTED if self.over(copy, "cdb_c", os.path.join(TESTED, ARCHIVE)) else None
 
     def build(self):
         """Builds what the tests run on, and answers whether that succeeded."""

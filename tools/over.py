@@ -1,10 +1,11 @@
 #!/usr/bin/env python3
-"""Builds a static library over the libraries that `rt ci` left: it proves that crate alone, and none below it.
+"""Builds a static library, or the object of a program, over the libraries that `rt ci` left: it proves that crate alone,
+and none below it.
 
-    tools/archive.py COPY CRATE TARGET
+    tools/over.py COPY CRATE TARGET
 
-COPY is the repository in which `rt ci` ran. The checker's own `rt lib` takes nothing of what `rt ci` proved, so its
-compiler is called as that does, with the words that the toolchain's own module gives.
+COPY is the repository in which `rt ci` ran. The checker's own commands take nothing of what `rt ci` proved, so its
+compiler is called as they do, with the words that the toolchain's own module gives.
 """
 
 import importlib.util
