@@ -1,6 +1,7 @@
 use Rattle.std.proofs.lemmas.Grind.{common_steps}
 use Rattle.cdb_tool.proofs.RunEnds.{runs_not, runs_unbased, runs_stopped, runs_whole, runs_unfinished, hands_same, hands_some, unmade_memory, unfinished_store, unfinished_memory}
-use Rattle.std.proofs.Common.{sym, subst, ◌∙◌, Bool, arith}
+use Rattle.std.proofs.Common.{sym, subst, ◌∙◌, Bool, arith, Err}
+use Rattle.cdb_show.proofs.OutputFaults.{says_more}
 use Rattle.cdb_tool.proofs.BaseRecords.{make_no_base, make_says}
 use Rattle.cdb_show.specs.Runs.Inputs.{input_form, AreAllInputs}
 use Rattle.cdb_show.specs.Views.Inputs.{inputs_left}
@@ -116,3 +117,7 @@ returns-in-Err-finish-clause-memory g c =
 
 pub returns-in-Err-finish-clause-output : goal.returns-in-Err-finish-clause-output
 returns-in-Err-finish-clause-output g c = rw c.from-in-Err-finish.ensures (make_says Unit (g.E.Sink.failed c.put_inputs-put.new.errors) c.in-Err-finish.unfinished.fault)
+
+pub returns-in-Err-added-clause-output : goal.returns-in-Err-added-clause-output
+returns-in-Err-added-clause-output g c =
+    says_more (Err c.in-Err-added.fault) (λ never. absurd never) (rw c.in-Err-added.is at c.add_base-base.ensures.step.output)
