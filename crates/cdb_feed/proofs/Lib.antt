@@ -1,0 +1,5 @@
+pub mod FeedLemmas
+pub mod KnownReaders
+pub mod ByteLemmas
+pub mod PieceLemmas
+pub mod GivenInputs

@@ -1,0 +1,36 @@
+//! Laws of inputs. Each is the contract of a function whose parameters are what it ranges over.
+ghost use Rattle.std.specs.Prelude.{◌≡◌, ℕ, List, Option, length};
+ghost use Rattle.cdb_feed.specs.Given.{given_from};
+ghost use Rattle.cdb_feed.specs.Inputs.{AgreesWith, AreRead, AreUnread, FirstAgree, IsGiven};
+ghost use Rattle.cdb_feed.specs.Inputs.{IsUnread, Stop, reached};
+
+use crate::feeds::Feeds;
+use crate::input_reader::InputReader;
+use crate::parser::InputParser;
+
+/// What a run read of its inputs, one after the other, is what one function of their bytes says.
+///
+/// `_before` are the readers of the inputs before the run, of which nothing was read, and `_after`
+/// those that were reached, as they were handed back; `_old` and `_new` are the reader that several
+/// inputs share. For all bytes that agree with what is known of these readers at the end, the items
+/// of the inputs are those that the function gives: all of them, or those up to the first input
+/// with a fault, with that fault, or the first ones if the run stopped for another reason. So the
+/// bytes of an input that was not reached do not matter.
+pub fn inputs_are_given<P: InputParser, R: Feeds, S: Feeds>(
+    _parser: &P,
+    _before: &[InputReader<R>],
+    _after: &[InputReader<R>],
+    _old: &S,
+    _new: &S,
+)
+    ensures { AreUnread R.feed _before.now
+        → IsUnread (S.feed _old.now)
+        → (read : List (List P.Item)) → (stop : Stop P.Item P.Fault)
+        → AreRead R.feed S.feed (P.parsing _parser.now) read stop
+            _before.now _after.now _old.now _new.now
+        → (inputs : List (Option (List ℕ))) → (shared : List ℕ)
+        → length inputs ≡ length _before.now
+        → FirstAgree R.feed (P.parsing _parser.now).fits (reached read stop) inputs _after.now
+        → AgreesWith (P.parsing _parser.now).fits (S.feed _new.now) shared
+        → IsGiven 1 read stop (given_from (P.parsing _parser.now).parse 1 inputs shared) }
+{}
