@@ -1,9 +1,9 @@
 -- What a run read of its inputs is what the function of their bytes says, for any bytes that agree with what is known
 -- of their readers at the end.
-use Rattle.std.proofs.Common.{◌≡◌, ℕ, zero, suc, ◌+◌, List, [], ◌∷◌, ◌++◌, length, drop, refl, sym, ap, subst, ◌∙◌, arith, append-nil, Option, Some, None, Result, Ok, Err}
-use Rattle.cdb_feed.specs.Feed.{Feed, FromTo, Keeps}
-use Rattle.cdb_feed.specs.Given.{Given, NumberedFault, with_input, given_from}
-use Rattle.cdb_feed.specs.Inputs.{IsUnread, AreUnread, Stop, NoMore, HasFault, CutShort, NotBegun, TakesOne, StopsSo, AreRead, reached, AgreesWith, FirstAgree, IsGiven}
+use Rattle.std.proofs.Common.{◌≡◌, ℕ, suc, ◌+◌, List, [], ◌∷◌, ◌++◌, length, drop, refl, sym, ap, subst, ◌∙◌, arith, Option, Some, None, Result, Ok, Err}
+use Rattle.cdb_feed.specs.Feed.{Feed}
+use Rattle.cdb_feed.specs.Given.{Given, with_input, given_from}
+use Rattle.cdb_feed.specs.Inputs.{IsUnread, AreUnread, Stop, NoMore, HasFault, CutShort, NotBegun, TakesOne, StopsSo, AreRead, reached, FirstAgree, IsGiven}
 use Rattle.cdb_feed.specs.Parsing.{Parsed, Parsing}
 use Rattle.cdb_feed.specs.declared.input_reader.InputReader.{InputReader}
 use Rattle.cdb_feed.specs.declared.input_reader.InputReader.TheVariants.{Own, Shared}
@@ -122,6 +122,24 @@ pub record SharedHad {Item Fault : Type 0} (feed : Feed) (p : Parsing Item Fault
   pub given : p.fits text → IsGiven number read stop (given_from p.parse number inputs text)
 
 module _ {R S Item Fault : Type 0} (own : R → Feed) (shared : S → Feed) (p : Parsing Item Fault) (whole rest : List ℕ) where
+  taken_read : (number : ℕ) (items : List Item) (read : List (List Item)) (stop : Stop Item Fault) (old : S) (inputs : List (Option (List ℕ))) (later : List ℕ) (t : OneTaken own shared p.fits whole (p.reads items) old inputs later)
+      → (p.fits later → IsGiven (number + 1) read stop (given_from p.parse (number + 1) (drop 1 inputs) later)) → p.fits t.text → IsGiven number (items ∷ read) stop (given_from p.parse number inputs t.text)
+  taken_read number items read stop old inputs later t others fit =
+      let is = p.is_read items t.bytes t.rest (t.fit fit) t.holds in
+      let given = subst (λ x. IsGiven (number + 1) read stop (given_from p.parse (number + 1) (drop 1 inputs) x)) (sym t.at_rest) (others (t.fit_later fit is.1)) in
+      subst (IsGiven number (items ∷ read) stop) (sym (t.says p.parse number)) (given_read number (p.parse t.bytes) items t.rest _ read stop is.0 given)
+
+  taken_fault : (number : ℕ) (items : List Item) (fault : Fault) (old : S) (inputs : List (Option (List ℕ))) (later : List ℕ) (t : OneTaken own shared p.fits whole (λ text rest. p.fails items fault text) old inputs later)
+      → p.fits t.text → IsGiven number [] (HasFault items fault) (given_from p.parse number inputs t.text)
+  taken_fault number items fault old inputs later t fit =
+      subst (IsGiven number [] (HasFault items fault)) (sym (t.says p.parse number)) (given_fault number (p.parse t.bytes) items fault _ (p.is_fault items fault t.bytes (t.fit fit) t.holds))
+
+  taken_begun : (number : ℕ) (items : List Item) (old : S) (inputs : List (Option (List ℕ))) (later : List ℕ) (t : OneTaken own shared p.fits whole (λ text rest. p.begins items text) old inputs later)
+      → p.fits t.text → IsGiven number [] (CutShort items) (given_from p.parse number inputs t.text)
+  taken_begun number items old inputs later t fit =
+      let more = p.is_begun items t.bytes (t.fit fit) t.holds in
+      subst (IsGiven number [] (CutShort items)) (sym (t.says p.parse number)) (given_begun number (p.parse t.bytes) items more.0 _ more.1)
+
   none_left : {A B : Type 0} (xs : List A) (ys : List B) → length xs ≡ length ys → ys ≡ [] → xs ≡ []
   none_left [] ys long none = refl
   none_left (x ∷ xs) ys long none = absurd (let e : length ys ≡ 0 = ap length none in omega arith)
@@ -144,20 +162,10 @@ module _ {R S Item Fault : Type 0} (own : R → Feed) (shared : S → Feed) (p :
   }
   stopped number (HasFault items fault) (reader ∷ before) (left ∷ after) old new inputs known unread takes agree long m =
       let t = one_taken own shared p.fits whole (λ text rest. p.fails items fault text) 0 reader left before after old new inputs rest known unread takes agree m in
-      record {
-        text = t.text;
-        may = t.may;
-        given = λ fit. subst (IsGiven number [] (HasFault items fault)) (sym (t.says p.parse number))
-            (given_fault number (p.parse t.bytes) items fault _ (p.is_fault items fault t.bytes (t.fit fit) t.holds));
-      }
+      record { text = t.text; may = t.may; given = taken_fault number items fault old inputs rest t }
   stopped number (CutShort items) (reader ∷ before) (left ∷ after) old new inputs known unread takes agree long m =
       let t = one_taken own shared p.fits whole (λ text rest. p.begins items text) 0 reader left before after old new inputs rest known unread takes agree m in
-      record {
-        text = t.text;
-        may = t.may;
-        given = λ fit. let more = p.is_begun items t.bytes (t.fit fit) t.holds in
-            subst (IsGiven number [] (CutShort items)) (sym (t.says p.parse number)) (given_begun number (p.parse t.bytes) items more.0 _ more.1);
-      }
+      record { text = t.text; may = t.may; given = taken_begun number items old inputs rest t }
   stopped number (HasFault items fault) [] after old new inputs known unread takes agree long m = absurd takes
   stopped number (HasFault items fault) (reader ∷ before) [] old new inputs known unread takes agree long m = absurd takes
   stopped number (CutShort items) [] after old new inputs known unread takes agree long m = absurd takes
@@ -167,19 +175,10 @@ module _ {R S Item Fault : Type 0} (own : R → Feed) (shared : S → Feed) (p :
       → FirstAgree own p.fits (reached read stop) inputs after → length inputs ≡ length before → (shared new).may whole rest → SharedHad (shared old) p number read stop inputs whole
   are_given number [] stop before after old new inputs known unread stops agree long m = stopped number stop before after old new inputs known unread stops agree long m
   are_given number (items ∷ read) stop (reader ∷ before) (left ∷ after) old new inputs known unread (mid, takes, more) agree long m =
-      -- the inputs that follow are those of the list but the first, whichever text is left for it
-      let others = drop 1 inputs in
-      let next = are_given (number + 1) read stop before after mid new others (shared_known own shared p.fits whole (p.reads items) reader left old mid known takes) (unread_others own shared p.fits whole reader before unread)
+      let next = are_given (number + 1) read stop before after mid new (drop 1 inputs) (shared_known own shared p.fits whole (p.reads items) reader left old mid known takes) (unread_others own shared p.fits whole reader before unread)
       more (agree_others own shared p.fits whole (reached read stop) inputs left after agree) (others_long inputs reader before long) m in
       let t = one_taken own shared p.fits whole (p.reads items) (reached read stop) reader left before after old mid inputs next.text known unread takes agree next.may in
-      record {
-        text = t.text;
-        may = t.may;
-        given = λ fit.
-            let is = p.is_read items t.bytes t.rest (t.fit fit) t.holds in
-            let given = subst (λ x. IsGiven (number + 1) read stop (given_from p.parse (number + 1) others x)) (sym t.at_rest) (next.given (t.fit_later fit is.1)) in
-            subst (IsGiven number (items ∷ read) stop) (sym (t.says p.parse number)) (given_read number (p.parse t.bytes) items t.rest _ read stop is.0 given);
-      }
+      record { text = t.text; may = t.may; given = taken_read number items read stop old inputs next.text t next.given }
   are_given number (items ∷ read) stop [] after old new inputs known unread takes agree long m = absurd takes
   are_given number (items ∷ read) stop (reader ∷ before) [] old new inputs known unread takes agree long m = absurd takes
 

@@ -3,3 +3,4 @@ pub mod KnownReaders
 pub mod ByteLemmas
 pub mod PieceLemmas
 pub mod GivenInputs
+pub mod InputsInTurn

@@ -1,12 +1,15 @@
 //! Laws of inputs. Each is the contract of a function whose parameters are what it ranges over.
-ghost use Rattle.std.specs.Prelude.{◌≡◌, ℕ, List, Option, length};
+ghost use Rattle.std.specs.Prelude.{◌≡◌, ℕ, List, ◌++◌, Option, drop, length, take};
+ghost use Rattle.std.specs.Io.KnownBytes.{Consumes as KnownConsumes};
+ghost use Rattle.cdb_feed.specs.Feed.{Consumes, reader_feed};
 ghost use Rattle.cdb_feed.specs.Given.{given_from};
 ghost use Rattle.cdb_feed.specs.Inputs.{AgreesWith, AreRead, AreUnread, FirstAgree, IsGiven};
-ghost use Rattle.cdb_feed.specs.Inputs.{IsUnread, Stop, reached};
+ghost use Rattle.cdb_feed.specs.Inputs.{IsUnread, NotBegun, Stop, reached};
 
 use crate::feeds::Feeds;
 use crate::input_reader::InputReader;
 use crate::parser::InputParser;
+use std::io::Read;
 
 /// What a run read of its inputs, one after the other, is what one function of their bytes says.
 ///
@@ -27,10 +30,52 @@ pub fn inputs_are_given<P: InputParser, R: Feeds, S: Feeds>(
         → IsUnread (S.feed _old.now)
         → (read : List (List P.Item)) → (stop : Stop P.Item P.Fault)
         → AreRead R.feed S.feed (P.parsing _parser.now) read stop
-            _before.now _after.now _old.now _new.now
+        _before.now _after.now _old.now _new.now
         → (inputs : List (Option (List ℕ))) → (shared : List ℕ)
         → length inputs ≡ length _before.now
         → FirstAgree R.feed (P.parsing _parser.now).fits (reached read stop) inputs _after.now
         → AgreesWith (P.parsing _parser.now).fits (S.feed _new.now) shared
         → IsGiven 1 read stop (given_from (P.parsing _parser.now).parse 1 inputs shared) }
+{}
+
+/// How a loop over the inputs of a run says what it read.
+///
+/// What was read of the first inputs, and then of those that follow, was read of all (`on`). A
+/// reader that was not reached may be any reader, so the next input may be read from it (`same`).
+pub fn inputs_are_read_in_turn<P: InputParser, R: Feeds, S: Feeds>(
+    _parser: &P,
+    _before: &[InputReader<R>],
+    _after: &[InputReader<R>],
+    _other: &[InputReader<R>],
+    _old: &S,
+    _between: &S,
+    _new: &S,
+)
+    ensures on { (read : List (List P.Item)) → (more : List (List P.Item))
+        → (stop : Stop P.Item P.Fault)
+        → AreRead R.feed S.feed (P.parsing _parser.now) read NotBegun
+        _before.now _after.now _old.now _between.now
+        → AreRead R.feed S.feed (P.parsing _parser.now) more stop
+        (drop (length read) _before.now) (drop (length read) _after.now) _between.now _new.now
+        → AreRead R.feed S.feed (P.parsing _parser.now) (read ++ more) stop
+        _before.now _after.now _old.now _new.now }
+    ensures same { (read : List (List P.Item)) → (stop : Stop P.Item P.Fault)
+        → take (reached read stop) _after.now ≡ take (reached read stop) _other.now
+        → AreRead R.feed S.feed (P.parsing _parser.now) read stop
+        _before.now _after.now _old.now _new.now
+        → AreRead R.feed S.feed (P.parsing _parser.now) read stop
+        _before.now _other.now _old.now _new.now }
+{}
+
+/// Of a reader of which the standard library says which bytes are left, its own words and those of
+/// a feed say the same.
+pub fn known_reader_is_fed<R: Read>(_before: &R, _after: &R)
+    ensures takes { (bytes : List ℕ)
+        → KnownConsumes (R.remaining _before.now) (R.remaining _after.now) bytes
+        → Consumes (reader_feed (R.remaining _before.now))
+        (reader_feed (R.remaining _after.now)) bytes }
+    ensures back { (bytes : List ℕ)
+        → Consumes (reader_feed (R.remaining _before.now))
+        (reader_feed (R.remaining _after.now)) bytes
+        → KnownConsumes (R.remaining _before.now) (R.remaining _after.now) bytes }
 {}

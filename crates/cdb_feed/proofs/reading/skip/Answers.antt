@@ -1,4 +1,4 @@
-use Rattle.std.proofs.Common.{◌≡◌, ◌++◌, length, take, arith, length-append, length-drop, ◌∙◌, rules}
+use Rattle.std.proofs.Common.{◌≡◌, ◌++◌, length, take, arith, length-append, length-drop, ◌∙◌}
 use Rattle.std.proofs.lemmas.List.{length-take-le}
 use Rattle.cdb_feed.proofs.FeedLemmas.{consumes_then}
 use Rattle.std.proofs.lemmas.Grind.{common_steps}
