@@ -1,4 +1,5 @@
 pub mod FeedLemmas
+mod FeedExamples
 pub mod KnownReaders
 pub mod ByteLemmas
 pub mod PieceLemmas
