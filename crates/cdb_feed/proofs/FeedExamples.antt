@@ -1,5 +1,5 @@
 -- Worked by hand: which bytes agree with what a reader gave, and what some inputs say.
-use Rattle.std.proofs.Common.{◌≡◌, ℕ, List, [], ◌∷◌, ◌++◌, refl, Option, Some, None, Ok, Err, true, false, ◌==◌, if◌then◌else◌, arith}
+use Rattle.std.proofs.Common.{◌≡◌, ℕ, List, [], ◌∷◌, refl, Some, None, Ok, Err, true, false, ◌==◌, if◌then◌else◌}
 use Rattle.cdb_feed.specs.Continues.{Continues}
 use Rattle.cdb_feed.specs.Given.{given_from}
 use Rattle.cdb_feed.specs.Parsing.{Parsed}

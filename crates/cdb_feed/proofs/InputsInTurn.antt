@@ -1,5 +1,5 @@
 -- The inputs that a run read, one part of them after another.
-use Rattle.std.proofs.Common.{◌≡◌, ℕ, List, [], ◌∷◌, ◌++◌, length, take, drop, subst}
+use Rattle.std.proofs.Common.{◌≡◌, ℕ, List, [], ◌∷◌, ◌++◌, length, take, drop, ap, refl, subst, suc, sym}
 use Rattle.cdb_feed.specs.Feed.{Feed, FromTo, Keeps}
 use Rattle.cdb_feed.specs.Inputs.{Stop, NoMore, HasFault, CutShort, NotBegun, TakesOne, StopsSo, AreRead, reached}
 use Rattle.cdb_feed.specs.Parsing.{Parsing}
@@ -41,7 +41,7 @@ module _ {R S Item Fault : Type 0} (own : R → Feed) (shared : S → Feed) (p :
   kept_read (items ∷ more) stop (reader ∷ before) [] old mid new kept are = absurd are
 
   -- the first inputs were read, and then those that follow
-  pub read_on : (read more : List (List Item)) (stop : Stop Item Fault) (before after : List (InputReader R)) (old mid new : S) → AreRead own shared p read NotBegun before after old mid
+  read_on : (read more : List (List Item)) (stop : Stop Item Fault) (before after : List (InputReader R)) (old mid new : S) → AreRead own shared p read NotBegun before after old mid
       → AreRead own shared p more stop (drop (length read) before) (drop (length read) after) mid new → AreRead own shared p (read ++ more) stop before after old new
   read_on [] more stop before after old mid new first others = kept_read more stop before after old mid new first others
   read_on (items ∷ read) more stop (reader ∷ before) (left ∷ after) old mid new (next, takes, first) others = (next, takes, read_on read more stop before after next mid new first others)
@@ -63,7 +63,7 @@ module _ {R S Item Fault : Type 0} (own : R → Feed) (shared : S → Feed) (p :
   same_stops (CutShort items) (reader ∷ before) [] other old new e takes = absurd takes
   same_stops (CutShort items) (reader ∷ before) (left ∷ after) [] old new e takes = absurd (let a : ◌≡◌ {A = List (InputReader R)} (left ∷ []) [] = e in cc)
 
-  pub same_read : (read : List (List Item)) (stop : Stop Item Fault) (before after other : List (InputReader R)) (old new : S) → take (reached read stop) after ≡ take (reached read stop) other → AreRead own shared p read stop before after old new → AreRead own shared p read stop before other old new
+  same_read : (read : List (List Item)) (stop : Stop Item Fault) (before after other : List (InputReader R)) (old new : S) → take (reached read stop) after ≡ take (reached read stop) other → AreRead own shared p read stop before after old new → AreRead own shared p read stop before other old new
   same_read [] stop before after other old new e stops = same_stops stop before after other old new e stops
   same_read (items ∷ read) stop (reader ∷ before) (left ∷ after) (it ∷ other) old new e (mid, takes, others) =
       let same = heads_same left it (take (reached read stop) after) (take (reached read stop) other) e in
@@ -71,3 +71,14 @@ module _ {R S Item Fault : Type 0} (own : R → Feed) (shared : S → Feed) (p :
   same_read (items ∷ read) stop [] after other old new e are = absurd are
   same_read (items ∷ read) stop (reader ∷ before) [] other old new e are = absurd are
   same_read (items ∷ read) stop (reader ∷ before) (left ∷ after) [] old new e are = absurd (let a : ◌≡◌ {A = List (InputReader R)} (left ∷ take (reached read stop) after) [] = e in cc)
+
+  begun_none : (read : List (List Item)) → reached {Fault = Fault} read NotBegun ≡ length read
+  begun_none [] = refl
+  begun_none (items ∷ read) = ap suc (begun_none read)
+
+  -- the first inputs were read, and then those that follow, whose readers may have changed before
+  pub read_then : (read more : List (List Item)) (stop : Stop Item Fault) (before between after : List (InputReader R)) (old mid new : S) → AreRead own shared p read NotBegun before between old mid
+      → take (length read) between ≡ take (length read) after → AreRead own shared p more stop (drop (length read) before) (drop (length read) after) mid new → AreRead own shared p (read ++ more) stop before after old new
+  read_then read more stop before between after old mid new first same others =
+      let same' = subst (λ n. take n between ≡ take n after) (sym (begun_none read)) same in
+      read_on read more stop before after old mid new (same_read read NotBegun before between after old mid same' first) others

@@ -40,31 +40,26 @@ pub fn inputs_are_given<P: InputParser, R: Feeds, S: Feeds>(
 
 /// How a loop over the inputs of a run says what it read.
 ///
-/// What was read of the first inputs, and then of those that follow, was read of all (`on`). A
-/// reader that was not reached may be any reader, so the next input may be read from it (`same`).
+/// What was read of the first inputs, and then of those that follow, was read of all. Meanwhile the
+/// readers of those that follow may have changed, from `_between` to `_after`: none was reached.
 pub fn inputs_are_read_in_turn<P: InputParser, R: Feeds, S: Feeds>(
     _parser: &P,
     _before: &[InputReader<R>],
+    _between: &[InputReader<R>],
     _after: &[InputReader<R>],
-    _other: &[InputReader<R>],
     _old: &S,
-    _between: &S,
+    _mid: &S,
     _new: &S,
 )
-    ensures on { (read : List (List P.Item)) → (more : List (List P.Item))
+    ensures { (read : List (List P.Item)) → (more : List (List P.Item))
         → (stop : Stop P.Item P.Fault)
         → AreRead R.feed S.feed (P.parsing _parser.now) read NotBegun
-        _before.now _after.now _old.now _between.now
+        _before.now _between.now _old.now _mid.now
+        → take (length read) _between.now ≡ take (length read) _after.now
         → AreRead R.feed S.feed (P.parsing _parser.now) more stop
-        (drop (length read) _before.now) (drop (length read) _after.now) _between.now _new.now
+        (drop (length read) _before.now) (drop (length read) _after.now) _mid.now _new.now
         → AreRead R.feed S.feed (P.parsing _parser.now) (read ++ more) stop
         _before.now _after.now _old.now _new.now }
-    ensures same { (read : List (List P.Item)) → (stop : Stop P.Item P.Fault)
-        → take (reached read stop) _after.now ≡ take (reached read stop) _other.now
-        → AreRead R.feed S.feed (P.parsing _parser.now) read stop
-        _before.now _after.now _old.now _new.now
-        → AreRead R.feed S.feed (P.parsing _parser.now) read stop
-        _before.now _other.now _old.now _new.now }
 {}
 
 /// Of a reader of which the standard library says which bytes are left, its own words and those of
