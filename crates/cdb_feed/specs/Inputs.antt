@@ -80,6 +80,21 @@ FirstAgree own fits (suc n) (None ∷ inputs) (Shared ∷ readers) =
     FirstAgree own fits n inputs readers
 FirstAgree own fits (suc n) _ _ = ⊥
 
+-- the standard library says that a reader has these bytes left, which fit
+pub record HasBytes (fits : List ℕ → Type 0) (remaining : Option (List ℕ)) (bytes : List ℕ) : Type 0 where
+  pub fit : fits bytes
+  pub same : remaining ≡ Some bytes
+
+-- the own readers of the inputs have these
+abbrev pub HaveBytes : {R : Type 0} → (remaining : R → Option (List ℕ)) → (fits : List ℕ → Type 0)
+    → List (Option (List ℕ)) → List (InputReader R) → Type 0
+HaveBytes remaining fits [] [] = ⊤
+HaveBytes remaining fits (Some bytes ∷ inputs) (Own reader ∷ readers) =
+    HasBytes fits (remaining reader) bytes × HaveBytes remaining fits inputs readers
+HaveBytes remaining fits (None ∷ inputs) (Shared ∷ readers) =
+    HaveBytes remaining fits inputs readers
+HaveBytes remaining fits _ _ = ⊥
+
 -- what was read is what the inputs say, as far as it was read
 abbrev pub IsGiven : {Item Fault : Type 0} → (number : ℕ) → (read : List (List Item))
     → Stop Item Fault → Given Item Fault → Type 0

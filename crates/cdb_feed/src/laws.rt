@@ -3,8 +3,8 @@ ghost use Rattle.std.specs.Prelude.{◌≡◌, ℕ, List, ◌++◌, Option, drop
 ghost use Rattle.std.specs.Io.KnownBytes.{Consumes as KnownConsumes};
 ghost use Rattle.cdb_feed.specs.Feed.{Consumes, reader_feed};
 ghost use Rattle.cdb_feed.specs.Given.{given_from};
-ghost use Rattle.cdb_feed.specs.Inputs.{AgreesWith, AreRead, AreUnread, FirstAgree, IsGiven};
-ghost use Rattle.cdb_feed.specs.Inputs.{IsUnread, NotBegun, Stop, reached};
+ghost use Rattle.cdb_feed.specs.Inputs.{AgreesWith, AreRead, AreUnread, FirstAgree, HasBytes};
+ghost use Rattle.cdb_feed.specs.Inputs.{HaveBytes, IsGiven, IsUnread, NotBegun, Stop, reached};
 
 use crate::feeds::Feeds;
 use crate::input_reader::InputReader;
@@ -35,6 +35,24 @@ pub fn inputs_are_given<P: InputParser, R: Feeds, S: Feeds>(
         → length inputs ≡ length _before.now
         → FirstAgree R.feed (P.parsing _parser.now).fits (reached read stop) inputs _after.now
         → AgreesWith (P.parsing _parser.now).fits (S.feed _new.now) shared
+        → IsGiven 1 read stop (given_from (P.parsing _parser.now).parse 1 inputs shared) }
+{}
+
+/// If the standard library knows the bytes of all readers before the run, the items are those that
+/// the function gives of these bytes.
+pub fn known_inputs_are_given<P: InputParser, R: Read, S: Read>(
+    _parser: &P,
+    _before: &[InputReader<R>],
+    _after: &[InputReader<R>],
+    _old: &S,
+    _new: &S,
+)
+    ensures { (read : List (List P.Item)) → (stop : Stop P.Item P.Fault)
+        → AreRead (λ reader. reader_feed (R.remaining reader)) (λ reader. reader_feed (S.remaining reader))
+        (P.parsing _parser.now) read stop _before.now _after.now _old.now _new.now
+        → (inputs : List (Option (List ℕ))) → (shared : List ℕ)
+        → HaveBytes R.remaining (P.parsing _parser.now).fits inputs _before.now
+        → HasBytes (P.parsing _parser.now).fits (S.remaining _old.now) shared
         → IsGiven 1 read stop (given_from (P.parsing _parser.now).parse 1 inputs shared) }
 {}
 
