@@ -16,6 +16,10 @@ pub record Consumes (old new : Feed) (bytes : List ℕ) : Type 0 where
 abbrev pub Keeps : (old new : Feed) → Type 0
 Keeps old new = Consumes old new []
 
+-- What agreed before still agrees, if it goes on with these bytes, and has no others if the reader ended.
+pub record StillAgrees (old new : Feed) (bytes : List ℕ) (Ended : Type 0) : Type 0 where
+  pub on : (whole rest : List ℕ) → old.may whole (bytes ++ rest) → (Ended → rest ≡ []) → new.may whole rest
+
 -- no bytes can be left
 abbrev pub IsAtEnd : Feed → Type 0
 IsAtEnd feed = feed.known → (whole rest : List ℕ) → feed.may whole rest → rest ≡ []

@@ -48,7 +48,8 @@ pub fn known_inputs_are_given<P: InputParser, R: Read, S: Read>(
     _new: &S,
 )
     ensures { (read : List (List P.Item)) → (stop : Stop P.Item P.Fault)
-        → AreRead (λ reader. reader_feed (R.remaining reader)) (λ reader. reader_feed (S.remaining reader))
+        → AreRead (λ reader. reader_feed (R.remaining reader))
+        (λ reader. reader_feed (S.remaining reader))
         (P.parsing _parser.now) read stop _before.now _after.now _old.now _new.now
         → (inputs : List (Option (List ℕ))) → (shared : List ℕ)
         → HaveBytes R.remaining (P.parsing _parser.now).fits inputs _before.now

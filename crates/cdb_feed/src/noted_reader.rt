@@ -1,5 +1,6 @@
 // A reader that notes what it gave.
-ghost use Rattle.std.specs.Prelude.{◌≡◌, List, ℕ, []};
+ghost use Rattle.std.specs.Prelude.{◌≡◌, ◌<◌, ◌≤◌, List, ℕ, [], length, take, IfOk, OnErr};
+ghost use Rattle.cdb_feed.specs.Feed.{Consumes, IsAtEnd, Keeps, StillAgrees};
 ghost use Rattle.cdb_feed.specs.Inputs.{IsUnread};
 ghost use Rattle.cdb_feed.specs.Noted.{noted_feed, came_of};
 
@@ -41,7 +42,20 @@ impl<R: Read> Feeds for NotedReader<R> {
 
     ghost one_rest = { λ r whole first second one other. same_continued one other };
 
-    fn read_some(&mut self, into: &mut [u8]) -> io::Result<usize> {
+    /// Notes no more than it answers: all bytes that agreed before and go on with those that came, or
+    /// are at their end if it is, still agree.
+    fn read_some(&mut self, into: &mut [u8]) -> io::Result<usize>
+        ensures bound { IfOk result (λ n. n ≤ length into.new) }
+        ensures bytes { IfOk result (λ n.
+            Consumes (noted_feed self.old) (noted_feed self.new) (take n into.new)) }
+        ensures end { IfOk result (λ n.
+            n ≡ 0 → 0 < length into.old → IsAtEnd (noted_feed self.new)) }
+        ensures kept { OnErr result (Keeps (noted_feed self.old) (noted_feed self.new)) }
+        ensures agrees { IfOk result (λ n. StillAgrees (noted_feed self.old) (noted_feed self.new)
+            (take n into.new) ((n ≡ 0) × (0 < length into.old))) }
+        ensures agrees_err { OnErr result
+            (StillAgrees (noted_feed self.old) (noted_feed self.new) [] ⊥) }
+    {
         if self.ended {
             return Ok(0);
         }
