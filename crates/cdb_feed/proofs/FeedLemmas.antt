@@ -40,6 +40,13 @@ read_short old mid new n xs a b e few =
 pub loses_these : (old new : Feed) (n : ℕ) (xs : List ℕ) → Consumes old new xs → length xs ≤ n → LosesAtMost n old new
 loses_these old new n xs a few = record { lost = xs; taken = a; few = few }
 
+-- a relation that says less
+pub from_less : (old new : Feed) (P Q : List ℕ → List ℕ → Type 0) → ((text rest : List ℕ) → P text rest → Q text rest) → FromTo old new P → FromTo old new Q
+from_less old new P Q less f = record {
+  known = f.known;
+  back = λ k whole rest m. let t = f.back k whole rest m in (t.0, t.1, less t.0 rest t.2);
+}
+
 -- one relation after another
 pub from_then : (a b c : Feed) (P Q : List ℕ → List ℕ → Type 0) → FromTo a b P → FromTo b c Q
     → FromTo a c (λ text rest. (mid : List ℕ) × P text mid × Q mid rest)

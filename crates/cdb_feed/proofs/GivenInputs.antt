@@ -92,8 +92,8 @@ module _ {R S : Type 0} (own : R → Feed) (shared : S → Feed) (fits : List �
       let t = f.back had.0.known found.whole found.rest found.may in
       record {
         bytes = input;
-        rest = found.rest;
-        holds = subst (λ x. P x found.rest) (found.only t.0 t.1) t.2;
+        rest = t.2.0;
+        holds = subst (λ x. P x t.2.0) (found.only t.0 t.1) t.2.1;
         text = later;
         may = kept.back known whole later m;
         fit = λ _. had.0.fit;

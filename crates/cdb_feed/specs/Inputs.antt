@@ -24,11 +24,13 @@ pub data Stop (Item Fault : Type 0) : Type 0 where
   CutShort : List Item → Stop Item Fault
   NotBegun : Stop Item Fault
 
--- an input was read from its reader, which was left so: P holds of what the reader had and what it has left
+-- an input was read from its reader, which was left so: P holds of what the reader had and what follows the text. A
+-- reader that others share has just that left; from one of its own more may have been taken, which is let go
 abbrev pub TakesOne : {R S : Type 0} → (own : R → Feed) → (shared : S → Feed)
     → (P : (text rest : List ℕ) → Type 0) → (before after : InputReader R) → (old new : S) → Type 0
 TakesOne own shared P (Own reader) (Own left) old new =
-    FromTo (own reader) (own left) P × Keeps (shared old) (shared new)
+    FromTo (own reader) (own left) (λ text left. (rest : List ℕ) × P text rest)
+    × Keeps (shared old) (shared new)
 TakesOne own shared P Shared Shared old new = FromTo (shared old) (shared new) P
 TakesOne own shared P _ _ old new = ⊥
 
