@@ -1,6 +1,7 @@
 // The reader of an input.
 
 /// The reader of an input of a run.
+#[derive(Drop)]
 pub enum InputReader<R> {
     /// The input has a reader of its own.
     Own(R),
