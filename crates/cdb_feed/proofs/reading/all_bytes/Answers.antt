@@ -1,0 +1,46 @@
+use Rattle.std.proofs.Common.{◌≡◌, ◌+◌, ◌-◌, length, take, arith, subst, sym, ◌∙◌, length-drop}
+use Rattle.std.proofs.lemmas.List.{length-take-le}
+use Rattle.cdb_feed.specs.Feed.{Consumes}
+use borrow.Rule.Slice.PartMut.{put_mid, same_len_mid}
+use Rattle.cdb_feed.specs.Reading.{AreBytes}
+use Rattle.cdb_feed.proofs.PieceLemmas.{take_read, read_more}
+use Rattle.std.proofs.Common.{rules}
+use Rattle.cdb_feed.proofs.FeedLemmas.{loses_these, consumes_kept, consumes_no_more}
+use Rattle.std.proofs.lemmas.Grind.{common_steps}
+use Rattle.cdb_feed.proofs.reading.all_bytes.Goals as goal
+
+pub loop-done-preserved : goal.loop-done-preserved
+loop-done-preserved g c =
+    let done = c.loop-done.done in
+    let n = c.in_ok-n.n in
+    let xs = c.loop-done.into in
+    let ys = c.some_bytes.new.into in
+    let inv = c.loop-done.invariant in
+    let into = put_mid done (length xs - done) xs ys in
+    let front : take (done + n) into ≡ _ = take_read done (length xs - done) n xs ys inv.within c.in_ok-n.ensures.bound in
+    let more = read_more _ _ _ (take done xs) ys done n inv.read inv.are (length-take-le done xs inv.within) c.in_ok-n.ensures.bytes c.in_ok-n.ensures.are c.in_ok-n.ensures.bound in
+    let room : length ys ≡ length xs - done = c.some_bytes.auto.into ∙ length-take-le (length xs - done) _ (omega (arith, length-drop done xs)) in
+    record {
+      read = subst (Consumes _ _) (sym front) more.read;
+      are = subst AreBytes (sym front) more.are;
+      within = omega (arith, same_len_mid done (length xs - done) xs ys c.some_bytes.auto.into, inv.within, room, c.in_ok-n.ensures.bound);
+    }
+
+pub returns-in_err-n-clause-loses : goal.returns-in_err-n-clause-loses
+returns-in_err-n-clause-loses g c =
+    loses_these _ _ _ _ (consumes_kept _ _ _ _ c.loop-done.invariant.read c.in_err-n.ensures.kept) (grind (arith, common_steps))
+
+pub returns-clause-are : goal.returns-clause-are
+returns-clause-are g c = grind (arith, common_steps)
+
+pub returns-then-n-eq0-clause-loses : goal.returns-then-n-eq0-clause-loses
+returns-then-n-eq0-clause-loses g c =
+    let n = c.in_ok-n.n in
+    let none : n ≡ 0 = search rules in
+    loses_these _ _ _ _ (consumes_no_more _ _ _ _ _ _ none c.loop-done.invariant.read c.in_ok-n.ensures.bytes) (grind (arith, common_steps))
+
+pub returns-clause-bytes : goal.returns-clause-bytes
+returns-clause-bytes g c = grind (arith, common_steps)
+
+pub loop-done-smaller : goal.loop-done-smaller
+loop-done-smaller g c = omega arith

@@ -1,0 +1,16 @@
+use Rattle.std.proofs.Common.{◌-◌, ◌≤◌, length, take}
+use Rattle.cdb_feed.specs.Feed.{Consumes}
+use Rattle.cdb_feed.specs.Reading.{AreBytes}
+use Rattle.cdb_feed.proofs.reading.all_bytes.Given as goal
+
+-- the bytes so far
+abbrev pub invariant-loop-done : goal.invariant-loop-done
+invariant-loop-done g l =
+    record {
+      read : Consumes (g.R.Feeds.feed l.fn.reader) (g.R.Feeds.feed l.reader) (take l.done l.into);
+      are : AreBytes (take l.done l.into);
+      within : l.done ≤ length l.into;
+    }
+
+abbrev pub decreases-loop-done : goal.decreases-loop-done
+decreases-loop-done g l = length l.initial.into - l.done

@@ -1,0 +1,8 @@
+pub mod Feed
+pub mod Continues
+pub mod Rests
+pub mod Noted
+pub mod Reading
+pub mod Parsing
+pub mod Given
+pub mod Inputs
