@@ -8,10 +8,10 @@ row runs a command on some records and on 8 times as many. The processor time of
 times that of the first: 8 times if it grows with the input, 64 times with the square.
 
 No time is compared with a fixed one, or with that of another program. The number of records is doubled until a
-run takes long enough to be measured. The first time is the mean of several runs. If the second is past the
-bound, the run is tried again, and the least time counts.
+run takes long enough to be measured, so its figure differs from machine to machine. The first time is the mean
+of several runs. If the second is past the bound, the run is tried again, and the least time counts.
 
-Three rows are left out, since their time does grow with the square:
+Left out are commands whose time does grow with the square:
 
 - `-D` and `-q -i` of keys of one hash: a look-up goes through the file's table, where they are in one run of slots;
 - `-u`, `-w`, `-r` and removals over a base whose first record is longer than 64 KiB and whose keys have one hash:
@@ -31,10 +31,12 @@ import tempfile
 
 TIMES = 8
 BOUND = 24
-# A run is measured if it takes so many seconds, and the runs of the fewer records take so many together.
+# The fewer records are so many that a run takes so many seconds, or else the most.
 LEAST = 0.006
+FEWEST = 1_000
+MOST = 128_000
+# So many seconds the runs of them take together.
 TOGETHER = 0.06
-FEWEST = 1000
 # So often the run of more records is tried.
 TRIES = 3
 # No other run comes near to so many seconds, after which it is ended, so that a slow program ends the part too.
@@ -287,7 +289,7 @@ def fewer(here, place):
     while True:
         words = place(here, count)
         times = [here.time_of(words) for _ in range(2)]
-        if min(times) >= LEAST:
+        if min(times) >= LEAST or count >= MOST:
             break
         count *= 2
     while sum(times) < TOGETHER:
