@@ -104,7 +104,10 @@ def before_long(count):
 def spelled(records):
     """Records as lines of a text. Those without a value are removals."""
     for key, value in records:
-        yield b"-%d:%s\n" % (len(key), key) if value is None else b"+%d,%d:%s->%s\n" % (len(key), len(value), key, value)
+        if value is None:
+            yield b"-%d:%s\n" % (len(key), key)
+        else:
+            yield b"+%d,%d:%s->%s\n" % (len(key), len(value), key, value)
 
 
 def removals(records):
@@ -316,8 +319,11 @@ def grows(here, name, place):
         print(f"{name}: {error}, failed", flush=True)
         return False
     holds = second <= BOUND * first
-    said = f"{1000 * second:.0f} ms, {second / first:.1f} times" if math.isfinite(second) else f"more than {BOUND} times"
-    print(f"{name}: {count} records {1000 * first:.1f} ms, {TIMES} times as many {said}{'' if holds else ', failed'}", flush=True)
+    said = f"more than {BOUND} times"
+    if math.isfinite(second):
+        said = f"{1000 * second:.0f} ms, {second / first:.1f} times"
+    few = f"{name}: {count} records {1000 * first:.1f} ms"
+    print(f"{few}, {TIMES} times as many {said}{'' if holds else ', failed'}", flush=True)
     return holds
 
 
