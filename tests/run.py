@@ -89,6 +89,7 @@ def parts_of(program, is_gate):
         Part("tests/cli/amends.py", (program,)),
         Part("tests/cli/differences.py", (program,)),
         Part("tests/cli/lookups.py", (program,)),
+        Part("tests/growth/run.py", (program,)),
         Part("tests/build/run.py"),
         Part("tests/build/gate.py"),
         Part("tests/package/version.py"),
