@@ -123,14 +123,15 @@ const LAST: usize = 16;
 /// Whether a cut is seen by the heads, from the first byte that lacks on. The last table of the old file
 /// is that of `b`, of the new one that of `c`; before both is that of `a`.
 fn cuts_are_seen<L: Width>(alloc: Global, last: usize) -> Result<bool, Fault> {
+    let more = last.saturating_add(1);
     Ok(
         refused_cut::<L>(alloc, 0, 0)? == None
             && refused_cut::<L>(alloc, 1, 0)? == Some(Fault::Old(ReadFault::Table(199)))
             && refused_cut::<L>(alloc, 0, 1)? == Some(Fault::New(ReadFault::Table(198)))
             && refused_cut::<L>(alloc, 1, 1)? == Some(Fault::Old(ReadFault::Table(199)))
             && refused_cut::<L>(alloc, last, 0)? == Some(Fault::Old(ReadFault::Table(199)))
-            && refused_cut::<L>(alloc, last + 1, 0)? == Some(Fault::Old(ReadFault::Table(196)))
-            && refused_cut::<L>(alloc, 0, last + 1)? == Some(Fault::New(ReadFault::Table(196))),
+            && refused_cut::<L>(alloc, more, 0)? == Some(Fault::Old(ReadFault::Table(196)))
+            && refused_cut::<L>(alloc, 0, more)? == Some(Fault::New(ReadFault::Table(196))),
     )
 }
 
