@@ -1,8 +1,7 @@
 -- What was taken, piece after piece, and relations one after another.
-use Rattle.std.proofs.Common.{◌≡◌, ◌<◌, ◌≤◌, ℕ, List, [], ◌++◌, length, take, subst, sym, append_assoc}
-use Rattle.std.proofs.lemmas.List.{append-nil}
-use Rattle.cdb_feed.specs.Feed.{Feed, Consumes, Keeps, IsAtEnd, FromTo}
-use Rattle.cdb_feed.specs.Reading.{LosesAtMost, ReadsShort}
+use Rattle.std.proofs.Common.{◌≡◌, ◌≤◌, ℕ, List, [], ◌++◌, length, take, subst, sym, append_assoc}
+use Rattle.cdb_feed.specs.Feed.{Feed, Consumes, Keeps, FromTo}
+use Rattle.cdb_feed.specs.Reading.{LosesAtMost}
 
 pub consumes_then : (old mid new : Feed) (xs ys : List ℕ) → Consumes old mid xs → Consumes mid new ys → Consumes old new (xs ++ ys)
 consumes_then old mid new xs ys a b = record {
@@ -22,30 +21,8 @@ consumes_no_more old mid new xs ys n none a b = consumes_kept old mid new xs a (
 pub nothing_taken : (feed : Feed) → Consumes feed feed []
 nothing_taken feed = record { known = λ k. k; back = λ k whole rest m. m }
 
--- a reader was at its end after fewer than n bytes
-pub read_short : (old mid new : Feed) (n : ℕ) (xs : List ℕ) → Consumes old mid xs → Keeps mid new → IsAtEnd new → length xs < n → ReadsShort n old new
-read_short old mid new n xs a b e few =
-    let c = consumes_kept old mid new xs a b in
-    record {
-      few = record {
-        known = c.known;
-        back = λ k whole rest m.
-            let none : rest ≡ [] = e (c.known k) whole rest m in
-            let long : length (xs ++ rest) < n = subst (λ r. length (xs ++ r) < n) (sym none) (subst (λ t. length t < n) (sym (append-nil xs)) few) in
-            (xs ++ rest, c.back k whole rest m, long);
-      };
-      end = e;
-    }
-
 pub loses_these : (old new : Feed) (n : ℕ) (xs : List ℕ) → Consumes old new xs → length xs ≤ n → LosesAtMost n old new
 loses_these old new n xs a few = record { lost = xs; taken = a; few = few }
-
--- a relation that says less
-pub from_less : (old new : Feed) (P Q : List ℕ → List ℕ → Type 0) → ((text rest : List ℕ) → P text rest → Q text rest) → FromTo old new P → FromTo old new Q
-from_less old new P Q less f = record {
-  known = f.known;
-  back = λ k whole rest m. let t = f.back k whole rest m in (t.0, t.1, less t.0 rest t.2);
-}
 
 -- one relation after another
 pub from_then : (a b c : Feed) (P Q : List ℕ → List ℕ → Type 0) → FromTo a b P → FromTo b c Q
@@ -68,8 +45,3 @@ from_both a b P Q one p q = record {
       let t = q.back k whole rest m in
       (s.0, s.1, (s.2, subst (λ x. Q x rest) (one whole t.0 s.0 t.1 s.1) t.2));
 }
-
--- what holds of these bytes and any rest
-pub taken_from : (old new : Feed) (xs : List ℕ) (P : List ℕ → List ℕ → Type 0) → ((rest : List ℕ) → P (xs ++ rest) rest)
-    → Consumes old new xs → FromTo old new P
-taken_from old new xs P holds c = record { known = c.known; back = λ k whole rest m. (xs ++ rest, c.back k whole rest m, holds rest) }
