@@ -32,7 +32,7 @@ def read(path):
 def note(root, path, *names):
     """Adds files to a list."""
     held = read(root + path) | {name: sum_of(root + name) for name in names}
-    os.makedirs(os.path.dirname(root + path), mode=0o755, exist_ok=True)
+    os.makedirs(os.path.dirname(root + path), exist_ok=True)
     with open(root + path, "w", encoding="utf-8") as to:
         to.writelines(f"{told}  {name}\n" for name, told in sorted(held.items()))
     os.chmod(root + path, 0o644)
@@ -59,6 +59,8 @@ def main():
     kind, *words = sys.argv[1:] or [""]
     if kind not in kinds or len(words) < kinds[kind][1]:
         sys.exit(__doc__)
+    # All may read the lists, and the folders in which they lie.
+    os.umask(0o022)
     kinds[kind][0](*words)
 
 

@@ -5,10 +5,13 @@
 
 PROGRAM is bin/cdb, and LIBRARY bin/libcdb.so.1, or those of another such folder; neither is built again. The program is static, and has no
 loader. Each can lie at any address. The stack of each is no code, its tables are read only once they are filled,
-and each binds at once. The library has its name, and checks the ends of its buffers on the stack.
+and each binds at once. The library has its name, and checks the ends of its buffers on the stack. The program runs on
+each processor of x86-64. If it lies in a folder `tested`, it may be the one that the gate took from `rt ci`, which has no word
+for a processor: that one needs a processor of 2009 or later.
 """
 
 import os
+import re
 import struct
 import subprocess
 import sys
@@ -22,6 +25,10 @@ STRINGS, SONAME, FLAGS, FLAGS_1 = 5, 14, 30, 0x6FFFFFFB
 CODE, BIND_NOW, NOW, PIE = 1, 8, 1, 0x08000000
 # The kind of a file whose parts can lie at any address.
 SHARED = 3
+# What a program says that is built for later processors, if it begins on an earlier one: the level of x86-64.
+LEVEL = re.compile(rb"x86-64-v(\d), which")
+# The level of what the checker builds without a word for a processor, and the folder of what the gate takes of that.
+UNNAMED, TAKEN = b"2", "tested"
 # What a function calls whose return address was overwritten.
 STACK_CHECK = b"\0__stack_chk_fail\0"
 
@@ -84,7 +91,48 @@ def installs(program):
             yield f"{name} has the bits {mode:o}", os.path.isfile(path) and os.stat(path).st_mode & 0o7777 == mode
         yield "the program is the one that was built", read(os.path.join(root, "usr/bin/cdb")) == read(program)
         yield "make uninstall succeeds", make(out, "uninstall", *where)
-        yield "make uninstall leaves no file", not any(files for _, _, files in os.walk(root))
+        yield "make uninstall leaves no file", files_in(root) == []
+
+
+def keeps_others(program):
+    """Whether a file that somebody changed since it was installed stays, and no other; also after a second install."""
+    with tempfile.TemporaryDirectory() as root:
+        where = [f"DESTDIR={root}", "PREFIX=/usr"]
+        out = os.path.relpath(os.path.dirname(program), TOP)
+        first, again = make(out, "install", *where), make(out, "install", *where)
+        page = os.path.join(root, "usr/share/man/man1/cdb.1")
+        with open(page, "wb") as file:
+            file.write(b"another's")
+        yield "make install succeeds twice, and make uninstall after it", first and again and make(out, "uninstall", *where)
+        yield "what is another's by now stays, and no other file", files_in(root) == [page]
+        yield "what is another's stays as it is", read(page) == b"another's"
+
+
+def notes():
+    """Whether a list keeps what an earlier install put there, and all may read it whatever the umask."""
+    with tempfile.TemporaryDirectory() as root:
+        for number, name in enumerate(("/lib/a", "/lib64/a", "/lib/a")):
+            os.makedirs(os.path.dirname(root + name), exist_ok=True)
+            with open(root + name, "wb") as file:
+                file.write(b"%d" % number)
+            installed("note", root, "/share/it/a.list", name)
+        bits = [os.stat(root + it).st_mode & 0o777 for it in ("/share/it", "/share/it/a.list")]
+        yield "all may read the list", bits == [0o755, 0o644]
+        listed = [line.split("  ")[1] for line in read(root + "/share/it/a.list").decode().splitlines()]
+        yield "a second install adds to the list", listed == ["/lib/a", "/lib64/a"]
+        installed("remove", root, "/share/it/a.list")
+        yield "what two installs put there is removed", files_in(root) == []
+
+
+def files_in(root):
+    """The files below a folder."""
+    return [os.path.join(place, it) for place, _, files in os.walk(root) for it in files]
+
+
+def installed(*words):
+    """Runs the tool that keeps the list, as a user whose new files are for that user alone."""
+    words = [sys.executable, os.path.join(TOP, "tools", "installed.py"), *words]
+    subprocess.run(words, check=True, stdout=subprocess.DEVNULL, preexec_fn=lambda: os.umask(0o077))
 
 
 def is_linked(program):
@@ -94,6 +142,8 @@ def is_linked(program):
     yield "the program can lie at any address", is_movable(data) and bool(tags_of(data).get(FLAGS_1, 0) & PIE)
     yield "the program binds at once", binds_at_once(tags_of(data))
     yield "the program's stack is no code, and its tables are read only", is_guarded(data)
+    may_need = {UNNAMED} if os.path.basename(os.path.dirname(program)) == TAKEN else set()
+    yield "the program runs on each x86-64", set(LEVEL.findall(data)) <= may_need
 
 
 def is_shared(library):
@@ -113,7 +163,7 @@ def main():
     if len(sys.argv) not in (2, 3):
         sys.exit(__doc__)
     program = os.path.abspath(sys.argv[1])
-    held = [*installs(program), *is_linked(program)]
+    held = [*installs(program), *keeps_others(program), *notes(), *is_linked(program)]
     for library in sys.argv[2:]:
         held += is_shared(library)
     wrong = [what for what, holds in held if not holds]

@@ -148,6 +148,8 @@ def tests_of(program, folder):
         held["the tarball has the same bytes each time, and their sum"] = is_same
         with tarfile.open(tarball) as tar:
             held["the tarball has the version"] = any(it.endswith("/VERSION") for it in tar.getnames())
+            bits = {it.mode & 0o777 for it in tar.getmembers()}
+            held["all may read what the tarball has"] = bits == {0o644, 0o755}
     return held
 
 
