@@ -175,9 +175,9 @@ def main(words):
             left_out.append(f"{part}: no {lacking} is here")
             continue
         good, bad = run(part, f"{number + 1} of {len(parts)}", place_of(program))
-        floor = least.pop(name_of(part, least), 1)
-        if bad == 0 and good < floor:
-            print(f"{part}: {good} passed, and at least {floor} must")
+        floor = least.pop(name_of(part, least), None if is_gate else 1)
+        if bad == 0 and (floor is None or good < floor):
+            print(f"{part}: {good} passed, and {f'at least {floor} must' if floor else 'there is no floor for it'}")
             bad = 1
         passed, failed = passed + good, failed + bad
         if bad:

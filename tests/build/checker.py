@@ -4,8 +4,8 @@ it was told in the file that the environment's JOURNAL names, and keeps what the
 
 The environment's MEET names crates that wait for each other in the midst of their checks, FAIL a crate that
 is not proved, and HANG crates that are not done before they are ended. `check` goes by the first word of a
-function's body: see WAYS. `ci` is the crate of that name, adds a line to the file that CHANGE names, and proves none
-of the crates that LEFT_OUT names.
+function's body: see WAYS. `ci` is the crate of that name, adds a line to the file that CHANGE names, proves none of
+the crates that LEFT_OUT names, and those of TWICE once more.
 """
 
 import fcntl
@@ -144,15 +144,15 @@ def gate():
     """What the checker's own gate does at the top of a repository."""
     note("begins", "ci", *sorted(os.listdir(".")))
     note("words", *sys.argv[1:])
-    note("bodies", *[place for place, _, _ in os.walk(".") if place.endswith("must-fail")])
+    note("files", *sorted(os.path.relpath(os.path.join(place, it), ".") for place, _, names in os.walk(".") for it in names))
     with open(os.environ.get("CHANGE", os.devnull), "a", encoding="utf-8") as file:
         file.write("changed\n")
     end = time.monotonic() + SECONDS
     while "ci" in named("HANG") and time.monotonic() < end:
         time.sleep(0.01)
-    crates = [it for it in listed_in(".") if it not in named("LEFT_OUT")]
+    crates = [it for it in listed_in(".") if it not in named("LEFT_OUT")] + named("TWICE")
     for crate in crates:
-        os.makedirs(os.path.join("crates", crate, "out"))
+        os.makedirs(os.path.join("crates", crate, "out"), exist_ok=True)
         with open(os.path.join("crates", crate, "out", f"{crate}_tests"), "w", encoding="utf-8") as file:
             file.write("tests")
         print(f"rt: {crate} {'NOT PROVED' if crate in named('FAIL_CI') else 'proved'}", flush=True)

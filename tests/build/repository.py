@@ -80,10 +80,14 @@ class Repository:
             output, errors = process.communicate(timeout=60)
         return process.returncode, output, errors
 
+    def lines_of(self, what):
+        """The journal's lines that begin with a word, each as its words, in order."""
+        with open(self.journal, encoding="utf-8") as file:
+            return [words for words in map(str.split, file) if words[0] == what]
+
     def noted(self, what):
         """The crates of the journal's lines that begin with a word, in order."""
-        with open(self.journal, encoding="utf-8") as file:
-            return [line.split()[1] for line in file if line.split()[0] == what]
+        return [words[1] for words in self.lines_of(what)]
 
     def jobs_of(self, crate):
         """How many jobs a check was begun with."""

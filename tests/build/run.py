@@ -7,6 +7,7 @@ what it runs side by side, and what is left after a failure, an interrupt and a 
 
 import errno
 import os
+import platform
 import shutil
 import signal
 import subprocess
@@ -42,6 +43,17 @@ def side_by_side(it):
     yield "program", os.path.isfile(os.path.join(it.top, "bin", "top"))
     yield "trees", it.kept() == list(BUILT) and not it.has_trees()
     yield "lines", "5 of 5 crates" in output and "GB of disk" in output
+
+
+def processors(it):
+    """A program and a static library are built for each processor of x86-64, in these words; no other crate names one."""
+    named = ["--cpu", "x86-64"] if platform.machine() == "x86_64" else []
+    for crate, target in (("top", "bin/top"), ("aside", "bin/libaside.a")):
+        it.build(crate=crate, target=target)
+        for words in it.lines_of("begins"):
+            jobs = words.index("--jobs")
+            after = ["--", "-h"] if words[1] == "top" else []
+            yield words[1], words[jobs + 2 :] == (named if words[1] == crate else []) + after
 
 
 def again(it):
@@ -193,4 +205,4 @@ def linked_in_vain(crate, target):
 
 
 if __name__ == "__main__":
-    run_parts((side_by_side, again, library, minutes, failing, stopped, killed, two_builds, alone, copied, refused, linked))
+    run_parts((side_by_side, processors, again, library, minutes, failing, stopped, killed, two_builds, alone, copied, refused, linked))
