@@ -2,7 +2,8 @@
 
 An edit is a file crates/NAME/must-fail/*.edit: a line `file: src/PATH`, and pairs of lines `old: TEXT` and
 `new: TEXT`. The list tools/wrong_bodies.txt has a line for each: CRATE/EDIT, then `gate` if the gate tries it or
-else `-`, and then the clause that must refuse it, which names the promise that the edit breaks.
+else `-`, and then the clause that must refuse it, which names the promise that the edit breaks. The list
+tools/unshown_bodies.txt names those that only a stored proof refuses which names what they take away.
 """
 
 import os
@@ -13,6 +14,7 @@ from trees import read
 
 FOLDER = "must-fail"
 LIST = "tools/wrong_bodies.txt"
+UNSHOWN = "tools/unshown_bodies.txt"
 GATE, OTHER = "gate", "-"
 FUNCTION = re.compile(r"^( *)(?:pub(?:\([^)]*\))? )?(?:const )?(?:unsafe )?(?:extern \"C\" )?fn (\w+)", re.MULTILINE)
 # The head of an `impl`, with the words of its trait if it has one, or that of a trait: and the type's own name.
@@ -70,6 +72,19 @@ def edits_of(folder):
     names = sorted(os.listdir(place)) if os.path.isdir(place) else []
     lines = listed(os.path.join(folder, "..", ".."))
     return [read_edit(folder, it.removesuffix(".edit"), lines) for it in names if it.endswith(".edit")]
+
+
+def test_of(edit):
+    """The text of the test beside an edit, or None."""
+    path = f"{edit.path.removesuffix('.edit')}.test"
+    return read(path) if os.path.isfile(path) else None
+
+
+def unshown(top):
+    """The edits of which it is known that neither a proof nor a test shows them wrong, by name."""
+    path = os.path.join(top, UNSHOWN)
+    lines = read(path).splitlines() if os.path.isfile(path) else []
+    return {line.split()[0] for line in lines if line and not line.startswith("#")}
 
 
 def note_clause(top, edit, clause):

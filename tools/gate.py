@@ -294,7 +294,7 @@ class Gate:
                 self.wrong.append(f"{crate} was not proved for its wrong bodies")
         words = [sys.executable, os.path.join(TOOLS, "wrong.py")]
         bodies = self.begin(BODIES, words, log="bin/bodies.log", steps=TRIED)
-        self.wait(bodies, shows=self.is_wrong)
+        self.wait(bodies, shows=lambda line: self.is_wrong(line) or line.startswith("warning: "))
         self.count(bodies, max(len(self.bodies), self.floors[BODIES]))
 
     def test(self, place):

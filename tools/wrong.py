@@ -9,8 +9,10 @@ be proved and kept, as `make` leaves it.
 
 Wrong bodies of different functions are tried in one check, over hard links of what was kept: so the check
 proves the functions that they touch, and nothing else. One counts as refused if a goal of its own function
-stays open, and the reason is no name of a stored proof that the edit took away. The goal's clause must be
-the one that the edit's line of the list names. Whatever does not pass so is tried once more, alone.
+stays open, and the goal has no stored proof that names a call or an argument which the edit took away: such a proof would be
+refused for a right body too. The goal's clause must be the one that the edit's line of the list names. Whatever does not
+pass so is tried once more, alone. Else the test beside the edit must show it wrong (counterexamples.py), or the list
+tools/unshown_bodies.txt name it: then a line warns.
 
 With --note that line is written anew where the clause did not refuse the edit.
 
@@ -21,6 +23,7 @@ in another clone, tries what changed. With --anew each is tried. The last line c
 
 import argparse
 import contextlib
+import functools
 import hashlib
 import os
 import re
@@ -34,8 +37,10 @@ import time
 from concurrent.futures import ThreadPoolExecutor
 from dataclasses import dataclass, field
 
+from answers import answer_of, named_in, taken_by
 from build import CPU, QUIET_SECONDS, checker, interrupt, is_program, most_at_once
-from edits import LIST, BadEdit, applied, edits_of, function_at, listed, named, note_clause
+from counterexamples import is_shown
+from edits import LIST, UNSHOWN, BadEdit, applied, edits_of, function_at, listed, named, note_clause, test_of, unshown
 from trees import PROVED, SOURCES, Trees, alone_now, crates_below, read
 
 LOG = "bin/wrong.log"
@@ -76,10 +81,12 @@ def clause_of(goal):
 @dataclass
 class Told:
     """What a check said of the functions that were touched: the clauses of the goals that stay open, by function,
-    those whose stored proof names what is lost, and the first error."""
+    those whose stored proof names what is lost, those whose stored proof names what an edit took away with that name, and
+    the first error."""
 
     open: dict = field(default_factory=dict)
     lost: dict = field(default_factory=dict)
+    naming: dict = field(default_factory=dict)
     is_read: bool = False
     is_proved: bool = False
     error: str = ""
@@ -95,8 +102,9 @@ class Told:
         return [it for name, found in self.open.items() if functions is None or name in functions for it in found]
 
 
-def told_of(output, status, functions, texts):
-    """What a check of these functions with these texts said."""
+def told_of(output, status, functions, texts, naming=lambda function, goal: None):
+    """What a check of these functions with these texts said. `naming` is what the stored proof of a goal names that an edit
+    took away."""
     # What is said of one goal may go on in further lines.
     output = re.sub(r"\n {2,}", " ", output)
     told = Told(is_read=bool(UNPROVED.search(output)), is_proved=status == 0)
@@ -105,7 +113,9 @@ def told_of(output, status, functions, texts):
     for function, said in STORED.findall(output):
         goal = re.match(r"`([^`]+)`", said)
         clause = clause_of(goal[1]) if goal else "a stored proof"
-        told.add(told.lost if LOST.search(said) else told.open, function.replace("/", "::"), clause)
+        name = naming(function, goal[1]) if goal else None
+        kept = told.lost if LOST.search(said) else told.naming if name else told.open
+        told.add(kept, function.replace("/", "::"), (clause, name) if kept is told.naming else clause)
     goals = [(named_at(texts, path, int(line), functions), goal) for path, line, goal in SEARCHED.findall(output)]
     for name, found in UNANSWERED.findall(output):
         goals += [({name.partition("::")[2]}, it) for it in re.findall(r"`([^`]+)`", found)]
@@ -131,6 +141,8 @@ class Trial:
 
     def __init__(self, edit, functions, folder):
         self.edit, self.why, self.is_last = edit, None, False
+        # Whether only a stored proof refused it that names what it took away.
+        self.is_unshown = False
         try:
             _, places = applied(edit, {}, folder)
             found = [named(functions, path, it) if it else set() for path, it in places]
@@ -139,23 +151,37 @@ class Trial:
         except BadEdit as why:
             self.functions, self.why = None, f"cannot be tried: {why}"
 
+    def is_of(self, function):
+        """Whether it touches a function."""
+        return not self.functions or function in self.functions
+
     def judge(self, told):
         """What is wrong with how a check ended, or None if the edit's clause refused it; and the clauses that did."""
-        clauses = told.clauses(self.functions)
+        clauses, noted = told.clauses(self.functions), self.edit.clause
+        names = dict(it for function, found in told.naming.items() if self.is_of(function) for it in found)
+        self.is_unshown = noted in names and noted not in clauses
         if told.is_proved:
             return "is let through: the crate is proved with it", clauses
+        if self.is_unshown:
+            return f"is refused by {noted} with a stored proof that names {names[noted]}, which it takes away", clauses
         if clauses:
-            noted = self.edit.clause
             if noted in clauses:
                 return None, clauses
             beside = f"has the clause {noted}" if noted else "has no clause"
             return f"is refused by {', '.join(clauses)}, and {LIST} {beside}", clauses
         if not told.is_read:
             return f"cannot be tried: {told.error}", clauses
-        lost = [it for name, found in told.lost.items() if not self.functions or name in self.functions for it in found]
+        lost = [it for name, found in told.lost.items() if self.is_of(name) for it in found]
         if lost:
             return f"is refused by lost names alone, of the stored proofs for {', '.join(lost)}", clauses
         return "is let through: no goal of its own function stays open", clauses
+
+
+def naming_of(trials, folder, function, goal):
+    """What the stored proof of a goal of a function names that one of some wrong bodies took away, or None."""
+    answer = answer_of(folder, function, goal)
+    taken = (taken_by(it.edit) for it in trials if it.is_of(function.replace("/", "::")))
+    return next(filter(None, (named_in(answer, it) for it in taken)), None)
 
 
 def passes_of(trials):
@@ -221,7 +247,8 @@ class Refusals:
         self.trees, self.sums = trees, {}
         self.folder = refused_folder(trees.top)
         version = subprocess.run([checker(), "version"], capture_output=True, check=False).stdout
-        texts = [read(TOOLS, it) for it in ("wrong.py", "edits.py")]
+        texts = [read(TOOLS, it) for it in ("wrong.py", "edits.py", "answers.py", "counterexamples.py")]
+        self.unshown = unshown(trees.top)
         self.all = repr((version, texts, trees.lines)).encode()
 
     def sum_of(self, crate):
@@ -241,8 +268,12 @@ class Refusals:
     def place_of(self, edit):
         """Where it is kept that an edit was refused."""
         sums = [self.sum_of(it) for it in crates_below(self.trees.libraries, edit.crate)]
-        found = hashlib.sha256(self.all + repr((str(edit), edit.pairs, edit.clause, sums)).encode())
+        found = hashlib.sha256(self.all + repr((*self.shown_by(edit), str(edit), edit.pairs, edit.clause, sums)).encode())
         return os.path.join(self.folder or "", found.hexdigest())
+
+    def shown_by(self, edit):
+        """What may show an edit wrong beside a proof: its test; or whether the list names it."""
+        return test_of(edit), str(edit) in self.unshown
 
     def has(self, edit):
         """Whether an edit was refused. A file that is not whole says nothing."""
@@ -328,13 +359,16 @@ class Trials:
             status, output = self.check(crate, texts, functions, room)
             if self.is_stopped:
                 return None
-        told = told_of(output, status, functions or proved_functions(folder, crate), self.texts_of(folder, texts))
+        naming = functools.partial(naming_of, group, folder)
+        told = told_of(output, status, functions or proved_functions(folder, crate), self.texts_of(folder, texts), naming)
         with self.lock:
             names = ", ".join(it.edit.name for it in group)
             self.log.write(f"== {crate}: {names}: {time.monotonic() - began:.0f} s, status {status}\n{output}\n")
             self.log.flush()
         for it in group:
             why, clauses = it.judge(told)
+            if it.is_unshown:
+                why = self.shown(it.edit, why, f"{crate}-{room}")
             is_noted = self.words.note and clauses
             # A check that came to no end says nothing of any body.
             if why is not None and (len(group) > 1 or status not in (0, 1)) and not (it.is_last or is_noted):
@@ -343,6 +377,15 @@ class Trials:
             else:
                 self.end(it, why, clauses)
         return None
+
+    def shown(self, edit, why, room):
+        """What is wrong with a wrong body that no proof shows to be one, or None: a test does, or it is known."""
+        if is_shown(self.trees, edit, room):
+            return None
+        if str(edit) in self.refusals.unshown:
+            print(f"warning: {edit} {why}, see {UNSHOWN}", flush=True)
+            return None
+        return f"{why}, and no test beside it shows it"
 
     def texts_of(self, folder, texts):
         """The texts of a crate's code, with those that edits made."""
@@ -367,6 +410,8 @@ class Trials:
                 why = None
             elif why is None:
                 print(f"{trial.edit}: refused by {trial.edit.clause}", flush=True)
+                if str(trial.edit) in self.refusals.unshown and not trial.is_unshown:
+                    print(f"warning: a proof shows {trial.edit} wrong, and {UNSHOWN} names it", flush=True)
                 self.keep(trial.edit)
             else:
                 print(f"{trial.edit} {why}", flush=True)
@@ -430,6 +475,7 @@ def chosen(trees, names, is_all):
         of_all = [it for it in edits if is_all or str(it) in of_gate] if not names or crate in names else []
         found[crate] = [it for it in edits if it in of_all or str(it) in names]
     wrong = [f"{LIST} names {it}, and there is no such wrong body" for it in sorted(set(lines) - there)]
+    wrong += [f"{UNSHOWN} names {it}, and there is no such wrong body" for it in sorted(unshown(trees.top) - there)]
     wrong += [f"there is no crate and no wrong body {it}" for it in names if it not in there]
     return {crate: edits for crate, edits in found.items() if edits}, wrong
 
@@ -477,7 +523,8 @@ def refused_before(trees, edits, words):
     for crate, found in list(edits.items()) if not (words.anew or words.note) else []:
         earlier = [it for it in found if refusals.has(it)]
         for it in earlier:
-            print(f"{it}: refused by {it.clause}, as an earlier run found", flush=True)
+            doubt = f"; see {UNSHOWN}" if str(it) in refusals.unshown else ""
+            print(f"{it}: refused by {it.clause}, as an earlier run found{doubt}", flush=True)
         edits[crate] = [it for it in found if it not in earlier]
         count += len(earlier)
         if not edits[crate]:
