@@ -3,7 +3,7 @@
 Each case is a dict. `words` stand behind the program's name; `stdin` is the bytes of standard
 input, a path to open there, or CLOSED; `stdout` is the bytes that it is to write, a path to open
 there, CLOSED, or UNREAD; `errors` is the exact text on standard error, and `status` the exit
-status; with `stderr` that is CLOSED none is open. `files` are there before, and `left` behind it (the same ones, where it is None): bytes, a
+status; with `stderr` that is CLOSED none is open, and with one that is a path the lines are written there. `files` are there before, and `left` behind it (the same ones, where it is None): bytes, a
 FOLDER, a PIPE or a Link each, by its name. No file may become longer than `most` bytes, where that is a
 number; a `sealed` folder takes no new name. The program's memory has at most `space` bytes.
 """

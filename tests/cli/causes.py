@@ -30,6 +30,9 @@ def told(given, line, cause, stdin=b"", status=111, files=None, **other):
     return case(["-v", *given], stdin, b"", [line, cause], status, files, **other)
 
 
+FULL = "/dev/full"
+# Lines of more than a window, of 9 bytes each.
+MANY_LINES = b"+1,0:a->\n" * 10000
 INPUTS = {"m": MAP, "n": MAP}
 CAUSES = {
     "query of a file that is not there": told(["-q", "x", "one"], NO_FILE, f"x: {MISSING}"),
@@ -128,6 +131,9 @@ CAUSES = {
         f"m: line {LARGE_TEXT.count(10)}",
         files={"m": LARGE_TEXT[:-1] + b"*"},
     ),
+    "a text of many windows with a fault amid the second": told(
+        ["-c", "x", "m"], f"input 1: byte 90000: {NO_RECORD}", "m: line 10001", files={"m": MANY_LINES + b"*\n" + MANY_LINES}
+    ),
     "a text that ends early": told(
         ["-c", "x"], f"input 1: byte {len(TWO_TEXT) - 1}: {EARLY}", "standard input: line 3", TWO_TEXT[:-1]
     ),
@@ -161,6 +167,11 @@ CAUSES = {
     "a full disk at standard output": case(
         ["-v", "-d"], TWO_FILE, "/dev/full", [NO_OUTPUT, "standard output: No space left on device"], 111
     ),
+    "a duplicate on a full standard error": keeps(["-vcw", "x"], None, pairs(b"1", b"2"), stderr=FULL),
+    "no duplicate on a full standard error": creates(["-vcw", "x"], TWO_FILE, TWO_TEXT) | dict(stderr=FULL),
+    "a fault on a full standard error": case(["-v", "-q", "x", "one"], b"", b"", None, 111, stderr=FULL),
+    "a full device at both": case(["-v", "-d"], TWO_FILE, FULL, None, 111, stderr=FULL),
+    "a value on a full standard error": case(["-v", "-q", "x", "one"], stdout=b"Hello", files={"x": ONE_FILE}, stderr=FULL),
     "a pipe that nobody reads": case(["-v", "-d"], TWO_FILE, UNREAD, [NO_OUTPUT, "standard output: Broken pipe"], 111),
     "a database that finds no room": told(
         ["-c", "x"], NO_DATABASE, "x.tmp: File too large", TWO_TEXT, files={"x": ONE_FILE}, most=2048

@@ -118,6 +118,7 @@ def run(program, case, folder):
             how["stdout"] = opened(stdout, os.O_WRONLY, streams)
         places = (stdin, stdout, case["stderr"])
         closed = [number for number, it in enumerate(places) if it is CLOSED]
+        errors = opened(case["stderr"], os.O_WRONLY, streams) if isinstance(case["stderr"], str) else None
         # A socket that keeps the writes apart.
         here, there = socket.socketpair(socket.AF_UNIX, socket.SOCK_SEQPACKET)
         with here, there:
@@ -126,7 +127,7 @@ def run(program, case, folder):
                 cwd=folder,
                 env={},
                 timeout=60,
-                stderr=there,
+                stderr=there if errors is None else errors,
                 preexec_fn=prepared(case, closed),
                 **how,
             )

@@ -23,6 +23,9 @@ OLD, NEW, MADE = TWO_FILE, file_of(PUT), file_of(PUT[:2])
 # `/` and the current folder, of which one is enough to hold a place; and most opens that are refused.
 FOLDERS = 2
 MOST = 5
+LAST = 2**63 - 1
+# Each set of standard streams.
+CLOSED = [it for count in range(4) for it in itertools.combinations(range(3), count)]
 WARNING = b"cdb: input 1: record 3: duplicate key\n"
 NO_FILE = b"cdb: file cannot be opened\n"
 # How many bytes an input is read at once.
@@ -91,14 +94,24 @@ def is_given_up(program):
             return (done.returncode, done.stderr, file.read()) == (111, NO_FILE, OLD)
 
 
+def is_held(path, library, closed):
+    """Whether the current folder holds the places of the streams that are closed if `/` cannot be opened: a folder is neither
+    read nor written, as they are. The null device is not opened."""
+    with tempfile.TemporaryDirectory() as folder:
+        refusing = Refusing(path, library, "calls", ONLY="open", NAME="/")
+        _, calls = refusing.trace(["-V"], b"", 1, LAST, folder, closed=closed)
+    opens = [(it.name, it.answer) for it in calls if it.what == "open"]
+    folders = [(".", number) for number in closed]
+    return [it for it in opens if it[0] != "/"][: len(closed)] == folders and {name for name, _ in opens} == {"/", "."}
+
+
 def main():
     if len(sys.argv) != 3:
         sys.exit(__doc__)
     path, library = map(os.path.abspath, sys.argv[1:])
     program = Refusing(path, library, "calls", ONLY="open")
     passed = failed = 0
-    sets = itertools.chain.from_iterable(itertools.combinations(range(3), n) for n in range(4))
-    for closed, refused in itertools.product(list(sets), range(MOST + 1)):
+    for closed, refused in itertools.product(CLOSED, range(MOST + 1)):
         left = left_by(program, closed, refused)
         if is_right(closed, refused, left):
             passed += 1
@@ -111,11 +124,12 @@ def main():
         else:
             failed += 1
             print(f"closed {closed}, {refused} opens refused, a file's records: {made!r:.200}")
-    if is_given_up(program):
-        passed += 1
-    else:
-        failed += 1
-        print("an input is read as standard input")
+    rows = {"an input is not read as standard input": is_given_up(program)}
+    for closed in CLOSED:
+        rows[f"closed {closed}, and / cannot be opened"] = is_held(path, library, closed)
+    for what in (what for what, holds in rows.items() if not holds):
+        print(f"not so: {what}")
+    passed, failed = passed + sum(rows.values()), failed + len(rows) - sum(rows.values())
     print(f"{passed} passed, {failed} failed")
     sys.exit(1 if failed else 0)
 

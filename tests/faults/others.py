@@ -146,6 +146,31 @@ def remote(path, library, is_held):
     return None if (done.returncode, done.stderr, left) == wanted else f"{done.returncode} {done.stderr}, {sorted(left)}"
 
 
+def emptied(path, library, call):
+    """What is wrong with a create in place whose name another program takes just before a call, or None: the file under its
+    other name is not emptied."""
+    with tempfile.TemporaryDirectory() as folder:
+        place(folder, KEPT)
+        os.link(os.path.join(folder, "x"), os.path.join(folder, "z"))
+        taking = Refusing(path, library, "calls", ACT="take", ONLY=call, NAME="x")
+        done, _ = taking.trace(IN_PLACE, TWO_TEXT, 1, 1, folder)
+        left = {name: what[0] for name, what in found_in(folder).items()}
+    is_right = (done.returncode, done.stderr, left) == (111, NO_NAME, {**KEPT, "x": OTHER, "z": ONE_FILE})
+    return None if is_right else f"{done.returncode} {done.stderr}, {left!r:.100}"
+
+
+def followed(path, library, words):
+    """What is wrong with a create in place of a link whose file has the link's inode on another device, or None: a link is not
+    followed."""
+    with tempfile.TemporaryDirectory() as folder:
+        place(folder, {**KEPT, "x": Link("y")})
+        before = found_in(folder)
+        done, _ = Refusing(path, library, "calls", ALIKE=1).trace(words, TWO_TEXT, folder=folder)
+        left = found_in(folder)
+    is_right = (done.returncode, done.stderr, left) == (111, NO_FILE, before)
+    return None if is_right else f"{done.returncode} {done.stderr}, {told(left)}"
+
+
 def longer(path, library, call):
     """What is wrong with a create to whose file another program adds a byte just before a call, or None."""
     with tempfile.TemporaryDirectory() as folder:
@@ -250,6 +275,9 @@ def checks():
     yield from ((name, meets, row) for name, row in MEETS.items())
     yield from ((f"a lock refused by {errno.errorcode[it]}", held, it) for it in HELD)
     yield from ((f"each lock refused by {errno.errorcode[it]}", free, it) for it in FREE)
+    yield "a file that has another name too, as a database in place is locked", emptied, "lock"
+    yield "a link with the inode of its file, in place", followed, IN_PLACE
+    yield "a link with the inode of its file, in place by its name", followed, ["-c", "-t", "x", "x"]
     yield "a byte more, before its permissions are given", longer, "allow"
     yield "a byte more, before it is synced", longer, "sync"
     yield from ((f"{name} that takes no byte", idle, row) for name, row in IDLE.items())

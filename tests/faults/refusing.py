@@ -53,10 +53,10 @@ class Refusing:
                 asks, size = struct.unpack("2L", counted.read())
         return done, asks, size
 
-    def trace(self, words, stdin, first=0, last=0, folder=None, mask=0o022):
-        """What it left, and the calls that it made."""
+    def trace(self, words, stdin, first=0, last=0, folder=None, mask=0o022, closed=()):
+        """What it left, and the calls that it made. Some of its standard streams may be closed."""
         with tempfile.NamedTemporaryFile() as count, tempfile.NamedTemporaryFile() as trace:
-            done = self.begun(count, words, stdin, first, last, folder, (), trace.name, mask)
+            done = self.begun(count, words, stdin, first, last, folder, closed, trace.name, mask)
             with open(trace.name, encoding="utf-8") as lines:
                 calls = [call_of(line) for line in lines]
         return done, calls
