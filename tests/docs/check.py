@@ -22,6 +22,7 @@ from sources import TOP, sources_of, text_of
 
 PAGES = "tools/pages.py"
 LISTED = "tools/wrong_bodies.txt"
+UNSHOWN = "tools/unshown_bodies.txt"
 ORACLE = "docs/audit/ORACLE.md"
 ORACLE_SOURCES = (
     "crates/cdb/specs/Created.antt",
@@ -41,7 +42,7 @@ FOREIGN = set(
     valgrind sponge strace lintian apt dpkg mandoc libcdb1 posix_fallocate x NAME
     """.split()
 )
-SOURCES = (".rt", ".antt", ".py", ".c", ".h", ".map", ".sh", ".edit", ".1", ".3", ".5", ".rattle")
+SOURCES = (".rt", ".antt", ".py", ".c", ".h", ".map", ".sh", ".edit", ".test", ".1", ".3", ".5", ".rattle")
 
 
 def files():
@@ -172,6 +173,18 @@ def wrong_bodies():
         yield f"{LISTED}: there is no {name}"
 
 
+def wrong_tests():
+    """The tests of wrong bodies that are beside none, and the lines of those that neither a proof nor a test shows of which
+    there is none, or a test."""
+    known = {it.removesuffix(".edit") for it in glob.glob("crates/*/must-fail/*.edit", root_dir=TOP)}
+    shown = {it.removesuffix(".test") for it in glob.glob("crates/*/must-fail/*.test", root_dir=TOP)}
+    yield from (f"{it}.test: no wrong body is beside it" for it in sorted(shown - known))
+    for line in (it for it in text_of(UNSHOWN).splitlines() if not it.startswith("#")):
+        place = f"crates/{line.replace('/', '/must-fail/')}"
+        if place not in known - shown:
+            yield f"{UNSHOWN}: {line} is no wrong body, or has a test"
+
+
 def wrong_parts():
     """The parts of the tests that CONTRIBUTING.md does not name."""
     page = text_of("CONTRIBUTING.md")
@@ -214,7 +227,7 @@ def main():
         crate = path.split("/")[1]
         wrong += wrong_calling(crate)
         count += 1
-    wrong += [*wrong_bodies(), *wrong_parts(), *wrong_pages(), *wrong_oracle(), *wrong_items()]
+    wrong += [*wrong_bodies(), *wrong_tests(), *wrong_parts(), *wrong_pages(), *wrong_oracle(), *wrong_items()]
     for it in wrong:
         print(it)
     failed = len({it.split(":")[0] for it in wrong})
