@@ -517,6 +517,8 @@ static void file_of_4_gib(void)
 {
   static char value[4000 - 9];
   const unsigned most = (UINT_MAX - HEAD) / 4016;
+  /* The value of one more that fills them. */
+  const unsigned last = (UINT_MAX - HEAD) % 4016 - 16 - 9;
   struct cdb_make m;
   int fd = file_named("full");
   want(cdb_make_start(&m, fd) == 0 && ftruncate(fd, UINT_MAX) == 0, "a start");
@@ -524,6 +526,22 @@ static void file_of_4_gib(void)
   for (unsigned n = 0; n < most; n++)
     if (cdb_make_add(&m, "a", 1, value, sizeof value) < 0) want(0, "a file below 4 GiB is too big"), n = most;
   want(FAILS(cdb_make_add(&m, "a", 1, value, sizeof value), -1, ENOMEM), "a file of 4 GiB is not too big");
+  want(FAILS(cdb_make_add(&m, "a", 1, value, last + 1), -1, ENOMEM), "a file of 4 GiB is not a byte too big");
+  want(cdb_make_add(&m, "a", 1, value, last) == 0, "a file a byte below 4 GiB is too big");
+  cdb_make_abort(&m);
+  forgets = 0;
+}
+
+/* A record that fills a file to 4 GiB, of which no byte is kept, and one that is a byte longer. */
+static void record_of_4_gib(void)
+{
+  struct cdb_make m;
+  int fd = file_named("full");
+  void *value = mmap(NULL, UINT_MAX, PROT_READ, MAP_PRIVATE | MAP_ANONYMOUS | MAP_NORESERVE, -1, 0);
+  want(value != MAP_FAILED && cdb_make_start(&m, fd) == 0 && ftruncate(fd, UINT_MAX) == 0, "a start");
+  forgets = 1;
+  want(FAILS(cdb_make_put(&m, "a", 1, value, LONGEST, CDB_PUT_REPLACE), -1, ENOMEM), "a record a byte too long is put");
+  want(cdb_make_put(&m, "a", 1, value, LONGEST - 1, CDB_PUT_REPLACE) == 0, "a record that fills a file is too big");
   cdb_make_abort(&m);
   forgets = 0;
 }
@@ -653,6 +671,7 @@ static const struct { void (*rows)(void); const char *name; } GROUPS[] = {
   { pieces_of_a_file, "pieces of a file" },
   { limit_of_a_file, "the limit of a file" },
   { file_of_4_gib, "a file of 4 GiB" },
+  { record_of_4_gib, "a record of 4 GiB" },
   { other_files, "files of another layout" },
   { write_only, "a descriptor that may not read" },
   { other_descriptor, "another descriptor" },
