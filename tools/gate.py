@@ -248,6 +248,7 @@ class Gate:
         self.count(ci, len(self.crates))
         # A crate that failed is named by its own line.
         lacking = [f"{it} was not proved" for it in self.crates if it not in ci.done and ci.counted()[1] == 0]
+        lacking += [f"{it} was proved, and crates.txt does not list it" for it in sorted(ci.done - set(self.crates))]
         lacking += [f"{it} was changed while the gate ran" for it in files if not is_same(os.path.join(self.top, it), os.path.join(copy, it))]
         for it in lacking:
             self.wrong.append(it)
