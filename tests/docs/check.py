@@ -4,7 +4,7 @@
     tests/docs/check.py
 
 Each link of a page leads to a file, and to a heading if it names one. Each path in backquotes is that
-of a file or a folder, each name is one of the sources, each `make TARGET` a target of the Makefile.
+of a file or a folder, each name is one of the sources, each `make TARGET` a target of the Makefile or of a release's.
 The page CALLING.md of a crate names each public item and function of its library. Something else than
 a test calls each public item, or public_items.py says why it is there. What tools/pages.py writes of
 the pages is what the sources give, and CONTRIBUTING.md names each part of the tests. docs/audit/ORACLE.md
@@ -21,6 +21,8 @@ from public_items import wrong_items
 from sources import TOP, sources_of, text_of
 
 PAGES = "tools/pages.py"
+# The files that make reads, here and in a release.
+MAKEFILES = ("Makefile", "clib/build.mk", "tools/install.mk", "release/Makefile")
 LISTED = "tools/wrong_bodies.txt"
 ORACLE = "docs/audit/ORACLE.md"
 ORACLE_SOURCES = (
@@ -82,7 +84,7 @@ class Names:
         self.ends = {end for it in self.files | self.folders for end in ends(it)}
         self.words = FOREIGN | edits()
         for it in listed:
-            if it.endswith(SOURCES) or os.path.basename(it) in ("Makefile", "crates.txt"):
+            if it.endswith(SOURCES) or it in (*MAKEFILES, "crates.txt"):
                 self.words.update(re.findall(r"[A-Za-z_][A-Za-z0-9_]*", text_of(it)))
 
     def has_path(self, path):
@@ -204,7 +206,7 @@ def main():
         sys.exit(__doc__)
     listed = files()
     names = Names(listed)
-    targets = set(re.findall(r"^([a-z\-]+):", text_of("Makefile"), re.M))
+    targets = {name for it in MAKEFILES for name in re.findall(r"^([a-z\-]+):", text_of(it), re.M)}
     wrong, count = [], 1
     for page in (it for it in listed if it.endswith(".md")):
         text = text_of(page)

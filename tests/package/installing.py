@@ -3,8 +3,8 @@
 
     tests/package/installing.py PROGRAM [LIBRARY]
 
-PROGRAM is bin/cdb, and LIBRARY bin/libcdb.so.1, or those of another such folder; neither is built again. The program is static, and has no
-loader. Each can lie at any address. The stack of each is no code, its tables are read only once they are filled,
+PROGRAM is bin/cdb, and LIBRARY bin/libcdb.so.1, or those of another such folder; neither is built again. The program is
+static, and has no loader, unless LINKED of the environment says that flags asked for another kind. Each can lie at any address. The stack of each is no code, its tables are read only once they are filled,
 and each binds at once. The library has its name, and checks the ends of its buffers on the stack.
 """
 
@@ -15,7 +15,16 @@ import sys
 import tempfile
 
 TOP = os.path.join(os.path.dirname(os.path.abspath(__file__)), "..", "..")
-INSTALLED = {"bin/cdb": 0o755, "share/man/man1/cdb.1": 0o644, "share/man/man5/cdb.5": 0o644}
+INSTALLED = {
+    "bin/cdb": 0o755,
+    "share/man/man1/cdb.1": 0o644,
+    "share/man/man5/cdb.5": 0o644,
+    "share/bash-completion/completions/cdb": 0o644,
+    "share/zsh/site-functions/_cdb": 0o644,
+    "share/fish/vendor_completions.d/cdb.fish": 0o644,
+    "share/doc/pezundrix/GUIDE.md": 0o644,
+    "share/doc/pezundrix/LICENSE": 0o644,
+}
 # The kinds of parts that the loader reads, and the tags of the dynamic part.
 DYNAMIC, INTERPRETER, STACK, RELRO = 2, 3, 0x6474E551, 0x6474E552
 STRINGS, SONAME, FLAGS, FLAGS_1 = 5, 14, 30, 0x6FFFFFFB
@@ -113,7 +122,7 @@ def main():
     if len(sys.argv) not in (2, 3):
         sys.exit(__doc__)
     program = os.path.abspath(sys.argv[1])
-    held = [*installs(program), *is_linked(program)]
+    held = [*installs(program), *([] if os.environ.get("LINKED") else is_linked(program))]
     for library in sys.argv[2:]:
         held += is_shared(library)
     wrong = [what for what, holds in held if not holds]
