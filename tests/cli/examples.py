@@ -19,6 +19,7 @@ import shutil
 import subprocess
 import sys
 import tempfile
+import time
 
 TOP = os.path.join(os.path.dirname(os.path.abspath(__file__)), "..", "..")
 # What the shell makes before the examples of a page: the files that they speak of.
@@ -36,6 +37,8 @@ cp map.cdb primary/map.cdb
 printf 'postmaster alice\nabuse root\n' > source
 printf '+7,5:old.net->carol\n\n' | cdb -c owners.cdb
 printf 'old.net x\nold.net\n' > hosts
+printf 'one 1\n\ntwo 2\none 3\n' > twice
+printf 'postmaster tom\nabuse kris\npostmaster ann\n' | cdb -c -m made.cdb
 host=old.net
 """,
     "man/cdb.1": "",
@@ -68,6 +71,12 @@ WRITTEN = {
         "",
         "",
         "",
+        "three Hello again\n",
+        "cdb: input 1: record 3: duplicate key\ncdb: twice: line 4: key one\n",
+        "postmaster\n",
+        "2c2,3\n< postmaster kris\n---\n> postmaster ann\n> postmaster tom\n",
+        "",
+        "abuse kris\npostmaster tom\npostmaster ann\n",
         "",
         "",
         "",
@@ -95,7 +104,7 @@ STAND_INS = {
 
 
 # A command of a block: what stands before it, and its name.
-COMMAND = re.compile(r"((?:^|[|;&({]|\bif\b)[ ]*)((?:awk|cdb|printf|cksum|postmap|rsync|ssh)\b(?= ))", re.M)
+COMMAND = re.compile(r"((?:^|[|;&({]|\bif\b)[ ]*(?:LC_ALL=C )?)((?:awk|cdb|printf|cksum|sort|postmap|rsync|ssh)\b(?= ))", re.M)
 # How a command fails: before it does anything, and after the first line that it writes.
 FAILS = {
     "at once": "fails() { return 1; }\n",
@@ -235,6 +244,32 @@ def try_page(program, page, blocks):
     return came
 
 
+def comes_to(path, size):
+    """Whether a file comes to a size within a minute."""
+    end = time.monotonic() + 60
+    while not os.path.exists(path) or os.path.getsize(path) < size:
+        if time.monotonic() > end:
+            return False
+        time.sleep(0.01)
+    return True
+
+
+def grows(program):
+    """Whether the temporary file of a create grows while it reads, and whether its file gets as long as the guide says."""
+    records = [b"%d %s\n" % (it, b"v" * 100) for it in range(20_000)]
+    half = b"".join(records[:10_000])
+    with tempfile.TemporaryDirectory() as folder:
+        made, found = os.path.join(folder, "x.cdb"), []
+        with subprocess.Popen([program, "-c", "-m", made], stdin=subprocess.PIPE) as create:
+            for part in (half, b"".join(records[10_000:])):
+                create.stdin.write(part)
+                create.stdin.flush()
+                # What the pipe holds is not read yet, and what the program holds not written.
+                found.append(comes_to(f"{made}.tmp", (len(found) + 1) * len(half) * 9 // 10))
+            create.stdin.close()
+        return [*found, os.path.getsize(made) == sum(len(it) - 2 for it in records) + 24 * len(records) + 2048]
+
+
 def main():
     if len(sys.argv) != 2:
         sys.exit(__doc__)
@@ -242,6 +277,7 @@ def main():
     came = try_page(program, "man/cdb.1", blocks_of_manual("man/cdb.1"))
     for page in ("docs/GUIDE.md", "README.md"):
         came += try_page(program, page, blocks_of_page(page))
+    came.append(("docs/GUIDE.md: how far a create is, and how long its file gets", grows(program), [True] * 3))
     wrong = [it for it in came if it[1] != it[2]]
     for what, got, wanted in wrong:
         print(f"{what}: {got!r:.300} and not {wanted!r:.300}")
