@@ -28,7 +28,7 @@ BEFORE = {
     "docs/GUIDE.md": r"""
 mkdir postfix primary
 printf 'abuse@example.org root\n' > postfix/virtual
-printf '# ours\npostmaster: root\n\nlist : alice,\n    bob\nabuse:root\n' > postfix/aliases
+printf '# ours\nPostmaster: root\n\nlist : alice,\n    Bob\nabuse:root\n' > postfix/aliases
 printf 'postmaster root\nabuse      root\n' > aliases
 printf '+4,2:+one->10\n\n' | cdb -c data.cdb
 cp data.cdb primary/data.cdb
@@ -91,7 +91,7 @@ WHOLE = {
     "docs/GUIDE.md": (
         "cdb -d -m words.cdb; cdb -d -m map.cdb; cdb -d -m aliases.cdb",
         "two Goodbye\nthree Hello again\npostmaster alice\n"
-        "postmaster root\nlist alice,    bob\nabuse root\n",
+        "postmaster root\nlist alice,    Bob\nabuse root\n",
     ),
     "man/cdb.1": ("cdb -d -m copy.cdb", "postmaster alice\n"),
 }
@@ -244,6 +244,18 @@ def try_page(program, page, blocks):
     return came
 
 
+def refused(program):
+    """What the guide's map of aliases says of those that it does not take, and whether a database is made of them."""
+    block = next(it for it in blocks_of_page("docs/GUIDE.md") if it.startswith("awk")).replace(*MOVED[0])
+    for text in ('"john smith": js\n', "root: ann\nabuse root\n"):
+        with tempfile.TemporaryDirectory() as folder:
+            shell = Shell(program, folder)
+            os.mkdir(os.path.join(shell.folder, "postfix"))
+            with open(os.path.join(shell.folder, "postfix", "aliases"), "w", encoding="ascii") as file:
+                file.write(text)
+            yield shell.run(block), databases(shell.folder)
+
+
 def comes_to(path, size):
     """Whether a file comes to a size within a minute."""
     end = time.monotonic() + 60
@@ -278,6 +290,8 @@ def main():
     for page in ("docs/GUIDE.md", "README.md"):
         came += try_page(program, page, blocks_of_page(page))
     came.append(("docs/GUIDE.md: how far a create is, and how long its file gets", grows(program), [True] * 3))
+    says = [f"status 1: not a plain alias: {it}" for it in ('"john smith": js\n', "abuse root\n")]
+    came.append(("docs/GUIDE.md: aliases that are refused", [*refused(program)], [(it, {}) for it in says]))
     wrong = [it for it in came if it[1] != it[2]]
     for what, got, wanted in wrong:
         print(f"{what}: {got!r:.300} and not {wanted!r:.300}")
