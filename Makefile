@@ -1,5 +1,5 @@
 # make            builds the proved program, bin/cdb
-# make try        runs the program unproved, in a minute: makes a small database, bin/try.cdb, and queries it
+# make try        runs the program unproved, in 3 minutes: makes a small database, bin/try.cdb, and queries it
 # make quick      runs the tests that need no proof, on what is compiled without one, in 5 to 8 minutes
 # make demo       builds it, and shows it at work on a small alias map
 # make test       the gate: builds, proves everything from nothing, tries wrong bodies and runs every test

@@ -54,7 +54,7 @@ table sizes least/average/greatest: 2/2/2
 """ + "".join(f"distance {n}: {int(n == 0)}\n" for n in range(10)) + "distance 10 or more: 0\n"
 # What each block without prompts writes, in order; each page ends with what WHOLE shows.
 WRITTEN = {
-    "README.md": [None],
+    "README.md": [None, None, None],
     "docs/GUIDE.md": [
         None,
         "root\n",
@@ -134,10 +134,10 @@ def blocks_of_manual(page):
 
 
 def blocks_of_page(page):
-    """The examples of a page: its blocks for the shell, but for the words of make."""
+    """The examples of a page: its blocks for the shell, but for those that build or install."""
     with open(os.path.join(TOP, page), encoding="utf-8") as file:
         blocks = re.findall(r"^```sh\n(.*?)^```$", file.read(), re.M | re.S)
-    return [block for block in blocks if not re.match(r"make\b", block)]
+    return [block for block in blocks if not re.match(r"(make|apt)\b", block)]
 
 
 def steps_of(block):

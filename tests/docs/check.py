@@ -8,7 +8,8 @@ of a file or a folder, each name is one of the sources, each `make TARGET` a tar
 The page CALLING.md of a crate names each public item and function of its library. Something else than
 a test calls each public item, or public_items.py says why it is there. What tools/pages.py writes of
 the pages is what the sources give, and CONTRIBUTING.md names each part of the tests. docs/audit/ORACLE.md
-shows each definition of the oracle as it reads. Each wrong body can be tried.
+shows each definition of the oracle as it reads. Each figure that README.md or docs/GUIDE.md repeats is that of its
+source. Each wrong body can be tried.
 """
 
 import glob
@@ -17,6 +18,7 @@ import re
 import subprocess
 import sys
 
+from figures import wrong_figures
 from public_items import wrong_items
 from sources import TOP, sources_of, text_of
 
@@ -189,13 +191,14 @@ def wrong_pages():
 
 
 def wrong_oracle():
-    """What the page of the oracle shows otherwise than the sources, and the definitions it leaves out."""
+    """What pages show of the oracle otherwise than the sources, and the definitions that its own page leaves out."""
     sources = "\n".join(text_of(it) for it in ORACLE_SOURCES)
-    shown = "".join(re.findall(r"^```text\n(.*?)^```", text_of(ORACLE), re.M | re.S))
     known = {line.strip() for line in sources.split("\n")}
-    for line in shown.split("\n"):
-        if line.strip() not in known:
-            yield f"{ORACLE}: {line.strip()} is not in the sources"
+    for page in ("README.md", ORACLE):
+        shown = "".join(re.findall(r"^```text\n(.*?)^```", text_of(page), re.M | re.S))
+        for line in shown.split("\n"):
+            if line.strip() not in known:
+                yield f"{page}: {line.strip()} is not in the sources"
     for name in re.findall(r"^(?:abbrev pub|pub record) (\w+) :", sources, re.M):
         if not re.search(rf"^(?:pub record )?{name}\b.*[=:]", shown, re.M):
             yield f"{ORACLE}: {name} is not shown"
@@ -216,7 +219,7 @@ def main():
         crate = path.split("/")[1]
         wrong += wrong_calling(crate)
         count += 1
-    wrong += [*wrong_bodies(), *wrong_parts(), *wrong_pages(), *wrong_oracle(), *wrong_items()]
+    wrong += [*wrong_bodies(), *wrong_parts(), *wrong_pages(), *wrong_oracle(), *wrong_items(), *wrong_figures()]
     for it in wrong:
         print(it)
     failed = len({it.split(":")[0] for it in wrong})
