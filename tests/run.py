@@ -45,6 +45,11 @@ def compiler():
     return (os.environ.get("CC") or "cc").split()[0]
 
 
+def checker():
+    """The checker's command."""
+    return os.environ.get("RT") or "rt"
+
+
 def is_dynamic(program):
     """Whether a program is loaded with the C library, so that another library can be loaded ahead of it."""
     with open(program, "rb") as file:
@@ -78,7 +83,10 @@ def parts_of(program, is_gate):
     c = ("C compiler", compiler())
     package = ("command dpkg-deb", "dpkg-deb")
     static = ("static program", "" if is_dynamic(program) else program)
-    objects = (os.path.join(os.path.dirname(program), "cdb.o"), f"{place}/libcdb_c.a")
+    dynamic = (f"program {os.path.relpath(loaded, TOP)} with a loader", loaded)
+    code = f"{place}/libcdb_c.a"
+    proved = (f"{code}, nor toolchain that builds it,", code if os.path.isfile(os.path.join(TOP, code)) else checker())
+    objects = (os.path.join(os.path.dirname(program), "cdb.o"), code)
     parts = [
         Part("tests/docs/check.py", sources=True),
         Part("tests/cli/run.py", (program,)),
@@ -100,26 +108,26 @@ def parts_of(program, is_gate):
         Part("tests/package/version.py", sources=True),
         Part("tests/package/run.py", (program,), (package, static)),
         Part("tests/package/release.py", objects, (c, ("command git", "git"), *((f"file {it}", it) for it in objects)), sources=True),
-        Part("tests/package/installing.py", (program, made["libcdb.so.1"]), (c,), (made["libcdb.so.1"],)),
-        Part("tests/faults/run.py", (loaded, refuse, "memory"), (c,), (refuse,)),
-        Part("tests/faults/run.py", (loaded, refuse, "calls"), (c,), (refuse,)),
-        Part("tests/faults/memory.py", (loaded, refuse), (c,), (refuse,)),
-        Part("tests/faults/closed.py", (loaded, refuse), (c,), (refuse,)),
-        Part("tests/faults/syncs.py", (loaded, refuse), (c,), (refuse,)),
-        Part("tests/faults/names.py", (loaded, refuse), (c,), (refuse,)),
-        Part("tests/faults/causes.py", (loaded, refuse), (c,), (refuse,)),
-        Part("tests/faults/killed.py", (loaded, refuse), (c,), (refuse,)),
-        Part("tests/faults/others.py", (loaded, refuse), (c,), (refuse,)),
-        Part("tests/faults/parts.py", (loaded, refuse), (c,), (refuse,)),
+        Part("tests/package/installing.py", (program, made["libcdb.so.1"]), (c, proved), (made["libcdb.so.1"],)),
+        Part("tests/faults/run.py", (loaded, refuse, "memory"), (c, dynamic), (refuse,)),
+        Part("tests/faults/run.py", (loaded, refuse, "calls"), (c, dynamic), (refuse,)),
+        Part("tests/faults/memory.py", (loaded, refuse), (c, dynamic), (refuse,)),
+        Part("tests/faults/closed.py", (loaded, refuse), (c, dynamic), (refuse,)),
+        Part("tests/faults/syncs.py", (loaded, refuse), (c, dynamic), (refuse,)),
+        Part("tests/faults/names.py", (loaded, refuse), (c, dynamic), (refuse,)),
+        Part("tests/faults/causes.py", (loaded, refuse), (c, dynamic), (refuse,)),
+        Part("tests/faults/killed.py", (loaded, refuse), (c, dynamic), (refuse,)),
+        Part("tests/faults/others.py", (loaded, refuse), (c, dynamic), (refuse,)),
+        Part("tests/faults/parts.py", (loaded, refuse), (c, dynamic), (refuse,)),
     ]
     if is_gate:
         parts.append(Part("tests/faults/calls.py", (refuse,), (c,), (refuse,)))
     library = (made["answers"], made["libcdb.a"], "WERROR=-Werror")
-    parts.append(Part("tests/clib/run.py", (made["answers"], place, program), (c,), library))
+    parts.append(Part("tests/clib/run.py", (made["answers"], place, program), (c, proved), library))
     drivers = (made["makes"], made["refused"], made["edges"])
     makers = (*drivers, made["sanitized"], "WERROR=-Werror")
-    parts.append(Part("tests/clib/making.py", (*drivers, place), (c,), makers))
-    parts.append(Part("tests/clib/package.py", (place,), (c, package), library))
+    parts.append(Part("tests/clib/making.py", (*drivers, place), (c, proved), makers))
+    parts.append(Part("tests/clib/package.py", (place,), (c, package, proved), library))
     has_sources = os.path.isdir(os.path.join(TOP, "crates"))
     return [it for it in parts if has_sources or not it.sources]
 
