@@ -29,10 +29,14 @@ INSTALLED = """bin/cdb share/man/man1/cdb.1 share/man/man5/cdb.5 share/doc/pezun
     include/cdb.h lib/libcdb.so.1 lib/libcdb.a lib/pkgconfig/libcdb.pc share/man/man3/cdb.3""".split()
 # The targets of the tree that need the toolchain, or a checkout.
 TARGETS = "all try quick demo proofs test wrong clib dist deb install install-clib interop bench".split()
-# A compiler that links nothing statically, as where there is no static C library.
+# Compilers: one that links nothing statically, as where there is no static C library, and one whose programs do not
+# run, as with a C library for which the objects are not made.
 NO_STATIC = """#!/bin/sh
 for word; do case $word in -static*) echo 'ld: cannot find -lc' >&2; exit 1;; esac; done
 exec {compiler} "$@"
+"""
+NOT_RUNNING = """#!/bin/sh
+{compiler} "$@" && case "$*" in *cdb.new*) echo exit 1 > bin/cdb.new;; esac
 """
 
 
@@ -174,13 +178,20 @@ def refuses(release):
     yield "no compiler", is_one_line(machine.make(release.tree(), "CC=no-such-compiler"), "There is no C compiler no-such-compiler")
 
 
-def lacks_static(release):
-    """A compiler without a static C library links a program with a loader, and none that must be static."""
-    machine = release.machine
+def wrapped(machine, text):
+    """A compiler of some text."""
     path = os.path.join(machine.place("compiler"), "cc")
     with open(path, "w", encoding="ascii") as to:
-        to.write(NO_STATIC.format(compiler=compiler()))
+        to.write(text.format(compiler=compiler()))
     os.chmod(path, 0o755)
+    return path
+
+
+def lacks_static(release):
+    """A compiler without a static C library links a program with a loader, and none that must be static. One whose
+    programs do not run links none."""
+    machine = release.machine
+    path = wrapped(machine, NO_STATIC)
     tree = release.tree()
     status, lines = machine.make(tree, f"CC={path}", "bin/cdb")
     yield "dynamic without a static C library", status == 0 and is_loaded(f"{tree}/bin/cdb") and "bin/cdb is dynamic" in lines[0]
@@ -188,6 +199,9 @@ def lacks_static(release):
     status, lines = machine.make(tree, f"CC={path}", "LDFLAGS=-static", "bin/cdb")
     says = lines == ["ld: cannot find -lc", f"bin/cdb cannot be linked with -static: see above what {path} lacks"]
     yield "not static without a static C library", status != 0 and says and os.listdir(f"{tree}/bin") == []
+    tree = release.tree()
+    came = machine.make(tree, f"CC={wrapped(machine, NOT_RUNNING)}", "LDFLAGS=-pie", "bin/cdb")
+    yield "no program that does not run", is_one_line(came, "bin/cdb does not run") and os.listdir(f"{tree}/bin") == []
 
 
 def files_below(folder):
