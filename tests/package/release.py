@@ -7,7 +7,8 @@ OBJECT is the program's, cdb.o, and LIBRARY the code of the C library, libcdb_c.
 checker's. What is built must run the worked example of tests/cli/files.py: by the C compiler in the environment's CC,
 else `cc`, and by clang if it is there, and as each flag says that a program is linked. Then what can go wrong: a tarball
 without its objects or with others, a compiler without a static C library, an install over a program that runs, an
-uninstall of what was changed since. The tree's own targets must say in one line what they lack.
+uninstall of what was changed since. The tree's own targets must say in one line what they lack. In a tree that is no
+git checkout nothing is tested, and the last line says so.
 """
 
 import hashlib
@@ -18,7 +19,7 @@ import subprocess
 import sys
 import tempfile
 
-from run import TOP, runs_example
+from run import TOP, is_checkout, runs_example
 
 TOOL = os.path.join(TOP, "tools", "release.py")
 # How a program is linked, and whether it is loaded then.
@@ -261,6 +262,9 @@ def lacks_toolchain(machine):
 def main():
     if len(sys.argv) != 3:
         sys.exit(__doc__)
+    if not is_checkout():
+        print("0 passed, 0 failed: this is no git checkout, of which a tarball is made")
+        return
     with tempfile.TemporaryDirectory() as folder:
         machine = Machine(folder)
         release = Release(machine, [os.path.abspath(it) for it in sys.argv[1:]])
