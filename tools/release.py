@@ -14,6 +14,7 @@ import hashlib
 import io
 import os
 import platform
+import shutil
 import sys
 import tarfile
 
@@ -70,6 +71,9 @@ def with_files(tar, whole, files):
 
 def make_release(program, library, folder):
     """Makes the tarball of a program's object and a library, and answers its name."""
+    checker = os.environ.get("RT") or "rt"
+    if shutil.which(checker) is None:
+        missing(f"they need the toolchain's C, and there is no command {checker}")
     objects = read_all([program, library, *archives()])
     if f"cdb {version()} ({NAME.capitalize()})\n".encode() not in objects[os.path.basename(program)]:
         missing(f"{program} is of another version than {version()}")

@@ -119,6 +119,8 @@ def made_of(release):
     for what, objects in {"program": ("none.o", library), "library": (program, "none.a")}.items():
         made, said = release.made(*objects)
         yield f"no tarball without a {what}", made is None and said.startswith("No tarball of the objects: none.")
+    came = release.machine.run([TOOL, program, library, release.machine.place("dist")], release.machine.folder)
+    yield "no tarball without the toolchain", came == (0, ["No tarball of the objects: they need the toolchain's C, and there is no command rt"])
     old = os.path.join(release.machine.place("old"), "cdb.o")
     with open(old, "wb") as to:
         to.write(re.sub(rb"cdb \d\S+ \(Pezundrix\)", b"cdb 0.0.1 (Pezundrix)", read(program)))
