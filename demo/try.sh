@@ -3,6 +3,7 @@
 # and queries it. Run at the top; the checker is the command in RT, else `rt`.
 set -eu
 rt=${RT:-rt}
+command -v "$rt" > /dev/null || { echo "cdb cannot be compiled: the Rattle toolchain is not there: no command $rt"; exit 1; }
 mkdir -p bin
 top=$PWD
 new=$top/bin/try.cdb

@@ -12,6 +12,7 @@ and failed.
 
 import os
 import re
+import shutil
 import subprocess
 import sys
 import time
@@ -88,6 +89,8 @@ def run(part):
 def main():
     if len(sys.argv) != 1:
         sys.exit(__doc__)
+    if shutil.which(checker()) is None:
+        sys.exit(f"The tests cannot be compiled: the Rattle toolchain is not there: no command {checker()}")
     began = time.monotonic()
     memory = os.sysconf("SC_PAGE_SIZE") * os.sysconf("SC_PHYS_PAGES")
     at_once = max(1, min(len(os.sched_getaffinity(0)), memory // MEMORY))

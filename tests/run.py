@@ -6,7 +6,8 @@
 With --gate it also runs those that need what the proof of the whole repository leaves, its programs
 of tests, and each part must pass as many as tools/floors.txt says. A part that this machine cannot run is left out
 and named at the end; in CI, which the variable CI of the environment says, that is a failure. What the parts need is
-built beside the program if that is below bin, else in bin. The last line counts all that passed and failed.
+built beside the program if that is below bin, else in bin. A release has no sources: there the parts that read them are
+no parts. The last line counts all that passed and failed.
 """
 
 import os
@@ -25,13 +26,15 @@ LOADED = "crates/cdb/out/cdb"
 
 @dataclass
 class Part:
-    """A part of the tests: its script with the words after it, and what it needs of the machine."""
+    """A part of the tests: its script with the words after it, and what it needs: commands or files."""
 
     script: str
     words: tuple = ()
     needs: tuple = ()
     # What make builds first.
     built: tuple = ()
+    # Whether it reads the sources, and what is built or packed of them.
+    sources: bool = False
 
     def __str__(self):
         return " ".join((self.script, *self.words))
@@ -40,6 +43,11 @@ class Part:
 def compiler():
     """The C compiler, as make calls it."""
     return (os.environ.get("CC") or "cc").split()[0]
+
+
+def checker():
+    """The checker's command."""
+    return os.environ.get("RT") or "rt"
 
 
 def is_dynamic(program):
@@ -74,8 +82,13 @@ def parts_of(program, is_gate):
     refuse, orders = made["refuse.so"], made["orders"]
     c = ("C compiler", compiler())
     package = ("command dpkg-deb", "dpkg-deb")
+    static = ("static program", "" if is_dynamic(program) else program)
+    dynamic = (f"program {os.path.relpath(loaded, TOP)} with a loader", loaded)
+    code = f"{place}/libcdb_c.a"
+    proved = (f"{code}, nor toolchain that builds it,", code if os.path.isfile(os.path.join(TOP, code)) else checker())
+    objects = (os.path.join(os.path.dirname(program), "cdb.o"), code)
     parts = [
-        Part("tests/docs/check.py"),
+        Part("tests/docs/check.py", sources=True),
         Part("tests/cli/run.py", (program,)),
         Part("tests/cli/large.py", (program,)),
         Part("tests/cli/pages.py", (program,)),
@@ -90,31 +103,33 @@ def parts_of(program, is_gate):
         Part("tests/cli/differences.py", (program,)),
         Part("tests/cli/lookups.py", (program,)),
         Part("tests/growth/run.py", (program,)),
-        Part("tests/build/run.py"),
-        Part("tests/build/gate.py"),
-        Part("tests/package/version.py"),
-        Part("tests/package/run.py", (program,), (package,)),
-        Part("tests/package/installing.py", (program, made["libcdb.so.1"]), (c,), (made["libcdb.so.1"],)),
-        Part("tests/faults/run.py", (loaded, refuse, "memory"), (c,), (refuse,)),
-        Part("tests/faults/run.py", (loaded, refuse, "calls"), (c,), (refuse,)),
-        Part("tests/faults/memory.py", (loaded, refuse), (c,), (refuse,)),
-        Part("tests/faults/closed.py", (loaded, refuse), (c,), (refuse,)),
-        Part("tests/faults/syncs.py", (loaded, refuse), (c,), (refuse,)),
-        Part("tests/faults/names.py", (loaded, refuse), (c,), (refuse,)),
-        Part("tests/faults/causes.py", (loaded, refuse), (c,), (refuse,)),
-        Part("tests/faults/killed.py", (loaded, refuse), (c,), (refuse,)),
-        Part("tests/faults/others.py", (loaded, refuse), (c,), (refuse,)),
-        Part("tests/faults/parts.py", (loaded, refuse), (c,), (refuse,)),
+        Part("tests/build/run.py", sources=True),
+        Part("tests/build/gate.py", sources=True),
+        Part("tests/package/version.py", sources=True),
+        Part("tests/package/run.py", (program,), (package, static)),
+        Part("tests/package/release.py", objects, (c, ("command git", "git"), *((f"file {it}", it) for it in objects)), sources=True),
+        Part("tests/package/installing.py", (program, made["libcdb.so.1"]), (c, proved), (made["libcdb.so.1"],)),
+        Part("tests/faults/run.py", (loaded, refuse, "memory"), (c, dynamic), (refuse,)),
+        Part("tests/faults/run.py", (loaded, refuse, "calls"), (c, dynamic), (refuse,)),
+        Part("tests/faults/memory.py", (loaded, refuse), (c, dynamic), (refuse,)),
+        Part("tests/faults/closed.py", (loaded, refuse), (c, dynamic), (refuse,)),
+        Part("tests/faults/syncs.py", (loaded, refuse), (c, dynamic), (refuse,)),
+        Part("tests/faults/names.py", (loaded, refuse), (c, dynamic), (refuse,)),
+        Part("tests/faults/causes.py", (loaded, refuse), (c, dynamic), (refuse,)),
+        Part("tests/faults/killed.py", (loaded, refuse), (c, dynamic), (refuse,)),
+        Part("tests/faults/others.py", (loaded, refuse), (c, dynamic), (refuse,)),
+        Part("tests/faults/parts.py", (loaded, refuse), (c, dynamic), (refuse,)),
     ]
     if is_gate:
         parts.append(Part("tests/faults/calls.py", (refuse,), (c,), (refuse,)))
     library = (made["answers"], made["libcdb.a"], "WERROR=-Werror")
-    parts.append(Part("tests/clib/run.py", (made["answers"], place, program), (c,), library))
+    parts.append(Part("tests/clib/run.py", (made["answers"], place, program), (c, proved), library))
     drivers = (made["makes"], made["refused"], made["edges"])
     makers = (*drivers, made["sanitized"], "WERROR=-Werror")
-    parts.append(Part("tests/clib/making.py", (*drivers, place), (c,), makers))
-    parts.append(Part("tests/clib/package.py", (place,), (c, package), library))
-    return parts
+    parts.append(Part("tests/clib/making.py", (*drivers, place), (c, proved), makers))
+    parts.append(Part("tests/clib/package.py", (place,), (c, package, proved), library))
+    has_sources = os.path.isdir(os.path.join(TOP, "crates"))
+    return [it for it in parts if has_sources or not it.sources]
 
 
 def floors():
@@ -131,7 +146,7 @@ def name_of(part, least):
 
 def lacks(part):
     """What a part needs and this machine lacks, or None."""
-    return next((name for name, command in part.needs if shutil.which(command) is None), None)
+    return next((name for name, it in part.needs if shutil.which(it) is None and not os.path.isfile(it)), None)
 
 
 def run(part, place, out):

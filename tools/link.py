@@ -1,6 +1,6 @@
 #!/usr/bin/env python3
 """Links a proved program statically: the object that the checker leaves beside it, with the toolchain's C
-over the machine's C library.
+over the machine's C library. The object is copied beside the program, for a release.
 
     tools/link.py CRATE TARGET
 
@@ -45,6 +45,7 @@ def links_statically(crate, target):
     made = os.path.join(crate, "out", f"{os.path.basename(os.path.normpath(crate))}.o")
     if not os.path.isfile(made):
         return False
+    shutil.copy(made, os.path.join(os.path.dirname(os.path.abspath(target)), os.path.basename(made)))
     words = [*compiler(), *FLAGS, "-o", target, made, *archives()]
     try:
         return subprocess.run(words, capture_output=True, check=False).returncode == 0

@@ -232,6 +232,8 @@ def files_of(program, when):
     files = {
         "usr/bin/cdb": (0o755, program),
         "usr/share/bash-completion/completions/cdb": (0o644, read("completion", "cdb")),
+        "usr/share/zsh/vendor-completions/_cdb": (0o644, read("completion", "_cdb")),
+        "usr/share/fish/vendor_completions.d/cdb.fish": (0o644, read("completion", "cdb.fish")),
         f"usr/share/doc/{NAME}/GUIDE.md.gz": (0o644, squeezed(read("docs", "GUIDE.md"))),
         f"usr/share/lintian/overrides/{NAME}": (0o644, OVERRIDES.format(**facts()).encode()),
     }
@@ -287,7 +289,7 @@ def building_files(library, archive, when):
 
 def described_library(prefix, folder):
     """The library as pkg-config reads it."""
-    words = {"PREFIX": prefix, "LIBDIR": folder, "VERSION": interface()}
+    words = {"PREFIX": prefix, "LIBDIR": folder, "VERSION": interface(), "RELEASE": version()}
     return re.sub(r"@(\w+)@", lambda word: words[word[1]], read("clib", "libcdb.pc.in").decode())
 
 
@@ -354,11 +356,22 @@ def make_clib(libraries, folder):
     ]
 
 
+def committed(whole, *paths):
+    """The files of the commit that is checked out, all or those at some paths, as a tarball of a folder."""
+    words = ["git", "-c", "tar.umask=0022", "archive", "--format=tar", f"--prefix={whole}/", "HEAD", *paths]
+    try:
+        done = subprocess.run(words, cwd=TOP, capture_output=True, check=False)
+    except FileNotFoundError:
+        sys.exit("No tarball is made: the command git is not there")
+    if done.returncode != 0:
+        sys.exit("No tarball is made: it has what git says is committed, and this is no git checkout")
+    return done.stdout
+
+
 def make_dist(folder):
     """Makes the tarball of the commit that is checked out, and answers its name."""
     whole = f"{NAME}-{version()}"
-    words = ["git", "-c", "tar.umask=0022", "archive", "--format=tar", f"--prefix={whole}/", "HEAD"]
-    tar = subprocess.run(words, cwd=TOP, stdout=subprocess.PIPE, check=True).stdout
+    tar = committed(whole)
     made = os.path.join(folder, f"{whole}.tar.gz")
     with open(made, "wb") as file:
         file.write(squeezed(tar))

@@ -19,6 +19,7 @@ import shutil
 import subprocess
 import sys
 import tempfile
+import time
 
 TOP = os.path.join(os.path.dirname(os.path.abspath(__file__)), "..", "..")
 # What the shell makes before the examples of a page: the files that they speak of.
@@ -27,7 +28,7 @@ BEFORE = {
     "docs/GUIDE.md": r"""
 mkdir postfix primary
 printf 'abuse@example.org root\n' > postfix/virtual
-printf '# ours\npostmaster: root\n\nlist : alice,\n    bob\nabuse:root\n' > postfix/aliases
+printf '# ours\nPostmaster: root\n\nlist : alice,\n    Bob\nabuse:root\n' > postfix/aliases
 printf 'postmaster root\nabuse      root\n' > aliases
 printf '+4,2:+one->10\n\n' | cdb -c data.cdb
 cp data.cdb primary/data.cdb
@@ -36,6 +37,8 @@ cp map.cdb primary/map.cdb
 printf 'postmaster alice\nabuse root\n' > source
 printf '+7,5:old.net->carol\n\n' | cdb -c owners.cdb
 printf 'old.net x\nold.net\n' > hosts
+printf 'one 1\n\ntwo 2\none 3\n' > twice
+printf 'postmaster tom\nabuse kris\npostmaster ann\n' | cdb -c -m made.cdb
 host=old.net
 """,
     "man/cdb.1": "",
@@ -51,7 +54,7 @@ table sizes least/average/greatest: 2/2/2
 """ + "".join(f"distance {n}: {int(n == 0)}\n" for n in range(10)) + "distance 10 or more: 0\n"
 # What each block without prompts writes, in order; each page ends with what WHOLE shows.
 WRITTEN = {
-    "README.md": [None],
+    "README.md": [None, None, None],
     "docs/GUIDE.md": [
         None,
         "root\n",
@@ -68,6 +71,12 @@ WRITTEN = {
         "",
         "",
         "",
+        "three Hello again\n",
+        "cdb: input 1: record 3: duplicate key\ncdb: twice: line 4: key one\n",
+        "postmaster\n",
+        "2c2,3\n< postmaster kris\n---\n> postmaster ann\n> postmaster tom\n",
+        "",
+        "abuse kris\npostmaster tom\npostmaster ann\n",
         "",
         "",
         "",
@@ -82,7 +91,7 @@ WHOLE = {
     "docs/GUIDE.md": (
         "cdb -d -m words.cdb; cdb -d -m map.cdb; cdb -d -m aliases.cdb",
         "two Goodbye\nthree Hello again\npostmaster alice\n"
-        "postmaster root\nlist alice,    bob\nabuse root\n",
+        "postmaster root\nlist alice,    Bob\nabuse root\n",
     ),
     "man/cdb.1": ("cdb -d -m copy.cdb", "postmaster alice\n"),
 }
@@ -95,7 +104,7 @@ STAND_INS = {
 
 
 # A command of a block: what stands before it, and its name.
-COMMAND = re.compile(r"((?:^|[|;&({]|\bif\b)[ ]*)((?:awk|cdb|printf|cksum|postmap|rsync|ssh)\b(?= ))", re.M)
+COMMAND = re.compile(r"((?:^|[|;&({]|\bif\b)[ ]*(?:LC_ALL=C )?)((?:awk|cdb|printf|cksum|sort|postmap|rsync|ssh)\b(?= ))", re.M)
 # How a command fails: before it does anything, and after the first line that it writes.
 FAILS = {
     "at once": "fails() { return 1; }\n",
@@ -125,10 +134,10 @@ def blocks_of_manual(page):
 
 
 def blocks_of_page(page):
-    """The examples of a page: its blocks for the shell, but for the words of make."""
+    """The examples of a page: its blocks for the shell, but for those that build or install."""
     with open(os.path.join(TOP, page), encoding="utf-8") as file:
         blocks = re.findall(r"^```sh\n(.*?)^```$", file.read(), re.M | re.S)
-    return [block for block in blocks if not re.match(r"make\b", block)]
+    return [block for block in blocks if not re.match(r"(make|apt)\b", block)]
 
 
 def steps_of(block):
@@ -235,6 +244,44 @@ def try_page(program, page, blocks):
     return came
 
 
+def refused(program):
+    """What the guide's map of aliases says of those that it does not take, and whether a database is made of them."""
+    block = next(it for it in blocks_of_page("docs/GUIDE.md") if it.startswith("awk")).replace(*MOVED[0])
+    for text in ('"john smith": js\n', "root: ann\nabuse root\n"):
+        with tempfile.TemporaryDirectory() as folder:
+            shell = Shell(program, folder)
+            os.mkdir(os.path.join(shell.folder, "postfix"))
+            with open(os.path.join(shell.folder, "postfix", "aliases"), "w", encoding="ascii") as file:
+                file.write(text)
+            yield shell.run(block), databases(shell.folder)
+
+
+def comes_to(path, size):
+    """Whether a file comes to a size within a minute."""
+    end = time.monotonic() + 60
+    while not os.path.exists(path) or os.path.getsize(path) < size:
+        if time.monotonic() > end:
+            return False
+        time.sleep(0.01)
+    return True
+
+
+def grows(program):
+    """Whether the temporary file of a create grows while it reads, and whether its file gets as long as the guide says."""
+    records = [b"%d %s\n" % (it, b"v" * 100) for it in range(20_000)]
+    half = b"".join(records[:10_000])
+    with tempfile.TemporaryDirectory() as folder:
+        made, found = os.path.join(folder, "x.cdb"), []
+        with subprocess.Popen([program, "-c", "-m", made], stdin=subprocess.PIPE) as create:
+            for part in (half, b"".join(records[10_000:])):
+                create.stdin.write(part)
+                create.stdin.flush()
+                # What the pipe holds is not read yet, and what the program holds not written.
+                found.append(comes_to(f"{made}.tmp", (len(found) + 1) * len(half) * 9 // 10))
+            create.stdin.close()
+        return [*found, os.path.getsize(made) == sum(len(it) - 2 for it in records) + 24 * len(records) + 2048]
+
+
 def main():
     if len(sys.argv) != 2:
         sys.exit(__doc__)
@@ -242,6 +289,9 @@ def main():
     came = try_page(program, "man/cdb.1", blocks_of_manual("man/cdb.1"))
     for page in ("docs/GUIDE.md", "README.md"):
         came += try_page(program, page, blocks_of_page(page))
+    came.append(("docs/GUIDE.md: how far a create is, and how long its file gets", grows(program), [True] * 3))
+    says = [f"status 1: not a plain alias: {it}" for it in ('"john smith": js\n', "abuse root\n")]
+    came.append(("docs/GUIDE.md: aliases that are refused", [*refused(program)], [(it, {}) for it in says]))
     wrong = [it for it in came if it[1] != it[2]]
     for what, got, wanted in wrong:
         print(f"{what}: {got!r:.300} and not {wanted!r:.300}")

@@ -4,12 +4,14 @@
     tests/cli/pages.py PROGRAM
 
 The synopsis is to be the usage text, each letter of it is to be described, and each line that the
-cases of cases.py await on standard error is to stand among the diagnostics. README.md is to name the
-toolchain that proves the program: what the command in the environment's RT, else `rt`, prints.
+cases of cases.py await on standard error is to stand among the diagnostics. If the toolchain is there, the
+command in the environment's RT, else `rt`, README.md is to name it, as it proves the program. If the sources are there,
+docs/LIBRARY.md is to show the first caller as it is in cdb_uses.
 """
 
 import os
 import re
+import shutil
 import subprocess
 import sys
 
@@ -91,6 +93,23 @@ def is_shown(page, source):
         return "```rust\n" + file.read().split("\n", 1)[1] + "```" in shown.read()
 
 
+def of_toolchain(command):
+    """What is wrong of the toolchain that README.md names."""
+    version = subprocess.run([command, "version"], capture_output=True, check=True).stdout.decode()
+    with open(README, encoding="utf-8") as file:
+        toolchain = toolchain_of(file.read())
+    # Kits of one logic check alike; a kit's own name changes with its tools.
+    if toolchain.split(" logic ")[-1] != version.strip().split(" logic ")[-1]:
+        return [f"README.md names {toolchain}, and this is {version.strip()}"]
+    return []
+
+
+def of_library():
+    """What is wrong of the page on the library."""
+    shows = is_shown(LIBRARY, CALLER)
+    return [] if shows else ["docs/LIBRARY.md does not show the first caller as it is in cdb_uses"]
+
+
 def main():
     if len(sys.argv) != 2:
         sys.exit(__doc__)
@@ -112,18 +131,15 @@ def main():
     told = [line for line in lines if not any(it.fullmatch(line) for it in patterns)]
     if told:
         wrong.append(f"no diagnostic: {sorted(told)}")
-    rt = os.environ.get("RT") or "rt"
-    version = subprocess.run([rt, "version"], capture_output=True, check=True).stdout.decode()
-    with open(README, encoding="utf-8") as file:
-        toolchain = toolchain_of(file.read())
-    # Kits of one logic check alike; a kit's own name changes with its tools.
-    if toolchain.split(" logic ")[-1] != version.strip().split(" logic ")[-1]:
-        wrong.append(f"README.md names {toolchain}, and this is {version.strip()}")
-    if not is_shown(LIBRARY, CALLER):
-        wrong.append("docs/LIBRARY.md does not show the first caller as it is in cdb_uses")
+    count = 3
+    rt = shutil.which(os.environ.get("RT") or "rt")
+    if rt:
+        count, wrong = count + 1, wrong + of_toolchain(rt)
+    if os.path.isfile(CALLER):
+        count, wrong = count + 1, wrong + of_library()
     for it in wrong:
         print(it)
-    print(f"{5 - len(wrong)} passed, {len(wrong)} failed")
+    print(f"{count - len(wrong)} passed, {len(wrong)} failed")
     sys.exit(1 if wrong else 0)
 
 

@@ -4,11 +4,12 @@
     tests/docs/check.py
 
 Each link of a page leads to a file, and to a heading if it names one. Each path in backquotes is that
-of a file or a folder, each name is one of the sources, each `make TARGET` a target of the Makefile.
+of a file or a folder, each name is one of the sources, each `make TARGET` a target of the Makefile or of a release's.
 The page CALLING.md of a crate names each public item and function of its library. Something else than
 a test calls each public item, or public_items.py says why it is there. What tools/pages.py writes of
 the pages is what the sources give, and CONTRIBUTING.md names each part of the tests. docs/audit/ORACLE.md
-shows each definition of the oracle as it reads. Each wrong body can be tried.
+shows each definition of the oracle as it reads. Each figure that README.md or docs/GUIDE.md repeats is that of its
+source. Each wrong body can be tried.
 """
 
 import glob
@@ -17,10 +18,13 @@ import re
 import subprocess
 import sys
 
+from figures import wrong_figures
 from public_items import wrong_items
 from sources import TOP, sources_of, text_of
 
 PAGES = "tools/pages.py"
+# The files that make reads, here and in a release.
+MAKEFILES = ("Makefile", "clib/build.mk", "tools/install.mk", "release/Makefile")
 LISTED = "tools/wrong_bodies.txt"
 UNSHOWN = "tools/unshown_bodies.txt"
 ORACLE = "docs/audit/ORACLE.md"
@@ -83,7 +87,7 @@ class Names:
         self.ends = {end for it in self.files | self.folders for end in ends(it)}
         self.words = FOREIGN | edits()
         for it in listed:
-            if it.endswith(SOURCES) or os.path.basename(it) in ("Makefile", "crates.txt"):
+            if it.endswith(SOURCES) or it in (*MAKEFILES, "crates.txt"):
                 self.words.update(re.findall(r"[A-Za-z_][A-Za-z0-9_]*", text_of(it)))
 
     def has_path(self, path):
@@ -200,13 +204,14 @@ def wrong_pages():
 
 
 def wrong_oracle():
-    """What the page of the oracle shows otherwise than the sources, and the definitions it leaves out."""
+    """What pages show of the oracle otherwise than the sources, and the definitions that its own page leaves out."""
     sources = "\n".join(text_of(it) for it in ORACLE_SOURCES)
-    shown = "".join(re.findall(r"^```text\n(.*?)^```", text_of(ORACLE), re.M | re.S))
     known = {line.strip() for line in sources.split("\n")}
-    for line in shown.split("\n"):
-        if line.strip() not in known:
-            yield f"{ORACLE}: {line.strip()} is not in the sources"
+    for page in ("README.md", ORACLE):
+        shown = "".join(re.findall(r"^```text\n(.*?)^```", text_of(page), re.M | re.S))
+        for line in shown.split("\n"):
+            if line.strip() not in known:
+                yield f"{page}: {line.strip()} is not in the sources"
     for name in re.findall(r"^(?:abbrev pub|pub record) (\w+) :", sources, re.M):
         if not re.search(rf"^(?:pub record )?{name}\b.*[=:]", shown, re.M):
             yield f"{ORACLE}: {name} is not shown"
@@ -217,7 +222,7 @@ def main():
         sys.exit(__doc__)
     listed = files()
     names = Names(listed)
-    targets = set(re.findall(r"^([a-z\-]+):", text_of("Makefile"), re.M))
+    targets = {name for it in MAKEFILES for name in re.findall(r"^([a-z\-]+):", text_of(it), re.M)}
     wrong, count = [], 1
     for page in (it for it in listed if it.endswith(".md")):
         text = text_of(page)
@@ -228,6 +233,7 @@ def main():
         wrong += wrong_calling(crate)
         count += 1
     wrong += [*wrong_bodies(), *wrong_tests(), *wrong_parts(), *wrong_pages(), *wrong_oracle(), *wrong_items()]
+    wrong += wrong_figures()
     for it in wrong:
         print(it)
     failed = len({it.split(":")[0] for it in wrong})

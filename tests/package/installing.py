@@ -3,11 +3,12 @@
 
     tests/package/installing.py PROGRAM [LIBRARY]
 
-PROGRAM is bin/cdb, and LIBRARY bin/libcdb.so.1, or those of another such folder; neither is built again. The program is static, and has no
-loader. Each can lie at any address. The stack of each is no code, its tables are read only once they are filled,
-and each binds at once. The library has its name, and checks the ends of its buffers on the stack. The program runs on
-each processor of x86-64. If it lies in a folder `tested`, it may be the one that the gate took from `rt ci`, which has no word
-for a processor: that one needs a processor of 2009 or later.
+PROGRAM is bin/cdb, and LIBRARY bin/libcdb.so.1, or those of another such folder; neither is built again. The program is
+static, and has no loader, unless LINKED of the environment says that flags asked for another kind. Each can lie at any
+address. The stack of each is no code, its tables are read only once they are filled, and each binds at once. The library
+has its name, and checks the ends of its buffers on the stack. The program runs on each processor of x86-64. If it lies in
+a folder `tested`, it may be the one that the gate took from `rt ci`, which has no word for a processor: that one needs a
+processor of 2009 or later.
 """
 
 import os
@@ -18,7 +19,16 @@ import sys
 import tempfile
 
 TOP = os.path.join(os.path.dirname(os.path.abspath(__file__)), "..", "..")
-INSTALLED = {"bin/cdb": 0o755, "share/man/man1/cdb.1": 0o644, "share/man/man5/cdb.5": 0o644}
+INSTALLED = {
+    "bin/cdb": 0o755,
+    "share/man/man1/cdb.1": 0o644,
+    "share/man/man5/cdb.5": 0o644,
+    "share/bash-completion/completions/cdb": 0o644,
+    "share/zsh/site-functions/_cdb": 0o644,
+    "share/fish/vendor_completions.d/cdb.fish": 0o644,
+    "share/doc/pezundrix/GUIDE.md": 0o644,
+    "share/doc/pezundrix/LICENSE": 0o644,
+}
 # The kinds of parts that the loader reads, and the tags of the dynamic part.
 DYNAMIC, INTERPRETER, STACK, RELRO = 2, 3, 0x6474E551, 0x6474E552
 STRINGS, SONAME, FLAGS, FLAGS_1 = 5, 14, 30, 0x6FFFFFFB
@@ -119,7 +129,7 @@ def notes():
         bits = [os.stat(root + it).st_mode & 0o777 for it in ("/share/it", "/share/it/a.list")]
         yield "all may read the list", bits == [0o755, 0o644]
         listed = [line.split("  ")[1] for line in read(root + "/share/it/a.list").decode().splitlines()]
-        yield "a second install adds to the list", listed == ["/lib/a", "/lib64/a"]
+        yield "a second install adds to the list", sorted(listed) == ["/lib/a", "/lib64/a"]
         installed("remove", root, "/share/it/a.list")
         yield "what two installs put there is removed", files_in(root) == []
 
@@ -131,7 +141,7 @@ def files_in(root):
 
 def installed(*words):
     """Runs the tool that keeps the list, as a user whose new files are for that user alone."""
-    words = [sys.executable, os.path.join(TOP, "tools", "installed.py"), *words]
+    words = ["sh", os.path.join(TOP, "tools", "installed.sh"), *words]
     subprocess.run(words, check=True, stdout=subprocess.DEVNULL, preexec_fn=lambda: os.umask(0o077))
 
 
@@ -163,7 +173,8 @@ def main():
     if len(sys.argv) not in (2, 3):
         sys.exit(__doc__)
     program = os.path.abspath(sys.argv[1])
-    held = [*installs(program), *keeps_others(program), *notes(), *is_linked(program)]
+    held = [*installs(program), *keeps_others(program), *notes()]
+    held += [] if os.environ.get("LINKED") else is_linked(program)
     for library in sys.argv[2:]:
         held += is_shared(library)
     wrong = [what for what, holds in held if not holds]

@@ -33,6 +33,8 @@ HELD = {
     "usr/share/doc/pezundrix/changelog.gz": 0o644,
     "usr/share/doc/pezundrix/GUIDE.md.gz": 0o644,
     "usr/share/bash-completion/completions/cdb": 0o644,
+    "usr/share/zsh/vendor-completions/_cdb": 0o644,
+    "usr/share/fish/vendor_completions.d/cdb.fish": 0o644,
 }
 
 
@@ -70,14 +72,28 @@ def holds_files(tree):
     return all(os.path.isfile(it) and os.stat(it).st_mode & 0o7777 == mode for it, mode in paths.items())
 
 
-def completes(program, tree):
-    """Whether bash completes a hyphen to the letters of the usage text."""
+def bash_letters(tree):
+    """The letters to which bash completes a hyphen."""
     script = os.path.join(tree, "usr", "share", "bash-completion", "completions", "cdb")
     asked = f'source {script}; COMP_WORDS=(cdb -); COMP_CWORD=1; _cdb; echo "${{COMPREPLY[@]}}"'
-    letters = {it[1] for it in output_of(["bash", "-c", asked]).decode().split()}
+    return {it[1] for it in output_of(["bash", "-c", asked]).decode().split()}
+
+
+def other_letters(tree):
+    """The letters that zsh and fish get, each with what it does."""
+    for name, letter in {
+        "zsh/vendor-completions/_cdb": r"^\t'(?:\([^)]*\))?-(\w)\[\w[^]]+\]",
+        "fish/vendor_completions.d/cdb.fish": r"^complete -c cdb -s (\w)(?: -\w)* -d '\w[^']+'$",
+    }.items():
+        with open(os.path.join(tree, "usr", "share", name), encoding="utf-8") as file:
+            yield set(re.findall(letter, file.read(), re.M))
+
+
+def completes(program, tree):
+    """Whether each shell completes a hyphen to the letters of the usage text."""
     usage = output_of([program, "-h"]).decode()
     named = set(re.findall(r"-([A-Za-z])\b", usage)) | set("".join(re.findall(r"\[-([a-z]+)\]", usage)))
-    return named <= letters
+    return all(named == letters for letters in (bash_letters(tree), *other_letters(tree)))
 
 
 def conflicts(package):
@@ -134,7 +150,7 @@ def tests_of(program, folder):
         "the package conflicts with tinycdb": conflicts(package),
         "the package says who publishes it, if somebody does": has_fields(program, folder),
         "the program is stripped": is_stripped(tree),
-        "bash completes the letters": completes(program, tree),
+        "each shell completes the letters": completes(program, tree),
         "the example runs from the package": runs_example(os.path.join(tree, "usr", "bin", "cdb"), folder),
     }
     if shutil.which("lintian"):
