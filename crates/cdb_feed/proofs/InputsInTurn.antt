@@ -1,11 +1,11 @@
 -- The inputs that a run read, one part of them after another.
 use Rattle.std.proofs.Common.{◌≡◌, ℕ, List, [], ◌∷◌, ◌++◌, length, take, drop, ap, refl, subst, suc, sym}
-use Rattle.cdb_feed.specs.Feed.{Feed, FromTo, Keeps}
+use Rattle.cdb_form.specs.Fed.Feed.{Feed, FromTo, Keeps}
 use Rattle.cdb_feed.specs.Inputs.{Stop, NoMore, HasFault, CutShort, NotBegun, TakesOne, StopsSo, AreRead, reached}
 use Rattle.cdb_feed.specs.Parsing.{Parsing}
 use Rattle.cdb_feed.specs.declared.input_reader.InputReader.{InputReader}
 use Rattle.cdb_feed.specs.declared.input_reader.InputReader.TheVariants.{Own, Shared}
-use Rattle.cdb_feed.proofs.FeedLemmas.{consumes_kept}
+use Rattle.cdb_form.proofs.Fed.FeedLemmas.{consumes_kept}
 
 -- nothing was taken before
 kept_from : (old mid new : Feed) (P : List ℕ → List ℕ → Type 0) → Keeps old mid → FromTo mid new P → FromTo old new P

@@ -1,8 +1,6 @@
-pub mod Feed
 pub mod Continues
 pub mod Rests
 pub mod Noted
-pub mod Reading
 pub mod Parsing
 pub mod Given
 pub mod Inputs

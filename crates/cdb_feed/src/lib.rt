@@ -1,19 +1,13 @@
 //! Readers of which something is known at the end: what was read is then what any bytes say that agree with it.
 #![tactic(auto)]
 
-mod feeds;
 mod input_reader;
 pub mod laws;
 mod noted_reader;
 mod parser;
-mod read_stop;
 mod read_trace;
-mod reading;
 
-pub use feeds::Feeds;
 pub use input_reader::InputReader;
 pub use noted_reader::NotedReader;
 pub use parser::InputParser;
-pub use read_stop::ReadStop;
 pub use read_trace::{ReadCall, ReadTrace};
-pub use reading::{all_bytes, skip, some_bytes};

@@ -1,11 +1,11 @@
 // A reader that notes what it gave.
 ghost use Rattle.std.specs.Prelude.{◌≡◌, ◌<◌, ◌≤◌, List, ℕ, [], length, take, IfOk, OnErr};
-ghost use Rattle.cdb_feed.specs.Feed.{Consumes, IsAtEnd, Keeps, StillAgrees};
+ghost use Rattle.cdb_form.specs.Fed.Feed.{Consumes, IsAtEnd, Keeps, StillAgrees};
 ghost use Rattle.cdb_feed.specs.Inputs.{IsUnread};
 ghost use Rattle.cdb_feed.specs.Noted.{noted_feed, came_of};
 
-use crate::feeds::Feeds;
 use crate::read_trace::{ReadCall, ReadTrace};
+use cdb_form::Feeds;
 use std::io::{self, Read};
 
 /// A reader that notes what it gave, as one of a file or of standard input, of which the standard

@@ -5,3 +5,4 @@ pub mod RecordReading
 pub mod NativeTexts
 pub mod MapTexts
 pub mod Slots
+pub mod Fed

@@ -2,5 +2,6 @@
 pub mod Format
 pub mod Text
 pub mod Views
+pub mod Fed
 pub mod Laws
 pub mod Examples

@@ -10,6 +10,7 @@
 mod change;
 mod copying;
 mod damage;
+mod feeds;
 mod head;
 mod header;
 mod key_hash;
@@ -28,6 +29,7 @@ mod writing;
 
 pub use change::{Change, ChangeKind};
 pub use damage::Damage;
+pub use feeds::Feeds;
 pub use head::{
     GREATEST_HEAD, Head, Pointer, head_size, read_head, read_pointer, write_head, write_pointer,
 };
@@ -36,7 +38,7 @@ pub use key_hash::{hash, hash_more, home_slot, table_number};
 pub use mode::Mode;
 pub use pair::{GREATEST_PAIR, pair_size};
 pub use reading::PIPE;
-pub use reading_whole::{Extent, InFault, read_whole};
+pub use reading_whole::{Extent, InFault, read_whole, read_whole_fed};
 pub use record::Record;
 pub use slot::{Slot, read_slot, write_slot};
 pub use table::put_entry;
@@ -44,6 +46,7 @@ pub use text::amend_reader::AmendReader;
 pub use text::amend_writer::write_removal;
 pub use text::at_hand::{AtHand, NoneAtHand};
 pub use text::fault::TextFault;
+pub use text::form_reader::FormReader;
 pub use text::list_reader::ListReader;
 pub use text::list_writer::{write_list_record, write_map_key};
 pub use text::map_reader::MapReader;

@@ -1,15 +1,16 @@
 // Bytes from a reader: some of them, all that are wanted, or a vector of them.
 ghost use Rattle.std.specs.Prelude.{◌≡◌, ◌≢◌, ℕ, ◌+◌, ◌*◌, ◌^◌, ◌<◌, ◌≤◌, List, ◌++◌, length, take};
 ghost use Rattle.std.specs.Prelude.{OnOk, OnErr, IfOk, IfErr};
-ghost use Rattle.std.specs.Io.KnownBytes.{Keeps, Consumes, IsAtEnd};
+ghost use Rattle.cdb_form.specs.Fed.Feed.{Consumes, IsAtEnd, Keeps};
 ghost use Rattle.cdb_form.specs.Format.Record.{AreBytes};
-ghost use Rattle.cdb_form.specs.Views.KnownBytes.{LosesAtMost, LosesFewer};
-ghost use Rattle.cdb_form.specs.Views.Reading.{IsOfReader, ReadsShort, Passes};
+ghost use Rattle.cdb_form.specs.Fed.Taking.{LosesAtMost, LosesFewer, Passes, ReadsShort};
+ghost use Rattle.cdb_form.specs.Views.Reading.{IsOfReader};
 ghost use Rattle.cdb_form.specs.declared.reading.ReadStop.TheVariants.{Ended, Failed, Spent};
 ghost use Rattle.cdb_form.specs.declared.reading.ReadStop.TheVariants.{NoMemory};
 
+use crate::feeds::Feeds;
 use std::alloc::AllocError;
-use std::io::{ErrorKind, Read};
+use std::io::ErrorKind;
 
 /// As many bytes as a pipe holds. So many are read or written at once, and make a window.
 pub const PIPE: usize = 65536;
@@ -42,7 +43,7 @@ impl From<AllocError> for ReadStop {
 ///
 /// Each call of the reader takes one of the asks.
 #[inline(always)]
-pub(crate) fn some_bytes<R: Read>(
+pub(crate) fn some_bytes<R: Feeds>(
     reader: &mut R,
     asks: &mut u64,
     into: &mut [u8],
@@ -50,10 +51,10 @@ pub(crate) fn some_bytes<R: Read>(
     requires { 0 < length into.old }
     ensures bound { IfOk result (λ n. n ≤ length into.new) }
     ensures bytes { IfOk result (λ n.
-        Consumes (R.remaining reader.old) (R.remaining reader.new) (take n into.new)) }
+        Consumes (R.feed reader.old) (R.feed reader.new) (take n into.new)) }
     ensures are { IfOk result (λ _. AreBytes into.new) }
-    ensures end { IfOk result (λ n. n ≡ 0 → IsAtEnd (R.remaining reader.new)) }
-    ensures kept { OnErr result (Keeps (R.remaining reader.old) (R.remaining reader.new)) }
+    ensures end { IfOk result (λ n. n ≡ 0 → IsAtEnd (R.feed reader.new)) }
+    ensures kept { OnErr result (Keeps (R.feed reader.old) (R.feed reader.new)) }
     ensures fewer { OnOk result (asks.new < asks.old) }
     ensures no_more { asks.new ≤ asks.old }
     ensures spends { asks.old ≤ asks.new + 1001 }
@@ -65,7 +66,7 @@ pub(crate) fn some_bytes<R: Read>(
             return Err(ReadStop::Spent);
         }
         *asks -= 1;
-        match reader.read(into) {
+        match reader.read_some(into) {
             Ok(n) => return Ok(n),
             Err(e) => {
                 if e.kind() != ErrorKind::Interrupted {
@@ -78,21 +79,21 @@ pub(crate) fn some_bytes<R: Read>(
 }
 
 /// Fills all of `into`.
-pub(crate) fn all_bytes<R: Read>(
+pub(crate) fn all_bytes<R: Feeds>(
     reader: &mut R,
     asks: &mut u64,
     into: &mut [u8],
 ) -> Result<(), ReadStop>
-    ensures bytes { OnOk result (Consumes (R.remaining reader.old)
-        (R.remaining reader.new) into.new) }
+    ensures bytes { OnOk result (Consumes (R.feed reader.old)
+        (R.feed reader.new) into.new) }
     ensures are { OnOk result (AreBytes into.new) }
     ensures ended { IfErr result (λ f.
-        f ≡ Ended → ReadsShort (length into.old) (R.remaining reader.old)
-        (R.remaining reader.new)) }
-    ensures loses { LosesAtMost (R.remaining reader.old)
-        (R.remaining reader.new) (length into.old) }
-    ensures loses_fewer { OnErr result (LosesFewer (R.remaining reader.old)
-        (R.remaining reader.new) (length into.old)) }
+        f ≡ Ended → ReadsShort (length into.old) (R.feed reader.old)
+        (R.feed reader.new)) }
+    ensures loses { LosesAtMost (R.feed reader.old)
+        (R.feed reader.new) (length into.old) }
+    ensures loses_fewer { OnErr result (LosesFewer (R.feed reader.old)
+        (R.feed reader.new) (length into.old)) }
     ensures memory { IfErr result (λ f. f ≢ NoMemory) }
 {
     let mut done = 0;
@@ -124,7 +125,7 @@ fn lengthen(into: &mut Vec<u8>, len: usize) -> Result<(), AllocError>
 ///
 /// After a fault the vector holds its first `held` bytes alone.
 #[inline(always)]
-fn some_behind<R: Read>(
+fn some_behind<R: Feeds>(
     reader: &mut R,
     asks: &mut u64,
     into: &mut Vec<u8>,
@@ -135,13 +136,13 @@ fn some_behind<R: Read>(
     requires room { held + most < 2 ^ 64 }
     requires within { held ≤ length into.old.items }
     ensures read { IfOk result (λ n. (piece : List ℕ)
-        × Consumes (R.remaining reader.old) (R.remaining reader.new) piece
+        × Consumes (R.feed reader.old) (R.feed reader.new) piece
         × (take (held + n) into.new.items ≡ take held into.old.items ++ piece)
         × AreBytes piece × (length piece ≡ n)) }
     ensures within { IfOk result (λ n. held + n ≤ length into.new.items) }
     ensures bound { IfOk result (λ n. (0 < n) × (n ≤ most)) }
-    ensures ended { IfErr result (λ f. f ≡ Ended → IsAtEnd (R.remaining reader.new)) }
-    ensures kept { OnErr result (Keeps (R.remaining reader.old) (R.remaining reader.new)) }
+    ensures ended { IfErr result (λ f. f ≡ Ended → IsAtEnd (R.feed reader.new)) }
+    ensures kept { OnErr result (Keeps (R.feed reader.old) (R.feed reader.new)) }
     ensures holds { OnErr result (into.new.items ≡ take held into.old.items) }
     ensures fewer { OnOk result (asks.new < asks.old) }
     ensures no_more { asks.new ≤ asks.old }
@@ -170,7 +171,7 @@ fn some_behind<R: Read>(
 ///
 /// Memory is asked for as they come, a piece ahead. After a fault the vector holds those that came.
 #[inline(always)]
-pub(crate) fn vector<R: Read>(
+pub(crate) fn vector<R: Feeds>(
     reader: &mut R,
     asks: &mut u64,
     into: &mut Vec<u8>,
@@ -178,17 +179,16 @@ pub(crate) fn vector<R: Read>(
     piece: u64,
 ) -> Result<(), ReadStop>
     requires { 0 < piece }
-    ensures read { OnOk result (Consumes (R.remaining reader.old)
-        (R.remaining reader.new) into.new.items) }
-    ensures part { IfErr result (λ f.
-        f ≢ NoMemory → Consumes (R.remaining reader.old) (R.remaining reader.new) into.new.items) }
+    ensures read { OnOk result (Consumes (R.feed reader.old)
+        (R.feed reader.new) into.new.items) }
+    ensures part { OnErr result (Consumes (R.feed reader.old) (R.feed reader.new) into.new.items) }
     ensures are { AreBytes into.new.items }
     ensures long { OnOk result (length into.new.items ≡ len) }
     ensures short { OnErr result (length into.new.items < len) }
-    ensures ended { IfErr result (λ f. f ≡ Ended → IsAtEnd (R.remaining reader.new)) }
-    ensures loses { LosesAtMost (R.remaining reader.old) (R.remaining reader.new) len }
+    ensures ended { IfErr result (λ f. f ≡ Ended → IsAtEnd (R.feed reader.new)) }
+    ensures loses { LosesAtMost (R.feed reader.old) (R.feed reader.new) len }
     ensures loses_fewer { OnErr result
-        (LosesFewer (R.remaining reader.old) (R.remaining reader.new) len) }
+        (LosesFewer (R.feed reader.old) (R.feed reader.new) len) }
     ensures no_more { asks.new ≤ asks.old }
     ensures each { piece ≤ 4096 → length into.new.items + 4096 * asks.new ≤ 4096 * asks.old }
     ensures spends { OnOk result (asks.old ≤ asks.new + 1001 * length into.new.items) }
@@ -205,7 +205,7 @@ pub(crate) fn vector<R: Read>(
 }
 
 /// Passes over the next `len` bytes, which come through `piece`.
-pub(crate) fn skip<R: Read>(
+pub(crate) fn skip<R: Feeds>(
     reader: &mut R,
     asks: &mut u64,
     len: u64,
@@ -213,12 +213,12 @@ pub(crate) fn skip<R: Read>(
 ) -> Result<(), ReadStop>
     requires some { 0 < length piece.old }
     ensures read { OnOk result
-        (Passes len (R.remaining reader.old) (R.remaining reader.new)) }
+        (Passes len (R.feed reader.old) (R.feed reader.new)) }
     ensures ended { IfErr result (λ f. f ≡ Ended →
-        ReadsShort len (R.remaining reader.old) (R.remaining reader.new)) }
-    ensures loses { LosesAtMost (R.remaining reader.old) (R.remaining reader.new) len }
+        ReadsShort len (R.feed reader.old) (R.feed reader.new)) }
+    ensures loses { LosesAtMost (R.feed reader.old) (R.feed reader.new) len }
     ensures loses_fewer { OnErr result
-        (LosesFewer (R.remaining reader.old) (R.remaining reader.new) len) }
+        (LosesFewer (R.feed reader.old) (R.feed reader.new) len) }
     ensures memory { IfErr result (λ f. f ≢ NoMemory) }
 {
     let mut done = 0;

@@ -1,12 +1,15 @@
 // All that a reader has, into a vector, up to so many bytes.
-ghost use Rattle.std.specs.Prelude.{◌≡◌, ◌+◌, ◌-◌, ◌^◌, ◌<◌, ◌≤◌, Some, codes, length, IfOk, IfErr};
+ghost use Rattle.std.specs.Prelude.{◌≡◌, ◌+◌, ◌-◌, ◌^◌, ◌<◌, ◌≤◌, Some, codes, length, IfOk, IfErr, OnErr};
 ghost use Rattle.std.specs.Io.KnownBytes.{Consumes};
+ghost use Rattle.cdb_form.specs.Fed.Feed as fed_bytes;
+ghost use Rattle.cdb_form.specs.Fed.Taking as fed;
 ghost use Rattle.cdb_form.specs.Format.Record.{AreBytes};
 ghost use Rattle.cdb_form.specs.Views.InFault.{in_message};
 ghost use Rattle.cdb_form.specs.Views.KnownBytes.{LosesAtMost};
 ghost use Rattle.cdb_form.specs.Views.Reading.{Gives};
 ghost use Rattle.cdb_form.specs.declared.reading_whole.InFault.TheVariants.{Failed};
 
+use crate::feeds::Feeds;
 use crate::reading::{ReadStop, vector};
 use std::error::Error;
 use std::fmt;
@@ -65,6 +68,23 @@ pub fn read_whole<R: Read>(reader: &mut R, into: &mut Vec<u8>, most: u64) -> Res
     ensures few { IfErr result (λ _. length into.new.items ≤ most) }
     ensures are { AreBytes into.new.items }
     ensures loses { LosesAtMost (R.remaining reader.old) (R.remaining reader.new) (most + 1) }
+{
+    read_whole_fed(reader, into, most)
+}
+
+/// Does what `read_whole` does, and says it of any bytes that agree with what was taken.
+pub fn read_whole_fed<R: Feeds>(
+    reader: &mut R,
+    into: &mut Vec<u8>,
+    most: u64,
+) -> Result<Extent, InFault>
+    ensures given { IfOk result (fed.Gives most (R.feed reader.old) (R.feed reader.new)
+        into.new.items) }
+    ensures part { OnErr result (fed_bytes.Consumes (R.feed reader.old) (R.feed reader.new)
+        into.new.items) }
+    ensures few { IfErr result (λ _. length into.new.items ≤ most) }
+    ensures are { AreBytes into.new.items }
+    ensures loses { fed.LosesAtMost (R.feed reader.old) (R.feed reader.new) (most + 1) }
 {
     let mut asks = u64::MAX;
     match vector(reader, &mut asks, into, most.saturating_add(1), 4096) {

@@ -3,7 +3,7 @@ pub(crate) mod amend_reader;
 pub(crate) mod amend_writer;
 pub(crate) mod at_hand;
 pub(crate) mod fault;
-mod form_reader;
+pub(crate) mod form_reader;
 pub(crate) mod going;
 mod kind;
 mod lanes;

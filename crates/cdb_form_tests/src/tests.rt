@@ -1,6 +1,7 @@
 // Tests of what no contract says: values worked out by hand, and faults of readers and writers.
 mod changes;
 mod fakes;
+mod feeding;
 mod lists;
 mod maps;
 mod reading;

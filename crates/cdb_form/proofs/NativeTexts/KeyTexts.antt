@@ -1,19 +1,22 @@
 -- List texts: how a key is spelled, where its spelling stops, and what a reader answered.
-use Rattle.std.proofs.Common.{◌≡◌, ◌≢◌, ℕ, ◌≤◌, ◌+◌, List, [], ◌∷◌, ◌++◌, length, refl, sym, ap, subst, ◌∙◌, arith, append_assoc, lit≤, codes, Option, Some, None, IfSome}
+use Rattle.std.proofs.Common.{◌≡◌, ◌≢◌, ℕ, ◌≤◌, ◌+◌, List, [], ◌∷◌, ◌++◌, length, refl, sym, ap, subst, ◌∙◌, arith, append_assoc, lit≤, codes}
 use Rattle.std.specs.Str.Parse.{digits_value}
-use Rattle.std.specs.Io.KnownBytes.{Consumes, IsAtEnd}
+use Rattle.cdb_form.specs.Fed.Feed.{Consumes, Feed, FromTo, IsAtEnd, Keeps}
+use Rattle.cdb_form.specs.Fed.ListReader.{Fails}
+use Rattle.cdb_form.specs.Fed.NativeParser.{FailsIn, Leaves, ReadsBehind}
 use Rattle.cdb_form.specs.Format.Record.{AreBytes}
 use Rattle.cdb_form.specs.Text.Amending.{SpellsRemoval}
 use Rattle.cdb_form.specs.Text.List.{SpellsKey}
 use Rattle.cdb_form.specs.Text.Native.{IsNumeral}
-use Rattle.cdb_form.specs.Views.ListReader.{Fails, HasFailed}
-use Rattle.cdb_form.specs.Views.NativeParser.{FailsIn, FailsItem, Leaves, ReadsBehind}
+use Rattle.cdb_form.specs.Views.ListReader.{HasFailed}
+use Rattle.cdb_form.specs.Views.NativeParser.{FailsItem, seen, told}
 use Rattle.cdb_form.specs.declared.text.fault.TextFault.{TextFault}
 use Rattle.cdb_form.specs.declared.text.fault.TextFault.TheVariants.{Syntax, Ended}
 use Rattle.cdb_form.specs.declared.text.list_reader.ListReader.{ListReader}
+use Rattle.cdb_form.proofs.Fed.FeedLemmas.{from_all, from_taken}
 use Rattle.cdb_form.proofs.NativeTexts.Grammar.{same_digits, same_prefixes}
 use Rattle.cdb_form.proofs.NativeTexts.Spelling.{IsSpelling}
-use Rattle.cdb_form.proofs.NativeTexts.Stops.{Form, Any, BehindMinus, Starts, StopsAt, IsMark, from_cases, behind_tail, item_fails, ended_item, syntax_item, met}
+use Rattle.cdb_form.proofs.NativeTexts.Stops.{Form, Any, BehindMinus, Starts, StopsAt, IsMark, from_cases, behind_tail, OneRest, prefix_any, prefix_form, item_fails, item_stops, ended_item, syntax_item, met}
 use Rattle.cdb_form.proofs.Sources.SourceLemmas.{removal_behind}
 
 -- ---- how a key is spelled
@@ -79,20 +82,24 @@ plus_keys = record {
   item = λ g t first rest key sp e. behind_key Any g t first rest key sp e tt;
 }
 
-pub key_fails : (g from to : ℕ) (o : Option (List ℕ)) (f : TextFault) → to ≡ from + 1 → ((F : ℕ → List ℕ → Type 0) → Starts F → IfSome o (λ t. StopsAt (BehindMinus F) g to t f))
-    → IfSome o (λ text. FailsItem SpellsKey g from (43 ∷ text) f)
-key_fails g from to o f e p = item_fails SpellsKey keys 43 BehindMinus plus_keys g from to o f e p
+pub listed_stops : (g from at : ℕ) (text : List ℕ) (f : TextFault) → at ≡ from + 1 → ((F : ℕ → List ℕ → Type 0) → Starts F → StopsAt (BehindMinus F) g at text f) → FailsItem SpellsKey g from (43 ∷ text) f
+listed_stops g from at text f e p = item_stops SpellsKey keys 43 BehindMinus plus_keys g from at text f e (p (Form SpellsKey) (prefix_form SpellsKey), p Any prefix_any)
+
+pub key_fails : (g from at to : ℕ) (old new : Feed) (f : TextFault) → OneRest old → at ≡ from + 1 → ((F : ℕ → List ℕ → Type 0) → Starts F → FromTo old new (λ t rest. StopsAt (BehindMinus F) g at (seen at to f t) (told to f)))
+    → FromTo old new (λ t rest. FailsItem SpellsKey g from (43 ∷ seen at to f t) (told to f))
+key_fails g from at to old new f one e p = item_fails SpellsKey keys 43 BehindMinus plus_keys g from at to old new f one e p
 
 -- ---- before the mark of a key
 
-pub key_ended : (g from : ℕ) (o : Option (List ℕ)) → IsAtEnd o → IfSome o (λ t. FailsItem SpellsKey g from t (Ended from))
-key_ended g from None h = tt
-key_ended g from (Some t) h = ended_item SpellsKey keys g from t h
+pub key_ended : (g from : ℕ) (old new : Feed) → Keeps old new → IsAtEnd new → FromTo old new (λ t rest. FailsItem SpellsKey g from t (Ended from))
+key_ended g from old new kept end = from_all old new [] (λ t rest. FailsItem SpellsKey g from t (Ended from)) kept end (ended_item SpellsKey keys g from [] refl)
 
-pub key_syntax : (g from c : ℕ) (o m : Option (List ℕ)) → Consumes o m (c ∷ []) → c ≢ 10 → c ≢ 43 → IfSome o (λ t. FailsItem SpellsKey g from t (Syntax from))
-key_syntax g from c None m h newline plus = tt
-key_syntax g from c (Some o) None h newline plus = absurd h
-key_syntax g from c (Some o) (Some m) h newline plus = syntax_item SpellsKey keys g from c o m h newline (λ g first x y key sp e. plus (head_of_key g c first x y key sp e))
+pub listed_syntax : (g from c : ℕ) (text : List ℕ) → c ≢ 10 → c ≢ 43 → FailsItem SpellsKey g from (c ∷ text) (Syntax from)
+listed_syntax g from c text newline plus = syntax_item SpellsKey keys g from c (c ∷ text) text refl newline (λ g first x y key sp e. plus (head_of_key g c first x y key sp e))
+
+pub key_syntax : (g from c : ℕ) (old new : Feed) → Consumes old new (c ∷ []) → c ≢ 10 → c ≢ 43 → FromTo old new (λ t rest. FailsItem SpellsKey g from t (Syntax from))
+key_syntax g from c old new read newline plus =
+    from_taken old new (c ∷ []) (λ t rest. FailsItem SpellsKey g from t (Syntax from)) read (λ rest. listed_syntax g from c rest newline plus)
 
 -- where nothing was read, nothing of a text was
 pub no_key_read : (g from : ℕ) → FailsItem SpellsKey g from [] (Ended from)
@@ -107,7 +114,7 @@ tails x y s t e = cc
 pub key_of_removal : {g : ℕ} {x key : List ℕ} → SpellsRemoval g (45 ∷ x) key → SpellsKey g (43 ∷ x) key
 key_of_removal sp = record { klen = sp.klen; klen_is = sp.klen_is; key_fits = sp.key_fits; bytes = sp.bytes; text_is = ap (λ z. 43 ∷ z) (tails _ _ _ _ sp.text_is) }
 
-pub listed_behind : (o m n : Option (List ℕ)) (greatest from to : ℕ) (a key : List ℕ)
+pub listed_behind : (o m n : Feed) (greatest from to : ℕ) (a key : List ℕ)
     → IsNumeral a (length key) → length key ≤ greatest → AreBytes key
     → Consumes o m (a ++ 58 ∷ []) → Consumes m n (key ++ 10 ∷ []) → to ≡ from + (length a + 1) + (length key + 1)
     → ReadsBehind SpellsKey (codes "+") greatest o n from to key
@@ -116,11 +123,15 @@ listed_behind o m n greatest from to a key ia fits bytes c₁ c₂ counted =
     record { text = r.text; spells = key_of_removal r.spells; read = r.read; counted = r.counted }
 
 -- a fault of the parser
-pub list_fails : {R L : Type 0} (g : ℕ) (remaining : R → Option (List ℕ)) (old new : ListReader R L) (f : TextFault) → HasFailed new f
-    → FailsIn remaining old.source new.source (FailsItem SpellsKey g old.source.taken) f → Leaves remaining old.source new.source f → Fails g remaining old new f
-list_fails g remaining old new f failed fails leaves =
-    let m = met SpellsKey g old.source.taken new.source.taken (remaining old.source.reader) f fails in
-    record {
-      failed = failed;
-      meets = λ going. record { exact = m.exact; no_record = m.no_record; part = m.part; took = leaves.took; last = leaves.last; spent = leaves.spent; spends = leaves.spends };
-    }
+pub list_fails : {R L : Type 0} (g : ℕ) (feed : R → Feed) (old new : ListReader R L) (f : TextFault) → HasFailed new f
+    → FailsIn feed old.source new.source (FailsItem SpellsKey g old.source.taken) f → Leaves feed old.source new.source f → Fails g feed old new f
+list_fails g feed old new f failed fails leaves = record {
+  failed = failed;
+  meets = λ going. record {
+    of = met SpellsKey g old.source.taken new.source.taken (feed old.source.reader) (feed new.source.reader) f fails;
+    took = leaves.took;
+    last = leaves.last;
+    spent = leaves.spent;
+    spends = leaves.spends;
+  };
+}

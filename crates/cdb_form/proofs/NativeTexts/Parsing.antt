@@ -17,10 +17,10 @@ use Rattle.cdb_form.specs.Text.Amending.{Change, Putting, Removing, SpellsRemova
 use Rattle.cdb_form.specs.Text.List.{SpellsKey}
 use Rattle.cdb_form.specs.Text.Parse.{Part, Found, Stuck, followed, byte_part, field_part, number_part, record_part, removal_part, item_part, key_part, listed, Parsed, going_on, text_from, parse, parse_list}
 use Rattle.cdb_form.proofs.Bytes.ByteLemmas.{AreBytes-take}
-use Rattle.cdb_form.proofs.NativeTexts.KeyTexts.{key_ended, key_fails, key_syntax, keys, key_of_removal}
+use Rattle.cdb_form.proofs.NativeTexts.KeyTexts.{keys, key_of_removal, listed_stops, listed_syntax}
 use Rattle.cdb_form.proofs.NativeTexts.Spelling.{IsSpelling, records, changes}
 use Rattle.cdb_form.proofs.NativeTexts.WholeForm.{fault_behind}
-use Rattle.cdb_form.proofs.NativeTexts.Stops.{StopsAt, Starts, Any, prefix_any, Behind, BehindMinus, Rest1, Rest2, Rest4, Rest5, lift_klen, lift_vlen, lift_key, lift_angle, lift_length, base_klen, base_vlen, base_key, base_angle, base_value, base_length, record_fails, removal_fails, ended_first, syntax_first}
+use Rattle.cdb_form.proofs.NativeTexts.Stops.{StopsAt, Starts, Any, prefix_any, Behind, BehindMinus, Rest1, Rest2, Rest4, Rest5, behind_angle, behind_key, behind_klen, behind_length, behind_vlen, angle_stops, ended_item, fails_ended, fails_syntax, key_stops, klen_stops, length_stops, record_stops, removal_stops, value_stops, vlen_stops}
 
 -- ---- parts
 
@@ -164,7 +164,7 @@ value_is : (F : ℕ → List ℕ → Type 0) (s : Starts F) (g n : ℕ) (key : L
 value_is F s g n key at text are =
     followed_is (λ x to rest. Took (IsField n 10 x) at text to rest) (FailsField n 10 at text) _ (StopsAt (Rest5 F n) g at text) (field_part n 10 at text) _ (field_is n 10 at text are)
     (λ x to rest t. record { first = t.first; says = (refl, t.says); text_is = t.text_is; place = t.place })
-    (λ f h. base_value F g n at (Some text) f s h)
+    (λ f h. value_stops F g n at text f s h)
 
 abbrev IsAngle : (n : ℕ) → (key : List ℕ) → KeyValue → List ℕ → Type 0
 IsAngle n key r x = (y : List ℕ) × IsValue n key r y × (x ≡ 62 ∷ y)
@@ -177,8 +177,8 @@ angle_is F s g n key at text are =
     (λ u mid more t. weaker (λ r to rest. Took (IsValue n key r) mid more to rest) (StopsAt (Rest5 F n) g mid more) _ (StopsAt (Rest4 F n) g at text) _
     (value_is F s g n key mid more (took_bytes _ at mid text more t are))
     (λ r to rest v. took_then (IsByte 62) (IsValue n key r) (IsAngle n key r) at mid to text more rest t v (λ x y is says. (y, says, ap (λ z. z ++ y) is)))
-    (λ f h. lift_angle F g n at mid (Some text) (Some more) f (t.place ∙ ap (λ x. at + length x) t.says) (t.text_is ∙ ap (λ x. x ++ more) t.says) h))
-    (λ f h. base_angle F g n at (Some text) f s h)
+    (λ f h. behind_angle F g n at mid text more f (t.place ∙ ap (λ x. at + length x) t.says) (t.text_is ∙ ap (λ x. x ++ more) t.says) h))
+    (λ f h. angle_stops F g n at text f s h)
 
 abbrev IsKey : (k n : ℕ) → KeyValue → List ℕ → Type 0
 IsKey k n r x = (y z : List ℕ) × IsField k 45 r.key y × IsAngle n r.key r z × (x ≡ y ++ z)
@@ -192,8 +192,8 @@ key_is F s g k n at text are =
     (angle_is F s g n key mid more (took_bytes _ at mid text more t are))
     (λ r to rest v. took_then (IsField k 45 key) (IsAngle n key r) (IsKey k n r) at mid to text more rest t v
     (λ x y is says. (x, y, subst (λ q. IsField k 45 q x) (sym says.1.0) is, subst (λ q. IsAngle n q r y) (sym says.1.0) says, refl)))
-    (λ f h. lift_key F g k n at mid (Some text) (Some more) key f t.says.0 t.says.1 (omega (arith, t.place, ap length t.says.2, length-append key (45 ∷ []), t.says.0)) (t.text_is ∙ ap (λ x. x ++ more) t.says.2) h))
-    (λ f h. base_key F g k n at (Some text) f s h)
+    (λ f h. behind_key F g k n at mid text more key f t.says.0 t.says.1 (omega (arith, t.place, ap length t.says.2, length-append key (45 ∷ []), t.says.0)) (t.text_is ∙ ap (λ x. x ++ more) t.says.2) h))
+    (λ f h. key_stops F g k n at text f s h)
 
 abbrev IsVlen : (g k : ℕ) → KeyValue → List ℕ → Type 0
 IsVlen g k r x = (n : ℕ) × (y z : List ℕ) × IsNumber g 58 n y × IsKey k n r z × (x ≡ y ++ z)
@@ -209,8 +209,8 @@ vlen_is F s g k at text are =
     (λ n mid more t. weaker (λ r to rest. Took (IsKey k n r) mid more to rest) (StopsAt (Rest2 F k n) g mid more) _ (StopsAt (Rest1 F k) g at text) _
     (key_is F s g k n mid more (took_bytes _ at mid text more t are))
     (λ r to rest v. took_then (IsNumber g 58 n) (IsKey k n r) (IsVlen g k r) at mid to text more rest t v (λ x y is says. (n, x, y, is, says, refl)))
-    (λ f h. lift_vlen F g k n at mid (Some text) (Some more) t.says.0 f t.says.1 t.says.2 (number_place g 58 n at mid t.first t.says t.place) (t.text_is ∙ ap (λ x. x ++ more) t.says.3) h))
-    (λ f h. base_vlen F g k at (Some text) f s h)
+    (λ f h. behind_vlen F g k n at mid text more t.says.0 f t.says.1 t.says.2 (number_place g 58 n at mid t.first t.says t.place) (t.text_is ∙ ap (λ x. x ++ more) t.says.3) h))
+    (λ f h. vlen_stops F g k at text f s h)
 
 abbrev IsBehindPlus : (g : ℕ) → KeyValue → List ℕ → Type 0
 IsBehindPlus g r x = (k : ℕ) × (y z : List ℕ) × IsNumber g 44 k y × IsVlen g k r z × (x ≡ y ++ z)
@@ -221,8 +221,8 @@ record_is F s g at text are =
     (λ k mid more t. weaker (λ r to rest. Took (IsVlen g k r) mid more to rest) (StopsAt (Rest1 F k) g mid more) _ (StopsAt (Behind F) g at text) _
     (vlen_is F s g k mid more (took_bytes _ at mid text more t are))
     (λ r to rest v. took_then (IsNumber g 44 k) (IsVlen g k r) (IsBehindPlus g r) at mid to text more rest t v (λ x y is says. (k, x, y, is, says, refl)))
-    (λ f h. lift_klen F g k at mid (Some text) (Some more) t.says.0 f t.says.1 t.says.2 (number_place g 44 k at mid t.first t.says t.place) (t.text_is ∙ ap (λ x. x ++ more) t.says.3) h))
-    (λ f h. base_klen F g at (Some text) f s h)
+    (λ f h. behind_klen F g k at mid text more t.says.0 f t.says.1 t.says.2 (number_place g 44 k at mid t.first t.says t.place) (t.text_is ∙ ap (λ x. x ++ more) t.says.3) h))
+    (λ f h. klen_stops F g at text f s h)
 
 -- it spells the record
 plus_spells : (g : ℕ) (r : KeyValue) (x : List ℕ) → IsBehindPlus g r x → Spells g (43 ∷ x) r
@@ -254,8 +254,8 @@ removal_is F s g at text are =
     (λ k mid more t. weaker (λ x to rest. Took (IsField k 10 x) mid more to rest) (FailsField k 10 mid more) _ (StopsAt (BehindMinus F) g at text) _
     (field_is k 10 mid more (took_bytes _ at mid text more t are))
     (λ key to rest v. took_then (IsNumber g 58 k) (IsField k 10 key) (IsBehindMinus g key) at mid to text more rest t v (λ x y is says. (k, x, y, is, says, refl)))
-    (λ f h. lift_length F g k at mid (Some text) (Some more) t.says.0 f t.says.1 t.says.2 (number_place g 58 k at mid t.first t.says t.place) (t.text_is ∙ ap (λ x. x ++ more) t.says.3) (base_value F g k mid (Some more) f s h)))
-    (λ f h. base_length F g at (Some text) f s h)
+    (λ f h. behind_length F g k at mid text more t.says.0 f t.says.1 t.says.2 (number_place g 58 k at mid t.first t.says t.place) (t.text_is ∙ ap (λ x. x ++ more) t.says.3) (value_stops F g k mid more f s h)))
+    (λ f h. length_stops F g at text f s h)
 
 minus_spells : (g : ℕ) (key x : List ℕ) → IsBehindMinus g key x → SpellsRemoval g (45 ∷ x) key
 minus_spells g key x (k, x1, x2, (a, ia, la, ea), (lk, bk, ek), e2) =
@@ -294,34 +294,34 @@ native_record : (g from : ℕ) (text : List ℕ) → AreBytes text
 native_record g from text are =
     whatever (λ r to rest. Took (IsBehindPlus g r) (from + 1) text to rest) Behind g (from + 1) text _ _ (record_part g (from + 1) text) _ (λ F s. record_is F s g (from + 1) text are)
     (λ r to rest t. let m = marked (IsBehindPlus g r) (λ first. Spells g first r) 43 from to text rest t (plus_spells g r) in (r, refl, m.0, m.1))
-    (λ f h. record_fails false g from (from + 1) (Some text) f refl h)
+    (λ f h. record_stops false g from (from + 1) text f refl h)
 
 amending_record : (g from : ℕ) (text : List ℕ) → AreBytes text
     → PartIs (ItemIs SpellsChange (λ x. x) g from (43 ∷ text)) (FailsItem SpellsChange g from (43 ∷ text)) (followed (record_part g (from + 1) text) (λ r at rest. Found (Some (Putting r)) at rest))
 amending_record g from text are =
     whatever (λ r to rest. Took (IsBehindPlus g r) (from + 1) text to rest) Behind g (from + 1) text _ _ (record_part g (from + 1) text) _ (λ F s. record_is F s g (from + 1) text are)
     (λ r to rest t. let m = marked (IsBehindPlus g r) (λ first. Spells g first r) 43 from to text rest t (plus_spells g r) in (Putting r, refl, m.0, m.1))
-    (λ f h. record_fails true g from (from + 1) (Some text) f refl h)
+    (λ f h. record_stops true g from (from + 1) text f refl h)
 
 amending_removal : (g from : ℕ) (text : List ℕ) → AreBytes text
     → PartIs (ItemIs SpellsChange (λ x. x) g from (45 ∷ text)) (FailsItem SpellsChange g from (45 ∷ text)) (followed (removal_part g (from + 1) text) (λ key at rest. Found (Some (Removing key)) at rest))
 amending_removal g from text are =
     whatever (λ key to rest. Took (IsBehindMinus g key) (from + 1) text to rest) BehindMinus g (from + 1) text _ _ (removal_part g (from + 1) text) _ (λ F s. removal_is F s g (from + 1) text are)
     (λ key to rest t. let m = marked (IsBehindMinus g key) (λ first. SpellsRemoval g first key) 45 from to text rest t (minus_spells g key) in (Removing key, refl, m.0, m.1))
-    (λ f h. removal_fails g from (from + 1) (Some text) f refl h)
+    (λ f h. removal_stops g from (from + 1) text f refl h)
 
 native_item : (g from : ℕ) (text : List ℕ) → AreBytes text → PartIs (ItemIs Spells Putting g from text) (FailsItem Spells g from text) (item_part false g from text)
-native_item g from [] are = (tt, ended_first false g from (Some []) refl)
+native_item g from [] are = (tt, fails_ended false g from [] refl)
 native_item g from (c ∷ text) are =
     let P : Part (Option Change) → Type 0 = PartIs (ItemIs Spells Putting g from (c ∷ text)) (FailsItem Spells g from (c ∷ text)) in
     cond_both (c == 10) _ _ P
     (λ e. ap (λ x. x ∷ text) (eqb-true c 10 e))
     (λ newline. cond_both (c == 43) _ _ P
     (λ e. let is = eqb-true c 43 e in subst (λ d. PartIs (ItemIs Spells Putting g from (d ∷ text)) (FailsItem Spells g from (d ∷ text)) (followed (record_part g (from + 1) text) (λ r at rest. Found (Some (Putting r)) at rest))) (sym is) (native_record g from text (λ k. are (suc k))))
-    (λ plus. (tt, syntax_first false g from c (Some (c ∷ text)) (Some text) refl (eqb-false c 10 newline) (eqb-false c 43 plus) (λ no. absurd (let h : false ≡ true = no in cc)))))
+    (λ plus. (tt, fails_syntax false g from c (c ∷ text) text refl (eqb-false c 10 newline) (eqb-false c 43 plus) (λ no. absurd (let h : false ≡ true = no in cc)))))
 
 amending_item : (g from : ℕ) (text : List ℕ) → AreBytes text → PartIs (ItemIs SpellsChange (λ x. x) g from text) (FailsItem SpellsChange g from text) (item_part true g from text)
-amending_item g from [] are = (tt, ended_first true g from (Some []) refl)
+amending_item g from [] are = (tt, fails_ended true g from [] refl)
 amending_item g from (c ∷ text) are =
     let P : Part (Option Change) → Type 0 = PartIs (ItemIs SpellsChange (λ x. x) g from (c ∷ text)) (FailsItem SpellsChange g from (c ∷ text)) in
     cond_both (c == 10) _ _ P
@@ -330,24 +330,24 @@ amending_item g from (c ∷ text) are =
     (λ e. subst (λ d. PartIs (ItemIs SpellsChange (λ x. x) g from (d ∷ text)) (FailsItem SpellsChange g from (d ∷ text)) (followed (record_part g (from + 1) text) (λ r at rest. Found (Some (Putting r)) at rest))) (sym (eqb-true c 43 e)) (amending_record g from text (λ k. are (suc k))))
     (λ plus. cond_both (c == 45) _ _ P
     (λ e. subst (λ d. PartIs (ItemIs SpellsChange (λ x. x) g from (d ∷ text)) (FailsItem SpellsChange g from (d ∷ text)) (followed (removal_part g (from + 1) text) (λ key at rest. Found (Some (Removing key)) at rest))) (sym (eqb-true c 45 e)) (amending_removal g from text (λ k. are (suc k))))
-    (λ minus. (tt, syntax_first true g from c (Some (c ∷ text)) (Some text) refl (eqb-false c 10 newline) (eqb-false c 43 plus) (λ _. eqb-false c 45 minus)))))
+    (λ minus. (tt, fails_syntax true g from c (c ∷ text) text refl (eqb-false c 10 newline) (eqb-false c 43 plus) (λ _. eqb-false c 45 minus)))))
 
 listed_key : (g from : ℕ) (text : List ℕ) → AreBytes text
     → PartIs (ItemIs SpellsKey listed g from (43 ∷ text)) (FailsItem SpellsKey g from (43 ∷ text)) (followed (removal_part g (from + 1) text) (λ key at rest. Found (Some (listed key)) at rest))
 listed_key g from text are =
     whatever (λ key to rest. Took (IsBehindMinus g key) (from + 1) text to rest) BehindMinus g (from + 1) text _ _ (removal_part g (from + 1) text) _ (λ F s. removal_is F s g (from + 1) text are)
     (λ key to rest t. let m = marked (IsBehindMinus g key) (λ first. SpellsKey g first key) 43 from to text rest t (λ x says. key_of_removal (minus_spells g key x says)) in (key, refl, m.0, m.1))
-    (λ f h. key_fails g from (from + 1) (Some text) f refl h)
+    (λ f h. listed_stops g from (from + 1) text f refl h)
 
 list_item : (g from : ℕ) (text : List ℕ) → AreBytes text → PartIs (ItemIs SpellsKey listed g from text) (FailsItem SpellsKey g from text) (key_part g from text)
-list_item g from [] are = (tt, key_ended g from (Some []) refl)
+list_item g from [] are = (tt, ended_item SpellsKey keys g from [] refl)
 list_item g from (c ∷ text) are =
     let P : Part (Option Change) → Type 0 = PartIs (ItemIs SpellsKey listed g from (c ∷ text)) (FailsItem SpellsKey g from (c ∷ text)) in
     cond_both (c == 10) _ _ P
     (λ e. ap (λ x. x ∷ text) (eqb-true c 10 e))
     (λ newline. cond_both (c == 43) _ _ P
     (λ e. subst (λ d. PartIs (ItemIs SpellsKey listed g from (d ∷ text)) (FailsItem SpellsKey g from (d ∷ text)) (followed (removal_part g (from + 1) text) (λ key at rest. Found (Some (listed key)) at rest))) (sym (eqb-true c 43 e)) (listed_key g from text (λ k. are (suc k))))
-    (λ plus. (tt, key_syntax g from c (Some (c ∷ text)) (Some text) refl (eqb-false c 10 newline) (eqb-false c 43 plus))))
+    (λ plus. (tt, listed_syntax g from c text (eqb-false c 10 newline) (eqb-false c 43 plus))))
 
 -- ---- a whole text
 

@@ -1,23 +1,24 @@
 -- Where a text stops being one of the form.
-use Rattle.std.proofs.Common.{◌≡◌, ◌≢◌, ℕ, zero, suc, ◌+◌, ◌*◌, ◌<◌, ◌≤◌, ◌⊎◌, inl, inr, List, [], ◌∷◌, ◌++◌, length, get_or, take, refl, sym, ap, subst, ◌∙◌, arith, append_assoc, length-append, Option, Some, None, IfSome, lit≤}
+use Rattle.std.proofs.Common.{◌≡◌, ◌≢◌, ℕ, zero, suc, ◌+◌, ◌*◌, ◌<◌, ◌≤◌, ◌⊎◌, inl, inr, List, [], ◌∷◌, ◌++◌, length, get_or, take, refl, sym, ap, subst, ◌∙◌, arith, append_assoc, length-append, lit≤}
 use Rattle.std.proofs.lemmas.List.{append-nil, take_at, take_all}
-use Rattle.std.proofs.lemmas.Option.{IfSome_then}
 use Rattle.std.proofs.lemmas.Int.Digits.{digits_push, digits_value_push}
 use Rattle.std.specs.Char.{digit_value}
 use Rattle.std.specs.Prelude.{⊤, Bool, true, false}
 use Rattle.std.specs.Str.Parse.{digits_value}
-use Rattle.std.specs.Io.KnownBytes.{Consumes, IsAtEnd}
+use Rattle.cdb_form.specs.Fed.Feed.{Consumes, Feed, FromTo, IsAtEnd, Keeps}
+use Rattle.cdb_form.specs.Fed.FormReader.{IsFaultOf}
 use Rattle.cdb_form.specs.Format.Record.{AreBytes, KeyValue, IsRecord}
 use Rattle.cdb_form.specs.declared.text.fault.TextFault.{TextFault}
 use Rattle.cdb_form.specs.declared.text.fault.TextFault.TheVariants.{Syntax, Ended, Large, Input, Endless, NoMemory}
-use Rattle.cdb_form.specs.Views.TextFault.{IsOfText, IsReadFault}
-use Rattle.cdb_form.specs.Views.FormReader.{StopsAmid}
+use Rattle.cdb_form.specs.Views.TextFault.{IsOfText}
 use Rattle.cdb_form.specs.Views.NativeParser.{FailsNumber, FailsByte, FailsField, FailsItem, FailsEntry, seen, told}
 use Rattle.cdb_form.specs.Text.Form.{Reads, HasNoItem, IsPrefix, HasNoText, LongestPrefix, HasFault}
 use Rattle.cdb_form.specs.Text.Native.{IsNumeral, Spells}
 use Rattle.cdb_form.specs.Text.Amending.{Change, Putting, Removing, SpellsRemoval, SpellsChange}
 use Rattle.cdb_form.proofs.Bytes.ByteLemmas.{AreBytes-nil}
+use Rattle.cdb_form.proofs.Fed.FeedLemmas.{from_all, from_both, from_taken, from_weaker}
 use Rattle.cdb_form.proofs.NativeTexts.Spelling.{IsSpelling, records, changes, first_of_spelled, first_of_removal, head_of_spelled, head_of_removal, no_change}
+use Rattle.cdb_form.proofs.Sources.SourceLemmas.{fails_behind}
 use Rattle.cdb_form.proofs.NativeTexts.Grammar.{Prefix, Bare, Never, Lit, Bulk, Num, prefix_lit, prefix_lit_none, bare_lit, bare_lit_none, never_lit, never_lit_none, prefix_bulk, prefix_bulk_part, bare_bulk, never_bulk, prefix_num, prefix_num_part, bare_num, bare_num_part, never_num, never_num_bad, never_num_large}
 
 -- ---- texts of a form
@@ -296,65 +297,97 @@ front2 F k n s g = prefix_bulk_part k (Rest3 F n g) [] (omega arith) AreBytes-ni
 front1 : (F : ℕ → List ℕ → Type 0) (k : ℕ) → Starts F → Starts (Rest1 F k)
 front1 F k s g = prefix_num_part g 58 (λ n. Rest2 F k n g) [] tt (omega arith) (λ n. front2 F k n s g)
 
--- ---- the same of what a reader has left, where that is known
+-- ---- the same of a text: behind its first part, and in it
 
-lift_num : (K : ℕ → ℕ → List ℕ → Type 0) (g c n from to : ℕ) (o m : Option (List ℕ)) (ds : List ℕ) (f : TextFault) → IsNumeral ds n → n ≤ g → 10 ≤ digit_value c → to ≡ from + (length ds + 1)
-    → Consumes o m (ds ++ c ∷ []) → IfSome m (λ t. StopsAt (λ g. K g n) g to t f) → IfSome o (λ t. StopsAt (λ g. Num g c (K g)) g from t f)
-lift_num K g c n from to None m ds f i l nc e read h = tt
-lift_num K g c n from to (Some o) None ds f i l nc e read h = absurd read
-lift_num K g c n from to (Some o) (Some m) ds f i l nc e read h =
-    subst (λ t. StopsAt (λ g. Num g c (K g)) g from t f) (sym (read ∙ append_assoc ds (c ∷ []) m)) (stops_num K g c n from to ds m f i l nc e h)
+behind_num : (K : ℕ → ℕ → List ℕ → Type 0) (g c n from at : ℕ) (o m ds : List ℕ) (f : TextFault) → IsNumeral ds n → n ≤ g → 10 ≤ digit_value c → at ≡ from + (length ds + 1) → o ≡ (ds ++ c ∷ []) ++ m
+    → StopsAt (λ g. K g n) g at m f → StopsAt (λ g. Num g c (K g)) g from o f
+behind_num K g c n from at o m ds f i l nc counted e h = subst (λ t. StopsAt (λ g. Num g c (K g)) g from t f) (sym (e ∙ append_assoc ds (c ∷ []) m)) (stops_num K g c n from at ds m f i l nc counted h)
 
-lift_field : (K : ℕ → List ℕ → Type 0) (g n c from to : ℕ) (o m : Option (List ℕ)) (v : List ℕ) (f : TextFault) → length v ≡ n → AreBytes v → to ≡ from + (n + 1)
-    → Consumes o m (v ++ c ∷ []) → IfSome m (λ t. StopsAt K g to t f) → IfSome o (λ t. StopsAt (λ g. Bulk n (Lit c (K g))) g from t f)
-lift_field K g n c from to None m v f l are e read h = tt
-lift_field K g n c from to (Some o) None v f l are e read h = absurd read
-lift_field K g n c from to (Some o) (Some m) v f l are e read h =
-    subst (λ t. StopsAt (λ g. Bulk n (Lit c (K g))) g from t f) (sym (read ∙ append_assoc v (c ∷ []) m))
-    (stops_bulk (λ g. Lit c (K g)) g n from (from + n) v (c ∷ m) f l are refl (stops_lit K g c (from + n) to m f (omega arith) h))
-
-lift_lit : (K : ℕ → List ℕ → Type 0) (g c from to : ℕ) (o m : Option (List ℕ)) (f : TextFault) → to ≡ from + 1
-    → Consumes o m (c ∷ []) → IfSome m (λ t. StopsAt K g to t f) → IfSome o (λ t. StopsAt (λ g. Lit c (K g)) g from t f)
-lift_lit K g c from to None m f e read h = tt
-lift_lit K g c from to (Some o) None f e read h = absurd read
-lift_lit K g c from to (Some o) (Some m) f e read h = subst (λ t. StopsAt (λ g. Lit c (K g)) g from t f) (sym read) (stops_lit K g c from to m f e h)
+behind_field : (K : ℕ → List ℕ → Type 0) (g n c from at : ℕ) (o m v : List ℕ) (f : TextFault) → length v ≡ n → AreBytes v → at ≡ from + (n + 1) → o ≡ (v ++ c ∷ []) ++ m → StopsAt K g at m f → StopsAt (λ g. Bulk n (Lit c (K g))) g from o f
+behind_field K g n c from at o m v f l are counted e h =
+    subst (λ t. StopsAt (λ g. Bulk n (Lit c (K g))) g from t f) (sym (e ∙ append_assoc v (c ∷ []) m))
+    (stops_bulk (λ g. Lit c (K g)) g n from (from + n) v (c ∷ m) f l are refl (stops_lit K g c (from + n) at m f (omega (arith, counted)) h))
 
 -- behind a plus: the first length, the second, the key and its hyphen, the angle, the value and its newline
 
-pub lift_klen : (F : ℕ → List ℕ → Type 0) (g k from to : ℕ) (o m : Option (List ℕ)) (ds : List ℕ) (f : TextFault) → IsNumeral ds k → k ≤ g → to ≡ from + (length ds + 1) → Consumes o m (ds ++ 44 ∷ []) → IfSome m (λ t. StopsAt (Rest1 F k) g to t f) → IfSome o (λ t. StopsAt (Behind F) g from t f)
-lift_klen F g k from to o m ds f i l e read h = lift_num (λ g k. Rest1 F k g) g 44 k from to o m ds f i l (lit≤ tt) e read h
+pub behind_klen : (F : ℕ → List ℕ → Type 0) (g k from at : ℕ) (o m ds : List ℕ) (f : TextFault) → IsNumeral ds k → k ≤ g → at ≡ from + (length ds + 1) → o ≡ (ds ++ 44 ∷ []) ++ m → StopsAt (Rest1 F k) g at m f → StopsAt (Behind F) g from o f
+behind_klen F g k from at o m ds f i l counted e h = behind_num (λ g k. Rest1 F k g) g 44 k from at o m ds f i l (lit≤ tt) counted e h
 
-pub lift_vlen : (F : ℕ → List ℕ → Type 0) (g k n from to : ℕ) (o m : Option (List ℕ)) (ds : List ℕ) (f : TextFault) → IsNumeral ds n → n ≤ g → to ≡ from + (length ds + 1) → Consumes o m (ds ++ 58 ∷ []) → IfSome m (λ t. StopsAt (Rest2 F k n) g to t f) → IfSome o (λ t. StopsAt (Rest1 F k) g from t f)
-lift_vlen F g k n from to o m ds f i l e read h = lift_num (λ g n. Rest2 F k n g) g 58 n from to o m ds f i l (lit≤ tt) e read h
+pub behind_vlen : (F : ℕ → List ℕ → Type 0) (g k n from at : ℕ) (o m ds : List ℕ) (f : TextFault) → IsNumeral ds n → n ≤ g → at ≡ from + (length ds + 1) → o ≡ (ds ++ 58 ∷ []) ++ m → StopsAt (Rest2 F k n) g at m f → StopsAt (Rest1 F k) g from o f
+behind_vlen F g k n from at o m ds f i l counted e h = behind_num (λ g n. Rest2 F k n g) g 58 n from at o m ds f i l (lit≤ tt) counted e h
 
-pub lift_key : (F : ℕ → List ℕ → Type 0) (g k n from to : ℕ) (o m : Option (List ℕ)) (v : List ℕ) (f : TextFault) → length v ≡ k → AreBytes v → to ≡ from + (k + 1) → Consumes o m (v ++ 45 ∷ []) → IfSome m (λ t. StopsAt (Rest4 F n) g to t f) → IfSome o (λ t. StopsAt (Rest2 F k n) g from t f)
-lift_key F g k n from to o m v f l are e read h = lift_field (Rest4 F n) g k 45 from to o m v f l are e read h
+pub behind_key : (F : ℕ → List ℕ → Type 0) (g k n from at : ℕ) (o m v : List ℕ) (f : TextFault) → length v ≡ k → AreBytes v → at ≡ from + (k + 1) → o ≡ (v ++ 45 ∷ []) ++ m → StopsAt (Rest4 F n) g at m f → StopsAt (Rest2 F k n) g from o f
+behind_key F g k n from at o m v f l are counted e h = behind_field (Rest4 F n) g k 45 from at o m v f l are counted e h
 
-pub lift_angle : (F : ℕ → List ℕ → Type 0) (g n from to : ℕ) (o m : Option (List ℕ)) (f : TextFault) → to ≡ from + 1 → Consumes o m (62 ∷ []) → IfSome m (λ t. StopsAt (Rest5 F n) g to t f) → IfSome o (λ t. StopsAt (Rest4 F n) g from t f)
-lift_angle F g n from to o m f e read h = lift_lit (Rest5 F n) g 62 from to o m f e read h
+pub behind_angle : (F : ℕ → List ℕ → Type 0) (g n from at : ℕ) (o m : List ℕ) (f : TextFault) → at ≡ from + 1 → o ≡ 62 ∷ m → StopsAt (Rest5 F n) g at m f → StopsAt (Rest4 F n) g from o f
+behind_angle F g n from at o m f counted e h = subst (λ t. StopsAt (Rest4 F n) g from t f) (sym e) (stops_lit (Rest5 F n) g 62 from at m f counted h)
 
-pub base_klen : (F : ℕ → List ℕ → Type 0) (g from : ℕ) (o : Option (List ℕ)) (f : TextFault) → Starts F → IfSome o (λ t. FailsNumber g 44 from t f) → IfSome o (λ t. StopsAt (Behind F) g from t f)
-base_klen F g from o f s h = IfSome_then o h (λ t. stops_number (λ g k. Rest1 F k g) g 44 from t f (λ g k. front1 F k s g) (lit≤ tt))
+pub klen_stops : (F : ℕ → List ℕ → Type 0) (g from : ℕ) (text : List ℕ) (f : TextFault) → Starts F → FailsNumber g 44 from text f → StopsAt (Behind F) g from text f
+klen_stops F g from text f s h = stops_number (λ g k. Rest1 F k g) g 44 from text f (λ g k. front1 F k s g) (lit≤ tt) h
 
-pub base_vlen : (F : ℕ → List ℕ → Type 0) (g k from : ℕ) (o : Option (List ℕ)) (f : TextFault) → Starts F → IfSome o (λ t. FailsNumber g 58 from t f) → IfSome o (λ t. StopsAt (Rest1 F k) g from t f)
-base_vlen F g k from o f s h = IfSome_then o h (λ t. stops_number (λ g n. Rest2 F k n g) g 58 from t f (λ g n. front2 F k n s g) (lit≤ tt))
+pub vlen_stops : (F : ℕ → List ℕ → Type 0) (g k from : ℕ) (text : List ℕ) (f : TextFault) → Starts F → FailsNumber g 58 from text f → StopsAt (Rest1 F k) g from text f
+vlen_stops F g k from text f s h = stops_number (λ g n. Rest2 F k n g) g 58 from text f (λ g n. front2 F k n s g) (lit≤ tt) h
 
-pub base_key : (F : ℕ → List ℕ → Type 0) (g k n from : ℕ) (o : Option (List ℕ)) (f : TextFault) → Starts F → IfSome o (λ t. FailsField k 45 from t f) → IfSome o (λ t. StopsAt (Rest2 F k n) g from t f)
-base_key F g k n from o f s h = IfSome_then o h (λ t. stops_field (Rest4 F n) g k 45 from t f (front4 F n s))
+pub key_stops : (F : ℕ → List ℕ → Type 0) (g k n from : ℕ) (text : List ℕ) (f : TextFault) → Starts F → FailsField k 45 from text f → StopsAt (Rest2 F k n) g from text f
+key_stops F g k n from text f s h = stops_field (Rest4 F n) g k 45 from text f (front4 F n s) h
 
-pub base_angle : (F : ℕ → List ℕ → Type 0) (g n from : ℕ) (o : Option (List ℕ)) (f : TextFault) → Starts F → IfSome o (λ t. FailsByte 62 from t f) → IfSome o (λ t. StopsAt (Rest4 F n) g from t f)
-base_angle F g n from o f s h = IfSome_then o h (λ t. stops_byte (Rest5 F n) g 62 from t f (front5 F n s))
+pub angle_stops : (F : ℕ → List ℕ → Type 0) (g n from : ℕ) (text : List ℕ) (f : TextFault) → Starts F → FailsByte 62 from text f → StopsAt (Rest4 F n) g from text f
+angle_stops F g n from text f s h = stops_byte (Rest5 F n) g 62 from text f (front5 F n s) h
 
-pub base_value : (F : ℕ → List ℕ → Type 0) (g n from : ℕ) (o : Option (List ℕ)) (f : TextFault) → Starts F → IfSome o (λ t. FailsField n 10 from t f) → IfSome o (λ t. StopsAt (Rest5 F n) g from t f)
-base_value F g n from o f s h = IfSome_then o h (λ t. stops_field F g n 10 from t f s)
+pub value_stops : (F : ℕ → List ℕ → Type 0) (g n from : ℕ) (text : List ℕ) (f : TextFault) → Starts F → FailsField n 10 from text f → StopsAt (Rest5 F n) g from text f
+value_stops F g n from text f s h = stops_field F g n 10 from text f s h
 
 -- behind a minus: the length, the key and its newline
 
-pub lift_length : (F : ℕ → List ℕ → Type 0) (g k from to : ℕ) (o m : Option (List ℕ)) (ds : List ℕ) (f : TextFault) → IsNumeral ds k → k ≤ g → to ≡ from + (length ds + 1) → Consumes o m (ds ++ 58 ∷ []) → IfSome m (λ t. StopsAt (Rest5 F k) g to t f) → IfSome o (λ t. StopsAt (BehindMinus F) g from t f)
-lift_length F g k from to o m ds f i l e read h = lift_num (λ g k. Rest5 F k g) g 58 k from to o m ds f i l (lit≤ tt) e read h
+pub behind_length : (F : ℕ → List ℕ → Type 0) (g k from at : ℕ) (o m ds : List ℕ) (f : TextFault) → IsNumeral ds k → k ≤ g → at ≡ from + (length ds + 1) → o ≡ (ds ++ 58 ∷ []) ++ m → StopsAt (Rest5 F k) g at m f → StopsAt (BehindMinus F) g from o f
+behind_length F g k from at o m ds f i l counted e h = behind_num (λ g k. Rest5 F k g) g 58 k from at o m ds f i l (lit≤ tt) counted e h
 
-pub base_length : (F : ℕ → List ℕ → Type 0) (g from : ℕ) (o : Option (List ℕ)) (f : TextFault) → Starts F → IfSome o (λ t. FailsNumber g 58 from t f) → IfSome o (λ t. StopsAt (BehindMinus F) g from t f)
-base_length F g from o f s h = IfSome_then o h (λ t. stops_number (λ g k. Rest5 F k g) g 58 from t f (λ g k. front5 F k s g) (lit≤ tt))
+pub length_stops : (F : ℕ → List ℕ → Type 0) (g from : ℕ) (text : List ℕ) (f : TextFault) → Starts F → FailsNumber g 58 from text f → StopsAt (BehindMinus F) g from text f
+length_stops F g from text f s h = stops_number (λ g k. Rest5 F k g) g 58 from text f (λ g k. front5 F k s g) (lit≤ tt) h
+
+-- ---- the same of what a reader has left: behind the bytes that it gave, and of what it gives next
+
+pub lift_klen : (F : ℕ → List ℕ → Type 0) (g k from at to : ℕ) (old mid new : Feed) (ds : List ℕ) (f : TextFault) → IsNumeral ds k → k ≤ g → at ≡ from + (length ds + 1) → at ≤ to → Consumes old mid (ds ++ 44 ∷ []) → FromTo mid new (λ t rest. StopsAt (Rest1 F k) g at (seen at to f t) (told to f)) → FromTo old new (λ t rest. StopsAt (Behind F) g from (seen from to f t) (told to f))
+lift_klen F g k from at to old mid new ds f i l counted later read h =
+    fails_behind (λ t f. StopsAt (Rest1 F k) g at t f) (λ t f. StopsAt (Behind F) g from t f) old mid new from at to (ds ++ 44 ∷ []) f read (omega (arith, counted, length-append ds (44 ∷ []))) later
+    (λ t s. behind_klen F g k from at _ t ds (told to f) i l counted refl s) h
+
+pub lift_vlen : (F : ℕ → List ℕ → Type 0) (g k n from at to : ℕ) (old mid new : Feed) (ds : List ℕ) (f : TextFault) → IsNumeral ds n → n ≤ g → at ≡ from + (length ds + 1) → at ≤ to → Consumes old mid (ds ++ 58 ∷ []) → FromTo mid new (λ t rest. StopsAt (Rest2 F k n) g at (seen at to f t) (told to f)) → FromTo old new (λ t rest. StopsAt (Rest1 F k) g from (seen from to f t) (told to f))
+lift_vlen F g k n from at to old mid new ds f i l counted later read h =
+    fails_behind (λ t f. StopsAt (Rest2 F k n) g at t f) (λ t f. StopsAt (Rest1 F k) g from t f) old mid new from at to (ds ++ 58 ∷ []) f read (omega (arith, counted, length-append ds (58 ∷ []))) later
+    (λ t s. behind_vlen F g k n from at _ t ds (told to f) i l counted refl s) h
+
+pub lift_key : (F : ℕ → List ℕ → Type 0) (g k n from at to : ℕ) (old mid new : Feed) (v : List ℕ) (f : TextFault) → length v ≡ k → AreBytes v → at ≡ from + (k + 1) → at ≤ to → Consumes old mid (v ++ 45 ∷ []) → FromTo mid new (λ t rest. StopsAt (Rest4 F n) g at (seen at to f t) (told to f)) → FromTo old new (λ t rest. StopsAt (Rest2 F k n) g from (seen from to f t) (told to f))
+lift_key F g k n from at to old mid new v f l are counted later read h =
+    fails_behind (λ t f. StopsAt (Rest4 F n) g at t f) (λ t f. StopsAt (Rest2 F k n) g from t f) old mid new from at to (v ++ 45 ∷ []) f read (omega (arith, counted, l, length-append v (45 ∷ []))) later
+    (λ t s. behind_key F g k n from at _ t v (told to f) l are counted refl s) h
+
+pub lift_angle : (F : ℕ → List ℕ → Type 0) (g n from at to : ℕ) (old mid new : Feed) (f : TextFault) → at ≡ from + 1 → at ≤ to → Consumes old mid (62 ∷ []) → FromTo mid new (λ t rest. StopsAt (Rest5 F n) g at (seen at to f t) (told to f)) → FromTo old new (λ t rest. StopsAt (Rest4 F n) g from (seen from to f t) (told to f))
+lift_angle F g n from at to old mid new f counted later read h =
+    fails_behind (λ t f. StopsAt (Rest5 F n) g at t f) (λ t f. StopsAt (Rest4 F n) g from t f) old mid new from at to (62 ∷ []) f read counted later (λ t s. behind_angle F g n from at _ t (told to f) counted refl s) h
+
+pub lift_length : (F : ℕ → List ℕ → Type 0) (g k from at to : ℕ) (old mid new : Feed) (ds : List ℕ) (f : TextFault) → IsNumeral ds k → k ≤ g → at ≡ from + (length ds + 1) → at ≤ to → Consumes old mid (ds ++ 58 ∷ []) → FromTo mid new (λ t rest. StopsAt (Rest5 F k) g at (seen at to f t) (told to f)) → FromTo old new (λ t rest. StopsAt (BehindMinus F) g from (seen from to f t) (told to f))
+lift_length F g k from at to old mid new ds f i l counted later read h =
+    fails_behind (λ t f. StopsAt (Rest5 F k) g at t f) (λ t f. StopsAt (BehindMinus F) g from t f) old mid new from at to (ds ++ 58 ∷ []) f read (omega (arith, counted, length-append ds (58 ∷ []))) later
+    (λ t s. behind_length F g k from at _ t ds (told to f) i l counted refl s) h
+
+pub base_klen : (F : ℕ → List ℕ → Type 0) (g from to : ℕ) (old new : Feed) (f : TextFault) → Starts F → FromTo old new (λ t rest. FailsNumber g 44 from (seen from to f t) (told to f)) → FromTo old new (λ t rest. StopsAt (Behind F) g from (seen from to f t) (told to f))
+base_klen F g from to old new f s h = from_weaker old new _ _ h (λ t rest. klen_stops F g from (seen from to f t) (told to f) s)
+
+pub base_vlen : (F : ℕ → List ℕ → Type 0) (g k from to : ℕ) (old new : Feed) (f : TextFault) → Starts F → FromTo old new (λ t rest. FailsNumber g 58 from (seen from to f t) (told to f)) → FromTo old new (λ t rest. StopsAt (Rest1 F k) g from (seen from to f t) (told to f))
+base_vlen F g k from to old new f s h = from_weaker old new _ _ h (λ t rest. vlen_stops F g k from (seen from to f t) (told to f) s)
+
+pub base_key : (F : ℕ → List ℕ → Type 0) (g k n from to : ℕ) (old new : Feed) (f : TextFault) → Starts F → FromTo old new (λ t rest. FailsField k 45 from (seen from to f t) (told to f)) → FromTo old new (λ t rest. StopsAt (Rest2 F k n) g from (seen from to f t) (told to f))
+base_key F g k n from to old new f s h = from_weaker old new _ _ h (λ t rest. key_stops F g k n from (seen from to f t) (told to f) s)
+
+pub base_angle : (F : ℕ → List ℕ → Type 0) (g n from to : ℕ) (old new : Feed) (f : TextFault) → Starts F → FromTo old new (λ t rest. FailsByte 62 from (seen from to f t) (told to f)) → FromTo old new (λ t rest. StopsAt (Rest4 F n) g from (seen from to f t) (told to f))
+base_angle F g n from to old new f s h = from_weaker old new _ _ h (λ t rest. angle_stops F g n from (seen from to f t) (told to f) s)
+
+pub base_value : (F : ℕ → List ℕ → Type 0) (g n from to : ℕ) (old new : Feed) (f : TextFault) → Starts F → FromTo old new (λ t rest. FailsField n 10 from (seen from to f t) (told to f)) → FromTo old new (λ t rest. StopsAt (Rest5 F n) g from (seen from to f t) (told to f))
+base_value F g n from to old new f s h = from_weaker old new _ _ h (λ t rest. value_stops F g n from (seen from to f t) (told to f) s)
+
+pub base_length : (F : ℕ → List ℕ → Type 0) (g from to : ℕ) (old new : Feed) (f : TextFault) → Starts F → FromTo old new (λ t rest. FailsNumber g 58 from (seen from to f t) (told to f)) → FromTo old new (λ t rest. StopsAt (BehindMinus F) g from (seen from to f t) (told to f))
+base_length F g from to old new f s h = from_weaker old new _ _ h (λ t rest. length_stops F g from (seen from to f t) (told to f) s)
 
 -- ---- at the start of an item: its mark h, and then B
 
@@ -498,19 +531,35 @@ no_item_stops S h B k g from text Endless p is first rest i sp e = absurd is
 no_item_stops S h B k g from text NoMemory p is first rest i sp e = absurd is
 
 -- whatever is to follow the item, it stops there
-pub item_fails : {X : Type 0} (S : ℕ → List ℕ → X → Type 0) → IsSpelling S → (h : ℕ) (B : (ℕ → List ℕ → Type 0) → ℕ → List ℕ → Type 0) → IsMark S h B → (g from to : ℕ) (o : Option (List ℕ)) (f : TextFault) → to ≡ from + 1
-    → ((F : ℕ → List ℕ → Type 0) → Starts F → IfSome o (λ t. StopsAt (B F) g to t f)) → IfSome o (λ text. FailsItem S g from (h ∷ text) f)
-item_fails S is h B k g from to None f e p = tt
-item_fails S is h B k g from to (Some t) f e p = record { fault = stops_mark S is h B k g from to t f e (p (Form S) (prefix_form S)); no_item = no_item_stops S h B k g to t f (p Any prefix_any) }
+pub item_stops : {X : Type 0} (S : ℕ → List ℕ → X → Type 0) → IsSpelling S → (h : ℕ) (B : (ℕ → List ℕ → Type 0) → ℕ → List ℕ → Type 0) → IsMark S h B → (g from at : ℕ) (text : List ℕ) (f : TextFault) → at ≡ from + 1
+    → StopsAt (B (Form S)) g at text f × StopsAt (B Any) g at text f → FailsItem S g from (h ∷ text) f
+item_stops S is h B k g from at text f e (p, q) = record { fault = stops_mark S is h B k g from at text f e p; no_item = no_item_stops S h B k g at text f q }
 
-pub record_fails : (removals : Bool) (g from to : ℕ) (o : Option (List ℕ)) (f : TextFault) → to ≡ from + 1 → ((F : ℕ → List ℕ → Type 0) → Starts F → IfSome o (λ t. StopsAt (Behind F) g to t f))
-    → IfSome o (λ text. FailsEntry removals g from (43 ∷ text) f)
-record_fails true g from to o f e p = item_fails SpellsChange changes 43 Behind plus_changes g from to o f e p
-record_fails false g from to o f e p = item_fails Spells records 43 Behind plus_records g from to o f e p
+-- a record, and a removal, stop behind their marks
+pub record_stops : (removals : Bool) (g from at : ℕ) (text : List ℕ) (f : TextFault) → at ≡ from + 1 → ((F : ℕ → List ℕ → Type 0) → Starts F → StopsAt (Behind F) g at text f) → FailsEntry removals g from (43 ∷ text) f
+record_stops true g from at text f e p = item_stops SpellsChange changes 43 Behind plus_changes g from at text f e (p (Form SpellsChange) (prefix_form SpellsChange), p Any prefix_any)
+record_stops false g from at text f e p = item_stops Spells records 43 Behind plus_records g from at text f e (p (Form Spells) (prefix_form Spells), p Any prefix_any)
 
-pub removal_fails : (g from to : ℕ) (o : Option (List ℕ)) (f : TextFault) → to ≡ from + 1 → ((F : ℕ → List ℕ → Type 0) → Starts F → IfSome o (λ t. StopsAt (BehindMinus F) g to t f))
-    → IfSome o (λ text. FailsItem SpellsChange g from (45 ∷ text) f)
-removal_fails g from to o f e p = item_fails SpellsChange changes 45 BehindMinus minus_changes g from to o f e p
+pub removal_stops : (g from at : ℕ) (text : List ℕ) (f : TextFault) → at ≡ from + 1 → ((F : ℕ → List ℕ → Type 0) → Starts F → StopsAt (BehindMinus F) g at text f) → FailsItem SpellsChange g from (45 ∷ text) f
+removal_stops g from at text f e p = item_stops SpellsChange changes 45 BehindMinus minus_changes g from at text f e (p (Form SpellsChange) (prefix_form SpellsChange), p Any prefix_any)
+
+-- that all bytes of a reader determine those that are left
+abbrev pub OneRest : Feed → Type 0
+OneRest feed = (whole first second : List ℕ) → feed.may whole first → feed.may whole second → first ≡ second
+
+pub item_fails : {X : Type 0} (S : ℕ → List ℕ → X → Type 0) → IsSpelling S → (h : ℕ) (B : (ℕ → List ℕ → Type 0) → ℕ → List ℕ → Type 0) → IsMark S h B → (g from at to : ℕ) (old new : Feed) (f : TextFault) → OneRest old → at ≡ from + 1
+    → ((F : ℕ → List ℕ → Type 0) → Starts F → FromTo old new (λ t rest. StopsAt (B F) g at (seen at to f t) (told to f))) → FromTo old new (λ t rest. FailsItem S g from (h ∷ seen at to f t) (told to f))
+item_fails S is h B k g from at to old new f one e p =
+    from_weaker old new _ _ (from_both old new _ _ one (p (Form S) (prefix_form S)) (p Any prefix_any)) (λ t rest s. item_stops S is h B k g from at (seen at to f t) (told to f) e s)
+
+pub record_fails : (removals : Bool) (g from at to : ℕ) (old new : Feed) (f : TextFault) → OneRest old → at ≡ from + 1 → ((F : ℕ → List ℕ → Type 0) → Starts F → FromTo old new (λ t rest. StopsAt (Behind F) g at (seen at to f t) (told to f)))
+    → FromTo old new (λ t rest. FailsEntry removals g from (43 ∷ seen at to f t) (told to f))
+record_fails true g from at to old new f one e p = item_fails SpellsChange changes 43 Behind plus_changes g from at to old new f one e p
+record_fails false g from at to old new f one e p = item_fails Spells records 43 Behind plus_records g from at to old new f one e p
+
+pub removal_fails : (g from at to : ℕ) (old new : Feed) (f : TextFault) → OneRest old → at ≡ from + 1 → ((F : ℕ → List ℕ → Type 0) → Starts F → FromTo old new (λ t rest. StopsAt (BehindMinus F) g at (seen at to f t) (told to f)))
+    → FromTo old new (λ t rest. FailsItem SpellsChange g from (45 ∷ seen at to f t) (told to f))
+removal_fails g from at to old new f one e p = item_fails SpellsChange changes 45 BehindMinus minus_changes g from at to old new f one e p
 
 -- ---- before the mark of an item
 
@@ -538,44 +587,37 @@ syntax_item S is g from c o m h newline other = record {
   no_item = λ of first rest i sp e. other g first rest m i sp (sym e ∙ h);
 }
 
-fails_ended : (removals : Bool) (g from : ℕ) (t : List ℕ) → t ≡ [] → FailsEntry removals g from t (Ended from)
+pub fails_ended : (removals : Bool) (g from : ℕ) (t : List ℕ) → t ≡ [] → FailsEntry removals g from t (Ended from)
 fails_ended true g from t e = ended_item SpellsChange changes g from t e
 fails_ended false g from t e = ended_item Spells records g from t e
 
-fails_syntax : (removals : Bool) (g from c : ℕ) (o m : List ℕ) → o ≡ c ∷ m → c ≢ 10 → c ≢ 43 → (removals ≡ true → c ≢ 45) → FailsEntry removals g from o (Syntax from)
+pub fails_syntax : (removals : Bool) (g from c : ℕ) (o m : List ℕ) → o ≡ c ∷ m → c ≢ 10 → c ≢ 43 → (removals ≡ true → c ≢ 45) → FailsEntry removals g from o (Syntax from)
 fails_syntax true g from c o m h newline plus minus = syntax_item SpellsChange changes g from c o m h newline (λ g first x y i. no_change g c first x y i plus (minus refl))
 fails_syntax false g from c o m h newline plus minus = syntax_item Spells records g from c o m h newline (λ g first x y r sp e. plus (head_of_spelled g c first x y r sp e))
 
-pub ended_first : (removals : Bool) (g from : ℕ) (o : Option (List ℕ)) → IsAtEnd o → IfSome o (λ t. FailsEntry removals g from t (Ended from))
-ended_first removals g from None h = tt
-ended_first removals g from (Some t) h = fails_ended removals g from t h
+pub ended_first : (removals : Bool) (g from : ℕ) (old new : Feed) → Keeps old new → IsAtEnd new → FromTo old new (λ t rest. FailsEntry removals g from t (Ended from))
+ended_first removals g from old new kept end = from_all old new [] (λ t rest. FailsEntry removals g from t (Ended from)) kept end (fails_ended removals g from [] refl)
 
-pub syntax_first : (removals : Bool) (g from c : ℕ) (o m : Option (List ℕ)) → Consumes o m (c ∷ []) → c ≢ 10 → c ≢ 43 → (removals ≡ true → c ≢ 45) → IfSome o (λ t. FailsEntry removals g from t (Syntax from))
-syntax_first removals g from c None m h newline plus minus = tt
-syntax_first removals g from c (Some o) None h newline plus minus = absurd h
-syntax_first removals g from c (Some o) (Some m) h newline plus minus = fails_syntax removals g from c o m h newline plus minus
+pub syntax_first : (removals : Bool) (g from c : ℕ) (old new : Feed) → Consumes old new (c ∷ []) → c ≢ 10 → c ≢ 43 → (removals ≡ true → c ≢ 45) → FromTo old new (λ t rest. FailsEntry removals g from t (Syntax from))
+syntax_first removals g from c old new read newline plus minus = from_taken old new (c ∷ []) (λ t rest. FailsEntry removals g from t (Syntax from)) read (λ rest. fails_syntax removals g from c (c ∷ rest) rest refl newline plus minus)
 
 -- behind the mark that was read
-pub mark_first : (P : List ℕ → TextFault → Type 0) (c : ℕ) (o m : Option (List ℕ)) (f : TextFault) → Consumes o m (c ∷ []) → IfSome m (λ t. P (c ∷ t) f) → IfSome o (λ t. P t f)
-mark_first P c None m f h fails = tt
-mark_first P c (Some o) None f h fails = absurd h
-mark_first P c (Some o) (Some m) f h fails = subst (λ t. P t f) (sym h) fails
+pub mark_first : (P : List ℕ → TextFault → Type 0) (c : ℕ) (old mid new : Feed) (from at to : ℕ) (f : TextFault) → Consumes old mid (c ∷ []) → at ≡ from + 1 → at ≤ to
+    → FromTo mid new (λ t rest. P (c ∷ seen at to f t) (told to f)) → FromTo old new (λ t rest. P (seen from to f t) (told to f))
+mark_first P c old mid new from at to f read counted later h = fails_behind (λ t f. P (c ∷ t) f) P old mid new from at to (c ∷ []) f read counted later (λ t p. p) h
 
 -- where nothing was read, nothing of a text was
 pub nothing_read : (removals : Bool) (g from : ℕ) → FailsEntry removals g from [] (Ended from)
 nothing_read removals g from = fails_ended removals g from [] refl
 
--- what a fault says of all that was unread, and of what was read of it
-pub record Met {X : Type 0} (S : ℕ → List ℕ → X → Type 0) (g from to : ℕ) (old : Option (List ℕ)) (f : TextFault) : Type 0 where
-  pub exact : IfSome old (λ text. HasFault S g from text f)
-  pub no_record : IfSome old (λ text. IsOfText f → HasNoItem S g text)
-  pub part : IfSome old (λ text. IsReadFault f → StopsAmid S g from to text)
+-- what a fault says of all that was left, and of what was read of it
+fault_of : {X : Type 0} (S : ℕ → List ℕ → X → Type 0) (g from to : ℕ) (text : List ℕ) (f : TextFault) → FailsItem S g from (seen from to f text) (told to f) → IsFaultOf S g from to text f
+fault_of S g from to t (Syntax at) h = record { exact = h.fault; no_record = h.no_item; part = λ is. absurd is }
+fault_of S g from to t (Ended at) h = record { exact = h.fault; no_record = h.no_item; part = λ is. absurd is }
+fault_of S g from to t (Large at) h = record { exact = h.fault; no_record = h.no_item; part = λ is. absurd is }
+fault_of S g from to t NoMemory h = record { exact = tt; no_record = λ is. absurd is; part = λ is. absurd is }
+fault_of S g from to t Input h = record { exact = tt; no_record = λ is. absurd is; part = λ is. record { front = h.fault; no_record = h.no_item tt } }
+fault_of S g from to t Endless h = record { exact = tt; no_record = λ is. absurd is; part = λ is. record { front = h.fault; no_record = h.no_item tt } }
 
-pub met : {X : Type 0} (S : ℕ → List ℕ → X → Type 0) (g from to : ℕ) (old : Option (List ℕ)) (f : TextFault) → IfSome (seen from to f old) (λ text. FailsItem S g from text (told to f)) → Met S g from to old f
-met S g from to None f h = record { exact = tt; no_record = tt; part = tt }
-met S g from to (Some t) (Syntax at) h = record { exact = h.fault; no_record = h.no_item; part = λ is. absurd is }
-met S g from to (Some t) (Ended at) h = record { exact = h.fault; no_record = h.no_item; part = λ is. absurd is }
-met S g from to (Some t) (Large at) h = record { exact = h.fault; no_record = h.no_item; part = λ is. absurd is }
-met S g from to (Some t) NoMemory h = record { exact = tt; no_record = λ is. absurd is; part = λ is. absurd is }
-met S g from to (Some t) Input h = record { exact = tt; no_record = λ is. absurd is; part = λ is. record { front = h.fault; no_record = h.no_item tt } }
-met S g from to (Some t) Endless h = record { exact = tt; no_record = λ is. absurd is; part = λ is. record { front = h.fault; no_record = h.no_item tt } }
+pub met : {X : Type 0} (S : ℕ → List ℕ → X → Type 0) (g from to : ℕ) (old new : Feed) (f : TextFault) → FromTo old new (λ t rest. FailsItem S g from (seen from to f t) (told to f)) → FromTo old new (λ t rest. IsFaultOf S g from to t f)
+met S g from to old new f h = from_weaker old new _ _ h (λ t rest. fault_of S g from to t f)

@@ -1,13 +1,12 @@
 -- What the head that was read says of the walk of the whole file.
-use Rattle.std.proofs.Common.{◌≡◌, ℕ, ◌+◌, ◌*◌, ◌<◌, ◌≤◌, ◌⊎◌, List, ◌++◌, length, take, replicate, inl, inr, drop, map, refl, sym, ap, ◌∙◌, arith, Option, Some, None, IfSome, append_assoc, length-append, length-drop}
+use Rattle.std.proofs.Common.{◌≡◌, ℕ, ◌+◌, ◌*◌, ◌<◌, ◌≤◌, ◌⊎◌, List, ◌++◌, length, take, replicate, inl, inr, drop, map, sym, ap, ◌∙◌, arith, append_assoc, length-append, length-drop}
 use Rattle.std.proofs.Math.Nat.{mul-le-mul_left}
 use Rattle.std.specs.List.{range_with_len}
-use Rattle.std.specs.Io.KnownBytes.{Consumes}
 use Rattle.std.proofs.lemmas.List.{take-append-le, drop-append-le, drop_at}
 use Rattle.std.proofs.lemmas.List.FromFn.{fill_by_all, length-map-range_with_len, get_or-map-range_with_len}
-use Rattle.cdb_form.specs.Views.KnownBytes.{FromTo, LosesFewer}
-use Rattle.cdb_form.specs.Views.Reading.{ReadsHead, ReadsNoRecord, ReadsFirst}
-use Rattle.cdb_form.proofs.Sources.SourceLemmas.{consumes_then}
+use Rattle.cdb_form.specs.Fed.Feed.{Consumes, Feed, FromTo}
+use Rattle.cdb_form.specs.Fed.Taking.{LosesFewer, ReadsFirst, ReadsHead, ReadsNoRecord}
+use Rattle.cdb_form.proofs.Fed.FeedLemmas.{consumes_then, from_taken, from_weaker}
 use Rattle.cdb_form.specs.Format.Pair.{WordPair, pair_size, head_size}
 use Rattle.cdb_form.specs.Format.Table.{empty_slot}
 use Rattle.cdb_form.specs.Format.Reading.{pair_at, nth_pair, head_at}
@@ -53,32 +52,28 @@ pub pair_fits : (w size : ℕ) → size ≡ pair_size w → (w ≡ 4) ⊎ (w ≡
 pair_fits w size e width = zeros_long size 16 (elim width [ inl a ↦ omega arith | inr b ↦ omega arith ]) ∙ e
 
 -- the file is too short
-pub area_short : (w : ℕ) (old : Option (List ℕ)) (fault : WalkFault) → fault ≡ Short → IfSome old (λ text. length text < head_size w) → IfSome old (λ text. walk_of w text ≡ stopped_by fault)
-area_short w None fault e h = tt
-area_short w (Some text) fault e h = walk_of-short w text h ∙ ap stopped_by (sym e)
+pub area_short : (w : ℕ) (old new : Feed) (fault : WalkFault) → fault ≡ Short → FromTo old new (λ text rest. length text < head_size w) → FromTo old new (λ text rest. walk_of w text ≡ stopped_by fault)
+area_short w old new fault e h = from_weaker old new _ _ h (λ text rest few. walk_of-short w text few ∙ ap stopped_by (sym e))
 
 -- a table stands within the head
-pub area_table : (w n : ℕ) (old new : Option (List ℕ)) (xs : List ℕ) → Consumes old new xs → length xs ≡ head_size w → record_end w xs < head_size w → n ≡ first_table_at (record_end w xs) (head_at w xs)
-    → IfSome old (λ text. walk_of w text ≡ damaged (Table n))
-area_table w n None new xs read long low e = tt
-area_table w n (Some text) None xs read long low e = absurd read
-area_table w n (Some text) (Some rest) xs read long low e =
+pub area_table : (w n : ℕ) (old new : Feed) (xs : List ℕ) → Consumes old new xs → length xs ≡ head_size w → record_end w xs < head_size w → n ≡ first_table_at (record_end w xs) (head_at w xs)
+    → FromTo old new (λ text rest. walk_of w text ≡ damaged (Table n))
+area_table w n old new xs read long low e = from_taken old new xs _ read (λ rest.
     let end = record_end-append w xs rest long in
     let whole : length (xs ++ rest) ≡ length xs + length rest = length-append xs rest in
-    ap (walk_of w) read ∙ walk_of-table w (xs ++ rest) (omega arith) (omega arith)
+    walk_of-table w (xs ++ rest) (omega arith) (omega arith)
     ∙ ap (λ (k : ℕ). damaged (Table (first_table_at k (head_at w (xs ++ rest))))) end
     ∙ ap (λ (ps : List WordPair). damaged (Table (first_table_at (record_end w xs) ps))) (head_at-append w xs rest long)
-    ∙ ap (λ (k : ℕ). damaged (Table k)) (sym e)
+    ∙ ap (λ (k : ℕ). damaged (Table k)) (sym e))
 
--- the records stand behind the head
-pub area_read : (w place end : ℕ) (old new : Option (List ℕ)) (xs : List ℕ) → Consumes old new xs → length xs ≡ head_size w → end ≡ record_end w xs → place ≡ head_size w → place ≤ end
-    → FromTo old new (λ text rest. (walk_of w text ≡ walk_from w place end rest) × (end ≡ record_end w text) × (rest ≡ drop (head_size w) text))
-area_read w place end None new xs read long e at low = tt
-area_read w place end (Some text) None xs read long e at low = absurd read
-area_read w place end (Some text) (Some rest) xs read long e at low =
-    let same : record_end w text ≡ record_end w xs = ap (record_end w) read ∙ record_end-append w xs rest long in
-    let whole : length text ≡ length xs + length rest = ap length read ∙ length-append xs rest in
-    let behind : rest ≡ drop (head_size w) text = sym (ap (drop (head_size w)) read ∙ drop_at xs rest (head_size w) long) in (
+-- the bytes of a head, and the records behind it
+area_text : (w place end : ℕ) (xs rest : List ℕ) → length xs ≡ head_size w → end ≡ record_end w xs → place ≡ head_size w → place ≤ end
+    → (walk_of w (xs ++ rest) ≡ walk_from w place end rest) × (end ≡ record_end w (xs ++ rest)) × (rest ≡ drop (head_size w) (xs ++ rest))
+area_text w place end xs rest long e at low =
+    let text = xs ++ rest in
+    let same : record_end w text ≡ record_end w xs = record_end-append w xs rest long in
+    let whole : length text ≡ length xs + length rest = length-append xs rest in
+    let behind : rest ≡ drop (head_size w) text = sym (drop_at xs rest (head_size w) long) in (
       walk_of-records w text (omega arith) (omega arith)
           ∙ ap (λ (k : ℕ). walk_from w (head_size w) k (drop (head_size w) text)) (same ∙ sym e)
           ∙ ap (λ (k : ℕ). walk_from w k end (drop (head_size w) text)) (sym at)
@@ -87,23 +82,28 @@ area_read w place end (Some text) (Some rest) xs read long e at low =
       behind,
     )
 
--- whatever stands behind the head
-pub head_cut : (w place end : ℕ) (old new : Option (List ℕ)) (xs : List ℕ) → Consumes old new xs → length xs ≡ head_size w → end ≡ record_end w xs → place ≡ head_size w → place ≤ end → ReadsHead w place end old new
+-- such a head was taken
+pub area_read : (w place end : ℕ) (old new : Feed) (xs : List ℕ) → Consumes old new xs → length xs ≡ head_size w → end ≡ record_end w xs → place ≡ head_size w → place ≤ end
+    → FromTo old new (λ text rest. (walk_of w text ≡ walk_from w place end rest) × (end ≡ record_end w text) × (rest ≡ drop (head_size w) text))
+area_read w place end old new xs read long e at low = from_taken old new xs _ read (λ rest. area_text w place end xs rest long e at low)
+
+-- whatever stands behind it
+pub head_cut : (w place end : ℕ) (old new : Feed) (xs : List ℕ) → Consumes old new xs → length xs ≡ head_size w → end ≡ record_end w xs → place ≡ head_size w → place ≤ end → ReadsHead w place end old new
 head_cut w place end old new xs read long e at low = record {
   head = xs;
   read = read;
-  walk = λ more. (area_read w place end (Some (xs ++ more)) (Some more) xs refl long e at low).0;
+  walk = λ more. (area_text w place end xs more long e at low).0;
 }
 
 -- what was read at a fault has no whole record
-pub none_short : (w : ℕ) (old new : Option (List ℕ)) → LosesFewer old new (head_size w) → ReadsNoRecord (walk_of w) old new
+pub none_short : (w : ℕ) (old new : Feed) → LosesFewer old new (head_size w) → ReadsNoRecord (walk_of w) old new
 none_short w old new l = record { lost = l.lost; taken = l.taken; no_record = ap (λ (v : Walked). v.records) (walk_of-short w l.lost l.few) }
 
-pub none_table : (w : ℕ) (old new : Option (List ℕ)) (xs : List ℕ) → Consumes old new xs → length xs ≡ head_size w → record_end w xs < head_size w → ReadsNoRecord (walk_of w) old new
+pub none_table : (w : ℕ) (old new : Feed) (xs : List ℕ) → Consumes old new xs → length xs ≡ head_size w → record_end w xs < head_size w → ReadsNoRecord (walk_of w) old new
 none_table w old new xs read long low = record { lost = xs; taken = read; no_record = ap (λ (v : Walked). v.records) (walk_of-table w xs (omega arith) low) }
 
 -- nor has it where the head was read, and then nothing of that kind
-pub none_behind_head : (w place end : ℕ) (old mid new : Option (List ℕ)) → ReadsHead w place end old mid → ReadsNoRecord (walk_from w place end) mid new → ReadsNoRecord (walk_of w) old new
+pub none_behind_head : (w place end : ℕ) (old mid new : Feed) → ReadsHead w place end old mid → ReadsNoRecord (walk_from w place end) mid new → ReadsNoRecord (walk_of w) old new
 none_behind_head w place end old mid new h p = record {
   lost = h.head ++ p.lost;
   taken = consumes_then old mid new h.head p.lost h.read p.taken;
@@ -111,7 +111,7 @@ none_behind_head w place end old mid new h p = record {
 }
 
 -- the head was read, and then a record
-pub first_behind_head : (w place end : ℕ) (old mid new : Option (List ℕ)) (r : KeyValue) (rest : List ℕ → Walked) → ReadsHead w place end old mid → ReadsFirst r (walk_from w place end) rest mid new → ReadsFirst r (walk_of w) rest old new
+pub first_behind_head : (w place end : ℕ) (old mid new : Feed) (r : KeyValue) (rest : List ℕ → Walked) → ReadsHead w place end old mid → ReadsFirst r (walk_from w place end) rest mid new → ReadsFirst r (walk_of w) rest old new
 first_behind_head w place end old mid new r rest h p = record {
   bytes = h.head ++ p.bytes;
   read = consumes_then old mid new h.head p.bytes h.read p.read;

@@ -1,16 +1,16 @@
 -- A record of a database file at the start of some bytes that are at hand.
-use Rattle.std.proofs.Common.{◌≡◌, ℕ, ◌+◌, ◌-◌, ◌*◌, ◌<◌, ◌≤◌, List, ◌++◌, length, take, drop, refl, sym, subst, ap, ◌∙◌, arith, Option, Some, None, append_assoc, length-append, length-drop, length-take}
+use Rattle.std.proofs.Common.{◌≡◌, ℕ, ◌+◌, ◌-◌, ◌*◌, ◌<◌, ◌≤◌, List, ◌++◌, length, take, drop, sym, subst, ap, ◌∙◌, arith, length-append, length-drop, length-take}
 use Rattle.std.proofs.lemmas.List.{drop-drop, drop-take, length-take-le, take-append-drop, take-take, take_all}
-use Rattle.std.specs.Io.KnownBytes.{prepend_known, Consumes}
+use Rattle.cdb_form.specs.Fed.Feed.{Consumes, Feed, FromTo}
+use Rattle.cdb_form.specs.Fed.RecordReader.{GivesRecord}
+use Rattle.cdb_form.specs.Fed.Taking.{ReadsFirst}
 use Rattle.cdb_form.specs.Format.Pair.{WordPair}
 use Rattle.cdb_form.specs.Format.Reading.{pair_at}
 use Rattle.cdb_form.specs.Format.Record.{KeyValue, record_size}
 use Rattle.cdb_form.specs.Format.Walk.{prefix_record, prefix_size, walk_from, with_first}
-use Rattle.cdb_form.specs.Views.KnownBytes.{FromTo}
 use Rattle.cdb_form.specs.Views.Pairs.{header_pair}
 use Rattle.cdb_form.specs.Views.Prefix.{IsStored}
-use Rattle.cdb_form.specs.Views.Reading.{ReadsFirst}
-use Rattle.cdb_form.specs.Views.RecordReader.{unread, GivesRecord, HasPeeked}
+use Rattle.cdb_form.specs.Views.RecordReader.{HasPeeked}
 use Rattle.cdb_form.specs.declared.header.Header.{Header}
 use Rattle.cdb_form.specs.declared.walk.record_area.RecordArea.{RecordArea}
 use Rattle.cdb_form.specs.declared.walk.record_reader.Progress.{Progress}
@@ -18,7 +18,7 @@ use Rattle.cdb_form.specs.declared.walk.record_reader.Progress.TheVariants.{AtHe
 use Rattle.cdb_form.specs.declared.walk.record_reader.RecordReader.{RecordReader}
 use Rattle.cdb_form.proofs.Files.Prefixes.{lengths_of}
 use Rattle.cdb_form.proofs.Bytes.ReadBack.{same_words}
-use Rattle.cdb_form.proofs.RecordReading.RecordReads.{record_cut, record_read}
+use Rattle.cdb_form.proofs.RecordReading.RecordReads.{goes_on, record_cut, record_read}
 use Rattle.cdb_form.proofs.Bytes.WordLemmas.{pair_at-take}
 
 -- the parts of the record that some bytes begin with, and whose header has this size
@@ -70,18 +70,8 @@ parts_of w bytes whole =
       split = sym (ap (λ t. take (2 * w) bytes ++ t) behind ∙ take-append-drop (2 * w) bytes);
     }
 
--- what is read at once is read part after part
-first_part : (old new : Option (List ℕ)) (xs ys : List ℕ) → Consumes old new (xs ++ ys) → Consumes old (prepend_known ys new) xs
-first_part None new xs ys read = tt
-first_part (Some o) None xs ys read = absurd read
-first_part (Some o) (Some n) xs ys read = read ∙ append_assoc xs ys n
-
-last_part : (new : Option (List ℕ)) (ys : List ℕ) → Consumes (prepend_known ys new) new ys
-last_part None ys = tt
-last_part (Some n) ys = refl
-
 -- a record that was taken is the next one of the walk
-pub stored_read : (w place end next : ℕ) (old new : Option (List ℕ)) (bytes : List ℕ) → 0 < w → Consumes old new bytes → prefix_size w bytes ≡ length bytes → next ≡ place + length bytes → next ≤ end
+pub stored_read : (w place end next : ℕ) (old new : Feed) (bytes : List ℕ) → 0 < w → Consumes old new bytes → prefix_size w bytes ≡ length bytes → next ≡ place + length bytes → next ≤ end
     → (next ≡ place + record_size w (prefix_record w bytes))
     × FromTo old new (λ text rest. (walk_from w place end text ≡ with_first (prefix_record w bytes) (walk_from w next end rest)) × (rest ≡ drop (next - place) text))
     × ReadsFirst (prefix_record w bytes) (walk_from w place end) (walk_from w next end) old new
@@ -89,17 +79,15 @@ stored_read w place end next old new bytes some read whole at room =
     let r = prefix_record w bytes in
     let header = take (2 * w) bytes in
     let parts = parts_of w bytes whole in
-    let mid = prepend_known (r.key ++ r.value) new in
     let behind : next ≡ place + record_size w r = omega (arith, at, parts.long, ap length parts.split, length-append header (r.key ++ r.value), length-append r.key r.value) in
-    let one : Consumes old mid header = first_part old new header (r.key ++ r.value) (subst (Consumes old new) parts.split read) in
-    let two : Consumes mid new (r.key ++ r.value) = last_part new (r.key ++ r.value) in (
+    let split : Consumes old new (header ++ (r.key ++ r.value)) = subst (Consumes old new) parts.split read in (
       behind,
-      record_read w place end next old mid new header r some one two parts.long parts.lengths behind room,
-      record_cut w place end next old mid new header r some one two parts.long parts.lengths behind room,
+      record_read w place end next old new header r some split parts.long parts.lengths behind room,
+      record_cut w place end next old new header r some split parts.long parts.lengths behind room,
     )
 
 -- so is one that was taken of the bytes that are at hand before the record end
-pub stored_taken : (w place end next n : ℕ) (old new : Option (List ℕ)) (held : List ℕ) (r : KeyValue) → 0 < w → place ≤ end → IsStored w (take (end - place) held) n r → Consumes old new (take n held) → next ≡ place + n
+pub stored_taken : (w place end next n : ℕ) (old new : Feed) (held : List ℕ) (r : KeyValue) → 0 < w → place ≤ end → IsStored w (take (end - place) held) n r → Consumes old new (take n held) → next ≡ place + n
     → (next ≡ place + record_size w r)
     × FromTo old new (λ text rest. (walk_from w place end text ≡ with_first r (walk_from w next end rest)) × (rest ≡ drop (next - place) text))
     × ReadsFirst r (walk_from w place end) (walk_from w next end) old new
@@ -122,35 +110,18 @@ area_in other (At area) = area
 area_in other AtEnd = other
 area_in other (Failed fault) = other
 
-walk_part : (w place end next : ℕ) (old new : Option (List ℕ)) (r : KeyValue)
-    → FromTo old new (λ text rest. (walk_from w place end text ≡ with_first r (walk_from w next end rest)) × (rest ≡ drop (next - place) text))
-    → FromTo old new (λ text rest. walk_from w place end text ≡ with_first r (walk_from w next end rest))
-walk_part w place end next None new r h = tt
-walk_part w place end next (Some text) None r h = absurd h
-walk_part w place end next (Some text) (Some rest) r h = h.0
-
-behind_part : (w place end next : ℕ) (old new : Option (List ℕ)) (r : KeyValue) → place ≤ next → next ≤ end
-    → FromTo old new (λ text rest. (walk_from w place end text ≡ with_first r (walk_from w next end rest)) × (rest ≡ drop (next - place) text))
-    → FromTo old new (λ text rest. drop (end - next) rest ≡ drop (end - place) text)
-behind_part w place end next None new r later room h = tt
-behind_part w place end next (Some text) None r later room h = absurd h
-behind_part w place end next (Some text) (Some rest) r later room h =
-    let n : (next - place) + (end - next) ≡ end - place = omega arith in
-    ap (drop (end - next)) h.1 ∙ drop-drop (end - next) (next - place) text ∙ ap (λ (k : ℕ). drop k text) n
-
 -- a record that was shown was taken
-pub peeked_taken : {R L : Type 0} (w : ℕ) (remaining : R → Option (List ℕ)) (held : R → List ℕ) (old new : RecordReader R L) (now next : RecordArea) (n : ℕ) (r : KeyValue) → 0 < w → HasPeeked w held old n r
-    → old.walking ≡ At now → new.walking ≡ At next → Consumes (unread remaining old) (unread remaining new) (take n (held old.reader)) → next.place ≡ now.place + n → next.end ≡ now.end → GivesRecord w remaining old new r
-peeked_taken w remaining held old new now next n r some peeked is becomes taken at end =
+pub peeked_taken : {R L : Type 0} (w : ℕ) (feed : R → Feed) (held : R → List ℕ) (old new : RecordReader R L) (now next : RecordArea) (n : ℕ) (r : KeyValue) → 0 < w → HasPeeked w held old n r
+    → old.walking ≡ At now → new.walking ≡ At next → Consumes (feed old.reader) (feed new.reader) (take n (held old.reader)) → next.place ≡ now.place + n → next.end ≡ now.end → GivesRecord w feed old new r
+peeked_taken w feed held old new now next n r some peeked is becomes taken at end =
     let same : peeked.area ≡ now = ap (area_in now) (sym peeked.going ∙ is) in
     let begins = subst (λ (a : RecordArea). IsStored w (take (a.end - a.place) (held old.reader)) n r) same peeked.begins in
-    let all = stored_taken w now.place now.end next.place n (unread remaining old) (unread remaining new) (held old.reader) r some now.ordered begins taken at in
+    let all = stored_taken w now.place now.end next.place n (feed old.reader) (feed new.reader) (held old.reader) r some now.ordered begins taken at in
     let few : n ≤ now.end - now.place = omega (arith, begins.within, length-take (now.end - now.place) (held old.reader)) in
     let most : 0 < n = omega (arith, begins.whole) in
     rw (is, becomes) (record {
-      walk = subst (λ (e : ℕ). FromTo (unread remaining old) (unread remaining new) (λ text rest. walk_from w now.place now.end text ≡ with_first r (walk_from w next.place e rest))) (sym end) (walk_part w now.place now.end next.place _ _ r all.1);
-      cut = subst (λ (e : ℕ). ReadsFirst r (walk_from w now.place now.end) (walk_from w next.place e) (unread remaining old) (unread remaining new)) (sym end) all.2;
-      behind = subst (λ (e : ℕ). FromTo (unread remaining old) (unread remaining new) (λ text rest. drop (e - next.place) rest ≡ drop (now.end - now.place) text)) (sym end) (behind_part w now.place now.end next.place _ _ r (omega arith) (omega arith) all.1);
+      walk = goes_on w now.place now.end next.place next.end _ _ r (omega arith) (omega arith) end all.1;
+      cut = subst (λ (e : ℕ). ReadsFirst r (walk_from w now.place now.end) (walk_from w next.place e) (feed old.reader) (feed new.reader)) (sym end) all.2;
       going = tt;
       fewer = omega (arith, end);
     })

@@ -1,20 +1,25 @@
 -- What a reader of records leaves unread.
-use Rattle.std.proofs.Common.{◌≡◌, ℕ, ◌+◌, ◌-◌, ◌≤◌, List, ◌++◌, length, take, drop, refl, sym, ap, subst, ◌∙◌, arith, Option, Some, None, IfSome, inl, inr}
+use Rattle.std.proofs.Common.{◌≡◌, ℕ, ◌+◌, ◌-◌, ◌≤◌, List, ◌++◌, length, take, drop, refl, sym, ap, subst, ◌∙◌, arith, inl, inr}
 use Rattle.std.specs.Prelude.{max, Bool, true, false, MatchBool}
-use Rattle.std.specs.Bool.{OnTrue}
+use Rattle.std.specs.Bool.{OnTrue, OnFalse}
 use Rattle.cdb_form.specs.Format.Record.{KeyValue}
 use Rattle.cdb_form.specs.Views.Pairs.{key_value}
-use Rattle.cdb_form.specs.Views.RecordReader.{GivesKept, GivesRecord}
+use Rattle.cdb_form.specs.Fed.Feed.{Feed, FromTo}
+use Rattle.cdb_form.specs.Fed.RecordReader.{GivesKept, GivesRecord}
 use Rattle.cdb_form.specs.declared.record.Record.{Record}
 use Rattle.cdb_form.specs.declared.walk.record_reader.RecordReader.{RecordReader}
 use Rattle.cdb_form.specs.declared.walk.keeping.Keeping.TheVariants.{Both}
 use Rattle.std.proofs.lemmas.List.{drop_at, drop-drop, take-append-drop}
-use Rattle.cdb_form.specs.Views.KnownBytes.{LosesAtMost, FromTo, StillFrom}
-use Rattle.cdb_form.specs.Views.Reading.{ReadsNoFurther}
+use Rattle.cdb_form.specs.Fed.Taking.{LosesAtMost, ReadsNoFurther}
+use Rattle.cdb_form.specs.Views.KnownBytes.{StillFrom}
+use Rattle.cdb_form.specs.Views.WalkFault.{IsDamage, stopped_by}
+use Rattle.cdb_form.specs.declared.walk.fault.WalkFault.{WalkFault}
+use Rattle.cdb_form.specs.declared.walk.fault.WalkFault.TheVariants.{Short, Table, Record as Cut, Input, NoMemory}
+use Rattle.cdb_form.proofs.Fed.FeedLemmas.{from_both, from_kept, from_taken, from_then, from_weaker, nothing_taken}
 use Rattle.cdb_form.proofs.RecordReading.RecordReads.{loses_then}
 use Rattle.cdb_form.specs.Format.Pair.{head_size}
+use Rattle.cdb_form.specs.Views.RecordReader.{behind_records}
 use Rattle.cdb_form.specs.Format.Walk.{Walked, walk_of, walk_from, record_end, no_walk, with_first}
-use Rattle.cdb_form.proofs.Files.WalkSteps.{walk_from-end}
 
 still_from : (lost rest : List ℕ) (n : ℕ) → length lost ≤ n → StillFrom n (lost ++ rest) rest
 still_from lost rest n few =
@@ -27,34 +32,51 @@ still_from lost rest n few =
     )
 
 -- no more than n bytes were lost
-pub loses_still : (old new : Option (List ℕ)) (n : ℕ) (size : List ℕ → ℕ) → ((text : List ℕ) → n ≤ size text) → LosesAtMost old new n → FromTo old new (λ text rest. StillFrom (size text) text rest)
-loses_still None new n size some l = tt
-loses_still (Some text) None n size some l = absurd l.taken
-loses_still (Some text) (Some rest) n size some l =
-    let room : n ≤ size text = some text in
+pub loses_still : (old new : Feed) (n : ℕ) (size : List ℕ → ℕ) → ((text : List ℕ) → n ≤ size text) → LosesAtMost old new n → FromTo old new (λ text rest. StillFrom (size text) text rest)
+loses_still old new n size some l = from_taken old new l.lost _ l.taken (λ rest.
+    let room : n ≤ size (l.lost ++ rest) = some (l.lost ++ rest) in
     let few = l.few in
-    let still = still_from l.lost rest (size text) (omega arith) in
-    (still.0, still.1 ∙ ap (λ t. still.0 ++ drop (size text) t) (sym l.taken))
+    still_from l.lost rest (size (l.lost ++ rest)) (omega arith))
 
--- the head, and then some bytes before the record end
-pub still_then : (w place end : ℕ) (old mid new : Option (List ℕ))
-    → FromTo old mid (λ text rest. (walk_of w text ≡ walk_from w place end rest) × (end ≡ record_end w text) × (rest ≡ drop (head_size w) text))
-    → place ≡ head_size w → place ≤ end → FromTo mid new (λ text rest. StillFrom (end - place) text rest)
-    → FromTo old new (λ text rest. StillFrom (max (head_size w) (record_end w text)) text rest)
-still_then w place end None mid new a at low b = tt
-still_then w place end (Some text) None new a at low b = absurd a
-still_then w place end (Some text) (Some t) None a at low b = absurd b
-still_then w place end (Some text) (Some t) (Some rest) (walk, is, cut) at low (more, e) =
+-- the damage of the walk, where the fault is one, beside what holds at any fault
+pub damage_and : (old new : Feed) (fault : WalkFault) (P Q : List ℕ → List ℕ → Type 0) → ((whole x y : List ℕ) → old.may whole x → old.may whole y → x ≡ y)
+    → (IsDamage fault → FromTo old new P) → FromTo old new Q → FromTo old new (λ text rest. (IsDamage fault → P text rest) × Q text rest)
+damage_and old new Short P Q one p q = from_weaker old new _ _ (from_both old new P Q one (p tt) q) (λ text rest h. (λ damage. h.0, h.1))
+damage_and old new (Table n) P Q one p q = from_weaker old new _ _ (from_both old new P Q one (p tt) q) (λ text rest h. (λ damage. h.0, h.1))
+damage_and old new (Cut place) P Q one p q = from_weaker old new _ _ (from_both old new P Q one (p tt) q) (λ text rest h. (λ damage. h.0, h.1))
+damage_and old new Input P Q one p q = from_weaker old new _ _ q (λ text rest h. (λ damage. elim damage [ ], h))
+damage_and old new NoMemory P Q one p q = from_weaker old new _ _ q (λ text rest h. (λ damage. elim damage [ ], h))
+
+-- the head was read, from which on the records stand
+abbrev pub HeadThen : ℕ → ℕ → ℕ → Feed → Feed → Type 0
+HeadThen w place end old mid = FromTo old mid (λ text rest. (walk_of w text ≡ walk_from w place end rest) × (end ≡ record_end w text) × (rest ≡ drop (head_size w) text))
+
+-- behind the head, what stands behind the record end is the same
+end_is : (w place end : ℕ) (text mid : List ℕ) → end ≡ record_end w text → mid ≡ drop (head_size w) text → place ≡ head_size w → place ≤ end → drop (end - place) mid ≡ behind_records w text
+end_is w place end text mid is cut at low =
     let n : head_size w + (end - place) ≡ max (head_size w) (record_end w text) = omega arith in
-    (more, e ∙ ap (λ u. more ++ drop (end - place) u) cut ∙ ap (λ u. more ++ u) (drop-drop (end - place) (head_size w) text ∙ ap (λ (k : ℕ). drop k text) n))
+    ap (drop (end - place)) cut ∙ drop-drop (end - place) (head_size w) text ∙ ap (λ (k : ℕ). drop k text) n
 
--- no record is left at the record end
-pub known_end : (w place end : ℕ) (old : Option (List ℕ)) → place ≡ end → IfSome old (λ text. walk_from w place end text ≡ no_walk)
-known_end w place end None at = tt
-known_end w place end (Some text) at = walk_from-end w place end text at
+-- the head, and then a fault
+pub fails_then : (w place end : ℕ) (old mid new : Feed) (fault : WalkFault) → HeadThen w place end old mid → place ≡ head_size w → place ≤ end
+    → FromTo mid new (λ text rest. (IsDamage fault → walk_from w place end text ≡ stopped_by fault) × StillFrom (end - place) text rest)
+    → FromTo old new (λ text rest. (IsDamage fault → walk_of w text ≡ stopped_by fault) × StillFrom (max (head_size w) (record_end w text)) text rest)
+fails_then w place end old mid new fault a at low b = from_weaker old new _ _ (from_then old mid new _ _ a b) (λ text rest h.
+    let head = h.1 in
+    let stop = h.2 in (
+      λ damage. head.0 ∙ stop.0 damage,
+      (stop.1.0, stop.1.1 ∙ ap (λ t. stop.1.0 ++ t) (end_is w place end text h.0 head.1 head.2 at low)),
+    ))
+
+-- the head, and then no record
+pub end_then : (w place end : ℕ) (old mid : Feed) → HeadThen w place end old mid → place ≡ head_size w → place ≤ end → place ≡ end
+    → ((text : List ℕ) → walk_from w place end text ≡ no_walk) → FromTo old mid (λ text rest. (walk_of w text ≡ no_walk) × (rest ≡ behind_records w text))
+end_then w place end old mid a at low empty none = from_weaker old mid _ _ a (λ text rest h.
+    let zero : end - place ≡ 0 = omega arith in
+    (h.0 ∙ none rest, sym (ap (λ (k : ℕ). drop k rest) zero) ∙ end_is w place end text rest h.1 h.2 at low))
 
 -- no more than n bytes were lost, and then no more than m were read, or all
-pub no_further_then : (old mid new : Option (List ℕ)) (n m : ℕ) → LosesAtMost old mid n → ReadsNoFurther m mid new → ReadsNoFurther (n + m) old new
+pub no_further_then : (old mid new : Feed) (n m : ℕ) → LosesAtMost old mid n → ReadsNoFurther m mid new → ReadsNoFurther (n + m) old new
 no_further_then old mid new n m a (inl b) = inl (loses_then old mid new a.lost m (n + m) a.taken b (omega (arith, a.few)))
 no_further_then old mid new n m a (inr end) = inr end
 
@@ -64,8 +86,8 @@ same_record r key value a b =
     ap (λ (k : List ℕ). let s : KeyValue = record { key = k; value = r.value } in s) a
     ∙ ap (λ (v : List ℕ). let s : KeyValue = record { key = key; value = v } in s) b
 
-pub kept_both : {R L : Type 0} (w : ℕ) (remaining : R → Option (List ℕ)) (old new : RecordReader R L) (into : Record) → GivesKept w remaining old new Both into → GivesRecord w remaining old new (key_value into)
-kept_both w remaining old new into (r, kept, gives) = subst (GivesRecord w remaining old new) (same_record r into.key.items into.value.items kept.key (kept.value refl)) gives
+pub kept_both : {R L : Type 0} (w : ℕ) (feed : R → Feed) (old new : RecordReader R L) (into : Record) → GivesKept w feed old new Both into → GivesRecord w feed old new (key_value into)
+kept_both w feed old new into (r, kept, gives) = subst (GivesRecord w feed old new) (same_record r into.key.items into.value.items kept.key (kept.value refl)) gives
 
 pub match_weaker : (A B E : Type 0) (b : Bool) → (A → B) → MatchBool b A E → MatchBool b B E
 match_weaker A B E true f h = f h
@@ -75,17 +97,21 @@ pub true_weaker : (A B : Type 0) (b : Bool) → (A → B) → OnTrue b A → OnT
 true_weaker A B true f h = f h
 true_weaker A B false f h = tt
 
+pub false_weaker : (A B : Type 0) (b : Bool) → (A → B) → OnFalse b A → OnFalse b B
+false_weaker A B true f h = tt
+false_weaker A B false f h = f h
+
+-- nothing was read, as the next place is the record end
+pub end_kept : (w place end : ℕ) (feed : Feed) → place ≡ end → ((text : List ℕ) → walk_from w place end text ≡ no_walk)
+    → FromTo feed feed (λ text rest. (walk_from w place end text ≡ no_walk) × (drop 0 rest ≡ drop (end - place) text))
+end_kept w place end feed empty none =
+    let zero : end - place ≡ 0 = omega arith in
+    from_kept feed feed _ (nothing_taken feed) (λ text. (none text, sym (ap (λ (k : ℕ). drop k text) zero)))
+
 -- the head, and then the first record
-pub first_then : (w place end : ℕ) (old mid new : Option (List ℕ)) (r : KeyValue) (left : List ℕ → Walked) (behind : List ℕ → List ℕ)
-    → FromTo old mid (λ text rest. (walk_of w text ≡ walk_from w place end rest) × (end ≡ record_end w text) × (rest ≡ drop (head_size w) text))
-    → place ≡ head_size w → place ≤ end
+pub first_then : (w place end : ℕ) (old mid new : Feed) (r : KeyValue) (left : List ℕ → Walked) (behind : List ℕ → List ℕ) → HeadThen w place end old mid → place ≡ head_size w → place ≤ end
     → FromTo mid new (λ text rest. (walk_from w place end text ≡ with_first r (left rest)) × (behind rest ≡ drop (end - place) text))
-    → FromTo old new (λ text rest. (walk_of w text ≡ with_first r (left rest)) × (behind rest ≡ drop (record_end w text) text))
-first_then w place end None mid new r left behind a at low b = tt
-first_then w place end (Some text) None new r left behind a at low b = absurd a
-first_then w place end (Some text) (Some t) None r left behind a at low b = absurd b
-first_then w place end (Some text) (Some t) (Some rest) r left behind (walk, is, cut) at low (one, e) =
-    let n : head_size w + (end - place) ≡ record_end w text = omega arith in (
-      walk ∙ one,
-      e ∙ ap (drop (end - place)) cut ∙ drop-drop (end - place) (head_size w) text ∙ ap (λ (k : ℕ). drop k text) n,
-    )
+    → FromTo old new (λ text rest. (walk_of w text ≡ with_first r (left rest)) × (behind rest ≡ behind_records w text))
+first_then w place end old mid new r left behind a at low b = from_weaker old new _ _ (from_then old mid new _ _ a b) (λ text rest h.
+    let head = h.1 in
+    (head.0 ∙ h.2.0, h.2.1 ∙ end_is w place end text h.0 head.1 head.2 at low))

@@ -4,7 +4,7 @@ use Rattle.std.proofs.lemmas.List.{append-nil}
 use Rattle.std.specs.Io.KnownBytes.{Consumes}
 use Rattle.cdb_form.specs.Views.KnownBytes.{FromTo}
 use Rattle.cdb_form.specs.Views.Reading.{ReadsFirst, ReadsNoRecord, ReadsRecords}
-use Rattle.cdb_form.proofs.Sources.SourceLemmas.{consumes_then, nothing_lost}
+use Rattle.std.proofs.KnownBytes.{Consumes-nil, Consumes-trans}
 use Rattle.cdb_form.specs.Format.Record.{KeyValue}
 use Rattle.cdb_form.specs.Views.RecordReader.{walk_of_rest, size_of_rest, unread, walk_left, behind_end, behind_records, IsFresh, GaveSoFar}
 use Rattle.cdb_form.specs.Format.Walk.{Walked, walk_of, no_walk, damaged, with_first, with_records}
@@ -90,7 +90,7 @@ pub record ReadSoFar {R L : Type 0} (w : ℕ) (remaining : R → Option (List �
 pub read_none : {R L : Type 0} (w : ℕ) (remaining : R → Option (List ℕ)) (file : Option (List ℕ)) (t : RecordReader R L) → IsFresh t → unread remaining t ≡ file → ReadSoFar w remaining file t []
 read_none w remaining file t fresh same = record {
   bytes = [];
-  read = subst (λ o. Consumes file o []) (sym same) (nothing_lost file);
+  read = subst (λ o. Consumes file o []) (sym same) (Consumes-nil file);
   walk = λ more. sym (ap (λ k. walk_of_rest w k more) fresh);
 }
 
@@ -99,7 +99,7 @@ pub read_more : {R L : Type 0} (w : ℕ) (remaining : R → Option (List ℕ)) (
     → ReadsFirst r (walk_left w old) (walk_left w new) (unread remaining old) (unread remaining new) → ReadSoFar w remaining file new (rs ++ r ∷ [])
 read_more w remaining file old new rs r s f = record {
   bytes = s.bytes ++ f.bytes;
-  read = consumes_then file (unread remaining old) (unread remaining new) s.bytes f.bytes s.read f.read;
+  read = Consumes-trans file (unread remaining old) (unread remaining new) s.bytes f.bytes s.read f.read;
   walk = λ more. ap (walk_of w) (append_assoc s.bytes f.bytes more) ∙ s.walk (f.bytes ++ more) ∙ ap (with_records rs) (f.first more) ∙ with_one rs r (walk_left w new more);
 }
 
@@ -108,6 +108,6 @@ pub read_all : {R L : Type 0} (w : ℕ) (remaining : R → Option (List ℕ)) (f
     → ReadsNoRecord (walk_left w t) (unread remaining t) (unread remaining u) → ReadsRecords w rs file (unread remaining u)
 read_all w remaining file t u rs s p = record {
   bytes = s.bytes ++ p.lost;
-  read = consumes_then file (unread remaining t) (unread remaining u) s.bytes p.lost s.read p.taken;
+  read = Consumes-trans file (unread remaining t) (unread remaining u) s.bytes p.lost s.read p.taken;
   records = ap (λ (v : Walked). v.records) (s.walk p.lost) ∙ ap (λ qs. rs ++ qs) p.no_record ∙ append-nil rs;
 }

@@ -1,12 +1,12 @@
 -- What a reader gave, ask after ask.
-use Rattle.std.proofs.Common.{◌≡◌, ℕ, ◌+◌, ◌≤◌, List, ◌++◌, length, take, replicate, ap, sym, ◌∙◌, arith, Option, append_assoc, length-append}
+use Rattle.std.proofs.Common.{◌≡◌, ℕ, ◌+◌, ◌≤◌, List, ◌++◌, length, take, replicate, ap, sym, ◌∙◌, arith, append_assoc, length-append}
 use Rattle.std.proofs.lemmas.List.{take-append-le, take-take, length-take-le, length-replicate}
-use Rattle.std.specs.Io.KnownBytes.{Consumes}
+use Rattle.cdb_form.specs.Fed.Feed.{Consumes, Feed}
 use borrow.Rule.Slice.PartMut.{put_mid, post_of}
 use Rattle.cdb_form.specs.Format.Record.{AreBytes}
 use Rattle.cdb_form.proofs.Bytes.ByteLemmas.{AreBytes-append, AreBytes-take}
 use Rattle.cdb_form.proofs.Files.Prefixes.{take_past}
-use Rattle.cdb_form.proofs.Sources.SourceLemmas.{consumes_then}
+use Rattle.cdb_form.proofs.Fed.FeedLemmas.{consumes_then}
 
 -- the start of a slice of which a part was read, and n bytes of that part
 pub take_read : (a k n : ℕ) (xs ys : List ℕ) → a ≤ length xs → n ≤ length ys → take (a + n) (put_mid a k xs ys) ≡ take a xs ++ take n ys
@@ -14,12 +14,12 @@ take_read a k n xs ys within few =
     take_past (take a xs) (ys ++ post_of a k xs) a n (length-take-le a xs within) ∙ ap (λ t. take a xs ++ t) (take-append-le n ys (post_of a k xs) few)
 
 -- a piece more was read
-pub record ReadMore (old new : Option (List ℕ)) (so_far piece : List ℕ) (count : ℕ) : Type 0 where
+pub record ReadMore (old new : Feed) (so_far piece : List ℕ) (count : ℕ) : Type 0 where
   pub read : Consumes old new (so_far ++ piece)
   pub are : AreBytes (so_far ++ piece)
   pub long : length (so_far ++ piece) ≡ count
 
-pub read_more : (old mid new : Option (List ℕ)) (so_far into : List ℕ) (done n : ℕ) → Consumes old mid so_far → AreBytes so_far → length so_far ≡ done → Consumes mid new (take n into) → AreBytes into → n ≤ length into
+pub read_more : (old mid new : Feed) (so_far into : List ℕ) (done n : ℕ) → Consumes old mid so_far → AreBytes so_far → length so_far ≡ done → Consumes mid new (take n into) → AreBytes into → n ≤ length into
     → ReadMore old new so_far (take n into) (done + n)
 read_more old mid new so_far into done n a are long b bytes few = record {
   read = consumes_then old mid new so_far (take n into) a b;

@@ -1,7 +1,7 @@
 -- What a source read, piece after piece.
-use Rattle.std.proofs.Common.{◌-◌, take, ◌≡◌, ◌≢◌, ℕ, ◌+◌, ◌*◌, ◌<◌, ◌≤◌, List, [], ◌∷◌, ◌++◌, length, refl, sym, ap, subst, ◌∙◌, arith, Option, Some, None, append_assoc, length-append, IfSome}
-use Rattle.std.proofs.lemmas.List.{append-nil, take_at}
-use Rattle.std.specs.Io.KnownBytes.{Consumes, Keeps, IsAtEnd}
+use Rattle.std.proofs.Common.{◌-◌, take, ◌≡◌, ◌≢◌, ℕ, ◌+◌, ◌*◌, ◌<◌, ◌≤◌, List, [], ◌∷◌, ◌++◌, length, refl, sym, ap, subst, ◌∙◌, arith, append_assoc, length-append}
+use Rattle.std.proofs.lemmas.List.{take_at}
+use Rattle.cdb_form.specs.Fed.Feed.{Consumes, Feed, FromTo, IsAtEnd}
 use Rattle.std.specs.Str.Parse.{AllDigits, digits_value}
 use Rattle.std.specs.Char.{digit_value}
 use Rattle.std.proofs.lemmas.Int.Digits.{digits_push, digits_value_push}
@@ -12,17 +12,20 @@ use Rattle.cdb_form.specs.declared.text.fault.TextFault.TheVariants.{Syntax, End
 use Rattle.cdb_form.specs.Format.Record.{AreBytes, KeyValue, IsRecord}
 use Rattle.cdb_form.specs.Text.Amending.{SpellsRemoval}
 use Rattle.cdb_form.specs.Text.Native.{IsNumeral, Spells}
-use Rattle.std.specs.Prelude.{codes, option_map}
-use Rattle.cdb_form.specs.Views.KnownBytes.{Took}
+use Rattle.std.specs.Prelude.{codes}
+use Rattle.cdb_form.specs.Fed.Taking.{Took}
+use Rattle.cdb_form.proofs.Fed.FeedLemmas.{consumes_then, from_all, from_behind, from_taken, from_weaker}
 use Rattle.cdb_form.proofs.Files.Prefixes.{take_past}
 use Rattle.cdb_form.specs.declared.reading.ReadStop.{ReadStop}
 use Rattle.cdb_form.specs.declared.reading.ReadStop.TheVariants as unread
 use Rattle.cdb_form.specs.Views.TextFault.{IsReadFault, IsSpent, LastRead, unread_fault}
-use Rattle.cdb_form.specs.Views.NativeParser.{FailsBytes, FailsField, ReadsBehind, seen, told, Leaves}
+use Rattle.cdb_form.specs.Fed.FormReader.{ReadsItem}
+use Rattle.cdb_form.specs.Fed.NativeParser.{Leaves, ReadsBehind}
+use Rattle.cdb_form.specs.Views.NativeParser.{FailsBytes, FailsField, seen, told}
 use Rattle.cdb_form.specs.Views.Source.{budget}
 
 -- digits were read that stand for a value
-pub record DigitsSoFar (old new : Option (List ℕ)) (greatest start taken value : ℕ) : Type 0 where
+pub record DigitsSoFar (old new : Feed) (greatest start taken value : ℕ) : Type 0 where
   pub digits : List ℕ
   pub read : Consumes old new digits
   pub each : AllDigits 10 digits
@@ -30,58 +33,45 @@ pub record DigitsSoFar (old new : Option (List ℕ)) (greatest start taken value
   pub fits : value ≤ greatest
   pub taken_is : taken ≡ start + length digits
 
--- one piece after another
-pub consumes_then : (old mid new : Option (List ℕ)) (xs ys : List ℕ) → Consumes old mid xs → Consumes mid new ys → Consumes old new (xs ++ ys)
-consumes_then None mid new xs ys a b = tt
-consumes_then (Some o) None new xs ys a b = absurd a
-consumes_then (Some o) (Some m) None xs ys a b = absurd b
-consumes_then (Some o) (Some m) (Some n) xs ys a b = a ∙ ap (λ t. xs ++ t) b ∙ sym (append_assoc xs ys n)
-
-pub kept_consumes : (old new : Option (List ℕ)) → Keeps old new → Consumes old new []
-kept_consumes None new h = tt
-kept_consumes (Some o) None h = absurd h
-kept_consumes (Some o) (Some n) h = sym h
-
--- nothing was read
-pub nothing_lost : (o : Option (List ℕ)) → Consumes o o []
-nothing_lost None = tt
-nothing_lost (Some t) = refl
-
--- a fault of the reader is told of what was read
-read_part : (P : List ℕ → Type 0) (old new : Option (List ℕ)) (from to : ℕ) (lost : List ℕ) → Consumes old new lost → to ≡ from + length lost → P lost → IfSome (option_map (take (to - from)) old) P
-read_part P None new from to lost read counted p = tt
-read_part P (Some o) None from to lost read counted p = absurd read
-read_part P (Some o) (Some n) from to lost read counted p =
-    let count : length lost ≡ to - from = omega arith in
-    subst P (sym (ap (take (to - from)) read ∙ take_at lost n (to - from) count)) p
-
-pub part_seen : (P : List ℕ → TextFault → Type 0) (old new : Option (List ℕ)) (from to : ℕ) (lost : List ℕ) (f : TextFault) → IsReadFault f → Consumes old new lost → to ≡ from + length lost → P lost (Ended to)
-    → IfSome (seen from to f old) (λ text. P text (told to f))
+-- A fault of the reader is told of what was read.
+pub part_seen : (P : List ℕ → TextFault → Type 0) (old new : Feed) (from to : ℕ) (lost : List ℕ) (f : TextFault) → IsReadFault f → Consumes old new lost → to ≡ from + length lost → P lost (Ended to)
+    → FromTo old new (λ text rest. P (seen from to f text) (told to f))
 part_seen P old new from to lost (Syntax at) h read counted p = absurd h
 part_seen P old new from to lost (Ended at) h read counted p = absurd h
 part_seen P old new from to lost (Large at) h read counted p = absurd h
 part_seen P old new from to lost NoMemory h read counted p = absurd h
-part_seen P old new from to lost Input h read counted p = read_part (λ t. P t (Ended to)) old new from to lost read counted p
-part_seen P old new from to lost Endless h read counted p = read_part (λ t. P t (Ended to)) old new from to lost read counted p
+part_seen P old new from to lost Input h read counted p = from_taken old new lost _ read (λ rest. subst (λ t. P t (Ended to)) (sym (take_at lost rest (to - from) (omega (arith, counted)))) p)
+part_seen P old new from to lost Endless h read counted p = from_taken old new lost _ read (λ rest. subst (λ t. P t (Ended to)) (sym (take_at lost rest (to - from) (omega (arith, counted)))) p)
 
 -- what is told of behind some bytes that were read
-read_behind : (old mid : Option (List ℕ)) (from at to : ℕ) (first : List ℕ) → Consumes old mid first → at ≡ from + length first → at ≤ to → Consumes (option_map (take (to - from)) old) (option_map (take (to - at)) mid) first
-read_behind None mid from at to first read counted later = tt
-read_behind (Some o) None from at to first read counted later = absurd read
-read_behind (Some o) (Some m) from at to first read counted later =
-    let count : to - from ≡ length first + (to - at) = omega arith in
-    ap (take (to - from)) read ∙ ap (λ (k : ℕ). take k (first ++ m)) count ∙ take_past first m (length first) (to - at) refl
+take_behind : (from at to : ℕ) (first text : List ℕ) → at ≡ from + length first → at ≤ to → take (to - from) (first ++ text) ≡ first ++ take (to - at) text
+take_behind from at to first text counted later =
+    let count : to - from ≡ length first + (to - at) = omega (arith, counted, later) in
+    ap (λ (k : ℕ). take k (first ++ text)) count ∙ take_past first text (length first) (to - at) refl
 
-pub seen_behind : (old mid : Option (List ℕ)) (from at to : ℕ) (first : List ℕ) (f : TextFault) → Consumes old mid first → at ≡ from + length first → at ≤ to → Consumes (seen from to f old) (seen at to f mid) first
-seen_behind old mid from at to first (Syntax p) read counted later = read
-seen_behind old mid from at to first (Ended p) read counted later = read
-seen_behind old mid from at to first (Large p) read counted later = read
-seen_behind old mid from at to first NoMemory read counted later = read
-seen_behind old mid from at to first Input read counted later = read_behind old mid from at to first read counted later
-seen_behind old mid from at to first Endless read counted later = read_behind old mid from at to first read counted later
+seen_behind : (from at to : ℕ) (first text : List ℕ) (f : TextFault) → at ≡ from + length first → at ≤ to → seen from to f (first ++ text) ≡ first ++ seen at to f text
+seen_behind from at to first text (Syntax p) counted later = refl
+seen_behind from at to first text (Ended p) counted later = refl
+seen_behind from at to first text (Large p) counted later = refl
+seen_behind from at to first text NoMemory counted later = refl
+seen_behind from at to first text Input counted later = take_behind from at to first text counted later
+seen_behind from at to first text Endless counted later = take_behind from at to first text counted later
+
+-- What a fault says of the text behind some bytes says it of these bytes and that text.
+pub fails_behind : (P Q : List ℕ → TextFault → Type 0) (old mid new : Feed) (from at to : ℕ) (first : List ℕ) (f : TextFault) → Consumes old mid first → at ≡ from + length first → at ≤ to
+    → ((text : List ℕ) → P text (told to f) → Q (first ++ text) (told to f))
+    → FromTo mid new (λ text rest. P (seen at to f text) (told to f)) → FromTo old new (λ text rest. Q (seen from to f text) (told to f))
+fails_behind P Q old mid new from at to first f read counted later k h =
+    from_behind old mid new first (λ text rest. Q (seen from to f text) (told to f)) read
+    (from_weaker mid new _ _ h (λ text rest p. subst (λ t. Q t (told to f)) (sym (seen_behind from at to first text f counted later)) (k (seen at to f text) p)))
+
+-- What a fault says of a text says less of it.
+pub fails_weaker : (P Q : List ℕ → TextFault → Type 0) (old new : Feed) (from to : ℕ) (f : TextFault) → ((text : List ℕ) → P text (told to f) → Q text (told to f))
+    → FromTo old new (λ text rest. P (seen from to f text) (told to f)) → FromTo old new (λ text rest. Q (seen from to f text) (told to f))
+fails_weaker P Q old new from to f k h = from_weaker old new _ _ h (λ text rest p. k (seen from to f text) p)
 
 -- and what was taken
-pub took_behind : (old mid new : Option (List ℕ)) (from at to : ℕ) (first : List ℕ) → Consumes old mid first → at ≡ from + length first → Took mid new at to → Took old new from to
+pub took_behind : (old mid new : Feed) (from at to : ℕ) (first : List ℕ) → Consumes old mid first → at ≡ from + length first → Took mid new at to → Took old new from to
 took_behind old mid new from at to first read counted t = record {
   bytes = first ++ t.bytes;
   read = consumes_then old mid new first t.bytes read t.read;
@@ -89,28 +79,20 @@ took_behind old mid new from at to first read counted t = record {
 }
 
 -- the same behind some bytes and the byte that ends them
-pub seen_past : (old mid : Option (List ℕ)) (from at to : ℕ) (bytes : List ℕ) (c : ℕ) (f : TextFault) → Consumes old mid (bytes ++ c ∷ []) → at ≡ from + (length bytes + 1) → at ≤ to → Consumes (seen from to f old) (seen at to f mid) (bytes ++ c ∷ [])
-seen_past old mid from at to bytes c f read counted later = seen_behind old mid from at to (bytes ++ c ∷ []) f read (omega (arith, counted, length-append bytes (c ∷ []))) later
-
-pub leaves_past : {R : Type 0} (remaining : R → Option (List ℕ)) (old mid new : Source R) (bytes : List ℕ) (c : ℕ) (f : TextFault)
-    → Consumes (remaining old.reader) (remaining mid.reader) (bytes ++ c ∷ []) → mid.taken ≡ old.taken + (length bytes + 1) → budget old ≤ budget mid → Leaves remaining mid new f → Leaves remaining old new f
-leaves_past remaining old mid new bytes c f read counted spends l = record {
-  took = λ other. took_behind _ _ _ _ _ _ (bytes ++ c ∷ []) read (omega (arith, counted, length-append bytes (c ∷ []))) (l.took other);
+pub leaves_past : {R : Type 0} (feed : R → Feed) (old mid new : Source R) (bytes : List ℕ) (c : ℕ) (f : TextFault)
+    → Consumes (feed old.reader) (feed mid.reader) (bytes ++ c ∷ []) → mid.taken ≡ old.taken + (length bytes + 1) → budget old ≤ budget mid → Leaves feed mid new f → Leaves feed old new f
+leaves_past feed old mid new bytes c f read counted spends l = record {
+  took = took_behind _ _ _ _ _ _ (bytes ++ c ∷ []) read (omega (arith, counted, length-append bytes (c ∷ []))) l.took;
   last = l.last;
   spent = l.spent;
   spends = omega (arith, l.spends);
 }
 
-pub took_these : (old new : Option (List ℕ)) (from to : ℕ) (bytes : List ℕ) → Consumes old new bytes → to ≡ from + length bytes → Took old new from to
+pub took_these : (old new : Feed) (from to : ℕ) (bytes : List ℕ) → Consumes old new bytes → to ≡ from + length bytes → Took old new from to
 took_these old new from to bytes read counted = record { bytes = bytes; read = read; counted = counted }
 
--- a fact on the bytes that were left, where it is known of any
-pub known : {P : List ℕ → Type 0} (o : Option (List ℕ)) → ((t : List ℕ) → P t) → IfSome o P
-known None h = tt
-known (Some t) h = h t
-
 -- one digit more
-pub digit_more : (old mid new : Option (List ℕ)) (greatest start taken value byte more longer : ℕ) → DigitsSoFar old mid greatest start taken value
+pub digit_more : (old mid new : Feed) (greatest start taken value byte more longer : ℕ) → DigitsSoFar old mid greatest start taken value
     → Consumes mid new (byte ∷ []) → digit_value byte < 10 → longer ≡ value * 10 + digit_value byte → longer ≤ greatest → more ≡ taken + 1
     → DigitsSoFar old new greatest start more longer
 digit_more old mid new greatest start taken value byte more longer s read digit is fits counted =
@@ -125,24 +107,24 @@ digit_more old mid new greatest start taken value byte more longer s read digit 
     }
 
 -- the digits so far and one byte more
-pub digits_took : (old mid new : Option (List ℕ)) (greatest start at value byte from to : ℕ) → DigitsSoFar old mid greatest start at value → Consumes mid new (byte ∷ []) → start ≡ from → to ≡ at + 1 → Took old new from to
+pub digits_took : (old mid new : Feed) (greatest start at value byte from to : ℕ) → DigitsSoFar old mid greatest start at value → Consumes mid new (byte ∷ []) → start ≡ from → to ≡ at + 1 → Took old new from to
 digits_took old mid new greatest start at value byte from to s read begin counted =
     took_these old new from to (s.digits ++ byte ∷ []) (consumes_then old mid new s.digits (byte ∷ []) s.read read) (omega (arith, s.taken_is, length-append s.digits (byte ∷ [])))
 
 -- what a fault at the byte behind the digits leaves
-pub digits_leave : {R : Type 0} (remaining : R → Option (List ℕ)) (old mid new : Source R) (greatest start value byte : ℕ) (f : TextFault)
-    → DigitsSoFar (remaining old.reader) (remaining mid.reader) greatest start mid.taken value → start ≡ old.taken → budget old ≤ budget mid
-    → Consumes (remaining mid.reader) (remaining new.reader) (byte ∷ []) → new.taken ≡ mid.taken + 1 → mid.asks ≤ new.asks + 1001
-    → LastRead new.taken f → IsSpent new.asks f → Leaves remaining old new f
-digits_leave remaining old mid new greatest start value byte f so_far begin spent read counted spends last is_spent = record {
-  took = λ other. digits_took _ _ _ greatest start mid.taken value byte _ _ so_far read begin counted;
+pub digits_leave : {R : Type 0} (feed : R → Feed) (old mid new : Source R) (greatest start value byte : ℕ) (f : TextFault)
+    → DigitsSoFar (feed old.reader) (feed mid.reader) greatest start mid.taken value → start ≡ old.taken → budget old ≤ budget mid
+    → Consumes (feed mid.reader) (feed new.reader) (byte ∷ []) → new.taken ≡ mid.taken + 1 → mid.asks ≤ new.asks + 1001
+    → LastRead new.taken f → IsSpent new.asks f → Leaves feed old new f
+digits_leave feed old mid new greatest start value byte f so_far begin spent read counted spends last is_spent = record {
+  took = digits_took _ _ _ greatest start mid.taken value byte _ _ so_far read begin counted;
   last = last;
   spent = is_spent;
   spends = omega (arith, spent, spends, counted);
 }
 
 -- a whole record behind a plus
-pub record_behind : (o m₁ m₂ m₃ m₄ n : Option (List ℕ)) (greatest from to : ℕ) (a b : List ℕ) (r : KeyValue)
+pub record_behind : (o m₁ m₂ m₃ m₄ n : Feed) (greatest from to : ℕ) (a b : List ℕ) (r : KeyValue)
     → IsNumeral a (length r.key) → IsNumeral b (length r.value) → length r.key ≤ greatest → length r.value ≤ greatest → IsRecord r
     → Consumes o m₁ (a ++ 44 ∷ []) → Consumes m₁ m₂ (b ++ 58 ∷ []) → Consumes m₂ m₃ (r.key ++ 45 ∷ []) → Consumes m₃ m₄ (62 ∷ [])
     → Consumes m₄ n (r.value ++ 10 ∷ []) → to ≡ from + (length a + 1) + (length b + 1) + (length r.key + 1) + 1 + (length r.value + 1)
@@ -158,7 +140,7 @@ record_behind o m₁ m₂ m₃ m₄ n greatest from to a b r ia ib fk fv bytes c
     }
 
 -- a whole removal behind a minus
-pub removal_behind : (o m n : Option (List ℕ)) (greatest from to : ℕ) (a key : List ℕ)
+pub removal_behind : (o m n : Feed) (greatest from to : ℕ) (a key : List ℕ)
     → IsNumeral a (length key) → length key ≤ greatest → AreBytes key
     → Consumes o m (a ++ 58 ∷ []) → Consumes m n (key ++ 10 ∷ []) → to ≡ from + (length a + 1) + (length key + 1)
     → ReadsBehind SpellsRemoval (codes "-") greatest o n from to key
@@ -172,32 +154,36 @@ removal_behind o m n greatest from to a key ia fits bytes c₁ c₂ counted =
       counted = simp length-append (omega (arith, counted));
     }
 
+-- a whole item, with its mark
+pub item_whole : {X Y : Type 0} (S : ℕ → List ℕ → X → Type 0) (T : ℕ → List ℕ → Y → Type 0) (c : ℕ) (o m n : Feed) (greatest from at to : ℕ) (x : X) (y : Y) → ((text : List ℕ) → S greatest text x → T greatest text y)
+    → Consumes o m (c ∷ []) → at ≡ from + 1 → ReadsBehind S (c ∷ []) greatest m n at to x → ReadsItem T greatest o n from to y
+item_whole S T c o m n greatest from at to x y k read counted b = record {
+  text = c ∷ b.text;
+  spells = k (c ∷ b.text) b.spells;
+  read = consumes_then o m n (c ∷ []) b.text read b.read;
+  counted = omega (arith, counted, b.counted);
+}
+
 -- the bytes read are all that there were, where the reader has no more; else they are what was read
-pub bytes_fail : (o n : Option (List ℕ)) (len from to : ℕ) (bytes : List ℕ) (u : ReadStop) → (u ≢ unread.NoMemory → Consumes o n bytes) → (u ≡ unread.Ended → IsAtEnd n) → AreBytes bytes → length bytes < len → to ≡ from + length bytes
-    → IfSome (seen from to (unread_fault to u) o) (λ text. FailsBytes len from text (told to (unread_fault to u)))
-bytes_fail None n len from to bytes unread.Ended read end are short counted = tt
-bytes_fail (Some o) None len from to bytes unread.Ended read end are short counted = absurd (read (λ e. cc))
-bytes_fail (Some o) (Some n) len from to bytes unread.Ended read end are short counted =
-    let all : o ≡ bytes = read (λ e. cc) ∙ ap (λ t. bytes ++ t) (end refl) ∙ append-nil bytes in
-    (subst AreBytes (sym all) are, omega (arith, ap length all), omega (arith, ap length all))
-bytes_fail o n len from to bytes unread.Failed read end are short counted = part_seen (λ text f. FailsBytes len from text f) o n from to bytes Input tt (read (λ e. cc)) counted (are, short, counted)
-bytes_fail o n len from to bytes unread.Spent read end are short counted = part_seen (λ text f. FailsBytes len from text f) o n from to bytes Endless tt (read (λ e. cc)) counted (are, short, counted)
-bytes_fail o n len from to bytes unread.NoMemory read end are short counted = known o (λ t. tt)
+pub bytes_fail : (o n : Feed) (len from to : ℕ) (bytes : List ℕ) (u : ReadStop) → Consumes o n bytes → (u ≡ unread.Ended → IsAtEnd n) → AreBytes bytes → length bytes < len → to ≡ from + length bytes
+    → FromTo o n (λ text rest. FailsBytes len from (seen from to (unread_fault to u) text) (told to (unread_fault to u)))
+bytes_fail o n len from to bytes unread.Ended read end are short counted = from_all o n bytes _ read (end refl) (are, short, counted)
+bytes_fail o n len from to bytes unread.Failed read end are short counted = part_seen (λ text f. FailsBytes len from text f) o n from to bytes Input tt read counted (are, short, counted)
+bytes_fail o n len from to bytes unread.Spent read end are short counted = part_seen (λ text f. FailsBytes len from text f) o n from to bytes Endless tt read counted (are, short, counted)
+bytes_fail o n len from to bytes unread.NoMemory read end are short counted = from_taken o n bytes _ read (λ rest. tt)
 
 -- the byte behind a field is another one
-pub other_last : (o n : Option (List ℕ)) (len stop from : ℕ) (bytes items : List ℕ) (last : ℕ) → Consumes o n bytes → AreBytes bytes → length bytes ≡ len + 1 → bytes ≡ items ++ last ∷ [] → last ≢ stop
-    → IfSome o (λ text. FailsField len stop from text (Syntax (from + len)))
-other_last None n len stop from bytes items last a are long e other = tt
-other_last (Some o) None len stop from bytes items last a are long e other = absurd a
-other_last (Some o) (Some n) len stop from bytes items last a are long e other = (
+pub other_last : (o n : Feed) (len stop from : ℕ) (bytes items : List ℕ) (last : ℕ) → Consumes o n bytes → AreBytes bytes → length bytes ≡ len + 1 → bytes ≡ items ++ last ∷ [] → last ≢ stop
+    → FromTo o n (λ text rest. FailsField len stop from text (Syntax (from + len)))
+other_last o n len stop from bytes items last a are long e other = from_taken o n bytes _ a (λ rest. (
   record {
     bytes = items;
     other = last;
-    rest = n;
+    rest = rest;
     are = AreBytes-front items (last ∷ []) (subst AreBytes e are);
     long = omega (arith, long, ap length e, length-append items (last ∷ []));
-    text_is = a ∙ ap (λ t. t ++ n) e ∙ append_assoc items (last ∷ []) n;
+    text_is = ap (λ t. t ++ rest) e ∙ append_assoc items (last ∷ []) rest;
     differs = other;
   },
   refl,
-)
+))

@@ -11,6 +11,10 @@ use Rattle.cdb_form.specs.declared.text.list_reader.ListReader.{ListReader}
 abbrev pub unread : {R L : Type 0} → (R → Option (List ℕ)) → ListReader R L → Option (List ℕ)
 unread remaining t = remaining t.source.reader
 
+-- its reader
+abbrev pub reader_of : {R L : Type 0} → ListReader R L → R
+reader_of t = t.source.reader
+
 -- how many bytes it read
 abbrev pub taken_of : {R L : Type 0} → ListReader R L → ℕ
 taken_of t = t.source.taken

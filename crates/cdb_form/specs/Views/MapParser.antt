@@ -1,17 +1,11 @@
--- What the parser of a map text read of a line.
+-- What a byte is to the parser of a map text, and what it read of a line.
 use Rattle.std.specs.Io.KnownBytes.{IsAtEnd}
-use Rattle.std.specs.List.{AllPass}
-use Rattle.std.specs.Prelude.{Bool, IfNone, IfSome, List, None, Option, Some, [], codes, false}
+use Rattle.std.specs.Prelude.{Bool, List, None, Option, Some, [], codes}
 use Rattle.std.specs.Prelude.{if◌then◌else◌, length, not, ◌*◌, ◌+◌, ◌++◌, ◌||◌, ◌∷◌, ◌≡◌, ◌≤◌, ℕ}
-use Rattle.cdb_form.specs.Format.Record.{AreBytes, KeyValue}
-use Rattle.cdb_form.specs.Text.Map.{BeginsOther, IsIgnoredLine, IsLineOf, Lacks, is_blank}
-use Rattle.cdb_form.specs.Text.Map.{is_newline, line_pair}
+use Rattle.cdb_form.specs.Text.Map.{is_blank, is_newline}
 use Rattle.cdb_form.specs.Views.Source.{Takes, budget}
 use Rattle.cdb_form.specs.declared.text.kind.Kind.{Kind}
 use Rattle.cdb_form.specs.declared.text.kind.Kind.TheVariants.{Blank, InLine, InWord}
-use Rattle.cdb_form.specs.declared.text.map_parser.LineRead.{LineRead}
-use Rattle.cdb_form.specs.declared.text.map_parser.LineRead.TheVariants.{Ignored, Last, LastPair}
-use Rattle.cdb_form.specs.declared.text.map_parser.LineRead.TheVariants.{Pair}
 use Rattle.cdb_form.specs.declared.text.source.Source.{Source}
 
 -- whether a byte is of a kind
@@ -20,31 +14,10 @@ is_of Blank c = is_blank c
 is_of InWord c = not (is_blank c || is_newline c)
 is_of InLine c = not (is_newline c)
 
--- Bytes of a kind went from the start of what was unread behind what was held. They were counted,
--- and took an ask each at most.
-pub record MovesRun {R : Type 0} (kind : Kind) (remaining : R → Option (List ℕ))
-    (old new : Source R) (held holds : List ℕ) : Type 0 where
-  pub bytes : List ℕ
-  pub takes : Takes remaining old new bytes
-  pub moved : holds ≡ held ++ bytes
-  pub each : AllPass (is_of kind) bytes
-  pub are : AreBytes bytes
-  pub asks : new.asks ≤ old.asks
-  pub spends : budget old ≤ budget new
-
 -- the byte that was read behind a run, where there is one
 abbrev pub stop_bytes : Option ℕ → List ℕ
 stop_bytes None = []
 stop_bytes (Some c) = c ∷ []
-
--- bytes of a kind were read, up to one of another kind, which was read too, or up to the end
-pub record ReadsRun {R : Type 0} (kind : Kind) (remaining : R → Option (List ℕ))
-    (old new : Source R) (bytes : List ℕ) (stop : Option ℕ) : Type 0 where
-  pub each : AllPass (is_of kind) bytes
-  pub takes : Takes remaining old new (bytes ++ stop_bytes stop)
-  pub other : IfSome stop (λ c. is_of kind c ≡ false)
-  pub end : IfNone stop (IsAtEnd (remaining new.reader))
-  pub spends : budget old + 1001 * length (stop_bytes stop) ≤ budget new + 1001
 
 -- what follows a line: a newline, or nothing
 abbrev pub line_end : Bool → List ℕ
@@ -61,32 +34,3 @@ pub record ReadsToEnding {R : Type 0} (remaining : R → Option (List ℕ)) (old
   pub takes : Takes remaining old new (text ++ ending)
   pub ends : EndsLine ending (remaining new.reader)
   pub spends : budget old + 1001 * length ending ≤ budget new + 1001
-
--- blanks were read, and then a value, up to the end of its line
-pub record ReadsValue {R : Type 0} (remaining : R → Option (List ℕ)) (old new : Source R)
-    (value ending : List ℕ) : Type 0 where
-  pub blanks : List ℕ
-  pub each : AllPass is_blank blanks
-  pub begins : BeginsOther is_blank value
-  pub whole : Lacks is_newline value
-  pub reads : ReadsToEnding remaining old new (blanks ++ value) ending
-
--- behind its first byte a record was read, up to the end of its line
-pub record ReadsPair {R : Type 0} (remaining : R → Option (List ℕ)) (old new : Source R)
-    (first : ℕ) (r : KeyValue) (ending : List ℕ) : Type 0 where
-  pub tail : List ℕ
-  pub whole : Lacks is_newline tail
-  pub pair : line_pair (first ∷ tail) ≡ r
-  pub reads : ReadsToEnding remaining old new tail ending
-
--- a line was read, an ignored one or that of a record: with its newline, or to the end of the input
-abbrev pub ReadsLine : {R : Type 0} → (R → Option (List ℕ)) → Source R → Source R → KeyValue
-    → LineRead → Type 0
-ReadsLine remaining old new r Ignored =
-    (line : List ℕ) × IsIgnoredLine line × ReadsToEnding remaining old new line (codes "\n")
-ReadsLine remaining old new r Last =
-    (line : List ℕ) × IsIgnoredLine line × ReadsToEnding remaining old new line []
-ReadsLine remaining old new r Pair =
-    (line : List ℕ) × IsLineOf r line × ReadsToEnding remaining old new line (codes "\n")
-ReadsLine remaining old new r LastPair =
-    (line : List ℕ) × IsLineOf r line × ReadsToEnding remaining old new line []

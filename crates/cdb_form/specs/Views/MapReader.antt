@@ -1,5 +1,5 @@
 -- What a clause reads of a reader of a map text.
-use Rattle.std.specs.Prelude.{All, List, Option, [], codes, flat_map, ◌++◌, ◌<◌, ◌∷◌, ◌≡◌, ℕ}
+use Rattle.std.specs.Prelude.{All, List, Option, [], flat_map, ◌++◌, ◌<◌, ◌∷◌, ◌≡◌, ℕ}
 use Rattle.cdb_form.specs.Format.Record.{KeyValue}
 use Rattle.cdb_form.specs.Text.Map.{IsIgnoredLine, IsLineOf, Lacks, is_newline, line_records}
 use Rattle.cdb_form.specs.Text.Map.{with_newlines}
@@ -8,14 +8,16 @@ use Rattle.cdb_form.specs.Views.PrefixLine.{BeginsWithLine}
 use Rattle.cdb_form.specs.Views.Source.{LeavesAmid, at_hand}
 use Rattle.cdb_form.specs.declared.text.fault.TextFault.{TextFault}
 use Rattle.cdb_form.specs.declared.text.going.Going.TheVariants.{AtEnd, Failed, On}
-use Rattle.cdb_form.specs.declared.text.map_parser.Entry.{Entry}
-use Rattle.cdb_form.specs.declared.text.map_parser.Entry.TheVariants.{Closed, End, Last}
 use Rattle.cdb_form.specs.declared.text.map_reader.MapReader.{MapReader}
 use Rattle.cdb_form.specs.declared.text.source.Source.{Source}
 
 -- the bytes that its reader has left, where they are known
 abbrev pub unread : {R : Type 0} → (R → Option (List ℕ)) → MapReader R → Option (List ℕ)
 unread remaining t = remaining t.source.reader
+
+-- its reader
+abbrev pub reader_of : {R : Type 0} → MapReader R → R
+reader_of t = t.source.reader
 
 -- how many bytes it read
 abbrev pub taken_of : {R : Type 0} → MapReader R → ℕ
@@ -60,13 +62,6 @@ pub record ReadsIgnored {R : Type 0} (remaining : R → Option (List ℕ)) (old 
   pub are_ignored : All IsIgnoredLine ignored
   pub is : IsIgnoredLine line
   pub reads : ReadsToEnding remaining old new (with_newlines ignored ++ line) []
-
--- what was read up to the first record's line
-abbrev pub ReadsEntry : {R : Type 0} → (R → Option (List ℕ)) → Source R → Source R → KeyValue
-    → Entry → Type 0
-ReadsEntry remaining old new r End = ReadsIgnored remaining old new
-ReadsEntry remaining old new r Closed = ReadsLinesOf remaining old new r (codes "\n")
-ReadsEntry remaining old new r Last = ReadsLinesOf remaining old new r []
 
 -- ignored lines, and then a part of one more line: no record's line is whole there
 pub record IsAmidLines (bytes : List ℕ) : Type 0 where

@@ -1,28 +1,24 @@
 -- What a fault of the native parser says of the part of an item that it was reading. `from` is the
 -- place of the text's first byte.
 use Rattle.std.specs.Char.{digit_value}
-use Rattle.std.specs.Io.KnownBytes.{Consumes}
-use Rattle.std.specs.Prelude.{option_map, ℕ, ◌*◌, List, ◌+◌, ◌<◌, [], ◌∷◌, ◌++◌, ◌-◌, take}
-use Rattle.std.specs.Prelude.{length, ◌≤◌, Option, ◌≡◌, ⊤, ◌≢◌, IfSome, Bool, true, false}
+use Rattle.std.specs.Prelude.{ℕ, ◌*◌, List, ◌+◌, ◌<◌, [], ◌∷◌, ◌++◌, ◌-◌, take}
+use Rattle.std.specs.Prelude.{length, ◌≤◌, ◌≡◌, ⊤, ◌≢◌, Bool, true, false}
 use Rattle.std.specs.Str.Parse.{AllDigits, digits_value}
 use Rattle.cdb_form.specs.Format.Record.{AreBytes}
 use Rattle.cdb_form.specs.Text.Form as form
 use Rattle.cdb_form.specs.Text.Amending.{SpellsChange}
 use Rattle.cdb_form.specs.Text.Native.{Spells}
-use Rattle.cdb_form.specs.Views.KnownBytes.{Took}
-use Rattle.cdb_form.specs.declared.text.source.Source.{Source}
-use Rattle.cdb_form.specs.Views.Source.{budget}
-use Rattle.cdb_form.specs.Views.TextFault.{IsOfText, IsSpent, LastRead}
+use Rattle.cdb_form.specs.Views.TextFault.{IsOfText}
 use Rattle.cdb_form.specs.declared.text.fault.TextFault.{TextFault}
 use Rattle.cdb_form.specs.declared.text.fault.TextFault.TheVariants.{Syntax, Ended, Large, Input}
-use Rattle.cdb_form.specs.declared.text.fault.TextFault.TheVariants.{Endless, NoMemory}
+use Rattle.cdb_form.specs.declared.text.fault.TextFault.TheVariants.{Endless}
 
 -- the text that a fault is one of: all that was unread, or what was read of it where the reader
 -- failed
-abbrev pub seen : ℕ → ℕ → TextFault → Option (List ℕ) → Option (List ℕ)
-seen from to Input old = option_map (take (to - from)) old
-seen from to Endless old = option_map (take (to - from)) old
-seen from to _ old = old
+abbrev pub seen : ℕ → ℕ → TextFault → List ℕ → List ℕ
+seen from to Input text = take (to - from) text
+seen from to Endless text = take (to - from) text
+seen from to _ text = text
 
 -- and the fault of that text: where the reader failed, it is as though the text had ended there
 abbrev pub told : ℕ → TextFault → TextFault
@@ -84,14 +80,6 @@ FailsField n stop from text (Ended at) =
     AreBytes text × (length text ≤ n) × (at ≡ from + length text)
 FailsField n stop from text _ = ⊤
 
--- a reader lost a spelling of the item from the bytes behind its mark on
-pub record ReadsBehind {X : Type 0} (spelling : ℕ → List ℕ → X → Type 0) (mark : List ℕ)
-    (greatest : ℕ) (old new : Option (List ℕ)) (from to : ℕ) (x : X) : Type 0 where
-  pub text : List ℕ
-  pub spells : spelling greatest (mark ++ text) x
-  pub read : Consumes old new text
-  pub counted : to ≡ from + length text
-
 -- the text has this fault, and no spelled item at its start
 pub record FailsItem {X : Type 0} (spelling : ℕ → List ℕ → X → Type 0) (greatest from : ℕ)
     (text : List ℕ) (f : TextFault) : Type 0 where
@@ -102,19 +90,3 @@ pub record FailsItem {X : Type 0} (spelling : ℕ → List ℕ → X → Type 0)
 abbrev pub FailsEntry : Bool → ℕ → ℕ → List ℕ → TextFault → Type 0
 FailsEntry true greatest from text f = FailsItem SpellsChange greatest from text f
 FailsEntry false greatest from text f = FailsItem Spells greatest from text f
-
--- P is said of the text that the fault is one of
-abbrev pub FailsIn : {R : Type 0} → (R → Option (List ℕ)) → (old new : Source R)
-    → (List ℕ → TextFault → Type 0) → TextFault → Type 0
-FailsIn remaining old new P f =
-    IfSome (seen old.taken new.taken f (remaining old.reader)) (λ text. P text (told new.taken f))
-
--- What a fault leaves: what was read is gone from the reader and was counted, and ends with the
--- byte at the fault's place. Asks last for 1001 a byte.
-pub record Leaves {R : Type 0} (remaining : R → Option (List ℕ)) (old new : Source R)
-    (f : TextFault) : Type 0 where
-  pub took : f ≢ NoMemory
-      → Took (remaining old.reader) (remaining new.reader) old.taken new.taken
-  pub last : LastRead new.taken f
-  pub spent : IsSpent new.asks f
-  pub spends : budget old ≤ budget new + 1001

@@ -49,6 +49,10 @@ is_going (Failed fault) = ⊥
 abbrev pub unread : {R L : Type 0} → (R → Option (List ℕ)) → RecordReader R L → Option (List ℕ)
 unread remaining t = remaining t.reader
 
+-- its reader
+abbrev pub reader_of : {R L : Type 0} → RecordReader R L → R
+reader_of t = t.reader
+
 -- a relation of the bytes that were unread before and after a call
 abbrev pub Between : {R L : Type 0} → (R → Option (List ℕ)) → (old new : RecordReader R L)
     → (List ℕ → List ℕ → Type 0) → Type 0

@@ -1,11 +1,11 @@
 // The bytes that a reader can give without an ask.
 ghost use Rattle.std.specs.Prelude.{◌≡◌, ◌≤◌, ℕ, List, [], length, take};
-ghost use Rattle.std.specs.Io.KnownBytes.{Consumes};
+ghost use Rattle.cdb_form.specs.Fed.Feed.{Consumes};
 
-use std::io::Read;
+use crate::feeds::Feeds;
 
 /// Which bytes a reader has at hand: its next ones, for which nothing is asked.
-pub trait AtHand<R: Read> {
+pub trait AtHand<R: Feeds> {
     /// The bytes at hand.
     ghost held: { R → List ℕ };
 
@@ -16,7 +16,7 @@ pub trait AtHand<R: Read> {
     /// Takes the first `n` of the bytes at hand.
     fn take(reader: &mut R, n: usize)
         requires { n ≤ length (held reader.old) }
-        ensures { Consumes (R.remaining reader.old) (R.remaining reader.new)
+        ensures { Consumes (R.feed reader.old) (R.feed reader.new)
             (take n (held reader.old)) };
 }
 
@@ -24,7 +24,7 @@ pub trait AtHand<R: Read> {
 #[derive(Clone, Copy, Debug)]
 pub struct NoneAtHand;
 
-impl<R: Read> AtHand<R> for NoneAtHand {
+impl<R: Feeds> AtHand<R> for NoneAtHand {
     ghost held = { λ _. [] };
 
     #[inline(always)]
@@ -38,7 +38,7 @@ impl<R: Read> AtHand<R> for NoneAtHand {
 
 /// The bytes at hand, `most` at most.
 #[inline(always)]
-pub(crate) fn window_within<R: Read, A: AtHand<R>>(reader: &R, most: u64) -> &[u8]
+pub(crate) fn window_within<R: Feeds, A: AtHand<R>>(reader: &R, most: u64) -> &[u8]
     ensures { result.now ≡ take most (A.held reader.now) }
 {
     let window = A::window(reader);

@@ -9,6 +9,7 @@ ghost use Rattle.cdb_form.specs.declared.change.ChangeKind.TheVariants.{Remove};
 ghost use Rattle.cdb_form.specs.Views.Repeats.{Repeats};
 
 use crate::change::ChangeKind;
+use crate::feeds::Feeds;
 use crate::record::Record;
 use crate::text::at_hand::AtHand;
 use crate::text::fault::TextFault;
@@ -16,26 +17,25 @@ use crate::text::going::Going;
 use crate::text::prefix::{PeekedRecord, prefix_record};
 use crate::text::source::Source;
 use crate::width::Width;
-use std::io::Read;
 use std::marker::PhantomData;
 
 /// Reads the items of an amending text, or of a native one, which has puts alone.
 #[derive(Drop)]
-pub(crate) struct FormReader<R, L> {
+pub struct FormReader<R, L> {
     source: Source<R>,
     going: Going,
     width: PhantomData<L>,
 }
 
-impl<R: Read, L: Width> FormReader<R, L> {
-    ghost use Rattle.cdb_form.specs.Views.FormReader.{unread, taken_of, asks_left, IsGoing};
-    ghost use Rattle.cdb_form.specs.Views.FormReader.{HasEnded, HasFailed, HasPeeked, GivesItem};
-    ghost use Rattle.cdb_form.specs.Views.FormReader.{GivesEnd, FailsAs};
+impl<R: Feeds, L: Width> FormReader<R, L> {
+    ghost use Rattle.cdb_form.specs.Fed.FormReader.{FailsAs, GivesEnd, GivesItem};
+    ghost use Rattle.cdb_form.specs.Views.FormReader.{HasEnded, HasFailed, HasPeeked, IsGoing};
+    ghost use Rattle.cdb_form.specs.Views.FormReader.{asks_left, reader_of, taken_of};
 
     /// A reader of the text that `reader` gives, which may be asked so many times.
-    pub(crate) fn new(reader: R, asks: u64) -> FormReader<R, L>
+    pub fn new(reader: R, asks: u64) -> FormReader<R, L>
         requires { asks ≤ 2 ^ 48 }
-        ensures unread { unread R.remaining result ≡ R.remaining reader }
+        ensures reader { reader_of result ≡ reader }
         ensures taken { taken_of result ≡ 0 }
         ensures asks { asks_left result ≡ asks }
         ensures going { IsGoing result }
@@ -48,15 +48,15 @@ impl<R: Read, L: Width> FormReader<R, L> {
     }
 
     /// Its reader, which goes on after what was read of it.
-    pub(crate) fn into_reader(self) -> R
-        ensures { R.remaining result ≡ unread R.remaining self }
+    pub fn into_reader(self) -> R
+        ensures { result ≡ reader_of self }
     {
         self.source.reader
     }
 
     /// The record that the next item puts, if it is whole at hand. Nothing is taken.
     #[inline(always)]
-    pub(crate) fn peek<A: AtHand<R>>(&self) -> Option<PeekedRecord<'_>>
+    pub fn peek<A: AtHand<R>>(&self) -> Option<PeekedRecord<'_>>
         ensures { IfSome result (λ f.
             HasPeeked A.held L.GREATEST self.now f.len (shown_by f)) }
     {
@@ -68,10 +68,10 @@ impl<R: Read, L: Width> FormReader<R, L> {
 
     /// Takes the record that `peek` shows. Each of its bytes counts as an ask.
     #[inline(always)]
-    pub(crate) fn take_peeked<A: AtHand<R>>(&mut self, len: usize)
+    pub fn take_peeked<A: AtHand<R>>(&mut self, len: usize)
         requires { (r : KeyValue) × HasPeeked A.held L.GREATEST self.old len r }
         ensures { (r : KeyValue) → HasPeeked A.held L.GREATEST self.old len r
-            → GivesItem SpellsChange L.GREATEST R.remaining self.old self.new (Putting r) }
+            → GivesItem SpellsChange L.GREATEST R.feed self.old self.new (Putting r) }
     {
         self.source.take_at_hand::<A>(len);
     }
@@ -79,18 +79,18 @@ impl<R: Read, L: Width> FormReader<R, L> {
     /// Reads the next item over a record, and answers its kind: none is at the newline that ends
     /// the text. With no removals the text is a native one.
     #[inline(always)]
-    pub(crate) fn read_into(
+    pub fn read_into(
         &mut self,
         into: &mut Record,
         removals: bool,
     ) -> Result<Option<ChangeKind>, TextFault>
         ensures gives { IfOk result (λ found. MatchOption found
-            (GivesEnd R.remaining self.old self.new)
-            (λ kind. GivesItem SpellsChange L.GREATEST R.remaining self.old self.new
+            (GivesEnd R.feed self.old self.new)
+            (λ kind. GivesItem SpellsChange L.GREATEST R.feed self.old self.new
             (change_in kind into.new))) }
         ensures puts { removals ≡ false → IfOk result (λ found. found ≢ Some Remove) }
         ensures fails { IfErr result
-            (FailsAs removals L.GREATEST R.remaining self.old self.new) }
+            (FailsAs removals L.GREATEST R.feed self.old self.new) }
         ensures ended { HasEnded self.old → Repeats (Ok None) self.old self.new result }
         ensures failed { (fault : _) → HasFailed self.old fault
             → Repeats (Err fault) self.old self.new result }

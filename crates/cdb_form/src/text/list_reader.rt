@@ -2,6 +2,7 @@
 ghost use Rattle.std.specs.Prelude.{◌≡◌, ◌^◌, ◌≤◌, false, IfOk, IfErr, MatchBool};
 ghost use Rattle.cdb_form.specs.Views.Repeats.{Repeats};
 
+use crate::feeds::Feeds;
 use crate::record::Record;
 use crate::text::fault::TextFault;
 use crate::text::going::Going;
@@ -43,11 +44,7 @@ impl<R: Read, L: Width> ListReader<R, L> {
         ensures asks { asks_left result ≡ asks }
         ensures going { IsGoing result }
     {
-        ListReader {
-            source: Source::new(reader, asks),
-            going: Going::On,
-            width: PhantomData,
-        }
+        ListReader::fed(reader, asks)
     }
 
     /// Its reader, which goes on after what was read of it.
@@ -69,6 +66,48 @@ impl<R: Read, L: Width> ListReader<R, L> {
             (GivesKey L.GREATEST R.remaining self.old self.new into.new.key.items)
             (GivesEnd R.remaining self.old self.new)) }
         ensures fails { IfErr result (Fails L.GREATEST R.remaining self.old self.new) }
+        ensures ended { HasEnded self.old → Repeats (Ok false) self.old self.new result }
+        ensures failed { (fault : _) → HasFailed self.old fault
+            → Repeats (Err fault) self.old self.new result }
+    {
+        self.read_fed(into)
+    }
+}
+
+impl<R: Feeds, L: Width> ListReader<R, L> {
+    ghost use Rattle.cdb_form.specs.Fed.ListReader as fed;
+    ghost use Rattle.cdb_form.specs.Views.ListReader.{HasEnded, HasFailed, IsGoing, asks_left, reader_of};
+    ghost use Rattle.cdb_form.specs.Views.ListReader.{taken_of};
+
+    /// A reader of the text that `reader` gives, which may be asked so many times.
+    pub fn fed(reader: R, asks: u64) -> ListReader<R, L>
+        requires { asks ≤ 2 ^ 48 }
+        ensures reader { reader_of result ≡ reader }
+        ensures taken { taken_of result ≡ 0 }
+        ensures asks { asks_left result ≡ asks }
+        ensures going { IsGoing result }
+    {
+        ListReader {
+            source: Source::new(reader, asks),
+            going: Going::On,
+            width: PhantomData,
+        }
+    }
+
+    /// What gives its bytes, which goes on after what was taken.
+    pub fn into_fed(self) -> R
+        ensures { result ≡ reader_of self }
+    {
+        self.source.reader
+    }
+
+    /// Does what `read_into` does, and says it of any bytes that agree with what was taken.
+    #[inline(always)]
+    pub fn read_fed(&mut self, into: &mut Record) -> Result<bool, TextFault>
+        ensures gives { IfOk result (λ given. MatchBool given
+            (fed.GivesKey L.GREATEST R.feed self.old self.new into.new.key.items)
+            (fed.GivesEnd R.feed self.old self.new)) }
+        ensures fails { IfErr result (fed.Fails L.GREATEST R.feed self.old self.new) }
         ensures ended { HasEnded self.old → Repeats (Ok false) self.old self.new result }
         ensures failed { (fault : _) → HasFailed self.old fault
             → Repeats (Err fault) self.old self.new result }

@@ -3,21 +3,22 @@
 ghost use Rattle.std.specs.Prelude.{◌≡◌, ◌<◌, true, ℕ, List, ◌∷◌, OnOk, IfOk, IfErr};
 ghost use Rattle.cdb_form.specs.Format.Record.{AreBytes};
 ghost use Rattle.cdb_form.specs.Text.Map.{Lacks, is_newline};
-ghost use Rattle.cdb_form.specs.Views.MapParser.{ReadsLine, ReadsPair, ReadsRun, ReadsValue, is_of};
-ghost use Rattle.cdb_form.specs.Views.MapParser.{MovesRun, line_end};
-ghost use Rattle.cdb_form.specs.Views.MapReader.{IsAmidLines, ReadsEntry};
+ghost use Rattle.cdb_form.specs.Fed.MapParser.{MovesRun, ReadsLine, ReadsPair, ReadsRun, ReadsValue};
+ghost use Rattle.cdb_form.specs.Fed.MapReader.{ReadsEntry};
+ghost use Rattle.cdb_form.specs.Fed.Source.{LeavesAmid};
+ghost use Rattle.cdb_form.specs.Views.MapParser.{is_of, line_end};
+ghost use Rattle.cdb_form.specs.Views.MapReader.{IsAmidLines};
 ghost use Rattle.cdb_form.specs.declared.text.fault.TextFault.TheVariants.{NoMemory};
 ghost use Rattle.cdb_form.specs.Views.Pairs.{key_value};
-ghost use Rattle.cdb_form.specs.Views.Source.{LeavesAmid};
 ghost use Rattle.cdb_form.specs.declared.text.kind.Kind.TheVariants.{InWord};
 
+use crate::feeds::Feeds;
 use crate::record::Record;
 use crate::text::at_hand::AtHand;
 use crate::text::fault::TextFault;
 use crate::text::kind::Kind;
 use crate::text::prefix_line::copy_line;
 use crate::text::source::Source;
-use std::io::Read;
 
 /// What was found in a line.
 #[derive(Clone, Copy)]
@@ -43,14 +44,14 @@ pub(crate) enum Entry {
     Last,
 }
 
-impl<R: Read> Source<R> {
+impl<R: Feeds> Source<R> {
     /// Passes over bytes of a kind, and takes the byte after them: `None` is the end.
     fn pass<A: AtHand<R>>(&mut self, kind: Kind) -> Result<Option<u8>, TextFault>
         ensures run { IfOk result (λ stop. (bytes : List ℕ)
-            × ReadsRun kind R.remaining self.old self.new bytes stop) }
+            × ReadsRun kind R.feed self.old self.new bytes stop) }
         ensures fewer { OnOk result (self.new.asks < self.old.asks) }
         ensures leaves { IfErr result (LeavesAmid (Lacks is_newline)
-            R.remaining self.old self.new) }
+            R.feed self.old self.new) }
     {
         loop {
             let Some(byte) = self.next_byte::<A>()? else {
@@ -70,11 +71,10 @@ impl<R: Read> Source<R> {
         kind: Kind,
         into: &mut Vec<u8>,
     ) -> Result<(), TextFault>
-        ensures moved { OnOk result (MovesRun kind R.remaining self.old self.new
+        ensures moved { OnOk result (MovesRun kind R.feed self.old self.new
             into.old.items into.new.items) }
         ensures err { IfErr result (λ f. (f ≡ NoMemory)
-            × (self.new.taken ≡ self.old.taken) × (self.new.asks ≡ self.old.asks)
-            × (into.new.items ≡ into.old.items)) }
+            × (self.new ≡ self.old) × (into.new.items ≡ into.old.items)) }
     {
         let window = self.at_hand::<A>();
         let run = kind.run(window);
@@ -92,11 +92,11 @@ impl<R: Read> Source<R> {
         into: &mut Vec<u8>,
     ) -> Result<Option<u8>, TextFault>
         ensures run { IfOk result (λ stop. (bytes : List ℕ) × (into.new.items ≡ first ∷ bytes)
-            × ReadsRun kind R.remaining self.old self.new bytes stop) }
+            × ReadsRun kind R.feed self.old self.new bytes stop) }
         ensures are { AreBytes into.new.items }
         ensures fewer { OnOk result (self.new.asks < self.old.asks) }
         ensures leaves { IfErr result (LeavesAmid (Lacks is_newline)
-            R.remaining self.old self.new) }
+            R.feed self.old self.new) }
     {
         into.clear();
         into.push(first)?;
@@ -115,12 +115,12 @@ impl<R: Read> Source<R> {
     /// Takes the rest of a line after the first blank after a key: more blanks, and the value. It
     /// answers whether the line ends with a newline.
     fn value<A: AtHand<R>>(&mut self, into: &mut Vec<u8>) -> Result<bool, TextFault>
-        ensures reads { IfOk result (λ newline. ReadsValue R.remaining self.old self.new
+        ensures reads { IfOk result (λ newline. ReadsValue R.feed self.old self.new
             into.new.items (line_end newline)) }
         ensures are { AreBytes into.new.items }
         ensures fewer { OnOk result (self.new.asks < self.old.asks) }
         ensures leaves { IfErr result (LeavesAmid (Lacks is_newline)
-            R.remaining self.old self.new) }
+            R.feed self.old self.new) }
     {
         into.clear();
         let Some(first) = self.pass::<A>(Kind::Blank)? else {
@@ -137,11 +137,11 @@ impl<R: Read> Source<R> {
     /// whether the line ends with a newline.
     fn pair<A: AtHand<R>>(&mut self, first: u8, into: &mut Record) -> Result<bool, TextFault>
         requires { is_of InWord first ≡ true }
-        ensures reads { IfOk result (λ newline. ReadsPair R.remaining self.old self.new first
+        ensures reads { IfOk result (λ newline. ReadsPair R.feed self.old self.new first
             (key_value into.new) (line_end newline)) }
         ensures fewer { OnOk result (self.new.asks < self.old.asks) }
         ensures leaves { IfErr result (LeavesAmid (Lacks is_newline)
-            R.remaining self.old self.new) }
+            R.feed self.old self.new) }
     {
         into.value.clear();
         let Some(stop) = self.keep::<A>(first, Kind::InWord, &mut into.key)? else {
@@ -156,11 +156,11 @@ impl<R: Read> Source<R> {
     /// Takes a line.
     #[inline(never)]
     fn line<A: AtHand<R>>(&mut self, into: &mut Record) -> Result<LineRead, TextFault>
-        ensures reads { IfOk result (ReadsLine R.remaining self.old self.new
+        ensures reads { IfOk result (ReadsLine R.feed self.old self.new
             (key_value into.new)) }
         ensures fewer { OnOk result (self.new.asks < self.old.asks) }
         ensures leaves { IfErr result (LeavesAmid (Lacks is_newline)
-            R.remaining self.old self.new) }
+            R.feed self.old self.new) }
     {
         match self.pass::<A>(Kind::Blank)? {
             None => Ok(LineRead::Last),
@@ -184,11 +184,11 @@ impl<R: Read> Source<R> {
     /// counts as an ask.
     #[inline(always)]
     fn line_buffered<A: AtHand<R>>(&mut self, into: &mut Record) -> Result<LineRead, TextFault>
-        ensures reads { IfOk result (ReadsLine R.remaining self.old self.new
+        ensures reads { IfOk result (ReadsLine R.feed self.old self.new
             (key_value into.new)) }
         ensures fewer { OnOk result (self.new.asks < self.old.asks) }
         ensures leaves { IfErr result (LeavesAmid (Lacks is_newline)
-            R.remaining self.old self.new) }
+            R.feed self.old self.new) }
     {
         let n = copy_line(self.at_hand::<A>(), into)?;
         if n == 0 {
@@ -200,10 +200,10 @@ impl<R: Read> Source<R> {
 
     /// Takes lines up to the first record's, and answers whether there is one, and how it ends.
     pub(crate) fn map_entry<A: AtHand<R>>(&mut self, into: &mut Record) -> Result<Entry, TextFault>
-        ensures reads { IfOk result (ReadsEntry R.remaining self.old self.new
+        ensures reads { IfOk result (ReadsEntry R.feed self.old self.new
             (key_value into.new)) }
         ensures fewer { OnOk result (self.new.asks < self.old.asks) }
-        ensures leaves { IfErr result (LeavesAmid IsAmidLines R.remaining self.old self.new) }
+        ensures leaves { IfErr result (LeavesAmid IsAmidLines R.feed self.old self.new) }
     {
         loop {
             match self.line_buffered::<A>(into)? {

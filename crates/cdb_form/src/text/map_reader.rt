@@ -5,6 +5,7 @@ ghost use Rattle.cdb_form.specs.Views.Prefix.{shown_by};
 ghost use Rattle.cdb_form.specs.Views.Pairs.{key_value};
 ghost use Rattle.cdb_form.specs.Views.Repeats.{Repeats};
 
+use crate::feeds::Feeds;
 use crate::record::Record;
 use crate::text::at_hand::{AtHand, NoneAtHand};
 use crate::text::fault::TextFault;
@@ -50,11 +51,7 @@ impl<R: Read> MapReader<R> {
         ensures asks { asks_left result ≡ asks }
         ensures going { IsGoing result }
     {
-        MapReader {
-            alloc,
-            source: Source::new(reader, asks),
-            going: Going::On,
-        }
+        MapReader::fed(alloc, reader, asks)
     }
 
     /// Its reader, which goes on after what was read of it.
@@ -108,6 +105,79 @@ impl<R: Read> MapReader<R> {
         ensures failed { (fault : _) → HasFailed self.old fault
             → Repeats (Err fault) self.old self.new result }
     {
+        self.read_fed::<A>(into)
+    }
+
+    /// Takes the record that `peek` shows, whose `len` this is. Each of its bytes counts as an ask.
+    #[inline(always)]
+    pub fn take_peeked<A: AtHand<R>>(&mut self, len: usize)
+        requires { (r : KeyValue) × HasPeeked A.held self.old len r }
+        ensures { (r : KeyValue) → HasPeeked A.held self.old len r
+            → GivesRecord R.remaining self.old self.new r }
+    {
+        self.take_fed::<A>(len);
+    }
+}
+
+impl<R: Feeds> MapReader<R> {
+    ghost use Rattle.cdb_form.specs.Fed.MapReader as fed;
+    ghost use Rattle.cdb_form.specs.Views.MapReader.{HasEnded, HasFailed, HasPeeked, IsGoing, asks_left};
+    ghost use Rattle.cdb_form.specs.Views.MapReader.{reader_of, taken_of};
+
+    /// A reader of the text that `reader` gives, which may be asked so many times.
+    pub fn fed(alloc: Global, reader: R, asks: u64) -> MapReader<R>
+        requires { asks ≤ 2 ^ 48 }
+        ensures reader { reader_of result ≡ reader }
+        ensures taken { taken_of result ≡ 0 }
+        ensures asks { asks_left result ≡ asks }
+        ensures going { IsGoing result }
+    {
+        MapReader {
+            alloc,
+            source: Source::new(reader, asks),
+            going: Going::On,
+        }
+    }
+
+    /// What gives its bytes, which goes on after what was taken.
+    pub fn into_fed(self) -> R
+        ensures { result ≡ reader_of self }
+    {
+        self.source.reader
+    }
+
+    /// The next record, where it lies, if its line is whole at hand, with its newline, and no ignored
+    /// line precedes it. Nothing is taken: `take_peeked` does that.
+    #[inline(always)]
+    pub fn peek<A: AtHand<R>>(&self) -> Option<PeekedRecord<'_>>
+        ensures { IfSome result (λ f. HasPeeked A.held self.now f.len (shown_by f)) }
+    {
+        match self.going {
+            Going::On => prefix_line(self.source.at_hand::<A>()),
+            Going::AtEnd | Going::Failed(_) => None,
+        }
+    }
+
+    /// Takes the record that `peek` shows, as `take_peeked` does.
+    #[inline(always)]
+    pub fn take_fed<A: AtHand<R>>(&mut self, len: usize)
+        requires { (r : KeyValue) × HasPeeked A.held self.old len r }
+        ensures { (r : KeyValue) → HasPeeked A.held self.old len r
+            → fed.GivesRecord R.feed self.old self.new r }
+    {
+        self.source.take_at_hand::<A>(len);
+    }
+
+    /// Does what `read_buffered` does, and says it of any bytes that agree with what was taken.
+    pub fn read_fed<A: AtHand<R>>(&mut self, into: &mut Record) -> Result<bool, TextFault>
+        ensures gives { IfOk result (λ given. MatchBool given
+            (fed.GivesRecord R.feed self.old self.new (key_value into.new))
+            (fed.GivesEnd R.feed self.old self.new)) }
+        ensures fails { IfErr result (fed.Fails R.feed self.old self.new) }
+        ensures ended { HasEnded self.old → Repeats (Ok false) self.old self.new result }
+        ensures failed { (fault : _) → HasFailed self.old fault
+            → Repeats (Err fault) self.old self.new result }
+    {
         if !self.going.reads_on()? {
             return Ok(false);
         }
@@ -126,27 +196,5 @@ impl<R: Read> MapReader<R> {
                 Err(fault)
             }
         }
-    }
-
-    /// The next record, where it lies, if its line is whole at hand, with its newline, and no ignored
-    /// line precedes it. Nothing is taken: `take_peeked` does that.
-    #[inline(always)]
-    pub fn peek<A: AtHand<R>>(&self) -> Option<PeekedRecord<'_>>
-        ensures { IfSome result (λ f. HasPeeked A.held self.now f.len (shown_by f)) }
-    {
-        match self.going {
-            Going::On => prefix_line(self.source.at_hand::<A>()),
-            Going::AtEnd | Going::Failed(_) => None,
-        }
-    }
-
-    /// Takes the record that `peek` shows, whose `len` this is. Each of its bytes counts as an ask.
-    #[inline(always)]
-    pub fn take_peeked<A: AtHand<R>>(&mut self, len: usize)
-        requires { (r : KeyValue) × HasPeeked A.held self.old len r }
-        ensures { (r : KeyValue) → HasPeeked A.held self.old len r
-            → GivesRecord R.remaining self.old self.new r }
-    {
-        self.source.take_at_hand::<A>(len);
     }
 }

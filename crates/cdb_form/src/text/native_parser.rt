@@ -2,24 +2,24 @@
 ghost use Rattle.std.specs.Prelude.{◌≡◌, ◌≢◌, true, false, Some, ℕ, List, ◌+◌, ◌*◌, ◌^◌, ◌<◌, ◌≤◌, []};
 ghost use Rattle.std.specs.Prelude.{◌∷◌, ◌++◌, codes, length, OnOk, IfOk, IfErr};
 ghost use Rattle.std.specs.Prelude.{MatchBool, MatchOption, SomeIff};
-ghost use Rattle.std.specs.Io.KnownBytes.{Consumes};
+ghost use Rattle.cdb_form.specs.Fed.Feed.{Consumes};
 ghost use Rattle.cdb_form.specs.Format.Record.{AreBytes};
 ghost use Rattle.cdb_form.specs.Text.Amending.{SpellsChange, SpellsRemoval};
 ghost use Rattle.cdb_form.specs.Text.List.{SpellsKey};
 ghost use Rattle.cdb_form.specs.Text.Native.{IsNumeral, Spells};
-ghost use Rattle.cdb_form.specs.Views.FormReader.{ReadsItem};
+ghost use Rattle.cdb_form.specs.Fed.FormReader.{ReadsItem};
 ghost use Rattle.cdb_form.specs.Views.NativeParser.{FailsNumber, FailsByte, FailsField};
-ghost use Rattle.cdb_form.specs.Views.NativeParser.{FailsEntry, FailsItem, ReadsBehind, FailsIn};
-ghost use Rattle.cdb_form.specs.Views.NativeParser.{Leaves};
+ghost use Rattle.cdb_form.specs.Views.NativeParser.{FailsEntry, FailsItem};
+ghost use Rattle.cdb_form.specs.Fed.NativeParser.{FailsIn, Leaves, ReadsBehind};
 ghost use Rattle.cdb_form.specs.Views.Source.{budget};
 ghost use Rattle.cdb_form.specs.Views.Pairs.{change_in, key_value};
 ghost use Rattle.cdb_form.specs.declared.change.ChangeKind.TheVariants.{Remove};
 
 use crate::change::ChangeKind;
+use crate::feeds::Feeds;
 use crate::record::Record;
 use crate::text::fault::TextFault;
 use crate::text::source::Source;
-use std::io::Read;
 
 /// The number with one more digit, if it isn't above `greatest`.
 #[inline(always)]
@@ -35,21 +35,21 @@ fn with_digit(value: u64, digit: u32, greatest: u64) -> Option<u64>
     }
 }
 
-impl<R: Read> Source<R> {
+impl<R: Feeds> Source<R> {
     /// A numeral of at most `greatest` with `stop` after it.
     #[inline(always)]
     fn number(&mut self, greatest: u64, stop: u8) -> Result<u64, TextFault>
         requires { 9 ≤ greatest }
         ensures read { IfOk result (λ n. (digits : List ℕ) × IsNumeral digits n
-            × Consumes (R.remaining self.old.reader)
-            (R.remaining self.new.reader) (digits ++ stop ∷ [])
+            × Consumes (R.feed self.old.reader)
+            (R.feed self.new.reader) (digits ++ stop ∷ [])
             × (self.new.taken ≡ self.old.taken + (length digits + 1))) }
         ensures fits { IfOk result (λ n. n ≤ greatest) }
         ensures fewer { OnOk result (self.new.asks < self.old.asks) }
-        ensures fails { IfErr result (FailsIn R.remaining self.old self.new
+        ensures fails { IfErr result (FailsIn R.feed self.old self.new
             (FailsNumber greatest stop self.old.taken)) }
         ensures later { self.old.taken ≤ self.new.taken }
-        ensures leaves { IfErr result (Leaves R.remaining self.old self.new) }
+        ensures leaves { IfErr result (Leaves R.feed self.old self.new) }
         ensures spends { OnOk result (budget self.old ≤ budget self.new) }
     {
         let start = self.taken;
@@ -77,14 +77,14 @@ impl<R: Read> Source<R> {
 
     /// The next byte, which is to be this one.
     fn expect_byte(&mut self, byte: u8) -> Result<(), TextFault>
-        ensures read { OnOk result (Consumes (R.remaining self.old.reader)
-            (R.remaining self.new.reader) (byte ∷ [])) }
+        ensures read { OnOk result (Consumes (R.feed self.old.reader)
+            (R.feed self.new.reader) (byte ∷ [])) }
         ensures counted { OnOk result (self.new.taken ≡ self.old.taken + 1) }
         ensures fewer { OnOk result (self.new.asks < self.old.asks) }
-        ensures fails { IfErr result (FailsIn R.remaining self.old self.new
+        ensures fails { IfErr result (FailsIn R.feed self.old self.new
             (FailsByte byte self.old.taken)) }
         ensures later { self.old.taken ≤ self.new.taken }
-        ensures leaves { IfErr result (Leaves R.remaining self.old self.new) }
+        ensures leaves { IfErr result (Leaves R.feed self.old self.new) }
         ensures spends { OnOk result (budget self.old ≤ budget self.new) }
     {
         let at = self.taken;
@@ -100,16 +100,16 @@ impl<R: Read> Source<R> {
     #[inline(always)]
     fn field(&mut self, into: &mut Vec<u8>, len: u64, stop: u8) -> Result<(), TextFault>
         requires { len < 2 ^ 63 }
-        ensures read { OnOk result (Consumes (R.remaining self.old.reader)
-            (R.remaining self.new.reader) (into.new.items ++ stop ∷ [])) }
+        ensures read { OnOk result (Consumes (R.feed self.old.reader)
+            (R.feed self.new.reader) (into.new.items ++ stop ∷ [])) }
         ensures are { AreBytes into.new.items }
         ensures long { OnOk result (length into.new.items ≡ len) }
         ensures counted { OnOk result (self.new.taken ≡ self.old.taken + (len + 1)) }
         ensures fewer { OnOk result (self.new.asks ≤ self.old.asks) }
-        ensures fails { IfErr result (FailsIn R.remaining self.old self.new
+        ensures fails { IfErr result (FailsIn R.feed self.old self.new
             (FailsField len stop self.old.taken)) }
         ensures later { self.old.taken ≤ self.new.taken }
-        ensures leaves { IfErr result (Leaves R.remaining self.old self.new) }
+        ensures leaves { IfErr result (Leaves R.feed self.old self.new) }
         ensures spends { OnOk result (budget self.old ≤ budget self.new) }
     {
         let at = self.taken;
@@ -125,14 +125,14 @@ impl<R: Read> Source<R> {
         requires least { 9 ≤ greatest }
         requires most { greatest < 2 ^ 63 }
         ensures read { OnOk result (ReadsBehind Spells (codes "+") greatest
-            (R.remaining self.old.reader) (R.remaining self.new.reader)
+            (R.feed self.old.reader) (R.feed self.new.reader)
             self.old.taken self.new.taken (key_value into.new)) }
         ensures fewer { OnOk result (self.new.asks < self.old.asks) }
         ensures fails { (from : ℕ) (removals : _) → self.old.taken ≡ from + 1 →
-            IfErr result (FailsIn R.remaining self.old self.new (λ text.
+            IfErr result (FailsIn R.feed self.old self.new (λ text.
             FailsEntry removals greatest from (codes "+" ++ text))) }
         ensures later { self.old.taken ≤ self.new.taken }
-        ensures leaves { IfErr result (Leaves R.remaining self.old self.new) }
+        ensures leaves { IfErr result (Leaves R.feed self.old self.new) }
         ensures spends { OnOk result (budget self.old ≤ budget self.new) }
     {
         let klen = self.number(greatest, b',')?;
@@ -149,20 +149,20 @@ impl<R: Read> Source<R> {
         requires least { 9 ≤ greatest }
         requires most { greatest < 2 ^ 63 }
         ensures removes { OnOk result (ReadsBehind SpellsRemoval (codes "-") greatest
-            (R.remaining self.old.reader) (R.remaining self.new.reader)
+            (R.feed self.old.reader) (R.feed self.new.reader)
             self.old.taken self.new.taken into.new.key.items) }
         ensures lists { OnOk result (ReadsBehind SpellsKey (codes "+") greatest
-            (R.remaining self.old.reader) (R.remaining self.new.reader)
+            (R.feed self.old.reader) (R.feed self.new.reader)
             self.old.taken self.new.taken into.new.key.items) }
         ensures fewer { OnOk result (self.new.asks < self.old.asks) }
         ensures fails_removing { (from : ℕ) → self.old.taken ≡ from + 1 →
-            IfErr result (FailsIn R.remaining self.old self.new (λ text.
+            IfErr result (FailsIn R.feed self.old self.new (λ text.
             FailsItem SpellsChange greatest from (codes "-" ++ text))) }
         ensures fails_listing { (from : ℕ) → self.old.taken ≡ from + 1 →
-            IfErr result (FailsIn R.remaining self.old self.new (λ text.
+            IfErr result (FailsIn R.feed self.old self.new (λ text.
             FailsItem SpellsKey greatest from (codes "+" ++ text))) }
         ensures later { self.old.taken ≤ self.new.taken }
-        ensures leaves { IfErr result (Leaves R.remaining self.old self.new) }
+        ensures leaves { IfErr result (Leaves R.feed self.old self.new) }
         ensures spends { OnOk result (budget self.old ≤ budget self.new) }
     {
         let klen = self.number(greatest, b':')?;
@@ -182,17 +182,17 @@ impl<R: Read> Source<R> {
         requires least { 9 ≤ greatest }
         requires most { greatest < 2 ^ 63 }
         ensures read { IfOk result (λ found. MatchOption found
-            (Consumes (R.remaining self.old.reader) (R.remaining self.new.reader) (codes "\n")
+            (Consumes (R.feed self.old.reader) (R.feed self.new.reader) (codes "\n")
             × (self.new.taken ≡ self.old.taken + 1))
-            (λ kind. ReadsItem SpellsChange greatest (R.remaining self.old.reader)
-            (R.remaining self.new.reader) self.old.taken self.new.taken
+            (λ kind. ReadsItem SpellsChange greatest (R.feed self.old.reader)
+            (R.feed self.new.reader) self.old.taken self.new.taken
             (change_in kind into.new))) }
         ensures puts { removals ≡ false → IfOk result (λ found. found ≢ Some Remove) }
         ensures fewer { OnOk result (self.new.asks < self.old.asks) }
-        ensures fails { IfErr result (FailsIn R.remaining self.old self.new
+        ensures fails { IfErr result (FailsIn R.feed self.old self.new
             (FailsEntry removals greatest self.old.taken)) }
         ensures later { self.old.taken ≤ self.new.taken }
-        ensures leaves { IfErr result (Leaves R.remaining self.old self.new) }
+        ensures leaves { IfErr result (Leaves R.feed self.old self.new) }
         ensures spends { OnOk result (budget self.old ≤ budget self.new) }
     {
         let start = self.taken;
@@ -218,15 +218,15 @@ impl<R: Read> Source<R> {
         requires least { 9 ≤ greatest }
         requires most { greatest < 2 ^ 63 }
         ensures read { IfOk result (λ given. MatchBool given
-            (ReadsItem SpellsKey greatest (R.remaining self.old.reader)
-            (R.remaining self.new.reader) self.old.taken self.new.taken into.new.key.items)
-            (Consumes (R.remaining self.old.reader) (R.remaining self.new.reader) (codes "\n")
+            (ReadsItem SpellsKey greatest (R.feed self.old.reader)
+            (R.feed self.new.reader) self.old.taken self.new.taken into.new.key.items)
+            (Consumes (R.feed self.old.reader) (R.feed self.new.reader) (codes "\n")
             × (self.new.taken ≡ self.old.taken + 1))) }
         ensures fewer { OnOk result (self.new.asks < self.old.asks) }
-        ensures fails { IfErr result (FailsIn R.remaining self.old self.new
+        ensures fails { IfErr result (FailsIn R.feed self.old self.new
             (FailsItem SpellsKey greatest self.old.taken)) }
         ensures later { self.old.taken ≤ self.new.taken }
-        ensures leaves { IfErr result (Leaves R.remaining self.old self.new) }
+        ensures leaves { IfErr result (Leaves R.feed self.old self.new) }
         ensures spends { OnOk result (budget self.old ≤ budget self.new) }
     {
         let at = self.taken;

@@ -1,12 +1,12 @@
 // A reader of a text, with the count of what it gave and of how often it may still be asked.
 ghost use Rattle.std.specs.Prelude.{◌≡◌, ◌+◌, ◌*◌, ◌^◌, ◌<◌, ◌≤◌, [], ◌∷◌, length, take};
 ghost use Rattle.std.specs.Prelude.{OnOk, OnErr, IfOk, IfErr, MatchOption};
-ghost use Rattle.std.specs.Io.KnownBytes.{Keeps, Consumes, IsAtEnd};
+ghost use Rattle.cdb_form.specs.Fed.Feed.{Consumes, IsAtEnd, Keeps};
 
+use crate::feeds::Feeds;
 use crate::reading::{some_bytes, vector};
 use crate::text::at_hand::{AtHand, window_within};
 use crate::text::fault::TextFault;
-use std::io::Read;
 
 /// How many bytes of a key or value are asked for at once.
 const PIECE: u64 = 4096;
@@ -20,10 +20,12 @@ pub(crate) struct Source<R> {
     ghost counted: { taken + 4096 * asks ≤ 2 ^ 60 },
 }
 
-impl<R: Read> Source<R> {
+impl<R: Feeds> Source<R> {
     ghost use Rattle.cdb_form.specs.Format.Record.{AreBytes};
-    ghost use Rattle.cdb_form.specs.Views.NativeParser.{FailsBytes, FailsIn, Leaves};
-    ghost use Rattle.cdb_form.specs.Views.Source.{Takes, at_hand, budget};
+    ghost use Rattle.cdb_form.specs.Fed.NativeParser.{FailsIn, Leaves};
+    ghost use Rattle.cdb_form.specs.Fed.Source.{Takes};
+    ghost use Rattle.cdb_form.specs.Views.NativeParser.{FailsBytes};
+    ghost use Rattle.cdb_form.specs.Views.Source.{at_hand, budget};
     ghost use Rattle.cdb_form.specs.Views.TextFault.{IsReadFault, IsSpent};
 
     /// A reader that gave nothing yet, and may be asked so often.
@@ -44,18 +46,17 @@ impl<R: Read> Source<R> {
     #[inline(always)]
     pub(crate) fn byte(&mut self) -> Result<Option<u8>, TextFault>
         ensures bytes { IfOk result (λ found. MatchOption found
-            (IsAtEnd (R.remaining self.old.reader)
-            × Keeps (R.remaining self.old.reader) (R.remaining self.new.reader)
-            × IsAtEnd (R.remaining self.new.reader))
-            (λ b. Consumes (R.remaining self.old.reader) (R.remaining self.new.reader) (b ∷ []))) }
+            (Keeps (R.feed self.old.reader) (R.feed self.new.reader)
+            × IsAtEnd (R.feed self.new.reader))
+            (λ b. Consumes (R.feed self.old.reader) (R.feed self.new.reader) (b ∷ []))) }
         ensures counted { IfOk result (λ found.
             MatchOption found (self.new.taken ≡ self.old.taken) (λ b.
             self.new.taken ≡ self.old.taken + 1)) }
         ensures fewer { OnOk result (self.new.asks < self.old.asks) }
         ensures no_more { self.new.asks ≤ self.old.asks }
         ensures spends { self.old.asks ≤ self.new.asks + 1001 }
-        ensures kept { OnErr result (Keeps (R.remaining self.old.reader)
-            (R.remaining self.new.reader)) }
+        ensures kept { OnErr result (Keeps (R.feed self.old.reader)
+            (R.feed self.new.reader)) }
         ensures same { OnErr result (self.new.taken ≡ self.old.taken) }
         ensures fails { IfErr result IsReadFault }
         ensures spent { IfErr result (IsSpent self.new.asks) }
@@ -84,7 +85,7 @@ impl<R: Read> Source<R> {
     #[inline(always)]
     pub(crate) fn take_at_hand<A: AtHand<R>>(&mut self, n: usize)
         requires { n ≤ length (at_hand A.held self.old) }
-        ensures takes { Takes R.remaining self.old self.new (take n (at_hand A.held self.old)) }
+        ensures takes { Takes R.feed self.old self.new (take n (at_hand A.held self.old)) }
         ensures taken { self.new.taken ≡ self.old.taken + n }
         ensures asks { self.old.asks ≡ self.new.asks + n }
     {
@@ -98,18 +99,17 @@ impl<R: Read> Source<R> {
     #[inline(always)]
     pub(crate) fn next_byte<A: AtHand<R>>(&mut self) -> Result<Option<u8>, TextFault>
         ensures bytes { IfOk result (λ found. MatchOption found
-            (IsAtEnd (R.remaining self.old.reader)
-            × Keeps (R.remaining self.old.reader) (R.remaining self.new.reader)
-            × IsAtEnd (R.remaining self.new.reader))
-            (λ b. Consumes (R.remaining self.old.reader) (R.remaining self.new.reader) (b ∷ []))) }
+            (Keeps (R.feed self.old.reader) (R.feed self.new.reader)
+            × IsAtEnd (R.feed self.new.reader))
+            (λ b. Consumes (R.feed self.old.reader) (R.feed self.new.reader) (b ∷ []))) }
         ensures counted { IfOk result (λ found.
             MatchOption found (self.new.taken ≡ self.old.taken) (λ b.
             self.new.taken ≡ self.old.taken + 1)) }
         ensures fewer { OnOk result (self.new.asks < self.old.asks) }
         ensures no_more { self.new.asks ≤ self.old.asks }
         ensures spends { self.old.asks ≤ self.new.asks + 1001 }
-        ensures kept { OnErr result (Keeps (R.remaining self.old.reader)
-            (R.remaining self.new.reader)) }
+        ensures kept { OnErr result (Keeps (R.feed self.old.reader)
+            (R.feed self.new.reader)) }
         ensures same { OnErr result (self.new.taken ≡ self.old.taken) }
         ensures fails { IfErr result IsReadFault }
         ensures spent { IfErr result (IsSpent self.new.asks) }
@@ -125,16 +125,16 @@ impl<R: Read> Source<R> {
     #[inline(always)]
     pub(crate) fn bytes(&mut self, into: &mut Vec<u8>, len: u64) -> Result<(), TextFault>
         requires { len ≤ 2 ^ 63 }
-        ensures read { OnOk result (Consumes (R.remaining self.old.reader)
-            (R.remaining self.new.reader) into.new.items) }
+        ensures read { OnOk result (Consumes (R.feed self.old.reader)
+            (R.feed self.new.reader) into.new.items) }
         ensures are { AreBytes into.new.items }
         ensures long { OnOk result (length into.new.items ≡ len) }
         ensures counted { OnOk result (self.new.taken ≡ self.old.taken + len) }
         ensures fewer { self.new.asks ≤ self.old.asks }
-        ensures fails { IfErr result (FailsIn R.remaining self.old self.new
+        ensures fails { IfErr result (FailsIn R.feed self.old self.new
             (FailsBytes len self.old.taken)) }
         ensures later { self.old.taken ≤ self.new.taken }
-        ensures leaves { IfErr result (Leaves R.remaining self.old self.new) }
+        ensures leaves { IfErr result (Leaves R.feed self.old self.new) }
         ensures spends { OnOk result (budget self.old ≤ budget self.new) }
     {
         let answer = vector(&mut self.reader, &mut self.asks, into, len, PIECE);

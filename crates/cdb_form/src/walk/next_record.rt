@@ -1,14 +1,15 @@
 // The next record of a database file.
-ghost use Rattle.std.specs.Prelude.{◌≡◌, ◌+◌, ◌-◌, ◌<◌, ◌≤◌, drop, OnErr, IfOk, IfErr, IfSome};
-ghost use Rattle.cdb_form.specs.Views.KnownBytes.{LosesAtMost, FromTo};
+ghost use Rattle.std.specs.Prelude.{◌≡◌, ◌+◌, ◌-◌, ◌<◌, drop, OnErr, IfOk, IfErr};
+ghost use Rattle.cdb_form.specs.Fed.Feed.{FromTo};
 ghost use Rattle.cdb_form.specs.Format.Pair.{pair_size};
-ghost use Rattle.cdb_form.specs.Views.Reading.{ReadsNoFurther, ReadsNoRecord};
-ghost use Rattle.cdb_form.specs.Views.Reading.{ReadsFirst, IsKept};
+ghost use Rattle.cdb_form.specs.Fed.Taking.{LosesAtMost, ReadsFirst, ReadsNoFurther, ReadsNoRecord};
+ghost use Rattle.cdb_form.specs.Views.Reading.{IsKept};
 ghost use Rattle.cdb_form.specs.Format.Record.{KeyValue, record_size};
 ghost use Rattle.cdb_form.specs.Format.Walk.{walk_from, with_first};
 ghost use Rattle.cdb_form.specs.declared.walk.keeping.Keeping.TheVariants.{Key};
 ghost use Rattle.cdb_form.specs.Views.WalkFault.{IsDamage, stopped_by};
 
+use crate::feeds::Feeds;
 use crate::pair::pair_size;
 use crate::record::Record;
 use crate::walk::fault::WalkFault;
@@ -16,11 +17,10 @@ use crate::walk::keeping::Keeping;
 use crate::walk::record_area::RecordArea;
 use crate::walk::source::{record_body, record_header};
 use crate::width::Width;
-use std::io::Read;
 
 /// Reads the record at the next place, and says where those after it lie.
 #[inline(never)]
-pub(crate) fn read_record<R: Read, L: Width>(
+pub(crate) fn read_record<R: Feeds, L: Width>(
     reader: &mut R,
     into: &mut Record,
     area: RecordArea,
@@ -29,24 +29,25 @@ pub(crate) fn read_record<R: Read, L: Width>(
     requires { area.place < area.end }
     ensures record { IfOk result (λ behind. (r : KeyValue) × IsKept keeping into.new r
         × (behind.place ≡ area.place + record_size L.WORD r)
-        × FromTo (R.remaining reader.old) (R.remaining reader.new) (λ text rest.
+        × FromTo (R.feed reader.old) (R.feed reader.new) (λ text rest.
         (walk_from L.WORD area.place area.end text
         ≡ with_first r (walk_from L.WORD behind.place area.end rest))
         × (rest ≡ drop (behind.place - area.place) text))
         × ReadsFirst r (walk_from L.WORD area.place area.end)
-        (walk_from L.WORD behind.place area.end) (R.remaining reader.old) (R.remaining reader.new)) }
+        (walk_from L.WORD behind.place area.end) (R.feed reader.old) (R.feed reader.new)) }
     ensures value { keeping ≡ Key → into.new.value ≡ into.old.value }
     ensures place { IfOk result (λ behind. area.place < behind.place) }
     ensures end { IfOk result (λ behind. behind.end ≡ area.end) }
-    ensures fails { IfErr result (λ f. IsDamage f → IfSome (R.remaining reader.old) (λ text.
+    ensures fails { IfErr result (λ f. IsDamage f
+        → FromTo (R.feed reader.old) (R.feed reader.new) (λ text rest.
         walk_from L.WORD area.place area.end text ≡ stopped_by f)) }
     ensures header { IfErr result (λ f.
-        IsDamage f → ReadsNoFurther (pair_size L.WORD) (R.remaining reader.old)
-        (R.remaining reader.new)) }
-    ensures loses { LosesAtMost (R.remaining reader.old)
-        (R.remaining reader.new) (area.end - area.place) }
+        IsDamage f → ReadsNoFurther (pair_size L.WORD) (R.feed reader.old)
+        (R.feed reader.new)) }
+    ensures loses { LosesAtMost (R.feed reader.old)
+        (R.feed reader.new) (area.end - area.place) }
     ensures part { OnErr result (ReadsNoRecord (walk_from L.WORD area.place area.end)
-        (R.remaining reader.old) (R.remaining reader.new)) }
+        (R.feed reader.old) (R.feed reader.new)) }
 {
     let early = WalkFault::Record(area.place);
     let size = pair_size::<L>();

@@ -1,17 +1,17 @@
 // Where the records of a database file are, by its head.
 ghost use Rattle.std.specs.Prelude.{◌≡◌, ◌≤◌, drop};
-ghost use Rattle.std.specs.Prelude.{OnErr, IfOk, IfErr, IfSome};
-ghost use Rattle.cdb_form.specs.Views.KnownBytes.{LosesAtMost, FromTo};
-ghost use Rattle.cdb_form.specs.Views.Reading.{ReadsHead, ReadsNoRecord};
+ghost use Rattle.std.specs.Prelude.{OnErr, IfOk, IfErr};
+ghost use Rattle.cdb_form.specs.Fed.Feed.{FromTo};
+ghost use Rattle.cdb_form.specs.Fed.Taking.{LosesAtMost, ReadsHead, ReadsNoRecord};
 ghost use Rattle.cdb_form.specs.Format.Pair.{head_size};
 ghost use Rattle.cdb_form.specs.Format.Walk.{record_end, walk_of, walk_from};
 ghost use Rattle.cdb_form.specs.Views.WalkFault.{IsDamage, stopped_by};
 
+use crate::feeds::Feeds;
 use crate::head::head_size;
 use crate::walk::fault::WalkFault;
 use crate::walk::source::file_head;
 use crate::width::Width;
-use std::io::Read;
 
 /// Where the records lie that weren't given yet: from the next place to the record end.
 #[derive(Clone, Copy)]
@@ -22,20 +22,20 @@ pub(crate) struct RecordArea {
 }
 
 /// Reads the head, which says where the records end.
-pub(crate) fn read_area<R: Read, L: Width>(reader: &mut R) -> Result<RecordArea, WalkFault>
+pub(crate) fn read_area<R: Feeds, L: Width>(reader: &mut R) -> Result<RecordArea, WalkFault>
     ensures area { IfOk result (λ area.
-        FromTo (R.remaining reader.old) (R.remaining reader.new) (λ text rest.
+        FromTo (R.feed reader.old) (R.feed reader.new) (λ text rest.
         (walk_of L.WORD text ≡ walk_from L.WORD area.place area.end rest)
         × (area.end ≡ record_end L.WORD text) × (rest ≡ drop (head_size L.WORD) text))) }
     ensures place { IfOk result (λ area. area.place ≡ head_size L.WORD) }
-    ensures fails { IfErr result (λ f. IsDamage f → IfSome (R.remaining reader.old) (λ text.
-        walk_of L.WORD text ≡ stopped_by f)) }
+    ensures fails { IfErr result (λ f. IsDamage f
+        → FromTo (R.feed reader.old) (R.feed reader.new) (λ text rest. walk_of L.WORD text ≡ stopped_by f)) }
     ensures cut { IfOk result (λ area. ReadsHead L.WORD area.place area.end
-        (R.remaining reader.old) (R.remaining reader.new)) }
+        (R.feed reader.old) (R.feed reader.new)) }
     ensures part { OnErr result
-        (ReadsNoRecord (walk_of L.WORD) (R.remaining reader.old) (R.remaining reader.new)) }
-    ensures loses { LosesAtMost (R.remaining reader.old)
-        (R.remaining reader.new) (head_size L.WORD) }
+        (ReadsNoRecord (walk_of L.WORD) (R.feed reader.old) (R.feed reader.new)) }
+    ensures loses { LosesAtMost (R.feed reader.old)
+        (R.feed reader.new) (head_size L.WORD) }
 {
     let head = file_head::<R, L>(reader)?;
     let place = head_size::<L>() as u64;

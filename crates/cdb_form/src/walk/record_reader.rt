@@ -1,11 +1,10 @@
 // Records out of a database file that is read in one pass.
-ghost use Rattle.std.specs.Prelude.{◌≡◌, ◌+◌, ◌-◌, ◌^◌, ◌<◌, ◌≤◌, max, false};
-ghost use Rattle.std.specs.Prelude.{drop, OnOk, OnErr, IfOk, IfErr, IfSome, MatchOption, MatchBool};
+ghost use Rattle.std.specs.Prelude.{◌≡◌, ℕ, ◌+◌, ◌-◌, ◌^◌, ◌<◌, List, max, false};
+ghost use Rattle.std.specs.Prelude.{drop, OnErr, IfOk, IfErr, IfSome, MatchOption, MatchBool};
 ghost use Rattle.std.specs.Bool.{OnTrue, OnFalse};
 ghost use Rattle.cdb_form.specs.Views.KnownBytes.{StillFrom};
 ghost use Rattle.cdb_form.specs.Format.Pair.{head_size, pair_size};
-ghost use Rattle.cdb_form.specs.Views.Reading.{ReadsNoFurther, ReadsNoRecord};
-ghost use Rattle.cdb_form.specs.Views.Reading.{ReadsFirst, IsKept};
+ghost use Rattle.cdb_form.specs.Views.Reading.{IsKept};
 ghost use Rattle.cdb_form.specs.Format.Record.{KeyValue};
 ghost use Rattle.cdb_form.specs.Format.Walk.{walk_of, walk_from, record_end, no_walk};
 ghost use Rattle.cdb_form.specs.Format.Walk.{with_first};
@@ -15,6 +14,7 @@ ghost use Rattle.cdb_form.specs.Views.Pairs.{key_value};
 ghost use Rattle.cdb_form.specs.Views.Prefix.{shown_by};
 ghost use Rattle.cdb_form.specs.Views.Repeats.{Repeats};
 
+use crate::feeds::Feeds;
 use crate::record::Record;
 use crate::text::at_hand::{AtHand, window_within};
 use crate::text::prefix::PeekedRecord;
@@ -50,21 +50,16 @@ pub struct RecordReader<R, L> {
 }
 
 impl<R: Read, L: Width> RecordReader<R, L> {
-    ghost use Rattle.cdb_form.specs.Views.RecordReader.{unread, walk_left, behind_end, bytes_left};
-    ghost use Rattle.cdb_form.specs.Views.RecordReader.{IsFresh, IsGoing, HasEnded, HasFailed};
-    ghost use Rattle.cdb_form.specs.Views.RecordReader.{Between, GivesRecord, GivesEnd, Fails};
-    ghost use Rattle.cdb_form.specs.Views.RecordReader.{GivesKey, GivesKept, HasPeeked};
+    ghost use Rattle.cdb_form.specs.Views.RecordReader.{unread, IsFresh, HasEnded, HasFailed};
+    ghost use Rattle.cdb_form.specs.Views.RecordReader.{GivesRecord, GivesEnd, Fails};
+    ghost use Rattle.cdb_form.specs.Views.RecordReader.{GivesKey, HasPeeked};
+
     /// A reader of the records of the file that `reader` gives. Nothing is read yet.
     pub fn new(alloc: Global, reader: R) -> RecordReader<R, L>
         ensures unread { unread R.remaining result ≡ R.remaining reader }
         ensures fresh { IsFresh result }
     {
-        RecordReader {
-            alloc,
-            reader,
-            walking: Progress::AtHead,
-            width: PhantomData,
-        }
+        RecordReader::fed(alloc, reader)
     }
 
     /// The next record, or `None` at the record end.
@@ -98,7 +93,7 @@ impl<R: Read, L: Width> RecordReader<R, L> {
         ensures failed { (fault : _) → HasFailed self.old fault
             → Repeats (Err fault) self.old self.new result }
     {
-        self.read_kept(into, Keeping::Both)
+        self.read_fed(into)
     }
 
     /// Reads the key of the next record over another record. It passes over the value, which takes no
@@ -113,7 +108,45 @@ impl<R: Read, L: Width> RecordReader<R, L> {
         ensures failed { (fault : _) → HasFailed self.old fault
             → Repeats (Err fault) self.old self.new result }
     {
-        self.read_kept(into, Keeping::Key)
+        self.read_key_fed(into)
+    }
+
+    /// Takes the record that `peek` shows, whose `len` this is.
+    #[inline(always)]
+    pub fn take_peeked<A: AtHand<R>>(&mut self, len: usize)
+        requires { (r : KeyValue) × HasPeeked L.WORD A.held self.old len r }
+        ensures { (r : KeyValue) → HasPeeked L.WORD A.held self.old len r
+            → GivesRecord L.WORD R.remaining self.old self.new r }
+    {
+        self.take_fed::<A>(len);
+    }
+}
+
+impl<R: Feeds, L: Width> RecordReader<R, L> {
+    ghost use Rattle.cdb_form.specs.Fed.RecordReader as fed;
+    ghost use Rattle.cdb_form.specs.Fed.Taking as taking;
+    ghost use Rattle.cdb_form.specs.Views.RecordReader.{HasEnded, HasFailed, HasPeeked, IsFresh};
+    ghost use Rattle.cdb_form.specs.Views.RecordReader.{IsGoing, behind_end, bytes_left, reader_of};
+    ghost use Rattle.cdb_form.specs.Views.RecordReader.{behind_records, walk_left};
+
+    /// A reader of the records of the file that `reader` gives. Nothing is read yet.
+    pub fn fed(alloc: Global, reader: R) -> RecordReader<R, L>
+        ensures reader { reader_of result ≡ reader }
+        ensures fresh { IsFresh result }
+    {
+        RecordReader {
+            alloc,
+            reader,
+            walking: Progress::AtHead,
+            width: PhantomData,
+        }
+    }
+
+    /// What gives its bytes, which goes on after what was taken.
+    pub fn into_fed(self) -> R
+        ensures { result ≡ reader_of self }
+    {
+        self.reader
     }
 
     /// The next record, where it lies, if it is whole at hand and ends before the record end or at it.
@@ -131,12 +164,12 @@ impl<R: Read, L: Width> RecordReader<R, L> {
         }
     }
 
-    /// Takes the record that `peek` shows, whose `len` this is.
+    /// Takes the record that `peek` shows, as `take_peeked` does.
     #[inline(always)]
-    pub fn take_peeked<A: AtHand<R>>(&mut self, len: usize)
+    pub fn take_fed<A: AtHand<R>>(&mut self, len: usize)
         requires { (r : KeyValue) × HasPeeked L.WORD A.held self.old len r }
         ensures { (r : KeyValue) → HasPeeked L.WORD A.held self.old len r
-            → GivesRecord L.WORD R.remaining self.old self.new r }
+            → fed.GivesRecord L.WORD R.feed self.old self.new r }
     {
         if let Progress::At(area) = self.walking {
             A::take(&mut self.reader, len);
@@ -147,14 +180,41 @@ impl<R: Read, L: Width> RecordReader<R, L> {
         }
     }
 
+    /// Does what `read_into` does, and says it of any bytes that agree with what was taken.
+    pub fn read_fed(&mut self, into: &mut Record) -> Result<bool, WalkFault>
+        ensures gives { IfOk result (λ given. MatchBool given
+            (fed.GivesRecord L.WORD R.feed self.old self.new (key_value into.new))
+            (fed.GivesEnd L.WORD R.feed self.old self.new)) }
+        ensures fails { IfErr result (fed.Fails L.WORD R.feed self.old self.new) }
+        ensures ended { HasEnded self.old → Repeats (Ok false) self.old self.new result }
+        ensures failed { (fault : _) → HasFailed self.old fault
+            → Repeats (Err fault) self.old self.new result }
+    {
+        self.read_kept(into, Keeping::Both)
+    }
+
+    /// Does what `read_key` does, and says it of any bytes that agree with what was taken.
+    pub fn read_key_fed(&mut self, into: &mut Record) -> Result<bool, WalkFault>
+        ensures gives { IfOk result (λ given. MatchBool given
+            (fed.GivesKey L.WORD R.feed self.old self.new into.new.key.items)
+            (fed.GivesEnd L.WORD R.feed self.old self.new)) }
+        ensures value { into.new.value ≡ into.old.value }
+        ensures fails { IfErr result (fed.Fails L.WORD R.feed self.old self.new) }
+        ensures ended { HasEnded self.old → Repeats (Ok false) self.old self.new result }
+        ensures failed { (fault : _) → HasFailed self.old fault
+            → Repeats (Err fault) self.old self.new result }
+    {
+        self.read_kept(into, Keeping::Key)
+    }
+
     /// Reads the next record, of which so much is kept, and notes what to do next.
     #[inline(always)]
     fn read_kept(&mut self, into: &mut Record, keeping: Keeping) -> Result<bool, WalkFault>
         ensures gives { IfOk result (λ given. MatchBool given
-            (GivesKept L.WORD R.remaining self.old self.new keeping into.new)
-            (GivesEnd L.WORD R.remaining self.old self.new)) }
+            (fed.GivesKept L.WORD R.feed self.old self.new keeping into.new)
+            (fed.GivesEnd L.WORD R.feed self.old self.new)) }
         ensures value { keeping ≡ Key → into.new.value ≡ into.old.value }
-        ensures fails { IfErr result (Fails L.WORD R.remaining self.old self.new) }
+        ensures fails { IfErr result (fed.Fails L.WORD R.feed self.old self.new) }
         ensures ended { HasEnded self.old → Repeats (Ok false) self.old self.new result }
         ensures failed { (fault : _) → HasFailed self.old fault
             → Repeats (Err fault) self.old self.new result }
@@ -178,34 +238,26 @@ impl<R: Read, L: Width> RecordReader<R, L> {
     fn first(&mut self, into: &mut Record, keeping: Keeping) -> Result<bool, WalkFault>
         ensures record { IfOk result (λ given. OnTrue given
             ((r : KeyValue) × IsKept keeping into.new r
-            × Between R.remaining self.old self.new (λ text rest.
+            × fed.Between R.feed self.old self.new (λ text rest.
             (walk_of L.WORD text ≡ with_first r (walk_left L.WORD self.new rest))
-            × (behind_end L.WORD self.new rest ≡ drop (record_end L.WORD text) text))
-            × ReadsFirst r (walk_of L.WORD) (walk_left L.WORD self.new)
-            (unread R.remaining self.old) (unread R.remaining self.new))) }
+            × (behind_end L.WORD self.new rest ≡ behind_records L.WORD text))
+            × taking.ReadsFirst r (walk_of L.WORD) (walk_left L.WORD self.new)
+            (R.feed self.old.reader) (R.feed self.new.reader))) }
         ensures value { keeping ≡ Key → into.new.value ≡ into.old.value }
         ensures fewer { IfOk result (λ given.
             OnTrue given (IsGoing self.new × (bytes_left self.new < 2 ^ 64))) }
         ensures end { IfOk result (λ given.
-            OnFalse given (IfSome (unread R.remaining self.old) (λ text.
-            walk_of L.WORD text ≡ no_walk))) }
-        ensures behind { IfOk result (λ given.
-            OnFalse given (Between R.remaining self.old self.new (λ text rest.
-            rest ≡ drop (record_end L.WORD text) text))) }
-        ensures after_head { OnOk result (IfSome (unread R.remaining self.old) (λ text.
-            head_size L.WORD ≤ record_end L.WORD text)) }
-        ensures fails { IfErr result (λ f.
-            IsDamage f → IfSome (unread R.remaining self.old) (λ text.
-            walk_of L.WORD text ≡ stopped_by f)) }
+            OnFalse given (fed.Between R.feed self.old self.new (λ text rest.
+            (walk_of L.WORD text ≡ no_walk) × (rest ≡ behind_records L.WORD text)))) }
+        ensures fails { IfErr result (λ f. fed.Between R.feed self.old self.new (λ text rest.
+            (IsDamage f → walk_of L.WORD text ≡ stopped_by f)
+            × StillFrom (max (head_size L.WORD) (record_end L.WORD text)) text rest)) }
         ensures header { IfErr result (λ f.
             IsDamage f →
-            ReadsNoFurther (head_size L.WORD + pair_size L.WORD)
-            (unread R.remaining self.old) (unread R.remaining self.new)) }
-        ensures still_behind { OnErr result
-            (Between R.remaining self.old self.new (λ text rest.
-            StillFrom (max (head_size L.WORD) (record_end L.WORD text)) text rest)) }
-        ensures part { OnErr result (ReadsNoRecord (walk_of L.WORD)
-            (unread R.remaining self.old) (unread R.remaining self.new)) }
+            taking.ReadsNoFurther (head_size L.WORD + pair_size L.WORD)
+            (R.feed self.old.reader) (R.feed self.new.reader)) }
+        ensures part { OnErr result (taking.ReadsNoRecord (walk_of L.WORD)
+            (R.feed self.old.reader) (R.feed self.new.reader)) }
     {
         let area = read_area::<R, L>(&mut self.reader)?;
         self.record_at(into, area, keeping)
@@ -221,31 +273,27 @@ impl<R: Read, L: Width> RecordReader<R, L> {
     ) -> Result<bool, WalkFault>
         ensures record { IfOk result (λ given. OnTrue given
             ((r : KeyValue) × IsKept keeping into.new r
-            × Between R.remaining self.old self.new (λ text rest.
+            × fed.Between R.feed self.old self.new (λ text rest.
             (walk_from L.WORD area.place area.end text
             ≡ with_first r (walk_left L.WORD self.new rest))
             × (behind_end L.WORD self.new rest ≡ drop (area.end - area.place) text))
-            × ReadsFirst r (walk_from L.WORD area.place area.end) (walk_left L.WORD self.new)
-            (unread R.remaining self.old) (unread R.remaining self.new))) }
+            × taking.ReadsFirst r (walk_from L.WORD area.place area.end) (walk_left L.WORD self.new)
+            (R.feed self.old.reader) (R.feed self.new.reader))) }
         ensures value { keeping ≡ Key → into.new.value ≡ into.old.value }
         ensures fewer { IfOk result (λ given.
             OnTrue given (IsGoing self.new × (bytes_left self.new < area.end - area.place))) }
         ensures end { IfOk result (λ given.
-            OnFalse given (IfSome (unread R.remaining self.old) (λ text.
-            walk_from L.WORD area.place area.end text ≡ no_walk) × (area.place ≡ area.end)
-            × (self.new ≡ self.old))) }
-        ensures fails { IfErr result (λ f.
-            IsDamage f → IfSome (unread R.remaining self.old) (λ text.
-            walk_from L.WORD area.place area.end text ≡ stopped_by f)) }
+            OnFalse given (((text : List ℕ) → walk_from L.WORD area.place area.end text ≡ no_walk)
+            × (area.place ≡ area.end) × (self.new ≡ self.old))) }
+        ensures fails { IfErr result (λ f. fed.Between R.feed self.old self.new (λ text rest.
+            (IsDamage f → walk_from L.WORD area.place area.end text ≡ stopped_by f)
+            × StillFrom (area.end - area.place) text rest)) }
         ensures header { IfErr result (λ f.
             IsDamage f →
-            ReadsNoFurther (pair_size L.WORD)
-            (unread R.remaining self.old) (unread R.remaining self.new)) }
-        ensures still_behind { OnErr result
-            (Between R.remaining self.old self.new (λ text rest.
-            StillFrom (area.end - area.place) text rest)) }
-        ensures part { OnErr result (ReadsNoRecord (walk_from L.WORD area.place area.end)
-            (unread R.remaining self.old) (unread R.remaining self.new)) }
+            taking.ReadsNoFurther (pair_size L.WORD)
+            (R.feed self.old.reader) (R.feed self.new.reader)) }
+        ensures part { OnErr result (taking.ReadsNoRecord (walk_from L.WORD area.place area.end)
+            (R.feed self.old.reader) (R.feed self.new.reader)) }
     {
         if area.place == area.end {
             return Ok(false);

@@ -1,15 +1,16 @@
 // Bytes of a file from a reader. That it has no more is a damage of the file.
-ghost use Rattle.std.specs.Prelude.{◌+◌, ◌≡◌, ◌<◌, ◌≤◌, length, OnOk, OnErr, IfOk, IfErr};
-ghost use Rattle.std.specs.Io.KnownBytes.{Consumes};
+ghost use Rattle.std.specs.Prelude.{◌+◌, ◌≡◌, ◌<◌, length, OnOk, OnErr, IfOk, IfErr};
+ghost use Rattle.cdb_form.specs.Fed.Feed.{Consumes};
 ghost use Rattle.cdb_form.specs.Format.Pair.{head_size, pair_size};
 ghost use Rattle.cdb_form.specs.Format.Record.{AreBytes, KeyValue};
 ghost use Rattle.cdb_form.specs.declared.walk.fault.WalkFault.TheVariants.{Short};
 ghost use Rattle.cdb_form.specs.declared.walk.keeping.Keeping.TheVariants.{Key};
-ghost use Rattle.cdb_form.specs.Views.KnownBytes.{LosesAtMost, LosesFewer};
-ghost use Rattle.cdb_form.specs.Views.Reading.{ReadsShort, HeadRead, HeaderRead, Passes, ValueRead};
-ghost use Rattle.cdb_form.specs.Views.Reading.{BodyRead, IsKept};
+ghost use Rattle.cdb_form.specs.Fed.Taking.{BodyRead, HeadRead, HeaderRead, LosesAtMost, LosesFewer};
+ghost use Rattle.cdb_form.specs.Fed.Taking.{Passes, ReadsShort, ValueRead};
+ghost use Rattle.cdb_form.specs.Views.Reading.{IsKept};
 ghost use Rattle.cdb_form.specs.Views.WalkFault.{IsDamage};
 
+use crate::feeds::Feeds;
 use crate::head::{GREATEST_HEAD, Head, head_size, read_head};
 use crate::header::{Header, read_header};
 use crate::pair::{GREATEST_PAIR, pair_size};
@@ -18,7 +19,6 @@ use crate::record::Record;
 use crate::walk::fault::WalkFault;
 use crate::walk::keeping::Keeping;
 use crate::width::Width;
-use std::io::Read;
 
 /// How often a reader may be asked for the bytes of one vector: each ask gives a byte or is one of
 /// at most 1000 in a row that signals interrupt, so no vector that memory can hold takes as many.
@@ -28,17 +28,17 @@ const ASKS: u64 = u64::MAX;
 const PASSED: usize = 512;
 
 /// Fills all of `into`, or answers `early` if the reader ends before that.
-fn fill<R: Read>(reader: &mut R, into: &mut [u8], early: WalkFault) -> Result<(), WalkFault>
-    ensures bytes { OnOk result (Consumes (R.remaining reader.old)
-        (R.remaining reader.new) into.new) }
+fn fill<R: Feeds>(reader: &mut R, into: &mut [u8], early: WalkFault) -> Result<(), WalkFault>
+    ensures bytes { OnOk result (Consumes (R.feed reader.old)
+        (R.feed reader.new) into.new) }
     ensures are { OnOk result (AreBytes into.new) }
     ensures fails { IfErr result (λ f.
-        IsDamage f → (f ≡ early) × ReadsShort (length into.old) (R.remaining reader.old)
-        (R.remaining reader.new)) }
-    ensures loses { LosesAtMost (R.remaining reader.old)
-        (R.remaining reader.new) (length into.old) }
+        IsDamage f → (f ≡ early) × ReadsShort (length into.old) (R.feed reader.old)
+        (R.feed reader.new)) }
+    ensures loses { LosesAtMost (R.feed reader.old)
+        (R.feed reader.new) (length into.old) }
     ensures loses_fewer { OnErr result (LosesFewer
-        (R.remaining reader.old) (R.remaining reader.new) (length into.old)) }
+        (R.feed reader.old) (R.feed reader.new) (length into.old)) }
 {
     let mut asks = ASKS;
     match all_bytes(reader, &mut asks, into) {
@@ -48,22 +48,22 @@ fn fill<R: Read>(reader: &mut R, into: &mut [u8], early: WalkFault) -> Result<()
 }
 
 /// Takes the next `len` bytes, or answers `early` if the reader ends before.
-fn bytes<R: Read>(
+fn bytes<R: Feeds>(
     reader: &mut R,
     into: &mut Vec<u8>,
     len: u64,
     early: WalkFault,
 ) -> Result<(), WalkFault>
-    ensures read { OnOk result (Consumes (R.remaining reader.old)
-        (R.remaining reader.new) into.new.items) }
+    ensures read { OnOk result (Consumes (R.feed reader.old)
+        (R.feed reader.new) into.new.items) }
     ensures are { AreBytes into.new.items }
     ensures long { OnOk result (length into.new.items ≡ len) }
     ensures fails { IfErr result (λ f.
-        IsDamage f → (f ≡ early) × ReadsShort len (R.remaining reader.old)
-        (R.remaining reader.new)) }
-    ensures loses { LosesAtMost (R.remaining reader.old) (R.remaining reader.new) len }
+        IsDamage f → (f ≡ early) × ReadsShort len (R.feed reader.old)
+        (R.feed reader.new)) }
+    ensures loses { LosesAtMost (R.feed reader.old) (R.feed reader.new) len }
     ensures loses_fewer { OnErr result (LosesFewer
-        (R.remaining reader.old) (R.remaining reader.new) len) }
+        (R.feed reader.old) (R.feed reader.new) len) }
 {
     let mut asks = ASKS;
     match vector(reader, &mut asks, into, len, PIPE as u64) {
@@ -73,14 +73,14 @@ fn bytes<R: Read>(
 }
 
 /// Reads the head of a file. `Short`: the reader ends before it does.
-pub(crate) fn file_head<R: Read, L: Width>(reader: &mut R) -> Result<Head, WalkFault>
-    ensures read { IfOk result (HeadRead L.WORD (R.remaining reader.old) (R.remaining reader.new)) }
+pub(crate) fn file_head<R: Feeds, L: Width>(reader: &mut R) -> Result<Head, WalkFault>
+    ensures read { IfOk result (HeadRead L.WORD (R.feed reader.old) (R.feed reader.new)) }
     ensures fails { IfErr result (λ f. IsDamage f → (f ≡ Short)
-        × ReadsShort (head_size L.WORD) (R.remaining reader.old) (R.remaining reader.new)) }
+        × ReadsShort (head_size L.WORD) (R.feed reader.old) (R.feed reader.new)) }
     ensures loses { LosesAtMost
-        (R.remaining reader.old) (R.remaining reader.new) (head_size L.WORD) }
+        (R.feed reader.old) (R.feed reader.new) (head_size L.WORD) }
     ensures loses_fewer { OnErr result (LosesFewer
-        (R.remaining reader.old) (R.remaining reader.new) (head_size L.WORD)) }
+        (R.feed reader.old) (R.feed reader.new) (head_size L.WORD)) }
 {
     let mut bytes = [0u8; GREATEST_HEAD];
     let size = head_size::<L>();
@@ -89,18 +89,18 @@ pub(crate) fn file_head<R: Read, L: Width>(reader: &mut R) -> Result<Head, WalkF
 }
 
 /// Reads the header of a record, or answers `early` if the reader ends before it does.
-pub(crate) fn record_header<R: Read, L: Width>(
+pub(crate) fn record_header<R: Feeds, L: Width>(
     reader: &mut R,
     early: WalkFault,
 ) -> Result<Header, WalkFault>
     ensures read { IfOk result
-        (HeaderRead L.WORD (R.remaining reader.old) (R.remaining reader.new)) }
+        (HeaderRead L.WORD (R.feed reader.old) (R.feed reader.new)) }
     ensures fails { IfErr result (λ f. IsDamage f → (f ≡ early)
-        × ReadsShort (pair_size L.WORD) (R.remaining reader.old) (R.remaining reader.new)) }
+        × ReadsShort (pair_size L.WORD) (R.feed reader.old) (R.feed reader.new)) }
     ensures loses { LosesAtMost
-        (R.remaining reader.old) (R.remaining reader.new) (pair_size L.WORD) }
+        (R.feed reader.old) (R.feed reader.new) (pair_size L.WORD) }
     ensures loses_fewer { OnErr result (LosesFewer
-        (R.remaining reader.old) (R.remaining reader.new) (pair_size L.WORD)) }
+        (R.feed reader.old) (R.feed reader.new) (pair_size L.WORD)) }
 {
     let mut bytes = [0u8; GREATEST_PAIR];
     let size = pair_size::<L>();
@@ -109,14 +109,14 @@ pub(crate) fn record_header<R: Read, L: Width>(
 }
 
 /// Passes over the next `len` bytes, or answers `early` if the reader ends before.
-fn pass<R: Read>(reader: &mut R, len: u64, early: WalkFault) -> Result<(), WalkFault>
+fn pass<R: Feeds>(reader: &mut R, len: u64, early: WalkFault) -> Result<(), WalkFault>
     ensures read { OnOk result
-        (Passes len (R.remaining reader.old) (R.remaining reader.new)) }
+        (Passes len (R.feed reader.old) (R.feed reader.new)) }
     ensures fails { IfErr result (λ f. IsDamage f → (f ≡ early)
-        × ReadsShort len (R.remaining reader.old) (R.remaining reader.new)) }
-    ensures loses { LosesAtMost (R.remaining reader.old) (R.remaining reader.new) len }
+        × ReadsShort len (R.feed reader.old) (R.feed reader.new)) }
+    ensures loses { LosesAtMost (R.feed reader.old) (R.feed reader.new) len }
     ensures loses_fewer { OnErr result (LosesFewer
-        (R.remaining reader.old) (R.remaining reader.new) len) }
+        (R.feed reader.old) (R.feed reader.new) len) }
 {
     let mut asks = ASKS;
     match skip(reader, &mut asks, len, &mut [0; PASSED]) {
@@ -126,7 +126,7 @@ fn pass<R: Read>(reader: &mut R, len: u64, early: WalkFault) -> Result<(), WalkF
 }
 
 /// Reads the value of a record, or passes it over and leaves the one that is there.
-fn record_value<R: Read>(
+fn record_value<R: Feeds>(
     reader: &mut R,
     into: &mut Vec<u8>,
     len: u64,
@@ -134,14 +134,14 @@ fn record_value<R: Read>(
     early: WalkFault,
 ) -> Result<(), WalkFault>
     ensures read { OnOk result (ValueRead keeping len
-        (R.remaining reader.old) (R.remaining reader.new) into.new.items) }
+        (R.feed reader.old) (R.feed reader.new) into.new.items) }
     ensures same { keeping ≡ Key → into.new ≡ into.old }
     ensures are { AreBytes into.new.items }
     ensures fails { IfErr result (λ f. IsDamage f → (f ≡ early)
-        × ReadsShort len (R.remaining reader.old) (R.remaining reader.new)) }
-    ensures loses { LosesAtMost (R.remaining reader.old) (R.remaining reader.new) len }
+        × ReadsShort len (R.feed reader.old) (R.feed reader.new)) }
+    ensures loses { LosesAtMost (R.feed reader.old) (R.feed reader.new) len }
     ensures loses_fewer { OnErr result (LosesFewer
-        (R.remaining reader.old) (R.remaining reader.new) len) }
+        (R.feed reader.old) (R.feed reader.new) len) }
 {
     match keeping {
         Keeping::Both => bytes(reader, into, len, early),
@@ -150,7 +150,7 @@ fn record_value<R: Read>(
 }
 
 /// Reads the key and the value of a record, whose lengths are in its header.
-pub(crate) fn record_body<R: Read>(
+pub(crate) fn record_body<R: Feeds>(
     reader: &mut R,
     into: &mut Record,
     header: Header,
@@ -158,15 +158,15 @@ pub(crate) fn record_body<R: Read>(
     early: WalkFault,
 ) -> Result<(), WalkFault>
     ensures read { OnOk result ((r : KeyValue) × IsKept keeping into.new r
-        × BodyRead (R.remaining reader.old) (R.remaining reader.new) header r) }
+        × BodyRead (R.feed reader.old) (R.feed reader.new) header r) }
     ensures value { keeping ≡ Key → into.new.value ≡ into.old.value }
     ensures fails { IfErr result (λ f. IsDamage f → (f ≡ early)
         × ReadsShort (header.klen + header.vlen)
-        (R.remaining reader.old) (R.remaining reader.new)) }
+        (R.feed reader.old) (R.feed reader.new)) }
     ensures loses { LosesAtMost
-        (R.remaining reader.old) (R.remaining reader.new) (header.klen + header.vlen) }
+        (R.feed reader.old) (R.feed reader.new) (header.klen + header.vlen) }
     ensures loses_fewer { OnErr result (LosesFewer
-        (R.remaining reader.old) (R.remaining reader.new) (header.klen + header.vlen)) }
+        (R.feed reader.old) (R.feed reader.new) (header.klen + header.vlen)) }
 {
     bytes(reader, &mut into.key, header.klen, early)?;
     record_value(reader, &mut into.value, header.vlen, keeping, early)

@@ -67,7 +67,7 @@ const TWO_BODY: &[u8] = b"\x03\0\0\0\x05\0\0\0oneHello\x03\0\0\0\x07\0\0\0twoGoo
     \0\0\0\0\0\0\0\0\x81\x5b\x87\x0b\0\x08\0\0";
 
 // The file of two records, whose tables stand at 2082 and 2098.
-fn two_file(alloc: Global) -> Result<Vec<u8>, AllocError> {
+pub(super) fn two_file(alloc: Global) -> Result<Vec<u8>, AllocError> {
     let mut file = Vec::new(alloc);
     for n in 0..256usize {
         let place = match n {

@@ -1,4 +1,4 @@
-use Rattle.cdb_feed.proofs.KnownReaders.{reader_gives, known_consumes}
+use Rattle.cdb_form.proofs.Fed.KnownReaders.{reader_gives, known_consumes}
 use Rattle.cdb_feed.proofs.laws.known_reader_is_fed.Goals as goal
 
 pub returns-clause-takes : goal.returns-clause-takes

@@ -1,8 +1,10 @@
 use Rattle.std.proofs.Common.{◌≡◌, ◌+◌, ◌-◌, length, take, arith, subst, sym, ◌∙◌, length-drop}
 use Rattle.std.proofs.lemmas.List.{length-take-le}
-use Rattle.std.specs.Io.KnownBytes.{Consumes}
+use Rattle.cdb_form.specs.Fed.Feed.{Consumes}
 use borrow.Rule.Slice.PartMut.{put_mid, same_len_mid}
 use Rattle.cdb_form.specs.Format.Record.{AreBytes}
+use Rattle.std.proofs.Common.{rules}
+use Rattle.cdb_form.proofs.Fed.FeedLemmas.{loses_these, consumes_kept, consumes_no_more}
 use Rattle.cdb_form.proofs.Sources.AskingLemmas.{take_read, read_more}
 use Rattle.std.proofs.lemmas.Grind.{common_steps}
 use Rattle.cdb_form.proofs.reading.all_bytes.Goals as goal
@@ -25,7 +27,8 @@ loop-done-preserved g c =
     }
 
 pub returns-in_err-n-clause-loses : goal.returns-in_err-n-clause-loses
-returns-in_err-n-clause-loses g c = grind (arith, common_steps)
+returns-in_err-n-clause-loses g c =
+    loses_these _ _ _ _ (consumes_kept _ _ _ _ c.loop-done.invariant.read c.in_err-n.ensures.kept) (grind (arith, common_steps))
 
 pub returns-clause-are : goal.returns-clause-are
 returns-clause-are g c = grind (arith, common_steps)
@@ -34,7 +37,10 @@ pub returns-then-n-eq0-clause-memory : goal.returns-then-n-eq0-clause-memory
 returns-then-n-eq0-clause-memory g c = grind (arith, common_steps)
 
 pub returns-then-n-eq0-clause-loses : goal.returns-then-n-eq0-clause-loses
-returns-then-n-eq0-clause-loses g c = grind (arith, common_steps)
+returns-then-n-eq0-clause-loses g c =
+    let n = c.in_ok-n.n in
+    let none : n ≡ 0 = search rules in
+    loses_these _ _ _ _ (consumes_no_more _ _ _ _ _ _ none c.loop-done.invariant.read c.in_ok-n.ensures.bytes) (grind (arith, common_steps))
 
 pub returns-clause-bytes : goal.returns-clause-bytes
 returns-clause-bytes g c = grind (arith, common_steps)

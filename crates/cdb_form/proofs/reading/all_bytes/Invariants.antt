@@ -1,5 +1,5 @@
 use Rattle.std.proofs.Common.{◌-◌, ◌≤◌, length, take}
-use Rattle.std.specs.Io.KnownBytes.{Consumes}
+use Rattle.cdb_form.specs.Fed.Feed.{Consumes}
 use Rattle.cdb_form.specs.Format.Record.{AreBytes}
 use Rattle.cdb_form.proofs.reading.all_bytes.Given as goal
 
@@ -7,7 +7,7 @@ use Rattle.cdb_form.proofs.reading.all_bytes.Given as goal
 abbrev pub invariant-loop-done : goal.invariant-loop-done
 invariant-loop-done g l =
     record {
-      read : Consumes (g.R.Read.remaining l.fn.reader) (g.R.Read.remaining l.reader) (take l.done l.into);
+      read : Consumes (g.R.Feeds.feed l.fn.reader) (g.R.Feeds.feed l.reader) (take l.done l.into);
       are : AreBytes (take l.done l.into);
       within : l.done ≤ length l.into;
     }

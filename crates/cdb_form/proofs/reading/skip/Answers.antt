@@ -1,6 +1,6 @@
 use Rattle.std.proofs.Common.{◌≡◌, ◌++◌, length, take, arith, length-append, length-drop, ◌∙◌, rules}
 use Rattle.std.proofs.lemmas.List.{length-take-le}
-use Rattle.cdb_form.proofs.Sources.SourceLemmas.{consumes_then}
+use Rattle.cdb_form.proofs.Fed.FeedLemmas.{consumes_then}
 use Rattle.std.proofs.lemmas.Grind.{common_steps}
 use Rattle.cdb_form.proofs.reading.skip.Goals as goal
 

@@ -1,12 +1,12 @@
 use Rattle.std.proofs.Common.{◌≡◌, ◌-◌, ◌≤◌, length}
-use Rattle.cdb_form.specs.Views.Reading.{Passes}
+use Rattle.cdb_form.specs.Fed.Taking.{Passes}
 use Rattle.cdb_form.proofs.reading.skip.Given as goal
 
 -- so many bytes were passed
 abbrev pub invariant-loop-done : goal.invariant-loop-done
 invariant-loop-done g l =
     record {
-      read : Passes l.done (g.R.Read.remaining l.fn.reader) (g.R.Read.remaining l.reader);
+      read : Passes l.done (g.R.Feeds.feed l.fn.reader) (g.R.Feeds.feed l.reader);
       within : l.done ≤ l.len;
       piece : length l.piece ≡ length l.fn.piece;
     }

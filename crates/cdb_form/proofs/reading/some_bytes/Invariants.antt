@@ -1,12 +1,12 @@
 use Rattle.std.proofs.Common.{◌≡◌, ◌+◌, ◌≤◌, length}
-use Rattle.std.specs.Io.KnownBytes.{Keeps}
+use Rattle.cdb_form.specs.Fed.Feed.{Keeps}
 use Rattle.cdb_form.proofs.reading.some_bytes.Given as goal
 
 -- nothing was read yet, and each call took an ask
 abbrev pub invariant-loop : goal.invariant-loop
 invariant-loop g l =
     record {
-      kept : Keeps (g.R.Read.remaining l.fn.reader) (g.R.Read.remaining l.reader);
+      kept : Keeps (g.R.Feeds.feed l.fn.reader) (g.R.Feeds.feed l.reader);
       asks : l.asks ≤ l.fn.asks;
       spent : l.fn.asks ≤ l.asks + l.counter;
       room : length l.into ≡ length l.fn.into;

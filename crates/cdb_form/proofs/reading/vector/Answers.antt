@@ -1,9 +1,9 @@
 use Rattle.std.proofs.lemmas.Grind.{common_steps}
 use Rattle.std.proofs.Common.{◌≡◌, ◌+◌, ◌≤◌, ◌++◌, take, arith, subst, sym, rules}
-use Rattle.std.specs.Io.KnownBytes.{Consumes}
+use Rattle.cdb_form.specs.Fed.Feed.{Consumes}
 use Rattle.cdb_form.specs.Format.Record.{AreBytes}
 use Rattle.cdb_form.proofs.Bytes.ByteLemmas.{AreBytes-append}
-use Rattle.cdb_form.proofs.Sources.SourceLemmas.{consumes_then}
+use Rattle.cdb_form.proofs.Fed.FeedLemmas.{consumes_then}
 use Rattle.cdb_form.proofs.reading.vector.Goals as goal
 
 pub loop-done-preserved : goal.loop-done-preserved

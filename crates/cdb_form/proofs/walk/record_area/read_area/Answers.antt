@@ -10,7 +10,7 @@ returns-in_err-head-clause-fails g c =
     let p = err_from_is_err_and c.from_residual.result c.from_residual.ensures.1 in
     rw (p.1, p.2) (λ damage.
     let h = c.in_err-head.ensures.fails damage in
-    area_short g.L.Width.WORD _ c.in_err-head.field-0.0 h.0 h.1.few)
+    area_short g.L.Width.WORD _ _ c.in_err-head.field-0.0 h.0 h.1.few)
 
 pub returns-clause-area : goal.returns-clause-area
 returns-clause-area g c =

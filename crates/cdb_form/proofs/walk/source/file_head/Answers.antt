@@ -2,7 +2,7 @@ use Rattle.std.proofs.Common.{ℕ, ap, ◌∙◌, sym, subst, rules, arith}
 use Rattle.std.proofs.lemmas.Result.{err_from_is_err_and}
 use Rattle.std.proofs.lemmas.List.{take_at}
 use Rattle.cdb_form.specs.Format.Reading.{head_at}
-use Rattle.cdb_form.specs.Views.Reading.{ReadsShort}
+use Rattle.cdb_form.specs.Fed.Taking.{ReadsShort}
 use Rattle.cdb_form.proofs.RecordReading.RecordAreas.{head_fits}
 use Rattle.std.proofs.lemmas.Grind.{common_steps}
 use Rattle.cdb_form.proofs.walk.source.file_head.Goals as goal
@@ -25,7 +25,7 @@ returns-in_err-fill-clause-fails g c =
     let long = head_fits g.L.Width.WORD c.head_size-size.result c.head_size-size.ensures g.met.L.Width.four_or_eight in
     rw (p.1, p.2) (λ damage.
     let h = c.in_err-fill.ensures.fails damage in
-    (h.0, subst (λ (n : ℕ). ReadsShort n (g.R.Read.remaining c.args.reader.now) (g.R.Read.remaining c.fill.new.reader)) long h.1))
+    (h.0, subst (λ (n : ℕ). ReadsShort n (g.R.Feeds.feed c.args.reader.now) (g.R.Feeds.feed c.fill.new.reader)) long h.1))
 
 pub returns-in_err-fill-clause-loses : goal.returns-in_err-fill-clause-loses
 returns-in_err-fill-clause-loses g c = search rules

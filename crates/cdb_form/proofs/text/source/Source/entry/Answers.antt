@@ -1,6 +1,8 @@
 use Rattle.std.proofs.Common.{◌≡◌, ℕ, [], true, false, arith, sym, subst, ◌∙◌, rules}
 use Rattle.std.proofs.lemmas.Result.{err_from_is_err_and}
-use Rattle.cdb_form.proofs.Sources.SourceLemmas.{kept_consumes, part_seen, seen_past, leaves_past}
+use Rattle.cdb_form.proofs.Sources.SourceLemmas.{item_whole, leaves_past, part_seen}
+use Rattle.cdb_form.specs.Text.Amending.{Putting, Removing, SpellsChange, SpellsRemoval}
+use Rattle.cdb_form.specs.Text.Native.{Spells}
 use Rattle.cdb_form.specs.Views.NativeParser.{FailsEntry}
 use Rattle.cdb_form.specs.declared.text.fault.TextFault.TheVariants.{Ended}
 use Rattle.cdb_form.proofs.NativeTexts.Stops.{ended_first, syntax_first, mark_first, nothing_read}
@@ -11,7 +13,7 @@ pub returns-in_err-byte-clause-fails : goal.returns-in_err-byte-clause-fails
 returns-in_err-byte-clause-fails g c =
     let p = err_from_is_err_and c.from_residual.result c.from_residual.ensures.1 in
     let e = c.in_err-byte.ensures in
-    rw (p.1, p.2) (part_seen (FailsEntry c.args.removals c.args.greatest c.args.self.now.taken) _ _ c.args.self.now.taken c.byte.new.self.taken [] c.in_err-byte.field-0.0 e.fails (kept_consumes _ _ e.kept) (omega (arith, e.same))
+    rw (p.1, p.2) (part_seen (FailsEntry c.args.removals c.args.greatest c.args.self.now.taken) _ _ c.args.self.now.taken c.byte.new.self.taken [] c.in_err-byte.field-0.0 e.fails e.kept (omega (arith, e.same))
     (subst (λ (n : ℕ). FailsEntry c.args.removals c.args.greatest c.args.self.now.taken [] (Ended n)) (sym e.same) (nothing_read c.args.removals c.args.greatest c.args.self.now.taken)))
 
 pub returns-in_err-record-in-Some-eq43-clause-fails : goal.returns-in_err-record-in-Some-eq43-clause-fails
@@ -20,7 +22,7 @@ returns-in_err-record-in-Some-eq43-clause-fails g c =
     let plus : c.in-Some-eq43.field-0 ≡ 43 = omega arith in
     let counted = rw c.in-Some-eq43.is at c.in_ok-byte.ensures.counted in
     let h = c.in_err-record-in-Some-eq43.ensures in
-    rw (p.1, p.2) (mark_first (FailsEntry c.args.removals c.args.greatest c.args.self.now.taken) 43 _ _ _ (seen_past _ _ _ _ _ [] 43 c.in_err-record-in-Some-eq43.field-0.0 (rw (c.in-Some-eq43.is, plus) at c.in_ok-byte.ensures.bytes) counted h.later) (h.fails c.args.self.now.taken c.args.removals counted))
+    rw (p.1, p.2) (mark_first (FailsEntry c.args.removals c.args.greatest c.args.self.now.taken) 43 _ _ _ _ _ _ c.in_err-record-in-Some-eq43.field-0.0 (rw (c.in-Some-eq43.is, plus) at c.in_ok-byte.ensures.bytes) counted h.later (h.fails c.args.self.now.taken c.args.removals counted))
 
 pub returns-in_err-record-in-Some-eq43-clause-leaves : goal.returns-in_err-record-in-Some-eq43-clause-leaves
 returns-in_err-record-in-Some-eq43-clause-leaves g c =
@@ -30,7 +32,7 @@ returns-in_err-record-in-Some-eq43-clause-leaves g c =
     rw (p.1, p.2) (leaves_past _ _ _ _ [] 43 _ (rw (c.in-Some-eq43.is, plus) at c.in_ok-byte.ensures.bytes) counted (omega (arith, counted, c.in_ok-byte.ensures.spends)) c.in_err-record-in-Some-eq43.ensures.leaves)
 
 pub returns-in-None-clause-fails : goal.returns-in-None-clause-fails
-returns-in-None-clause-fails g c = ended_first c.args.removals _ _ _ (rw c.in-None.is at c.in_ok-byte.ensures.bytes).0
+returns-in-None-clause-fails g c = let e = rw c.in-None.is at c.in_ok-byte.ensures.bytes in ended_first c.args.removals _ _ _ _ e.0 e.1
 
 pub returns-in_err-marked_key-in-Some-eq45-clause-fails : goal.returns-in_err-marked_key-in-Some-eq45-clause-fails
 returns-in_err-marked_key-in-Some-eq45-clause-fails g c =
@@ -38,7 +40,7 @@ returns-in_err-marked_key-in-Some-eq45-clause-fails g c =
     let minus : c.in-Some-eq45.field-0 ≡ 45 = omega arith in
     let counted = rw c.in-Some-eq45.is at c.in_ok-byte.ensures.counted in
     let h = c.in_err-marked_key-in-Some-eq45.ensures in
-    rw (p.1, p.2, c.if-removals.true) (mark_first (FailsEntry true c.args.greatest c.args.self.now.taken) 45 _ _ _ (seen_past _ _ _ _ _ [] 45 c.in_err-marked_key-in-Some-eq45.field-0.0 (rw (c.in-Some-eq45.is, minus) at c.in_ok-byte.ensures.bytes) counted h.later) (h.fails_removing c.args.self.now.taken counted))
+    rw (p.1, p.2, c.if-removals.true) (mark_first (FailsEntry true c.args.greatest c.args.self.now.taken) 45 _ _ _ _ _ _ c.in_err-marked_key-in-Some-eq45.field-0.0 (rw (c.in-Some-eq45.is, minus) at c.in_ok-byte.ensures.bytes) counted h.later (h.fails_removing c.args.self.now.taken counted))
 
 pub returns-in_err-marked_key-in-Some-eq45-clause-leaves : goal.returns-in_err-marked_key-in-Some-eq45-clause-leaves
 returns-in_err-marked_key-in-Some-eq45-clause-leaves g c =
@@ -63,7 +65,9 @@ pub returns-in-None-clause-leaves : goal.returns-in-None-clause-leaves
 returns-in-None-clause-leaves g c = grind (arith, common_steps)
 
 pub returns-in_ok-record-in-Some-eq43-clause-read : goal.returns-in_ok-record-in-Some-eq43-clause-read
-returns-in_ok-record-in-Some-eq43-clause-read g c = grind (arith, common_steps)
+returns-in_ok-record-in-Some-eq43-clause-read g c =
+    let plus : c.in-Some-eq43.field-0 ≡ 43 = omega arith in
+    item_whole Spells SpellsChange 43 _ _ _ c.args.greatest _ _ _ _ (Putting _) (λ t s. s) (rw (c.in-Some-eq43.is, plus) at c.in_ok-byte.ensures.bytes) (rw c.in-Some-eq43.is at c.in_ok-byte.ensures.counted) c.in_ok-record-in-Some-eq43.ensures.read
 
 pub returns-in_ok-marked_key-in-Some-eq45-clause-later : goal.returns-in_ok-marked_key-in-Some-eq45-clause-later
 returns-in_ok-marked_key-in-Some-eq45-clause-later g c = grind (arith, common_steps)
@@ -102,7 +106,9 @@ pub returns-in_ok-marked_key-in-Some-eq45-clause-spends : goal.returns-in_ok-mar
 returns-in_ok-marked_key-in-Some-eq45-clause-spends g c = grind (arith, common_steps)
 
 pub returns-in_ok-marked_key-in-Some-eq45-clause-read : goal.returns-in_ok-marked_key-in-Some-eq45-clause-read
-returns-in_ok-marked_key-in-Some-eq45-clause-read g c = grind (arith, common_steps)
+returns-in_ok-marked_key-in-Some-eq45-clause-read g c =
+    let minus : c.in-Some-eq45.field-0 ≡ 45 = omega arith in
+    item_whole SpellsRemoval SpellsChange 45 _ _ _ c.args.greatest _ _ _ _ (Removing _) (λ t s. s) (rw (c.in-Some-eq45.is, minus) at c.in_ok-byte.ensures.bytes) (rw c.in-Some-eq45.is at c.in_ok-byte.ensures.counted) c.in_ok-marked_key-in-Some-eq45.ensures.removes
 
 pub returns-in-Some-2-clause-leaves : goal.returns-in-Some-2-clause-leaves
 returns-in-Some-2-clause-leaves g c = grind (arith, common_steps)

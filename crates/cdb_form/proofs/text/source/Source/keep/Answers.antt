@@ -4,7 +4,7 @@ use Rattle.std.proofs.lemmas.Result.{err_from_is_err_and}
 use Rattle.cdb_form.specs.Format.Record.{AreBytes}
 use Rattle.cdb_form.specs.Views.MapParser.{is_of}
 use Rattle.cdb_form.proofs.Bytes.ByteLemmas.{AreBytes-append, AreBytes-push}
-use Rattle.cdb_form.proofs.MapTexts.MapReads.{kept_at_hand, kept_more, read_fault_outside, run_at_hand, run_ended, run_failed, run_more, run_stopped}
+use Rattle.cdb_form.proofs.MapTexts.MapReads.{kept_at_hand, kept_more, read_fault_outside, run_at_hand, run_ended, run_failed, run_left, run_more, run_stopped}
 use Rattle.cdb_form.proofs.text.source.Source.keep.Goals as goal
 
 pub loop-self-preserved : goal.loop-self-preserved
@@ -35,7 +35,7 @@ returns-in_default-clause-run g c =
     let counted = rw c.in_default.is at e.counted in
     let run = run_at_hand _ _ _ _ _ so.run.0 _ _ so.run.2 m in
     let kept = kept_at_hand _ _ so.run.0 m.bytes _ m.moved so.run.1 in
-    (so.run.0 ++ m.bytes, kept, run_ended _ _ _ _ _ _ run end.1 end.2 counted e.spends)
+    (so.run.0 ++ m.bytes, kept, run_ended _ _ _ _ _ _ run end.0 end.1 counted e.spends)
 
 pub returns-in_default-clause-are : goal.returns-in_default-clause-are
 returns-in_default-clause-are g c =
@@ -68,7 +68,7 @@ returns-in_err-byte-clause-leaves g c =
     let m = c.in_ok-keep_at_hand.ensures.moved in
     let p = err_from_is_err_and c.from_residual-in_err-byte.result c.from_residual-in_err-byte.ensures.1 in
     let run = run_at_hand _ _ _ _ _ so.run.0 _ _ so.run.2 m in
-    rw (p.1, p.2) (run_failed _ _ _ _ _ _ _ run e.kept e.same e.spends (read_fault_outside _ e.fails) e.spent)
+    rw (p.1, p.2) (run_failed _ _ _ _ c.next_byte.new.self (so.run.0 ++ m.bytes) c.in_err-byte.field-0.0 run e.kept e.same e.spends (read_fault_outside _ e.fails) e.spent)
 
 pub returns-in_err-push-2-clause-are : goal.returns-in_err-push-2-clause-are
 returns-in_err-push-2-clause-are g c =
@@ -100,3 +100,15 @@ returns-in_err-byte-clause-are g c = grind (arith, common_steps)
 
 pub returns-in_default-clause-leaves : goal.returns-in_default-clause-leaves
 returns-in_default-clause-leaves g c = grind (arith, common_steps)
+
+pub returns-in_err-push-2-clause-leaves : goal.returns-in_err-push-2-clause-leaves
+returns-in_err-push-2-clause-leaves g c =
+    let e = c.in_ok-byte.ensures in
+    let so = c.loop-self.invariant in
+    let m = c.in_ok-keep_at_hand.ensures.moved in
+    let read = rw c.in-Some.is at e.bytes in
+    let counted = rw c.in-Some.is at e.counted in
+    let of_kind : is_of c.args.kind c.in-Some.byte ≡ true = grind arith in
+    let p = err_from_is_err_and c.from_residual-in_err-push-2.result c.from_residual-in_err-push-2.ensures.1 in
+    let run = run_more _ _ _ _ _ _ _ (run_at_hand _ _ _ _ _ so.run.0 _ _ so.run.2 m) read counted e.fewer e.spends of_kind in
+    rw (p.1, p.2) (run_left _ _ _ _ _ _ run (λ h. h) (λ h. cc))

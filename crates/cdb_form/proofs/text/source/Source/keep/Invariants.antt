@@ -7,7 +7,7 @@ use Rattle.cdb_form.proofs.text.source.Source.keep.Given as goal
 abbrev pub invariant-loop-self : goal.invariant-loop-self
 invariant-loop-self g l =
     record {
-      run : (bytes : List ℕ) × (l.into.items ≡ l.first ∷ bytes) × RunSoFar l.kind g.R.Read.remaining l.fn.self l.self bytes;
+      run : (bytes : List ℕ) × (l.into.items ≡ l.first ∷ bytes) × RunSoFar l.kind g.R.Feeds.feed l.fn.self l.self bytes;
       are : AreBytes l.into.items;
     }
 

@@ -1,7 +1,7 @@
 use Rattle.std.proofs.lemmas.Grind.{common_steps}
 use Rattle.std.proofs.Common.{arith, rules}
 use Rattle.std.proofs.lemmas.Result.{err_from_is_err_and}
-use Rattle.cdb_form.proofs.Sources.SourceLemmas.{removal_behind, seen_past, leaves_past}
+use Rattle.cdb_form.proofs.Sources.SourceLemmas.{removal_behind, leaves_past}
 use Rattle.cdb_form.proofs.NativeTexts.KeyTexts.{key_fails, listed_behind}
 use Rattle.cdb_form.proofs.NativeTexts.Stops.{removal_fails, lift_length, base_length, base_value}
 use Rattle.cdb_form.proofs.text.source.Source.marked_key.Goals as goal
@@ -25,34 +25,34 @@ returns-clause-lists g c =
 pub returns-in_err-klen-clause-fails_removing : goal.returns-in_err-klen-clause-fails_removing
 returns-in_err-klen-clause-fails_removing g c = λ from e.
     let p = err_from_is_err_and c.from_residual.result c.from_residual.ensures.1 in
-    rw (p.1, p.2) (removal_fails _ from _ _ _ e (λ F s. base_length F _ _ _ _ s c.in_err-klen.ensures.fails))
+    rw (p.1, p.2) (removal_fails _ from _ _ _ _ _ (g.met.R.Feeds.one_rest _) e (λ F s. base_length F _ _ _ _ _ _ s c.in_err-klen.ensures.fails))
 
 pub returns-in_err-klen-clause-fails_listing : goal.returns-in_err-klen-clause-fails_listing
 returns-in_err-klen-clause-fails_listing g c = λ from e.
     let p = err_from_is_err_and c.from_residual.result c.from_residual.ensures.1 in
-    rw (p.1, p.2) (key_fails _ from _ _ _ e (λ F s. base_length F _ _ _ _ s c.in_err-klen.ensures.fails))
+    rw (p.1, p.2) (key_fails _ from _ _ _ _ _ (g.met.R.Feeds.one_rest _) e (λ F s. base_length F _ _ _ _ _ _ s c.in_err-klen.ensures.fails))
 
 pub returns-in_err-field-clause-fails_removing : goal.returns-in_err-field-clause-fails_removing
 returns-in_err-field-clause-fails_removing g c = λ from e.
     let p = err_from_is_err_and c.from_residual-in_err-field.result c.from_residual-in_err-field.ensures.1 in
     let a = c.in_ok-klen.ensures.read in
-    rw (p.1, p.2) (removal_fails _ from _ _ _ e (λ F s.
-    lift_length F _ c.in_ok-klen.klen _ _ _ _ a.0 _ a.1 c.in_ok-klen.ensures.fits a.3 (seen_past _ _ _ _ _ a.0 58 c.in_err-field.field-0.0 a.2 a.3 (omega (arith, c.in_err-field.ensures.later)))
-    (base_value F _ c.in_ok-klen.klen _ _ _ s c.in_err-field.ensures.fails)))
+    rw (p.1, p.2) (removal_fails _ from _ _ _ _ _ (g.met.R.Feeds.one_rest _) e (λ F s.
+    lift_length F _ c.in_ok-klen.klen _ _ _ _ _ _ a.0 c.in_err-field.field-0.0 a.1 c.in_ok-klen.ensures.fits a.3 (omega (arith, c.in_err-field.ensures.later)) a.2
+    (base_value F _ c.in_ok-klen.klen _ _ _ _ _ s c.in_err-field.ensures.fails)))
 
 pub returns-in_err-field-clause-fails_listing : goal.returns-in_err-field-clause-fails_listing
 returns-in_err-field-clause-fails_listing g c = λ from e.
     let p = err_from_is_err_and c.from_residual-in_err-field.result c.from_residual-in_err-field.ensures.1 in
     let a = c.in_ok-klen.ensures.read in
-    rw (p.1, p.2) (key_fails _ from _ _ _ e (λ F s.
-    lift_length F _ c.in_ok-klen.klen _ _ _ _ a.0 _ a.1 c.in_ok-klen.ensures.fits a.3 (seen_past _ _ _ _ _ a.0 58 c.in_err-field.field-0.0 a.2 a.3 (omega (arith, c.in_err-field.ensures.later)))
-    (base_value F _ c.in_ok-klen.klen _ _ _ s c.in_err-field.ensures.fails)))
+    rw (p.1, p.2) (key_fails _ from _ _ _ _ _ (g.met.R.Feeds.one_rest _) e (λ F s.
+    lift_length F _ c.in_ok-klen.klen _ _ _ _ _ _ a.0 c.in_err-field.field-0.0 a.1 c.in_ok-klen.ensures.fits a.3 (omega (arith, c.in_err-field.ensures.later)) a.2
+    (base_value F _ c.in_ok-klen.klen _ _ _ _ _ s c.in_err-field.ensures.fails)))
 
 pub returns-in_err-field-clause-leaves : goal.returns-in_err-field-clause-leaves
 returns-in_err-field-clause-leaves g c =
     let p = err_from_is_err_and c.from_residual-in_err-field.result c.from_residual-in_err-field.ensures.1 in
     let a = c.in_ok-klen.ensures.read in
-    rw (p.1, p.2) (leaves_past g.R.Read.remaining c.args.self.now c.number.new.self c.field.new.self a.0 58 _ a.2 a.3 c.in_ok-klen.ensures.spends
+    rw (p.1, p.2) (leaves_past g.R.Feeds.feed c.args.self.now c.number.new.self c.field.new.self a.0 58 _ a.2 a.3 c.in_ok-klen.ensures.spends
     c.in_err-field.ensures.leaves)
 
 pub invariant_of-into : goal.invariant_of-into

@@ -10,7 +10,7 @@ invariant-loop-byte g l =
       start : l.start ≡ l.fn.self.taken;
       asks : l.self.asks ≤ l.fn.self.asks;
       spent : budget l.fn.self ≤ budget l.self;
-      so_far : DigitsSoFar (g.R.Read.remaining l.fn.self.reader) (g.R.Read.remaining l.self.reader) l.greatest l.start l.self.taken l.value;
+      so_far : DigitsSoFar (g.R.Feeds.feed l.fn.self.reader) (g.R.Feeds.feed l.self.reader) l.greatest l.start l.self.taken l.value;
     }
 
 abbrev pub decreases-loop-byte : goal.decreases-loop-byte

@@ -1,9 +1,10 @@
 use Rattle.std.proofs.lemmas.Grind.{common_steps}
 use Rattle.std.proofs.Common.{◌∷◌, ◌≡◌, ◌≢◌, [], arith, refl}
 use Rattle.std.proofs.lemmas.Result.{IfErr-weaker, IfOk-weaker}
+use Rattle.cdb_form.specs.Fed.MapParser.{ReadsPair, ReadsValue}
+use Rattle.cdb_form.specs.Fed.Source.{LeavesAmid}
 use Rattle.cdb_form.specs.Text.Map.{Lacks, is_newline}
-use Rattle.cdb_form.specs.Views.MapParser.{ReadsPair, ReadsValue, line_end}
-use Rattle.cdb_form.specs.Views.Source.{LeavesAmid}
+use Rattle.cdb_form.specs.Views.MapParser.{line_end}
 use Rattle.cdb_form.specs.declared.text.kind.Kind.TheVariants.{InWord}
 use Rattle.cdb_form.proofs.MapTexts.MapReads.{leaves_past, other_than, pair_is, pair_none, pair_value, run_to_end, run_to_newline}
 use Rattle.cdb_form.proofs.text.source.Source.pair.Goals as goal
@@ -25,14 +26,14 @@ pub returns-clause-reads : goal.returns-clause-reads
 returns-clause-reads g c =
     let run = rw c.in-Some.is at c.in_ok-stop.ensures.run in
     let other : c.in-Some.stop ≢ 10 = omega arith in
-    IfOk-weaker c.value.result (λ newline. ReadsValue g.R.Read.remaining c.keep.new.self c.value.new.self c.value.new.into.items (line_end newline)) (λ newline. ReadsPair g.R.Read.remaining c.args.self.now c.value.new.self c.args.first (record { key = c.keep.new.into.items; value = c.value.new.into.items }) (line_end newline))
+    IfOk-weaker c.value.result (λ newline. ReadsValue g.R.Feeds.feed c.keep.new.self c.value.new.self c.value.new.into.items (line_end newline)) (λ newline. ReadsPair g.R.Feeds.feed c.args.self.now c.value.new.self c.args.first (record { key = c.keep.new.into.items; value = c.value.new.into.items }) (line_end newline))
     (λ newline v. pair_is _ _ _ _ _ _ _ _ _ (pair_value _ _ _ _ run.0 _ (line_end newline) c.args.first _ c.requires run.2 other v) run.1 refl) c.value.ensures.reads
 
 pub returns-clause-leaves : goal.returns-clause-leaves
 returns-clause-leaves g c =
     let run = rw c.in-Some.is at c.in_ok-stop.ensures.run in
     let other : c.in-Some.stop ≢ 10 = omega arith in
-    IfErr-weaker c.value.result (LeavesAmid (Lacks is_newline) g.R.Read.remaining c.keep.new.self c.value.new.self) (LeavesAmid (Lacks is_newline) g.R.Read.remaining c.args.self.now c.value.new.self)
+    IfErr-weaker c.value.result (LeavesAmid (Lacks is_newline) g.R.Feeds.feed c.keep.new.self c.value.new.self) (LeavesAmid (Lacks is_newline) g.R.Feeds.feed c.args.self.now c.value.new.self)
     (λ f. leaves_past _ _ _ _ _ run.0 _ f run.2 (other_than _ 10 other)) c.value.ensures.leaves
 
 pub invariant_of-into-in_default : goal.invariant_of-into-in_default

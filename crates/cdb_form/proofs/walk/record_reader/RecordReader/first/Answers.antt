@@ -1,24 +1,39 @@
 use Rattle.std.proofs.lemmas.Grind.{common_steps}
-use Rattle.std.proofs.Common.{arith}
+use Rattle.std.proofs.Common.{◌≡◌, arith, subst, sym}
 use Rattle.std.specs.Prelude.{max}
 use Rattle.std.proofs.lemmas.Result.{err_from_is_err_and, on_err_weaker, IfErr-weaker, IfOk-weaker}
 use Rattle.cdb_form.specs.Format.Pair.{head_size, pair_size}
-use Rattle.cdb_form.specs.Format.Walk.{record_end}
-use Rattle.cdb_form.proofs.RecordReading.StreamLemmas.{loses_still, still_then, no_further_then, true_weaker, first_then}
+use Rattle.cdb_form.specs.Format.Walk.{record_end, walk_of, no_walk}
+use Rattle.cdb_form.specs.Fed.Feed.{FromTo}
+use Rattle.cdb_form.proofs.RecordReading.StreamLemmas.{damage_and, end_then, fails_then, false_weaker, first_then, loses_still, no_further_then, true_weaker}
 use Rattle.cdb_form.proofs.RecordReading.RecordAreas.{none_behind_head, first_behind_head}
-use Rattle.cdb_form.specs.Views.RecordReader.{walk_left, behind_end}
+use Rattle.cdb_form.specs.Views.RecordReader.{walk_left, behind_end, behind_records}
 use Rattle.cdb_form.proofs.walk.record_reader.RecordReader.first.Goals as goal
 
-pub returns-in_err-area-clause-still_behind : goal.returns-in_err-area-clause-still_behind
-returns-in_err-area-clause-still_behind g c =
+pub returns-in_err-area-clause-fails : goal.returns-in_err-area-clause-fails
+returns-in_err-area-clause-fails g c =
     let p = err_from_is_err_and c.from_residual.result c.from_residual.ensures.1 in
     let w = g.L.Width.WORD in
-    rw (p.1) (loses_still _ _ (head_size w) (λ text. max (head_size w) (record_end w text)) (λ text. (omega arith)) c.in_err-area.ensures.loses)
+    let e = c.in_err-area.ensures in
+    rw (p.1, p.2) (damage_and _ _ c.in_err-area.field-0.0 _ _ (g.met.R.Feeds.one_rest c.args.self.now.reader) e.fails
+    (loses_still _ _ (head_size w) (λ text. max (head_size w) (record_end w text)) (λ text. (omega arith)) e.loses))
 
-pub returns-clause-still_behind : goal.returns-clause-still_behind
-returns-clause-still_behind g c =
+pub returns-clause-fails : goal.returns-clause-fails
+returns-clause-fails g c =
+    let area = c.in_ok-area.area in
     let ok = c.in_ok-area.ensures in
-    on_err_weaker c.record_at.result (λ h. still_then g.L.Width.WORD c.in_ok-area.area.place c.in_ok-area.area.end _ _ _ ok.area ok.place c.in_ok-area.area.ordered h) c.record_at.ensures.still_behind
+    IfErr-weaker c.record_at.result _ _ (λ f h. fails_then g.L.Width.WORD area.place area.end _ _ _ f ok.area ok.place area.ordered h) c.record_at.ensures.fails
+
+pub returns-clause-end : goal.returns-clause-end
+returns-clause-end g c =
+    let w = g.L.Width.WORD in
+    let area = c.in_ok-area.area in
+    let ok = c.in_ok-area.ensures in
+    let o = g.R.Feeds.feed c.args.self.now.reader in
+    let m = g.R.Feeds.feed c.read_area.new.reader in
+    IfOk-weaker c.record_at.result _ _ (λ given h. false_weaker _ _ given (λ t.
+    subst (λ s. FromTo o (g.R.Feeds.feed s.reader) (λ text rest. (walk_of w text ≡ no_walk) × (rest ≡ behind_records w text))) (sym t.2)
+    (end_then w area.place area.end o m ok.area ok.place area.ordered t.1 t.0)) h) c.record_at.ensures.end
 
 pub returns-clause-header : goal.returns-clause-header
 returns-clause-header g c =
@@ -31,9 +46,9 @@ returns-clause-record g c =
     let area = c.in_ok-area.area in
     let ok = c.in_ok-area.ensures in
     let new = c.record_at.new.self in
-    let o = g.R.Read.remaining c.args.self.now.reader in
-    let m = g.R.Read.remaining c.read_area.new.reader in
-    let n = g.R.Read.remaining new.reader in
+    let o = g.R.Feeds.feed c.args.self.now.reader in
+    let m = g.R.Feeds.feed c.read_area.new.reader in
+    let n = g.R.Feeds.feed new.reader in
     IfOk-weaker c.record_at.result _ _ (λ given h. true_weaker _ _ given (λ t. (
       t.0,
       t.1,
@@ -53,12 +68,6 @@ returns-clause-part g c =
 
 pub returns-in_err-area-clause-header : goal.returns-in_err-area-clause-header
 returns-in_err-area-clause-header g c = grind (arith, common_steps)
-
-pub returns-clause-after_head : goal.returns-clause-after_head
-returns-clause-after_head g c = grind (arith, common_steps)
-
-pub returns-clause-end : goal.returns-clause-end
-returns-clause-end g c = grind (arith, common_steps)
 
 pub returns-in_err-area-clause-value : goal.returns-in_err-area-clause-value
 returns-in_err-area-clause-value g c = grind (arith, common_steps)

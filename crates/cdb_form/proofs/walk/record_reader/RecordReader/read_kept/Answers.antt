@@ -10,8 +10,7 @@ returns-in-Err-clause-fails g c = elim c.match-self.branch [
       let e = w.first-answer.ensures in
       record {
         failed = refl;
-        exact = rw w.in-AtHead.is (rw is at e.fails);
-        behind = rw (w.self-is, w.in-AtHead.is) (rw is at e.still_behind);
+        walk = rw (w.self-is, w.in-AtHead.is) (rw is at e.fails);
         part = rw (w.self-is, w.in-AtHead.is) (rw is at e.part);
         no_further = λ going. rw (w.self-is, w.in-AtHead.is) (rw is at e.header);
       }
@@ -20,8 +19,7 @@ returns-in-Err-clause-fails g c = elim c.match-self.branch [
       let e = w.record_at-answer.ensures in
       record {
         failed = refl;
-        exact = rw w.in-At.is (rw is at e.fails);
-        behind = rw (w.self-is, w.in-At.is) (rw is at e.still_behind);
+        walk = rw (w.self-is, w.in-At.is) (rw is at e.fails);
         part = rw (w.self-is, w.in-At.is) (rw is at e.part);
         no_further = λ going. rw (w.self-is, w.in-At.is) (rw is at e.header);
       }

@@ -1,0 +1,6 @@
+-- Readers of which something is known at the end.
+pub mod FeedLemmas
+pub mod KnownReaders
+pub mod KnownItems
+pub mod KnownMaps
+pub mod KnownRecords

@@ -1,0 +1,57 @@
+-- Readers of which the standard library says which bytes are left: its words and those of feeds, each from the other.
+use Rattle.std.proofs.Common.{◌≡◌, ℕ, List, [], ◌++◌, subst, sym, length, ◌<◌, Option, Some, None, ap, refl}
+use Rattle.std.specs.Io.KnownBytes.{Consumes as KnownConsumes, IsAtEnd as KnownEnd, ReadConsumes}
+use Rattle.std.specs.Prelude.{Result, Ok, Err, IfOk, IfSome}
+use Rattle.cdb_form.specs.Fed.Feed.{Consumes, IsAtEnd, FromTo, reader_feed}
+use Rattle.cdb_form.specs.Views.KnownBytes.{FromTo as KnownFromTo}
+
+some_eq : {xs ys : List ℕ} → ◌≡◌ {A = Option (List ℕ)} (Some xs) (Some ys) → xs ≡ ys
+some_eq e = cc
+
+pub reader_gives : (old new : Option (List ℕ)) (bytes : List ℕ) → KnownConsumes old new bytes → Consumes (reader_feed old) (reader_feed new) bytes
+reader_gives None new bytes c = record { known = λ k. elim k [ ]; back = λ k. elim k [ ] }
+reader_gives (Some xs) None bytes c = elim c [ ]
+reader_gives (Some xs) (Some ys) bytes c = record {
+  known = λ k. tt;
+  back = λ k whole rest m. ap Some (subst (λ z. xs ≡ bytes ++ z) (some_eq m) c);
+}
+
+reader_end : (remaining : Option (List ℕ)) → KnownEnd remaining → IsAtEnd (reader_feed remaining)
+reader_end None e = λ k. elim k [ ]
+reader_end (Some xs) e = λ k whole rest m. subst (λ z. z ≡ []) (some_eq m) e
+
+pub reader_ends : {E : Type 0} (old new : Option (List ℕ)) (result : Result ℕ E) (buf : List ℕ) (room : ℕ) → length buf ≡ room → ReadConsumes old new result buf
+    → IfOk result (λ n. n ≡ 0 → 0 < room → IsAtEnd (reader_feed new))
+reader_ends old new (Ok n) buf room e c = λ z some. reader_end new (c.1 z (subst (λ k. 0 < k) (sym e) some))
+reader_ends old new (Err x) buf room e c = tt
+
+-- and back again
+pub known_consumes : (old new : Option (List ℕ)) (bytes : List ℕ) → Consumes (reader_feed old) (reader_feed new) bytes → KnownConsumes old new bytes
+known_consumes None new bytes c = tt
+known_consumes (Some xs) None bytes c = elim (c.known tt) [ ]
+known_consumes (Some xs) (Some ys) bytes c = some_eq (c.back tt [] ys refl)
+
+pub known_reader : (old new : Option (List ℕ)) (P : List ℕ → List ℕ → Type 0) → FromTo (reader_feed old) (reader_feed new) P
+    → IfSome old (λ text. (rest : List ℕ) × (new ≡ Some rest) × P text rest)
+known_reader None new P f = tt
+known_reader (Some text) None P f = elim (f.known tt) [ ]
+known_reader (Some text) (Some rest) P f =
+    let t = f.back tt [] rest refl in
+    (rest, refl, subst (λ x. P x rest) (sym (some_eq t.1)) t.2)
+
+-- the same, as a relation of both
+pub known_from : (old new : Option (List ℕ)) (P : List ℕ → List ℕ → Type 0) → FromTo (reader_feed old) (reader_feed new) P → KnownFromTo old new P
+known_from None new P f = tt
+known_from (Some text) new P f =
+    let t = known_reader (Some text) new P f in
+    subst (λ o. KnownFromTo (Some text) o P) (sym t.1) t.2
+
+-- what holds of the text that was left before
+pub known_text : (old new : Option (List ℕ)) (P : List ℕ → Type 0) → FromTo (reader_feed old) (reader_feed new) (λ text rest. P text) → IfSome old P
+known_text None new P f = tt
+known_text (Some text) new P f = (known_reader (Some text) new (λ text rest. P text) f).2
+
+-- none are left
+pub known_end : (remaining : Option (List ℕ)) → IsAtEnd (reader_feed remaining) → KnownEnd remaining
+known_end None e = tt
+known_end (Some rest) e = e tt [] rest refl

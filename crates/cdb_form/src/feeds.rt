@@ -1,0 +1,40 @@
+// What gives bytes.
+ghost use Rattle.std.specs.Prelude.{◌≡◌, ◌<◌, ◌≤◌, ℕ, List, length, take, IfOk, OnErr};
+ghost use Rattle.cdb_form.specs.Fed.Feed.{Feed, Consumes, Keeps, IsAtEnd};
+
+use std::io::{self, Read};
+
+/// What gives bytes: any `Read`, or a reader of one's own of which more is known.
+///
+/// A contract speaks of it by its feed, which says of all its bytes and of those that are left
+/// whether they agree with what is known of it.
+pub trait Feeds {
+    /// What is known of it.
+    ghost feed: { Self → Feed };
+
+    /// Takes some of the next bytes. It takes none only at the end, or if `into` is empty.
+    fn read_some(&mut self, into: &mut [u8]) -> io::Result<usize>
+        ensures bound { IfOk result (λ n. n ≤ length into.new) }
+        ensures bytes { IfOk result (λ n.
+            Consumes (feed self.old) (feed self.new) (take n into.new)) }
+        ensures end { IfOk result (λ n. n ≡ 0 → 0 < length into.old → IsAtEnd (feed self.new)) }
+        ensures kept { OnErr result (Keeps (feed self.old) (feed self.new)) };
+
+    /// All its bytes determine which are left.
+    ghost one_rest: { (it : Self) → (whole first second : List ℕ)
+        → (feed it).may whole first → (feed it).may whole second → first ≡ second };
+}
+
+impl<R: Read> Feeds for R {
+    ghost use Rattle.cdb_form.specs.Fed.Feed.{reader_feed};
+    ghost use Rattle.cdb_form.specs.Fed.Rests.{same_remaining};
+
+    ghost feed = { λ r. reader_feed (R.remaining r) };
+
+    ghost one_rest = { λ r whole first second one other. same_remaining one other };
+
+    #[inline(always)]
+    fn read_some(&mut self, into: &mut [u8]) -> io::Result<usize> {
+        self.read(into)
+    }
+}
