@@ -8,7 +8,9 @@ pub mod InputTexts
 pub mod KeyInputs
 pub mod NextInputs
 pub mod LookupRuns
+pub mod WalksSoFar
 pub mod WholeTexts
+pub mod FedTexts
 pub mod InputLemmas
 pub mod OutputFaults
 pub mod OutputLemmas

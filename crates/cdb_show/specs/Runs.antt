@@ -4,6 +4,7 @@ pub mod Given
 pub mod Incoming
 pub mod Form
 pub mod WalkText
+pub mod FedText
 pub mod Load
 pub mod Query
 pub mod LookedUp

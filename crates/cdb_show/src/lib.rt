@@ -37,6 +37,6 @@ pub use runs::lookups::lookups_run;
 pub use runs::query::{query_from, query_run};
 pub use runs::shown::Shown;
 pub use runs::stats::stats_run;
-pub use runs::texts::{dump_run, list_run, text_run_buffered};
+pub use runs::texts::{dump_run, list_run, text_run_buffered, text_run_fed};
 pub use status::{BAD_USAGE, DONE, FAILED, status_of};
 pub use word_message::write_word_fault;

@@ -3,12 +3,13 @@ ghost use Rattle.std.specs.Prelude.{ℕ, List, Option};
 ghost use Rattle.cdb_show.specs.Views.Output.{OutputSays};
 ghost use Rattle.cdb_show.specs.Runs.Form.{form_of, dump_form, list_form};
 ghost use Rattle.cdb_show.specs.Runs.WalkText.{WritesWalk};
+ghost use Rattle.cdb_show.specs.Runs.FedText.{WritesWalk as FedWalk};
 
 use crate::fault::Fault;
 use crate::runs::content::Content;
 use crate::runs::walk_text::write_walk;
 use cdb_command::Style;
-use cdb_form::{AtHand, NoneAtHand, RecordReader, Sink, Width};
+use cdb_form::{AtHand, Feeds, NoneAtHand, RecordReader, Sink, Width};
 use std::alloc::Global;
 use std::io::Read;
 
@@ -67,6 +68,26 @@ pub fn text_run_buffered<L: Width, R: Read + Drop, W: Sink, A: AtHand<R>>(
         (R.remaining reader) rest (W.contents w.old) (W.contents w.new) result }
     ensures output { OutputSays (W.failed w.new) result }
 {
-    let mut records = RecordReader::<R, L>::new(alloc, reader);
-    write_walk::<L, R, W, A>(alloc, &mut records, content, style, w)
+    let (_, answer) = text_run_fed::<L, R, W, A>(alloc, content, reader, style, w);
+    answer
+}
+
+/// Does what `text_run_buffered` does, with whatever gives the bytes of the file, and returns it, after
+/// a fault too.
+///
+/// So the contract holds of each file that agrees with the bytes that were taken.
+pub fn text_run_fed<L: Width, F: Feeds, W: Sink, A: AtHand<F>>(
+    alloc: Global,
+    content: Content,
+    reader: F,
+    style: Style,
+    w: &mut W,
+) -> (F, Result<(), Fault>)
+    ensures writes { FedWalk L.WORD (form_of content style)
+        (F.feed reader) (F.feed result.0) (W.contents w.old) (W.contents w.new) result.1 }
+    ensures output { OutputSays (W.failed w.new) result.1 }
+{
+    let mut records = RecordReader::<F, L>::fed(alloc, reader);
+    let answer = write_walk::<L, F, W, A>(alloc, &mut records, content, style, w);
+    (records.into_fed(), answer)
 }

@@ -3,9 +3,10 @@ ghost use Rattle.std.specs.Prelude.{OnErr, ◌≡◌, IfOk, IfErr, MatchBool};
 ghost use Rattle.cdb_show.specs.Views.Output.{OutputSays};
 ghost use Rattle.cdb_form.specs.Format.Record.{KeyValue};
 ghost use Rattle.cdb_form.specs.Views.KnownBytes.{Writes};
-ghost use Rattle.cdb_form.specs.Views.RecordReader.{unread, IsFresh, GivesRecord, GivesEnd, Fails};
+ghost use Rattle.cdb_form.specs.Views.RecordReader.{reader_of, IsFresh};
+ghost use Rattle.cdb_form.specs.Fed.RecordReader.{GivesRecord, GivesEnd, Fails};
 ghost use Rattle.cdb_show.specs.Runs.Form.{item_of, end_of, form_of, IsHeld};
-ghost use Rattle.cdb_show.specs.Runs.WalkText.{WritesWalk};
+ghost use Rattle.cdb_show.specs.Runs.FedText.{WritesWalk};
 ghost use Rattle.cdb_show.specs.declared.runs.content.Content.TheVariants.{Keys};
 
 use crate::fault::Fault;
@@ -13,29 +14,28 @@ use crate::runs::content::Content;
 use crate::runs::flushed::flushed;
 use cdb_command::Style;
 use cdb_form::{
-    AtHand, OutFault, Record, RecordReader, Sink, WalkFault, Width, write_end, write_list_record,
-    write_map_key, write_map_record, write_record,
+    AtHand, Feeds, OutFault, Record, RecordReader, Sink, WalkFault, Width, write_end,
+    write_list_record, write_map_key, write_map_record, write_record,
 };
 use std::alloc::Global;
-use std::io::Read;
 
 /// Reads what the text has of the next record over another record. A value that it does not have is
 /// passed over, and takes no memory.
-fn read_item<L: Width, R: Read>(
+fn read_item<L: Width, R: Feeds>(
     records: &mut RecordReader<R, L>,
     content: Content,
     into: &mut Record,
 ) -> Result<bool, WalkFault>
     ensures gives { IfOk result (λ given. MatchBool given
         ((r : KeyValue) × IsHeld content into.new.key.items into.new.value.items r
-        × GivesRecord L.WORD R.remaining records.old records.new r)
-        (GivesEnd L.WORD R.remaining records.old records.new)) }
+        × GivesRecord L.WORD R.feed records.old records.new r)
+        (GivesEnd L.WORD R.feed records.old records.new)) }
     ensures value { content ≡ Keys → into.new.value ≡ into.old.value }
-    ensures fails { IfErr result (Fails L.WORD R.remaining records.old records.new) }
+    ensures fails { IfErr result (Fails L.WORD R.feed records.old records.new) }
 {
     match content {
-        Content::Records => records.read_into(into),
-        Content::Keys => records.read_key(into),
+        Content::Records => records.read_fed(into),
+        Content::Keys => records.read_key_fed(into),
     }
 }
 
@@ -73,7 +73,7 @@ pub(crate) fn write_last<W: Sink>(w: &mut W, style: Style) -> Result<(), OutFaul
 
 /// Writes the text of a file, which the writer may keep in a buffer. A record that is whole at hand is
 /// written from where it lies.
-fn write_unflushed<L: Width, R: Read, W: Sink, A: AtHand<R>>(
+fn write_unflushed<L: Width, R: Feeds, W: Sink, A: AtHand<R>>(
     alloc: Global,
     records: &mut RecordReader<R, L>,
     content: Content,
@@ -81,8 +81,8 @@ fn write_unflushed<L: Width, R: Read, W: Sink, A: AtHand<R>>(
     w: &mut W,
 ) -> Result<(), Fault>
     requires { IsFresh records.old }
-    ensures writes { WritesWalk L.WORD (form_of content style) (unread R.remaining records.old)
-        (unread R.remaining records.new) (W.contents w.old) (W.contents w.new) result }
+    ensures writes { WritesWalk L.WORD (form_of content style) (R.feed (reader_of records.old))
+        (R.feed (reader_of records.new)) (W.contents w.old) (W.contents w.new) result }
     ensures output { OutputSays (W.failed w.new) result }
 {
     let mut record = Record {
@@ -93,7 +93,7 @@ fn write_unflushed<L: Width, R: Read, W: Sink, A: AtHand<R>>(
         if let Some(peeked) = records.peek::<A>() {
             let len = peeked.len;
             let written = write_item(w, content, style, peeked.key, peeked.value);
-            records.take_peeked::<A>(len);
+            records.take_fed::<A>(len);
             written?;
         } else if read_item(records, content, &mut record)? {
             write_item(w, content, style, &record.key, &record.value)?;
@@ -106,7 +106,7 @@ fn write_unflushed<L: Width, R: Read, W: Sink, A: AtHand<R>>(
 
 /// Writes the text of a file, of which nothing was read yet, and flushes the writer, after a fault
 /// too.
-pub(crate) fn write_walk<L: Width, R: Read, W: Sink, A: AtHand<R>>(
+pub(crate) fn write_walk<L: Width, R: Feeds, W: Sink, A: AtHand<R>>(
     alloc: Global,
     records: &mut RecordReader<R, L>,
     content: Content,
@@ -114,8 +114,8 @@ pub(crate) fn write_walk<L: Width, R: Read, W: Sink, A: AtHand<R>>(
     w: &mut W,
 ) -> Result<(), Fault>
     requires { IsFresh records.old }
-    ensures writes { WritesWalk L.WORD (form_of content style) (unread R.remaining records.old)
-        (unread R.remaining records.new) (W.contents w.old) (W.contents w.new) result }
+    ensures writes { WritesWalk L.WORD (form_of content style) (R.feed (reader_of records.old))
+        (R.feed (reader_of records.new)) (W.contents w.old) (W.contents w.new) result }
     ensures output { OutputSays (W.failed w.new) result }
 {
     let written = write_unflushed::<L, R, W, A>(alloc, records, content, style, w);
