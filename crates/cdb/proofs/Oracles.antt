@@ -1,17 +1,16 @@
 -- That a run comes to what the oracle says, from what each command does.
 use Rattle.cdb_system.proofs.OutputTaken.{MayGiveUp, taken, writes_output}
-use Rattle.std.proofs.Common.{ℕ, Bool, ◌⊎◌, true, false, List, [], Option, Some, None, IfSome, Result, Ok, Err, ◌≡◌, ◌∙◌, ap, inl, inr, refl, subst, sym, arith}
+use Rattle.std.proofs.Common.{ℕ, Bool, ◌⊎◌, true, false, List, [], ◌++◌, Option, Some, None, IfSome, Result, Ok, Err, ◌≡◌, ◌∙◌, ap, inl, inr, refl, subst, sym, arith}
 use Rattle.std.specs.Prelude.{map, IfOk, string_bytes}
 use Rattle.std.proofs.lemmas.List.{append-nil}
 use Rattle.std.specs.Io.KnownBytes.{Keeps, Appends, append_known}
 use Rattle.std.proofs.KnownBytes.{Appends-kept, Keeps-refl, Keeps-trans}
-use Rattle.cdb_form.proofs.Bytes.WritingLemmas.{same_appends}
 use Rattle.cdb_form.specs.declared.text.fault.TextFault.TheVariants as text
 use Rattle.cdb_form.specs.declared.walk.fault.WalkFault.TheVariants as walk
 use Rattle.cdb_command.specs.Asked.{Asked, asked_in, has_wide_words}
 use Rattle.cdb_command.specs.Asked as asked
 use Rattle.cdb_command.specs.Usage.{usage_text, version_text}
-use Rattle.cdb_command.specs.Refused.{Refused, usage_of}
+use Rattle.cdb_command.specs.Refused.{Refused, refused_line, usage_of}
 use Rattle.cdb_command.specs.declared.command.Command.{Command}
 use Rattle.cdb_command.specs.declared.command.Command.TheVariants as command
 use Rattle.cdb_names.specs.Folder.{NameCalls}
@@ -27,15 +26,16 @@ use Rattle.cdb_show.proofs.Writers.{prefix_kept}
 use Rattle.cdb_show.specs.declared.fault.Fault.{Fault}
 use Rattle.cdb_show.specs.declared.fault.Fault.TheVariants.{Text, Walk, Output, NoMemory}
 use Rattle.cdb.specs.Created.{foretell}
-use Rattle.cdb.specs.Foretold.{AsksNoCreate, ComesTrue, IsForetold, IsRefused, IsTaken, MayFail}
+use Rattle.cdb.specs.Foretold.{AsksNoCreate, ComesTrue, IsForetold, IsRefused, IsTaken, MayFail, SaysLines}
 use Rattle.cdb_system.specs.Answered.{Honest, Nothing, reads_in_turn, stores_in}
 use Rattle.cdb_system.proofs.Coming.{Comes, EachAnswered, IsSized, each_answered, no_prefix, nothing_written}
 use Rattle.cdb_system.proofs.ManyKeys.{lookups_foretold}
 use Rattle.cdb_system.proofs.ComparedFiles.{difference_foretold}
 use Rattle.cdb_system.specs.Oracle.{Disk, Outcome, check_outcome, command_outcome, ended, oracle, stats_outcome}
 use Rattle.cdb.specs.Performs.{HandsOn, IsUntouched, PerformsIn, Runs, status_of}
-use Rattle.cdb_system.specs.Telling.{SaysLine, refused_lines, usage_line, usage_status}
-use Rattle.cdb_system.proofs.Explained.{SaysOnly, says_only}
+use Rattle.cdb_system.specs.Telling.{Says, SaysLine, refused_lines, usage_line, usage_status}
+use Rattle.cdb_system.specs.Causes.{Explains}
+use Rattle.cdb_system.specs.Opening.{OpenCalls}
 use Rattle.cdb_system.specs.declared.left.Left.{Left}
 use Rattle.cdb_system.specs.declared.system.System.{Ghosts as Systems}
 use Rattle.cdb_system.specs.State.{State, failed_of, given_of, state_of}
@@ -44,8 +44,8 @@ use Rattle.cdb_system.proofs.FilesRead.{query_foretold, text_named, text_input, 
 
 -- ---- the end of a command
 
-abbrev Foretold : (planned : Result Asked Refused) → Outcome → (start final told said : Option (List ℕ)) → (status : ℕ) → Type 0
-Foretold planned o start final told said status = ComesTrue o start final told said status ⊎ IsRefused planned o start final told said status
+abbrev Foretold : (planned : Result Asked Refused) → Outcome → (explained : Bool) → (start final told said : Option (List ℕ)) → (status : ℕ) → Type 0
+Foretold planned o explained start final told said status = ComesTrue o explained start final told said status ⊎ IsRefused planned o explained start final told said status
 
 status_is : (command : Command) (text : List ℕ) (result : Result Unit Fault) → status_of command result ≡ (ended (exit_status command) text result).status
 status_is command text (Ok done) = refl
@@ -55,9 +55,31 @@ line_said : (line : List ℕ) (told said : Option (List ℕ)) (unsaid : Type 0) 
 line_said line told said unsaid taken (inl whole) = whole
 line_said line told said unsaid taken (inr part) = absurd (taken part.1)
 
-lines_said : (status : Fault → ℕ) (text : List ℕ) (result : Result Unit Fault) (told said : Option (List ℕ)) (unsaid : Type 0) → (unsaid → ⊥) → SaysOnly result told said unsaid → Appends told said (ended status text result).lines
-lines_said status text (Ok done) told said unsaid taken h = nothing_written told said h
-lines_said status text (Err fault) told said unsaid taken h = line_said (fault_line fault) told said unsaid taken h
+-- the line of a fault is said first; what explains it follows
+fault_said : (explained : Bool) (command : Asked) (result : Result Unit Fault) (opened : OpenCalls) (named : NameCalls) (fault : Fault) (more : List ℕ) (told said : Option (List ℕ)) (unsaid : Type 0) → (unsaid → ⊥)
+    → Explains explained command result opened named more → SaysLine (fault_line fault ++ more) told said unsaid → SaysLines explained (fault_line fault) told said
+fault_said false command result opened named fault more told said unsaid taken explains h =
+    line_said (fault_line fault) told said unsaid taken (subst (λ line. SaysLine line told said unsaid) (ap (λ m. fault_line fault ++ m) explains ∙ append-nil (fault_line fault)) h)
+fault_said true command result opened named fault more told said unsaid taken explains h = (more, line_said (fault_line fault ++ more) told said unsaid taken h)
+
+abbrev SaysResult : (explained : Bool) → Result Unit Fault → (told said : Option (List ℕ)) → Type 0
+SaysResult explained (Ok done) told said = Keeps told said
+SaysResult explained (Err fault) told said = SaysLines explained (fault_line fault) told said
+
+result_said : (explained : Bool) (command : Asked) (result : Result Unit Fault) (opened : OpenCalls) (named : NameCalls) (more : List ℕ) (told said : Option (List ℕ)) (unsaid : Type 0) → (unsaid → ⊥)
+    → Explains explained command result opened named more → Says result more told said unsaid → SaysResult explained result told said
+result_said explained command (Ok done) opened named more told said unsaid taken explains h = h
+result_said explained command (Err fault) opened named more told said unsaid taken explains h = fault_said explained command (Err fault) opened named fault more told said unsaid taken explains h
+
+lines_said : (explained : Bool) (status : Fault → ℕ) (text : List ℕ) (result : Result Unit Fault) (told said : Option (List ℕ)) → SaysResult explained result told said → SaysLines explained (ended status text result).lines told said
+lines_said false status text (Ok done) told said h = nothing_written told said h
+lines_said true status text (Ok done) told said h = ([], nothing_written told said h)
+lines_said explained status text (Err fault) told said h = h
+
+-- and so is the line of words that ask for nothing
+refused_said : (explained : Bool) (refused : Refused) (told said : Option (List ℕ)) (unsaid : Type 0) → (unsaid → ⊥) → SaysLine (refused_lines explained refused) told said unsaid → SaysLines explained (usage_line (usage_of refused)) told said
+refused_said false refused told said unsaid taken h = line_said (usage_line (usage_of refused)) told said unsaid taken h
+refused_said true refused told said unsaid taken h = (refused_line refused, line_said (usage_line (usage_of refused) ++ refused_line refused) told said unsaid taken h)
 
 refusal_status : (command : Command) (fault : Fault) → MayGiveUp (writes_output (asked_in command)) (reads_in_turn (asked_in command)) fault → exit_status command fault ≡ 111
 refusal_status (command.Check name wide) NoMemory h = refl
@@ -84,18 +106,18 @@ handed_all end final unwritten answer result taken h = (
   elim h.answered [ inl same ↦ same | inr failed ↦ absurd (taken failed.2) ],
 )
 
-ends_so : (command : Command) (o : Outcome) (start end final told said : Option (List ℕ)) (unwritten unsaid : Type 0) (result : Result Unit Fault) (status : ℕ) → (unwritten → ⊥) → OutputSays (unwritten ⊎ unsaid) result → (unsaid → ⊥) → Keeps end final → SaysOnly result told said unsaid → status ≡ status_of command result → Comes (writes_output (asked_in command)) (reads_in_turn (asked_in command)) (exit_status command) o start end result → Foretold (Ok (asked_in command)) o start final told said status
-ends_so command o start end final told said unwritten unsaid result status writes tells speaks k says is (inl does) = inl (record {
+ends_so : (command : Command) (o : Outcome) (explained : Bool) (start end final told said : Option (List ℕ)) (unwritten unsaid : Type 0) (result : Result Unit Fault) (status : ℕ) → (unwritten → ⊥) → OutputSays (unwritten ⊎ unsaid) result → (unsaid → ⊥) → Keeps end final → SaysResult explained result told said → status ≡ status_of command result → Comes (writes_output (asked_in command)) (reads_in_turn (asked_in command)) (exit_status command) o start end result → Foretold (Ok (asked_in command)) o explained start final told said status
+ends_so command o explained start end final told said unwritten unsaid result status writes tells speaks k says is (inl does) = inl (record {
   is_status = is ∙ status_is command o.output result ∙ ap (λ (o : Outcome). o.status) does.is;
   output = Appends-kept start end final o.output does.written k;
-  lines = same_appends told said _ _ (ap (λ (o : Outcome). o.lines) does.is) (lines_said (exit_status command) o.output result told said unsaid speaks says);
+  lines = subst (λ l. SaysLines explained l told said) (ap (λ (o : Outcome). o.lines) does.is) (lines_said explained (exit_status command) o.output result told said says);
 })
-ends_so command o start end final told said unwritten unsaid result status writes tells speaks k says is (inr stops) = inr (record {
+ends_so command o explained start end final told said unwritten unsaid result status writes tells speaks k says is (inr stops) = inr (record {
   fault = stops.fault;
   refusal = taken (writes_output (asked_in command)) (reads_in_turn (asked_in command)) stops.fault result (λ failed. elim failed [ inl output ↦ writes output | inr errors ↦ speaks errors ]) tells stops.is stops.refusal;
   is_status = is ∙ ap (status_of command) stops.is ∙ refusal_status command stops.fault stops.refusal;
   output = prefix_kept start end final o.output stops.written k;
-  lines = line_said (fault_line stops.fault) told said unsaid speaks (subst (λ r. SaysOnly r told said unsaid) stops.is says);
+  lines = subst (λ r. SaysResult explained r told said) stops.is says;
 })
 
 -- ---- each command
@@ -183,33 +205,32 @@ no_memory_may (Ok command) = tt
 no_memory_may (Err usage) = refl
 
 run_foretold : {F I M R Y : Type 0} (s : Ghosts F) (m : Ghosts M) (r : Raw R) (remaining : I → Option (List ℕ)) (y : Systems Y F I M) (planned : Result Asked Refused) (explained : Bool) (given : Option (List ℕ)) (old new : Y) (was now : NameCalls) (left : Left F M) (start end final told said : Option (List ℕ)) (unwritten unsaid : Type 0) (status : ℕ) (disk : Disk) (input : List ℕ)
-    → IsSized s → explained ≡ false → (unwritten → ⊥) → (unsaid → ⊥) → Keeps end final → Runs (files_of s m remaining y) r (given_of planned explained given) (state_of old was start told) (state_of new now end said) final left (failed_of unwritten unsaid) status
-    → IfOk planned (λ command. Honest (files_of s m remaining y) disk input command given old new left) → IfSome (oracle planned disk input) (λ o. Foretold planned o start final told said status)
-run_foretold s m r remaining y planned explained given old new was now left start end final told said unwritten unsaid status disk input sized plain writes speaks k (inl none) honest =
+    → IsSized s → (unwritten → ⊥) → (unsaid → ⊥) → Keeps end final → Runs (files_of s m remaining y) r (given_of planned explained given) (state_of old was start told) (state_of new now end said) final left (failed_of unwritten unsaid) status
+    → IfOk planned (λ command. Honest (files_of s m remaining y) disk input command given old new left) → IfSome (oracle planned disk input) (λ o. Foretold planned o explained start final told said status)
+run_foretold s m r remaining y planned explained given old new was now left start end final told said unwritten unsaid status disk input sized writes speaks k (inl none) honest =
     let kept = Keeps-trans start end final none.kept k in
-    let alone : SaysLine (usage_line (usage_of none.refused)) told said unsaid = subst (λ b. SaysLine (refused_lines b none.refused) told said unsaid) plain none.line in
-    let line = line_said (usage_line (usage_of none.refused)) told said unsaid speaks alone in
+    let line = refused_said explained none.refused told said unsaid speaks none.line in
     elim none.why [
-      | inl lacks ↦ each_some (oracle planned disk input) (λ o. Foretold planned o start final told said status) (λ o. inr (record {
+      | inl lacks ↦ each_some (oracle planned disk input) (λ o. Foretold planned o explained start final told said status) (λ o. inr (record {
         fault = NoMemory;
         refusal = no_memory_may planned;
         is_status = none.is_status ∙ ap (λ x. usage_status (usage_of x)) lacks;
         output = no_prefix o start final kept;
-        lines = same_appends told said _ _ (ap (λ x. usage_line (usage_of x)) lacks) line;
+        lines = subst (λ l. SaysLines explained l told said) (ap (λ x. usage_line (usage_of x)) lacks) line;
       }))
-      | inr refused ↦ subst (λ p. IfSome (oracle p disk input) (λ o. Foretold p o start final told said status)) (sym refused) (inl (record {
+      | inr refused ↦ subst (λ p. IfSome (oracle p disk input) (λ o. Foretold p o explained start final told said status)) (sym refused) (inl (record {
         is_status = none.is_status;
         output = nothing_written start final kept;
         lines = line;
       }))
     ]
-run_foretold s m r remaining y planned explained given old new was now left start end final told said unwritten unsaid status disk input sized plain writes speaks k (inr some) honest =
+run_foretold s m r remaining y planned explained given old new was now left start end final told said unwritten unsaid status disk input sized writes speaks k (inr some) honest =
     let command = some.command in
     let honest = subst (λ p. IfOk p (λ c. Honest (files_of s m remaining y) disk input c given old new left)) some.asks honest in
     let handed = handed_all some.does.end final unwritten some.does.answer some.result writes some.does.hands in
-    subst (λ p. IfSome (oracle p disk input) (λ o. Foretold p o start final told said status)) (sym some.asks)
-    (some_so (command_outcome (asked_in command) disk input) (λ o. Comes (writes_output (asked_in command)) (reads_in_turn (asked_in command)) (exit_status command) o start some.does.end some.does.answer) (λ o. some.before ≡ told) (λ o. Foretold (Ok (asked_in command)) o start final told said status)
-    (λ o comes silent. ends_so command o start some.does.end final told said unwritten unsaid some.result status writes some.output speaks handed.0 (subst (λ t. SaysOnly some.result t said unsaid) silent (says_only explained (asked_in command) some.result (y.calls new) now some.more some.before said unsaid plain some.explains some.says)) some.is_status (subst (Comes (writes_output (asked_in command)) (reads_in_turn (asked_in command)) (exit_status command) o start some.does.end) (sym handed.1) comes))
+    subst (λ p. IfSome (oracle p disk input) (λ o. Foretold p o explained start final told said status)) (sym some.asks)
+    (some_so (command_outcome (asked_in command) disk input) (λ o. Comes (writes_output (asked_in command)) (reads_in_turn (asked_in command)) (exit_status command) o start some.does.end some.does.answer) (λ o. some.before ≡ told) (λ o. Foretold (Ok (asked_in command)) o explained start final told said status)
+    (λ o comes silent. ends_so command o explained start some.does.end final told said unwritten unsaid some.result status writes some.output speaks handed.0 (subst (λ t. SaysResult explained some.result t said) silent (result_said explained (asked_in command) some.result (y.calls new) now some.more some.before said unsaid speaks some.explains some.says)) some.is_status (subst (Comes (writes_output (asked_in command)) (reads_in_turn (asked_in command)) (exit_status command) o start some.does.end) (sym handed.1) comes))
     (command_comes s m r remaining y explained command disk input given (state_of old was start told) (state_of new now some.does.end some.before) left some.does.answer sized (each_answered s remaining y disk (stores_in left) (y.calls old) (y.calls new) honest.calls honest.are honest.answered) honest some.does.performs)
     (is_silent command disk input told some.before some.silent))
 
@@ -238,9 +259,9 @@ pub run_is_foretold : {F I M R Y W V : Type 0} (s : Ghosts F) (m : Ghosts M) (r 
     → IsSized s → (held_by output_old ≡ [] → HasHandedOn output_new) → HasHandedOn errors_new
     → Runs (files_of s m remaining y) r (given_of planned explained given) (state_of old was (output_bytes of_output output_old) (output_bytes of_errors errors_old)) (state_of new now (output_bytes of_output output_new) (output_bytes of_errors errors_new)) (of_output output_new.writer) left (failed_of (OutputFailed output_new) (OutputFailed errors_new)) status
     → IsForetold (files_of s m remaining y) (given_of planned explained given) (state_of old was (output_bytes of_output output_old) (output_bytes of_errors errors_old)) (state_of new now (of_output output_new.writer) (of_errors errors_new.writer)) left (IsTaken output_old output_new errors_new) status
-run_is_foretold s m r remaining y planned explained given old new was now left of_output of_errors output_old output_new errors_old errors_new status sized handed said runs = λ disk input taken plain none honest.
-    total_so planned disk input (λ o. Foretold planned o (output_bytes of_output output_old) (of_output output_new.writer) (output_bytes of_errors errors_old) (of_errors errors_new.writer) status) none
+run_is_foretold s m r remaining y planned explained given old new was now left of_output of_errors output_old output_new errors_old errors_new status sized handed said runs = λ disk input taken none honest.
+    total_so planned disk input (λ o. Foretold planned o explained (output_bytes of_output output_old) (of_output output_new.writer) (output_bytes of_errors errors_old) (of_errors errors_new.writer) status) none
     (let end = output_bytes of_output output_new in
     let kept = subst (Keeps end) (all_taken of_output output_new (handed taken.0) taken.1) (Keeps-refl end) in
-    subst (λ t. IfSome (oracle planned disk input) (λ o. Foretold planned o (output_bytes of_output output_old) (of_output output_new.writer) (output_bytes of_errors errors_old) t status)) (all_taken of_errors errors_new said taken.2)
-    (run_foretold s m r remaining y planned explained given old new was now left (output_bytes of_output output_old) end (of_output output_new.writer) (output_bytes of_errors errors_old) (output_bytes of_errors errors_new) (OutputFailed output_new) (OutputFailed errors_new) status disk input sized plain taken.1 taken.2 kept runs honest))
+    subst (λ t. IfSome (oracle planned disk input) (λ o. Foretold planned o explained (output_bytes of_output output_old) (of_output output_new.writer) (output_bytes of_errors errors_old) t status)) (all_taken of_errors errors_new said taken.2)
+    (run_foretold s m r remaining y planned explained given old new was now left (output_bytes of_output output_old) end (of_output output_new.writer) (output_bytes of_errors errors_old) (output_bytes of_errors errors_new) (OutputFailed output_new) (OutputFailed errors_new) status disk input sized taken.1 taken.2 kept runs honest))
