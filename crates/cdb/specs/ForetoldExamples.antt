@@ -1,14 +1,9 @@
 -- What is known of a run with -v that looks up a key without a value.
-use Rattle.clap.specs.Faults.{walk_fault, flags_fault, defaults_fault}
-use Rattle.clap.specs.Walk.{bundle_met, walked}
 use Rattle.std.proofs.Common.{inl, inr, ap, subst, ◌∙◌}
 use Rattle.std.specs.Io.KnownBytes.{Appends}
 use Rattle.std.specs.Prelude.{ℕ, ◌≡◌, ◌⊎◌, true, false, bytes_eq, if◌then◌else◌, List, [], ◌∷◌}
 use Rattle.std.specs.Prelude.{codes, Option, None, Some, Ok, ⊤, refl}
-use Rattle.std.specs.Str.{chars}
-use lib.Utf8.{encode}
 use Rattle.cdb_command.specs.Asked.{Asked, Query}
-use Rattle.cdb_command.specs.Words.{cdb_faults, cdb_rows}
 use Rattle.cdb_form.specs.Examples.WorkedFiles.{words_of, repeat, two_file}
 use Rattle.cdb_form.specs.Format.Reading.{head_at}
 use Rattle.cdb_form.specs.Format.Table.{entries_from}
@@ -38,10 +33,6 @@ words = codes "cdb" ∷ codes "-v" ∷ codes "-q" ∷ codes "a.cdb" ∷ codes "a
 
 abbrev query : Asked
 query = Query (codes "a.cdb") (codes "a") None false false
-
-is_asked : plan_of words ≡ Ok query
-unfolding cdb_rows cdb_faults walk_fault flags_fault defaults_fault bundle_met walked chars encode
-is_asked = refl
 
 is_explained : explains_in words ≡ true
 is_explained = refl
@@ -75,16 +66,16 @@ unfolding disk
 is_honest store has =
     record { calls = calls; are = refl; answered = ((has, refl), tt); reads = tt; in_order = tt }
 
--- the exit status is 100 and nothing was written; or 111, and a failure was reported
+-- if these words ask for it, the exit status is 100 and nothing was written; or 111, and a failure was reported
 missing_is_foretold : {R O E : Type 0} (r : Raw R) (t : Taking O E) (was now : NameCalls)
     (output_old output_new : Writer O) (errors_old errors_new : Writer E) (store : MemStore)
-    (status : ℕ) → two_file ≡ contents store → IsTaken output_old output_new errors_new
+    (status : ℕ) → plan_of words ≡ Ok query → two_file ≡ contents store → IsTaken output_old output_new errors_new
     → IsRun files r (given_by words None) t (world_of [] was output_old errors_old)
     (world_of calls now output_new errors_new) (read_left {M = MemStore} store) status
     → ((status ≡ 100)
     × Appends (output_bytes t.output output_old) (t.output output_new.writer) [])
     ⊎ (status ≡ 111)
-missing_is_foretold r t was now output_old output_new errors_old errors_new store status has all run =
+missing_is_foretold r t was now output_old output_new errors_old errors_new store status is_asked has all run =
     let old = world_of [] was output_old errors_old in
     let new = world_of calls now output_new errors_new in
     let foretold = subst (λ p. IsForetold files (given_of p (explains_in words) None) (written t old) (taken t new) (read_left {M = MemStore} store) (IsTaken output_old output_new errors_new) status) is_asked run.foretold in
