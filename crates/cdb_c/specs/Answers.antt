@@ -3,7 +3,7 @@ use Rattle.std.specs.Prelude.{ℕ, ℤ, pos, negsuc, zero, suc, ◌≡◌}
 use Rattle.cdb_form.specs.declared.damage.Damage.{Damage}
 use Rattle.cdb_form.specs.Format.Walk.{Walked, damaged}
 use Rattle.cdb_read.specs.Lookup.{Found as Looked, found_damaged}
-use Rattle.cdb_read.specs.declared.span.PlacedRecord.{PlacedRecord}
+use Rattle.cdb_read.specs.declared.span.Pair.{Pair}
 use Rattle.cdb_read.specs.declared.span.Span.{Span}
 use Rattle.cdb_memory.specs.declared.search.Search.{Search}
 use Rattle.cdb_memory.specs.declared.walk.RecordArea.{RecordArea}
@@ -23,7 +23,7 @@ Says (negsuc (suc n)) found none damage = ⊥
 abbrev pub span_of : Found → Span
 span_of f = record { place = f.place; len = f.len }
 
-abbrev pub pair_of : Placed → PlacedRecord
+abbrev pub pair_of : Placed → Pair
 pair_of p = record {
   place = p.place;
   key = record { place = p.key_place; len = p.key_len };

@@ -8,7 +8,7 @@ ghost use Rattle.cdb_memory.specs.Walks.{rest_of, WalkBegins, WalkGivesRecord};
 ghost use Rattle.cdb_c.specs.Answers.{Says, IsWalkDamaged, pair_of, rest_at};
 
 use cdb_form::Narrow;
-use cdb_memory::{PlacedRecord, RecordArea, first_record, next_record};
+use cdb_memory::{Pair, RecordArea, first_record, next_record};
 
 /// Where a record of a walk is.
 #[repr(C)]
@@ -26,7 +26,7 @@ pub struct Placed {
 
 impl Placed {
     /// A pair that ends before 4 GiB.
-    fn of(pair: PlacedRecord) -> Placed
+    fn of(pair: Pair) -> Placed
         requires lies { LiesAt 4 pair.place pair }
         requires narrow { behind pair ≤ 4294967295 }
         ensures { pair_of result ≡ pair }

@@ -7,26 +7,26 @@ use Rattle.cdb_form.specs.Format.Pair.{head_size}
 use Rattle.cdb_form.specs.Format.Walk.{Walked, no_walk, walk_of, with_first}
 use Rattle.cdb_form.specs.Text.Amending.{Change}
 use Rattle.cdb_form.specs.Views.KnownBytes.{AppendsPrefix}
-use Rattle.cdb_form.specs.declared.change.ChangeKind.{ChangeKind}
+use Rattle.cdb_form.specs.declared.item.ItemKind.{ItemKind}
 use Rattle.cdb_form.proofs.Bytes.WritingLemmas.{appends_then, same_appends}
 use Rattle.cdb_read.specs.Lookup.{bytes_of}
 use Rattle.cdb_read.specs.Values.{values_of}
 use Rattle.cdb_read.specs.Views.Walking.{LiesAt, behind, record_in}
-use Rattle.cdb_read.specs.declared.span.PlacedRecord.{PlacedRecord}
+use Rattle.cdb_read.specs.declared.span.Pair.{Pair}
 use Rattle.cdb_difference.specs.Difference.{changes_at, changes_text, is_first_changed, WritesPass, WritesPassPrefix}
 use Rattle.cdb_form.proofs.Bytes.WritingLemmas.{appends_none}
 use Rattle.cdb_difference.proofs.Passes.{PassList, pass_all, pass_more, pass_none, pass_prefix, pass_so_far, text_append}
 
-pub record PassSoFar (w : ℕ) (kind : ChangeKind) (b c : List ℕ) (left : Walked) (place : ℕ) (start now : Option (List ℕ)) : Type 0 where
+pub record PassSoFar (w : ℕ) (kind : ItemKind) (b c : List ℕ) (left : Walked) (place : ℕ) (start now : Option (List ℕ)) : Type 0 where
   pub changes : List Change
   pub listed : PassList w kind b c left place changes
   pub written : Appends start now (changes_text changes)
 
-pub so_far_none : (w : ℕ) (kind : ChangeKind) (b c : List ℕ) (left : Walked) (place : ℕ) (start : Option (List ℕ)) → left ≡ walk_of w b → place ≡ head_size w → PassSoFar w kind b c left place start start
+pub so_far_none : (w : ℕ) (kind : ItemKind) (b c : List ℕ) (left : Walked) (place : ℕ) (start : Option (List ℕ)) → left ≡ walk_of w b → place ≡ head_size w → PassSoFar w kind b c left place start start
 so_far_none w kind b c left place start is here = record { changes = []; listed = pass_none w kind b c left place is here; written = appends_none start }
 
 -- one key more, of which this was said
-module _ (w : ℕ) (kind : ChangeKind) (b c : List ℕ) (old new : Walked) (place next : ℕ) (pair : PlacedRecord) (key : List ℕ) (marked : Bool) (start mid now : Option (List ℕ)) (some : 0 < w) (agree : marked ≡ false → values_of key (walk_of w b).records ≡ values_of key (walk_of w c).records) (so_far : PassSoFar w kind b c old place start mid) (first : old ≡ with_first (record_in b pair) new)
+module _ (w : ℕ) (kind : ItemKind) (b c : List ℕ) (old new : Walked) (place next : ℕ) (pair : Pair) (key : List ℕ) (marked : Bool) (start mid now : Option (List ℕ)) (some : 0 < w) (agree : marked ≡ false → values_of key (walk_of w b).records ≡ values_of key (walk_of w c).records) (so_far : PassSoFar w kind b c old place start mid) (first : old ≡ with_first (record_in b pair) new)
     (lies : LiesAt w place pair) (ends : next ≡ behind pair) (inside : behind pair ≤ length b) (key_is : key ≡ bytes_of b pair.key) where
   pub unchanged : false ≡ (marked && is_first_changed w b c key pair.value.place) → PassSoFar w kind b c new next start mid
   unchanged is = record {
@@ -50,9 +50,9 @@ module _ (w : ℕ) (kind : ChangeKind) (b c : List ℕ) (old new : Walked) (plac
   changed_prefix is front = pass_prefix w kind b c new next so_far.changes (changes_at kind w b key) start mid now (changed_list is) so_far.written front
 
 -- the pass stopped between two keys
-pub stopped : (w : ℕ) (kind : ChangeKind) (b c : List ℕ) (left : Walked) (place : ℕ) (start now : Option (List ℕ)) → PassSoFar w kind b c left place start now → WritesPassPrefix w kind b c start now
+pub stopped : (w : ℕ) (kind : ItemKind) (b c : List ℕ) (left : Walked) (place : ℕ) (start now : Option (List ℕ)) → PassSoFar w kind b c left place start now → WritesPassPrefix w kind b c start now
 stopped w kind b c left place start now h = pass_so_far w kind b c left place h.changes start now h.listed h.written
 
 -- or at the end
-pub ended : (w : ℕ) (kind : ChangeKind) (b c : List ℕ) (left : Walked) (place : ℕ) (start now : Option (List ℕ)) → PassSoFar w kind b c left place start now → left ≡ no_walk → WritesPass w kind b c start now
+pub ended : (w : ℕ) (kind : ItemKind) (b c : List ℕ) (left : Walked) (place : ℕ) (start now : Option (List ℕ)) → PassSoFar w kind b c left place start now → left ≡ no_walk → WritesPass w kind b c start now
 ended w kind b c left place start now h none = pass_all w kind b c left place h.changes start now h.listed none h.written

@@ -13,15 +13,15 @@ use Rattle.cdb_form.specs.Format.Record.{KeyValue, record_size}
 use Rattle.cdb_form.specs.Format.Walk.{Walked, no_walk, walk_of, with_first, with_records}
 use Rattle.cdb_form.specs.Text.Amending.{Change, Putting, change_line}
 use Rattle.cdb_form.specs.Views.KnownBytes.{AppendsPrefix}
-use Rattle.cdb_form.specs.declared.change.ChangeKind.{ChangeKind}
-use Rattle.cdb_form.specs.declared.change.ChangeKind.TheVariants as kind
+use Rattle.cdb_form.specs.declared.item.ItemKind.{ItemKind}
+use Rattle.cdb_form.specs.declared.item.ItemKind.TheVariants as kind
 use Rattle.cdb_form.proofs.Bytes.WritingLemmas.{prefix_in, prefix_last}
 use Rattle.cdb_read.specs.Difference.{first_keys, is_changed, values_eq}
 use Rattle.cdb_read.specs.InOrder.{FindsInOrder, spans_from}
 use Rattle.cdb_read.specs.Lookup.{bytes_of, lookup_of}
 use Rattle.cdb_read.specs.Values.{values_of}
 use Rattle.cdb_read.specs.Views.Walking.{LiesAt, behind, record_in}
-use Rattle.cdb_read.specs.declared.span.PlacedRecord.{PlacedRecord}
+use Rattle.cdb_read.specs.declared.span.Pair.{Pair}
 use Rattle.cdb_read.proofs.Differences.{same_unchanged, there}
 use Rattle.cdb_read.proofs.FirstKeys.{chosen_push, first_keys_more}
 use Rattle.cdb_read.proofs.InOrderFiles.{spans_has, spans_other}
@@ -65,26 +65,26 @@ records_of w b = (walk_of w b).records
 abbrev chosen : ℕ → (b c : List ℕ) → List KeyValue → List (List ℕ)
 chosen w b c rs = filter (is_changed (records_of w b) (records_of w c)) (first_keys rs)
 
-abbrev said_of : ChangeKind → ℕ → (b c : List ℕ) → List KeyValue → List Change
+abbrev said_of : ItemKind → ℕ → (b c : List ℕ) → List KeyValue → List Change
 said_of kind w b c rs = flat_map (key_changes kind (records_of w b)) (chosen w b c rs)
 
 -- the walk gave some records, up to a place, of which these are the changes
-pub record PassList (w : ℕ) (kind : ChangeKind) (b c : List ℕ) (left : Walked) (place : ℕ) (changes : List Change) : Type 0 where
+pub record PassList (w : ℕ) (kind : ItemKind) (b c : List ℕ) (left : Walked) (place : ℕ) (changes : List Change) : Type 0 where
   pub done : List KeyValue
   pub all : walk_of w b ≡ with_records done left
   pub here : place ≡ head_size w + sum_by (record_size w) done
   pub are : FindsInOrder w b → FindsInOrder w c → changes ≡ said_of kind w b c done
 
-pub pass_none : (w : ℕ) (kind : ChangeKind) (b c : List ℕ) (left : Walked) (place : ℕ) → left ≡ walk_of w b → place ≡ head_size w → PassList w kind b c left place []
+pub pass_none : (w : ℕ) (kind : ItemKind) (b c : List ℕ) (left : Walked) (place : ℕ) → left ≡ walk_of w b → place ≡ head_size w → PassList w kind b c left place []
 unfolding first_keys
 pass_none w kind b c left place is here = record { done = []; all = sym is; here = omega arith; are = λ one two. refl }
 
 -- the changes of a key, as a look-up gives them
-changes_are : (kind : ChangeKind) (w : ℕ) (b key : List ℕ) → FindsInOrder w b → changes_at kind w b key ≡ key_changes kind (records_of w b) key
+changes_are : (kind : ItemKind) (w : ℕ) (b key : List ℕ) → FindsInOrder w b → changes_at kind w b key ≡ key_changes kind (records_of w b) key
 changes_are kind.Put w b key order = ap (map (λ value. Putting (record { key = key; value = value }))) (order.values key)
 changes_are kind.Remove w b key order = refl
 
-one_key : (kind : ChangeKind) (w : ℕ) (b key : List ℕ) (changed : Bool) → FindsInOrder w b → cond changed (changes_at kind w b key) [] ≡ flat_map (key_changes kind (records_of w b)) (cond changed (key ∷ []) [])
+one_key : (kind : ItemKind) (w : ℕ) (b key : List ℕ) (changed : Bool) → FindsInOrder w b → cond changed (changes_at kind w b key) [] ≡ flat_map (key_changes kind (records_of w b)) (cond changed (key ∷ []) [])
 one_key kind w b key true order = changes_are kind w b key order ∙ sym (append-nil (key_changes kind (records_of w b) key))
 one_key kind w b key false order = refl
 
@@ -94,7 +94,7 @@ only_marked true first differs none = refl
 only_marked false first differs none = sym (and_right first differs (none refl))
 
 -- one record more, and what was said of it
-pub pass_more : (w : ℕ) (kind : ChangeKind) (b c : List ℕ) (old new : Walked) (place next : ℕ) (changes said : List Change) (pair : PlacedRecord) (key : List ℕ) (marked changed : Bool) → 0 < w → (marked ≡ false → values_of key (records_of w b) ≡ values_of key (records_of w c)) → PassList w kind b c old place changes → old ≡ with_first (record_in b pair) new → LiesAt w place pair → next ≡ behind pair → behind pair ≤ length b
+pub pass_more : (w : ℕ) (kind : ItemKind) (b c : List ℕ) (old new : Walked) (place next : ℕ) (changes said : List Change) (pair : Pair) (key : List ℕ) (marked changed : Bool) → 0 < w → (marked ≡ false → values_of key (records_of w b) ≡ values_of key (records_of w c)) → PassList w kind b c old place changes → old ≡ with_first (record_in b pair) new → LiesAt w place pair → next ≡ behind pair → behind pair ≤ length b
     → key ≡ bytes_of b pair.key → changed ≡ (marked && is_first_changed w b c key pair.value.place) → said ≡ cond changed (changes_at kind w b key) [] → PassList w kind b c new next (changes ++ said)
 pass_more w kind b c old new place next changes said pair key marked changed some agree so_far first lies ends inside key_is changed_is said_is =
     let r = record_in b pair in
@@ -135,7 +135,7 @@ pass_more w kind b c old new place next changes said pair key marked changed som
     }
 
 -- what was said is the first of all that the pass says
-pub pass_front : (w : ℕ) (kind : ChangeKind) (b c : List ℕ) (left : Walked) (place : ℕ) (changes : List Change) → PassList w kind b c left place changes → FindsInOrder w b → FindsInOrder w c → (more : List ℕ) × (changes_text (pass_of kind w b c) ≡ changes_text changes ++ more)
+pub pass_front : (w : ℕ) (kind : ItemKind) (b c : List ℕ) (left : Walked) (place : ℕ) (changes : List Change) → PassList w kind b c left place changes → FindsInOrder w b → FindsInOrder w c → (more : List ℕ) × (changes_text (pass_of kind w b c) ≡ changes_text changes ++ more)
 pass_front w kind b c left place changes h one two =
     let changed = is_changed (records_of w b) (records_of w c) in
     let say = key_changes kind (records_of w b) in
@@ -151,7 +151,7 @@ pass_front w kind b c left place changes h one two =
     )
 
 -- nothing is left
-pub pass_all : (w : ℕ) (kind : ChangeKind) (b c : List ℕ) (left : Walked) (place : ℕ) (changes : List Change) (start now : Option (List ℕ)) → PassList w kind b c left place changes → left ≡ no_walk → Appends start now (changes_text changes) → WritesPass w kind b c start now
+pub pass_all : (w : ℕ) (kind : ItemKind) (b c : List ℕ) (left : Walked) (place : ℕ) (changes : List Change) (start now : Option (List ℕ)) → PassList w kind b c left place changes → left ≡ no_walk → Appends start now (changes_text changes) → WritesPass w kind b c start now
 pass_all w kind b c left place changes start now h none written =
     let all : walk_of w b ≡ with_records h.done no_walk = h.all ∙ ap (with_records h.done) none in
     let same : h.done ≡ records_of w b = sym (ap (λ (x : Walked). x.records) all ∙ append-nil h.done) in
@@ -163,7 +163,7 @@ pass_all w kind b c left place changes start now h none written =
     }
 
 -- the changes so far were written, and of those of one key more a prefix
-pub pass_prefix : (w : ℕ) (kind : ChangeKind) (b c : List ℕ) (left : Walked) (place : ℕ) (changes said : List Change) (start mid now : Option (List ℕ)) → PassList w kind b c left place (changes ++ said) → Appends start mid (changes_text changes) → AppendsPrefix mid now (changes_text said) → WritesPassPrefix w kind b c start now
+pub pass_prefix : (w : ℕ) (kind : ItemKind) (b c : List ℕ) (left : Walked) (place : ℕ) (changes said : List Change) (start mid now : Option (List ℕ)) → PassList w kind b c left place (changes ++ said) → Appends start mid (changes_text changes) → AppendsPrefix mid now (changes_text said) → WritesPassPrefix w kind b c start now
 pass_prefix w kind b c left place changes said start mid now h written front =
     let whole : AppendsPrefix start now (changes_text (changes ++ said)) = prefix_last start mid now (changes_text changes) (changes_text said) (changes_text (changes ++ said)) written front (text_append changes said) in
     record {
@@ -173,7 +173,7 @@ pass_prefix w kind b c left place changes said start mid now h written front =
     }
 
 -- and nothing more
-pub pass_so_far : (w : ℕ) (kind : ChangeKind) (b c : List ℕ) (left : Walked) (place : ℕ) (changes : List Change) (start now : Option (List ℕ)) → PassList w kind b c left place changes → Appends start now (changes_text changes) → WritesPassPrefix w kind b c start now
+pub pass_so_far : (w : ℕ) (kind : ItemKind) (b c : List ℕ) (left : Walked) (place : ℕ) (changes : List Change) (start now : Option (List ℕ)) → PassList w kind b c left place changes → Appends start now (changes_text changes) → WritesPassPrefix w kind b c start now
 pass_so_far w kind b c left place changes start now h written =
     let whole : AppendsPrefix start now (changes_text changes) = record { front = changes_text changes; more = []; split = sym (append-nil (changes_text changes)); appended = written } in
     record {

@@ -9,7 +9,7 @@ use Rattle.cdb_form.specs.Format.Record.{record_of}
 use Rattle.cdb_form.specs.Text.Amending.{Change, Putting, change_line}
 use Rattle.cdb_form.specs.Text.Native.{spelling_of}
 use Rattle.cdb_form.specs.Views.KnownBytes.{AppendsPrefix}
-use Rattle.cdb_form.specs.declared.change.ChangeKind.TheVariants.{Put}
+use Rattle.cdb_form.specs.declared.item.ItemKind.TheVariants.{Put}
 use Rattle.cdb_form.specs.declared.width.Width.{Ghosts as Widths}
 use Rattle.cdb_form.proofs.Bytes.WritingLemmas.{appends_then, prefix_then}
 use Rattle.cdb_read.specs.Lookup.{Found, bytes_of, lookup_of, nothing_found}

@@ -5,7 +5,7 @@ use Rattle.cdb_store.specs.declared.store.Store.{Ghosts}
 use Rattle.cdb_form.specs.Format.Record.{KeyValue}
 use Rattle.cdb_form.specs.Format.Walk.{Walked, with_first, with_records}
 use Rattle.cdb_read.specs.Views.Walking.{record_in}
-use Rattle.cdb_read.specs.declared.span.PlacedRecord.{PlacedRecord}
+use Rattle.cdb_read.specs.declared.span.Pair.{Pair}
 use Rattle.cdb_read.specs.declared.walking.bookmark.Bookmark.{Bookmark}
 use Rattle.cdb_difference.specs.Views.InStep.{AllMarked, AreInStep}
 use Rattle.cdb_difference.specs.Views.Marks.{Grows, is_marked}
@@ -14,29 +14,29 @@ use Rattle.cdb_difference.specs.declared.in_step.Places.{Places}
 use Rattle.cdb_difference.proofs.Marked.{in_step_other, in_step_own, in_step_same, marked_more}
 
 -- the next record of a walk
-abbrev pub Nexts : {S : Type 0} → ℕ → Ghosts S → S → (old new : Bookmark) → PlacedRecord → Type 0
+abbrev pub Nexts : {S : Type 0} → ℕ → Ghosts S → S → (old new : Bookmark) → Pair → Type 0
 Nexts w s store old new pair = (b : List ℕ) → s.image store b → left_from w b old ≡ with_first (record_in b pair) (left_from w b new)
 
 -- its key is marked
-abbrev pub IsMarkedIn : {S : Type 0} → Ghosts S → S → List ℕ → PlacedRecord → Type 0
+abbrev pub IsMarkedIn : {S : Type 0} → Ghosts S → S → List ℕ → Pair → Type 0
 IsMarkedIn s store words pair = (b : List ℕ) → s.image store b → is_marked words (record_in b pair).key ≡ true
 
 module _ {S T : Type 0} (w : ℕ) (s : Ghosts S) (t : Ghosts T) (own own_now : S) (other other_now : T) (words words_now : List ℕ) (at : Places) (first : OnlyReads s own own_now) (second : OnlyReads t other other_now) (grows : Grows words words_now) (h : AreInStep w s t own other words at) where
-  pub both_same : (then after : Bookmark) (mine theirs : PlacedRecord) → Nexts w s own_now at.own then mine → Nexts w t other_now at.other after theirs → ((b c : List ℕ) → s.image own_now b → t.image other_now c → record_in b mine ≡ record_in c theirs) → AreInStep w s t own_now other_now words (record { own = then; other = after })
+  pub both_same : (then after : Bookmark) (mine theirs : Pair) → Nexts w s own_now at.own then mine → Nexts w t other_now at.other after theirs → ((b c : List ℕ) → s.image own_now b → t.image other_now c → record_in b mine ≡ record_in c theirs) → AreInStep w s t own_now other_now words (record { own = then; other = after })
   both_same then after mine theirs one two same = record {
     own_damage = λ b is. h.own_damage b (first.images b is) ∙ ap (λ (x : Walked). x.damage) (one b is);
     other_damage = λ c it. h.other_damage c (second.images c it) ∙ ap (λ (x : Walked). x.damage) (two c it);
     in_step = λ b c is it. in_step_same w words b c _ _ _ _ (record_in b mine) (record_in c theirs) (same b c is it) (one b is) (two c it) (h.in_step b c (first.images b is) (second.images c it));
   }
 
-  pub own_marked : (then : Bookmark) (mine : PlacedRecord) → Nexts w s own_now at.own then mine → IsMarkedIn s own_now words_now mine → AreInStep w s t own_now other_now words_now (record { own = then; other = at.other })
+  pub own_marked : (then : Bookmark) (mine : Pair) → Nexts w s own_now at.own then mine → IsMarkedIn s own_now words_now mine → AreInStep w s t own_now other_now words_now (record { own = then; other = at.other })
   own_marked then mine one set = record {
     own_damage = λ b is. h.own_damage b (first.images b is) ∙ ap (λ (x : Walked). x.damage) (one b is);
     other_damage = λ c it. h.other_damage c (second.images c it);
     in_step = λ b c is it. in_step_own w words words_now b c _ _ _ (record_in b mine) grows (set b is) (one b is) (h.in_step b c (first.images b is) (second.images c it));
   }
 
-  pub other_marked : (after : Bookmark) (theirs : PlacedRecord) → Nexts w t other_now at.other after theirs → IsMarkedIn t other_now words_now theirs → AreInStep w s t own_now other_now words_now (record { own = at.own; other = after })
+  pub other_marked : (after : Bookmark) (theirs : Pair) → Nexts w t other_now at.other after theirs → IsMarkedIn t other_now words_now theirs → AreInStep w s t own_now other_now words_now (record { own = at.own; other = after })
   other_marked after theirs two set = record {
     own_damage = λ b is. h.own_damage b (first.images b is);
     other_damage = λ c it. h.other_damage c (second.images c it) ∙ ap (λ (x : Walked). x.damage) (two c it);

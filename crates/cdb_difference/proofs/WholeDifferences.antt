@@ -5,7 +5,7 @@ use Rattle.cdb_form.specs.Format.Record.{KeyValue}
 use Rattle.cdb_form.specs.Format.Walk.{walk_of}
 use Rattle.cdb_form.specs.Text.Amending.{Change, Removing, amending_text}
 use Rattle.cdb_form.specs.Views.KnownBytes.{AppendsPrefix}
-use Rattle.cdb_form.specs.declared.change.ChangeKind.TheVariants.{Put, Remove}
+use Rattle.cdb_form.specs.declared.item.ItemKind.TheVariants.{Put, Remove}
 use Rattle.cdb_form.proofs.Bytes.WritingLemmas.{appends_none, appends_then, prefix_in, prefix_last, prefix_then, same_appends}
 use Rattle.cdb_read.specs.Difference.{changed_keys, difference, puts_of}
 use Rattle.cdb_difference.specs.Difference.{changes_text, difference_of, key_changes, pass_changes, pass_of, WritesDifference, WritesPass, WritesPassPrefix, WritesDifferencePrefix}

@@ -11,8 +11,8 @@ use Rattle.cdb_form.specs.Text.Amending.{Change, Putting, Removing, amending_tex
 use Rattle.cdb_form.specs.Views.KnownBytes.{AppendsPrefix}
 use Rattle.cdb_form.specs.declared.damage.Damage.{Damage}
 use Rattle.cdb_form.specs.declared.damage.Damage.TheVariants as damage
-use Rattle.cdb_form.specs.declared.change.ChangeKind.{ChangeKind}
-use Rattle.cdb_form.specs.declared.change.ChangeKind.TheVariants as kind
+use Rattle.cdb_form.specs.declared.item.ItemKind.{ItemKind}
+use Rattle.cdb_form.specs.declared.item.ItemKind.TheVariants as kind
 use Rattle.cdb_read.specs.Difference.{changed_keys, difference, puts_of, values_eq}
 use Rattle.cdb_read.specs.InOrder.{FindsInOrder}
 use Rattle.cdb_read.specs.Lookup.{bytes_of, lookup_of}
@@ -40,7 +40,7 @@ is_first_changed w b c key place = first_at place (lookup_of w b key).spans
     && not (values_eq (values_at w b key) (values_at w c key))
 
 -- what is written of a changed key: its removal, or a put for each value that a look-up gives
-abbrev pub changes_at : ChangeKind → ℕ → (b key : List ℕ) → List Change
+abbrev pub changes_at : ItemKind → ℕ → (b key : List ℕ) → List Change
 changes_at kind.Put w b key = map (λ value. Putting (record_of key value)) (values_at w b key)
 changes_at kind.Remove w b key = Removing key ∷ []
 
@@ -72,19 +72,19 @@ abbrev pub changes_text : List Change → List ℕ
 changes_text changes = flat_map change_line changes
 
 -- the changes of a pass over rs, beside ss
-abbrev pub key_changes : ChangeKind → List KeyValue → List ℕ → List Change
+abbrev pub key_changes : ItemKind → List KeyValue → List ℕ → List Change
 key_changes kind.Put rs key = puts_of rs key
 key_changes kind.Remove rs key = Removing key ∷ []
 
-abbrev pub pass_changes : ChangeKind → (rs ss : List KeyValue) → List Change
+abbrev pub pass_changes : ItemKind → (rs ss : List KeyValue) → List Change
 pass_changes kind rs ss = flat_map (key_changes kind rs) (changed_keys rs ss)
 
-abbrev pub pass_of : ChangeKind → ℕ → (b c : List ℕ) → List Change
+abbrev pub pass_of : ItemKind → ℕ → (b c : List ℕ) → List Change
 pass_of kind w b c = pass_changes kind (walk_of w b).records (walk_of w c).records
 
 -- the walk has no damage, and some changes were written, those of the pass if both files give each
 -- key what their walks give
-pub record WritesPass (w : ℕ) (kind : ChangeKind) (b c : List ℕ) (start end : Option (List ℕ))
+pub record WritesPass (w : ℕ) (kind : ItemKind) (b c : List ℕ) (start end : Option (List ℕ))
     : Type 0 where
   pub whole : (walk_of w b).damage ≡ None
   pub changes : List Change
@@ -92,7 +92,7 @@ pub record WritesPass (w : ℕ) (kind : ChangeKind) (b c : List ℕ) (start end 
   pub are : FindsInOrder w b → FindsInOrder w c → changes ≡ pass_of kind w b c
 
 -- or a prefix of some
-pub record WritesPassPrefix (w : ℕ) (kind : ChangeKind) (b c : List ℕ)
+pub record WritesPassPrefix (w : ℕ) (kind : ItemKind) (b c : List ℕ)
     (start end : Option (List ℕ)) : Type 0 where
   pub changes : List Change
   pub written : AppendsPrefix start end (changes_text changes)

@@ -11,7 +11,7 @@ ghost use Rattle.cdb_difference.specs.Views.Looking.{ReadBoth};
 use crate::same::is_same_span;
 use crate::stop::Stop;
 use cdb_form::Width;
-use cdb_read::{AT_HAND, PlacedRecord, ReadFault, Reader, Span};
+use cdb_read::{AT_HAND, Pair, ReadFault, Reader, Span};
 use cdb_store::Store;
 
 /// How far ahead, in bytes, a key may be at first if one walk alone is to go on to it.
@@ -111,9 +111,9 @@ impl Guide {
     fn look<L: Width, S: Store, T: Store>(
         &mut self,
         own: &mut Reader<S, L>,
-        mine: PlacedRecord,
+        mine: Pair,
         other: &mut Reader<T, L>,
-        theirs: PlacedRecord,
+        theirs: Pair,
     ) -> Result<Advance, Stop>
         requires inside { IsInside (S.size own.old.store) mine }
         requires within { IsInside (T.size other.old.store) theirs }
@@ -144,9 +144,9 @@ impl Guide {
     pub(crate) fn advance<L: Width, S: Store, T: Store>(
         &mut self,
         own: &mut Reader<S, L>,
-        mine: PlacedRecord,
+        mine: Pair,
         other: &mut Reader<T, L>,
-        theirs: PlacedRecord,
+        theirs: Pair,
     ) -> Result<Advance, Stop>
         requires inside { IsInside (S.size own.old.store) mine }
         requires within { IsInside (T.size other.old.store) theirs }

@@ -16,7 +16,7 @@ use crate::marks::Marks;
 use crate::records::next_record;
 use crate::stop::Stop;
 use cdb_form::Width;
-use cdb_read::{Bookmark, PlacedRecord, ReadFault, Reader, Span, walk};
+use cdb_read::{Bookmark, Pair, ReadFault, Reader, Span, walk};
 use cdb_store::Store;
 
 /// Where two walks are.
@@ -32,7 +32,7 @@ struct Places {
 fn next_other<L: Width, T: Store>(
     other: &mut Reader<T, L>,
     bookmark: &mut Bookmark,
-) -> Result<Option<PlacedRecord>, Stop>
+) -> Result<Option<Pair>, Stop>
     ensures reads { OnlyReads T.Store other.old.store other.new.store }
     ensures gives { IfOk result (λ found. MatchOption found
         (GivesNoNext L.WORD T.Store other.new.store bookmark.old)

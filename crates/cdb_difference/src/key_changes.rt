@@ -8,9 +8,9 @@ ghost use Rattle.cdb_read.specs.Lookup.{bytes_of};
 ghost use Rattle.cdb_read.specs.Views.Reads.{CopyingFails};
 ghost use Rattle.cdb_difference.specs.Difference.{changes_at, changes_text, LookHas, ReadingStops};
 ghost use Rattle.cdb_read.specs.declared.fault.ReadFault.TheVariants.{Output};
-ghost use Rattle.cdb_form.specs.declared.change.ChangeKind.TheVariants.{Put};
+ghost use Rattle.cdb_form.specs.declared.item.ItemKind.TheVariants.{Put};
 
-use cdb_form::{ChangeKind, OutFault, Sink, Width, write_pieces, write_removal, write_whole};
+use cdb_form::{ItemKind, OutFault, Sink, Width, write_pieces, write_removal, write_whole};
 use cdb_read::{Finder, ReadFault, Reader, Span};
 use cdb_store::Store;
 use itoa::Buffer;
@@ -80,7 +80,7 @@ fn write_puts<L: Width, S: Store, W: Sink>(
 /// the writer holds a prefix of that.
 pub(crate) fn write_changes<L: Width, S: Store, W: Sink>(
     reader: &mut Reader<S, L>,
-    kind: ChangeKind,
+    kind: ItemKind,
     key: &[u8],
     w: &mut W,
 ) -> Result<(), ReadFault>
@@ -93,8 +93,8 @@ pub(crate) fn write_changes<L: Width, S: Store, W: Sink>(
         (LookHas L.WORD S.Store reader.new.store key.now) (W.failed w.new)) }
 {
     match kind {
-        ChangeKind::Put => write_puts(reader, key, w),
-        ChangeKind::Remove => {
+        ItemKind::Put => write_puts(reader, key, w),
+        ItemKind::Remove => {
             write_removal(w, key)?;
             Ok(())
         }

@@ -14,8 +14,8 @@ use crate::mark_hash::mark_hash;
 use crate::marks::Marks;
 use crate::records::next_record;
 use crate::stop::Stop;
-use cdb_form::{ChangeKind, Sink, Width};
-use cdb_read::{PlacedRecord, Reader, walk};
+use cdb_form::{ItemKind, Sink, Width};
+use cdb_read::{Pair, Reader, walk};
 use cdb_store::Store;
 use std::alloc::Global;
 
@@ -28,7 +28,7 @@ fn is_change<L: Width, S: Store, T: Store>(
     own: &mut Reader<S, L>,
     other: &mut Reader<T, L>,
     marks: &Marks,
-    pair: PlacedRecord,
+    pair: Pair,
     key: &mut Vec<u8>,
     mine: &mut [u8],
     theirs: &mut [u8],
@@ -62,7 +62,7 @@ pub(crate) fn write_pass<L: Width, S: Store, T: Store, W: Sink>(
     own: &mut Reader<S, L>,
     other: &mut Reader<T, L>,
     marks: &Marks,
-    kind: ChangeKind,
+    kind: ItemKind,
     w: &mut W,
 ) -> Result<(), Stop>
     requires agree { InBoth S.Store T.Store own.old.store other.old.store (λ b c.

@@ -4,7 +4,7 @@ ghost use Rattle.cdb_store.specs.Reads.{OnlyReads};
 ghost use Rattle.cdb_difference.specs.Views.NextRecord.{GivesNext, GivesNoNext, NextStops};
 
 use cdb_form::Width;
-use cdb_read::{Bookmark, PlacedRecord, ReadFault, Reader, walk_on};
+use cdb_read::{Bookmark, Pair, ReadFault, Reader, walk_on};
 use cdb_store::Store;
 
 /// Where the next record of a walk lies. The bookmark is then after it.
@@ -12,7 +12,7 @@ use cdb_store::Store;
 pub(crate) fn next_record<L: Width, S: Store>(
     reader: &mut Reader<S, L>,
     bookmark: &mut Bookmark,
-) -> Result<Option<PlacedRecord>, ReadFault>
+) -> Result<Option<Pair>, ReadFault>
     ensures reads { OnlyReads S.Store reader.old.store reader.new.store }
     ensures gives { IfOk result (λ found. MatchOption found
         (GivesNoNext L.WORD S.Store reader.new.store bookmark.old)

@@ -6,7 +6,7 @@ use crate::in_step::mark_changed;
 use crate::marks::Marks;
 use crate::pass::write_pass;
 use crate::stop::Stop;
-use cdb_form::{ChangeKind, Sink, Width, write_end};
+use cdb_form::{ItemKind, Sink, Width, write_end};
 use cdb_read::Reader;
 use cdb_store::Store;
 use std::alloc::Global;
@@ -35,8 +35,8 @@ pub fn write_difference<L: Width, S: Store, T: Store, W: Sink>(
 {
     let mut marks = Marks::new(alloc)?;
     mark_changed(old, new, &mut marks)?;
-    write_pass(alloc, old, new, &marks, ChangeKind::Remove, w)?;
-    match write_pass(alloc, new, old, &marks, ChangeKind::Put, w) {
+    write_pass(alloc, old, new, &marks, ItemKind::Remove, w)?;
+    match write_pass(alloc, new, old, &marks, ItemKind::Put, w) {
         Ok(()) => {}
         Err(stop) => return Err(stop.flipped()),
     }

@@ -3,4 +3,3 @@ pub mod RecordAreas
 pub mod RecordReads
 pub mod Stored
 pub mod StreamLemmas
-pub mod WalkText

@@ -13,7 +13,7 @@ ghost use Rattle.cdb_form.specs.Text.Parse.{listed, parse, parse_list};
 ghost use Rattle.cdb_form.specs.Laws.Walk.{IsWalk, WalksBack};
 ghost use Rattle.cdb_form.specs.Views.Pairs.{changes_of, key_values};
 
-use crate::change::Change;
+use crate::item::Item;
 use crate::record::Record;
 use crate::width::Width;
 
@@ -26,7 +26,7 @@ pub fn text_reads_back<L: Width>(_records: &[Record], _rest: &[u8])
 
 /// The amending text of some items, in the shortest decimals, is read as these items and as no
 /// others, whatever follows it.
-pub fn amending_text_reads_back<L: Width>(_items: &[Change], _rest: &[u8])
+pub fn amending_text_reads_back<L: Width>(_items: &[Item], _rest: &[u8])
     ensures { All (ChangeFits L.GREATEST) (changes_of _items.now) →
         ChangesReadBack L.GREATEST (changes_of _items.now) _rest.now }
 {}

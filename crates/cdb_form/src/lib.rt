@@ -7,12 +7,12 @@
 //! definitions, for words of 4 bytes (`Narrow`) and of 8 bytes (`Wide`).
 #![tactic(auto)]
 
-mod change;
 mod copying;
 mod damage;
 mod feeds;
 mod head;
 mod header;
+mod item;
 mod key_hash;
 pub mod laws;
 mod mode;
@@ -27,13 +27,13 @@ mod walk;
 mod width;
 mod writing;
 
-pub use change::{Change, ChangeKind};
 pub use damage::Damage;
 pub use feeds::Feeds;
 pub use head::{
     GREATEST_HEAD, Head, Pointer, head_size, read_head, read_pointer, write_head, write_pointer,
 };
 pub use header::{Header, read_header, write_header};
+pub use item::{Item, ItemKind};
 pub use key_hash::{hash, hash_more, home_slot, table_number};
 pub use mode::Mode;
 pub use pair::{GREATEST_PAIR, pair_size};

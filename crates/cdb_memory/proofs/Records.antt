@@ -11,9 +11,9 @@ use Rattle.cdb_form.specs.declared.header.Header.{Header}
 use Rattle.cdb_read.specs.Views.Spans.{HasSpans}
 use Rattle.cdb_read.specs.Views.Walking.{behind, LiesAt}
 use Rattle.cdb_read.specs.declared.walking.state.RecordArea.{RecordArea}
-use Rattle.cdb_read.specs.declared.span.PlacedRecord.{PlacedRecord}
+use Rattle.cdb_read.specs.declared.span.Pair.{Pair}
 use Rattle.cdb_read.proofs.Probing.Headers.{prefix_pair}
-use Rattle.cdb_read.proofs.Probing.PlacedRecords.{HeaderTells, either, least_below, no_header, no_body, stands}
+use Rattle.cdb_read.proofs.Probing.Pairs.{HeaderTells, either, least_below, no_header, no_body, stands}
 use Rattle.cdb_memory.specs.Walks.{StandsRecord}
 
 abbrev rest_at : (place end : ℕ) → place < end → RecordArea
@@ -38,14 +38,14 @@ no_body_here w {place = place} {end = end} file h e before room area few read =
     let s = no_body {rest = rest_at place end before} {w = w} {n = length file} {k = h.klen} {v = h.vlen} {images = λ b. b ≡ file} before room area few (tells_here w file h e read) in
     s.each file refl
 
-stands_here : (w : ℕ) {place end n : ℕ} (file : List ℕ) (h : Header) (pair : PlacedRecord) → 0 < w → n ≡ 2 * w → place < end → LiesAt w place pair → pair.key.len ≡ h.klen → pair.value.len ≡ h.vlen → behind pair ≤ length file → behind pair ≤ end → header_pair h ≡ pair_at w (take ((place + n) - place) (drop place file)) → StandsRecord w file place end pair
+stands_here : (w : ℕ) {place end n : ℕ} (file : List ℕ) (h : Header) (pair : Pair) → 0 < w → n ≡ 2 * w → place < end → LiesAt w place pair → pair.key.len ≡ h.klen → pair.value.len ≡ h.vlen → behind pair ≤ length file → behind pair ≤ end → header_pair h ≡ pair_at w (take ((place + n) - place) (drop place file)) → StandsRecord w file place end pair
 stands_here w {place = place} {end = end} file h pair some e before lies klen vlen inside early read =
     let t = tells_here w file h e read in
     let lengths : header_pair h ≡ record { first = pair.key.len; second = pair.value.len } = ap (λ k. let p : WordPair = record { first = k; second = h.vlen } in p) (sym klen) ∙ ap (λ v. let p : WordPair = record { first = pair.key.len; second = v } in p) (sym vlen) in
     let s = stands {rest = rest_at place end before} {w = w} {n = length file} {images = λ b. b ≡ file} pair some lies inside early (record { told = λ b is. t.told b is ∙ lengths; long = t.long }) in
     record { first = s.each file refl; lies = lies; before = early; inside = inside }
 
-pub spans_here : (w : ℕ) {place end n limit : ℕ} (file : List ℕ) (h : Header) (found : Option PlacedRecord) → 0 < w → n ≡ 2 * w → place < end → limit ≡ min (length file) end → place + 2 * w ≤ limit
+pub spans_here : (w : ℕ) {place end n limit : ℕ} (file : List ℕ) (h : Header) (found : Option Pair) → 0 < w → n ≡ 2 * w → place < end → limit ≡ min (length file) end → place + 2 * w ≤ limit
     → MatchOption found (limit < place + (2 * w + h.klen + h.vlen)) (HasSpans w place h limit) → header_pair h ≡ pair_at w (take ((place + n) - place) (drop place file))
     → MatchOption found (walk_from w place end (drop place file) ≡ damaged (Record place)) (StandsRecord w file place end)
 spans_here w {place = place} {end = end} {limit = limit} file h None some e before least room past read =

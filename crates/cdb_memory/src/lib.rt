@@ -8,6 +8,6 @@ mod meeting;
 mod search;
 mod walk;
 
-pub use cdb_read::{PlacedRecord, Span};
+pub use cdb_read::{Pair, Span};
 pub use search::{Search, begin, find, next};
 pub use walk::{RecordArea, first_record, next_record};

@@ -6,7 +6,7 @@ ghost use Rattle.cdb_form.specs.declared.damage.Damage.TheVariants.{Record};
 ghost use Rattle.cdb_memory.specs.Walks.{rest_of, WalkBegins, StandsRecord, WalkGivesRecord};
 
 use cdb_form::{Damage, Width, head_size, pair_size, read_head, read_header};
-use cdb_read::{PlacedRecord, has_bytes, spans};
+use cdb_read::{Pair, has_bytes, spans};
 
 /// Where the records lie that a walk has left.
 #[derive(Clone, Copy, Debug, PartialEq, Eq)]
@@ -19,7 +19,7 @@ pub struct RecordArea {
 
 /// Where the key and the value of the record at a place lie, if it is whole before the record end
 /// and inside the file.
-fn record_at<L: Width>(file: &[u8], place: u64, end: u64) -> Option<PlacedRecord>
+fn record_at<L: Width>(file: &[u8], place: u64, end: u64) -> Option<Pair>
     requires { place < end }
     ensures { MatchOption result
         (walk_from L.WORD place end (drop place file.now) ≡ damaged (Record place))
@@ -60,10 +60,7 @@ pub fn first_record<L: Width>(file: &[u8]) -> Result<RecordArea, Damage>
 ///
 /// A state that `first_record` or `next_record` didn't leave is safe to pass: the record lies
 /// inside the file. One that has passed its record end has ended.
-pub fn next_record<L: Width>(
-    file: &[u8],
-    rest: &mut RecordArea,
-) -> Result<Option<PlacedRecord>, Damage>
+pub fn next_record<L: Width>(file: &[u8], rest: &mut RecordArea) -> Result<Option<Pair>, Damage>
     ensures gives { IfOk result (λ found. MatchOption found
         (rest.old.end ≤ rest.old.place)
         (WalkGivesRecord L.WORD file.now rest.old rest.new)) }

@@ -3,4 +3,4 @@ pub mod Probes
 pub mod Beginnings
 pub mod Headers
 pub mod Searches
-pub mod PlacedRecords
+pub mod Pairs

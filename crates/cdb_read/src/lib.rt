@@ -22,7 +22,7 @@ pub use lookup::key_at::Look;
 pub use lookup::probe::{Probe, Searching, first_probe, lies_inside};
 pub use lookup::search::{Met, Probed};
 pub use reader::{Reader, Unread};
-pub use span::{PlacedRecord, Span, has_bytes, spans};
+pub use span::{Pair, Span, has_bytes, spans};
 pub use statistics::count::stats;
 pub use statistics::stats::Stats;
 pub use walking::bookmark::{Bookmark, walk_on};

@@ -17,7 +17,7 @@ pub struct Span {
 
 /// Where a record of a file lies.
 #[derive(Clone, Copy, Debug, PartialEq, Eq)]
-pub struct PlacedRecord {
+pub struct Pair {
     /// The place of the record.
     pub place: u64,
     /// Its key.
@@ -37,7 +37,7 @@ pub fn has_bytes(size: u64, place: u64, len: u64) -> bool
 /// Where the key and the value of the record with this header lie, which is at a place before a
 /// limit. There are none if the record passes the limit.
 #[inline(always)]
-pub fn spans<L: Width>(place: u64, header: Header, limit: u64) -> Option<PlacedRecord>
+pub fn spans<L: Width>(place: u64, header: Header, limit: u64) -> Option<Pair>
     requires { place + pair_size L.WORD ≤ limit }
     ensures { MatchOption result
         (limit < place + (pair_size L.WORD + header.klen + header.vlen))
@@ -57,5 +57,5 @@ pub fn spans<L: Width>(place: u64, header: Header, limit: u64) -> Option<PlacedR
     if !has_bytes(limit, value.place, value.len) {
         return None;
     }
-    Some(PlacedRecord { place, key, value })
+    Some(Pair { place, key, value })
 }

@@ -30,7 +30,7 @@ use Rattle.cdb_read.specs.Views.Walking.{record_in}
 use Rattle.cdb_read.specs.declared.fault.ReadFault.{ReadFault}
 use Rattle.cdb_read.specs.declared.fault.ReadFault.TheVariants as read
 use Rattle.cdb_read.specs.declared.walking.records.Walk.{Walk}
-use Rattle.cdb_read.specs.declared.span.PlacedRecord.{PlacedRecord}
+use Rattle.cdb_read.specs.declared.span.Pair.{Pair}
 use Rattle.cdb_show.specs.Views.Fault.{read_fault, make_fault, text_fault}
 use Rattle.cdb_show.specs.Views.Output.{OutputSays}
 use Rattle.cdb_tool.specs.Runs.Course.{TellFails}
@@ -104,7 +104,7 @@ window_added w images left rest m now xs bytes n k few is given x = record {
 }
 
 -- the next record was
-pub one_added : {S L : Type 0} {s : Ghosts S} {l : Widths L} (w : ℕ) (images : List ℕ → Type 0) (left rest : List ℕ → Walked) (m now : Maker S L s l) (pair : PlacedRecord) (k v : List ℕ) (put : Put) → ((b : List ℕ) → images b → left b ≡ with_first (record_in b pair) (rest b))
+pub one_added : {S L : Type 0} {s : Ghosts S} {l : Widths L} (w : ℕ) (images : List ℕ → Type 0) (left rest : List ℕ → Walked) (m now : Maker S L s l) (pair : Pair) (k v : List ℕ) (put : Put) → ((b : List ℕ) → images b → left b ≡ with_first (record_in b pair) (rest b))
     → ((b : List ℕ) → images b → k ≡ bytes_of b pair.key) → ((b : List ℕ) → images b → v ≡ bytes_of b pair.value) → Puts m now Add (record { key = k; value = v }) put → AddsNext w images left rest m now true
 one_added w images left rest m now pair k v put given key value puts = record {
   records = record { key = k; value = v } ∷ [];
@@ -201,7 +201,7 @@ unadded_so {l = l} rs r left rest m now make.TooBig all x holds a j = prefix_pas
 unadded_so rs r left rest m now make.NoMemory all x holds a j = tt
 unadded_so rs r left rest m now make.Writing all x holds a j = tt
 
-pub one_stopped : {S L : Type 0} {s : Ghosts S} {l : Widths L} (images : List ℕ → Type 0) (left rest : List ℕ → Walked) (m now : Maker S L s l) (pair : PlacedRecord) (k v : List ℕ) (f : MakeFault) → ((b : List ℕ) → images b → left b ≡ with_first (record_in b pair) (rest b))
+pub one_stopped : {S L : Type 0} {s : Ghosts S} {l : Widths L} (images : List ℕ → Type 0) (left rest : List ℕ → Walked) (m now : Maker S L s l) (pair : Pair) (k v : List ℕ) (f : MakeFault) → ((b : List ℕ) → images b → left b ≡ with_first (record_in b pair) (rest b))
     → ((b : List ℕ) → images b → k ≡ bytes_of b pair.key) → ((b : List ℕ) → images b → v ≡ bytes_of b pair.value) → FailsPutting m now Add (record { key = k; value = v }) f
     → (rs : List KeyValue) → Holds m rs → (b : List ℕ) → images b → WhereHonest (s.image now.store) (NotAdded l.WORD (limit_of m) (with_records rs (left b)) (make_fault f))
 one_stopped images left rest m now pair k v f given key value x rs holds b i = record {

@@ -9,7 +9,7 @@ use Rattle.cdb_read.specs.Views.Reads.{StoreFails}
 use Rattle.cdb_read.specs.Views.Walking.{behind, size_ahead}
 use Rattle.cdb_read.specs.declared.fault.ReadFault.{ReadFault}
 use Rattle.cdb_read.specs.declared.fault.ReadFault.TheVariants.{Table, Record, Device}
-use Rattle.cdb_read.specs.declared.span.PlacedRecord.{PlacedRecord}
+use Rattle.cdb_read.specs.declared.span.Pair.{Pair}
 use Rattle.cdb_read.specs.declared.walking.bookmark.Bookmark.{Bookmark}
 use Rattle.cdb_difference.specs.Views.Marks.{is_marked}
 use Rattle.cdb_difference.specs.Views.NextRecord.{NextStops, left_from}
@@ -49,7 +49,7 @@ abbrev pub bytes_ahead : Places → ℕ
 bytes_ahead at = size_ahead at.own.walking + size_ahead at.other.walking
 
 -- a record lies inside a file of so many bytes
-pub record IsInside (size : ℕ) (pair : PlacedRecord) : Type 0 where
+pub record IsInside (size : ℕ) (pair : Pair) : Type 0 where
   pub value : pair.value.place ≡ pair.key.place + pair.key.len
   pub inside : behind pair ≤ size
 

@@ -6,7 +6,7 @@ use Rattle.cdb_form.specs.declared.damage.Damage.TheVariants as damage
 use Rattle.cdb_read.specs.Views.Walking.{LiesAt, behind, next_place, record_in, size_ahead, walk_ahead}
 use Rattle.cdb_read.specs.declared.fault.ReadFault.{ReadFault}
 use Rattle.cdb_read.specs.declared.fault.ReadFault.TheVariants.{Table, Record, Device}
-use Rattle.cdb_read.specs.declared.span.PlacedRecord.{PlacedRecord}
+use Rattle.cdb_read.specs.declared.span.Pair.{Pair}
 use Rattle.cdb_read.specs.declared.walking.bookmark.Bookmark.{Bookmark}
 
 -- what is left
@@ -15,7 +15,7 @@ left_from w b mark = walk_ahead w b mark.walking
 
 -- the record at the next place is the first of what was left
 pub record GivesNext {S : Type 0} (w : ℕ) (s : Ghosts S) (store : S) (old new : Bookmark)
-    (pair : PlacedRecord) : Type 0 where
+    (pair : Pair) : Type 0 where
   pub first : (b : List ℕ) → s.image store b
       → left_from w b old ≡ with_first (record_in b pair) (left_from w b new)
   pub lies : LiesAt w (next_place w old.walking) pair

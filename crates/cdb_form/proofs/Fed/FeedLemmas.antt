@@ -47,10 +47,6 @@ from_both a b P Q one p q = record {
       (s.0, s.1, (s.2, subst (λ x. Q x rest) (one whole t.0 s.0 t.1 s.1) t.2));
 }
 
--- what may have been left before these bytes were taken
-pub from_consumed : (old new : Feed) (bytes : List ℕ) → Consumes old new bytes → FromTo old new (λ text rest. text ≡ bytes ++ rest)
-from_consumed old new bytes c = record { known = c.known; back = λ k whole rest m. (bytes ++ rest, c.back k whole rest m, refl) }
-
 -- one relation says less than another
 pub from_weaker : (old new : Feed) (P Q : List ℕ → List ℕ → Type 0) → FromTo old new P → ((text rest : List ℕ) → P text rest → Q text rest) → FromTo old new Q
 from_weaker old new P Q f h = record { known = f.known; back = λ k whole rest m. let t = f.back k whole rest m in (t.0, t.1, h t.0 rest t.2) }

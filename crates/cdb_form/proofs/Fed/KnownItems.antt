@@ -15,8 +15,8 @@ use Rattle.cdb_form.specs.Views.FormReader.{Ends, Fails, FailsAs, GivesEnd, Give
 use Rattle.cdb_form.specs.Views.KnownBytes.{LosesAtMost, Took}
 use Rattle.cdb_form.specs.Views.ListReader as list
 use Rattle.cdb_form.specs.Views.Pairs.{change_in, key_value}
-use Rattle.cdb_form.specs.declared.change.ChangeKind.{ChangeKind}
-use Rattle.cdb_form.specs.declared.change.ChangeKind.TheVariants.{Put, Remove}
+use Rattle.cdb_form.specs.declared.item.ItemKind.{ItemKind}
+use Rattle.cdb_form.specs.declared.item.ItemKind.TheVariants.{Put, Remove}
 use Rattle.cdb_form.specs.Views.Reading.{Gives}
 use Rattle.cdb_form.specs.declared.reading_whole.Extent.{Extent}
 use Rattle.cdb_form.specs.declared.reading_whole.Extent.TheVariants.{All, More}
@@ -81,7 +81,7 @@ known_fails_key g remaining old new f h = record { failed = h.failed; meets = λ
 -- ---- what a call answered
 
 -- of a text of either form
-pub known_found : {R L : Type 0} (g : ℕ) (remaining : R → Option (List ℕ)) (old new : FormReader R L) (into : Record) (found : Option ChangeKind)
+pub known_found : {R L : Type 0} (g : ℕ) (remaining : R → Option (List ℕ)) (old new : FormReader R L) (into : Record) (found : Option ItemKind)
     → MatchOption found (fed.GivesEnd (feed_of remaining) old new) (λ kind. fed.GivesItem SpellsChange g (feed_of remaining) old new (change_in kind into)) → MatchOption found (GivesEnd remaining old new) (λ kind. GivesItem SpellsChange g remaining old new (change_in kind into))
 known_found g remaining old new into None h = known_ends remaining _ _ old.source new.source h
 known_found g remaining old new into (Some kind) h = known_gives SpellsChange g remaining old new (change_in kind into) h
@@ -94,7 +94,7 @@ pub known_put : {R L : Type 0} (g : ℕ) (remaining : R → Option (List ℕ)) (
 known_put g remaining old new r h = put_of g remaining old new r (known_gives SpellsChange g remaining old new (Putting r) h)
 
 -- of a native text, which has puts alone
-pub known_native : {R L : Type 0} (g : ℕ) (remaining : R → Option (List ℕ)) (old new : FormReader R L) (into : Record) (found : Option ChangeKind) → found ≢ Some Remove
+pub known_native : {R L : Type 0} (g : ℕ) (remaining : R → Option (List ℕ)) (old new : FormReader R L) (into : Record) (found : Option ItemKind) → found ≢ Some Remove
     → MatchOption found (fed.GivesEnd (feed_of remaining) old new) (λ kind. fed.GivesItem SpellsChange g (feed_of remaining) old new (change_in kind into)) → MatchBool (is_some found) (GivesItem Spells g remaining old new (key_value into)) (GivesEnd remaining old new)
 known_native g remaining old new into None puts h = known_ends remaining _ _ old.source new.source h
 known_native g remaining old new into (Some Put) puts h = known_put g remaining old new (key_value into) h

@@ -101,13 +101,6 @@ pub false_weaker : (A B : Type 0) (b : Bool) → (A → B) → OnFalse b A → O
 false_weaker A B true f h = tt
 false_weaker A B false f h = f h
 
--- nothing was read, as the next place is the record end
-pub end_kept : (w place end : ℕ) (feed : Feed) → place ≡ end → ((text : List ℕ) → walk_from w place end text ≡ no_walk)
-    → FromTo feed feed (λ text rest. (walk_from w place end text ≡ no_walk) × (drop 0 rest ≡ drop (end - place) text))
-end_kept w place end feed empty none =
-    let zero : end - place ≡ 0 = omega arith in
-    from_kept feed feed _ (nothing_taken feed) (λ text. (none text, sym (ap (λ (k : ℕ). drop k text) zero)))
-
 -- the head, and then the first record
 pub first_then : (w place end : ℕ) (old mid new : Feed) (r : KeyValue) (left : List ℕ → Walked) (behind : List ℕ → List ℕ) → HeadThen w place end old mid → place ≡ head_size w → place ≤ end
     → FromTo mid new (λ text rest. (walk_from w place end text ≡ with_first r (left rest)) × (behind rest ≡ drop (end - place) text))

@@ -65,11 +65,6 @@ fails_behind P Q old mid new from at to first f read counted later k h =
     from_behind old mid new first (λ text rest. Q (seen from to f text) (told to f)) read
     (from_weaker mid new _ _ h (λ text rest p. subst (λ t. Q t (told to f)) (sym (seen_behind from at to first text f counted later)) (k (seen at to f text) p)))
 
--- What a fault says of a text says less of it.
-pub fails_weaker : (P Q : List ℕ → TextFault → Type 0) (old new : Feed) (from to : ℕ) (f : TextFault) → ((text : List ℕ) → P text (told to f) → Q text (told to f))
-    → FromTo old new (λ text rest. P (seen from to f text) (told to f)) → FromTo old new (λ text rest. Q (seen from to f text) (told to f))
-fails_weaker P Q old new from to f k h = from_weaker old new _ _ h (λ text rest p. k (seen from to f text) p)
-
 -- and what was taken
 pub took_behind : (old mid new : Feed) (from at to : ℕ) (first : List ℕ) → Consumes old mid first → at ≡ from + length first → Took mid new at to → Took old new from to
 took_behind old mid new from at to first read counted t = record {

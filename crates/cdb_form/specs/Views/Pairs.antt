@@ -6,10 +6,10 @@ use Rattle.cdb_form.specs.Text.Amending.{Change, Putting, Removing}
 use Rattle.cdb_form.specs.declared.head.Head.{Head}
 use Rattle.cdb_form.specs.declared.head.Pointer.{Pointer}
 use Rattle.cdb_form.specs.declared.header.Header.{Header}
-use Rattle.cdb_form.specs.declared.change.Change.{Change as CodeChange}
-use Rattle.cdb_form.specs.declared.change.Change.TheVariants.{Put, Remove}
-use Rattle.cdb_form.specs.declared.change.ChangeKind.{ChangeKind}
-use Rattle.cdb_form.specs.declared.change.ChangeKind.TheVariants as kind
+use Rattle.cdb_form.specs.declared.item.Item.{Item}
+use Rattle.cdb_form.specs.declared.item.Item.TheVariants.{Put, Remove}
+use Rattle.cdb_form.specs.declared.item.ItemKind.{ItemKind}
+use Rattle.cdb_form.specs.declared.item.ItemKind.TheVariants as kind
 use Rattle.cdb_form.specs.declared.pair.TwoWords.{TwoWords}
 use Rattle.cdb_form.specs.declared.record.Record.{Record}
 use Rattle.cdb_form.specs.declared.slot.Slot.{Slot}
@@ -22,15 +22,15 @@ abbrev pub key_values : List Record → List KeyValue
 key_values rs = map key_value rs
 
 -- an item without where it lies in memory
-abbrev pub change_of : CodeChange → Change
+abbrev pub change_of : Item → Change
 change_of (Put r) = Putting (key_value r)
 change_of (Remove key) = Removing key.items
 
-abbrev pub changes_of : List CodeChange → List Change
+abbrev pub changes_of : List Item → List Change
 changes_of items = map change_of items
 
 -- the item that was read over a record, of this kind: a removal has its key
-abbrev pub change_in : ChangeKind → Record → Change
+abbrev pub change_in : ItemKind → Record → Change
 change_in kind.Put r = Putting (key_value r)
 change_in kind.Remove r = Removing r.key.items
 

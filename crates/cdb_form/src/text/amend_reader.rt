@@ -6,7 +6,7 @@ ghost use Rattle.cdb_form.specs.Views.Prefix.{shown_by};
 ghost use Rattle.cdb_form.specs.Views.Pairs.{change_in, change_of};
 ghost use Rattle.cdb_form.specs.Views.Repeats.{Repeats};
 
-use crate::change::{Change, ChangeKind};
+use crate::item::{Item, ItemKind};
 use crate::record::Record;
 use crate::text::at_hand::AtHand;
 use crate::text::fault::TextFault;
@@ -66,7 +66,7 @@ impl<R: Read, L: Width> AmendReader<R, L> {
     ///
     /// After the end it answers `Ok(None)` for good, and after a fault that fault. The faults are
     /// those of `TextReader::next`, of the larger form.
-    pub fn next(&mut self) -> Result<Option<Change>, TextFault>
+    pub fn next(&mut self) -> Result<Option<Item>, TextFault>
         ensures gives { IfOk result (λ found. MatchOption found
             (GivesEnd R.remaining self.old self.new)
             (λ item. GivesChange L.GREATEST R.remaining self.old self.new (change_of item))) }
@@ -78,15 +78,15 @@ impl<R: Read, L: Width> AmendReader<R, L> {
         let mut record = Record::empty(self.alloc);
         match self.read_into(&mut record)? {
             None => Ok(None),
-            Some(ChangeKind::Put) => Ok(Some(Change::Put(record))),
-            Some(ChangeKind::Remove) => Ok(Some(Change::Remove(record.key))),
+            Some(ItemKind::Put) => Ok(Some(Item::Put(record))),
+            Some(ItemKind::Remove) => Ok(Some(Item::Remove(record.key))),
         }
     }
 
     /// Reads the next item over a record, whose memory it takes, and answers its kind. The answers
     /// are those of `next`. A removal leaves its key in the record's `key`, and any bytes in its
     /// `value`; after `None` and after a fault the record holds anything.
-    pub fn read_into(&mut self, into: &mut Record) -> Result<Option<ChangeKind>, TextFault>
+    pub fn read_into(&mut self, into: &mut Record) -> Result<Option<ItemKind>, TextFault>
         ensures gives { IfOk result (λ found. MatchOption found
             (GivesEnd R.remaining self.old self.new)
             (λ kind. GivesChange L.GREATEST R.remaining self.old self.new

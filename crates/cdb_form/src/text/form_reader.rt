@@ -5,11 +5,11 @@ ghost use Rattle.cdb_form.specs.Format.Record.{KeyValue};
 ghost use Rattle.cdb_form.specs.Text.Amending.{Putting, SpellsChange};
 ghost use Rattle.cdb_form.specs.Views.Prefix.{shown_by};
 ghost use Rattle.cdb_form.specs.Views.Pairs.{change_in};
-ghost use Rattle.cdb_form.specs.declared.change.ChangeKind.TheVariants.{Remove};
+ghost use Rattle.cdb_form.specs.declared.item.ItemKind.TheVariants.{Remove};
 ghost use Rattle.cdb_form.specs.Views.Repeats.{Repeats};
 
-use crate::change::ChangeKind;
 use crate::feeds::Feeds;
+use crate::item::ItemKind;
 use crate::record::Record;
 use crate::text::at_hand::AtHand;
 use crate::text::fault::TextFault;
@@ -83,7 +83,7 @@ impl<R: Feeds, L: Width> FormReader<R, L> {
         &mut self,
         into: &mut Record,
         removals: bool,
-    ) -> Result<Option<ChangeKind>, TextFault>
+    ) -> Result<Option<ItemKind>, TextFault>
         ensures gives { IfOk result (λ found. MatchOption found
             (GivesEnd R.feed self.old self.new)
             (λ kind. GivesItem SpellsChange L.GREATEST R.feed self.old self.new

@@ -13,10 +13,10 @@ ghost use Rattle.cdb_form.specs.Views.NativeParser.{FailsEntry, FailsItem};
 ghost use Rattle.cdb_form.specs.Fed.NativeParser.{FailsIn, Leaves, ReadsBehind};
 ghost use Rattle.cdb_form.specs.Views.Source.{budget};
 ghost use Rattle.cdb_form.specs.Views.Pairs.{change_in, key_value};
-ghost use Rattle.cdb_form.specs.declared.change.ChangeKind.TheVariants.{Remove};
+ghost use Rattle.cdb_form.specs.declared.item.ItemKind.TheVariants.{Remove};
 
-use crate::change::ChangeKind;
 use crate::feeds::Feeds;
+use crate::item::ItemKind;
 use crate::record::Record;
 use crate::text::fault::TextFault;
 use crate::text::source::Source;
@@ -178,7 +178,7 @@ impl<R: Feeds> Source<R> {
         into: &mut Record,
         greatest: u64,
         removals: bool,
-    ) -> Result<Option<ChangeKind>, TextFault>
+    ) -> Result<Option<ItemKind>, TextFault>
         requires least { 9 ≤ greatest }
         requires most { greatest < 2 ^ 63 }
         ensures read { IfOk result (λ found. MatchOption found
@@ -201,11 +201,11 @@ impl<R: Feeds> Source<R> {
             Some(b'\n') => Ok(None),
             Some(b'+') => {
                 self.record(into, greatest)?;
-                Ok(Some(ChangeKind::Put))
+                Ok(Some(ItemKind::Put))
             }
             Some(b'-') if removals => {
                 self.marked_key(into, greatest)?;
-                Ok(Some(ChangeKind::Remove))
+                Ok(Some(ItemKind::Remove))
             }
             Some(_) => Err(TextFault::Syntax(start)),
         }

@@ -2,7 +2,7 @@
 // writers that fail.
 use super::fakes::{Behind, FakeReader, FakeWriter};
 use cdb_form::{
-    AmendReader, Change, ChangeKind, Narrow, OutFault, Record, TextFault, Wide, Width, write_end,
+    AmendReader, Item, ItemKind, Narrow, OutFault, Record, TextFault, Wide, Width, write_end,
     write_record, write_removal,
 };
 use std::alloc::{AllocError, Global};
@@ -13,10 +13,10 @@ use std::test::Fail;
 const MIXED: &[u8] = b"+3,5:one->Hello\n-3:one\n-0:\n+0,0:->\n-003:two\n\n";
 
 /// Puts a record as `<key|value>` behind others, or a removal as `[key]`.
-fn show(kind: ChangeKind, record: &Record, shown: &mut Vec<u8>) -> Result<(), AllocError> {
+fn show(kind: ItemKind, record: &Record, shown: &mut Vec<u8>) -> Result<(), AllocError> {
     let parts: [&[u8]; 5] = match kind {
-        ChangeKind::Put => [b"<", &record.key, b"|", &record.value, b">"],
-        ChangeKind::Remove => [b"[", &record.key, b"]", b"", b""],
+        ItemKind::Put => [b"<", &record.key, b"|", &record.value, b">"],
+        ItemKind::Remove => [b"[", &record.key, b"]", b"", b""],
     };
     for part in parts {
         shown.extend_from_slice(part)?;
@@ -142,18 +142,18 @@ fn each_cut_text_ends_early_and_each_failure_is_input(rt: HostRuntime) -> Result
 }
 
 /// Whether an item puts this record.
-fn is_put(item: &Change, key: &[u8], value: &[u8]) -> bool {
+fn is_put(item: &Item, key: &[u8], value: &[u8]) -> bool {
     match item {
-        Change::Put(it) => it.key.as_slice() == key && it.value.as_slice() == value,
-        Change::Remove(_) => false,
+        Item::Put(it) => it.key.as_slice() == key && it.value.as_slice() == value,
+        Item::Remove(_) => false,
     }
 }
 
 /// Whether an item removes this key.
-pub(super) fn is_removal(item: &Change, key: &[u8]) -> bool {
+pub(super) fn is_removal(item: &Item, key: &[u8]) -> bool {
     match item {
-        Change::Put(_) => false,
-        Change::Remove(it) => it.as_slice() == key,
+        Item::Put(_) => false,
+        Item::Remove(it) => it.as_slice() == key,
     }
 }
 

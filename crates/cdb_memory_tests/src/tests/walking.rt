@@ -1,19 +1,19 @@
 // Walks: records in order, damage, and states that nobody left.
 use super::files::{changed, four_file, two_file, wide_file};
 use cdb_form::{Damage, Narrow, Wide, Width, head_size};
-use cdb_memory::{PlacedRecord, RecordArea, Span, first_record, next_record};
+use cdb_memory::{Pair, RecordArea, Span, first_record, next_record};
 use std::prelude::*;
 use std::test::Fail;
 
 /// What a call of `next_record` answers.
-type Answer = Result<Option<PlacedRecord>, Damage>;
+type Answer = Result<Option<Pair>, Damage>;
 
 /// That the walk has ended.
 const NONE: Answer = Ok(None);
 
 /// A record: its place, the place and the length of its key, and those of its value.
 fn pair(place: u64, key: (u64, u64), value: (u64, u64)) -> Answer {
-    Ok(Some(PlacedRecord {
+    Ok(Some(Pair {
         place,
         key: Span {
             place: key.0,

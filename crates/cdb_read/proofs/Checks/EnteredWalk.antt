@@ -13,7 +13,7 @@ use Rattle.cdb_read.specs.Views.Checked.{HasEntries}
 use Rattle.cdb_read.specs.Views.RecordLists.{IsRising, ListsMark, HasAdded}
 use Rattle.cdb_read.specs.Views.Walking.{record_in, behind, LiesAt}
 use Rattle.cdb_read.specs.declared.checking.table_records.TableRecords.{TableRecords}
-use Rattle.cdb_read.specs.declared.span.PlacedRecord.{PlacedRecord}
+use Rattle.cdb_read.specs.declared.span.Pair.{Pair}
 use Rattle.cdb_read.proofs.Lists.Rising.{rising_entries, rising_from_one}
 use Rattle.cdb_read.proofs.Walked.WalkedLengths.{given_one, ends_behind}
 
@@ -45,7 +45,7 @@ entries_push w at (q ∷ rs) r =
     (entries_push w (at + record_size w q) rs r
     ∙ ap (λ (p : ℕ). let e : WordPair = record { first = key_hash r.key; second = p } in entries_from w (at + record_size w q) rs ++ e ∷ []) z)
 
-pub entered_more : (w place next : ℕ) (b : List ℕ) (old new : Walked) (pair : PlacedRecord) (hash : ℕ) (kept now : List TableRecords) → 0 < w → EnteredSoFar w b old place kept → old ≡ with_first (record_in b pair) new → LiesAt w place pair → next ≡ behind pair → behind pair ≤ length b
+pub entered_more : (w place next : ℕ) (b : List ℕ) (old new : Walked) (pair : Pair) (hash : ℕ) (kept now : List TableRecords) → 0 < w → EnteredSoFar w b old place kept → old ≡ with_first (record_in b pair) new → LiesAt w place pair → next ≡ behind pair → behind pair ≤ length b
     → hash ≡ key_hash (bytes_of b pair.key) → HasAdded kept now (record { first = hash; second = pair.place }) → EnteredSoFar w b new next now
 entered_more w place next b old new pair hash kept now some so_far first lies ends inside hashed more =
     let r = record_in b pair in

@@ -19,7 +19,7 @@ use Rattle.cdb_read.specs.Lookup.{is_whole, value_span}
 use Rattle.cdb_read.specs.Views.Search.{TellsSame, LooksAt}
 use Rattle.cdb_read.specs.declared.lookup.key_at.Look.TheVariants as look
 use Rattle.cdb_read.specs.Views.Spans.{HasSpans}
-use Rattle.cdb_read.specs.declared.span.PlacedRecord.{PlacedRecord}
+use Rattle.cdb_read.specs.declared.span.Pair.{Pair}
 use Rattle.cdb_read.specs.declared.span.Span.{Span}
 use Rattle.cdb_read.specs.Views.Window.{Shows, Covers}
 use Rattle.cdb_read.specs.declared.window.Window.{Window}
@@ -107,7 +107,7 @@ no_room {w = w} {p = p} key h lt = record {
 whole_here : {w p k v n : ℕ} {images : List ℕ → Type 0} → HasLengths w p k v n images → head_size w ≤ p → p + (2 * w + k + v) ≤ n → (b : List ℕ) → images b → is_whole w b p ≡ true
 whole_here {w = w} {p = p} h low fits b is = whole w b p low (let m = h.long b is in let s = h.size b is in omega arith)
 
-key_behind : {w place limit : ℕ} {h : Header} {pair : PlacedRecord} → HasSpans w place h limit pair → pair.key.place ≡ place + 2 * w
+key_behind : {w place limit : ℕ} {h : Header} {pair : Pair} → HasSpans w place h limit pair → pair.key.place ≡ place + 2 * w
 key_behind has =
     let lies = has.lies in
     let here = lies.here in
@@ -115,7 +115,7 @@ key_behind has =
     omega arith
 
 -- the record ends before the limit
-spans_fit : {w place limit : ℕ} {h : Header} {pair : PlacedRecord} → HasSpans w place h limit pair → place + (2 * w + h.klen + h.vlen) ≤ limit
+spans_fit : {w place limit : ℕ} {h : Header} {pair : Pair} → HasSpans w place h limit pair → place + (2 * w + h.klen + h.vlen) ≤ limit
 spans_fit has =
     let at = key_behind has in
     let value = has.lies.value in
@@ -125,7 +125,7 @@ spans_fit has =
     omega arith
 
 -- another length, another key
-pub other_length : {w p n : ℕ} {head : Header} {pair : PlacedRecord} {images : List ℕ → Type 0} (key : List ℕ) → HasLengths w p head.klen head.vlen n images → head_size w ≤ p → HasSpans w p head n pair → pair.key.len ≢ length key → LooksAt w key p look.Other images
+pub other_length : {w p n : ℕ} {head : Header} {pair : Pair} {images : List ℕ → Type 0} (key : List ℕ) → HasLengths w p head.klen head.vlen n images → head_size w ≤ p → HasSpans w p head n pair → pair.key.len ≢ length key → LooksAt w key p look.Other images
 other_length {w = w} {p = p} {head = head} key h low has ne = record {
   each = λ b is.
       let l = h.long b is in
@@ -139,10 +139,10 @@ other_length {w = w} {p = p} {head = head} key h low has ne = record {
 }
 
 -- the key that stands there
-key_here : {w p n : ℕ} {head : Header} {pair : PlacedRecord} {images : List ℕ → Type 0} (key : List ℕ) → HasLengths w p head.klen head.vlen n images → HasSpans w p head n pair → pair.key.len ≡ length key → (b : List ℕ) → images b → (prefix_record w (drop p b)).key ≡ part pair.key.place (length key) b
+key_here : {w p n : ℕ} {head : Header} {pair : Pair} {images : List ℕ → Type 0} (key : List ℕ) → HasLengths w p head.klen head.vlen n images → HasSpans w p head n pair → pair.key.len ≡ length key → (b : List ℕ) → images b → (prefix_record w (drop p b)).key ≡ part pair.key.place (length key) b
 key_here {w = w} {p = p} key h has same b is = h.key b is ∙ ap (λ v. part (p + 2 * w) v b) (sym has.klen ∙ same) ∙ ap (λ v. part v (length key) b) (sym (key_behind has))
 
-pub other_key : {w p n : ℕ} {head : Header} {pair : PlacedRecord} {images : List ℕ → Type 0} (key : List ℕ) → HasLengths w p head.klen head.vlen n images → head_size w ≤ p → HasSpans w p head n pair → pair.key.len ≡ length key → TellsSame false pair.key.place key images → LooksAt w key p look.Other images
+pub other_key : {w p n : ℕ} {head : Header} {pair : Pair} {images : List ℕ → Type 0} (key : List ℕ) → HasLengths w p head.klen head.vlen n images → head_size w ≤ p → HasSpans w p head n pair → pair.key.len ≡ length key → TellsSame false pair.key.place key images → LooksAt w key p look.Other images
 other_key {w = w} {p = p} key h low has same tells = record {
   each = λ b is. (
     whole_here h low (spans_fit has) b is,
@@ -153,7 +153,7 @@ other_key {w = w} {p = p} key h low has same tells = record {
   );
 }
 
-pub same_key : {w p n : ℕ} {head : Header} {pair : PlacedRecord} {images : List ℕ → Type 0} (key : List ℕ) → HasLengths w p head.klen head.vlen n images → head_size w ≤ p → HasSpans w p head n pair → pair.key.len ≡ length key → TellsSame true pair.key.place key images → LooksAt w key p (look.Value pair.value) images
+pub same_key : {w p n : ℕ} {head : Header} {pair : Pair} {images : List ℕ → Type 0} (key : List ℕ) → HasLengths w p head.klen head.vlen n images → head_size w ≤ p → HasSpans w p head n pair → pair.key.len ≡ length key → TellsSame true pair.key.place key images → LooksAt w key p (look.Value pair.value) images
 same_key {w = w} {p = p} {head = head} {pair = pair} key h low has same tells =
     let at = key_behind has in
     let behind = has.lies.value in

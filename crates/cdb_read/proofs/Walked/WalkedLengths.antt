@@ -23,7 +23,7 @@ use Rattle.cdb_read.specs.declared.fault.ReadFault.{ReadFault}
 use Rattle.cdb_read.specs.declared.fault.ReadFault.TheVariants.{Short, Table, Record, Slot, Twice, Unindexed, Device, NoMemory, Output}
 use Rattle.cdb_read.specs.declared.walking.records.Walk.{Walk}
 use Rattle.cdb_read.specs.declared.statistics.lengths.Lengths.{Lengths}
-use Rattle.cdb_read.specs.declared.span.PlacedRecord.{PlacedRecord}
+use Rattle.cdb_read.specs.declared.span.Pair.{Pair}
 use Rattle.cdb_read.specs.declared.span.Span.{Span}
 use Rattle.cdb_read.specs.declared.statistics.spread.Spread.{Spread}
 
@@ -47,7 +47,7 @@ given_one w b done old new r all first =
     all ∙ ap (with_records done) first ∙ ap (λ rs. let walk : Walked = record { records = rs; damage = new.damage } in walk) (sym (append_assoc done (r ∷ []) new.records))
 
 -- where it ends
-pub ends_behind : {w place next : ℕ} {pair : PlacedRecord} (b : List ℕ) (done : List KeyValue) → place ≡ head_size w + sum_by (record_size w) done → LiesAt w place pair → next ≡ behind pair → behind pair ≤ length b
+pub ends_behind : {w place next : ℕ} {pair : Pair} (b : List ℕ) (done : List KeyValue) → place ≡ head_size w + sum_by (record_size w) done → LiesAt w place pair → next ≡ behind pair → behind pair ≤ length b
     → next ≡ head_size w + sum_by (record_size w) (done ++ record_in b pair ∷ [])
 ends_behind {w = w} {pair = pair} b done was lies ends inside =
     let r = record_in b pair in
@@ -59,7 +59,7 @@ ends_behind {w = w} {pair = pair} b done was lies ends inside =
     let sum : sum_by (record_size w) (done ++ r ∷ []) ≡ sum_by (record_size w) done + record_size w r = omega (arith, sum_by-append (record_size w) done (r ∷ []), sum_by-cons (record_size w) r []) in
     omega arith
 
-pub walked_more : (w place : ℕ) (b : List ℕ) (old new : Walked) (keys values keys_now values_now : Spread) (pair : PlacedRecord) → WalkedSoFar w b old keys values → old ≡ with_first (record_in b pair) new → LiesAt w place pair → behind pair ≤ length b
+pub walked_more : (w place : ℕ) (b : List ℕ) (old new : Walked) (keys values keys_now values_now : Spread) (pair : Pair) → WalkedSoFar w b old keys values → old ≡ with_first (record_in b pair) new → LiesAt w place pair → behind pair ≤ length b
     → ((ns : List ℕ) → Spreads keys ns → Spreads keys_now (ns ++ pair.key.len ∷ [])) → ((ns : List ℕ) → Spreads values ns → Spreads values_now (ns ++ pair.value.len ∷ [])) → WalkedSoFar w b new keys_now values_now
 walked_more w place b old new keys values keys_now values_now pair so_far first lies inside add_key add_value =
     let r = record_in b pair in
@@ -75,7 +75,7 @@ walked_more w place b old new keys values keys_now values_now pair so_far first 
     }
 
 -- there are no more records than bytes before the next place
-pub few_more : (w place next count now : ℕ) (pair : PlacedRecord) → 0 < w → LiesAt w place pair → next ≡ behind pair → count ≤ place → now ≡ count + 1 → now ≤ next
+pub few_more : (w place next count now : ℕ) (pair : Pair) → 0 < w → LiesAt w place pair → next ≡ behind pair → count ≤ place → now ≡ count + 1 → now ≤ next
 few_more w place next count now pair some lies is few more =
     let here = lies.here in
     let key = lies.key in

@@ -11,7 +11,7 @@ use Rattle.cdb_read.specs.declared.fault.ReadFault.{ReadFault}
 use Rattle.cdb_read.specs.declared.fault.ReadFault.TheVariants.{Table, Record, Device}
 use Rattle.cdb_read.specs.declared.walking.records.Walk.{Walk}
 use Rattle.cdb_read.specs.declared.walking.state.Walking.TheVariants.{AtEnd, NoTable, NoRecord}
-use Rattle.cdb_read.specs.declared.span.PlacedRecord.{PlacedRecord}
+use Rattle.cdb_read.specs.declared.span.Pair.{Pair}
 
 -- what is left of the walk, in a list of bytes
 abbrev pub left_of : {S L : Type 0} {s : Ghosts S} {l : Widths L} → ℕ → List ℕ → Walk S L s l
@@ -37,7 +37,7 @@ HasNoRecord t place = t.walking ≡ NoRecord place
 
 -- a call gave a pair: the record at the next place, which is the first of what was left
 pub record GivesRecord {S L : Type 0} {s : Ghosts S} {l : Widths L} (w : ℕ)
-    (old new : Walk S L s l) (pair : PlacedRecord) : Type 0 where
+    (old new : Walk S L s l) (pair : Pair) : Type 0 where
   pub first : (b : List ℕ) → s.image new.reader.now.store b
       → left_of w b old ≡ with_first (record_in b pair) (left_of w b new)
   pub lies : LiesAt w (place_of w old) pair

@@ -11,14 +11,14 @@ use Rattle.cdb_read.specs.Lookup.{bytes_of}
 use Rattle.cdb_read.specs.declared.walking.state.RecordArea.{RecordArea}
 use Rattle.cdb_read.specs.declared.walking.state.Walking.{Walking}
 use Rattle.cdb_read.specs.declared.walking.state.Walking.TheVariants.{At, AtEnd, NoTable, NoRecord}
-use Rattle.cdb_read.specs.declared.span.PlacedRecord.{PlacedRecord}
+use Rattle.cdb_read.specs.declared.span.Pair.{Pair}
 
 -- the record of a pair
-abbrev pub record_in : List ℕ → PlacedRecord → KeyValue
+abbrev pub record_in : List ℕ → Pair → KeyValue
 record_in b pair = record { key = bytes_of b pair.key; value = bytes_of b pair.value }
 
 -- the place behind it
-abbrev pub behind : PlacedRecord → ℕ
+abbrev pub behind : Pair → ℕ
 behind pair = pair.value.place + pair.value.len
 
 -- what a walk gives from where it stands
@@ -41,30 +41,30 @@ size_ahead (At rest) = rest.end - rest.place
 size_ahead other = 0
 
 -- the key lies behind the header at a place, and the value behind the key
-pub record LiesAt (w place : ℕ) (pair : PlacedRecord) : Type 0 where
+pub record LiesAt (w place : ℕ) (pair : Pair) : Type 0 where
   pub here : pair.place ≡ place
   pub key : pair.key.place ≡ pair.place + pair_size w
   pub value : pair.value.place ≡ pair.key.place + pair.key.len
 
 -- what a look at the next place tells of some bytes
-abbrev pub StandsTells : ℕ → RecordArea → Option PlacedRecord → List ℕ → Type 0
+abbrev pub StandsTells : ℕ → RecordArea → Option Pair → List ℕ → Type 0
 StandsTells w rest None b =
     walk_from w rest.place rest.end (drop rest.place b) ≡ damaged (damage.Record rest.place)
 StandsTells w rest (Some pair) b =
     walk_from w rest.place rest.end (drop rest.place b)
     ≡ with_first (record_in b pair) (walk_from w (behind pair) rest.end (drop (behind pair) b))
 
-pub record StandsAt (w : ℕ) (rest : RecordArea) (found : Option PlacedRecord) (images : List ℕ → Type 0)
+pub record StandsAt (w : ℕ) (rest : RecordArea) (found : Option Pair) (images : List ℕ → Type 0)
     : Type 0 where
   pub each : (b : List ℕ) → images b → StandsTells w rest found b
 
 -- a record that was found lies there, before the record end and inside a file of so many bytes
-pub record RecordWithin (w : ℕ) (rest : RecordArea) (size : ℕ) (pair : PlacedRecord) : Type 0 where
+pub record RecordWithin (w : ℕ) (rest : RecordArea) (size : ℕ) (pair : Pair) : Type 0 where
   pub lies : LiesAt w rest.place pair
   pub before : behind pair ≤ rest.end
   pub inside : behind pair ≤ size
 
-abbrev pub StandsWithin : ℕ → RecordArea → ℕ → Option PlacedRecord → Type 0
+abbrev pub StandsWithin : ℕ → RecordArea → ℕ → Option Pair → Type 0
 StandsWithin w rest size None = Unit {0}
 StandsWithin w rest size (Some pair) = RecordWithin w rest size pair
 

@@ -6,7 +6,7 @@ ghost use Rattle.cdb_read.specs.Views.Walking.{StandsAt, StandsWithin};
 ghost use Rattle.cdb_read.specs.Views.Window.{Shows};
 
 use crate::fault::ReadFault;
-use crate::span::{PlacedRecord, has_bytes, spans};
+use crate::span::{Pair, has_bytes, spans};
 use crate::walking::state::RecordArea;
 use crate::window::{WINDOW, Window};
 use cdb_form::{Width, pair_size, read_header};
@@ -18,7 +18,7 @@ pub(crate) fn record_at<S: Store, L: Width>(
     store: &mut S,
     window: &mut Window,
     rest: RecordArea,
-) -> Result<Option<PlacedRecord>, ReadFault>
+) -> Result<Option<Pair>, ReadFault>
     requires before { rest.place < rest.end }
     requires shows { Shows window.old (S.image store.old) }
     ensures stands { IfOk result (λ found. StandsAt L.WORD rest found (S.image store.new)) }

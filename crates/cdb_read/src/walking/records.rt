@@ -7,7 +7,7 @@ ghost use Rattle.cdb_read.specs.Views.Reads.{ValueFails};
 
 use crate::fault::ReadFault;
 use crate::reader::Reader;
-use crate::span::{PlacedRecord, Span};
+use crate::span::{Pair, Span};
 use crate::walking::state::{RecordArea, Walking};
 use cdb_form::Width;
 use cdb_store::Store;
@@ -29,7 +29,7 @@ impl<'a, S: Store, L: Width> Walk<'a, S, L> {
 
     /// Where the next record lies, or `None` at the record end.
     #[inline(always)]
-    pub fn next(&mut self) -> Result<Option<PlacedRecord>, ReadFault>
+    pub fn next(&mut self) -> Result<Option<Pair>, ReadFault>
         ensures same_reader { self.new.reader.ghost_name ≡ self.old.reader.ghost_name }
         ensures reads { OnlyReads S.Store self.old.reader.now.store self.new.reader.now.store }
         ensures head { self.new.reader.now.head ≡ self.old.reader.now.head }

@@ -10,7 +10,7 @@ ghost use Rattle.cdb_read.specs.Views.Walk.{left_of, place_of};
 
 use crate::fault::ReadFault;
 use crate::reader::Reader;
-use crate::span::{PlacedRecord, Span};
+use crate::span::{Pair, Span};
 use crate::walking::record_at::record_at;
 use crate::walking::records::Walk;
 use crate::walking::state::{RecordArea, Walking};
@@ -33,10 +33,7 @@ impl<S: Store, L: Width> Reader<S, L> {
     }
 
     /// Where the next record of a walk lies, if it is whole.
-    pub(crate) fn next_record(
-        &mut self,
-        rest: RecordArea,
-    ) -> Result<Option<PlacedRecord>, ReadFault>
+    pub(crate) fn next_record(&mut self, rest: RecordArea) -> Result<Option<Pair>, ReadFault>
         requires before { rest.place < rest.end }
         ensures stands { IfOk result (λ found.
             StandsAt L.WORD rest found (S.image self.new.store)) }

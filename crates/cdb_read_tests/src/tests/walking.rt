@@ -2,13 +2,13 @@
 use super::counting::four_file;
 use super::files::{Fused, changed, fused, opened_again, two_file, wide_file};
 use cdb_form::{Narrow, Wide, Width};
-use cdb_read::{PlacedRecord, ReadFault, Span, Walk, walk};
+use cdb_read::{Pair, ReadFault, Span, Walk, walk};
 use std::alloc::{AllocError, Global};
 use std::prelude::*;
 use std::test::Fail;
 
 /// What a call of a walk answers.
-pub(super) type Answer = Result<Option<PlacedRecord>, ReadFault>;
+pub(super) type Answer = Result<Option<Pair>, ReadFault>;
 
 /// The next answer of a walk whose store fails at most one call: then it is asked again.
 fn next_again<L: Width>(records: &mut Walk<'_, Fused, L>) -> Answer {
@@ -61,7 +61,7 @@ pub(super) fn pair(place: u64, header: u64, klen: u64, vlen: u64) -> Answer {
         place: place + header + klen,
         len: vlen,
     };
-    Ok(Some(PlacedRecord { place, key, value }))
+    Ok(Some(Pair { place, key, value }))
 }
 
 /// The records of the file of two.

@@ -5,14 +5,14 @@ ghost use Rattle.cdb_form.specs.Format.Record.{KeyValue};
 ghost use Rattle.cdb_form.specs.Text.Amending.{Putting};
 ghost use Rattle.cdb_form.specs.Views.Prefix.{shown_by};
 ghost use Rattle.cdb_form.specs.Views.Pairs.{change_in};
-ghost use Rattle.cdb_form.specs.declared.change.ChangeKind.TheVariants.{Put};
+ghost use Rattle.cdb_form.specs.declared.item.ItemKind.TheVariants.{Put};
 ghost use Rattle.cdb_show.specs.Runs.Inputs.{input_form};
 ghost use Rattle.cdb_show.specs.Views.ItemReader.{form_of, unread, IsNew};
 ghost use Rattle.cdb_show.specs.Views.ItemReader.{HasPeeked, GivesItem, GivesEnd, Fails};
 
 use cdb_command::Style;
 use cdb_form::{
-    AmendReader, AtHand, ChangeKind, MapReader, PeekedRecord, Record, TextFault, TextReader, Width,
+    AmendReader, AtHand, ItemKind, MapReader, PeekedRecord, Record, TextFault, TextReader, Width,
 };
 use std::alloc::Global;
 use std::io::Read;
@@ -30,11 +30,11 @@ pub enum ItemReader<R, L> {
 
 /// What a text says that only puts records, if it has one more.
 #[inline(always)]
-fn put_if(given: bool) -> Option<ChangeKind>
+fn put_if(given: bool) -> Option<ItemKind>
     ensures put { given ≡ true → result ≡ Some Put }
     ensures none { given ≡ false → result ≡ None }
 {
-    if given { Some(ChangeKind::Put) } else { None }
+    if given { Some(ItemKind::Put) } else { None }
 }
 
 impl<R: Read, L: Width> ItemReader<R, L> {
@@ -89,7 +89,7 @@ impl<R: Read, L: Width> ItemReader<R, L> {
     pub fn read_into<A: AtHand<R>>(
         &mut self,
         into: &mut Record,
-    ) -> Result<Option<ChangeKind>, TextFault>
+    ) -> Result<Option<ItemKind>, TextFault>
         ensures gives { IfOk result (λ found. MatchOption found
             (GivesEnd R.remaining self.old self.new)
             (λ kind. GivesItem L.GREATEST R.remaining self.old self.new

@@ -20,7 +20,7 @@ ghost use Rattle.cdb_show.specs.declared.fault.Fault.TheVariants.{NoMemory};
 ghost use Rattle.cdb_tool.specs.Runs.Make.{form_of as task_form};
 
 use cdb_command::{MakeOptions, Style};
-use cdb_form::{AtHand, ChangeKind, OutFault, Record, Sink, Width};
+use cdb_form::{AtHand, ItemKind, OutFault, Record, Sink, Width};
 use cdb_make::{Maker, Mode, Put};
 use cdb_show::{Fault, ItemReader, Lines, write_duplicates};
 use cdb_store::Store;
@@ -176,7 +176,7 @@ fn do_item<L: Width, S: Store, E: Sink>(
     input: u64,
     number: u64,
     line: u64,
-    kind: ChangeKind,
+    kind: ItemKind,
     item: &Record,
     errors: &mut E,
 ) -> Result<(), Fault>
@@ -201,7 +201,7 @@ fn do_item<L: Width, S: Store, E: Sink>(
     ensures step { StepsOn maker.old maker.new ⊥ (E.failed errors.new) result }
 {
     match kind {
-        ChangeKind::Put => put_record(
+        ItemKind::Put => put_record(
             maker,
             options,
             mode,
@@ -212,7 +212,7 @@ fn do_item<L: Width, S: Store, E: Sink>(
             &item.value,
             errors,
         ),
-        ChangeKind::Remove => remove_key(maker, &item.key),
+        ItemKind::Remove => remove_key(maker, &item.key),
     }
 }
 

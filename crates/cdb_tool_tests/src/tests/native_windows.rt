@@ -2,7 +2,7 @@
 // all: each is read as byte by byte, with the same fault, and as far.
 use super::windows::{Dripping, MOST, SIZES};
 use cdb_form::{
-    AmendReader, AtHand, ChangeKind, Narrow, NoneAtHand, Record, TextFault, TextReader, Wide, Width,
+    AmendReader, AtHand, ItemKind, Narrow, NoneAtHand, Record, TextFault, TextReader, Wide, Width,
 };
 use cdb_tool::{InWindow, Input};
 use std::alloc::{AllocError, Global};
@@ -128,10 +128,10 @@ fn show_record(key: &[u8], value: &[u8], shown: &mut Vec<u8>) -> Result<(), Allo
 }
 
 /// Puts a record as `<key|value>` behind others, or a removal as `[key]`.
-fn show(kind: ChangeKind, record: &Record, shown: &mut Vec<u8>) -> Result<(), AllocError> {
+fn show(kind: ItemKind, record: &Record, shown: &mut Vec<u8>) -> Result<(), AllocError> {
     match kind {
-        ChangeKind::Put => show_record(&record.key, &record.value, shown),
-        ChangeKind::Remove => append([b"[", &record.key, b"]", b"", b""], shown),
+        ItemKind::Put => show_record(&record.key, &record.value, shown),
+        ItemKind::Remove => append([b"[", &record.key, b"]", b"", b""], shown),
     }
 }
 
@@ -158,7 +158,7 @@ fn show_native<L: Width, R: Read, A: AtHand<R>>(
     }
     let given = texts.read_into(record)?;
     if given {
-        show(ChangeKind::Put, record, shown)?;
+        show(ItemKind::Put, record, shown)?;
     }
     Ok(given)
 }

@@ -1,6 +1,6 @@
 use Rattle.std.proofs.Common.{◌+◌, ◌*◌, ℕ, length, inl, inr, arith}
 use Rattle.cdb_read.proofs.Probing.Headers.{passes}
-use Rattle.cdb_read.proofs.Probing.PlacedRecords.{least_below}
+use Rattle.cdb_read.proofs.Probing.Pairs.{least_below}
 use Rattle.cdb_memory.proofs.Records.{no_header_here, spans_here}
 use Rattle.cdb_memory.proofs.walk.record_at.Goals as goal
 

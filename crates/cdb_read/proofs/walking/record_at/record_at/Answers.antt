@@ -3,7 +3,7 @@ use Rattle.cdb_form.specs.Views.Pairs.{header_pair}
 use Rattle.cdb_store.specs.Images.{ImagesHold}
 use Rattle.cdb_read.proofs.Bytes.Windows.{holds_shown}
 use Rattle.cdb_read.proofs.Probing.Headers.{passes}
-use Rattle.cdb_read.proofs.Probing.PlacedRecords.{HeaderTells, header_tells, least_below, no_header, spans_stand, spans_within}
+use Rattle.cdb_read.proofs.Probing.Pairs.{HeaderTells, header_tells, least_below, no_header, spans_stand, spans_within}
 use Rattle.cdb_read.proofs.walking.record_at.record_at.Goals as goal
 
 pub returns-then-not-has_bytes-clause-stands : goal.returns-then-not-has_bytes-clause-stands

@@ -17,7 +17,7 @@ use Rattle.cdb_read.proofs.Probing.Headers.{prefix_pair, pair_read}
 use Rattle.cdb_read.specs.Views.Spans.{HasSpans}
 use Rattle.cdb_read.specs.Views.Walking.{record_in, behind, LiesAt, StandsAt, StandsWithin}
 use Rattle.cdb_read.specs.declared.walking.state.RecordArea.{RecordArea}
-use Rattle.cdb_read.specs.declared.span.PlacedRecord.{PlacedRecord}
+use Rattle.cdb_read.specs.declared.span.Pair.{Pair}
 use Rattle.std.specs.Prelude.{Option, Some, None, MatchOption, min}
 
 -- in each image, of n bytes, the header at a place tells these lengths
@@ -77,7 +77,7 @@ pair_is : (a b c d : ℕ) → a ≡ c → b ≡ d → (let p : WordPair = record
 pair_is a b c d e f = ap (λ x. let p : WordPair = record { first = x; second = b } in p) e ∙ ap (λ y. let p : WordPair = record { first = c; second = y } in p) f
 
 -- the record of a pair stands at the start
-begins_here : (w p : ℕ) (pair : PlacedRecord) (b : List ℕ) → LiesAt w p pair → behind pair ≤ length b → pair_at w (drop p b) ≡ record { first = pair.key.len; second = pair.value.len } → Begins w (drop p b) (record_in b pair) (drop (behind pair) b)
+begins_here : (w p : ℕ) (pair : Pair) (b : List ℕ) → LiesAt w p pair → behind pair ≤ length b → pair_at w (drop p b) ≡ record { first = pair.key.len; second = pair.value.len } → Begins w (drop p b) (record_in b pair) (drop (behind pair) b)
 begins_here w p pair b lies inside told =
     let here = lies.here in
     let key = lies.key in
@@ -96,7 +96,7 @@ begins_here w p pair b lies inside told =
           ∙ ap (λ t. part pair.key.place pair.key.len b ++ t) (split_at pair.value.len pair.value.place b));
     }
 
-pub stands : {rest : RecordArea} {w n : ℕ} {images : List ℕ → Type 0} (pair : PlacedRecord) → 0 < w → LiesAt w rest.place pair → behind pair ≤ n → behind pair ≤ rest.end
+pub stands : {rest : RecordArea} {w n : ℕ} {images : List ℕ → Type 0} (pair : Pair) → 0 < w → LiesAt w rest.place pair → behind pair ≤ n → behind pair ≤ rest.end
     → HeaderTells w rest.place n (record { first = pair.key.len; second = pair.value.len }) images → StandsAt w rest (Some pair) images
 stands {rest = rest} {w = w} pair some lies inside before header = record {
   each = λ b is.
@@ -114,7 +114,7 @@ stands {rest = rest} {w = w} pair some lies inside before header = record {
 }
 
 -- the spans by the header, which lies before the record end and inside a file of n bytes
-pub spans_stand : {rest : RecordArea} {w n limit : ℕ} {images : List ℕ → Type 0} (h : Header) (found : Option PlacedRecord) → 0 < w → rest.place < rest.end → limit ≡ min n rest.end → rest.place + 2 * w ≤ limit
+pub spans_stand : {rest : RecordArea} {w n limit : ℕ} {images : List ℕ → Type 0} (h : Header) (found : Option Pair) → 0 < w → rest.place < rest.end → limit ≡ min n rest.end → rest.place + 2 * w ≤ limit
     → MatchOption found (limit < rest.place + (2 * w + h.klen + h.vlen)) (HasSpans w rest.place h limit) → HeaderTells w rest.place n (header_pair h) images → StandsAt w rest found images
 spans_stand {rest = rest} {w = w} {n = n} {limit = limit} h None some before least room past header =
     let left = min-le_left n rest.end in
@@ -127,7 +127,7 @@ spans_stand {rest = rest} {w = w} {n = n} h (Some pair) some before least room h
     let lengths : header_pair h ≡ record { first = pair.key.len; second = pair.value.len } = pair_is h.klen h.vlen _ _ (sym has.klen) (sym has.vlen) in
     stands pair some has.lies (omega arith) (omega arith) (record { told = λ b is. header.told b is ∙ lengths; long = header.long })
 
-pub spans_within : (rest : RecordArea) (w : ℕ) (h : Header) {n limit size : ℕ} (found : Option PlacedRecord) → limit ≡ min n rest.end → n ≡ size → MatchOption found (limit < rest.place + (2 * w + h.klen + h.vlen)) (HasSpans w rest.place h limit) → StandsWithin w rest size found
+pub spans_within : (rest : RecordArea) (w : ℕ) (h : Header) {n limit size : ℕ} (found : Option Pair) → limit ≡ min n rest.end → n ≡ size → MatchOption found (limit < rest.place + (2 * w + h.klen + h.vlen)) (HasSpans w rest.place h limit) → StandsWithin w rest size found
 spans_within rest w h None least same past = tt
 spans_within rest w h {n = n} (Some pair) least same has =
     let left = min-le_left n rest.end in

@@ -3,7 +3,7 @@ use crate::record::Record;
 
 /// What an amending text says of one key.
 #[derive(Debug, Drop)]
-pub enum Change {
+pub enum Item {
     /// The record is put.
     Put(Record),
     /// Each record of this key is removed.
@@ -12,7 +12,7 @@ pub enum Change {
 
 /// Which kind of item was read over a record.
 #[derive(Clone, Copy, Debug, PartialEq, Eq)]
-pub enum ChangeKind {
+pub enum ItemKind {
     /// The record is put.
     Put,
     /// Each record of its key is removed. Its value means nothing.
