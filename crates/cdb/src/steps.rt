@@ -12,7 +12,7 @@ use crate::performing::perform_in;
 use cdb_form::{Narrow, Sink, Wide};
 use cdb_names::Names;
 use cdb_system::{Left, System, cause_line, none_left, reason_of, refuse, tell};
-use cdb_tool::{Command, DONE, Fault, Lines, Output, explains, plan, status_of};
+use cdb_tool::{Command, DONE, Fault, Lines, Output, explains, plan_explained, status_of};
 use std::alloc::Global;
 use std::io::{Read, Write};
 
@@ -70,7 +70,7 @@ where
         (world_of system.new (N.calls names.new) output.new errors.new) result.0 result.1 }
 {
     let is_explained = explains(words.as_slice());
-    let command = match plan(alloc, words.as_slice()) {
+    let command = match plan_explained(alloc, words.as_slice()) {
         Ok(command) => command,
         Err(fault) => return (none_left(), refuse(&fault, is_explained, errors)),
     };

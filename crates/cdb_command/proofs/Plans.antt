@@ -2,7 +2,7 @@
 -- step, whatever the letter.
 use Rattle.std.proofs.Common.{◌≡◌, ◌≢◌, ◌≤◌, ◌==◌, ℕ, zero, suc, arith, Bool, true, false, cond, List, [], ◌∷◌}
 use Rattle.std.proofs.Common.{Option, Some, None, Result, Ok, Err, IfOk, IfErr, IfSome, refl, subst, ap}
-use Rattle.std.proofs.Common.{inl, inr, unwrap_or, option_map}
+use Rattle.std.proofs.Common.{◌⊎◌, ◌∙◌, inl, inr, unwrap_or, option_map}
 use Rattle.std.proofs.lemmas.Result.{IfOk-at_ok}
 use Prim.Native.Char.{code}
 use Rattle.std.specs.Prelude.{⊤}
@@ -23,7 +23,9 @@ use Rattle.cdb_command.specs.Refused as refused
 use Rattle.cdb_command.specs.declared.usage.Usage.TheVariants.{NoMemory, Words}
 use Rattle.cdb_command.specs.declared.word_fault.Lacking.{Lacking}
 use Rattle.cdb_command.specs.declared.word_fault.Lacking.TheVariants as lacking
+use Rattle.cdb_command.specs.declared.usage.Usage.{Usage}
 use Rattle.cdb_command.specs.declared.word_fault.WordFault.{WordFault}
+use Rattle.cdb_command.specs.declared.word_fault.WordFault.TheVariants as word
 
 -- what a step gives has the property, and a fault is another than that of refused words
 record Keeps {A : Type 0} (P : A → Type 0) (r : Result A Refused) : Type 0 where
@@ -156,3 +158,11 @@ gives_no_words (Err f) g h = λ w. elim h [
   | inl n ↦ let m : usage_of (refused_in f) ≡ NoMemory = ap (λ (x : WordFault). usage_of (refused_in x)) n in cc
   | inr p ↦ subst (λ (r : Result Asked Refused). IfErr r (λ refused. usage_of refused ≢ Words)) p (plan_keeps g).never w
 ]
+
+-- a fault, told whatever the word
+pub gives_usage : (f : WordFault) (why : Usage) (planned : Result Asked Refused)
+    → why ≡ usage_of (refused_in f) → (f ≡ word.NoMemory) ⊎ (planned ≡ Err (refused_in f))
+    → (why ≡ NoMemory) ⊎ ((r : Refused) × (planned ≡ Err r) × (why ≡ usage_of r))
+gives_usage f why planned e (inl n) =
+    inl (e ∙ ap (λ (x : WordFault). usage_of (refused_in x)) n)
+gives_usage f why planned e (inr p) = inr (refused_in f, p, e)

@@ -6,9 +6,11 @@ use Rattle.cdb_command.specs.declared.command.Command.{Command}
 use Rattle.cdb_command.specs.declared.command.Command.TheVariants as command
 use Rattle.cdb_command.specs.declared.options.MakeOptions.{MakeOptions}
 use Rattle.cdb_command.specs.declared.style.Style.{Style}
+use Rattle.cdb_command.specs.declared.usage.Usage.{Usage}
+use Rattle.cdb_command.specs.declared.usage.Usage.TheVariants as usage
 use Rattle.cdb_command.specs.declared.word_fault.WordFault.{WordFault}
 use Rattle.cdb_command.specs.declared.word_fault.WordFault.TheVariants.{NoMemory}
-use Rattle.cdb_command.specs.Refused.{Refused, refused_in}
+use Rattle.cdb_command.specs.Refused.{Refused, refused_in, usage_of}
 
 -- a `Command`
 pub data Asked : Type 0 where
@@ -86,6 +88,12 @@ FitsIn least greatest Version = Unit
 abbrev pub Gives : {T A : Type 0} → (T → A) → Result T WordFault → Result A Refused → Type 0
 Gives view (Ok x) wanted = wanted ≡ Ok (view x)
 Gives view (Err fault) wanted = (fault ≡ NoMemory) ⊎ (wanted ≡ Err (refused_in fault))
+
+-- the same, by why the line has no meaning, whatever the word
+abbrev pub GivesUsage : {T A : Type 0} → (T → A) → Result T Usage → Result A Refused → Type 0
+GivesUsage view (Ok x) wanted = wanted ≡ Ok (view x)
+GivesUsage view (Err why) wanted =
+    (why ≡ usage.NoMemory) ⊎ ((refused : Refused) × (wanted ≡ Err refused) × (why ≡ usage_of refused))
 
 -- what follows where there is no fault
 infixl 10 ◌>>=◌

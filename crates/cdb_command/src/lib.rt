@@ -21,7 +21,7 @@ mod words;
 pub use command::Command;
 pub use explained::explains;
 pub use options::MakeOptions;
-pub use planning::plan;
+pub use planning::{plan, plan_explained};
 pub use shown::escaped;
 pub use style::Style;
 pub use usage::Usage;

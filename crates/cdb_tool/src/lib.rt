@@ -6,7 +6,8 @@ pub mod laws;
 mod runs;
 
 pub use cdb_command::{
-    Command, Lacking, MakeOptions, Style, Usage, WordFault, escaped, explains, plan, write_usage,
+    Command, Lacking, MakeOptions, Style, Usage, WordFault, escaped, explains, plan,
+    plan_explained, write_usage,
     write_version,
 };
 pub use cdb_show::{

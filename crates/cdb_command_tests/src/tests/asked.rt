@@ -7,7 +7,7 @@ use std::test::Fail;
 
 /// Whether a line asks for the command that is shown so.
 fn asks(alloc: Global, line: &str, shown: &str) -> Result<bool, AllocError> {
-    match plan(alloc, words_of(alloc, line)?.as_slice()) {
+    match plan(alloc, words_of(alloc, line)?) {
         Ok(command) => Ok(format!(in alloc; "{command:?}")?.as_str() == shown),
         Err(_) => Ok(false),
     }

@@ -1,7 +1,7 @@
 // Plans whose asks for memory `tests/faults/calls.py` refuses, each in turn. It reads what the test
 // prints: whether the refusal came to the call.
 use super::lines::words_of;
-use cdb_command::{Command, WordFault, plan};
+use cdb_command::{Command, Usage, WordFault, plan, plan_explained};
 use std::alloc::Global;
 use std::prelude::*;
 use std::test::Fail;
@@ -19,10 +19,10 @@ enum Came {
 }
 
 /// How the plan of a create of two inputs ended.
-fn came_of_create(planned: &Result<Command, WordFault<'_>>) -> Came {
+fn came_of_create(planned: &Result<Command, Usage>) -> Came {
     match planned {
         Ok(Command::Create { inputs, .. }) if inputs.len() == 2 => Came::Whole,
-        Err(WordFault::NoMemory) => Came::NoMemory,
+        Err(Usage::NoMemory) => Came::NoMemory,
         _ => Came::Wrong,
     }
 }
@@ -30,7 +30,7 @@ fn came_of_create(planned: &Result<Command, WordFault<'_>>) -> Came {
 /// How it ends.
 fn plan_create(alloc: Global) -> Came {
     match words_of(alloc, "-cew -t temporary -b base database one two") {
-        Ok(words) => came_of_create(&plan(alloc, words.as_slice())),
+        Ok(words) => came_of_create(&plan(alloc, words)),
         Err(_) => Came::NoInputs,
     }
 }
@@ -47,7 +47,7 @@ fn came_of_refused(planned: &Result<Command, WordFault<'_>>) -> Came {
 /// How it ends.
 fn plan_refused(alloc: Global) -> Came {
     match words_of(alloc, "-q -n 1 -n 2 database key") {
-        Ok(words) => came_of_refused(&plan(alloc, words.as_slice())),
+        Ok(words) => came_of_refused(&plan_explained(alloc, words.as_slice())),
         Err(_) => Came::NoInputs,
     }
 }

@@ -1,15 +1,20 @@
 // Lines that ask for nothing, and why.
 use super::lines::words_of;
-use cdb_command::{Lacking, WordFault, plan};
+use cdb_command::{Lacking, WordFault, plan, plan_explained};
 use std::alloc::{AllocError, Global};
 use std::prelude::*;
 use std::test::Fail;
 
-/// Whether a line is refused with this fault.
+/// Whether a line is refused with this fault, and by `plan` with what it is whatever the word.
 fn is_refused(alloc: Global, line: &str, fault: WordFault<'_>) -> Result<bool, AllocError> {
-    match plan(alloc, words_of(alloc, line)?.as_slice()) {
+    let words = words_of(alloc, line)?;
+    let explained = match plan_explained(alloc, words.as_slice()) {
+        Ok(_) => false,
+        Err(refused) => refused == fault,
+    };
+    match plan(alloc, words) {
         Ok(_) => Ok(false),
-        Err(refused) => Ok(refused == fault),
+        Err(refused) => Ok(explained && refused == fault.usage()),
     }
 }
 

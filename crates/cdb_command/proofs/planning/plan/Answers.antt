@@ -1,21 +1,13 @@
-use Rattle.std.proofs.lemmas.Grind.{common_steps}
-use Rattle.std.proofs.Common.{rules, ◌≢◌, IfErr, arith}
-use Rattle.cdb_command.proofs.Plans.{gives_no_words}
-use Rattle.cdb_command.proofs.Plans.{gives_in_range}
-use Rattle.cdb_command.specs.declared.usage.Usage.TheVariants.{Words}
-use Rattle.cdb_command.specs.Refused.{refused_in, usage_of}
-use Rattle.cdb_command.specs.Line.{given_in}
+use Rattle.std.proofs.Common.{◌≡◌, ◌⊎◌, Err, map, string_bytes, subst}
+use Rattle.cdb_command.specs.Refused.{refused_in}
+use Rattle.cdb_command.specs.Words.{plan_of}
+use Rattle.cdb_command.specs.declared.word_fault.WordFault.TheVariants.{NoMemory}
+use Rattle.cdb_command.proofs.Plans.{gives_usage}
 use Rattle.cdb_command.proofs.planning.plan.Goals as goal
 
-pub returns-clause-refused : goal.returns-clause-refused
-returns-clause-refused c =
-    let none : IfErr c.asked_on.result (λ f. usage_of (refused_in f) ≢ Words) =
-    gives_no_words c.asked_on.result (given_in c.line_of.result) c.asked_on.ensures in
-    search rules
-
-pub returns-clause-range : goal.returns-clause-range
-returns-clause-range c =
-    gives_in_range c.asked_on.result (given_in c.line_of.result) c.asked_on.ensures
-
 pub returns-clause-exact : goal.returns-clause-exact
-returns-clause-exact c = grind (arith, common_steps)
+returns-clause-exact c =
+    gives_usage c.in-Err.fault c.usage.result _ c.usage.ensures
+    (subst (λ words. (c.in-Err.fault ≡ NoMemory)
+    ⊎ (plan_of (map (string_bytes {Z = _}) words) ≡ Err (refused_in c.in-Err.fault)))
+    c.as_slice.ensures.value c.in-Err.ensures.exact)
