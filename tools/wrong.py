@@ -173,6 +173,7 @@ class Trial:
             return f"cannot be tried: {told.error}", clauses
         lost = [it for name, found in told.lost.items() if self.is_of(name) for it in found]
         if lost:
+            self.is_unshown = test_of(self.edit) is not None
             return f"is refused by lost names alone, of the stored proofs for {', '.join(lost)}", clauses
         return "is let through: no goal of its own function stays open", clauses
 
