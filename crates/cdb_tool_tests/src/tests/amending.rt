@@ -125,12 +125,7 @@ fn a_removal_and_a_put_amend_a_base(rt: HostRuntime) -> Result<(), Fail> {
     let again = bytes_of(alloc, &ONE_AGAIN)?;
     let taken = amend_two(alloc, b"-3:one\n\n", Mode::Add, Duplicates::Silent)?;
     assert!(rt; taken.made(&alone, b"", &two), "removed");
-    let put = amend_two(
-        alloc,
-        REPLACED_BY_HAND,
-        Mode::Warn,
-        Duplicates::Told,
-    )?;
+    let put = amend_two(alloc, REPLACED_BY_HAND, Mode::Warn, Duplicates::Told)?;
     assert!(rt; put.made(&again, b"", &two), "again");
     Ok(())
 }
