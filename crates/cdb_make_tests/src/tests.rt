@@ -6,6 +6,7 @@ mod drawn;
 mod faults;
 mod files;
 mod filling;
+mod lying;
 mod maker;
 mod makers;
 mod model;

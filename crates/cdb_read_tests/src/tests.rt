@@ -5,6 +5,7 @@ mod bad_file;
 mod checking;
 mod counting;
 mod damaged;
+mod devices;
 mod faults;
 mod files;
 mod finding;

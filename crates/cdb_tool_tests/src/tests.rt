@@ -19,6 +19,7 @@ mod refusals;
 mod resuming;
 mod running;
 mod streams;
+mod surface;
 mod walk_windows;
 mod windows;
 mod worked;

@@ -60,6 +60,9 @@ impl Amended {
     }
 }
 
+/// A record is removed, and put again with another value.
+const REPLACED_BY_HAND: &[u8] = b"-3:one\n+3,5:one->Again\n\n";
+
 /// The bytes of a base that was handed back.
 fn handed(alloc: Global, base: Option<MemStore>) -> Vec<u8> {
     match base {
@@ -122,12 +125,7 @@ fn a_removal_and_a_put_amend_a_base(rt: HostRuntime) -> Result<(), Fail> {
     let again = bytes_of(alloc, &ONE_AGAIN)?;
     let taken = amend_two(alloc, b"-3:one\n\n", Mode::Add, Duplicates::Silent)?;
     assert!(rt; taken.made(&alone, b"", &two), "removed");
-    let put = amend_two(
-        alloc,
-        b"-3:one\n+3,5:one->Again\n\n",
-        Mode::Warn,
-        Duplicates::Told,
-    )?;
+    let put = amend_two(alloc, REPLACED_BY_HAND, Mode::Warn, Duplicates::Told)?;
     assert!(rt; put.made(&again, b"", &two), "again");
     Ok(())
 }
@@ -258,20 +256,21 @@ fn a_damaged_base_is_told_behind_its_limit(rt: HostRuntime) -> Result<(), Fail> 
 /// The answer over a base, cut to so many bytes, of which a call fails, its bytes then, and the file.
 fn over_fuse(
     alloc: Global,
+    input: &'static [u8],
     many: usize,
     calls: u64,
 ) -> Result<(Result<(), Fault>, Vec<u8>, Vec<u8>), AllocError> {
-    let texts = texts(alloc, &[b"-3:one\n\n"])?;
+    let texts = texts(alloc, &[input])?;
     let mut lines = Vec::new(alloc);
     let base = FuseStore::new(MemStore::from_vec(first_bytes(alloc, many)?), calls, 1);
-    let added = options(Mode::Add, Duplicates::Silent, Style::Native, 4294967295);
+    let warned = options(Mode::Warn, Duplicates::Told, Style::Native, 4294967295);
     let store = MemStore::new(alloc);
     let (store, base, answer) = make_run::<Narrow, MemStore, FuseStore<MemStore>, &[u8], Vec<u8>>(
         alloc,
         store,
         Some(base),
         texts,
-        added,
+        warned,
         &mut lines,
     );
     let base = match base {
@@ -284,12 +283,12 @@ fn over_fuse(
 #[test]
 fn a_base_that_fails_is_handed_back(rt: HostRuntime) -> Result<(), Fail> {
     let two = File::Two.bytes(rt.alloc())?;
-    let alone = bytes_of(rt.alloc(), &LAST_ALONE)?;
+    let again = bytes_of(rt.alloc(), &ONE_AGAIN)?;
     for calls in 0..64u64 {
-        let (answer, base, file) = over_fuse(rt.alloc(), two.len(), calls)?;
+        let (answer, base, file) = over_fuse(rt.alloc(), REPLACED_BY_HAND, two.len(), calls)?;
         assert!(rt; base.as_slice() == two.as_slice(), "{calls}");
         if answer == Ok(()) {
-            assert!(rt; calls > 0 && file.as_slice() == alone.as_slice());
+            assert!(rt; calls > 0 && file.as_slice() == again.as_slice());
             return Ok(());
         }
         assert!(rt; answer == Err(Fault::Read(ReadFault::Device)), "{calls}");
@@ -301,7 +300,7 @@ fn a_base_that_fails_is_handed_back(rt: HostRuntime) -> Result<(), Fail> {
 fn a_damaged_base_that_fails_is_handed_back(rt: HostRuntime) -> Result<(), Fail> {
     let cut = first_bytes(rt.alloc(), 2070)?;
     for calls in 0..64u64 {
-        let (answer, base, _) = over_fuse(rt.alloc(), 2070, calls)?;
+        let (answer, base, _) = over_fuse(rt.alloc(), REPLACED_BY_HAND, 2070, calls)?;
         assert!(rt; base.as_slice() == cut.as_slice(), "{calls}");
         if answer == Err(Fault::Read(ReadFault::Record(2064))) {
             assert!(rt; calls > 0);
