@@ -12,6 +12,7 @@ pub mod WalksSoFar
 pub mod WholeTexts
 pub mod FedTexts
 pub mod InputLemmas
+pub mod WindowLemmas
 pub mod OutputFaults
 pub mod OutputLemmas
 pub mod DifferenceRuns

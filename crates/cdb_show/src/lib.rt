@@ -16,6 +16,7 @@ mod output;
 mod runs;
 mod shown;
 mod status;
+mod window;
 mod word_message;
 
 pub use fault::Fault;
@@ -39,4 +40,5 @@ pub use runs::shown::Shown;
 pub use runs::stats::stats_run;
 pub use runs::texts::{dump_run, list_run, text_run_buffered, text_run_fed};
 pub use status::{BAD_USAGE, DONE, FAILED, status_of};
+pub use window::{NoWindow, Window};
 pub use word_message::write_word_fault;
