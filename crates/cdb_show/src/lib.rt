@@ -24,7 +24,7 @@ pub use input::{InWindow, Input};
 pub use input_name::{STANDARD_INPUT, input_at};
 pub use inputs::{Inputs, SharedInput, Turn};
 pub use key_line::write_duplicates;
-pub use lines::{InLined, LinedInput, Lines};
+pub use lines::{InLined, Lined, LinedInput, Lines};
 pub use message::write_fault;
 pub use noted::Noted;
 pub use output::Output;
