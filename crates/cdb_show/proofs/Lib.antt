@@ -11,6 +11,7 @@ pub mod LookupRuns
 pub mod WalksSoFar
 pub mod WholeTexts
 pub mod FedTexts
+pub mod FedLoads
 pub mod InputLemmas
 pub mod WindowLemmas
 pub mod OutputFaults
