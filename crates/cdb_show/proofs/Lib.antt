@@ -11,7 +11,9 @@ pub mod LookupRuns
 pub mod WalksSoFar
 pub mod WholeTexts
 pub mod FedTexts
+pub mod FedLoads
 pub mod InputLemmas
+pub mod WindowLemmas
 pub mod OutputFaults
 pub mod OutputLemmas
 pub mod DifferenceRuns

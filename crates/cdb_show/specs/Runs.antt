@@ -6,6 +6,7 @@ pub mod Form
 pub mod WalkText
 pub mod FedText
 pub mod Load
+pub mod FedLoad
 pub mod Query
 pub mod LookedUp
 pub mod Lookups

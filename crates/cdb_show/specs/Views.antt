@@ -1,6 +1,8 @@
 -- What clauses read of the types of this crate.
 pub mod Fault
 pub mod Input
+pub mod Window
+pub mod WindowRests
 pub mod Inputs
 pub mod Noted
 pub mod Output

@@ -1,10 +1,12 @@
 // The lines of inputs, which are counted as their bytes are taken.
 ghost use Rattle.std.specs.Prelude.{◌≡◌};
 ghost use Rattle.cdb_show.specs.Views.Input.{input_bytes, window_of};
+ghost use Rattle.cdb_show.specs.Views.Window.{feed_of, held_in, reader_of};
 
 use crate::counting::newlines;
 use crate::input::{InWindow, Input};
-use cdb_form::AtHand;
+use crate::window::Window;
+use cdb_form::{AtHand, Feeds};
 use std::cell::Cell;
 use std::io::{self, Read};
 
@@ -145,5 +147,60 @@ impl<'a, R: Read> AtHand<LinedInput<'a, R>> for InLined {
         let window = InWindow::window(&reader.input);
         reader.lines.take(&window[..n]);
         InWindow::take(&mut reader.input, n);
+    }
+}
+
+/// A window whose lines are counted as its bytes are taken.
+#[derive(Drop)]
+pub struct Lined<'a, F> {
+    window: Window<F>,
+    lines: &'a Lines,
+}
+
+impl<'a, F> Lined<'a, F> {
+    /// A window over which the lines are counted from here on.
+    pub fn new(window: Window<F>, lines: &'a Lines) -> Lined<'a, F>
+        ensures { result.window ≡ window }
+    {
+        Lined { window, lines }
+    }
+
+    /// The window, which goes on after what was taken.
+    pub fn into_window(self) -> Window<F>
+        ensures { result ≡ self.entry.window }
+    {
+        self.window
+    }
+}
+
+impl<'a, F: Feeds> Feeds for Lined<'a, F> {
+    ghost use Rattle.cdb_show.specs.Views.WindowRests.{same_held};
+
+    ghost feed = { λ r. feed_of F.feed r.window };
+
+    ghost one_rest = { λ r whole first second one other.
+        same_held (F.one_rest (reader_of r.window) whole) one other };
+
+    #[inline(always)]
+    fn read_some(&mut self, into: &mut [u8]) -> io::Result<usize> {
+        let n = self.window.read_some(into)?;
+        self.lines.take(&into[..n]);
+        Ok(n)
+    }
+}
+
+impl<'a, F: Feeds> AtHand<Lined<'a, F>> for InLined {
+    ghost held = { λ r. held_in r.window };
+
+    #[inline(always)]
+    fn window<'w>(reader: &'w Lined<'a, F>) -> &'w [u8] {
+        InWindow::window(&reader.window)
+    }
+
+    #[inline(always)]
+    fn take(reader: &mut Lined<'a, F>, n: usize) {
+        let window = InWindow::window(&reader.window);
+        reader.lines.take(&window[..n]);
+        InWindow::take(&mut reader.window, n);
     }
 }

@@ -1,12 +1,16 @@
-use Rattle.std.proofs.lemmas.Grind.{common_steps}
-use Rattle.std.proofs.Common.{arith, rules}
+use Rattle.std.proofs.lemmas.Result.{IfErr-weaker, IfOk-weaker}
+use Rattle.cdb_form.specs.declared.reading_whole.Extent.TheVariants.{All}
+use Rattle.cdb_form.proofs.Fed.KnownItems.{known_loses, known_whole}
+use Rattle.cdb_show.proofs.FedLoads.{known_stops}
 use Rattle.cdb_show.proofs.runs.load.load_from.Goals as goal
 
-pub returns-in-More-clause-all : goal.returns-in-More-clause-all
-returns-in-More-clause-all g c = search rules
+pub returns-clause-all : goal.returns-clause-all
+returns-clause-all g c =
+    IfOk-weaker c.load_fed.result _ _ (λ store h. known_whole c.args.most (g.R.Read.remaining c.args.reader.now) (g.R.Read.remaining c.load_fed.new.reader) _ All h) c.load_fed.ensures.all
 
-pub returns-in-All-clause-all : goal.returns-in-All-clause-all
-returns-in-All-clause-all g c = grind (arith, common_steps)
+pub returns-clause-stops : goal.returns-clause-stops
+returns-clause-stops g c =
+    IfErr-weaker c.load_fed.result _ _ (λ fault h. known_stops c.args.most (g.R.Read.remaining c.args.reader.now) (g.R.Read.remaining c.load_fed.new.reader) fault h) c.load_fed.ensures.stops
 
-pub returns-in-More-clause-stops : goal.returns-in-More-clause-stops
-returns-in-More-clause-stops g c = grind (arith, common_steps)
+pub returns-clause-loses : goal.returns-clause-loses
+returns-clause-loses g c = known_loses _ _ _ c.load_fed.ensures.loses
