@@ -5,6 +5,9 @@ pub mod Checks
 pub mod NativeInputs
 pub mod Writers
 pub mod InputTexts
+pub mod SpelledInputs
+pub mod MapInputs
+pub mod ItemInputs
 pub mod KeyInputs
 pub mod NextInputs
 pub mod LookupRuns
