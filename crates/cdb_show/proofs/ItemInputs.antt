@@ -1,6 +1,5 @@
 -- What a reader took of the items of an input, whatever its form and whatever bytes agree with it.
-use Rattle.std.proofs.Common.{Bool, List, [], ap, false, map, refl, sym, true, ◌++◌, ◌<◌, ◌∙◌, ◌∷◌, ◌≡◌, ◌≢◌, ℕ}
-use Rattle.std.proofs.lemmas.List.{map-append}
+use Rattle.std.proofs.Common.{Bool, List, [], false, map, refl, true, ◌++◌, ◌<◌, ◌∷◌, ◌≡◌, ◌≢◌, ℕ}
 use Rattle.cdb_form.specs.Fed.Feed.{Feed, FromTo}
 use Rattle.cdb_form.specs.Fed.FormReader as fed
 use Rattle.cdb_form.specs.Format.Record.{KeyValue}
@@ -18,6 +17,7 @@ use Rattle.cdb_show.specs.Runs.Inputs.{BeginsWithItems, HasFaults, HasInputFault
 use Rattle.cdb_show.specs.Views.FedItems.{Fails, GivesEnd, GivesItem, HasPeeked, IsNew, asks_left, form_of, reader_of}
 use Rattle.cdb_show.specs.declared.runs.fed_items.FedItems.{FedItems}
 use Rattle.cdb_show.specs.declared.runs.fed_items.FedItems.TheVariants.{Form, Map}
+use Rattle.cdb_show.proofs.KeyInputs.{more_puts}
 use Rattle.cdb_show.proofs.MapInputs.{GaveLines, lines_all, lines_begin, lines_behind, lines_fault, lines_more, lines_none, lines_own}
 use Rattle.cdb_show.proofs.SpelledInputs.{GaveSpelled, spelled_all, spelled_begins, spelled_behind, spelled_fault, spelled_more, spelled_none}
 
@@ -44,9 +44,6 @@ abbrev pub GaveItems : {F L : Type 0} → ℕ → (F → Feed) → Feed → FedI
 GaveItems g feed start (Form t true) items = text.IsGoing t × GaveSpelled SpellsChange g feed start t.source items
 GaveItems g feed start (Form t false) items = (given : List KeyValue) × (items ≡ map Putting given) × text.IsGoing t × GaveSpelled Spells g feed start t.source given
 GaveItems g feed start (Map t) items = (given : List KeyValue) × (items ≡ map Putting given) × GaveLines feed start t given
-
-more_puts : (items : List Change) (given : List KeyValue) (r : KeyValue) → items ≡ map Putting given → items ++ Putting r ∷ [] ≡ map Putting (given ++ r ∷ [])
-more_puts items given r e = ap (λ cs. cs ++ Putting r ∷ []) e ∙ sym (map-append Putting given (r ∷ []))
 
 module _ {F L : Type 0} (g : ℕ) (feed : F → Feed) where
   pub items_none : (t : FedItems F L) → IsNew t → GaveItems g feed (feed (reader_of t)) t []
@@ -102,13 +99,13 @@ module _ {F L : Type 0} (g : ℕ) (feed : F → Feed) where
   items_fault start t u items f one h m other = absurd m
 
   -- it still begins with these items, whatever was taken behind them
-  pub items_behind : (start : Feed) (t u : FedItems F L) (items : List Change) (f : TextFault) → GaveItems g feed start t items → Fails g feed t u f → FromTo start (feed (reader_of u)) (λ text rest. BeginsWithItems (form_of t) g items text)
-  items_behind start (Form t true) (Form u true) items f h m = spelled_behind SpellsChange g feed start t.source u.source items f h.1 (m.meets h.0)
-  items_behind start (Form t false) (Form u false) items f h m =
+  pub items_still : (start : Feed) (t u : FedItems F L) (items : List Change) (f : TextFault) → GaveItems g feed start t items → Fails g feed t u f → FromTo start (feed (reader_of u)) (λ text rest. BeginsWithItems (form_of t) g items text)
+  items_still start (Form t true) (Form u true) items f h m = spelled_behind SpellsChange g feed start t.source u.source items f h.1 (m.meets h.0)
+  items_still start (Form t false) (Form u false) items f h m =
       from_weaker start (feed u.source.reader) (λ text rest. InputsBeginWith style.Native g h.0 text) (λ text rest. BeginsWithItems (Puts style.Native) g items text) (spelled_behind Spells g feed start t.source u.source h.0 f h.3 (m.meets h.2)) (λ text rest is. (h.0, h.1, is))
-  items_behind start (Map t) (Map u) items f h m =
+  items_still start (Map t) (Map u) items f h m =
       from_weaker start (feed u.source.reader) (λ text rest. InputsBeginWith style.Map g h.0 text) (λ text rest. BeginsWithItems (Puts style.Map) g items text) (lines_behind feed g start t u h.0 f h.2 m) (λ text rest is. (h.0, h.1, is))
-  items_behind start t u items f h m = absurd m
+  items_still start t u items f h m = absurd m
 
   -- a map text has none of its own
   pub items_own : (start : Feed) (t u : FedItems F L) (items : List Change) (f : TextFault) → GaveItems g feed start t items → Fails g feed t u f → IsOfText f → HasFaults (form_of t)

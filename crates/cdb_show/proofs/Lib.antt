@@ -7,8 +7,8 @@ pub mod Writers
 pub mod InputTexts
 pub mod SpelledInputs
 pub mod MapInputs
-pub mod ItemInputs
 pub mod KeyInputs
+pub mod ItemInputs
 pub mod NextInputs
 pub mod LookupRuns
 pub mod WalksSoFar
