@@ -5,7 +5,10 @@ pub mod Checks
 pub mod NativeInputs
 pub mod Writers
 pub mod InputTexts
+pub mod SpelledInputs
+pub mod MapInputs
 pub mod KeyInputs
+pub mod ItemInputs
 pub mod NextInputs
 pub mod LookupRuns
 pub mod WalksSoFar

@@ -1,16 +1,19 @@
 -- The keys that were looked up so far, and how their query ends.
-use Rattle.std.proofs.Common.{◌≡◌, ◌≢◌, ◌∙◌, inl, inr, ℕ, ◌+◌, ◌≤◌, Bool, true, false, List, [], ◌∷◌, ◌++◌, length, map, fold, refl, sym, ap, subst, arith, length-append, Option, Result, Ok, Err, IfSome}
+use Rattle.std.proofs.Common.{◌≡◌, ◌≢◌, ◌∙◌, inl, inr, ℕ, ◌+◌, ◌≤◌, Bool, true, false, List, [], ◌∷◌, ◌++◌, length, map, fold, refl, sym, ap, subst, arith, length-append, Option, Result, Ok, Err}
 use Rattle.std.proofs.lemmas.List.{append-nil}
 use Rattle.std.proofs.lemmas.List.Concat.{flat_map-append}
 use Rattle.std.specs.Io.KnownBytes.{Appends}
 use Rattle.cdb_store.specs.Reads.{OnlyReads}
 use Rattle.cdb_store.specs.declared.store.Store.{Ghosts}
 use Rattle.cdb_store.proofs.Reading.{reads_more}
+use Rattle.cdb_form.specs.Fed.Feed.{Feed, reader_feed}
+use Rattle.cdb_form.specs.Fed.Feed as fed
 use Rattle.cdb_form.specs.Format.Pair.{head_size}
 use Rattle.cdb_form.specs.Text.Amending.{Change}
-use Rattle.cdb_form.specs.Views.KnownBytes.{AppendsPrefix}
+use Rattle.cdb_form.specs.Views.KnownBytes.{AppendsPrefix, FromTo}
 use Rattle.cdb_form.specs.declared.text.fault.TextFault.{TextFault}
 use Rattle.cdb_form.specs.declared.text.fault.TextFault.TheVariants as text
+use Rattle.cdb_form.proofs.Fed.KnownReaders.{known_from, known_text}
 use Rattle.cdb_form.proofs.Bytes.WritingLemmas.{appends_none, appends_then, prefix_last}
 use Rattle.cdb_read.specs.Views.Reads.{OpeningFails}
 use Rattle.cdb_read.specs.declared.fault.ReadFault.{ReadFault}
@@ -18,13 +21,13 @@ use Rattle.cdb_read.specs.declared.fault.ReadFault.TheVariants as read
 use Rattle.cdb_read.proofs.FoundSoFar.{reads_none}
 use Rattle.cdb_command.specs.declared.style.Style.{Style}
 use Rattle.cdb_show.specs.Runs.Form.{end_of}
-use Rattle.cdb_show.specs.Runs.Inputs.{InputForm, InputsLeft, OneInput, AreAllInputs, AreInputs, BeginsWithItems, FirstHas, ReadsOne, keys_form, keys_of, keys_of_each}
+use Rattle.cdb_show.specs.Runs.Inputs.{InputForm, InputsLeft, OneInput, AreAllInputs, AreInputs, BeginsWithItems, HasItemFault, IsInputOf, FirstHas, ReadsOne, keys_form, keys_of, keys_of_each}
 use Rattle.cdb_show.specs.Runs.LookedUp.{key_query, Looked, joined, looked_up, with_key, with_one}
-use Rattle.cdb_show.specs.Runs.Lookups.{FaultOf, ComesTo, missing_answer, HasLooked, LookupsStopAt, LookupsStopIn, LookupsStop, LookupsFail, LookupsLeave}
+use Rattle.cdb_show.specs.Runs.Lookups.{FaultBehind, StopsBehind, FaultOf, ComesTo, missing_answer, HasLooked, LookupsStopAt, LookupsStopIn, LookupsStop, LookupsFail, LookupsLeave}
 use Rattle.cdb_show.specs.Runs.Query.{Queries, query_text, query_answer}
 use Rattle.cdb_show.specs.Views.Fault.{text_fault, read_fault}
 use Rattle.cdb_show.specs.Views.Inputs.{inputs_left, one_of, shared_bytes}
-use Rattle.cdb_show.specs.Views.KeyReader.{form_of}
+use Rattle.cdb_show.specs.Views.KeyReader.{form_of, reader_of}
 use Rattle.cdb_show.specs.Views.KeyReader as views
 use Rattle.cdb_show.specs.declared.fault.Fault.{Fault}
 use Rattle.cdb_show.specs.declared.fault.Fault.TheVariants.{Text, Make, Duplicate, Missing, Read, Walk, Output, Long, Open, Rename, NoMemory, Old, New, NoOldTables, NoNewTables}
@@ -34,7 +37,7 @@ use Rattle.cdb_show.specs.declared.inputs.SharedInput.TheVariants.{Unread}
 use Rattle.cdb_show.specs.declared.inputs.Turn.{Turn}
 use Rattle.cdb_show.specs.declared.runs.key_reader.KeyReader.{KeyReader}
 use Rattle.cdb_show.proofs.NextInputs.{inputs_next, left_now, first_begins, begins_none}
-use Rattle.cdb_show.proofs.KeyInputs.{GaveKeys, keys_first, keys_fault, keys_own}
+use Rattle.cdb_show.proofs.KeyInputs.{GaveKeys, keys_fault, keys_own, keys_still}
 use Rattle.cdb_show.proofs.Queries.{none_prefix}
 use Rattle.cdb_show.proofs.NextInputs.{first_none}
 use Rattle.cdb_show.proofs.Writers.{keeps_self}
@@ -161,7 +164,7 @@ same_text n i text.Input g e = record { input = cc; fault = cc; other = λ h. cc
 same_text n i text.Endless g e = record { input = cc; fault = cc; other = λ h. cc }
 same_text n i text.NoMemory g e = absurd (let no : ⊥ = cc in no)
 
-stops_text : {S : Type 0} (w : ℕ) (s : Ghosts S) (number : Option ℕ) (style : Style) (listed : List (List ℕ)) (old new : S) (start now : Option (List ℕ)) (missing : Bool) (n : ℕ) (f : TextFault) → HasLooked w s number style listed new start now missing → LookupsStopAt w s number style listed old new start now (text_fault n f)
+pub stops_text : {S : Type 0} (w : ℕ) (s : Ghosts S) (number : Option ℕ) (style : Style) (listed : List (List ℕ)) (old new : S) (start now : Option (List ℕ)) (missing : Bool) (n : ℕ) (f : TextFault) → HasLooked w s number style listed new start now missing → LookupsStopAt w s number style listed old new start now (text_fault n f)
 stops_text w s number style listed old new start now missing n (text.Syntax at) h = (missing, h)
 stops_text w s number style listed old new start now missing n (text.Ended at) h = (missing, h)
 stops_text w s number style listed old new start now missing n (text.Large at) h = (missing, h)
@@ -169,37 +172,66 @@ stops_text w s number style listed old new start now missing n text.Input h = (m
 stops_text w s number style listed old new start now missing n text.Endless h = (missing, h)
 stops_text w s number style listed old new start now missing n text.NoMemory h = (missing, h)
 
-pub text_stops : {R L S : Type 0} (w g : ℕ) (s : Ghosts S) (number : Option ℕ) (style : Style) (remaining : R → Option (List ℕ)) (n : ℕ) (before : List (List ℕ)) (bytes : Option (List ℕ)) (t u : KeyReader R L) (form : InputForm) (last : List Change) (old new : S) (start now : Option (List ℕ)) (missing : Bool) (f : TextFault)
-    → form_of t ≡ form → GaveKeys g remaining bytes t last → views.Fails g remaining t u f → HasLooked w s number style (before ++ keys_of last) new start now missing
-    → LookupsStopIn w g s number style form n before bytes old new start now (text_fault n f)
-text_stops w g s number style remaining n before bytes t u form last old new start now missing f same gave fails h = record {
-  last = last;
-  begins = subst (λ v. IfSome bytes (BeginsWithItems v g last)) same (keys_first g remaining bytes t last gave);
-  stops = stops_text w s number style _ old new start now missing n f h;
+pub text_stops : {F L : Type 0} (g : ℕ) (feed : F → Feed) (n : ℕ) (start : Feed) (t u : KeyReader F L) (form : InputForm) (last : List Change) (f : TextFault) → ((it : F) (whole a b : List ℕ) → (feed it).may whole a → (feed it).may whole b → a ≡ b)
+    → form_of t ≡ form → GaveKeys g feed start t last → views.Fails g feed t u f → StopsBehind form g n last start (feed (reader_of u)) (text_fault n f)
+text_stops g feed n start t u form last f one same gave fails = subst (λ v. StopsBehind v g n last start (feed (reader_of u)) (text_fault n f)) same (record {
+  begins = keys_still g feed start t u last f gave fails;
   of_text = λ i v e.
       let k = same_text n i f v e in (
         k.input,
-        subst (FaultOf form g last bytes) (sym k.fault) (subst (λ x. FaultOf x g last bytes f) same (record {
-          has = keys_fault g remaining bytes t u last f gave fails k.other;
-          own = keys_own g remaining bytes t u last f gave fails;
+        subst (FaultBehind (form_of t) g last start (feed (reader_of u))) (sym k.fault) (record {
+          has = keys_fault g feed start t u last f one gave fails k.other;
+          own = keys_own g feed start t u last f gave fails;
           memory = k.other;
-        })),
+        }),
       );
-}
+})
 
 -- a fault of the store, of the writer or of a damage is none of a text
 no_text : {S : Type 0} (w : ℕ) (s : Ghosts S) (q : _) (old new : S) (mid now : Option (List ℕ)) (n : ℕ) (f : TextFault) → Queries w s q old new mid now (Err (Text n f)) → ⊥
 no_text w s q old new mid now n f h = h.err
 
-pub key_stops : {S : Type 0} (w g : ℕ) (s : Ghosts S) (number : Option ℕ) (style : Style) (n : ℕ) (before listed : List (List ℕ)) (key : List ℕ) (bytes : Option (List ℕ)) (form : InputForm) (last : List Change) (first old new : S) (start mid now : Option (List ℕ)) (missing : Bool) (f : Fault)
-    → IfSome bytes (BeginsWithItems form g last) → listed ++ key ∷ [] ≡ before ++ keys_of last → HasLooked w s number style listed old start mid missing → OnlyReads s first old → head_size w ≤ s.size old → Queries w s (key_query number style key) old new mid now (Err f) → f ≢ Missing
-    → LookupsStopIn w g s number style form n before bytes first new start now f
-key_stops w g s number style n before listed key bytes form last first old new start mid now missing f begins same h reads long q other = record {
-  last = last;
+pub key_stops : {S : Type 0} (w g : ℕ) (s : Ghosts S) (q : _) (n : ℕ) (form : InputForm) (last : List Change) (start end : Feed) (old new : S) (mid now : Option (List ℕ)) (f : Fault)
+    → fed.FromTo start end (λ text rest. BeginsWithItems form g last text) → Queries w s q old new mid now (Err f) → StopsBehind form g n last start end f
+key_stops w g s q n form last start end old new mid now f begins query = record {
   begins = begins;
-  stops = subst (λ k. LookupsStopAt w s number style k first new start now f) same (stops_later w s number style _ first old new start now f reads (stops_more w s number style listed key old new start mid now missing f h long q other));
-  of_text = λ i v e. absurd (no_text w s _ old new mid now i v (subst (λ x. Queries w s (key_query number style key) old new mid now (Err x)) e q));
+  of_text = λ i v e. absurd (no_text w s q old new mid now i v (subst (λ x. Queries w s q old new mid now (Err x)) e query));
 }
+
+-- behind the keys up to the last one
+pub key_stops_at : {S : Type 0} (w : ℕ) (s : Ghosts S) (number : Option ℕ) (style : Style) (before listed : List (List ℕ)) (key : List ℕ) (last : List Change) (first old new : S) (start mid now : Option (List ℕ)) (missing : Bool) (f : Fault)
+    → listed ++ key ∷ [] ≡ before ++ keys_of last → HasLooked w s number style listed old start mid missing → OnlyReads s first old → head_size w ≤ s.size old → Queries w s (key_query number style key) old new mid now (Err f) → f ≢ Missing
+    → LookupsStopAt w s number style (before ++ keys_of last) first new start now f
+key_stops_at w s number style before listed key last first old new start mid now missing f same h reads long q other =
+    subst (λ k. LookupsStopAt w s number style k first new start now f) same (stops_later w s number style _ first old new start now f reads (stops_more w s number style listed key old new start mid now missing f h long q other))
+
+-- ---- a reader that tells its bytes
+
+known_fault : (form : InputForm) (g : ℕ) (last : List Change) (old new : Option (List ℕ)) (f : TextFault) → FaultBehind form g last (reader_feed old) (reader_feed new) f → FaultOf form g last old f
+known_fault form g last old new f h = record { has = known_text old new (HasItemFault form g last f) h.has; own = h.own; memory = h.memory }
+
+-- what an input came to that was not read to its end
+abbrev pub StopsAt : {S : Type 0} → ℕ → ℕ → Ghosts S → Option ℕ → Style → InputForm → ℕ → (start end : Feed) → (old new : S) → (mid now : Option (List ℕ)) → Bool → Fault → Type 0
+StopsAt w g s number style form n start end old new mid now was fault = (last : List Change) × StopsBehind form g n last start end fault
+    × ((before : List (List ℕ)) (start : Option (List ℕ)) → HasLooked w s number style before old start mid was → LookupsStopAt w s number style (before ++ keys_of last) old new start now fault)
+
+pub known_stops : {S : Type 0} (w g : ℕ) (s : Ghosts S) (number : Option ℕ) (style : Style) (form of : InputForm) (n : ℕ) (bytes read left : Option (List ℕ)) (old new : S) (mid now : Option (List ℕ)) (was : Bool) (fault : Fault) → of ≡ form → read ≡ bytes
+    → StopsAt w g s number style of n (reader_feed read) (reader_feed left) old new mid now was fault → (before : List (List ℕ)) (start : Option (List ℕ)) → HasLooked w s number style before old start mid was
+    → LookupsStopIn w g s number style form n before bytes old new start now fault
+known_stops w g s number style form of n bytes read left old new mid now was fault same known h before start looked =
+    subst (λ v. LookupsStopIn w g s number style v n before bytes old new start now fault) same
+    (subst (λ v. LookupsStopIn w g s number style of n before v old new start now fault) known (record {
+      last = h.0;
+      begins = known_text read left (BeginsWithItems of g h.0) h.1.begins;
+      stops = h.2 before start looked;
+      of_text = λ i f e. let t = h.1.of_text i f e in (t.0, known_fault of g h.0 read left f t.1);
+    }))
+
+pub known_reads : (form of : InputForm) (g : ℕ) (last : List Change) (bytes read left rest : Option (List ℕ)) → of ≡ form → read ≡ bytes → rest ≡ left → fed.FromTo (reader_feed read) (reader_feed left) (IsInputOf of g last) → FromTo bytes rest (IsInputOf form g last)
+known_reads form of g last bytes read left rest same known goes h =
+    subst (λ v. FromTo bytes rest (IsInputOf v g last)) same
+    (subst (λ v. FromTo v rest (IsInputOf of g last)) known
+    (subst (λ v. FromTo read v (IsInputOf of g last)) (sym goes) (known_from read left (IsInputOf of g last) h)))
 
 -- memory for its window was refused before anything was read of it
 pub no_window : {S : Type 0} (w g : ℕ) (s : Ghosts S) (number : Option ℕ) (style : Style) (form : InputForm) (n : ℕ) (before : List (List ℕ)) (bytes : Option (List ℕ)) (store : S) (start now : Option (List ℕ)) (missing : Bool) → HasLooked w s number style before store start now missing

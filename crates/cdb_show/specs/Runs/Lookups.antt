@@ -5,6 +5,8 @@ use Rattle.std.specs.Prelude.{Option, Result, Ok, Err, IfSome}
 use Rattle.std.specs.Io.KnownBytes.{Appends}
 use Rattle.cdb_store.specs.Reads.{OnlyReads}
 use Rattle.cdb_store.specs.declared.store.Store.{Ghosts}
+use Rattle.cdb_form.specs.Fed.Feed.{Feed}
+use Rattle.cdb_form.specs.Fed.Feed as fed
 use Rattle.cdb_form.specs.Format.Pair.{head_size}
 use Rattle.cdb_form.specs.Text.Amending.{Change}
 use Rattle.cdb_form.specs.Views.KnownBytes.{AppendsPrefix}
@@ -75,6 +77,22 @@ pub record FaultOf (form : InputForm) (greatest : ℕ) (last : List Change) (byt
   pub has : IfSome bytes (HasItemFault form greatest last f)
   pub own : IsOfText f → HasFaults form
   pub memory : f ≢ text_fault.NoMemory
+
+-- whatever bytes agree, an input has this fault behind these items: no allocation, and a map text has
+-- none of its own
+pub record FaultBehind (form : InputForm) (greatest : ℕ) (last : List Change) (old new : Feed) (f : TextFault)
+    : Type 0 where
+  pub has : fed.FromTo old new (λ text rest. HasItemFault form greatest last f text)
+  pub own : IsOfText f → HasFaults form
+  pub memory : f ≢ text_fault.NoMemory
+
+-- whatever bytes agree, an input of this number begins with these items, behind which a run stopped: a
+-- fault of a text is one of it
+pub record StopsBehind (form : InputForm) (greatest input : ℕ) (last : List Change) (old new : Feed)
+    (fault : Fault) : Type 0 where
+  pub begins : fed.FromTo old new (λ text rest. BeginsWithItems form greatest last text)
+  pub of_text : (n : ℕ) (f : TextFault) → fault ≡ Text n f
+      → (n ≡ input) × FaultBehind form greatest last old new f
 
 -- it stopped in an input with these bytes, of this number, behind these items
 pub record LookupsStopIn {S : Type 0} (w greatest : ℕ) (s : Ghosts S) (number : Option ℕ) (style : Style)

@@ -1,5 +1,9 @@
--- What a clause reads of the reader of the keys of an input, whatever its form.
-use Rattle.std.specs.Prelude.{ℕ, ◌≡◌, ◌^◌, List, Option}
+-- What a clause reads of the reader of the keys of an input, whatever its form and whatever gives its
+-- bytes.
+use Rattle.std.specs.Prelude.{List, ◌≡◌, ◌^◌, ℕ}
+use Rattle.cdb_form.specs.Fed.Feed.{Feed}
+use Rattle.cdb_form.specs.Fed.ListReader as fed_list
+use Rattle.cdb_form.specs.Fed.MapReader as fed_map
 use Rattle.cdb_form.specs.Format.Record.{KeyValue}
 use Rattle.cdb_form.specs.Views.ListReader as lists
 use Rattle.cdb_form.specs.Views.MapReader as map
@@ -12,61 +16,58 @@ use Rattle.cdb_show.specs.declared.runs.key_reader.KeyReader.{KeyReader}
 use Rattle.cdb_show.specs.declared.runs.key_reader.KeyReader.TheVariants as reader
 
 -- the form that it reads
-abbrev pub form_of : {R L : Type 0} → KeyReader R L → InputForm
+abbrev pub form_of : {F L : Type 0} → KeyReader F L → InputForm
 form_of (reader.List t) = form.Lists
 form_of (reader.Map t) = form.Puts style.Map
 
--- the bytes that its reader has left, where they are known
-abbrev pub unread : {R L : Type 0} → (R → Option (List ℕ)) → KeyReader R L → Option (List ℕ)
-unread remaining (reader.List t) = lists.unread remaining t
-unread remaining (reader.Map t) = map.unread remaining t
+-- what gives its bytes
+abbrev pub reader_of : {F L : Type 0} → KeyReader F L → F
+reader_of (reader.List t) = lists.reader_of t
+reader_of (reader.Map t) = map.reader_of t
 
--- how many bytes it read, and how often its reader may still be asked
-abbrev pub taken_of : {R L : Type 0} → KeyReader R L → ℕ
+-- how many bytes it took, and how often its reader may still be asked
+abbrev pub taken_of : {F L : Type 0} → KeyReader F L → ℕ
 taken_of (reader.List t) = lists.taken_of t
 taken_of (reader.Map t) = map.taken_of t
 
-abbrev pub asks_left : {R L : Type 0} → KeyReader R L → ℕ
+abbrev pub asks_left : {F L : Type 0} → KeyReader F L → ℕ
 asks_left (reader.List t) = lists.asks_left t
 asks_left (reader.Map t) = map.asks_left t
 
 -- it has told neither the end nor a fault
-abbrev pub IsGoing : {R L : Type 0} → KeyReader R L → Type 0
+abbrev pub IsGoing : {F L : Type 0} → KeyReader F L → Type 0
 IsGoing (reader.List t) = lists.IsGoing t
 IsGoing (reader.Map t) = map.IsGoing t
 
--- nothing was read of it, and its reader may be asked 2^48 times
-pub record IsNew {R L : Type 0} (t : KeyReader R L) : Type 0 where
+-- nothing was taken yet, and its reader may be asked 2^48 times
+pub record IsNew {F L : Type 0} (t : KeyReader F L) : Type 0 where
   pub going : IsGoing t
   pub taken : taken_of t ≡ 0
   pub asks : asks_left t ≡ 2 ^ 48
 
 -- a call gave the record of a line of a map text, whose key this is
-pub record GivesKeyOf {R : Type 0} (remaining : R → Option (List ℕ)) (old new : MapReader R)
-    (key : List ℕ) : Type 0 where
-  pub given : KeyValue
-  pub has : given.key ≡ key
-  pub gives : map.GivesRecord remaining old new given
+pub record GivesKeyOf {F : Type 0} (feed : F → Feed) (old new : MapReader F) (key : List ℕ) : Type 0
+  where
+    pub given : KeyValue
+    pub has : given.key ≡ key
+    pub gives : fed_map.GivesRecord feed old new given
 
 -- a call gave a key, told the end, or answered a fault, as a reader of its form does
-abbrev pub GivesKey : {R L : Type 0} → ℕ → (R → Option (List ℕ)) → KeyReader R L → KeyReader R L
-    → List ℕ → Type 0
-GivesKey greatest remaining (reader.List old) (reader.List new) key =
-    lists.GivesKey greatest remaining old new key
-GivesKey greatest remaining (reader.Map old) (reader.Map new) key =
-    GivesKeyOf remaining old new key
-GivesKey greatest remaining old new key = ⊥
-
-abbrev pub GivesEnd : {R L : Type 0} → (R → Option (List ℕ)) → KeyReader R L → KeyReader R L
+abbrev pub GivesKey : {F L : Type 0} → ℕ → (F → Feed) → KeyReader F L → KeyReader F L → List ℕ
     → Type 0
-GivesEnd remaining (reader.List old) (reader.List new) = lists.GivesEnd remaining old new
-GivesEnd remaining (reader.Map old) (reader.Map new) = map.GivesEnd remaining old new
-GivesEnd remaining old new = ⊥
+GivesKey greatest feed (reader.List old) (reader.List new) key =
+    fed_list.GivesKey greatest feed old new key
+GivesKey greatest feed (reader.Map old) (reader.Map new) key = GivesKeyOf feed old new key
+GivesKey greatest feed old new key = ⊥
 
-abbrev pub Fails : {R L : Type 0} → ℕ → (R → Option (List ℕ)) → KeyReader R L → KeyReader R L
-    → TextFault → Type 0
-Fails greatest remaining (reader.List old) (reader.List new) fault =
-    lists.Fails greatest remaining old new fault
-Fails greatest remaining (reader.Map old) (reader.Map new) fault =
-    map.Fails remaining old new fault
-Fails greatest remaining old new fault = ⊥
+abbrev pub GivesEnd : {F L : Type 0} → (F → Feed) → KeyReader F L → KeyReader F L → Type 0
+GivesEnd feed (reader.List old) (reader.List new) = fed_list.GivesEnd feed old new
+GivesEnd feed (reader.Map old) (reader.Map new) = fed_map.GivesEnd feed old new
+GivesEnd feed old new = ⊥
+
+abbrev pub Fails : {F L : Type 0} → ℕ → (F → Feed) → KeyReader F L → KeyReader F L → TextFault
+    → Type 0
+Fails greatest feed (reader.List old) (reader.List new) fault =
+    fed_list.Fails greatest feed old new fault
+Fails greatest feed (reader.Map old) (reader.Map new) fault = fed_map.Fails feed old new fault
+Fails greatest feed old new fault = ⊥

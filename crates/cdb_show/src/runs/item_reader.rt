@@ -30,7 +30,7 @@ pub enum ItemReader<R, L> {
 
 /// What a text says that only puts records, if it has one more.
 #[inline(always)]
-fn put_if(given: bool) -> Option<ItemKind>
+pub(crate) fn put_if(given: bool) -> Option<ItemKind>
     ensures put { given ≡ true → result ≡ Some Put }
     ensures none { given ≡ false → result ≡ None }
 {

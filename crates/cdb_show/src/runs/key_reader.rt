@@ -1,57 +1,56 @@
-// The keys of an input, whatever its form.
+// The keys of an input, whatever its form and whatever gives its bytes.
 ghost use Rattle.std.specs.Prelude.{◌≡◌, IfOk, IfErr, MatchBool};
 ghost use Rattle.cdb_show.specs.Runs.Inputs.{keys_form};
-ghost use Rattle.cdb_show.specs.Views.KeyReader.{form_of, unread, IsNew, GivesKey, GivesEnd, Fails};
+ghost use Rattle.cdb_show.specs.Views.KeyReader.{Fails, GivesEnd, GivesKey, IsNew, form_of, reader_of};
 
 use cdb_command::Style;
-use cdb_form::{AtHand, ListReader, MapReader, Record, TextFault, Width};
+use cdb_form::{AtHand, Feeds, ListReader, MapReader, Record, TextFault, Width};
 use std::alloc::Global;
-use std::io::Read;
 
 /// Reads the keys that an input gives, one after the other.
 #[derive(Drop)]
-pub(crate) enum KeyReader<R, L> {
+pub(crate) enum KeyReader<F, L> {
     /// A list text.
-    List(ListReader<R, L>),
+    List(ListReader<F, L>),
     /// A map text, each line of which gives a key.
-    Map(MapReader<R>),
+    Map(MapReader<F>),
 }
 
-impl<R: Read, L: Width> KeyReader<R, L> {
+impl<F: Feeds, L: Width> KeyReader<F, L> {
     /// A reader of the input that `reader` gives, which may be asked 2^48 times.
-    pub(crate) fn new(alloc: Global, style: Style, reader: R) -> KeyReader<R, L>
+    pub(crate) fn new(alloc: Global, style: Style, reader: F) -> KeyReader<F, L>
         ensures form { form_of result ≡ keys_form style }
-        ensures unread { unread R.remaining result ≡ R.remaining reader }
+        ensures reader { reader_of result ≡ reader }
         ensures fresh { IsNew result }
     {
         match style {
-            Style::Native => KeyReader::List(ListReader::new(reader)),
-            Style::Map => KeyReader::Map(MapReader::new(alloc, reader)),
+            Style::Native => KeyReader::List(ListReader::fed(reader, 1 << 48)),
+            Style::Map => KeyReader::Map(MapReader::fed(alloc, reader, 1 << 48)),
         }
     }
 
     /// Reads the next key over that of a record, whose memory it takes, and answers whether there is
     /// one. Of a map bytes at hand are taken without an ask.
     #[inline(always)]
-    pub(crate) fn read_into<A: AtHand<R>>(&mut self, into: &mut Record) -> Result<bool, TextFault>
+    pub(crate) fn read_into<A: AtHand<F>>(&mut self, into: &mut Record) -> Result<bool, TextFault>
         ensures gives { IfOk result (λ given. MatchBool given
-            (GivesKey L.GREATEST R.remaining self.old self.new into.new.key.items)
-            (GivesEnd R.remaining self.old self.new)) }
-        ensures fails { IfErr result (Fails L.GREATEST R.remaining self.old self.new) }
+            (GivesKey L.GREATEST F.feed self.old self.new into.new.key.items)
+            (GivesEnd F.feed self.old self.new)) }
+        ensures fails { IfErr result (Fails L.GREATEST F.feed self.old self.new) }
     {
         match self {
-            KeyReader::List(text) => text.read_into(into),
-            KeyReader::Map(text) => text.read_buffered::<A>(into),
+            KeyReader::List(text) => text.read_fed(into),
+            KeyReader::Map(text) => text.read_fed::<A>(into),
         }
     }
 
-    /// Its reader, which goes on after what was read of it.
-    pub(crate) fn into_reader(self) -> R
-        ensures { R.remaining result ≡ unread R.remaining self }
+    /// Its reader, which goes on after what was taken.
+    pub(crate) fn into_reader(self) -> F
+        ensures { result ≡ reader_of self }
     {
         match self {
-            KeyReader::List(text) => text.into_reader(),
-            KeyReader::Map(text) => text.into_reader(),
+            KeyReader::List(text) => text.into_fed(),
+            KeyReader::Map(text) => text.into_fed(),
         }
     }
 }

@@ -2,6 +2,7 @@
 ghost use Rattle.std.specs.Prelude.{◌≡◌, ◌≢◌, ◌+◌, ◌≤◌, ◌++◌, ℕ, List, Option, IfSome, IfOk, IfErr, OnOk};
 ghost use Rattle.std.specs.Prelude.{length, []};
 ghost use Rattle.cdb_show.specs.Views.Output.{OutputSays};
+ghost use Rattle.cdb_form.specs.Fed.Feed as fed;
 ghost use Rattle.cdb_form.specs.Text.Amending.{Change};
 ghost use Rattle.cdb_form.specs.Views.KnownBytes.{FromTo};
 ghost use Rattle.cdb_store.specs.Reads.{OnlyReads};
@@ -9,10 +10,11 @@ ghost use Rattle.cdb_show.specs.Runs.Inputs.{IsInputOf, AreAllInputs, ReadsOne, 
 ghost use Rattle.cdb_show.specs.Runs.Inputs.{keys_of, keys_of_each};
 ghost use Rattle.cdb_show.specs.Runs.LookedUp.{key_query};
 ghost use Rattle.cdb_show.specs.Runs.Lookups.{HasLooked, LookupsStopIn, LookupsStop, LookupsLeave, LooksUp};
+ghost use Rattle.cdb_show.specs.Runs.Lookups.{LookupsStopAt, StopsBehind};
 ghost use Rattle.cdb_show.specs.Runs.Query.{Queries};
 ghost use Rattle.cdb_show.specs.Views.Input.{input_bytes};
 ghost use Rattle.cdb_show.specs.Views.Inputs.{inputs_left, one_of, shared_bytes};
-ghost use Rattle.cdb_show.specs.Views.KeyReader.{form_of, unread, IsNew};
+ghost use Rattle.cdb_show.specs.Views.KeyReader.{form_of, reader_of, IsNew};
 
 use crate::fault::Fault;
 use crate::input::{InWindow, Input};
@@ -24,7 +26,7 @@ use crate::runs::query::look_up;
 use crate::runs::shown::Shown;
 use crate::runs::walk_text::write_last;
 use cdb_command::Style;
-use cdb_form::{AtHand, Record, Sink, Width};
+use cdb_form::{AtHand, Feeds, Record, Sink, Width};
 use cdb_read::Reader;
 use cdb_store::Store;
 use std::alloc::Global;
@@ -47,34 +49,37 @@ fn look_up_record<L: Width, S: Store, W: Sink>(
     look_up(reader, key, number, Shown::Record { key, style }, w)
 }
 
-/// Writes the records of the keys of an input, whose number is counted from 1, up to its end, and
-/// answers its reader, which goes on after its text. `missing` is set if a key had no value.
-fn look_up_input<L: Width, S: Store, R: Read + Drop, W: Sink, A: AtHand<R>>(
+/// Writes the records of the keys of an input, whose number is counted from 1, up to the end of its text.
+/// `missing` is set if a key had no value.
+fn look_up_input<L: Width, S: Store, F: Feeds, W: Sink, A: AtHand<F>>(
     alloc: Global,
     reader: &mut Reader<S, L>,
     number: Option<u64>,
     style: Style,
     input: u64,
-    mut keys: KeyReader<R, L>,
+    keys: &mut KeyReader<F, L>,
     missing: &mut bool,
     w: &mut W,
-) -> Result<R, Fault>
+) -> Result<(), Fault>
     requires counted { IfSome number (λ j. 1 ≤ j) }
-    requires fresh { IsNew keys }
+    requires fresh { IsNew keys.old }
     ensures reads { OnlyReads S.Store reader.old.store reader.new.store }
-    ensures ok { IfOk result (λ left. (last : List Change)
-        × FromTo (unread R.remaining keys) (R.remaining left)
-        (IsInputOf (form_of keys) L.GREATEST last)
+    ensures ok { OnOk result ((last : List Change)
+        × fed.FromTo (F.feed (reader_of keys.old)) (F.feed (reader_of keys.new))
+        (IsInputOf (form_of keys.old) L.GREATEST last)
         × ((before : List (List ℕ)) (start : Option (List ℕ))
         → HasLooked L.WORD S.Store number style before reader.old.store start
         (W.contents w.old) missing.old
         → HasLooked L.WORD S.Store number style (before ++ keys_of last) reader.new.store start
         (W.contents w.new) missing.new)) }
-    ensures fails { (before : List (List ℕ)) (start : Option (List ℕ))
+    ensures fails { IfErr result (λ fault. (last : List Change)
+        × StopsBehind (form_of keys.old) L.GREATEST input last
+        (F.feed (reader_of keys.old)) (F.feed (reader_of keys.new)) fault
+        × ((before : List (List ℕ)) (start : Option (List ℕ))
         → HasLooked L.WORD S.Store number style before reader.old.store start
         (W.contents w.old) missing.old
-        → IfErr result (LookupsStopIn L.WORD L.GREATEST S.Store number style (form_of keys) input before
-        (unread R.remaining keys) reader.old.store reader.new.store start (W.contents w.new)) }
+        → LookupsStopAt L.WORD S.Store number style (before ++ keys_of last)
+        reader.old.store reader.new.store start (W.contents w.new) fault)) }
     ensures output { OutputSays (W.failed w.new) result }
 {
     let mut item = Record {
@@ -84,7 +89,7 @@ fn look_up_input<L: Width, S: Store, R: Read + Drop, W: Sink, A: AtHand<R>>(
     loop {
         match keys.read_into::<A>(&mut item) {
             Err(fault) => return Err(Fault::of_text(input, fault)),
-            Ok(false) => return Ok(keys.into_reader()),
+            Ok(false) => return Ok(()),
             Ok(true) => {}
         }
         match look_up_record(reader, &item.key, number, style, w) {
@@ -129,14 +134,17 @@ fn look_up_text<L: Width, S: Store, R: Read + Drop, W: Sink>(
 {
     if lines.counts {
         let lined = LinedInput::new(window, lines);
-        let keys = KeyReader::new(alloc, style, lined);
-        let left = look_up_input::<L, S, _, W, InLined>(
-            alloc, reader, number, style, input, keys, missing, w,
+        let mut keys = KeyReader::new(alloc, style, lined);
+        look_up_input::<L, S, _, W, InLined>(
+            alloc, reader, number, style, input, &mut keys, missing, w,
         )?;
-        return Ok(left.into_input());
+        return Ok(keys.into_reader().into_input());
     }
-    let keys = KeyReader::new(alloc, style, window);
-    look_up_input::<L, S, _, W, InWindow>(alloc, reader, number, style, input, keys, missing, w)
+    let mut keys = KeyReader::new(alloc, style, window);
+    look_up_input::<L, S, _, W, InWindow>(
+        alloc, reader, number, style, input, &mut keys, missing, w,
+    )?;
+    Ok(keys.into_reader())
 }
 
 /// Writes the records of the keys of an input, whose number is counted from 1, and answers what the

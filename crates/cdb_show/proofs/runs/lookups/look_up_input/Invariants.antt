@@ -3,7 +3,7 @@ use Rattle.cdb_store.specs.Reads.{OnlyReads}
 use Rattle.cdb_form.specs.Text.Amending.{Change}
 use Rattle.cdb_show.specs.Runs.Inputs.{keys_of}
 use Rattle.cdb_show.specs.Runs.Lookups.{HasLooked}
-use Rattle.cdb_show.specs.Views.KeyReader.{form_of, unread, asks_left}
+use Rattle.cdb_show.specs.Views.KeyReader.{form_of, reader_of, asks_left}
 use Rattle.cdb_show.proofs.KeyInputs.{GaveKeys}
 use Rattle.cdb_show.proofs.runs.lookups.look_up_input.Given as goal
 
@@ -12,7 +12,7 @@ abbrev pub invariant-loop-fault : goal.invariant-loop-fault
 invariant-loop-fault g l =
     record {
       last : List Change;
-      gave : GaveKeys g.L.Width.GREATEST g.R.Read.remaining (unread g.R.Read.remaining l.fn.keys) l.keys last;
+      gave : GaveKeys g.L.Width.GREATEST g.F.Feeds.feed (g.F.Feeds.feed (reader_of l.fn.keys)) l.keys last;
       form : form_of l.keys ≡ form_of l.fn.keys;
       reads : OnlyReads g.S.Store l.fn.reader.store l.reader.store;
       looked : (before : List (List ℕ)) (start : Option (List ℕ)) → HasLooked g.L.Width.WORD g.S.Store l.number l.style before l.fn.reader.store start (g.W.Sink.contents l.fn.w) l.fn.missing

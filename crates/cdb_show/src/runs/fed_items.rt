@@ -1,0 +1,106 @@
+// The items of an input, whatever its form, of any bytes that agree with what was taken of it.
+ghost use Rattle.std.specs.Prelude.{◌≡◌, IfErr, IfOk, IfSome, MatchOption};
+ghost use Rattle.cdb_form.specs.Format.Record.{KeyValue};
+ghost use Rattle.cdb_form.specs.Text.Amending.{Putting};
+ghost use Rattle.cdb_form.specs.Views.Pairs.{change_in};
+ghost use Rattle.cdb_form.specs.Views.Prefix.{shown_by};
+ghost use Rattle.cdb_show.specs.Runs.Inputs.{input_form};
+ghost use Rattle.cdb_show.specs.Views.FedItems.{Fails, GivesEnd, GivesItem, HasPeeked, IsNew};
+ghost use Rattle.cdb_show.specs.Views.FedItems.{form_of, reader_of};
+
+use crate::runs::item_reader::put_if;
+use cdb_command::Style;
+use cdb_form::{
+    AtHand, Feeds, FormReader, ItemKind, MapReader, PeekedRecord, Record, TextFault, Width,
+};
+use std::alloc::Global;
+
+/// Reads what an input says, one item after the other.
+///
+/// Its contracts say it of any bytes that agree with what was taken of its reader.
+#[derive(Drop)]
+pub enum FedItems<F, L> {
+    /// A native text, which only puts records, or an amending one, which may also remove keys.
+    Form {
+        /// Reads the text.
+        reader: FormReader<F, L>,
+        /// Whether it may remove keys.
+        removals: bool,
+    },
+    /// A map text, which only puts records.
+    Map(MapReader<F>),
+}
+
+impl<F: Feeds, L: Width> FedItems<F, L> {
+    /// A reader of the input that `reader` gives, which may be asked 2^48 times. If a base is
+    /// amended, a native text may also remove keys.
+    pub fn new(alloc: Global, style: Style, amends: bool, reader: F) -> FedItems<F, L>
+        ensures form { form_of result ≡ input_form style amends }
+        ensures reader { reader_of result ≡ reader }
+        ensures fresh { IsNew result }
+    {
+        match style {
+            Style::Map => FedItems::Map(MapReader::fed(alloc, reader, 1 << 48)),
+            Style::Native => FedItems::Form {
+                reader: FormReader::new(reader, 1 << 48),
+                removals: amends,
+            },
+        }
+    }
+
+    /// The record that the next item puts, if all its bytes are at hand. Nothing is taken.
+    #[inline(always)]
+    pub fn peek<A: AtHand<F>>(&self) -> Option<PeekedRecord<'_>>
+        ensures { IfSome result (λ f. HasPeeked A.held L.GREATEST self.now f.len (shown_by f)) }
+    {
+        match self {
+            FedItems::Form { reader, .. } => reader.peek::<A>(),
+            FedItems::Map(text) => text.peek::<A>(),
+        }
+    }
+
+    /// Takes the record that `peek` shows.
+    #[inline(always)]
+    pub fn take_peeked<A: AtHand<F>>(&mut self, len: usize)
+        requires { (r : KeyValue) × HasPeeked A.held L.GREATEST self.old len r }
+        ensures { (r : KeyValue) → HasPeeked A.held L.GREATEST self.old len r
+            → GivesItem L.GREATEST F.feed self.old self.new (Putting r) }
+    {
+        match self {
+            FedItems::Form { reader, .. } => reader.take_peeked::<A>(len),
+            FedItems::Map(text) => text.take_fed::<A>(len),
+        }
+    }
+
+    /// Reads the next item over a record, whose memory it takes, and answers its kind, or `None` at
+    /// the end of the text. Of a map text it takes bytes at hand without a request to the reader.
+    ///
+    /// The faults are those of the reader of the form. After a fault every later call answers the
+    /// same fault.
+    #[inline(always)]
+    pub fn read_into<A: AtHand<F>>(
+        &mut self,
+        into: &mut Record,
+    ) -> Result<Option<ItemKind>, TextFault>
+        ensures gives { IfOk result (λ found. MatchOption found
+            (GivesEnd F.feed self.old self.new)
+            (λ kind. GivesItem L.GREATEST F.feed self.old self.new
+            (change_in kind into.new))) }
+        ensures fails { IfErr result (Fails L.GREATEST F.feed self.old self.new) }
+    {
+        match self {
+            FedItems::Form { reader, removals } => reader.read_into(into, *removals),
+            FedItems::Map(text) => Ok(put_if(text.read_fed::<A>(into)?)),
+        }
+    }
+
+    /// Its reader, which goes on after what was taken.
+    pub fn into_reader(self) -> F
+        ensures { result ≡ reader_of self }
+    {
+        match self {
+            FedItems::Form { reader, .. } => reader.into_reader(),
+            FedItems::Map(text) => text.into_fed(),
+        }
+    }
+}
