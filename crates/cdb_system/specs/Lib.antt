@@ -9,5 +9,6 @@ mod OracleExamples
 pub mod Places
 pub mod Reading
 pub mod State
+pub mod Streams
 pub mod SystemWords
 pub mod Telling
