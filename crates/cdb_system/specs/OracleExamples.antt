@@ -1,14 +1,11 @@
 -- What the oracle says of worked files, and calls by which it comes true.
 use Rattle.std.specs.Prelude.{ℕ, ◌≡◌, true, false, bytes_eq, if◌then◌else◌, List, [], ◌∷◌, ◌++◌}
-use Rattle.std.specs.Prelude.{drop, take, codes, Option, None, Some, IfSome, ⊤, refl, zero, suc}
-use Rattle.std.proofs.Common.{arith, ap, subst, sym, ◌∙◌}
-use Rattle.std.proofs.lemmas.List.{append-nil, take-append-drop}
+use Rattle.std.specs.Prelude.{take, codes, Option, None, Some, IfSome, ⊤, refl, zero, suc}
+use Rattle.std.proofs.Common.{arith, subst}
 use Rattle.std.proofs.lemmas.Bool.{cond_both}
 use Rattle.std.specs.Fmt.{digits}
 use Rattle.cdb_command.specs.Asked.{Query, Lookups, Dump, Listing, Stats, Check, Difference}
 use Rattle.cdb_command.specs.declared.style.Style.TheVariants.{Native, Map}
-use Rattle.cdb_feed.specs.declared.noted_reader.NotedReader.{NotedReader}
-use Rattle.cdb_feed.specs.declared.read_trace.ReadCall.TheVariants.{Ended, Gave}
 use Rattle.cdb_form.specs.Examples.WorkedFiles.{words_of, repeat, put_at, two_file, foreign_file}
 use Rattle.cdb_form.proofs.Bytes.ByteLemmas.{AreBytes-nil}
 use Rattle.cdb_form.specs.Format.Reading.{head_at}
@@ -31,7 +28,7 @@ use Rattle.cdb_system.specs.Files.{files_of}
 use Rattle.cdb_system.specs.Answered.{AreComparable, Honest, Reveals}
 use Rattle.cdb_system.specs.Opening.{OpenCalls, input_left, read_left, stream_left}
 use Rattle.cdb_system.specs.Oracle.{Disk, Outcome, command_outcome, difference_outcome, lookups_outcome}
-use Rattle.cdb_system.specs.Streams.{Agrees}
+use Rattle.cdb_system.specs.NotedExamples.{ended, front_agrees, more_agree, noted, these_agree}
 use Rattle.cdb_system.specs.declared.open_trace.OpenCall.TheVariants.{AtPlaces, InTurn}
 use Rattle.cdb_system.specs.declared.system.System.{Ghosts as Systems}
 
@@ -198,46 +195,15 @@ query_is_honest store has = record {
   in_order = tt;
 }
 
--- a reader that gave these bytes, and its end or not
-abbrev noted : (came : List ℕ) → NotedReader (List ℕ)
-noted came = record {
-  reader = [];
-  ended = false;
-  trace = record { marker = record {}; events = (Gave, came) ∷ [] };
-}
-
-abbrev ended : (came : List ℕ) → NotedReader (List ℕ)
-ended came = record {
-  reader = [];
-  ended = true;
-  trace = record { marker = record {}; events = (Ended, []) ∷ (Gave, came) ∷ [] };
-}
-
--- all bytes that begin with these agree; once the end came, these alone
-more_agree : (came more : List ℕ) → Agrees (Some (came ++ more)) (noted came ∷ [])
-more_agree came more = (more, record { begins = refl; ends = λ e. absurd (let no : false ≡ true = e in cc) })
-
-these_agree : (came : List ℕ) → Agrees (Some came) (ended came ∷ [])
-these_agree came = ([], record { begins = sym (append-nil (came ++ []) ∙ append-nil came); ends = λ e. refl })
-
-no_others_agree : (came whole : List ℕ) → Agrees (Some whole) (ended came ∷ []) → whole ≡ came
-no_others_agree came whole agrees =
-    agrees.1.begins ∙ ap (λ r. (came ++ []) ++ r) (agrees.1.ends refl)
-    ∙ append-nil (came ++ []) ∙ append-nil came
-
 -- a dump of a file whose records came, and not the end
 dump_is_honest : Honest (files_of in_memory in_memory Some (of_disk disk)) disk []
     (Dump (Some name) Native false) None [] ((InTurn, name) ∷ [])
-    (stream_left {F = MemStore} {M = MemStore} {I = List ℕ} (noted (take 2082 two_file)))
+    (stream_left {F = MemStore} {M = MemStore} {I = List ℕ} (noted [] (take 2082 two_file)))
 unfolding disk name of_disk
 dump_is_honest = record {
   calls = (InTurn, name) ∷ [];
   are = refl;
-  answered = (
-    subst (λ bytes. Agrees (Some bytes) (noted (take 2082 two_file) ∷ [])) (take-append-drop 2082 two_file)
-        (more_agree (take 2082 two_file) (drop 2082 two_file)),
-    tt,
-  );
+  answered = (front_agrees {R = List ℕ} [] 2082 two_file, tt);
   standard = tt;
   reveals = tt;
   in_order = tt;
@@ -247,26 +213,26 @@ dump_is_honest = record {
 input_dump_is_honest : (more : List ℕ)
     → Honest (files_of in_memory in_memory Some (of_disk disk)) disk (two_file ++ more)
     (Dump None Native false) None [] []
-    (input_left {F = MemStore} {M = MemStore} {S = List ℕ} (noted two_file))
+    (input_left {F = MemStore} {M = MemStore} {S = List ℕ} {I = List ℕ} (noted [] two_file))
 unfolding of_disk
 input_dump_is_honest more = record {
   calls = [];
   are = refl;
   answered = tt;
-  standard = more_agree two_file more;
+  standard = more_agree {R = List ℕ} [] two_file more;
   reveals = tt;
   in_order = tt;
 }
 
 input_stats_are_honest : Honest (files_of in_memory in_memory Some (of_disk disk)) disk two_file
     (Stats None false) None [] []
-    (input_left {F = MemStore} {M = MemStore} {S = List ℕ} (ended two_file))
+    (input_left {F = MemStore} {M = MemStore} {S = List ℕ} {I = List ℕ} (ended [] two_file))
 unfolding of_disk
 input_stats_are_honest = record {
   calls = [];
   are = refl;
   answered = tt;
-  standard = these_agree two_file;
+  standard = these_agree {R = List ℕ} [] two_file;
   reveals = tt;
   in_order = tt;
 }
