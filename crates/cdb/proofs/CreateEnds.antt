@@ -27,7 +27,7 @@ use Rattle.cdb_tool.specs.Runs.Made.{Made, made_file, made_lines, made_of}
 use Rattle.cdb.specs.Created.{Created, base_of, create_of, if_opened, in_temporary, is_base, is_in_place, is_input, is_no_name, in_place, is_read, placed, unopened}
 use Rattle.cdb.specs.Creating.{AsksBase, AsksOne, FindsBase, FindsInput, FindsOne, Making, MayBeOne, NotOpened, Replaces}
 use Rattle.cdb_system.specs.Places.{temporary_of}
-use Rattle.cdb_system.specs.Answered.{IsAnswered, if_some}
+use Rattle.cdb_system.specs.Answered.{IsRevealed, if_some}
 use Rattle.cdb.specs.ForetoldCreate.{HadBytes, HasBytes, HoldsAll, IsNoAlias, IsNoFailedRemoval, IsNoFailedRename, KeepsAll, LeavesAll, passing, place_of}
 use Rattle.cdb_system.specs.Inputs.{inputs_read, MissesBase}
 use Rattle.cdb_system.specs.Opening.{OpenCalls, unopened as unopened_fault}
@@ -210,14 +210,14 @@ no_base w g disk input name base inputs temporary o e =
 
 -- its last call was answered as the disk is
 head_answered : {F I M Y : Type 0} (s : Ghosts F) (remaining : I → Option (List ℕ)) (y : Systems Y F I M) (disk : Disk) (read : Option F) (old mid new calls : OpenCalls) (cause : NameFault) (found : Cause) (name : List ℕ) → new ≡ calls ++ old → ((c : OpenCalls) × (mid ≡ c ++ old)) → new ≡ (Unopened cause found, name) ∷ mid
-    → AllByRecursion (λ c. IsAnswered s remaining y disk (if_some read) c.0 c.1) calls → cause ≡ why.Failed → disk name ≡ None
+    → AllByRecursion (λ c. IsRevealed s remaining y disk (if_some read) c.0 c.1) calls → cause ≡ why.Failed → disk name ≡ None
 head_answered s remaining y disk read old mid new calls cause found name e before is all failed =
     let split : calls ≡ (Unopened cause found, name) ∷ before.0 = append_cancel_right calls ((Unopened cause found, name) ∷ before.0) old (sym e ∙ is ∙ ap (λ c. (Unopened cause found, name) ∷ c) before.1) in
-    let answered = (subst (AllByRecursion (λ c. IsAnswered s remaining y disk (if_some read) c.0 c.1)) split all).0 in
-    subst (λ v. IsAnswered s remaining y disk (if_some read) (Unopened v found) name) failed answered
+    let answered = (subst (AllByRecursion (λ c. IsRevealed s remaining y disk (if_some read) c.0 c.1)) split all).0 in
+    subst (λ v. IsRevealed s remaining y disk (if_some read) (Unopened v found) name) failed answered
 
 base_missed : {F I M Y : Type 0} (s : Ghosts F) (remaining : I → Option (List ℕ)) (y : Systems Y F I M) (w g : ℕ) (disk : Disk) (input name : List ℕ) (base : Option (List ℕ)) (inputs : List (List ℕ)) (temporary : Option (List ℕ)) (o : MakeOptions) (old new calls : OpenCalls) (read : Option F) (start end told said : Option (List ℕ)) (fault : Fault)
-    → new ≡ calls ++ old → AllByRecursion (λ c. IsAnswered s remaining y disk (if_some read) c.0 c.1) calls → MissesBase base old new fault → Keeps start end × Keeps told said
+    → new ≡ calls ++ old → AllByRecursion (λ c. IsRevealed s remaining y disk (if_some read) c.0 c.1) calls → MissesBase base old new fault → Keeps start end × Keeps told said
     → EndsEarly o (create_of w g disk input name base inputs temporary o) disk start end told said fault
 base_missed s remaining y w g disk input name None inputs temporary o old new calls read start end told said fault e all h k = absurd h
 base_missed s remaining y w g disk input name (Some base) inputs temporary o old new calls read start end told said fault e all h k =
@@ -225,7 +225,7 @@ base_missed s remaining y w g disk input name (Some base) inputs temporary o old
     (ap (option_map (λ b. Some b)) (head_answered s remaining y disk read old old new calls h.why h.found base e ([], refl) h.calls all failed))) k
 
 pub not_opened_so : {F I M Y : Type 0} (s : Ghosts F) (remaining : I → Option (List ℕ)) (y : Systems Y F I M) (w g : ℕ) (disk : Disk) (input name : List ℕ) (base : Option (List ℕ)) (inputs : List (List ℕ)) (temporary : Option (List ℕ)) (o : MakeOptions) (old new calls : OpenCalls) (read : Option F) (start end told said : Option (List ℕ)) (fault : Fault)
-    → new ≡ calls ++ old → AllByRecursion (λ c. IsAnswered s remaining y disk (if_some read) c.0 c.1) calls → NotOpened y base inputs old new read fault → Keeps start end × Keeps told said
+    → new ≡ calls ++ old → AllByRecursion (λ c. IsRevealed s remaining y disk (if_some read) c.0 c.1) calls → NotOpened y base inputs old new read fault → Keeps start end × Keeps told said
     → EndsEarly o (create_of w g disk input name base inputs temporary o) disk start end told said fault
 not_opened_so s remaining y w g disk input name base inputs temporary o old new calls read start end told said fault e all h k = elim h.calls [
   | inl missed ↦ base_missed s remaining y w g disk input name base inputs temporary o old new calls read start end told said fault e all missed.0 k

@@ -196,7 +196,7 @@ if_err : (P : Type 0) (result : Result Unit Fault) → P → OnErr result P
 if_err P (Ok done) p = tt
 if_err P (Err f) p = p
 
-pub emptied_so : {F I M Y : Type 0} (s : Ghosts F) (m : Ghosts M) (remaining : I → Option (List ℕ)) (y : Systems Y F I M) (w g : ℕ) (disk : Disk) (input name : List ℕ) (base : Option (List ℕ)) (inputs : List (List ℕ)) (temporary : Option (List ℕ)) (o : MakeOptions) (given : Option (List ℕ)) (old mid emptied new : OpenCalls) (file : Option F) (items : InputsLeft) (left : Left F M) (was now : NameCalls) (start end told said : Option (List ℕ)) (result : Result Unit Fault)
+pub emptied_so : {F I J M Y : Type 0} (s : Ghosts F) (m : Ghosts M) (remaining : I → Option (List ℕ)) (y : Systems Y F I M) (w g : ℕ) (disk : Disk) (input name : List ℕ) (base : Option (List ℕ)) (inputs : List (List ℕ)) (temporary : Option (List ℕ)) (o : MakeOptions) (given : Option (List ℕ)) (old mid emptied new : OpenCalls) (file : Option F) (items : InputsLeft) (left : Left F M I J) (was now : NameCalls) (start end told said : Option (List ℕ)) (result : Result Unit Fault)
     → is_standard name ≡ false → is_in_place name temporary ≡ true → GivesInputs disk inputs input given → HonestCreate (files_of s m remaining y) disk name (state_of old was start told) (state_of new now end said) left.read → OpensAll (files_of s m remaining y) base inputs given old mid file items → Keeps start end → AsksAll name base inputs was now → Empties name mid emptied
     → MakesEmptied (files_of s m remaining y) (record { word = w; greatest = g; options = o; base = file; inputs = items }) name emptied (state_of mid was start told) (state_of new now end said) left result → CreateSo m disk name temporary o (create_of w g disk input name base inputs temporary o) new was now left.made start end told said result
 emptied_so s m remaining y w g disk input name base inputs temporary o given old mid emptied new file items left was now start end told said result standard placed_in gives honest opens kept asks empties h =

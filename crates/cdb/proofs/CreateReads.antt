@@ -14,7 +14,7 @@ use Rattle.cdb_show.specs.Runs.Inputs.{InputsLeft}
 use Rattle.cdb_show.specs.Runs.Incoming.{Known, KnownFor}
 use Rattle.cdb.specs.Created.{base_of, is_base, is_input, is_read}
 use Rattle.cdb.specs.Creating.{AsksAll, AsksBase, AsksEach, AsksOne, FindsBase, FindsInput, FindsOne, OpensAll}
-use Rattle.cdb_system.specs.Answered.{IsAnswered, Shows, if_some, IsOfBytes}
+use Rattle.cdb_system.specs.Answered.{IsRevealed, Shows, if_some, IsOfBytes}
 use Rattle.cdb.specs.ForetoldCreate.{IsNoAlias, LeavesAll, place_of}
 use Rattle.cdb_system.specs.Inputs.{inputs_read, OpensBase}
 use Rattle.cdb_system.specs.Opening.{OpenCalls}
@@ -41,11 +41,11 @@ pub record AllKnown {F : Type 0} (s : Ghosts F) (disk : Disk) (base : Option (Li
 
 -- the base
 base_known : {F I M Y : Type 0} (s : Ghosts F) (remaining : I → Option (List ℕ)) (y : Systems Y F I M) (disk : Disk) (read file : Option F) (base : Option (List ℕ)) (old new calls : OpenCalls) → OpensBase y base file old new → (file ≡ None → read ≡ None)
-    → new ≡ calls ++ old → AllByRecursion (λ c. IsAnswered s remaining y disk (if_some read) c.0 c.1) calls → (x : Option (List ℕ)) × (base_of disk base ≡ Some x) × BaseHas s read x
+    → new ≡ calls ++ old → AllByRecursion (λ c. IsRevealed s remaining y disk (if_some read) c.0 c.1) calls → (x : Option (List ℕ)) × (base_of disk base ≡ Some x) × BaseHas s read x
 base_known s remaining y disk read None None old new calls h none e all = (None, refl, subst (λ r. BaseHas s r None) (sym (none refl)) tt)
 base_known s remaining y disk read (Some file) (Some name) old new calls h none e all =
     let only : calls ≡ (AtPlaces, name) ∷ [] = append_cancel_right calls ((AtPlaces, name) ∷ []) old (sym e ∙ h.0) in
-    let answered = (subst (AllByRecursion (λ c. IsAnswered s remaining y disk (if_some read) c.0 c.1)) only all).0 in
+    let answered = (subst (AllByRecursion (λ c. IsRevealed s remaining y disk (if_some read) c.0 c.1)) only all).0 in
     let is = shown s (disk name) read answered in
     (Some is.0, ap (option_map (λ b. Some b)) is.1, is.2)
 base_known s remaining y disk read None (Some name) old new calls h none e all = absurd h
@@ -58,10 +58,10 @@ base_grows y (Some name) None old new h = absurd h
 base_grows y None (Some file) old new h = absurd h
 
 all_known : {F I M Y : Type 0} (s : Ghosts F) (m : Ghosts M) (remaining : I → Option (List ℕ)) (y : Systems Y F I M) (disk : Disk) (input : List ℕ) (base : Option (List ℕ)) (inputs : List (List ℕ)) (given : Option (List ℕ)) (read file : Option F) (left : InputsLeft) (old new calls : OpenCalls) → IsOfBytes disk input → (file ≡ None → read ≡ None)
-    → ((files : List (Option (List ℕ))) → inputs_of disk inputs ≡ Some files → KnownFor files given input) → OpensAll (files_of s m remaining y) base inputs given old new file left → new ≡ calls ++ old → AllByRecursion (λ c. IsAnswered s remaining y disk (if_some read) c.0 c.1) calls
+    → ((files : List (Option (List ℕ))) → inputs_of disk inputs ≡ Some files → KnownFor files given input) → OpensAll (files_of s m remaining y) base inputs given old new file left → new ≡ calls ++ old → AllByRecursion (λ c. IsRevealed s remaining y disk (if_some read) c.0 c.1) calls
     → AllKnown s disk base inputs input read left
 all_known s m remaining y disk input base inputs given read file left old new calls bytes none reads opens e all =
-    let P : OpenCalls → Type 0 = AllByRecursion (λ c. IsAnswered s remaining y disk (if_some read) c.0 c.1) in
+    let P : OpenCalls → Type 0 = AllByRecursion (λ c. IsRevealed s remaining y disk (if_some read) c.0 c.1) in
     let a = base_grows y base file old opens.mid opens.base_is in
     let b = inputs_grow y inputs opens.turns opens.mid new opens.inputs_are in
     let split : calls ≡ b.0 ++ a.0 = same_calls calls a.0 b.0 [] old opens.mid new e a.1 b.1 in
@@ -90,10 +90,10 @@ opens_grow s m remaining y base inputs given old new file left opens =
 
 -- whatever is called then
 pub all_known_by : {F I M Y : Type 0} (s : Ghosts F) (m : Ghosts M) (remaining : I → Option (List ℕ)) (y : Systems Y F I M) (disk : Disk) (input : List ℕ) (base : Option (List ℕ)) (inputs : List (List ℕ)) (given : Option (List ℕ)) (read file : Option F) (left : InputsLeft) (old mid new calls : OpenCalls) → IsOfBytes disk input → (file ≡ None → read ≡ None)
-    → ((files : List (Option (List ℕ))) → inputs_of disk inputs ≡ Some files → KnownFor files given input) → OpensAll (files_of s m remaining y) base inputs given old mid file left → (later : OpenCalls) × (new ≡ later ++ mid) → new ≡ calls ++ old → AllByRecursion (λ c. IsAnswered s remaining y disk (if_some read) c.0 c.1) calls
+    → ((files : List (Option (List ℕ))) → inputs_of disk inputs ≡ Some files → KnownFor files given input) → OpensAll (files_of s m remaining y) base inputs given old mid file left → (later : OpenCalls) × (new ≡ later ++ mid) → new ≡ calls ++ old → AllByRecursion (λ c. IsRevealed s remaining y disk (if_some read) c.0 c.1) calls
     → AllKnown s disk base inputs input read left
 all_known_by s m remaining y disk input base inputs given read file left old mid new calls bytes none reads opens later e all =
-    let P : OpenCalls → Type 0 = AllByRecursion (λ c. IsAnswered s remaining y disk (if_some read) c.0 c.1) in
+    let P : OpenCalls → Type 0 = AllByRecursion (λ c. IsRevealed s remaining y disk (if_some read) c.0 c.1) in
     let first = opens_grow s m remaining y base inputs given old mid file left opens in
     let split : calls ≡ later.0 ++ first.0 = same_calls calls first.0 later.0 [] old mid new e first.1 later.1 in
     let answered : P (later.0 ++ first.0) = subst P split all in

@@ -28,11 +28,11 @@ use Rattle.cdb_system.specs.Answered.{GivesInputs}
 -- ---- each create
 
 -- nothing that was made is handed back
-with_none : {F M : Type 0} (m : Ghosts M) (disk : Disk) (name : List ℕ) (temporary : Option (List ℕ)) (o : MakeOptions) (c : Created) (opened : OpenCalls) (was now : NameCalls) (base : Option F) (left : Left F M) (start end told said : Option (List ℕ)) (result : Result Unit Fault) → left ≡ base_left base → CreateSo m disk name temporary o c [] was now None start end told said result
+with_none : {F I J M : Type 0} (m : Ghosts M) (disk : Disk) (name : List ℕ) (temporary : Option (List ℕ)) (o : MakeOptions) (c : Created) (opened : OpenCalls) (was now : NameCalls) (base : Option F) (left : Left F M I J) (start end told said : Option (List ℕ)) (result : Result Unit Fault) → left ≡ base_left base → CreateSo m disk name temporary o c [] was now None start end told said result
     → CreateSo m disk name temporary o c opened was now left.made start end told said result
 with_none m disk name temporary o c opened was now base left start end told said result e h =
     let same : CreateSo m disk name temporary o c opened was now None start end told said result = record { answer = h.answer; done = h.done; failed = h.failed; moments = h.moments } in
-    subst (λ (v : Option _). CreateSo m disk name temporary o c opened was now v start end told said result) (sym (ap (λ (l : Left _ _). l.made) e)) same
+    subst (λ (v : Option _). CreateSo m disk name temporary o c opened was now v start end told said result) (sym (ap (λ (l : Left _ _ _ _). l.made) e)) same
 
 in_place_now : (name : List ℕ) (temporary : Option (List ℕ)) → IsInPlace name temporary → is_in_place name temporary ≡ true
 in_place_now name None h = absurd h
@@ -43,7 +43,7 @@ in_place_not : (name : List ℕ) (temporary : Option (List ℕ)) → (IsInPlace 
 in_place_not name None other = refl
 in_place_not name (Some t) other = or_from _ _ (false_from_ne_true (bytes_eq t (codes "-")) (λ e. other (inl ((bytes_eq-Decides t (codes "-")).0 e)))) (false_from_ne_true (bytes_eq t name) (λ e. other (inr ((bytes_eq-Decides t name).0 e))))
 
-pub creates_so : {F I M R Y : Type 0} (s : Ghosts F) (m : Ghosts M) (r : Raw R) (remaining : I → Option (List ℕ)) (y : Systems Y F I M) (w g : ℕ) (disk : Disk) (input name : List ℕ) (base : Option (List ℕ)) (inputs : List (List ℕ)) (temporary : Option (List ℕ)) (o : MakeOptions) (given : Option (List ℕ)) (old new : OpenCalls) (left : Left F M) (was now : NameCalls) (start end told said : Option (List ℕ)) (result : Result Unit Fault)
+pub creates_so : {F I J M R Y : Type 0} (s : Ghosts F) (m : Ghosts M) (r : Raw R) (remaining : I → Option (List ℕ)) (y : Systems Y F I M) (w g : ℕ) (disk : Disk) (input name : List ℕ) (base : Option (List ℕ)) (inputs : List (List ℕ)) (temporary : Option (List ℕ)) (o : MakeOptions) (given : Option (List ℕ)) (old new : OpenCalls) (left : Left F M I J) (was now : NameCalls) (start end told said : Option (List ℕ)) (result : Result Unit Fault)
     → GivesInputs disk inputs input given → HonestCreate (files_of s m remaining y) disk name (state_of old was start told) (state_of new now end said) left.read → Creates (files_of s m remaining y) r (record { word = w; greatest = g; options = o; name = name; base = base; inputs = inputs; temporary = temporary }) given (state_of old was start told) (state_of new now end said) left result
     → CreateSo m disk name temporary o (create_of w g disk input name base inputs temporary o) new was now left.made start end told said result
 creates_so s m r remaining y w g disk input name base inputs temporary o given old new left was now start end told said result gives honest (inl (fault, is, not_opened, same, handed, kept, silent)) =

@@ -103,7 +103,7 @@ pub failed_stays : {T E : Type 0} (r : Result T E) (old new : Bool) → OnOk r (
 failed_stays (Ok done) old new same failed is = same ∙ is
 failed_stays (Err e) old new same failed is = failed
 
-pub run_kept : {F I M R Y : Type 0} (s : Ghosts F) (m : Ghosts M) (r : Raw R) (remaining : I → Option (List ℕ)) (y : Systems Y F I M) (planned : Result Asked Refused) (explained : Bool) (input : Option (List ℕ)) (old new : Y) (was now : NameCalls) (left : Left F M) (start end final told mid said : Option (List ℕ)) (unwritten before after : Type 0) (status : ℕ)
+pub run_kept : {F I J M R Y : Type 0} (s : Ghosts F) (m : Ghosts M) (r : Raw R) (remaining : I → Option (List ℕ)) (y : Systems Y F I M) (planned : Result Asked Refused) (explained : Bool) (input : Option (List ℕ)) (old new : Y) (was now : NameCalls) (left : Left F M I J) (start end final told mid said : Option (List ℕ)) (unwritten before after : Type 0) (status : ℕ)
     → Runs (files_of s m remaining y) r (given_of planned explained input) (state_of old was start told) (state_of new now end mid) final left (failed_of unwritten before) status → (before → after) → Keeps mid said → Runs (files_of s m remaining y) r (given_of planned explained input) (state_of old was start told) (state_of new now end said) final left (failed_of unwritten after) status
 run_kept s m r remaining y planned explained input old new was now left start end final told mid said unwritten before after status h stays k = elim h as (λ _. Runs (files_of s m remaining y) r (given_of planned explained input) (state_of old was start told) (state_of new now end said) final left (failed_of unwritten after) status) [
   | inl none ↦ inl (record { refused = none.refused; why = none.why; line = line_kept (refused_lines explained none.refused) told mid said before after stays none.line k; untouched = none.untouched; none = none.none; same = none.same; kept = none.kept; is_status = none.is_status })

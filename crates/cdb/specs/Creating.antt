@@ -203,8 +203,8 @@ SeesName name was now (Err fault) result = (now ≡ was) × (result ≡ Err faul
 
 -- a run was made in the store that came, which was emptied by these calls. It has the database once the run
 -- and its sync succeed, and the create succeeds if the name has the file then. It is left so
-pub record MakesEmptied {F I M Y : Type 0} (files : Files F I M Y) (m : Making F) (name : List ℕ)
-    (emptied : OpenCalls) (old new : State OpenCalls) (left : Left F M) (result : Result Unit Fault)
+pub record MakesEmptied {F I J M Y : Type 0} (files : Files F I M Y) (m : Making F) (name : List ℕ)
+    (emptied : OpenCalls) (old new : State OpenCalls) (left : Left F M I J) (result : Result Unit Fault)
     : Type 0 where
   pub store : M
   pub came : files.system.makes name store
@@ -224,8 +224,8 @@ pub record MakesEmptied {F I M Y : Type 0} (files : Files F I M Y) (m : Making F
 -- a file that is read may be the one of the name; or none is, as was asked of each, and then the file of
 -- the name is not emptied, or it is, once its lock is held. The base is handed back, as it was if nothing
 -- was built
-abbrev pub MakesInPlace : {F I M Y : Type 0} → Files F I M Y → Making F → Wanted
-    → (old new : State OpenCalls) → Left F M → Result Unit Fault → Type 0
+abbrev pub MakesInPlace : {F I J M Y : Type 0} → Files F I M Y → Making F → Wanted
+    → (old new : State OpenCalls) → Left F M I J → Result Unit Fault → Type 0
 MakesInPlace files m wanted old new left result =
     (FindsOne wanted.name wanted.base wanted.inputs old.named new.named × (new.opened ≡ old.opened)
     × (left ≡ base_left m.base) × (result ≡ Err Open) × Keeps old.errors new.errors)
@@ -285,8 +285,8 @@ MakesApart f r m temporary wanted old new back result =
     × Replaces f r m temporary wanted.name (record old { named = mid }) new back result)
 
 -- it is made in place; or in a temporary file, unless the allocation of its name failed
-abbrev pub MakesNamed : {F I M R Y : Type 0} → Files F I M Y → Raw R → Making F → Wanted
-    → (old new : State OpenCalls) → Left F M → Result Unit Fault → Type 0
+abbrev pub MakesNamed : {F I J M R Y : Type 0} → Files F I M Y → Raw R → Making F → Wanted
+    → (old new : State OpenCalls) → Left F M I J → Result Unit Fault → Type 0
 MakesNamed files r m wanted old new left result =
     (IsInPlace wanted.name wanted.temporary × MakesInPlace files m wanted old new left result)
     ⊎ ((IsInPlace wanted.name wanted.temporary → ⊥) × (new.opened ≡ old.opened)
@@ -315,8 +315,8 @@ pub record NotOpened {F I M Y : Type 0} (y : Systems Y F I M) (base : Option (Li
       × OpensBase y base back old mid × StopsOpening y inputs mid new fault)
 
 -- the database is made, on standard output or under its name, where standard output stays as it is
-abbrev pub MakesAt : {F I M R Y : Type 0} → Files F I M Y → Raw R → Making F → Wanted
-    → (old new : State OpenCalls) → Left F M → Result Unit Fault → Type 0
+abbrev pub MakesAt : {F I J M R Y : Type 0} → Files F I M Y → Raw R → Making F → Wanted
+    → (old new : State OpenCalls) → Left F M I J → Result Unit Fault → Type 0
 MakesAt files r m wanted old new left result =
     (IsStandard wanted.name × (new.opened ≡ old.opened) × (new.named ≡ old.named)
     × (left ≡ base_left left.read)
@@ -326,8 +326,8 @@ MakesAt files r m wanted old new left result =
 
 -- all that is read is opened, and then the database is made of it; or nothing is made. A base that was
 -- opened is handed back, as it came if nothing was built; so is a file that was made in place
-abbrev pub Creates : {F I M R Y : Type 0} → Files F I M Y → Raw R → Wanted
-    → (standard : Option (List ℕ)) → (old new : State OpenCalls) → Left F M → Result Unit Fault → Type 0
+abbrev pub Creates : {F I J M R Y : Type 0} → Files F I M Y → Raw R → Wanted
+    → (standard : Option (List ℕ)) → (old new : State OpenCalls) → Left F M I J → Result Unit Fault → Type 0
 Creates {F = F} files r wanted standard old new left result =
     ((fault : Fault) × (result ≡ Err fault)
     × NotOpened files.system wanted.base wanted.inputs old.opened new.opened left.read fault

@@ -21,7 +21,7 @@ use Rattle.cdb_show.specs.declared.fault.Fault.TheVariants.{Open, Output, Rename
 use Rattle.cdb.specs.Created.{Created, create_of, created_ending, is_in_place}
 use Rattle.cdb_system.specs.Places.{temporary_of}
 use Rattle.cdb_system.specs.Files.{Files}
-use Rattle.cdb_system.specs.Answered.{GivesInputs, IsAnswered, if_some}
+use Rattle.cdb_system.specs.Answered.{GivesInputs, IsRevealed, if_some}
 use Rattle.cdb_system.specs.Opening.{OpenCalls}
 use Rattle.cdb_system.specs.Oracle.{Disk, greatest_size, is_standard, word_size}
 use Rattle.cdb_system.specs.State.{Given, State, with_calls}
@@ -47,7 +47,7 @@ pub record HonestCreate {F I M Y : Type 0} (files : Files F I M Y) (disk : Disk)
   pub calls : OpenCalls
   pub are : new.opened ≡ calls ++ old.opened
   pub answered : AllByRecursion
-      (λ c. IsAnswered files.stores files.remaining files.system disk (if_some read) c.0 c.1) calls
+      (λ c. IsRevealed files.stores files.remaining files.system disk (if_some read) c.0 c.1) calls
   pub first : old.named ≡ []
   pub alone : AllByRecursion IsNoAlias new.named
   pub held : Option (List ℕ)
@@ -174,8 +174,8 @@ pub record CreateHolds {M : Type 0} (m : Ghosts M) (x : Expected) (explained : B
       (LeavesAll x.disk (passing x.name x.temporary) x.created.disk) old.named new.named
 
 -- a run of these words, which ask for a create
-abbrev pub IsCreateForetold : {F I M Y : Type 0} → Files F I M Y → Given (Result Asked Refused)
-    → (old new : State Y) → Left F M → (taken : Type 0) → (status : ℕ) → Type 0
+abbrev pub IsCreateForetold : {F I J M Y : Type 0} → Files F I M Y → Given (Result Asked Refused)
+    → (old new : State Y) → Left F M I J → (taken : Type 0) → (status : ℕ) → Type 0
 IsCreateForetold files given old new left taken status =
     (disk : Disk) (input name : List ℕ) (base : Option (List ℕ)) (inputs : List (List ℕ))
     (temporary : Option (List ℕ)) (o : MakeOptions) (wide : Bool)

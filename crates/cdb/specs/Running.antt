@@ -47,17 +47,17 @@ abbrev pub taken : {Y O E : Type 0} → Taking O E → World Y O E → State Y
 taken t w = state_of w.system w.named (t.output w.output.writer) (t.errors w.errors.writer)
 
 -- what the words ask for was done, and its output handed on, if no older one was held
-pub record Answers {F I M R Y O E : Type 0} (files : Files F I M Y) (r : Raw R)
+pub record Answers {F I J M R Y O E : Type 0} (files : Files F I M Y) (r : Raw R)
     (given : Given (Result Asked Refused)) (t : Taking O E) (old new : World Y O E)
-    (left : Left F M) (status : ℕ) : Type 0 where
+    (left : Left F M I J) (status : ℕ) : Type 0 where
   pub runs : Runs files r given (written t old) (written t new) (t.output new.output.writer) left
       (failed_of (OutputFailed new.output) (OutputFailed new.errors)) status
   pub handed : held_by old.output ≡ [] → HasHandedOn new.output
 
 -- and so were the lines; and if all was taken, what the oracle foretold came true
-pub record IsRun {F I M R Y O E : Type 0} (files : Files F I M Y) (r : Raw R)
+pub record IsRun {F I J M R Y O E : Type 0} (files : Files F I M Y) (r : Raw R)
     (given : Given (Result Asked Refused)) (t : Taking O E) (old new : World Y O E)
-    (left : Left F M) (status : ℕ) : Type 0 where
+    (left : Left F M I J) (status : ℕ) : Type 0 where
   pub answers : Answers files r given t old new left status
   pub said : HasHandedOn new.errors
   pub foretold : IsForetold files given (written t old) (taken t new) left

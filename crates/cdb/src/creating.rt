@@ -52,7 +52,7 @@ pub(crate) fn create<L, Y, N, I, O, E>(
     input: I,
     output: &mut O,
     errors: &mut E,
-) -> (Left<Y::File, Y::Made>, Result<(), Fault>)
+) -> (Left<Y::File, Y::Made, Y::Stream, I>, Result<(), Fault>)
 where
     L: Width,
     Y: System,

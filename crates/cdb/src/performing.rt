@@ -61,7 +61,7 @@ pub(crate) fn perform_in<L, Y, N, I, O, E>(
     input: I,
     output: &mut O,
     errors: &mut E,
-) -> (Left<Y::File, Y::Made>, Result<(), Fault>)
+) -> (Left<Y::File, Y::Made, Y::Stream, I>, Result<(), Fault>)
 where
     L: Width,
     Y: System,
@@ -88,7 +88,7 @@ where
             number,
             lines,
             ..
-        } => query::<L, Y, O>(system, name.as_str(), key.as_str(), *number, *lines, output),
+        } => query::<L, Y, I, O>(system, name.as_str(), key.as_str(), *number, *lines, output),
         Command::Lookups {
             name,
             inputs,
@@ -108,17 +108,15 @@ where
         ),
         Command::Dump { name, style, .. } => {
             let content = Content::Records;
-            let answer = text::<L, Y, I, O>(alloc, system, content, name, *style, input, output);
-            (none_left(), answer)
+            text::<L, Y, I, O>(alloc, system, content, name, *style, input, output)
         }
         Command::List { name, style, .. } => {
             let content = Content::Keys;
-            let answer = text::<L, Y, I, O>(alloc, system, content, name, *style, input, output);
-            (none_left(), answer)
+            text::<L, Y, I, O>(alloc, system, content, name, *style, input, output)
         }
         Command::Stats { name, .. } => { stats::<L, Y, I, O>(alloc, system, name, input, output) }
         Command::Check { name, .. } => check::<L, Y, I>(alloc, system, name, input),
-        Command::Difference { old, new, .. } => difference::<L, Y, O>(
+        Command::Difference { old, new, .. } => difference::<L, Y, I, O>(
             alloc,
             system,
             old.as_str(),

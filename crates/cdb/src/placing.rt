@@ -173,7 +173,7 @@ pub(crate) fn make_in_place<L, Y, N, I, E>(
     creation: Creation<'_>,
     contents: Contents<'_, L, Y::File, Y::Stream, I>,
     errors: &mut E,
-) -> (Left<Y::File, Y::Made>, Result<(), Fault>)
+) -> (Left<Y::File, Y::Made, Y::Stream, I>, Result<(), Fault>)
 where
     L: Width,
     Y: System,
@@ -208,6 +208,8 @@ where
         read,
         other: None,
         made: Some(store),
+        stream: None,
+        input: None,
     };
     (left, answer)
 }

@@ -26,7 +26,7 @@ pub(crate) fn run<Y, N, I, O, E>(
     input: I,
     output: &mut Output<O>,
     errors: &mut Output<E>,
-) -> (Left<Y::File, Y::Made>, u8)
+) -> (Left<Y::File, Y::Made, Y::Stream, I>, u8)
 where
     Y: System,
     N: Names,
@@ -56,7 +56,7 @@ fn answer<Y, N, I, O, E>(
     input: I,
     output: &mut Output<O>,
     errors: &mut Output<E>,
-) -> (Left<Y::File, Y::Made>, u8)
+) -> (Left<Y::File, Y::Made, Y::Stream, I>, u8)
 where
     Y: System,
     N: Names,
@@ -81,7 +81,7 @@ where
     match performed {
         Ok(()) => (left, DONE),
         Err(fault) => {
-            let more = cause_of::<Y, N>(alloc, &lines, &command, &fault, system, names, &left);
+            let more = cause_of::<Y, N, I>(alloc, &lines, &command, &fault, system, names, &left);
             tell(&fault, more.as_slice(), errors);
             (left, status_of(&command, &fault))
         }
@@ -92,14 +92,14 @@ where
 /// none is known or there is no memory for it.
 #[cold]
 #[inline(never)]
-fn cause_of<Y, N>(
+fn cause_of<Y, N, I>(
     alloc: Global,
     lines: &Lines,
     command: &Command,
     fault: &Fault,
     system: &Y,
     names: &N,
-    left: &Left<Y::File, Y::Made>,
+    left: &Left<Y::File, Y::Made, Y::Stream, I>,
 ) -> Vec<u8>
 where
     Y: System,
@@ -111,7 +111,7 @@ where
     if !lines.counts {
         return none;
     }
-    let Some(reason) = reason_of::<Y, N>(command, fault, lines, system, names, left) else {
+    let Some(reason) = reason_of::<Y, N, I>(command, fault, lines, system, names, left) else {
         return none;
     };
     match cause_line(alloc, &reason) {
@@ -130,7 +130,7 @@ fn perform<Y, N, I, O, E>(
     input: I,
     output: &mut Output<O>,
     errors: &mut E,
-) -> (Left<Y::File, Y::Made>, Result<(), Fault>)
+) -> (Left<Y::File, Y::Made, Y::Stream, I>, Result<(), Fault>)
 where
     Y: System,
     N: Names,

@@ -11,7 +11,7 @@ use Rattle.cdb_show.specs.declared.inputs.Turn.{Turn}
 use Rattle.cdb_show.specs.declared.inputs.Turn.TheVariants.{Own, Shared}
 use Rattle.cdb_show.specs.Runs.Inputs as form
 use Rattle.cdb_show.specs.Runs.Incoming.{EachOfBytes, one_input}
-use Rattle.cdb_system.specs.Answered.{IsAnswered, Reveals, if_some}
+use Rattle.cdb_system.specs.Answered.{IsRevealed, Reveals, if_some}
 use Rattle.cdb_system.specs.Inputs.{IsStandard, OpensEach, OpensInput, OpensInputs}
 use Rattle.cdb_system.specs.Opening.{OpenCalls}
 use Rattle.cdb_system.specs.Oracle.{Disk, both, each_of, input_of, inputs_of, is_standard}
@@ -69,12 +69,12 @@ grows y (name ∷ names) [] old new e = absurd e
 
 -- one input
 one_known : {F I M Y : Type 0} (s : Ghosts F) (remaining : I → Option (List ℕ)) (y : Systems Y F I M) (disk : Disk) (read : Option F) (name : List ℕ) (turn : Turn I) (old new calls : OpenCalls) → ((name : List ℕ) → IfSome (disk name) AreBytes) → OpensInput y name turn old new
-    → new ≡ calls ++ old → AllByRecursion (λ c. IsAnswered s remaining y disk (if_some read) c.0 c.1) calls → (one : Option (List ℕ)) × (input_of disk name ≡ Some one) × (one_of remaining turn ≡ one_input one) × EachOfBytes (one ∷ [])
+    → new ≡ calls ++ old → AllByRecursion (λ c. IsRevealed s remaining y disk (if_some read) c.0 c.1) calls → (one : Option (List ℕ)) × (input_of disk name ≡ Some one) × (one_of remaining turn ≡ one_input one) × EachOfBytes (one ∷ [])
 one_known s remaining y disk read name Shared old new calls bytes h e all =
     (None, cond-true (is_standard name) _ _ (standard_is name h.0), refl, tt)
 one_known s remaining y disk read name (Own file) old new calls bytes h e all =
     let only : calls ≡ (InTurn, name) ∷ [] = append_cancel_right calls ((InTurn, name) ∷ []) old (sym e ∙ h.1) in
-    let answered = (subst (AllByRecursion (λ c. IsAnswered s remaining y disk (if_some read) c.0 c.1)) only all).0 in
+    let answered = (subst (AllByRecursion (λ c. IsRevealed s remaining y disk (if_some read) c.0 c.1)) only all).0 in
     let is = revealed (disk name) (remaining file) (answered file h.2) in (
       Some is.0,
       cond-false (is_standard name) _ _ (standard_not name h.0) ∙ ap (option_map (λ b. Some b)) is.1,
@@ -90,10 +90,10 @@ pub same_calls : (a b c d : OpenCalls) (old mid new : OpenCalls) → new ≡ a +
 same_calls a b c d old mid new e f g = append_cancel_right a (c ++ b) old (sym e ∙ g ∙ ap (λ m. c ++ m) f ∙ sym (append_assoc c b old))
 
 each_known : {F I M Y : Type 0} (s : Ghosts F) (remaining : I → Option (List ℕ)) (y : Systems Y F I M) (disk : Disk) (read : Option F) (names : List (List ℕ)) (turns : List (Turn I)) (old new calls : OpenCalls) → ((name : List ℕ) → IfSome (disk name) AreBytes) → OpensEach y names turns old new
-    → new ≡ calls ++ old → AllByRecursion (λ c. IsAnswered s remaining y disk (if_some read) c.0 c.1) calls → EachKnown remaining disk names turns
+    → new ≡ calls ++ old → AllByRecursion (λ c. IsRevealed s remaining y disk (if_some read) c.0 c.1) calls → EachKnown remaining disk names turns
 each_known s remaining y disk read [] [] old new calls bytes h e all = record { files = []; are = refl; each = refl; own = tt }
 each_known s remaining y disk read (name ∷ names) (turn ∷ turns) old new calls bytes (mid, one, more) e all =
-    let P : OpenCalls → Type 0 = AllByRecursion (λ c. IsAnswered s remaining y disk (if_some read) c.0 c.1) in
+    let P : OpenCalls → Type 0 = AllByRecursion (λ c. IsRevealed s remaining y disk (if_some read) c.0 c.1) in
     let a = one_grows y name turn old mid one in
     let b = grows y names turns mid new more in
     let split : calls ≡ b.0 ++ a.0 = same_calls calls a.0 b.0 [] old mid new e a.1 b.1 in
@@ -114,7 +114,7 @@ inputs_grow y [] turns old new h = ([], h.1)
 inputs_grow y (name ∷ names) turns old new h = grows y (name ∷ names) turns old new h
 
 pub inputs_known : {F I M Y : Type 0} (s : Ghosts F) (remaining : I → Option (List ℕ)) (y : Systems Y F I M) (disk : Disk) (read : Option F) (names : List (List ℕ)) (turns : List (Turn I)) (old new calls : OpenCalls) → ((name : List ℕ) → IfSome (disk name) AreBytes) → OpensInputs y names turns old new
-    → new ≡ calls ++ old → AllByRecursion (λ c. IsAnswered s remaining y disk (if_some read) c.0 c.1) calls → (files : List (Option (List ℕ))) × (inputs_of disk names ≡ Some files) × (map (one_of remaining) turns ≡ map one_input files) × EachOfBytes files
+    → new ≡ calls ++ old → AllByRecursion (λ c. IsRevealed s remaining y disk (if_some read) c.0 c.1) calls → (files : List (Option (List ℕ))) × (inputs_of disk names ≡ Some files) × (map (one_of remaining) turns ≡ map one_input files) × EachOfBytes files
 inputs_known s remaining y disk read [] turns old new calls bytes h e all = (None ∷ [], refl, ap (map (one_of remaining)) h.0, tt)
 inputs_known s remaining y disk read (name ∷ names) turns old new calls bytes h e all =
     let k = each_known s remaining y disk read (name ∷ names) turns old new calls bytes h e all in

@@ -7,3 +7,5 @@ pub mod ManyKeys
 pub mod Opens
 pub mod OutputTaken
 pub mod Said
+pub mod Streams
+pub mod StreamsRead

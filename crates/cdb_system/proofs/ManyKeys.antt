@@ -1,7 +1,10 @@
 -- A query of the keys that inputs give comes to what the oracle says.
 use Rattle.cdb_system.proofs.OutputTaken.{MayGiveUp}
-use Rattle.std.proofs.Common.{ℕ, true, ◌<◌, ◌≤◌, List, [], ◌∷◌, ◌++◌, length, Option, Some, None, Result, Err, ◌≡◌, ◌∙◌, ap, inl, inr, refl, subst, sym, append_assoc}
+use Rattle.std.proofs.Common.{ℕ, Bool, true, ◌<◌, ◌≤◌, List, [], ◌∷◌, ◌++◌, length, Option, Some, None, Result, Err, ◌≡◌, ◌∙◌, ap, inl, inr, refl, subst, sym, append_assoc}
 use Rattle.std.specs.List.{AllByRecursion}
+use Rattle.std.proofs.lemmas.List.{append_cancel_right}
+use Rattle.cdb_command.specs.Asked.{Lookups}
+use Rattle.cdb_feed.specs.declared.noted_reader.NotedReader.{NotedReader}
 use Rattle.std.specs.Io.KnownBytes.{Keeps}
 use Rattle.cdb_command.specs.declared.style.Style.{Style}
 use Rattle.cdb_names.specs.declared.name_fault.NameFault.{NameFault}
@@ -21,7 +24,7 @@ use Rattle.cdb_show.specs.declared.fault.Fault.TheVariants.{Text, Read, Output, 
 use Rattle.cdb_show.specs.declared.inputs.Turn.{Turn}
 use Rattle.cdb_show.specs.declared.inputs.Turn.TheVariants.{Own, Shared}
 use Rattle.cdb_show.proofs.LookedUp.{IsLookupRefusal, LooksOrShort, lookups_asked}
-use Rattle.cdb_system.specs.Answered.{AreAnswered, GivesInputs, IsAnswered, Texts, stores_before, stores_in}
+use Rattle.cdb_system.specs.Answered.{AreAnswered, IsAnswered, IsRevealed, RevealsInputs, Texts, stores_before, stores_in, streams_before, streams_in}
 use Rattle.cdb_system.specs.Inputs.{OpensEach, OpensInput, OpensInputs}
 use Rattle.cdb_system.specs.Opening.{OpenCalls, unopened}
 use Rattle.cdb_system.specs.Oracle.{Disk, Outcome, ended, inputs_of, lookups_outcome, of_file, of_inputs}
@@ -31,7 +34,7 @@ use Rattle.cdb_system.specs.declared.open_trace.OpenCall.TheVariants.{AtPlaces, 
 use Rattle.cdb_system.specs.declared.system.System.{Ghosts as Systems}
 use Rattle.cdb_system.proofs.Coming.{Comes, EachAnswered, IsSized, comes_so, gives_none, gives_up, long_is, nothing_written, of_shown, output_of, refused_so, short_is}
 use Rattle.cdb_system.proofs.InputsKnown.{input_missing, missing_inputs}
-use Rattle.cdb_system.proofs.InputsKnown.{grows, inputs_known}
+use Rattle.cdb_system.proofs.InputsKnown.{all_front, grows, inputs_known}
 use Rattle.cdb_system.specs.State.{State}
 use Rattle.cdb_system.specs.Files.{files_of}
 
@@ -64,13 +67,11 @@ in_turn : {F I M Y : Type 0} (y : Systems Y F I M) (names : List (List ℕ)) (tu
 in_turn y [] turns old new h = record { since = []; are = h.1; each = tt }
 in_turn y (name ∷ names) turns old new h = each_in_turn y (name ∷ names) turns old new h
 
--- so they were answered whatever stores were opened, and the others before them
-answered_apart : {F I M Y : Type 0} (s : Ghosts F) (remaining : I → Option (List ℕ)) (y : Systems Y F I M) (disk : Disk) (stores : List F) (since calls : OpenCalls) → AllByRecursion (λ c. c.0 ≡ InTurn) since → AreAnswered s remaining y disk (since ++ calls) stores
-    → AllByRecursion (λ c. IsAnswered s remaining y disk stores c.0 c.1) since × AreAnswered s remaining y disk calls stores
-answered_apart s remaining y disk stores [] calls each h = (tt, h)
-answered_apart s remaining y disk stores (c ∷ since) calls each h =
-    let rest = answered_apart s remaining y disk stores since calls each.1 (subst (λ k. AreAnswered s remaining y disk (since ++ calls) (stores_before k stores)) each.0 h.1) in
-    ((h.0, rest.0), rest.1)
+-- so the calls before them were answered, whatever stores were opened
+answered_before : (I : Type 0) {F : Type 0} (s : Ghosts F) (disk : Disk) (stores : List F) (since calls : OpenCalls) → AllByRecursion (λ c. c.0 ≡ InTurn) since → AreAnswered {I = I} s disk (since ++ calls) stores [] → AreAnswered {I = I} s disk calls stores []
+answered_before I s disk stores [] calls each h = h
+answered_before I s disk stores (c ∷ since) calls each h =
+    answered_before I s disk stores since calls each.1 (subst (λ k. AreAnswered {I = I} s disk (since ++ calls) (stores_before k stores) (streams_before k [])) each.0 h.1)
 
 -- ---- one was not
 
@@ -78,15 +79,15 @@ not_there : (file : Option (List ℕ)) → of_file file (λ bytes. ended plain_s
 not_there None = refl
 not_there (Some bytes) = refl
 
-inputs_missed : {F I M Y : Type 0} (s : Ghosts F) (remaining : I → Option (List ℕ)) (y : Systems Y F I M) (disk : Disk) (stores : List F) (file : Option (List ℕ)) (files : Option (List (Option (List ℕ)))) (outcome : List ℕ → List (Option (List ℕ)) → Outcome) (name : List ℕ) (cause : NameFault) (found : Cause) (start end : Option (List ℕ))
-    → IsAnswered s remaining y disk stores (Unopened cause found) name → (disk name ≡ None → files ≡ None) → Keeps start end → Comes true Texts plain_status (of_file file (λ bytes. of_inputs files (outcome bytes))) start end (Err (unopened cause))
-inputs_missed s remaining y disk stores file files outcome name why.Failed found start end none missing k =
+inputs_missed : {F I : Type 0} (s : Ghosts F) (disk : Disk) (stores : List F) (streams : List (NotedReader I)) (file : Option (List ℕ)) (files : Option (List (Option (List ℕ)))) (outcome : List ℕ → List (Option (List ℕ)) → Outcome) (name : List ℕ) (cause : NameFault) (found : Cause) (start end : Option (List ℕ))
+    → IsAnswered s disk stores streams (Unopened cause found) name → (disk name ≡ None → files ≡ None) → Keeps start end → Comes true Texts plain_status (of_file file (λ bytes. of_inputs files (outcome bytes))) start end (Err (unopened cause))
+inputs_missed s disk stores streams file files outcome name why.Failed found start end none missing k =
     comes_so true Texts plain_status _ [] start end (Err Open) (ap (λ f. of_file file (λ bytes. of_inputs f (outcome bytes))) (missing none) ∙ not_there file) (nothing_written start end k)
-inputs_missed s remaining y disk stores file files outcome name why.NoMemory found start end none missing k = gives_none true Texts plain_status _ start end NoMemory tt k
+inputs_missed s disk stores streams file files outcome name why.NoMemory found start end none missing k = gives_none true Texts plain_status _ start end NoMemory tt k
 
-inputs_refused : {F I M Y : Type 0} (w g : ℕ) (s : Ghosts F) (m : Ghosts M) (remaining : I → Option (List ℕ)) (y : Systems Y F I M) (name : List ℕ) (inputs : List (List ℕ)) (disk : Disk) (stores : List F) (outcome : List ℕ → List (Option (List ℕ)) → Outcome) (old new : State Y) (left : Left F M) (result : Result Unit Fault)
-    → EachAnswered s remaining y disk stores (y.calls old.opened) (y.calls new.opened) → RefusesInputs (files_of s m remaining y) name inputs old new left result → Comes true Texts plain_status (of_file (disk name) (λ bytes. of_inputs (inputs_of disk inputs) (outcome bytes))) old.output new.output result
-inputs_refused w g s m remaining y name inputs disk stores outcome old new left result answers h = elim h.stops.last [
+inputs_refused : {F I J M Y : Type 0} (w g : ℕ) (s : Ghosts F) (m : Ghosts M) (remaining : I → Option (List ℕ)) (y : Systems Y F I M) (name : List ℕ) (inputs : List (List ℕ)) (disk : Disk) (stores : List F) (streams : List (NotedReader I)) (outcome : List ℕ → List (Option (List ℕ)) → Outcome) (old new : State Y) (left : Left F M I J) (result : Result Unit Fault)
+    → EachAnswered s disk stores streams (y.calls old.opened) (y.calls new.opened) → RefusesInputs (files_of s m remaining y) name inputs old new left result → Comes true Texts plain_status (of_file (disk name) (λ bytes. of_inputs (inputs_of disk inputs) (outcome bytes))) old.output new.output result
+inputs_refused w g s m remaining y name inputs disk stores streams outcome old new left result answers h = elim h.stops.last [
   | inl memory ↦ subst (Comes true Texts plain_status _ old.output new.output) (sym (h.is ∙ ap (λ (f : Fault). Err f) memory.1)) (gives_none true Texts plain_status _ old.output new.output NoMemory tt h.kept)
   | inr missed ↦ (let stops = h.stops in
       let miss = missed.3.1 in
@@ -95,7 +96,7 @@ inputs_refused w g s m remaining y name inputs disk stores outcome old new left 
       miss.calls ∙ ap (λ c. (Unopened miss.why miss.found, missed.0) ∷ c) (opened.1 ∙ sym (append_assoc opened.0 ((AtPlaces, name) ∷ []) (y.calls old.opened))) in
       let answered = (answers ((Unopened miss.why miss.found, missed.0) ∷ (opened.0 ++ (AtPlaces, name) ∷ [])) calls).0 in
       subst (Comes true Texts plain_status _ old.output new.output) (sym (h.is ∙ ap (λ (f : Fault). Err f) miss.is))
-      (inputs_missed s remaining y disk stores (disk name) (inputs_of disk inputs) outcome missed.0 miss.why miss.found old.output new.output answered
+      (inputs_missed s disk stores streams (disk name) (inputs_of disk inputs) outcome missed.0 miss.why miss.found old.output new.output answered
       (λ none. missing_inputs disk inputs stops.opened missed.0 missed.1 (stops.are ∙ ap (λ l. stops.opened ++ l) missed.2) (input_missing disk missed.0 missed.3.0 none)) h.kept))
 ]
 
@@ -124,25 +125,28 @@ lookups_come w g s number style files input old last bytes start end result size
           ])
     ]
 
-pub lookups_foretold : {F I M Y : Type 0} (remaining : I → Option (List ℕ)) (w g : ℕ) (s : Ghosts F) (m : Ghosts M) (y : Systems Y F I M) (name : List ℕ) (inputs : List (List ℕ)) (number : Option ℕ) (style : Style) (given : Option (List ℕ)) (disk : Disk) (input : List ℕ) (old new : State Y) (left : Left F M) (result : Result Unit Fault)
-    → IsSized s → EachAnswered s remaining y disk (stores_in left) (y.calls old.opened) (y.calls new.opened) → GivesInputs disk inputs input given → PerformsLookups w g (files_of s m remaining y) (record { name = name; inputs = inputs; standard = given; number = number; style = style }) old new left result
+pub lookups_foretold : {F I J M Y : Type 0} (remaining : I → Option (List ℕ)) (w g : ℕ) (s : Ghosts F) (m : Ghosts M) (y : Systems Y F I M) (name : List ℕ) (inputs : List (List ℕ)) (number : Option ℕ) (style : Style) (wide : Bool) (given : Option (List ℕ)) (disk : Disk) (input : List ℕ) (old new : State Y) (calls : OpenCalls) (left : Left F M I J) (result : Result Unit Fault)
+    → IsSized s → EachAnswered s disk (stores_in left) (streams_in left) (y.calls old.opened) (y.calls new.opened) → y.calls new.opened ≡ calls ++ y.calls old.opened → RevealsInputs (files_of s m remaining y) disk (Lookups name inputs number style wide) input given calls (stores_in left) → PerformsLookups w g (files_of s m remaining y) (record { name = name; inputs = inputs; standard = given; number = number; style = style }) old new left result
     → Comes true Texts plain_status (of_file (disk name) (λ bytes. of_inputs (inputs_of disk inputs) (λ files. lookups_outcome w g number style files input bytes))) old.output new.output result
-lookups_foretold remaining w g s m y name inputs number style given disk input old new left result sized answers gives (inl none) =
-    refused_so true Texts s remaining y plain_status name disk (stores_in left) _ (y.calls old.opened) (y.calls new.opened) [] old.output new.output result refl answers none.1
-lookups_foretold remaining w g s m y name inputs number style given disk input old new left result sized answers gives (inr (inl half)) =
-    inputs_refused w g s m remaining y name inputs disk (stores_in left) (λ bytes files. lookups_outcome w g number style files input bytes) old new left result answers half
-lookups_foretold remaining w g s m y name inputs number style given disk input old new left result sized answers gives (inr (inr looks)) =
+lookups_foretold remaining w g s m y name inputs number style wide given disk input old new calls left result sized answers are reveals (inl none) =
+    refused_so true Texts s plain_status name disk (stores_in left) (streams_in left) _ (y.calls old.opened) (y.calls new.opened) [] old.output new.output result refl answers none.1
+lookups_foretold remaining w g s m y name inputs number style wide given disk input old new calls left result sized answers are reveals (inr (inl half)) =
+    inputs_refused w g s m remaining y name inputs disk (stores_in left) (streams_in left) (λ bytes files. lookups_outcome w g number style files input bytes) old new left result answers half
+lookups_foretold {I = I} remaining w g s m y name inputs number style wide given disk input old new calls left result sized answers are reveals (inr (inr looks)) =
     let since = in_turn y inputs looks.turns ((AtPlaces, name) ∷ y.calls old.opened) (y.calls new.opened) looks.opens in
-    let calls : y.calls new.opened ≡ (since.since ++ (AtPlaces, name) ∷ []) ++ y.calls old.opened = since.are ∙ sym (append_assoc since.since ((AtPlaces, name) ∷ []) (y.calls old.opened)) in
-    let all = subst (λ l. EachAnswered s remaining y disk (stores_in l) (y.calls old.opened) (y.calls new.opened)) looks.is_last answers (since.since ++ (AtPlaces, name) ∷ []) calls in
-    let apart = answered_apart s remaining y disk (looks.last ∷ []) since.since ((AtPlaces, name) ∷ []) since.each all in
-    let k = inputs_known s remaining y disk (Some looks.last) inputs looks.turns ((AtPlaces, name) ∷ y.calls old.opened) (y.calls new.opened) since.since gives.bytes.files looks.opens since.are apart.0 in
+    let split : y.calls new.opened ≡ (since.since ++ (AtPlaces, name) ∷ []) ++ y.calls old.opened = since.are ∙ sym (append_assoc since.since ((AtPlaces, name) ∷ []) (y.calls old.opened)) in
+    let all = subst (λ l. EachAnswered s disk (stores_in l) (streams_in l) (y.calls old.opened) (y.calls new.opened)) looks.is_last answers (since.since ++ (AtPlaces, name) ∷ []) split in
+    let shown = answered_before I s disk (looks.last ∷ []) since.since ((AtPlaces, name) ∷ []) since.each all in
+    let same : calls ≡ since.since ++ (AtPlaces, name) ∷ [] = append_cancel_right calls (since.since ++ (AtPlaces, name) ∷ []) (y.calls old.opened) (sym are ∙ split) in
+    let gives = reveals.0 in
+    let each = subst (λ l. AllByRecursion (λ c. IsRevealed s remaining y disk (stores_in l) c.0 c.1) (since.since ++ (AtPlaces, name) ∷ [])) looks.is_last (subst (AllByRecursion (λ c. IsRevealed s remaining y disk (stores_in left) c.0 c.1)) same reveals.1) in
+    let k = inputs_known s remaining y disk (Some looks.last) inputs looks.turns ((AtPlaces, name) ∷ y.calls old.opened) (y.calls new.opened) since.since gives.bytes.files looks.opens since.are (all_front _ since.since ((AtPlaces, name) ∷ []) each) in
     let known : Known k.0 input looks.each = record {
       each = ap (λ (l : InputsLeft). l.each) looks.each_are ∙ k.2;
       known = subst (λ v. KnownFor k.0 v input) (sym (ap (λ (l : InputsLeft). l.shared) looks.each_are)) (gives.known k.0 k.1);
       own = k.3;
       bytes = gives.bytes.standard;
     } in
-    of_shown true Texts s plain_status (disk name) looks.last [] _ old.output new.output result apart.1.0
+    of_shown true Texts s plain_status (disk name) looks.last [] _ old.output new.output result shown.0
     (λ bytes is works. subst (λ f. Comes true Texts plain_status (of_inputs f (λ files. lookups_outcome w g number style files input bytes)) old.output new.output result) (sym k.1)
     (lookups_come w g s number style k.0 input looks.file looks.last bytes old.output new.output result (sized looks.last bytes is) (lookups_asked w g s number style k.0 input looks.each looks.file looks.last bytes old.output new.output result known is works looks.looks)))

@@ -1,6 +1,7 @@
 -- The calls on files, and why one is not opened. The newest call comes first.
 use Rattle.std.specs.Prelude.{ℕ, ◌≡◌, ◌≢◌, ◌⊎◌, Bool, true, false, List, [], ◌∷◌}
 use Rattle.std.specs.Prelude.{Option, None, Some, Result, Ok, Err, string_bytes}
+use Rattle.cdb_feed.specs.declared.noted_reader.NotedReader.{NotedReader}
 use Rattle.cdb_names.specs.Refusals.{is_of_system, may_be_for}
 use Rattle.cdb_names.specs.declared.answer.Answer.{Answer}
 use Rattle.cdb_names.specs.declared.answer.Answer.TheVariants.{No, Unknown, Yes}
@@ -71,17 +72,24 @@ MissesEmptying name old new fault =
     ⊎ ((locked : OpenCalls) × TakesToEmpty name old locked × Misses name locked new fault)
 
 -- no file is handed back; or one that was read, a base if there is one, or an old database and a new
-abbrev pub none_left : {F M : Type 0} → Left F M
-none_left = record { read = None; other = None; made = None }
+abbrev pub none_left : {F M S I : Type 0} → Left F M S I
+none_left = record { read = None; other = None; made = None; stream = None; input = None }
 
-abbrev pub read_left : {F M : Type 0} → F → Left F M
-read_left file = record { read = Some file; other = None; made = None }
+abbrev pub read_left : {F M S I : Type 0} → F → Left F M S I
+read_left file = record none_left { read = Some file }
 
-abbrev pub base_left : {F M : Type 0} → Option F → Left F M
-base_left base = record { read = base; other = None; made = None }
+abbrev pub base_left : {F M S I : Type 0} → Option F → Left F M S I
+base_left base = record none_left { read = base }
 
-abbrev pub both_left : {F M : Type 0} → (old new : F) → Left F M
-both_left old new = record { read = Some old; other = Some new; made = None }
+abbrev pub both_left : {F M S I : Type 0} → (old new : F) → Left F M S I
+both_left old new = record none_left { read = Some old; other = Some new }
+
+-- or a file that was read from its start on, or standard input
+abbrev pub stream_left : {F M S I : Type 0} → NotedReader S → Left F M S I
+stream_left file = record none_left { stream = Some file }
+
+abbrev pub input_left : {F M S I : Type 0} → NotedReader I → Left F M S I
+input_left input = record none_left { input = Some input }
 
 -- this cause, if it fits
 abbrev pub if_fits : (fits : Bool) → Cause → Cause

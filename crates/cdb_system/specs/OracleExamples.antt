@@ -26,8 +26,9 @@ use Rattle.cdb_show.specs.Runs.Incoming.{KnownFor}
 use Rattle.cdb_show.specs.Runs.StatsText.{distance_lines, stats_text}
 use Rattle.cdb_system.specs.Files.{files_of}
 use Rattle.cdb_system.specs.Answered.{AreComparable, Honest, Reveals}
-use Rattle.cdb_system.specs.Opening.{OpenCalls, none_left, read_left}
+use Rattle.cdb_system.specs.Opening.{OpenCalls, input_left, read_left, stream_left}
 use Rattle.cdb_system.specs.Oracle.{Disk, Outcome, command_outcome, difference_outcome, lookups_outcome}
+use Rattle.cdb_system.specs.NotedExamples.{ended, front_agrees, more_agree, noted, these_agree}
 use Rattle.cdb_system.specs.declared.open_trace.OpenCall.TheVariants.{AtPlaces, InTurn}
 use Rattle.cdb_system.specs.declared.system.System.{Ghosts as Systems}
 
@@ -179,29 +180,60 @@ of_disk disk = record {
   makes = λ name store. ⊤;
 }
 
--- a query of a file that lies in memory, and a dump
+-- a query of a file that lies in memory
 query_is_honest : (store : MemStore) → two_file ≡ contents store
     → Honest (files_of in_memory in_memory Some (of_disk disk)) disk []
     (Query name (codes "two") None true false) None
-    [] ((AtPlaces, name) ∷ []) (read_left {M = MemStore} store)
+    [] ((AtPlaces, name) ∷ []) (read_left {M = MemStore} {S = List ℕ} {I = List ℕ} store)
 unfolding disk name other of_disk
 query_is_honest store has = record {
   calls = (AtPlaces, name) ∷ [];
   are = refl;
   answered = ((has, refl), tt);
-  reads = tt;
+  standard = tt;
+  reveals = tt;
   in_order = tt;
 }
 
+-- a dump of a file whose records came, and not the end
 dump_is_honest : Honest (files_of in_memory in_memory Some (of_disk disk)) disk []
-    (Dump (Some name) Native false) None
-    [] ((InTurn, name) ∷ []) (none_left {F = MemStore} {M = MemStore})
-unfolding of_disk
+    (Dump (Some name) Native false) None [] ((InTurn, name) ∷ [])
+    (stream_left {F = MemStore} {M = MemStore} {I = List ℕ} (noted [] (take 2082 two_file)))
+unfolding disk name of_disk
 dump_is_honest = record {
   calls = (InTurn, name) ∷ [];
   are = refl;
-  answered = (λ reader came. came, tt);
-  reads = tt;
+  answered = (front_agrees {R = List ℕ} [] 2082 two_file, tt);
+  standard = tt;
+  reveals = tt;
+  in_order = tt;
+}
+
+-- one of standard input, of which no end came, and the statistics of all of it
+input_dump_is_honest : (more : List ℕ)
+    → Honest (files_of in_memory in_memory Some (of_disk disk)) disk (two_file ++ more)
+    (Dump None Native false) None [] []
+    (input_left {F = MemStore} {M = MemStore} {S = List ℕ} {I = List ℕ} (noted [] two_file))
+unfolding of_disk
+input_dump_is_honest more = record {
+  calls = [];
+  are = refl;
+  answered = tt;
+  standard = more_agree {R = List ℕ} [] two_file more;
+  reveals = tt;
+  in_order = tt;
+}
+
+input_stats_are_honest : Honest (files_of in_memory in_memory Some (of_disk disk)) disk two_file
+    (Stats None false) None [] []
+    (input_left {F = MemStore} {M = MemStore} {S = List ℕ} {I = List ℕ} (ended [] two_file))
+unfolding of_disk
+input_stats_are_honest = record {
+  calls = [];
+  are = refl;
+  answered = tt;
+  standard = these_agree {R = List ℕ} [] two_file;
+  reveals = tt;
   in_order = tt;
 }
 
@@ -224,12 +256,16 @@ of_none files e = subst (λ (v : Option (List (Option (List ℕ)))). IfSome v (�
 lookups_are_honest : (store : MemStore) → [] ≡ contents store
     → Honest (files_of in_memory in_memory Some (of_disk small)) small (codes "\n")
     (Lookups name [] None Native false) (Some (codes "\n"))
-    [] ((AtPlaces, name) ∷ []) (read_left {M = MemStore} store)
+    [] ((AtPlaces, name) ∷ []) (read_left {M = MemStore} {S = List ℕ} {I = List ℕ} store)
 unfolding small name of_disk
 lookups_are_honest store has = record {
   calls = (AtPlaces, name) ∷ [];
   are = refl;
   answered = ((has, refl), tt);
-  reads = record { bytes = record { files = small_has; standard = empty_list_is }; known = of_none };
+  standard = tt;
+  reveals = (
+    record { bytes = record { files = small_has; standard = empty_list_is }; known = of_none },
+    ((has, refl), tt),
+  );
   in_order = tt;
 }

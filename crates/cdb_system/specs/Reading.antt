@@ -1,8 +1,12 @@
 -- What a command that only reads does: the calls on files, in their order, and what it writes on its output.
-use Rattle.std.specs.Prelude.{ℕ, ◌≡◌, ◌⊎◌, ◌≤◌, List, ◌∷◌, length, map, Option, Some, None, Result, Err, OnOk, IfErr, IfSome}
+use Rattle.std.specs.Prelude.{ℕ, ◌≡◌, ◌⊎◌, ◌<◌, ◌≤◌, ⊤, List, ◌∷◌, length, map, Option, Some, None, Result, Err, OnOk, IfErr}
 use Rattle.std.specs.Io.KnownBytes.{Keeps, Appends}
 use Rattle.cdb_command.specs.declared.style.Style.{Style}
+use Rattle.cdb_feed.specs.Noted.{noted_feed}
+use Rattle.cdb_feed.specs.declared.noted_reader.NotedReader.{NotedReader}
+use Rattle.cdb_form.specs.Fed.Feed.{Feed}
 use Rattle.cdb_form.specs.Views.KnownBytes.{AppendsPrefix}
+use Rattle.cdb_form.specs.declared.walk.fault.WalkFault.TheVariants as walk
 use Rattle.cdb_store.specs.Contents.{contents}
 use Rattle.cdb_store.specs.Reads.{OnlyReads}
 use Rattle.cdb_store.specs.declared.memory.MemStore.{MemStore}
@@ -10,21 +14,22 @@ use Rattle.cdb_store.specs.declared.store.Store.{Ghosts}
 use Rattle.cdb_show.specs.Runs.Check.{FindsSound, CheckingFails}
 use Rattle.cdb_show.specs.Runs.Difference.{TellsDifference}
 use Rattle.cdb_show.specs.Runs.Form.{Form}
-use Rattle.cdb_show.specs.Runs.Load.{IsNotLoaded}
 use Rattle.cdb_show.specs.Runs.Inputs.{InputsLeft}
 use Rattle.cdb_show.specs.Runs.Lookups.{LooksUp}
 use Rattle.cdb_show.specs.Runs.Query.{Query, Queries}
 use Rattle.cdb_show.specs.Runs.Stats.{TellsStats}
-use Rattle.cdb_show.specs.Runs.WalkText.{WritesWalk}
+use Rattle.cdb_show.specs.Runs.FedText.{WritesWalk}
 use Rattle.cdb_show.specs.Views.Inputs.{one_of}
 use Rattle.cdb_show.specs.declared.fault.Fault.{Fault}
-use Rattle.cdb_show.specs.declared.fault.Fault.TheVariants.{Open, NoMemory as NoRoom, Output}
+use Rattle.cdb_show.specs.declared.fault.Fault.TheVariants.{Long, Open, NoMemory as NoRoom, Output, Walk}
 use Rattle.cdb_names.specs.declared.answer.Answer.TheVariants as looks
 use Rattle.cdb_system.specs.Files.{Files}
 use Rattle.cdb_show.specs.declared.inputs.Turn.{Turn}
 use Rattle.cdb_system.specs.Inputs.{OpensInputs, StopsOpening}
-use Rattle.cdb_system.specs.Opening.{Misses, OpenCalls, both_left, none_left, read_left}
+use Rattle.cdb_system.specs.Opening.{Misses, OpenCalls, both_left, input_left, none_left, read_left, stream_left}
 use Rattle.cdb_system.specs.State.{State, calls_in}
+use Rattle.cdb_show.specs.Views.Window.{window_feed}
+use Rattle.cdb_system.specs.Streams.{OfEach, unread}
 use Rattle.cdb_system.specs.declared.left.Left.{Left}
 use Rattle.cdb_system.specs.declared.open_trace.OpenCall.TheVariants.{AtPlaces, InTurn, Stream}
 
@@ -43,8 +48,8 @@ LacksMemory start end result = (result ≡ Err NoRoom) × Keeps start end
 -- ---- query
 
 -- the values of a key of the file that came, which is left so
-pub record QueriesFile {F I M Y : Type 0} (w : ℕ) (files : Files F I M Y) (name : List ℕ)
-    (q : Query) (old new : State Y) (left : Left F M) (result : Result Unit Fault) : Type 0 where
+pub record QueriesFile {F I J M Y : Type 0} (w : ℕ) (files : Files F I M Y) (name : List ℕ)
+    (q : Query) (old new : State Y) (left : Left F M I J) (result : Result Unit Fault) : Type 0 where
   pub file : F
   pub came : files.system.gives name file
   pub last : F
@@ -52,8 +57,8 @@ pub record QueriesFile {F I M Y : Type 0} (w : ℕ) (files : Files F I M Y) (nam
   pub queries : Queries w files.stores q file last old.output new.output result
 
 -- that file alone is opened
-abbrev pub PerformsQuery : {F I M Y : Type 0} → ℕ → Files F I M Y → (name : List ℕ) → Query
-    → (old new : State Y) → Left F M → Result Unit Fault → Type 0
+abbrev pub PerformsQuery : {F I J M Y : Type 0} → ℕ → Files F I M Y → (name : List ℕ) → Query
+    → (old new : State Y) → Left F M I J → Result Unit Fault → Type 0
 PerformsQuery w files name q old new left result =
     ((left ≡ none_left)
     × Refuses name (calls_in files old) (calls_in files new) old.output new.output result)
@@ -62,31 +67,45 @@ PerformsQuery w files name q old new left result =
 
 -- ---- dump and list
 
--- the text of a reader of these bytes
-pub record WritesText (w : ℕ) (form : Form) (file start end : Option (List ℕ))
+-- The text of a stream that is read in one pass. Of the bytes that came, a window held some, which were let go.
+pub record WritesText (w : ℕ) (form : Form) (left : Feed) (start end : Option (List ℕ))
     (result : Result Unit Fault) : Type 0 where
-  pub rest : Option (List ℕ)
-  pub walk : WritesWalk w form file rest start end result
+  pub held : List ℕ
+  pub walk : WritesWalk w form unread (window_feed left held) start end result
 
--- of the file that came
-pub record WritesFile {F I M Y : Type 0} (w : ℕ) (files : Files F I M Y) (form : Form)
-    (name : List ℕ) (start end : Option (List ℕ)) (result : Result Unit Fault) : Type 0 where
+-- it is written, unless memory for the window is refused
+abbrev pub ReadsText : ℕ → Form → (left : Feed) → (start end : Option (List ℕ))
+    → Result Unit Fault → Type 0
+ReadsText w form left start end result =
+    LacksMemory start end result ⊎ WritesText w form left start end result
+
+-- of the file that came, whose reader is handed back
+pub record WritesFile {F I J M Y : Type 0} (w : ℕ) (files : Files F I M Y) (form : Form)
+    (name : List ℕ) (left : Left F M I J) (start end : Option (List ℕ))
+    (result : Result Unit Fault) : Type 0 where
   pub file : I
   pub came : files.system.reads name file
-  pub writes : WritesText w form (files.remaining file) start end result
+  pub last : NotedReader I
+  pub is_last : left ≡ stream_left last
+  pub reads : ReadsText w form (noted_feed last) start end result
 
--- that file alone is opened, or none, if standard input is read; if memory for its window is
--- refused, nothing is written
-abbrev pub PerformsText : {F I M Y : Type 0} → ℕ → Files F I M Y → Form → Option (List ℕ)
-    → (input : Option (List ℕ)) → (old new : State Y) → Result Unit Fault → Type 0
-PerformsText w files form (Some name) input old new result =
-    Refuses name (calls_in files old) (calls_in files new) old.output new.output result
+-- of standard input, whose reader is
+pub record WritesInput {F I J M : Type 0} (w : ℕ) (form : Form) (left : Left F M I J)
+    (start end : Option (List ℕ)) (result : Result Unit Fault) : Type 0 where
+  pub last : NotedReader J
+  pub is_last : left ≡ input_left last
+  pub reads : ReadsText w form (noted_feed last) start end result
+
+-- that file alone is opened, or none, if standard input is read
+abbrev pub PerformsText : {F I J M Y : Type 0} → ℕ → Files F I M Y → Form → Option (List ℕ)
+    → (old new : State Y) → Left F M I J → Result Unit Fault → Type 0
+PerformsText w files form (Some name) old new left result =
+    ((left ≡ none_left)
+    × Refuses name (calls_in files old) (calls_in files new) old.output new.output result)
     ⊎ ((calls_in files new ≡ (InTurn, name) ∷ calls_in files old)
-    × (LacksMemory old.output new.output result
-    ⊎ WritesFile w files form name old.output new.output result))
-PerformsText w files form None input old new result =
-    (new.opened ≡ old.opened) × (LacksMemory old.output new.output result
-    ⊎ WritesText w form input old.output new.output result)
+    × WritesFile w files form name left old.output new.output result)
+PerformsText w files form None old new left result =
+    (new.opened ≡ old.opened) × WritesInput w form left old.output new.output result
 
 -- ---- statistics and check
 
@@ -103,30 +122,41 @@ pub record ChecksStore {S : Type 0} (w : ℕ) (start end : Option (List ℕ))
   pub sound : OnOk result (FindsSound w s left)
   pub fails : IfErr result (CheckingFails w s store left)
 
--- these bytes are not taken into memory, and nothing is written
-pub record IsNotTaken (most : ℕ) (file start end : Option (List ℕ)) (result : Result Unit Fault)
-    : Type 0 where
+-- why a stream is not taken into memory
+abbrev pub IsNotLoaded : (most : ℕ) → (left : Feed) → Fault → Type 0
+IsNotLoaded most left Long = OfEach left (λ stream. most < length stream)
+IsNotLoaded most left (Walk walk.Input) = ⊤
+IsNotLoaded most left NoRoom = ⊤
+IsNotLoaded most left fault = ⊥
+
+-- it is not, and nothing is written
+pub record IsNotTaken (most : ℕ) (left : Feed) (start end : Option (List ℕ))
+    (result : Result Unit Fault) : Type 0 where
   pub fault : Fault
   pub is : result ≡ Err fault
-  pub why : IsNotLoaded most file fault
+  pub why : IsNotLoaded most left fault
   pub kept : Keeps start end
 
--- they are, and this is done with them
-pub record IsTakenInMemory (most : ℕ) (file : Option (List ℕ)) (done : MemStore → MemStore → Type 0)
-    : Type 0 where
-  pub store : MemStore
-  pub whole : IfSome file (λ f. contents store ≡ f)
+-- a store has all its bytes
+pub record IsWhole (most : ℕ) (left : Feed) (store : MemStore) : Type 0 where
+  pub whole : OfEach left (λ stream. contents store ≡ stream)
   pub few : length (contents store) ≤ most
-  pub left : MemStore
-  pub does : done store left
 
-abbrev pub Takes : ℕ → (file start end : Option (List ℕ)) → Result Unit Fault
+-- it is taken, and this is done with it
+pub record IsTakenInMemory (most : ℕ) (left : Feed) (done : MemStore → MemStore → Type 0) : Type 0
+  where
+    pub store : MemStore
+    pub is : IsWhole most left store
+    pub last : MemStore
+    pub does : done store last
+
+abbrev pub Takes : ℕ → (left : Feed) → (start end : Option (List ℕ)) → Result Unit Fault
     → (MemStore → MemStore → Type 0) → Type 0
-Takes most file start end result done =
-    IsNotTaken most file start end result ⊎ IsTakenInMemory most file done
+Takes most left start end result done =
+    IsNotTaken most left start end result ⊎ IsTakenInMemory most left done
 
 -- the file that came is read at places, and is left so
-pub record OfFile {F I M Y : Type 0} (files : Files F I M Y) (name : List ℕ) (left : Left F M)
+pub record OfFile {F I J M Y : Type 0} (files : Files F I M Y) (name : List ℕ) (left : Left F M I J)
     (done : F → F → Type 0) : Type 0 where
   pub file : F
   pub came : files.system.gives name file
@@ -134,20 +164,30 @@ pub record OfFile {F I M Y : Type 0} (files : Files F I M Y) (name : List ℕ) (
   pub is_last : left ≡ read_left last
   pub does : done file last
 
--- it is taken into memory
-pub record OfStream {F I M Y : Type 0} (files : Files F I M Y) (name : List ℕ) (most : ℕ)
-    (start end : Option (List ℕ)) (result : Result Unit Fault)
+-- it is taken into memory, and its reader is handed back
+pub record OfStream {F I J M Y : Type 0} (files : Files F I M Y) (name : List ℕ) (most : ℕ)
+    (left : Left F M I J) (start end : Option (List ℕ)) (result : Result Unit Fault)
     (done : MemStore → MemStore → Type 0) : Type 0 where
   pub file : I
   pub came : files.system.reads name file
-  pub takes : Takes most (files.remaining file) start end result done
+  pub last : NotedReader I
+  pub is_last : left ≡ stream_left last
+  pub takes : Takes most (noted_feed last) start end result done
+
+-- so is standard input
+pub record OfInput {F I J M : Type 0} (most : ℕ) (left : Left F M I J)
+    (start end : Option (List ℕ)) (result : Result Unit Fault)
+    (done : MemStore → MemStore → Type 0) : Type 0 where
+  pub last : NotedReader J
+  pub is_last : left ≡ input_left last
+  pub takes : Takes most (noted_feed last) start end result done
 
 -- that file alone is opened, once it was seen whether it is a stream; or none, if the system did not
 -- say, or if standard input is read
-abbrev pub PerformsOn : {F I M Y : Type 0} → Files F I M Y → (most : ℕ)
-    → (name : Option (List ℕ)) → (input : Option (List ℕ)) → (old new : State Y) → Left F M
+abbrev pub PerformsOn : {F I J M Y : Type 0} → Files F I M Y → (most : ℕ)
+    → (name : Option (List ℕ)) → (old new : State Y) → Left F M I J
     → Result Unit Fault → (F → F → Type 0) → (MemStore → MemStore → Type 0) → Type 0
-PerformsOn files most (Some name) input old new left result file taken =
+PerformsOn files most (Some name) old new left result file taken =
     ((left ≡ none_left) × Refuses name ((Stream looks.No, name) ∷ calls_in files old)
     (calls_in files new) old.output new.output result)
     ⊎ ((calls_in files new ≡ (AtPlaces, name) ∷ (Stream looks.No, name) ∷ calls_in files old)
@@ -155,18 +195,17 @@ PerformsOn files most (Some name) input old new left result file taken =
     ⊎ ((left ≡ none_left) × Refuses name ((Stream looks.Yes, name) ∷ calls_in files old)
     (calls_in files new) old.output new.output result)
     ⊎ ((calls_in files new ≡ (InTurn, name) ∷ (Stream looks.Yes, name) ∷ calls_in files old)
-    × (left ≡ none_left) × OfStream files name most old.output new.output result taken)
+    × OfStream files name most left old.output new.output result taken)
     ⊎ ((calls_in files new ≡ (Stream looks.Unknown, name) ∷ calls_in files old)
     × (left ≡ none_left) × (result ≡ Err Open) × Keeps old.output new.output)
-PerformsOn files most None input old new left result file taken =
-    (new.opened ≡ old.opened) × (left ≡ none_left)
-    × Takes most input old.output new.output result taken
+PerformsOn files most None old new left result file taken =
+    (new.opened ≡ old.opened) × OfInput most left old.output new.output result taken
 
 -- ---- difference
 
 -- what changed between the files that came for two names, which are left so
-pub record ComparesFiles {F I M Y : Type 0} (w : ℕ) (files : Files F I M Y)
-    (first second : List ℕ) (before after : State Y) (left : Left F M) (result : Result Unit Fault)
+pub record ComparesFiles {F I J M Y : Type 0} (w : ℕ) (files : Files F I M Y)
+    (first second : List ℕ) (before after : State Y) (left : Left F M I J) (result : Result Unit Fault)
     : Type 0 where
   pub old : F
   pub old_came : files.system.gives first old
@@ -179,8 +218,8 @@ pub record ComparesFiles {F I M Y : Type 0} (w : ℕ) (files : Files F I M Y)
       after.output result
 
 -- the second was not opened, and nothing was written; the first is left as it came
-pub record RefusesSecond {F I M Y : Type 0} (files : Files F I M Y) (first second : List ℕ)
-    (old new : State Y) (left : Left F M) (result : Result Unit Fault) : Type 0 where
+pub record RefusesSecond {F I J M Y : Type 0} (files : Files F I M Y) (first second : List ℕ)
+    (old new : State Y) (left : Left F M I J) (result : Result Unit Fault) : Type 0 where
   pub file : F
   pub came : files.system.gives first file
   pub is_left : left ≡ read_left file
@@ -188,8 +227,8 @@ pub record RefusesSecond {F I M Y : Type 0} (files : Files F I M Y) (first secon
       (calls_in files new) old.output new.output result
 
 -- both are opened, to be read at places, and no other file is
-abbrev pub PerformsDifference : {F I M Y : Type 0} → ℕ → Files F I M Y → (first second : List ℕ)
-    → (old new : State Y) → Left F M → Result Unit Fault → Type 0
+abbrev pub PerformsDifference : {F I J M Y : Type 0} → ℕ → Files F I M Y → (first second : List ℕ)
+    → (old new : State Y) → Left F M I J → Result Unit Fault → Type 0
 PerformsDifference w files first second old new left result =
     ((left ≡ none_left)
     × Refuses first (calls_in files old) (calls_in files new) old.output new.output result)
@@ -209,8 +248,8 @@ pub record Lookups : Type 0 where
   pub style : Style
 
 -- the records of the keys of the inputs that were opened behind the file that came, which is left so
-pub record LooksUpFile {F I M Y : Type 0} (w most : ℕ) (files : Files F I M Y) (l : Lookups)
-    (old new : State Y) (left : Left F M) (result : Result Unit Fault) : Type 0 where
+pub record LooksUpFile {F I J M Y : Type 0} (w most : ℕ) (files : Files F I M Y) (l : Lookups)
+    (old new : State Y) (left : Left F M I J) (result : Result Unit Fault) : Type 0 where
   pub file : F
   pub came : files.system.gives l.name file
   pub last : F
@@ -224,8 +263,8 @@ pub record LooksUpFile {F I M Y : Type 0} (w most : ℕ) (files : Files F I M Y)
       result
 
 -- an input was not opened, and nothing was written; the file is left as it came
-pub record RefusesInputs {F I M Y : Type 0} (files : Files F I M Y) (name : List ℕ)
-    (inputs : List (List ℕ)) (old new : State Y) (left : Left F M) (result : Result Unit Fault)
+pub record RefusesInputs {F I J M Y : Type 0} (files : Files F I M Y) (name : List ℕ)
+    (inputs : List (List ℕ)) (old new : State Y) (left : Left F M I J) (result : Result Unit Fault)
     : Type 0 where
   pub file : F
   pub came : files.system.gives name file
@@ -237,8 +276,8 @@ pub record RefusesInputs {F I M Y : Type 0} (files : Files F I M Y) (name : List
   pub kept : Keeps old.output new.output
 
 -- the file is opened, to be read at places, and then the inputs
-abbrev pub PerformsLookups : {F I M Y : Type 0} → (w most : ℕ) → Files F I M Y → Lookups
-    → (old new : State Y) → Left F M → Result Unit Fault → Type 0
+abbrev pub PerformsLookups : {F I J M Y : Type 0} → (w most : ℕ) → Files F I M Y → Lookups
+    → (old new : State Y) → Left F M I J → Result Unit Fault → Type 0
 PerformsLookups w most files l old new left result =
     ((left ≡ none_left)
     × Refuses l.name (calls_in files old) (calls_in files new) old.output new.output result)

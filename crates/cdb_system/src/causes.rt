@@ -293,11 +293,11 @@ where
 }
 
 /// What is said of a database that was not made, since its file failed.
-fn of_made<'a, Y, N>(
+fn of_made<'a, Y, N, I>(
     command: &'a Command,
     system: &Y,
     names: &N,
-    left: &Left<Y::File, Y::Made>,
+    left: &Left<Y::File, Y::Made, Y::Stream, I>,
 ) -> Option<Reason<'a>>
 where
     Y: System,
@@ -328,13 +328,13 @@ where
 }
 
 /// Which file a fault is of, and why, if it is of a file.
-pub fn reason_of<'a, Y, N>(
+pub fn reason_of<'a, Y, N, I>(
     command: &'a Command,
     fault: &Fault,
     lines: &Lines,
     system: &'a Y,
     names: &'a N,
-    left: &Left<Y::File, Y::Made>,
+    left: &Left<Y::File, Y::Made, Y::Stream, I>,
 ) -> Option<Reason<'a>>
 where
     Y: System,
@@ -347,7 +347,7 @@ where
         Fault::Rename | Fault::NoMemory => { of_refusals::<Y, N>(command, system, names) }
         Fault::Text(number, fault) => { Some(of_text::<Y>(command, number, fault, lines, system)) }
         Fault::Make(MakeFault::Writing) | Fault::Make(MakeFault::Lookup) => {
-            of_made::<Y, N>(command, system, names, left)
+            of_made::<Y, N, I>(command, system, names, left)
         }
         Fault::Walk(WalkFault::Input) => {
             let told = of_number(system.read_error());
@@ -362,16 +362,16 @@ where
             };
             Some(of_name(name, told))
         }
-        _ => of_database::<Y>(command, fault, system, left),
+        _ => of_database::<Y, I>(command, fault, system, left),
     }
 }
 
 /// Which database a fault is of, and why, if it is of one that is read.
-fn of_database<'a, Y>(
+fn of_database<'a, Y, I>(
     command: &'a Command,
     fault: &Fault,
     system: &Y,
-    left: &Left<Y::File, Y::Made>,
+    left: &Left<Y::File, Y::Made, Y::Stream, I>,
 ) -> Option<Reason<'a>>
 where
     Y: System,

@@ -15,16 +15,17 @@ use std::alloc::Global;
 /// Writes what changed between the databases of two names, as a text that amends the old one. Both are
 /// opened before anything is written.
 #[inline(never)]
-pub fn difference<L, Y, O>(
+pub fn difference<L, Y, I, O>(
     alloc: Global,
     system: &mut Y,
     old: &str,
     new: &str,
     output: &mut O,
-) -> (Left<Y::File, Y::Made>, Result<(), Fault>)
+) -> (Left<Y::File, Y::Made, Y::Stream, I>, Result<(), Fault>)
 where
     L: Width,
     Y: System,
+    I: Drop,
     O: Sink,
     ensures performs { (named : NameCalls) (errors : Option (List ℕ)) → PerformsDifference L.WORD
         (files_of Y.File.Store Y.Made.Store Y.Stream.remaining Y.System) old.now new.now

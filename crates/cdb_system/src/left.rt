@@ -1,11 +1,14 @@
 // What a command hands back.
 ghost use Rattle.std.specs.Prelude.{◌≡◌};
 ghost use Rattle.cdb_system.specs.Opening.{none_left, read_left, base_left, both_left};
+ghost use Rattle.cdb_system.specs.Opening.{stream_left, input_left};
 
-/// The files that a command opened and has not closed, as they are at its end. A clause says what was
-/// read of them, or made.
+use cdb_feed::NotedReader;
+
+/// The files that a command opened and has not closed, and standard input if it was read, as they are
+/// at its end. A clause says what was read of them, or made.
 #[derive(Drop)]
-pub struct Left<F, M> {
+pub struct Left<F, M, S, I> {
     /// The file that was read at places, which is the base of a create and the old database of a
     /// difference.
     pub read: Option<F>,
@@ -13,48 +16,86 @@ pub struct Left<F, M> {
     pub other: Option<F>,
     /// The file that was made in place.
     pub made: Option<M>,
+    /// The file that was read from its start on, with a note of what it gave.
+    pub stream: Option<NotedReader<S>>,
+    /// Standard input, with a note of what it gave.
+    pub input: Option<NotedReader<I>>,
 }
 
 /// No file is handed back.
-pub fn none_left<F: Drop, M: Drop>() -> Left<F, M>
+pub fn none_left<F: Drop, M: Drop, S: Drop, I: Drop>() -> Left<F, M, S, I>
     ensures { result ≡ none_left }
 {
     Left {
         read: None,
         other: None,
         made: None,
+        stream: None,
+        input: None,
     }
 }
 
 /// A file that was read is handed back.
-pub fn read_left<F: Drop, M: Drop>(file: F) -> Left<F, M>
+pub fn read_left<F: Drop, M: Drop, S: Drop, I: Drop>(file: F) -> Left<F, M, S, I>
     ensures { result ≡ read_left file }
 {
     Left {
         read: Some(file),
         other: None,
         made: None,
+        stream: None,
+        input: None,
     }
 }
 
 /// The base of a create is handed back, if it has one.
-pub fn base_left<F: Drop, M: Drop>(base: Option<F>) -> Left<F, M>
+pub fn base_left<F: Drop, M: Drop, S: Drop, I: Drop>(base: Option<F>) -> Left<F, M, S, I>
     ensures { result ≡ base_left base }
 {
     Left {
         read: base,
         other: None,
         made: None,
+        stream: None,
+        input: None,
     }
 }
 
 /// Two files that were read are handed back.
-pub fn both_left<F: Drop, M: Drop>(old: F, new: F) -> Left<F, M>
+pub fn both_left<F: Drop, M: Drop, S: Drop, I: Drop>(old: F, new: F) -> Left<F, M, S, I>
     ensures { result ≡ both_left old new }
 {
     Left {
         read: Some(old),
         other: Some(new),
         made: None,
+        stream: None,
+        input: None,
+    }
+}
+
+/// A file that was read from its start on is handed back.
+pub fn stream_left<F: Drop, M: Drop, S: Drop, I: Drop>(file: NotedReader<S>) -> Left<F, M, S, I>
+    ensures { result ≡ stream_left file }
+{
+    Left {
+        read: None,
+        other: None,
+        made: None,
+        stream: Some(file),
+        input: None,
+    }
+}
+
+/// Standard input was read, and is handed back.
+pub fn input_left<F: Drop, M: Drop, S: Drop, I: Drop>(input: NotedReader<I>) -> Left<F, M, S, I>
+    ensures { result ≡ input_left input }
+{
+    Left {
+        read: None,
+        other: None,
+        made: None,
+        stream: None,
+        input: Some(input),
     }
 }

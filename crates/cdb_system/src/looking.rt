@@ -28,7 +28,7 @@ pub fn lookups<L, Y, I, O>(
     lines: &Lines,
     input: I,
     output: &mut O,
-) -> (Left<Y::File, Y::Made>, Result<(), Fault>)
+) -> (Left<Y::File, Y::Made, Y::Stream, I>, Result<(), Fault>)
 where
     L: Width,
     Y: System,

@@ -1,25 +1,25 @@
 // The commands that read one file: its values, its text, its statistics, and whether it is sound.
-ghost use Rattle.std.specs.Prelude.{◌≡◌, ◌≤◌, ◌⊎◌, IfSome, IfOk, IfErr, length, option_map};
+ghost use Rattle.std.specs.Prelude.{◌≤◌, ◌⊎◌, IfSome, IfOk, IfErr, option_map};
 ghost use Rattle.std.specs.Prelude.{string_bytes, List, ℕ, Option};
 ghost use Rattle.cdb_show.specs.Views.Output.{OutputSays};
 ghost use Rattle.cdb_store.specs.contracts.memory.MemStoreStore.TheImpl.{ghosts as in_memory};
-ghost use Rattle.cdb_store.specs.Contents.{contents};
 ghost use Rattle.cdb_show.specs.Runs.Form.{form_of};
-ghost use Rattle.cdb_show.specs.Runs.Load.{IsNotLoaded};
 ghost use Rattle.cdb_show.specs.Runs.Query.{value_text};
+ghost use Rattle.cdb_feed.specs.Noted.{noted_feed};
 ghost use Rattle.cdb_names.specs.Folder.{NameCalls};
 ghost use Rattle.cdb_system.specs.Files.{files_of};
 ghost use Rattle.cdb_system.specs.State.{state_of};
 ghost use Rattle.cdb_system.specs.Reading.{PerformsQuery, PerformsText, PerformsOn, LacksMemory, WritesText};
-ghost use Rattle.cdb_system.specs.Reading.{Takes, TellsStore, ChecksStore};
+ghost use Rattle.cdb_system.specs.Reading.{Takes, IsWhole, IsNotLoaded, TellsStore, ChecksStore};
 
-use crate::left::{Left, none_left, read_left};
+use crate::left::{Left, input_left, none_left, read_left, stream_left};
 use crate::system::System;
 use cdb_command::Style;
+use cdb_feed::NotedReader;
 use cdb_form::{PIPE, Sink, Width};
 use cdb_names::Answer;
 use cdb_show::{
-    Content, Fault, InWindow, Input, check_run, load, query_run, stats_run, text_run_buffered,
+    Content, Fault, InWindow, Window, check_run, load_fed, query_run, stats_run, text_run_fed,
 };
 use cdb_store::{MemStore, Store};
 use std::alloc::Global;
@@ -27,17 +27,18 @@ use std::io::Read;
 
 /// Writes the values of a key, which are counted from 1.
 #[inline(never)]
-pub fn query<L, Y, O>(
+pub fn query<L, Y, I, O>(
     system: &mut Y,
     name: &str,
     key: &str,
     number: Option<u64>,
     lines: bool,
     output: &mut O,
-) -> (Left<Y::File, Y::Made>, Result<(), Fault>)
+) -> (Left<Y::File, Y::Made, Y::Stream, I>, Result<(), Fault>)
 where
     L: Width,
     Y: System,
+    I: Drop,
     O: Sink,
     requires { IfSome number (λ n. 1 ≤ n) }
     ensures performs { (named : NameCalls) (errors : Option (List ℕ)) → PerformsQuery L.WORD
@@ -62,24 +63,31 @@ where
     }
 }
 
-/// Writes the records of a database that is read in one pass, or their keys.
-fn write_text<L: Width, I: Read + Drop, O: Sink>(
+/// Writes the records of a database that is read in one pass, or their keys, and hands its reader back.
+fn write_text<L: Width, R: Read + Drop, O: Sink>(
     alloc: Global,
     content: Content,
     style: Style,
-    input: I,
+    file: R,
     output: &mut O,
-) -> Result<(), Fault>
-    ensures writes { LacksMemory (O.contents output.old) (O.contents output.new) result
-        ⊎ WritesText L.WORD (form_of content style) (I.remaining input)
-        (O.contents output.old) (O.contents output.new) result }
-    ensures output { OutputSays (O.failed output.new) result }
+) -> (NotedReader<R>, Result<(), Fault>)
+    ensures writes { LacksMemory (O.contents output.old) (O.contents output.new) result.1
+        ⊎ WritesText L.WORD (form_of content style) (noted_feed result.0)
+        (O.contents output.old) (O.contents output.new) result.1 }
+    ensures output { OutputSays (O.failed output.new) result.1 }
 {
-    let input = Input::new(alloc, input, PIPE)?;
-    text_run_buffered::<L, _, O, InWindow>(alloc, content, input, style, output)
+    match Window::new(alloc, NotedReader::over(file), PIPE) {
+        Ok(window) => {
+            let (window, answer) = text_run_fed::<L, _, O, InWindow>(
+                alloc, content, window, style, output,
+            );
+            (window.into_reader(), answer)
+        }
+        Err(refused) => (refused.reader, Err(Fault::NoMemory)),
+    }
 }
 
-/// Writes the text of a file, or of standard input.
+/// Writes the text of a file, or of standard input. What was read is handed back.
 #[inline(never)]
 pub fn text<L, Y, I, O>(
     alloc: Global,
@@ -89,7 +97,7 @@ pub fn text<L, Y, I, O>(
     style: Style,
     input: I,
     output: &mut O,
-) -> Result<(), Fault>
+) -> (Left<Y::File, Y::Made, Y::Stream, I>, Result<(), Fault>)
 where
     L: Width,
     Y: System,
@@ -97,46 +105,62 @@ where
     O: Sink,
     ensures performs { (named : NameCalls) (errors : Option (List ℕ)) → PerformsText L.WORD
         (files_of Y.File.Store Y.Made.Store Y.Stream.remaining Y.System) (form_of content style)
-        (option_map string_bytes name.now) (I.remaining input)
+        (option_map string_bytes name.now)
         (state_of system.old named (O.contents output.old) errors)
-        (state_of system.new named (O.contents output.new) errors) result }
-    ensures output { OutputSays (O.failed output.new) result }
+        (state_of system.new named (O.contents output.new) errors) result.0 result.1 }
+    ensures output { OutputSays (O.failed output.new) result.1 }
 {
-    match name {
-        Some(name) => {
-            let file = system.open(name.as_str())?;
-            write_text::<L, Y::Stream, O>(alloc, content, style, file, output)
+    let Some(name) = name else {
+        let (input, answer) = write_text::<L, I, O>(alloc, content, style, input, output);
+        return (input_left(input), answer);
+    };
+    match system.open(name.as_str()) {
+        Ok(file) => {
+            let (file, answer) = write_text::<L, Y::Stream, O>(alloc, content, style, file, output);
+            (stream_left(file), answer)
         }
-        None => write_text::<L, I, O>(alloc, content, style, input, output),
+        Err(fault) => (none_left(), Err(fault)),
     }
 }
 
-/// A stream, taken into memory.
-fn taken<L: Width, I: Read + Drop>(alloc: Global, input: I) -> Result<MemStore, Fault>
-    ensures ok { IfOk result (λ store. IfSome (I.remaining input) (λ file. contents store ≡ file)) }
-    ensures few { IfOk result (λ store. length (contents store) ≤ L.GREATEST) }
-    ensures fails { IfErr result (IsNotLoaded L.GREATEST (I.remaining input)) }
-    ensures output { OutputSays ⊥ result }
-{
-    load(alloc, Input::new(alloc, input, PIPE)?, L::GREATEST)
-}
-
-/// Writes the statistics of a stream.
-fn stats_of_stream<L: Width, I: Read + Drop, O: Sink>(
+/// Takes a stream into memory, and hands its reader back.
+fn taken<L: Width, R: Read + Drop>(
     alloc: Global,
-    input: I,
-    output: &mut O,
-) -> Result<(), Fault>
-    ensures takes { Takes L.GREATEST (I.remaining input) (O.contents output.old) (O.contents output.new)
-        result
-        (TellsStore L.WORD (O.contents output.old) (O.contents output.new) result in_memory) }
-    ensures output { OutputSays (O.failed output.new) result }
+    stream: R,
+) -> (NotedReader<R>, Result<MemStore, Fault>)
+    ensures ok { IfOk result.1 (IsWhole L.GREATEST (noted_feed result.0)) }
+    ensures fails { IfErr result.1 (IsNotLoaded L.GREATEST (noted_feed result.0)) }
+    ensures output { OutputSays ⊥ result.1 }
 {
-    let store = taken::<L, I>(alloc, input)?;
-    stats_run::<L, MemStore, O>(store, output).1
+    match Window::new(alloc, NotedReader::over(stream), PIPE) {
+        Ok(mut window) => {
+            let taken = load_fed(alloc, &mut window, L::GREATEST);
+            (window.into_reader(), taken)
+        }
+        Err(refused) => (refused.reader, Err(Fault::NoMemory)),
+    }
 }
 
-/// Writes the statistics of a file, or of a stream: standard input, a pipe or a device.
+/// Writes the statistics of a stream, and hands its reader back.
+fn stats_of_stream<L: Width, R: Read + Drop, O: Sink>(
+    alloc: Global,
+    stream: R,
+    output: &mut O,
+) -> (NotedReader<R>, Result<(), Fault>)
+    ensures takes { Takes L.GREATEST (noted_feed result.0)
+        (O.contents output.old) (O.contents output.new) result.1
+        (TellsStore L.WORD (O.contents output.old) (O.contents output.new) result.1 in_memory) }
+    ensures output { OutputSays (O.failed output.new) result.1 }
+{
+    let (stream, taken) = taken::<L, R>(alloc, stream);
+    match taken {
+        Ok(store) => (stream, stats_run::<L, MemStore, O>(store, output).1),
+        Err(fault) => (stream, Err(fault)),
+    }
+}
+
+/// Writes the statistics of a file, or of a stream: standard input, a pipe or a device. What was read is
+/// handed back.
 #[inline(never)]
 pub fn stats<L, Y, I, O>(
     alloc: Global,
@@ -144,7 +168,7 @@ pub fn stats<L, Y, I, O>(
     name: &Option<String>,
     input: I,
     output: &mut O,
-) -> (Left<Y::File, Y::Made>, Result<(), Fault>)
+) -> (Left<Y::File, Y::Made, Y::Stream, I>, Result<(), Fault>)
 where
     L: Width,
     Y: System,
@@ -152,7 +176,7 @@ where
     O: Sink,
     ensures performs { (named : NameCalls) (errors : Option (List ℕ)) → PerformsOn
         (files_of Y.File.Store Y.Made.Store Y.Stream.remaining Y.System) L.GREATEST
-        (option_map string_bytes name.now) (I.remaining input)
+        (option_map string_bytes name.now)
         (state_of system.old named (O.contents output.old) errors)
         (state_of system.new named (O.contents output.new) errors) result.0 result.1
         (TellsStore L.WORD (O.contents output.old) (O.contents output.new) result.1 Y.File.Store)
@@ -160,14 +184,15 @@ where
     ensures output { OutputSays (O.failed output.new) result.1 }
 {
     let Some(name) = name else {
-        return (
-            none_left(),
-            stats_of_stream::<L, I, O>(alloc, input, output),
-        );
+        let (input, answer) = stats_of_stream::<L, I, O>(alloc, input, output);
+        return (input_left(input), answer);
     };
     match system.is_stream(name.as_str()) {
         Answer::Yes => match system.open(name.as_str()) {
-            Ok(file) => (none_left(), stats_of_stream::<L, _, O>(alloc, file, output)),
+            Ok(file) => {
+                let (file, answer) = stats_of_stream::<L, Y::Stream, O>(alloc, file, output);
+                (stream_left(file), answer)
+            }
             Err(fault) => (none_left(), Err(fault)),
         },
         Answer::No => match system.open_store(name.as_str()) {
@@ -181,42 +206,53 @@ where
     }
 }
 
-/// Checks a stream.
-fn check_of_stream<L: Width, I: Read + Drop>(alloc: Global, input: I) -> Result<(), Fault>
-    ensures takes { (known : Option (List ℕ)) → Takes L.GREATEST (I.remaining input) known known result
-        (ChecksStore L.WORD known known result in_memory) }
-    ensures output { OutputSays ⊥ result }
+/// Checks a stream, and hands its reader back.
+fn check_of_stream<L: Width, R: Read + Drop>(
+    alloc: Global,
+    stream: R,
+) -> (NotedReader<R>, Result<(), Fault>)
+    ensures takes { (known : Option (List ℕ)) → Takes L.GREATEST (noted_feed result.0) known known
+        result.1 (ChecksStore L.WORD known known result.1 in_memory) }
+    ensures output { OutputSays ⊥ result.1 }
 {
-    let store = taken::<L, I>(alloc, input)?;
-    check_run::<L, MemStore>(alloc, store).1
+    let (stream, taken) = taken::<L, R>(alloc, stream);
+    match taken {
+        Ok(store) => (stream, check_run::<L, MemStore>(alloc, store).1),
+        Err(fault) => (stream, Err(fault)),
+    }
 }
 
-/// Checks a file, or a stream: standard input, a pipe or a device. Nothing is written.
+/// Checks a file, or a stream: standard input, a pipe or a device. Nothing is written. What was read is
+/// handed back.
 #[inline(never)]
 pub fn check<L, Y, I>(
     alloc: Global,
     system: &mut Y,
     name: &Option<String>,
     input: I,
-) -> (Left<Y::File, Y::Made>, Result<(), Fault>)
+) -> (Left<Y::File, Y::Made, Y::Stream, I>, Result<(), Fault>)
 where
     L: Width,
     Y: System,
     I: Read + Drop,
     ensures performs { (named : NameCalls) (known errors : Option (List ℕ)) → PerformsOn
         (files_of Y.File.Store Y.Made.Store Y.Stream.remaining Y.System) L.GREATEST
-        (option_map string_bytes name.now) (I.remaining input)
+        (option_map string_bytes name.now)
         (state_of system.old named known errors) (state_of system.new named known errors) result.0
         result.1 (ChecksStore L.WORD known known result.1 Y.File.Store)
         (ChecksStore L.WORD known known result.1 in_memory) }
     ensures output { OutputSays ⊥ result.1 }
 {
     let Some(name) = name else {
-        return (none_left(), check_of_stream::<L, I>(alloc, input));
+        let (input, answer) = check_of_stream::<L, I>(alloc, input);
+        return (input_left(input), answer);
     };
     match system.is_stream(name.as_str()) {
         Answer::Yes => match system.open(name.as_str()) {
-            Ok(file) => (none_left(), check_of_stream::<L, Y::Stream>(alloc, file)),
+            Ok(file) => {
+                let (file, answer) = check_of_stream::<L, Y::Stream>(alloc, file);
+                (stream_left(file), answer)
+            }
             Err(fault) => (none_left(), Err(fault)),
         },
         Answer::No => match system.open_store(name.as_str()) {

@@ -1,5 +1,7 @@
-use Rattle.std.proofs.Common.{rules}
+use Rattle.std.proofs.Common.{inr}
+use Rattle.cdb_system.proofs.Streams.{text_handed}
 use Rattle.cdb_system.proofs.reading.write_text.Goals as goal
 
-pub returns-clause-writes : goal.returns-clause-writes
-returns-clause-writes g c = search rules
+pub returns-in-Ok-clause-writes : goal.returns-in-Ok-clause-writes
+returns-in-Ok-clause-writes g c =
+    inr (text_handed _ _ _ _ c.text_run_fed-window.result.0 _ _ _ _ c.over.ensures.unread c.in-Ok.ensures.kept c.into_reader.ensures.reader c.text_run_fed-window.ensures.writes)
