@@ -12,6 +12,7 @@ pub mod FedLoad
 pub mod Query
 pub mod LookedUp
 pub mod Lookups
+pub mod FedLookups
 pub mod StatsText
 pub mod Stats
 pub mod Check
