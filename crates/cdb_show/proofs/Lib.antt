@@ -11,6 +11,8 @@ pub mod KeyInputs
 pub mod ItemInputs
 pub mod NextInputs
 pub mod LookupRuns
+pub mod FedTurns
+pub mod FedLookupRuns
 pub mod WalksSoFar
 pub mod WholeTexts
 pub mod FedTexts

@@ -1,6 +1,8 @@
 -- What the inputs of runs give, and what the runs that only read leave.
 pub mod Inputs
 pub mod Given
+pub mod InputLaws
+pub mod Parsing
 pub mod Incoming
 pub mod Form
 pub mod WalkText
@@ -10,6 +12,7 @@ pub mod FedLoad
 pub mod Query
 pub mod LookedUp
 pub mod Lookups
+pub mod FedLookups
 pub mod StatsText
 pub mod Stats
 pub mod Check

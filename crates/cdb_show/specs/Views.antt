@@ -4,6 +4,7 @@ pub mod Input
 pub mod Window
 pub mod WindowRests
 pub mod Inputs
+pub mod FedInputs
 pub mod Noted
 pub mod Output
 pub mod ItemReader

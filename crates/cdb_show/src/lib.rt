@@ -5,6 +5,7 @@
 
 mod counting;
 mod fault;
+mod fed_inputs;
 mod input;
 mod input_name;
 mod inputs;
@@ -20,6 +21,7 @@ mod window;
 mod word_message;
 
 pub use fault::Fault;
+pub use fed_inputs::{FedInputs, SharedWindow};
 pub use input::{InWindow, Input};
 pub use input_name::{STANDARD_INPUT, input_at};
 pub use inputs::{Inputs, SharedInput, Turn};

@@ -1,0 +1,243 @@
+-- What a query of the keys of some inputs came to, by the readers of the inputs as they come back.
+use Rattle.std.proofs.Common.{◌≡◌, ℕ, ◌+◌, ◌<◌, ◌≤◌, Bool, List, [], ◌∷◌, ◌++◌, length, refl, sym, ap, subst, ◌∙◌, arith, slice_set, slice_index_or, Option, None, Some, Result, Ok, Err, OnOk, IfErr}
+use Rattle.std.specs.Prelude.{⊤}
+use Rattle.std.proofs.lemmas.List.{append-nil}
+use Rattle.cdb_store.specs.declared.store.Store.{Ghosts}
+use Rattle.cdb_store.specs.Reads.{OnlyReads}
+use Rattle.cdb_store.proofs.Reading.{reads_more}
+use Rattle.cdb_read.proofs.FoundSoFar.{reads_none}
+use Rattle.cdb_feed.specs.Inputs.{AreRead, NoMore, StopsSo, TakesOne}
+use Rattle.cdb_feed.specs.Parsing.{Parsing}
+use Rattle.cdb_feed.specs.declared.input_reader.InputReader.{InputReader}
+use Rattle.cdb_feed.specs.declared.input_reader.InputReader.TheVariants.{Own, Shared}
+use Rattle.cdb_form.specs.Fed.Feed.{Feed, Consumes, FromTo, Keeps}
+use Rattle.cdb_form.specs.Text.Amending.{Change}
+use Rattle.cdb_form.specs.declared.text.fault.TextFault.{TextFault}
+use Rattle.cdb_form.specs.declared.text.fault.TextFault.TheVariants as kind
+use Rattle.cdb_form.proofs.Fed.FeedLemmas.{from_behind, from_both, from_kept, from_weaker, nothing_taken}
+use Rattle.cdb_command.specs.declared.style.Style.{Style}
+use Rattle.cdb_show.specs.Runs.FedLookups.{LooksFurther, StopsFurther, StopsTurn}
+use Rattle.cdb_show.specs.Runs.Inputs.{InputForm, BeginsWithItems, HasItemFault, IsInputOf, keys_form, keys_of, keys_of_each}
+use Rattle.cdb_show.specs.Runs.Lookups.{FaultBehind, HasLooked, LookupsStopAt, StopsBehind}
+use Rattle.cdb_show.specs.Runs.Parsing.{IsFaultOf, StopsIn, fault_in, stop_of, stopped_parsing}
+use Rattle.cdb_show.specs.Views.FedInputs.{shared_feed}
+use Rattle.cdb_show.specs.Views.Window.{feed_of}
+use Rattle.cdb_show.specs.Views.WindowRests.{same_held}
+use Rattle.cdb_show.specs.declared.fault.Fault.{Fault}
+use Rattle.cdb_show.specs.declared.fault.Fault.TheVariants.{Text, Make, Duplicate, Missing, Read, Walk, Output, Long, Open, Rename, NoMemory, Old, New, NoOldTables, NoNewTables}
+use Rattle.cdb_show.specs.declared.fed_inputs.SharedWindow.{SharedWindow}
+use Rattle.cdb_show.specs.declared.fed_inputs.SharedWindow.TheVariants.{InHand, Unread}
+use Rattle.cdb_show.specs.declared.window.Window.{Window}
+use Rattle.cdb_show.proofs.FedTurns.{SoFar, one_more, one_stops, all_read}
+use Rattle.cdb_show.proofs.LookupRuns.{each_more, stops_later}
+use Rattle.cdb_show.proofs.NextInputs.{begins_none}
+
+-- ---- bytes of a window that are lost, and a reader that is kept
+
+from_lost : (a b c : Feed) (held : List ℕ) (P : List ℕ → List ℕ → Type 0) → FromTo a b P → Consumes b c held → FromTo a c (λ text left. (rest : List ℕ) × P text rest)
+from_lost a b c held P f lost = record {
+  known = λ k. lost.known (f.known k);
+  back = λ k whole rest m.
+      let t = f.back k whole (held ++ rest) (lost.back (f.known k) whole rest m) in
+      (t.0, t.1, (held ++ rest, t.2));
+}
+
+text_lost : (a b c : Feed) (held : List ℕ) (P : List ℕ → Type 0) → FromTo a b (λ text rest. P text) → Consumes b c held → FromTo a c (λ text rest. P text)
+text_lost a b c held P f lost = record {
+  known = λ k. lost.known (f.known k);
+  back = λ k whole rest m. f.back k whole (held ++ rest) (lost.back (f.known k) whole rest m);
+}
+
+stops_lost : (form : InputForm) (g n : ℕ) (last : List Change) (a b c : Feed) (held : List ℕ) (fault : Fault) → StopsBehind form g n last a b fault → Consumes b c held → StopsBehind form g n last a c fault
+stops_lost form g n last a b c held fault h lost = record {
+  begins = text_lost a b c held (BeginsWithItems form g last) h.begins lost;
+  of_text = λ i f e. let t = h.of_text i f e in (t.0, record { has = text_lost a b c held (HasItemFault form g last f) t.1.has lost; own = t.1.own; memory = t.1.memory });
+}
+
+stops_kept : (form : InputForm) (g n : ℕ) (last : List Change) (a b c : Feed) (fault : Fault) → Keeps a b → StopsBehind form g n last b c fault → StopsBehind form g n last a c fault
+stops_kept form g n last a b c fault kept h = record {
+  begins = from_behind a b c [] (λ text rest. BeginsWithItems form g last text) kept h.begins;
+  of_text = λ i f e. let t = h.of_text i f e in (t.0, record { has = from_behind a b c [] (λ text rest. HasItemFault form g last f text) kept t.1.has; own = t.1.own; memory = t.1.memory });
+}
+
+-- memory for its window was refused before anything was read of it
+stops_unread : (form : InputForm) (g n : ℕ) (a b : Feed) → Keeps a b → StopsBehind form g n [] a b NoMemory
+stops_unread form g n a b kept = record {
+  begins = from_kept a b (λ text rest. BeginsWithItems form g [] text) kept (λ text. begins_none form g (Some text));
+  of_text = λ i f e. absurd (let no : ⊥ = cc in no);
+}
+
+-- ---- a stop, by its fault
+
+pub is_fault_of : (form : InputForm) (g n : ℕ) (last : List Change) (a b : Feed) (fault : Fault) → StopsBehind form g n last a b fault → IsFaultOf form n fault
+is_fault_of form g n last a b fault h = record {
+  number = λ i f e. (h.of_text i f e).0;
+  own = λ i f e. (h.of_text i f e).1.own;
+  memory = λ i f e. (h.of_text i f e).1.memory;
+}
+
+-- what is known of a fault of an input
+abbrev FaultIs : InputForm → ℕ → List Change → Feed → Feed → Option TextFault → Type 0
+FaultIs form g last a b None = ⊤
+FaultIs form g last a b (Some f) = FaultBehind form g last a b f
+
+fault_is : (form : InputForm) (g n : ℕ) (last : List Change) (a b : Feed) (fault : Fault) → StopsBehind form g n last a b fault → FaultIs form g last a b (fault_in (Err fault))
+fault_is form g n last a b (Text i f) h = (h.of_text i f refl).1
+fault_is form g n last a b (Make f) h = tt
+fault_is form g n last a b Duplicate h = tt
+fault_is form g n last a b Missing h = tt
+fault_is form g n last a b (Read f) h = tt
+fault_is form g n last a b (Walk f) h = tt
+fault_is form g n last a b Output h = tt
+fault_is form g n last a b Long h = tt
+fault_is form g n last a b Open h = tt
+fault_is form g n last a b Rename h = tt
+fault_is form g n last a b NoMemory h = tt
+fault_is form g n last a b (Old f) h = tt
+fault_is form g n last a b (New f) h = tt
+fault_is form g n last a b NoOldTables h = tt
+fault_is form g n last a b NoNewTables h = tt
+
+abbrev InText : InputForm → ℕ → Option TextFault → List Change → (text : List ℕ) → Type 0
+InText form g fault last text = StopsIn (stopped_parsing form g fault) (stop_of fault last) text
+
+module _ (form : InputForm) (g : ℕ) (last : List Change) (a b : Feed) (one : (whole x y : List ℕ) → a.may whole x → a.may whole y → x ≡ y) (begins : FromTo a b (λ text rest. BeginsWithItems form g last text)) where
+  in_text : (fault : Option TextFault) → FaultIs form g last a b fault → FromTo a b (λ text rest. InText form g fault last text)
+  in_text None h = from_weaker a b (λ text rest. BeginsWithItems form g last text) (λ text rest. InText form g None last text) begins (λ text rest is. (is, tt))
+  in_text (Some (kind.Syntax at)) h = from_weaker a b (λ text rest. HasItemFault form g last (kind.Syntax at) text) (λ text rest. InText form g (Some (kind.Syntax at)) last text) h.has (λ text rest is. (h.own tt, tt, is))
+  in_text (Some (kind.Ended at)) h = from_weaker a b (λ text rest. HasItemFault form g last (kind.Ended at) text) (λ text rest. InText form g (Some (kind.Ended at)) last text) h.has (λ text rest is. (h.own tt, tt, is))
+  in_text (Some (kind.Large at)) h = from_weaker a b (λ text rest. HasItemFault form g last (kind.Large at) text) (λ text rest. InText form g (Some (kind.Large at)) last text) h.has (λ text rest is. (h.own tt, tt, is))
+  in_text (Some kind.Input) h = from_both a b (λ text rest. BeginsWithItems form g last text) (λ text rest. HasItemFault form g last kind.Input text) one begins h.has
+  in_text (Some kind.Endless) h = from_both a b (λ text rest. BeginsWithItems form g last text) (λ text rest. HasItemFault form g last kind.Endless text) one begins h.has
+  in_text (Some kind.NoMemory) h = absurd (h.memory refl)
+
+stops_in : (form : InputForm) (g n : ℕ) (last : List Change) (a b : Feed) (fault : Fault) → ((whole x y : List ℕ) → a.may whole x → a.may whole y → x ≡ y) → StopsBehind form g n last a b fault → FromTo a b (λ text rest. InText form g (fault_in (Err fault)) last text)
+stops_in form g n last a b fault one h = in_text form g last a b one h.begins (fault_in (Err fault)) (fault_is form g n last a b fault h)
+
+-- ---- an input with a reader of its own
+
+module _ (form : InputForm) (g n : ℕ) (Looks : List Change → Type 0) (Stops : List Change → Fault → Type 0) where
+  pub own_ok : (start a b c : Feed) (held : List ℕ) (result : Result Unit Fault) → Keeps start a → Consumes b c held → OnOk result ((last : List Change) × FromTo a b (IsInputOf form g last) × Looks last)
+      → OnOk result ((last : List Change) × FromTo start c (λ text left. (rest : List ℕ) × IsInputOf form g last text rest) × Looks last)
+  own_ok start a b c held (Ok done) kept lost h = (h.0, from_lost start b c held (IsInputOf form g h.0) (from_behind start a b [] (IsInputOf form g h.0) kept h.1) lost, h.2)
+  own_ok start a b c held (Err fault) kept lost h = tt
+
+  pub own_fails : (start a b c : Feed) (held : List ℕ) (result : Result Unit Fault) → Keeps start a → Consumes b c held → IfErr result (λ fault. (last : List Change) × StopsBehind form g n last a b fault × Stops last fault)
+      → IfErr result (λ fault. (last : List Change) × StopsBehind form g n last start c fault × Stops last fault)
+  own_fails start a b c held (Ok done) kept lost h = tt
+  own_fails start a b c held (Err fault) kept lost h = (h.0, stops_kept form g n h.0 start a c fault kept (stops_lost form g n h.0 a b c held fault h.1 lost), h.2)
+
+pub own_unread : {S : Type 0} (w g : ℕ) (s : Ghosts S) (number : Option ℕ) (style : Style) (n : ℕ) (a b : Feed) (store : S) (mid : Option (List ℕ)) (was : Bool) → Keeps a b → (last : List Change) × StopsBehind (keys_form style) g n last a b NoMemory × StopsFurther w s number style last store store mid mid was NoMemory
+own_unread w g s number style n a b store mid was kept = (
+  [],
+  stops_unread (keys_form style) g n a b kept,
+  λ before start h. (was, subst (λ k. HasLooked w s number style k store start mid was) (sym (append-nil before)) h),
+)
+
+-- ---- an input in its turn
+
+module _ {J I : Type 0} (style : Style) (g n : ℕ) (own : J → Feed) (shared : I → Feed) (Looks : List Change → Type 0) (Stops : List Change → Fault → Type 0) where
+  abbrev TurnFails : (before after : InputReader J) → (old new : SharedWindow I) → Fault → Type 0
+  TurnFails before after old new fault = (last : List Change) × StopsTurn style g own shared (fault_in (Err fault)) last before after old new × IsFaultOf (keys_form style) n fault × Stops last fault
+
+  pub own_turn_ok : (turn : InputReader J) (reader left : J) (window : SharedWindow I) (result : Result Unit Fault) → turn ≡ Own reader → OnOk result ((last : List Change) × FromTo (own reader) (own left) (λ text left. (rest : List ℕ) × IsInputOf (keys_form style) g last text rest) × Looks last)
+      → OnOk result ((last : List Change) × TakesOne own (shared_feed shared) (IsInputOf (keys_form style) g last) turn (Own left) window window × Looks last)
+  own_turn_ok turn reader left window (Ok done) e h = (h.0, subst (λ t. TakesOne own (shared_feed shared) (IsInputOf (keys_form style) g h.0) t (Own left) window window) (sym e) (h.1, nothing_taken (shared_feed shared window)), h.2)
+  own_turn_ok turn reader left window (Err fault) e h = tt
+
+  pub own_turn_fails : (turn : InputReader J) (reader left : J) (window : SharedWindow I) (result : Result Unit Fault) → ((whole x y : List ℕ) → (own reader).may whole x → (own reader).may whole y → x ≡ y) → turn ≡ Own reader
+      → IfErr result (λ fault. (last : List Change) × StopsBehind (keys_form style) g n last (own reader) (own left) fault × Stops last fault) → IfErr result (TurnFails turn (Own left) window window)
+  own_turn_fails turn reader left window (Ok done) one e h = tt
+  own_turn_fails turn reader left window (Err fault) one e h =
+      let f = stops_in (keys_form style) g n h.0 (own reader) (own left) fault one h.1 in (
+        h.0,
+        subst (λ t. StopsTurn style g own shared (fault_in (Err fault)) h.0 t (Own left) window window) (sym e)
+            (from_weaker (own reader) (own left) (λ text rest. InText (keys_form style) g (fault_in (Err fault)) h.0 text) (λ text left. (rest : List ℕ) × InText (keys_form style) g (fault_in (Err fault)) h.0 text) f (λ text rest is. (rest, is)), nothing_taken (shared_feed shared window)),
+        is_fault_of (keys_form style) g n h.0 (own reader) (own left) fault h.1,
+        h.2,
+      )
+
+  pub shared_turn_ok : (before after : InputReader J) (start : SharedWindow I) (a : Feed) (left : Window I) (result : Result Unit Fault) → before ≡ Shared → after ≡ Shared → Keeps (shared_feed shared start) a → OnOk result ((last : List Change) × FromTo a (feed_of shared left) (IsInputOf (keys_form style) g last) × Looks last)
+      → OnOk result ((last : List Change) × TakesOne own (shared_feed shared) (IsInputOf (keys_form style) g last) before after start (InHand left) × Looks last)
+  shared_turn_ok before after start a left (Ok done) b e kept h =
+      let f = from_behind (shared_feed shared start) a (feed_of shared left) [] (IsInputOf (keys_form style) g h.0) kept h.1 in (
+        h.0,
+        subst (λ t. TakesOne own (shared_feed shared) (IsInputOf (keys_form style) g h.0) t after start (InHand left)) (sym b) (subst (λ t. TakesOne own (shared_feed shared) (IsInputOf (keys_form style) g h.0) Shared t start (InHand left)) (sym e) f),
+        h.2,
+      )
+  shared_turn_ok before after start a left (Err fault) b e kept h = tt
+
+  pub shared_stops : (before after : InputReader J) (old new : SharedWindow I) (last : List Change) (fault : Fault) → ((whole x y : List ℕ) → (shared_feed shared old).may whole x → (shared_feed shared old).may whole y → x ≡ y) → before ≡ Shared → after ≡ Shared
+      → StopsBehind (keys_form style) g n last (shared_feed shared old) (shared_feed shared new) fault → Stops last fault → TurnFails before after old new fault
+  shared_stops before after old new last fault one b e h stops =
+      let f = stops_in (keys_form style) g n last (shared_feed shared old) (shared_feed shared new) fault one h in (
+        last,
+        subst (λ t. StopsTurn style g own shared (fault_in (Err fault)) last t after old new) (sym b) (subst (λ t. StopsTurn style g own shared (fault_in (Err fault)) last Shared t old new) (sym e) f),
+        is_fault_of (keys_form style) g n last (shared_feed shared old) (shared_feed shared new) fault h,
+        stops,
+      )
+
+  pub shared_turn_fails : (before after : InputReader J) (start : SharedWindow I) (a : Feed) (left : Window I) (result : Result Unit Fault) → ((whole x y : List ℕ) → (shared_feed shared start).may whole x → (shared_feed shared start).may whole y → x ≡ y) → before ≡ Shared → after ≡ Shared
+      → Keeps (shared_feed shared start) a → IfErr result (λ fault. (last : List Change) × StopsBehind (keys_form style) g n last a (feed_of shared left) fault × Stops last fault) → IfErr result (TurnFails before after start (InHand left))
+  shared_turn_fails before after start a left (Ok done) one b e kept h = tt
+  shared_turn_fails before after start a left (Err fault) one b e kept h =
+      shared_stops before after start (InHand left) h.0 fault one b e (stops_kept (keys_form style) g n h.0 (shared_feed shared start) a (feed_of shared left) fault kept h.1) h.2
+
+-- all bytes of a window, or of its reader, determine those that are left
+pub one_shared : {I : Type 0} (shared : I → Feed) (it : SharedWindow I) → ((reader : I) (whole x y : List ℕ) → (shared reader).may whole x → (shared reader).may whole y → x ≡ y) → (whole x y : List ℕ) → (shared_feed shared it).may whole x → (shared_feed shared it).may whole y → x ≡ y
+one_shared shared (Unread reader) one whole x y a b = one reader whole x y a b
+one_shared shared (InHand w) one whole x y a b = same_held (one w.reader whole) a b
+
+-- ---- the inputs so far
+
+-- the parsing of the inputs of a run that will stop so
+abbrev pub keys_parsing : Style → ℕ → Option TextFault → Parsing Change TextFault
+keys_parsing style g fault = stopped_parsing (keys_form style) g fault
+
+stops_on : {J I : Type 0} (style : Style) (g : ℕ) (own : J → Feed) (shared : I → Feed) (fault : Option TextFault) (last : List Change) (reader left : InputReader J) (others rest : List (InputReader J)) (old new : SharedWindow I) → StopsTurn style g own shared fault last reader left old new
+    → StopsSo own (shared_feed shared) (keys_parsing style g fault) (stop_of fault last) (reader ∷ others) (left ∷ rest) old new
+stops_on style g own shared None last reader left others rest old new h = h
+stops_on style g own shared (Some (kind.Syntax at)) last reader left others rest old new h = h
+stops_on style g own shared (Some (kind.Ended at)) last reader left others rest old new h = h
+stops_on style g own shared (Some (kind.Large at)) last reader left others rest old new h = h
+stops_on style g own shared (Some kind.Input) last reader left others rest old new h = h
+stops_on style g own shared (Some kind.Endless) last reader left others rest old new h = h
+stops_on style g own shared (Some kind.NoMemory) last reader left others rest old new h = h
+
+module _ {J I S : Type 0} (w g : ℕ) (s : Ghosts S) (number : Option ℕ) (style : Style) (own : J → Feed) (shared : I → Feed) (before : List (InputReader J)) (start : SharedWindow I) (first : S) (out : Option (List ℕ)) (was : Bool) where
+  -- the keys of all were looked up
+  pub record LookedFed (now : List (InputReader J)) (window : SharedWindow I) (i : ℕ) (store : S) (written : Option (List ℕ)) (missing : Bool) : Type 0 where
+    pub so_far : SoFar own (shared_feed shared) (keys_parsing style g) before now start window i
+    pub reads : OnlyReads s first store
+    pub looked : (begun : Option (List ℕ)) → HasLooked w s number style [] first begun out was → HasLooked w s number style (keys_of_each so_far.read) store begun written missing
+
+  pub fed_none : LookedFed before start 0 first out was
+  fed_none = record { so_far = record { read = []; are = λ fault. nothing_taken (shared_feed shared start); count = refl; within = omega arith; same = refl; long = refl }; reads = reads_none s first; looked = λ begun h. h }
+
+  module _ (now : List (InputReader J)) (it left : InputReader J) (window further : SharedWindow I) (i : ℕ) (store next : S) (mid written : Option (List ℕ)) (missing : Bool) (h : LookedFed now window i store mid missing) (within : i < length now) (e : it ≡ slice_index_or now i it) (reads : OnlyReads s store next) where
+    pub fed_more : (after : Bool) → (last : List Change) × TakesOne own (shared_feed shared) (IsInputOf (keys_form style) g last) it left window further × LooksFurther w s number style last store next mid written missing after
+        → LookedFed (slice_set now i left) further (i + 1) next written after
+    fed_more after (last, takes, looks) =
+        let more = one_more own (shared_feed shared) (keys_parsing style g) before now it left start window further i last h.so_far within e (λ fault. takes) in
+        record {
+          so_far = more.0;
+          reads = reads_more h.reads reads;
+          looked = λ begun k. subst (λ v. HasLooked w s number style v next begun written after) (sym (ap keys_of_each more.1 ∙ each_more h.so_far.read last)) (looks (keys_of_each h.so_far.read) begun (h.looked begun k));
+        }
+
+    pub fed_stops : (fault : Fault) → (last : List Change) × StopsTurn style g own shared (fault_in (Err fault)) last it left window further × IsFaultOf (keys_form style) (i + 1) fault × StopsFurther w s number style last store next mid written missing fault
+        → (read : List (List Change)) × (last : List Change) × AreRead own (shared_feed shared) (keys_parsing style g (fault_in (Err fault))) read (stop_of (fault_in (Err fault)) last) before (slice_set now i left) start further
+        × IsFaultOf (keys_form style) (length read + 1) fault
+        × ((begun : Option (List ℕ)) → HasLooked w s number style [] first begun out was → LookupsStopAt w s number style (keys_of_each read ++ keys_of last) first next begun written fault)
+    fed_stops fault (last, stop, is, stops) = (
+      h.so_far.read,
+      last,
+      one_stops own (shared_feed shared) (keys_parsing style g) before now it left start window further i (stop_of (fault_in (Err fault)) last) (fault_in (Err fault)) h.so_far within e (λ others rest. stops_on style g own shared (fault_in (Err fault)) last it left others rest window further stop),
+      subst (λ n. IsFaultOf (keys_form style) (n + 1) fault) (sym h.so_far.count) is,
+      λ begun k. stops_later w s number style _ first store next begun written fault h.reads (stops (keys_of_each h.so_far.read) begun (h.looked begun k)),
+    )
+
+  pub fed_all : (now : List (InputReader J)) (window : SharedWindow I) (i : ℕ) (store : S) (written : Option (List ℕ)) (missing : Bool) → LookedFed now window i store written missing → length now ≤ i
+      → (read : List (List Change)) × AreRead own (shared_feed shared) (keys_parsing style g None) read NoMore before now start window
+      × ((begun : Option (List ℕ)) → HasLooked w s number style [] first begun out was → HasLooked w s number style (keys_of_each read) store begun written missing)
+  fed_all now window i store written missing h end = (h.so_far.read, all_read own (shared_feed shared) (keys_parsing style g) before now start window i None h.so_far end, h.looked)

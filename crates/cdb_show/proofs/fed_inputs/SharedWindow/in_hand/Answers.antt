@@ -1,0 +1,12 @@
+use Rattle.std.proofs.Common.{[], subst, sym}
+use Rattle.cdb_form.specs.Fed.Feed.{Consumes}
+use Rattle.cdb_form.proofs.Fed.FeedLemmas.{nothing_taken}
+use Rattle.cdb_show.specs.Views.FedInputs.{shared_feed}
+use Rattle.cdb_show.specs.Views.Window.{feed_of}
+use Rattle.cdb_show.proofs.fed_inputs.SharedWindow.in_hand.Goals as goal
+
+pub returns-in-InHand-clause-kept : goal.returns-in-InHand-clause-kept
+returns-in-InHand-clause-kept g c =
+    let feed = g.I.Feeds.feed in
+    let after = feed_of feed c.in-InHand.window in
+    subst (λ s. Consumes (shared_feed feed s) after []) (sym c.in-InHand.is) (nothing_taken after)

@@ -1,0 +1,26 @@
+use Rattle.std.specs.Prelude.{⊤}
+use Rattle.std.proofs.Common.{subst, sym}
+use Rattle.cdb_form.proofs.Fed.FeedLemmas.{nothing_taken}
+use Rattle.cdb_form.specs.Fed.Feed.{Keeps}
+use Rattle.cdb_show.specs.Runs.Inputs.{keys_form}
+use Rattle.cdb_show.specs.Views.Window.{feed_of}
+use Rattle.cdb_show.proofs.FedLookupRuns.{own_fails, own_ok, own_unread}
+use Rattle.cdb_show.proofs.runs.fed_lookups.look_up_own.Goals as goal
+
+pub returns-in-Err-clause-fails : goal.returns-in-Err-clause-fails
+returns-in-Err-clause-fails g c =
+    let feed = g.J.Feeds.feed in
+    own_unread _ g.L.Width.GREATEST g.S.Store c.args.number c.args.style c.args.input (feed c.args.own) (feed c.in-Err.refused.reader) _ _ c.args.missing.now
+    (subst (λ r. Keeps (feed c.args.own) (feed r)) (sym c.in-Err.ensures.back) (nothing_taken (feed c.args.own)))
+
+pub returns-clause-ok : goal.returns-clause-ok
+returns-clause-ok g c =
+    let feed = g.J.Feeds.feed in
+    own_ok (keys_form c.args.style) g.L.Width.GREATEST c.args.input _ (λ last fault. ⊤) (feed c.args.own) (feed_of feed c.in-Ok.window) (feed_of feed c.look_up_text-window.result.0) (feed c.into_reader.result) _ _
+    c.in-Ok.ensures.kept c.into_reader.ensures.lost c.look_up_text-window.ensures.ok
+
+pub returns-clause-fails : goal.returns-clause-fails
+returns-clause-fails g c =
+    let feed = g.J.Feeds.feed in
+    own_fails (keys_form c.args.style) g.L.Width.GREATEST c.args.input (λ last. ⊤) _ (feed c.args.own) (feed_of feed c.in-Ok.window) (feed_of feed c.look_up_text-window.result.0) (feed c.into_reader.result) _ _
+    c.in-Ok.ensures.kept c.into_reader.ensures.lost c.look_up_text-window.ensures.fails

@@ -1,0 +1,11 @@
+use Rattle.std.proofs.Common.{◌-◌, length}
+use Rattle.cdb_show.proofs.FedLookupRuns.{LookedFed}
+use Rattle.cdb_show.proofs.runs.fed_lookups.look_up_readers.Given as goal
+
+-- the keys of the inputs so far were looked up
+abbrev pub invariant-loop-i : goal.invariant-loop-i
+invariant-loop-i g l =
+    LookedFed g.L.Width.WORD g.L.Width.GREATEST g.S.Store l.number l.style g.J.Feeds.feed g.I.Feeds.feed l.fn.readers l.fn.shared l.fn.reader.store (g.W.Sink.contents l.fn.w) l.fn.missing l.readers l.shared l.i l.reader.store (g.W.Sink.contents l.w) l.missing
+
+abbrev pub decreases-loop-i : goal.decreases-loop-i
+decreases-loop-i g l = length l.initial.readers - l.i

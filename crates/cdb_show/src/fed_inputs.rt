@@ -1,0 +1,53 @@
+// The inputs of a run, whose readers come back.
+ghost use Rattle.std.specs.Prelude.{◌≡◌, IfErr, IfOk};
+ghost use Rattle.cdb_form.specs.Fed.Feed.{Consumes, Keeps};
+ghost use Rattle.cdb_show.specs.Views.FedInputs.{held_of, reader_of, shared_feed};
+ghost use Rattle.cdb_show.specs.Views.Window.{feed_of};
+
+use crate::window::{NoWindow, Window};
+use cdb_feed::InputReader;
+use cdb_form::Feeds;
+use std::alloc::Global;
+
+/// The inputs of a run, which are read in turn, each through a window of 64 KiB.
+#[derive(Drop)]
+pub struct FedInputs<J, I> {
+    /// The readers of the inputs, in their order.
+    pub readers: Vec<InputReader<J>>,
+    /// The reader of those that have none of their own, as each `-` of a command line has standard
+    /// input: each of them begins where the text of the one before it ended.
+    pub shared: I,
+}
+
+/// The reader that inputs share, which has its window from the first of them on.
+#[derive(Drop)]
+pub enum SharedWindow<I> {
+    /// Nothing was read of it.
+    Unread(I),
+    /// An input was.
+    InHand(Window<I>),
+}
+
+impl<I: Feeds> SharedWindow<I> {
+    /// The reader in its window. If memory for that is refused, `NoWindow` has the reader as it came.
+    pub fn in_hand(self, alloc: Global) -> Result<Window<I>, NoWindow<I>>
+        ensures kept { IfOk result (λ w. Keeps (shared_feed I.feed self) (feed_of I.feed w)) }
+        ensures back { IfErr result (λ e. Keeps (shared_feed I.feed self) (I.feed e.reader)) }
+    {
+        match self {
+            SharedWindow::Unread(reader) => Window::growing(alloc, reader),
+            SharedWindow::InHand(window) => Ok(window),
+        }
+    }
+
+    /// Hands the reader back. The bytes that its window holds are lost.
+    pub fn into_reader(self) -> I
+        ensures reader { result ≡ reader_of self }
+        ensures lost { Consumes (shared_feed I.feed self) (I.feed result) (held_of self) }
+    {
+        match self {
+            SharedWindow::Unread(reader) => reader,
+            SharedWindow::InHand(window) => window.into_reader(),
+        }
+    }
+}

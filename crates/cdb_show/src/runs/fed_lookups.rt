@@ -1,0 +1,222 @@
+// The records of the keys that some inputs give, whose readers come back.
+ghost use Rattle.std.specs.Prelude.{◌≡◌, ◌+◌, ◌≤◌, ◌++◌, ℕ, List, Option, None, Err, IfSome};
+ghost use Rattle.std.specs.Prelude.{IfErr, OnOk};
+ghost use Rattle.std.specs.Prelude.{length, []};
+ghost use Rattle.cdb_store.specs.Reads.{OnlyReads};
+ghost use Rattle.cdb_feed.specs.Inputs.{AreRead, NoMore, TakesOne};
+ghost use Rattle.cdb_form.specs.Fed.Feed.{FromTo};
+ghost use Rattle.cdb_form.specs.Text.Amending.{Change};
+ghost use Rattle.cdb_show.specs.Runs.FedLookups.{LooksFurther, StopsFurther, StopsTurn};
+ghost use Rattle.cdb_show.specs.Runs.Inputs.{IsInputOf, keys_form, keys_of, keys_of_each};
+ghost use Rattle.cdb_show.specs.Runs.Lookups.{HasLooked, LookupsStopAt, StopsBehind};
+ghost use Rattle.cdb_show.specs.Runs.Parsing.{IsFaultOf, fault_in, stop_of, stopped_parsing};
+ghost use Rattle.cdb_show.specs.Views.FedInputs.{shared_feed};
+ghost use Rattle.cdb_show.specs.Views.Output.{OutputSays};
+ghost use Rattle.cdb_show.specs.Views.Window.{feed_of};
+
+use crate::fault::Fault;
+use crate::fed_inputs::{FedInputs, SharedWindow};
+use crate::input::InWindow;
+use crate::lines::{InLined, Lined, Lines};
+use crate::runs::flushed::flushed_whole;
+use crate::runs::key_reader::KeyReader;
+use crate::runs::lookups::look_up_input;
+use crate::runs::walk_text::write_last;
+use crate::window::Window;
+use cdb_command::Style;
+use cdb_feed::InputReader;
+use cdb_form::{Feeds, Sink, Width};
+use cdb_read::Reader;
+use cdb_store::Store;
+use std::alloc::Global;
+use std::mem::replace;
+
+/// Writes the records of the keys that an input gives from here on, whose number is counted from 1, and
+/// answers its window as it goes on after its text, or behind the last key that was read of it.
+fn look_up_text<L: Width, S: Store, F: Feeds, W: Sink>(
+    alloc: Global,
+    reader: &mut Reader<S, L>,
+    number: Option<u64>,
+    style: Style,
+    input: u64,
+    window: Window<F>,
+    missing: &mut bool,
+    lines: &Lines,
+    w: &mut W,
+) -> (Window<F>, Result<(), Fault>)
+    requires { IfSome number (λ j. 1 ≤ j) }
+    ensures reads { OnlyReads S.Store reader.old.store reader.new.store }
+    ensures ok { OnOk result.1 ((last : List Change)
+        × FromTo (feed_of F.feed window) (feed_of F.feed result.0)
+        (IsInputOf (keys_form style) L.GREATEST last)
+        × LooksFurther L.WORD S.Store number style last reader.old.store reader.new.store
+        (W.contents w.old) (W.contents w.new) missing.old missing.new) }
+    ensures fails { IfErr result.1 (λ fault. (last : List Change)
+        × StopsBehind (keys_form style) L.GREATEST input last
+        (feed_of F.feed window) (feed_of F.feed result.0) fault
+        × StopsFurther L.WORD S.Store number style last reader.old.store reader.new.store
+        (W.contents w.old) (W.contents w.new) missing.old fault) }
+    ensures output { OutputSays (W.failed w.new) result.1 }
+{
+    if lines.counts {
+        let lined = Lined::new(window, lines);
+        let mut keys = KeyReader::new(alloc, style, lined);
+        let answer = look_up_input::<L, S, _, W, InLined>(
+            alloc, reader, number, style, input, &mut keys, missing, w,
+        );
+        return (keys.into_reader().into_window(), answer);
+    }
+    let mut keys = KeyReader::new(alloc, style, window);
+    let answer = look_up_input::<L, S, _, W, InWindow>(
+        alloc, reader, number, style, input, &mut keys, missing, w,
+    );
+    (keys.into_reader(), answer)
+}
+
+/// Writes the records of the keys of an input with a reader of its own, and answers that. What was
+/// taken of it behind its text, or behind the last key, is lost.
+fn look_up_own<L: Width, S: Store, J: Feeds, W: Sink>(
+    alloc: Global,
+    reader: &mut Reader<S, L>,
+    number: Option<u64>,
+    style: Style,
+    input: u64,
+    own: J,
+    missing: &mut bool,
+    lines: &Lines,
+    w: &mut W,
+) -> (J, Result<(), Fault>)
+    requires { IfSome number (λ j. 1 ≤ j) }
+    ensures reads { OnlyReads S.Store reader.old.store reader.new.store }
+    ensures ok { OnOk result.1 ((last : List Change)
+        × FromTo (J.feed own) (J.feed result.0)
+        (λ text left. (rest : List ℕ) × IsInputOf (keys_form style) L.GREATEST last text rest)
+        × LooksFurther L.WORD S.Store number style last reader.old.store reader.new.store
+        (W.contents w.old) (W.contents w.new) missing.old missing.new) }
+    ensures fails { IfErr result.1 (λ fault. (last : List Change)
+        × StopsBehind (keys_form style) L.GREATEST input last (J.feed own) (J.feed result.0) fault
+        × StopsFurther L.WORD S.Store number style last reader.old.store reader.new.store
+        (W.contents w.old) (W.contents w.new) missing.old fault) }
+    ensures output { OutputSays (W.failed w.new) result.1 }
+{
+    let window = match Window::growing(alloc, own) {
+        Ok(window) => window,
+        Err(refused) => return (refused.reader, Err(Fault::NoMemory)),
+    };
+    let (window, answer) = look_up_text::<L, S, J, W>(
+        alloc, reader, number, style, input, window, missing, lines, w,
+    );
+    (window.into_reader(), answer)
+}
+
+/// Writes the records of the keys of an input, whose number is counted from 1, and answers what the
+/// inputs share. A reader of its own is back in its place whatever the answer.
+fn look_up_turn<L: Width, S: Store, J: Feeds + Drop, I: Feeds, W: Sink>(
+    alloc: Global,
+    reader: &mut Reader<S, L>,
+    number: Option<u64>,
+    style: Style,
+    input: u64,
+    turn: &mut InputReader<J>,
+    shared: SharedWindow<I>,
+    missing: &mut bool,
+    lines: &Lines,
+    w: &mut W,
+) -> (SharedWindow<I>, Result<(), Fault>)
+    requires { IfSome number (λ j. 1 ≤ j) }
+    ensures reads { OnlyReads S.Store reader.old.store reader.new.store }
+    ensures ok { OnOk result.1 ((last : List Change)
+        × TakesOne J.feed (shared_feed I.feed) (IsInputOf (keys_form style) L.GREATEST last)
+        turn.old turn.new shared result.0
+        × LooksFurther L.WORD S.Store number style last reader.old.store reader.new.store
+        (W.contents w.old) (W.contents w.new) missing.old missing.new) }
+    ensures fails { IfErr result.1 (λ fault. (last : List Change)
+        × StopsTurn style L.GREATEST J.feed I.feed (fault_in (Err fault)) last
+        turn.old turn.new shared result.0
+        × IsFaultOf (keys_form style) input fault
+        × StopsFurther L.WORD S.Store number style last reader.old.store reader.new.store
+        (W.contents w.old) (W.contents w.new) missing.old fault) }
+    ensures output { OutputSays (W.failed w.new) result.1 }
+{
+    match replace(turn, InputReader::Shared) {
+        InputReader::Own(own) => {
+            lines.begin(false);
+            let (own, answer) = look_up_own::<L, S, J, W>(
+                alloc, reader, number, style, input, own, missing, lines, w,
+            );
+            *turn = InputReader::Own(own);
+            (shared, answer)
+        }
+        InputReader::Shared => {
+            lines.begin(true);
+            let window = match shared.in_hand(alloc) {
+                Ok(window) => window,
+                Err(refused) => return (SharedWindow::Unread(refused.reader), Err(Fault::NoMemory)),
+            };
+            let (window, answer) = look_up_text::<L, S, I, W>(
+                alloc, reader, number, style, input, window, missing, lines, w,
+            );
+            (SharedWindow::InHand(window), answer)
+        }
+    }
+}
+
+/// Writes the records of the keys of some inputs, one after the other, and answers what they share.
+/// `missing` is set if a key had no value.
+fn look_up_readers<L: Width, S: Store, J: Feeds + Drop, I: Feeds, W: Sink>(
+    alloc: Global,
+    reader: &mut Reader<S, L>,
+    number: Option<u64>,
+    style: Style,
+    readers: &mut [InputReader<J>],
+    shared: SharedWindow<I>,
+    missing: &mut bool,
+    lines: &Lines,
+    w: &mut W,
+) -> (SharedWindow<I>, Result<(), Fault>)
+    requires { IfSome number (λ j. 1 ≤ j) }
+    ensures reads { OnlyReads S.Store reader.old.store reader.new.store }
+    ensures ok { OnOk result.1 ((read : List (List Change))
+        × AreRead J.feed (shared_feed I.feed) (stopped_parsing (keys_form style) L.GREATEST None)
+        read NoMore readers.old readers.new shared result.0
+        × ((start : Option (List ℕ))
+        → HasLooked L.WORD S.Store number style [] reader.old.store start
+        (W.contents w.old) missing.old
+        → HasLooked L.WORD S.Store number style (keys_of_each read) reader.new.store start
+        (W.contents w.new) missing.new)) }
+    ensures fails { IfErr result.1 (λ fault. (read : List (List Change)) × (last : List Change)
+        × AreRead J.feed (shared_feed I.feed)
+        (stopped_parsing (keys_form style) L.GREATEST (fault_in (Err fault)))
+        read (stop_of (fault_in (Err fault)) last) readers.old readers.new shared result.0
+        × IsFaultOf (keys_form style) (length read + 1) fault
+        × ((start : Option (List ℕ))
+        → HasLooked L.WORD S.Store number style [] reader.old.store start
+        (W.contents w.old) missing.old
+        → LookupsStopAt L.WORD S.Store number style (keys_of_each read ++ keys_of last)
+        reader.old.store reader.new.store start (W.contents w.new) fault)) }
+    ensures output { OutputSays (W.failed w.new) result.1 }
+{
+    let mut shared = shared;
+    let mut i = 0;
+    while i < readers.len() {
+        let (left, looked) = look_up_turn::<L, S, J, I, W>(
+            alloc,
+            reader,
+            number,
+            style,
+            i as u64 + 1,
+            &mut readers[i],
+            shared,
+            missing,
+            lines,
+            w,
+        );
+        shared = left;
+        match looked {
+            Ok(()) => {}
+            Err(fault) => return (shared, Err(fault)),
+        }
+        i += 1;
+    }
+    (shared, Ok(()))
+}
