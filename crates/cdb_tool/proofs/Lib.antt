@@ -3,6 +3,7 @@ pub mod ItemTexts
 pub mod BaseRecords
 pub mod Courses
 pub mod InputRuns
+pub mod FedPuts
 pub mod RunEnds
 pub mod RestoreLaws
 pub mod BaseDifferences
