@@ -2,6 +2,7 @@
 ghost use Rattle.std.specs.Prelude.{◌≡◌, ◌+◌, ◌<◌, ◌≤◌, ℕ, List, [], ◌∷◌, ◌++◌, map, Option, is_some};
 ghost use Rattle.std.specs.Prelude.{length, IfOk, IfErr, OnOk};
 ghost use Rattle.cdb_show.specs.Views.Output.{OutputSays};
+ghost use Rattle.cdb_form.specs.Fed.Feed as fed;
 ghost use Rattle.cdb_form.specs.Format.Pair.{head_size};
 ghost use Rattle.cdb_form.specs.Text.Amending.{Change};
 ghost use Rattle.cdb_form.specs.Views.KnownBytes.{FromTo};
@@ -12,19 +13,21 @@ ghost use Rattle.cdb_show.specs.Runs.Inputs.{AreAllInputs, IsInputOf, ReadsOne, 
 ghost use Rattle.cdb_show.specs.Runs.Inputs.{own_inputs};
 ghost use Rattle.cdb_tool.specs.Runs.Make.{InCourse, StepsOn, MakeRuns, InputFails, InputsFail, IsOfStore, IsOfBase};
 ghost use Rattle.cdb_tool.specs.Runs.Make.{OfBase, HandsBack, BaseHasFailed, Stands, StandsIn, IsHalt};
-ghost use Rattle.cdb_tool.specs.Runs.Make.{PutsItems};
+ghost use Rattle.cdb_tool.specs.Runs.Make.{PutsItems, PutsStop};
+ghost use Rattle.cdb_show.specs.Runs.Lookups.{StopsBehind};
 ghost use Rattle.cdb_show.specs.Views.Input.{input_bytes};
+ghost use Rattle.cdb_show.specs.Views.Window.{feed_of};
 ghost use Rattle.cdb_show.specs.Views.Inputs.{inputs_left, one_of, shared_bytes};
 ghost use Rattle.cdb_show.specs.declared.fault.Fault.TheVariants.{NoMemory};
 
 use crate::runs::make_base::add_base;
-use crate::runs::make_input::put_input;
+use crate::runs::make_input::{put_input, put_input_fed};
 use cdb_command::MakeOptions;
-use cdb_form::{Sink, Width};
+use cdb_form::{Feeds, Sink, Width};
 use cdb_make::Maker;
 use cdb_show::{
-    Fault, InLined, InWindow, Input, Inputs, ItemReader, LinedInput, Lines, SharedInput, Turn,
-    flushed,
+    Fault, FedItems, InLined, InWindow, Input, Inputs, ItemReader, Lined, LinedInput, Lines,
+    SharedInput, Turn, Window, flushed,
 };
 use cdb_store::Store;
 use std::alloc::Global;
@@ -71,6 +74,45 @@ fn put_text<L: Width, S: Store, R: Read + Drop, E: Sink>(
     }
     let items = ItemReader::new(alloc, options.style, amends, input);
     put_input::<L, S, _, E, InWindow>(alloc, maker, options, number, items, lines, errors)
+}
+
+/// Does what an input says from here on, whose number is counted from 1, and hands its window back,
+/// which goes on after its text. Its lines are counted if duplicates are explained.
+fn put_text_fed<L: Width, S: Store, F: Feeds + Drop, E: Sink>(
+    alloc: Global,
+    maker: &mut Maker<S, L>,
+    options: &MakeOptions<'_>,
+    amends: bool,
+    number: u64,
+    window: Window<F>,
+    lines: &Lines,
+    errors: &mut E,
+) -> (Window<F>, Result<(), Fault>)
+    ensures ok { OnOk result.1 ((last : List Change)
+        × fed.FromTo (feed_of F.feed window) (feed_of F.feed result.0)
+        (IsInputOf (input_form options.now.style amends) L.GREATEST last)
+        × PutsItems options.now number last (E.contents errors.old) (E.contents errors.new)
+        maker.old maker.new) }
+    ensures fails { IfErr result.1 (λ fault. (last : List Change)
+        × StopsBehind (input_form options.now.style amends) L.GREATEST number last
+        (feed_of F.feed window) (feed_of F.feed result.0) fault
+        × PutsStop options.now number last (E.contents errors.old) (E.contents errors.new)
+        maker.old maker.new fault) }
+    ensures step { StepsOn maker.old maker.new ⊥ (E.failed errors.new) result.1 }
+{
+    if options.names.is_some() {
+        let lined = Lined::new(window, lines);
+        let mut items = FedItems::new(alloc, options.style, amends, lined);
+        let put = put_input_fed::<L, S, _, E, InLined>(
+            alloc, maker, options, number, &mut items, lines, errors,
+        );
+        return (items.into_reader().into_window(), put);
+    }
+    let mut items = FedItems::new(alloc, options.style, amends, window);
+    let put = put_input_fed::<L, S, _, E, InWindow>(
+        alloc, maker, options, number, &mut items, lines, errors,
+    );
+    (items.into_reader(), put)
 }
 
 /// Does what an input says, whose number is counted from 1, and answers what the inputs share.
