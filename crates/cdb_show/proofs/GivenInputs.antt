@@ -24,7 +24,7 @@ use Rattle.cdb_form.proofs.NativeTexts.Parsing.{list_is, list_fault_is, list_beg
 -- ---- an input
 
 -- it is what the function says
-text_input : (f : InputForm) (g : ℕ) (items : List Change) (input rest : List ℕ) → AreBytes input → IsInputOf f g items input rest → (input_parsed f g input ≡ record { items = items; ends = Ok rest }) × AreBytes rest
+pub text_input : (f : InputForm) (g : ℕ) (items : List Change) (input rest : List ℕ) → AreBytes input → IsInputOf f g items input rest → (input_parsed f g input ≡ record { items = items; ends = Ok rest }) × AreBytes rest
 text_input (Puts Native) g items input rest are (records, is, reads) = (
   native_is g input records rest are reads ∙ ap (λ xs. let p : Parsed = record { items = xs; ends = Ok rest } in p) (sym is),
   bytes_left Spells g records input rest reads are,
@@ -40,7 +40,7 @@ text_input Lists g items input rest are (listing, is, reads) = (
 )
 
 -- and begins so
-text_begins : (f : InputForm) (g : ℕ) (items : List Change) (input : List ℕ) → AreBytes input → BeginsWithItems f g items input → (more : List Change) × ((input_parsed f g input).items ≡ items ++ more)
+pub text_begins : (f : InputForm) (g : ℕ) (items : List Change) (input : List ℕ) → AreBytes input → BeginsWithItems f g items input → (more : List Change) × ((input_parsed f g input).items ≡ items ++ more)
 text_begins (Puts Native) g items input are (records, is, (rest, spelled)) =
     let h = native_begins g input records rest are spelled in
     (h.0, h.1 ∙ ap (λ xs. xs ++ h.0) (sym is))
@@ -52,7 +52,7 @@ text_begins Lists g items input are (listing, is, (rest, spelled)) =
     (h.0, h.1 ∙ ap (λ xs. xs ++ h.0) (sym is))
 
 -- a text of this form has this fault
-text_fails : (f : InputForm) (g : ℕ) (items : List Change) (input : List ℕ) (fault : TextFault) → HasFaults f → IsOfText fault → AreBytes input → HasItemFault f g items fault input → input_parsed f g input ≡ record { items = items; ends = Err fault }
+pub text_fails : (f : InputForm) (g : ℕ) (items : List Change) (input : List ℕ) (fault : TextFault) → HasFaults f → IsOfText fault → AreBytes input → HasItemFault f g items fault input → input_parsed f g input ≡ record { items = items; ends = Err fault }
 text_fails (Puts Native) g items input fault may is are (records, same, has) =
     let h = has.of_text is in
     native_fault_is g input records h.rest fault are h.whole is h.has ∙ ap (λ xs. let p : Parsed = record { items = xs; ends = Err fault } in p) (sym same)

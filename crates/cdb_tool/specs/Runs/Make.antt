@@ -241,6 +241,21 @@ PutsStop o number last before now old new fault =
     → number ≡ length read + 1 → InCourse t (from_inputs 1 read) start before old
     → StoppedAt t (came read last) start now new fault
 
+-- the items of the first inputs were done; and then the run stopped, behind these items of the next one
+abbrev pub PutsInputs : {S L : Type 0} {s : Ghosts S} {l : Widths L} → MakeOptions
+    → (read : List (List Change)) → (before now : Option (List ℕ)) → (old new : Maker S L s l)
+    → Type 0
+PutsInputs o read before now old new =
+    (t : Task) (start : Option (List ℕ)) → t.options ≡ o → InCourse t [] start before old
+    → InCourse t (from_inputs 1 read) start now new
+
+abbrev pub PutsInputsStop : {S L : Type 0} {s : Ghosts S} {l : Widths L} → MakeOptions
+    → (read : List (List Change)) → (last : List Change) → (before now : Option (List ℕ))
+    → (old new : Maker S L s l) → Fault → Type 0
+PutsInputsStop o read last before now old new fault =
+    (t : Task) (start : Option (List ℕ)) → t.options ≡ o → InCourse t [] start before old
+    → StoppedAt t (came read last) start now new fault
+
 -- how it stopped in an input of which these items are whole
 pub record MakeStopsIn (w greatest : ℕ) (t : Task) (read : List (List Change))
     (input old new : Option (List ℕ)) (fault : Fault) : Type 0 where
