@@ -3,6 +3,11 @@ pub mod ItemTexts
 pub mod BaseRecords
 pub mod Courses
 pub mod InputRuns
+pub mod FedPuts
+pub mod FedTurns
+pub mod FedRuns
+pub mod AgreeingInputs
+pub mod FedEnds
 pub mod RunEnds
 pub mod RestoreLaws
 pub mod BaseDifferences

@@ -217,6 +217,45 @@ abbrev pub PutStops : ℕ → Task → List Incoming → Incoming → Option (Li
 PutStops w t cs c old new fault =
     StopsSo w t cs old new fault ⊎ StopsSo w t (cs ++ c ∷ []) old new fault
 
+-- the fault is none of an input
+abbrev pub IsNoText : Fault → Type 0
+IsNoText (Text number fault) = ⊥
+IsNoText fault = ⊤
+
+-- how a run stopped that had come to these items: behind them, if it met a fault of an input
+abbrev pub StopsAt : ℕ → Task → List Incoming → Option (List ℕ) → Option (List ℕ) → Fault → Type 0
+StopsAt w t cs old new (Text number fault) = Goes w t cs old new
+StopsAt w t cs old new fault = StopsSo w t cs old new fault
+
+-- it stopped so, and a maker is where it came to, if the fault is one of the store or of memory
+pub record StoppedAt {S L : Type 0} {s : Ghosts S} {l : Widths L} (t : Task) (cs : List Incoming)
+    (old new : Option (List ℕ)) (m : Maker S L s l) (fault : Fault) : Type 0 where
+  pub stops : WhereHonest (s.image m.store) (StopsAt l.WORD t cs old new fault)
+  pub stands : IsHalt fault → MakeStandsAt t cs old new m
+
+-- it stopped behind these items of an input of this number, behind those of the inputs that were read
+abbrev pub PutsStop : {S L : Type 0} {s : Ghosts S} {l : Widths L} → MakeOptions → (number : ℕ)
+    → List Change → (before now : Option (List ℕ)) → (old new : Maker S L s l) → Fault → Type 0
+PutsStop o number last before now old new fault =
+    (t : Task) (read : List (List Change)) (start : Option (List ℕ)) → t.options ≡ o
+    → number ≡ length read + 1 → InCourse t (from_inputs 1 read) start before old
+    → StoppedAt t (came read last) start now new fault
+
+-- the items of the first inputs were done; and then the run stopped, behind these items of the next one
+abbrev pub PutsInputs : {S L : Type 0} {s : Ghosts S} {l : Widths L} → MakeOptions
+    → (read : List (List Change)) → (before now : Option (List ℕ)) → (old new : Maker S L s l)
+    → Type 0
+PutsInputs o read before now old new =
+    (t : Task) (start : Option (List ℕ)) → t.options ≡ o → InCourse t [] start before old
+    → InCourse t (from_inputs 1 read) start now new
+
+abbrev pub PutsInputsStop : {S L : Type 0} {s : Ghosts S} {l : Widths L} → MakeOptions
+    → (read : List (List Change)) → (last : List Change) → (before now : Option (List ℕ))
+    → (old new : Maker S L s l) → Fault → Type 0
+PutsInputsStop o read last before now old new fault =
+    (t : Task) (start : Option (List ℕ)) → t.options ≡ o → InCourse t [] start before old
+    → StoppedAt t (came read last) start now new fault
+
 -- how it stopped in an input of which these items are whole
 pub record MakeStopsIn (w greatest : ℕ) (t : Task) (read : List (List Change))
     (input old new : Option (List ℕ)) (fault : Fault) : Type 0 where

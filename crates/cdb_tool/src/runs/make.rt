@@ -1,126 +1,32 @@
 // A database made of the records of a base, if there is one, and of what some inputs say.
 ghost use Rattle.std.specs.Prelude.{◌≡◌, ◌+◌, ◌<◌, ◌≤◌, ℕ, List, [], ◌∷◌, ◌++◌, map, Option, is_some};
-ghost use Rattle.std.specs.Prelude.{length, IfOk, IfErr, OnOk};
-ghost use Rattle.cdb_show.specs.Views.Output.{OutputSays};
+ghost use Rattle.std.specs.Prelude.{Result, Ok, Err, length, IfErr, OnOk};
 ghost use Rattle.cdb_form.specs.Format.Pair.{head_size};
 ghost use Rattle.cdb_form.specs.Text.Amending.{Change};
-ghost use Rattle.cdb_form.specs.Views.KnownBytes.{FromTo};
+ghost use Rattle.cdb_form.specs.declared.text.fault.TextFault.{TextFault};
+ghost use Rattle.cdb_feed.specs.Inputs.{NoMore};
 ghost use Rattle.cdb_make.specs.Views.Maker.{Follows, WhereHonest, store_of};
-ghost use Rattle.cdb_tool.specs.Runs.Course.{Task};
 ghost use Rattle.cdb_show.specs.Runs.Incoming.{from_inputs};
-ghost use Rattle.cdb_show.specs.Runs.Inputs.{AreAllInputs, IsInputOf, ReadsOne, bytes_of, input_form};
-ghost use Rattle.cdb_show.specs.Runs.Inputs.{own_inputs};
-ghost use Rattle.cdb_tool.specs.Runs.Make.{InCourse, StepsOn, MakeRuns, InputFails, InputsFail, IsOfStore, IsOfBase};
-ghost use Rattle.cdb_tool.specs.Runs.Make.{OfBase, HandsBack, BaseHasFailed, Stands, StandsIn, IsHalt};
-ghost use Rattle.cdb_tool.specs.Runs.Make.{PutsItems};
-ghost use Rattle.cdb_show.specs.Views.Input.{input_bytes};
-ghost use Rattle.cdb_show.specs.Views.Inputs.{inputs_left, one_of, shared_bytes};
-ghost use Rattle.cdb_show.specs.declared.fault.Fault.TheVariants.{NoMemory};
+ghost use Rattle.cdb_show.specs.Runs.Inputs.{AreAllInputs, input_form, own_inputs};
+ghost use Rattle.cdb_show.specs.Views.Inputs.{inputs_left};
+ghost use Rattle.cdb_show.specs.Views.Output.{OutputSays};
+ghost use Rattle.cdb_show.specs.declared.fault.Fault.TheVariants.{NoMemory, Text};
+ghost use Rattle.cdb_tool.specs.Runs.Course.{Task};
+ghost use Rattle.cdb_tool.specs.Runs.InputsRead.{IsFaultAt, WereRead, stop_by};
+ghost use Rattle.cdb_tool.specs.Runs.Make.{InCourse, StepsOn, MakeRuns, InputsFail, IsOfStore, IsOfBase};
+ghost use Rattle.cdb_tool.specs.Runs.Make.{OfBase, HandsBack, BaseHasFailed, Stands, IsHalt};
+ghost use Rattle.cdb_tool.specs.Runs.Make.{PutsInputs, PutsInputsStop};
 
 use crate::runs::make_base::add_base;
-use crate::runs::make_input::put_input;
+use crate::runs::make_inputs::put_turns_fed;
+use crate::runs::shared_window::SharedWindow;
 use cdb_command::MakeOptions;
-use cdb_form::{Sink, Width};
+use cdb_form::{Feeds, Sink, Width};
 use cdb_make::Maker;
-use cdb_show::{
-    Fault, InLined, InWindow, Input, Inputs, ItemReader, LinedInput, Lines, SharedInput, Turn,
-    flushed,
-};
+use cdb_show::{Fault, Inputs, Lines, flushed};
 use cdb_store::Store;
 use std::alloc::Global;
 use std::io::Read;
-
-/// Does what an input says from here on, whose number is counted from 1, and answers it as it goes on
-/// after its text. Its lines are counted if duplicates are explained.
-fn put_text<L: Width, S: Store, R: Read + Drop, E: Sink>(
-    alloc: Global,
-    maker: &mut Maker<S, L>,
-    options: &MakeOptions<'_>,
-    amends: bool,
-    number: u64,
-    input: Input<R>,
-    lines: &Lines,
-    errors: &mut E,
-) -> Result<Input<R>, Fault>
-    ensures ok { IfOk result (λ left. (last : List Change)
-        × FromTo (input_bytes R.remaining input) (input_bytes R.remaining left)
-        (IsInputOf (input_form options.now.style amends) L.GREATEST last)
-        × PutsItems options.now number last (E.contents errors.old) (E.contents errors.new)
-        maker.old maker.new) }
-    ensures fails { (t : Task) (read : List (List Change)) (start : Option (List ℕ))
-        → t.options ≡ options.now → is_some t.base ≡ amends → number ≡ length read + 1
-        → InCourse t (from_inputs 1 read) start (E.contents errors.old) maker.old
-        → IfErr result (λ f. WhereHonest (S.image (store_of maker.new))
-        (InputFails L.WORD L.GREATEST t read (input_bytes R.remaining input)
-        start (E.contents errors.new) f)) }
-    ensures stands { (t : Task) (read : List (List Change)) (start : Option (List ℕ))
-        → t.options ≡ options.now → number ≡ length read + 1
-        → InCourse t (from_inputs 1 read) start (E.contents errors.old) maker.old
-        → IfErr result (λ f. IsHalt f
-        → StandsIn (input_form options.now.style amends) L.GREATEST t read
-        (input_bytes R.remaining input) start (E.contents errors.new) maker.new) }
-    ensures step { StepsOn maker.old maker.new ⊥ (E.failed errors.new) result }
-{
-    if options.names.is_some() {
-        let lined = LinedInput::new(input, lines);
-        let items = ItemReader::new(alloc, options.style, amends, lined);
-        let left = put_input::<L, S, _, E, InLined>(
-            alloc, maker, options, number, items, lines, errors,
-        )?;
-        return Ok(left.into_input());
-    }
-    let items = ItemReader::new(alloc, options.style, amends, input);
-    put_input::<L, S, _, E, InWindow>(alloc, maker, options, number, items, lines, errors)
-}
-
-/// Does what an input says, whose number is counted from 1, and answers what the inputs share.
-fn put_turn<L: Width, S: Store, J: Read + Drop, I: Read + Drop, E: Sink>(
-    alloc: Global,
-    maker: &mut Maker<S, L>,
-    options: &MakeOptions<'_>,
-    amends: bool,
-    number: u64,
-    turn: Turn<J>,
-    shared: SharedInput<I>,
-    lines: &Lines,
-    errors: &mut E,
-) -> Result<SharedInput<I>, Fault>
-    ensures ok { IfOk result (λ left. (last : List Change)
-        × ReadsOne (input_form options.now.style amends) L.GREATEST last
-        (one_of J.remaining turn) (shared_bytes I.remaining shared) (shared_bytes I.remaining left)
-        × PutsItems options.now number last (E.contents errors.old) (E.contents errors.new)
-        maker.old maker.new) }
-    ensures fails { (t : Task) (read : List (List Change)) (start : Option (List ℕ))
-        → t.options ≡ options.now → is_some t.base ≡ amends → number ≡ length read + 1
-        → InCourse t (from_inputs 1 read) start (E.contents errors.old) maker.old
-        → IfErr result (λ f. WhereHonest (S.image (store_of maker.new))
-        (InputFails L.WORD L.GREATEST t read
-        (bytes_of (one_of J.remaining turn) (shared_bytes I.remaining shared))
-        start (E.contents errors.new) f)) }
-    ensures stands { (t : Task) (read : List (List Change)) (start : Option (List ℕ))
-        → t.options ≡ options.now → number ≡ length read + 1
-        → InCourse t (from_inputs 1 read) start (E.contents errors.old) maker.old
-        → IfErr result (λ f. IsHalt f
-        → StandsIn (input_form options.now.style amends) L.GREATEST t read
-        (bytes_of (one_of J.remaining turn) (shared_bytes I.remaining shared))
-        start (E.contents errors.new) maker.new) }
-    ensures step { StepsOn maker.old maker.new ⊥ (E.failed errors.new) result }
-{
-    match turn {
-        Turn::Own(reader) => {
-            lines.begin(false);
-            let input = Input::growing(alloc, reader)?;
-            put_text(alloc, maker, options, amends, number, input, lines, errors)?;
-            Ok(shared)
-        }
-        Turn::Shared => {
-            lines.begin(true);
-            let input = shared.in_hand(alloc)?;
-            let left = put_text(alloc, maker, options, amends, number, input, lines, errors)?;
-            Ok(SharedInput::InHand(left))
-        }
-    }
-}
 
 /// Does what some inputs say, one after the other, to a maker that its caller keeps: what `make_run`
 /// does between the base and the finish. With `amends`, native inputs may remove keys.
@@ -156,16 +62,55 @@ pub fn put_inputs<L: Width, S: Store, J: Read + Drop, I: Read + Drop, E: Sink>(
         (inputs_left J.remaining I.remaining inputs) start (E.contents errors.new) maker.new) }
     ensures step { StepsOn maker.old maker.new ⊥ (E.failed errors.new) result }
 {
-    let Inputs { turns, shared } = inputs;
-    let mut shared = SharedInput::Unread(shared);
-    let mut number = 0;
-    for turn in turns {
-        number += 1;
-        shared = put_turn::<L, S, J, I, E>(
-            alloc, maker, options, amends, number, turn, shared, lines, errors,
-        )?;
-    }
-    Ok(())
+    let (_inputs, put) = put_inputs_fed::<L, S, J, I, E>(
+        alloc, maker, options, amends, inputs, lines, errors,
+    );
+    put
+}
+
+/// Does what `put_inputs` does, and hands the inputs back whatever the answer. What their windows took past
+/// the texts is lost.
+///
+/// The contract holds of whatever bytes agree with what the readers gave.
+pub fn put_inputs_fed<L: Width, S: Store, J: Feeds + Drop, I: Feeds + Drop, E: Sink>(
+    alloc: Global,
+    maker: &mut Maker<S, L>,
+    options: &MakeOptions<'_>,
+    amends: bool,
+    inputs: Inputs<J, I>,
+    lines: &Lines,
+    errors: &mut E,
+) -> (Inputs<J, I>, Result<(), Fault>)
+    ensures ok { OnOk result.1 ((read : List (List Change))
+        × WereRead J.feed I.feed (input_form options.now.style amends) L.GREATEST (Ok tt) read
+        NoMore inputs result.0
+        × PutsInputs options.now read (E.contents errors.old) (E.contents errors.new)
+        maker.old maker.new) }
+    ensures fails { IfErr result.1 (λ fault. (read : List (List Change)) × (last : List Change)
+        × WereRead J.feed I.feed (input_form options.now.style amends) L.GREATEST (Err fault) read
+        (stop_by fault last) inputs result.0
+        × ((n : ℕ) (f : TextFault) → fault ≡ Text n f
+        → IsFaultAt (input_form options.now.style amends) (length read + 1) n f)
+        × PutsInputsStop options.now read last (E.contents errors.old) (E.contents errors.new)
+        maker.old maker.new fault) }
+    ensures step { StepsOn maker.old maker.new ⊥ (E.failed errors.new) result.1 }
+{
+    let Inputs { mut turns, shared } = inputs;
+    let (shared, put) = put_turns_fed::<L, S, J, I, E>(
+        alloc,
+        maker,
+        options,
+        amends,
+        &mut turns,
+        SharedWindow::Unread(shared),
+        lines,
+        errors,
+    );
+    let inputs = Inputs {
+        turns,
+        shared: shared.into_reader(),
+    };
+    (inputs, put)
 }
 
 /// What a run hands back, and its answer.

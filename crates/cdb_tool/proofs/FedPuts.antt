@@ -1,0 +1,155 @@
+-- A run over the items of an input, whatever bytes agree with it.
+use Rattle.std.proofs.Common.{◌≡◌, ◌≢◌, ◌+◌, ◌∙◌, ◌⊎◌, true, false, ℕ, inl, inr, List, [], ◌∷◌, ◌++◌, length, sym, ap, subst, Option, Some, None}
+use Rattle.cdb_store.specs.declared.store.Store.{Ghosts}
+use Rattle.cdb_store.specs.declared.make_fault.MakeFault.TheVariants as make
+use Rattle.cdb_form.specs.Fed.Feed.{Consumes, Feed, FromTo}
+use Rattle.cdb_form.specs.Text.Amending.{Change, Putting}
+use Rattle.cdb_form.specs.Text.Map.{with_newlines}
+use Rattle.cdb_form.specs.declared.text.fault.TextFault.{TextFault}
+use Rattle.cdb_form.specs.declared.text.fault.TextFault.TheVariants as text
+use Rattle.cdb_form.specs.declared.width.Width.{Ghosts as Widths}
+use Rattle.cdb_make.specs.Views.Maker.{ComesFrom, WhereHonest}
+use Rattle.cdb_make.specs.declared.maker.Maker.{Maker}
+use Rattle.cdb_show.specs.Message.{TellsPart}
+use Rattle.cdb_show.specs.Runs.Incoming.{Incoming, came}
+use Rattle.cdb_show.specs.Runs.Inputs.{BeginsWithItems, InputForm}
+use Rattle.cdb_show.specs.Runs.Lookups.{FaultBehind, StopsBehind}
+use Rattle.cdb_show.specs.Views.Fault.{text_fault}
+use Rattle.cdb_show.specs.Views.FedItems.{Fails, GivesItem, form_of, reader_of}
+use Rattle.cdb_show.specs.declared.fault.Fault.{Fault}
+use Rattle.cdb_show.specs.declared.fault.Fault.TheVariants.{Text, Make, Duplicate, Output, NoMemory}
+use Rattle.cdb_show.specs.declared.runs.fed_items.FedItems.{FedItems}
+use Rattle.cdb_show.specs.declared.runs.fed_items.FedItems.TheVariants.{Form, Map}
+use Rattle.cdb_show.proofs.ItemInputs.{GaveItems, items_begin, items_fault, items_form, items_more, items_own, items_still}
+use Rattle.cdb_show.proofs.SpelledInputs.{from_lost}
+use Rattle.cdb_tool.specs.Runs.Course.{EndsSo, Task, course_of}
+use Rattle.cdb_tool.specs.Runs.Make.{InCourse, IsHalt, IsNoText, MakeStandsAt, PutStops, StoppedAt}
+use Rattle.cdb_tool.proofs.Courses.{came_more, course_stands}
+use Rattle.cdb_tool.proofs.MadeOf.{course_more, told_grow}
+use Rattle.cdb_tool.proofs.ToldLines.{part_more}
+
+-- ---- the text up to a fault
+
+record SameText (n i : ℕ) (f g : TextFault) : Type 0 where
+  input : i ≡ n
+  fault : g ≡ f
+  other : f ≢ text.NoMemory
+
+same_text : (n i : ℕ) (f g : TextFault) → text_fault n f ≡ Text i g → SameText n i f g
+same_text n i (text.Syntax at) g e = record { input = cc; fault = cc; other = λ h. cc }
+same_text n i (text.Ended at) g e = record { input = cc; fault = cc; other = λ h. cc }
+same_text n i (text.Large at) g e = record { input = cc; fault = cc; other = λ h. cc }
+same_text n i text.Input g e = record { input = cc; fault = cc; other = λ h. cc }
+same_text n i text.Endless g e = record { input = cc; fault = cc; other = λ h. cc }
+same_text n i text.NoMemory g e = absurd (let no : ⊥ = cc in no)
+
+-- whether an item was done with which a run stopped
+abbrev pub last_by : Fault → List Change → Change → List Change
+last_by (Make make.Lookup) last c = last
+last_by (Make make.Writing) last c = last
+last_by NoMemory last c = last
+last_by f last c = last ++ c ∷ []
+
+module _ {F L : Type 0} (g : ℕ) (feed : F → Feed) where
+  pub text_stops : (n : ℕ) (start : Feed) (t u : FedItems F L) (form : InputForm) (last : List Change) (f : TextFault) → ((it : F) (whole a b : List ℕ) → (feed it).may whole a → (feed it).may whole b → a ≡ b)
+      → form_of t ≡ form → GaveItems g feed start t last → Fails g feed t u f → StopsBehind form g n last start (feed (reader_of u)) (text_fault n f)
+  text_stops n start t u form last f one same gave fails = subst (λ v. StopsBehind v g n last start (feed (reader_of u)) (text_fault n f)) same (record {
+    begins = items_still g feed start t u last f gave fails;
+    of_text = λ i v e.
+        let k = same_text n i f v e in (
+          k.input,
+          subst (FaultBehind (form_of t) g last start (feed (reader_of u))) (sym k.fault) (record {
+            has = items_fault g feed start t u last f one gave fails k.other;
+            own = items_own g feed start t u last f gave fails;
+            memory = k.other;
+          }),
+        );
+  })
+
+  -- the bytes of an item
+  item_taken : (t u : FedItems F L) (c : Change) → GivesItem g feed t u c → (bytes : List ℕ) × Consumes (feed (reader_of t)) (feed (reader_of u)) bytes
+  item_taken (Form t true) (Form u true) c m = (m.reads.text, m.reads.read)
+  item_taken (Form t false) (Form u false) (Putting r) m = (m.reads.text, m.reads.read)
+  item_taken (Map t) (Map u) (Putting r) m = ((with_newlines m.reads.ignored ++ m.reads.line) ++ m.ending, m.reads.reads.takes.read)
+  item_taken t u c m = absurd m
+
+  -- it begins with the items before one that was taken, and with these and that one
+  items_before : (start : Feed) (t u : FedItems F L) (last : List Change) (c : Change) → GaveItems g feed start t last → GivesItem g feed t u c → FromTo start (feed (reader_of u)) (λ text rest. BeginsWithItems (form_of t) g last text)
+  items_before start t u last c h m =
+      let taken = item_taken t u c m in
+      from_lost start (feed (reader_of t)) (feed (reader_of u)) (λ text rest. BeginsWithItems (form_of t) g last text) (λ text. BeginsWithItems (form_of t) g last text) taken.0 (items_begin g feed start t last h) taken.1 (λ text rest so. so)
+
+  items_with : (start : Feed) (t u : FedItems F L) (last : List Change) (c : Change) → GaveItems g feed start t last → GivesItem g feed t u c → FromTo start (feed (reader_of u)) (λ text rest. BeginsWithItems (form_of t) g (last ++ c ∷ []) text)
+  items_with start t u last c h m =
+      subst (λ v. FromTo start (feed (reader_of u)) (λ text rest. BeginsWithItems v g (last ++ c ∷ []) text)) (items_form g feed t u c m) (items_begin g feed start u (last ++ c ∷ []) (items_more g feed start t u last c h m))
+
+  items_by : (start : Feed) (t u : FedItems F L) (last : List Change) (c : Change) (f : Fault) → GaveItems g feed start t last → GivesItem g feed t u c → FromTo start (feed (reader_of u)) (λ text rest. BeginsWithItems (form_of t) g (last_by f last c) text)
+  items_by start t u last c (Make make.Lookup) h m = items_before start t u last c h m
+  items_by start t u last c (Make make.Writing) h m = items_before start t u last c h m
+  items_by start t u last c NoMemory h m = items_before start t u last c h m
+  items_by start t u last c f h m = items_with start t u last c h m
+
+  pub item_stops : (n : ℕ) (start : Feed) (t u : FedItems F L) (form : InputForm) (last : List Change) (c : Change) (f : Fault) → form_of t ≡ form → GaveItems g feed start t last → GivesItem g feed t u c → IsNoText f
+      → StopsBehind form g n (last_by f last c) start (feed (reader_of u)) f
+  item_stops n start t u form last c f same h m is = subst (λ v. StopsBehind v g n (last_by f last c) start (feed (reader_of u)) f) same (record {
+    begins = items_by start t u last c f h m;
+    of_text = λ i v e. absurd (subst IsNoText e is);
+  })
+
+-- ---- the course up to a fault
+
+pub text_stopped : {S L : Type 0} {s : Ghosts S} {l : Widths L} (t : Task) (cs : List Incoming) (start now : Option (List ℕ)) (m : Maker S L s l) (n : ℕ) (f : TextFault) → InCourse t cs start now m → StoppedAt t cs start now m (text_fault n f)
+text_stopped t cs start now m n (text.Syntax at) h = record { stops = h.goes; stands = λ is. absurd is }
+text_stopped t cs start now m n (text.Ended at) h = record { stops = h.goes; stands = λ is. absurd is }
+text_stopped t cs start now m n (text.Large at) h = record { stops = h.goes; stands = λ is. absurd is }
+text_stopped t cs start now m n text.Input h = record { stops = h.goes; stands = λ is. absurd is }
+text_stopped t cs start now m n text.Endless h = record { stops = h.goes; stands = λ is. absurd is }
+text_stopped t cs start now m n text.NoMemory h = record { stops = h.goes; stands = λ is. course_stands t cs start now m h }
+
+-- a run that had not ended has not met this end
+not_ended : (w : ℕ) (t : Task) (cs : List Incoming) (f : Fault) (start now : Option (List ℕ)) → (course_of w t cs).ended ≡ None → EndsSo w t cs f start now → ⊥
+not_ended w t cs f start now going h =
+    let k : None ≡ Some f = sym going ∙ h.ended in
+    cc
+
+-- a prefix of the lines before an item is one of those with it
+part_with : (w : ℕ) (t : Task) (cs : List Incoming) (c : Incoming) (all : List Incoming) (old new : Option (List ℕ)) → all ≡ cs ++ c ∷ [] → TellsPart t.options.names (course_of w t cs).told old new → TellsPart t.options.names (course_of w t all).told old new
+part_with w t cs c all old new same p =
+    let grow = told_grow w t.options (course_of w t cs) (c ∷ []) in
+    part_more t.options.names (course_of w t cs).told grow.0 (course_of w t all).told old new (ap (λ v. (course_of w t v).told) same ∙ ap (λ v. v.told) (course_more w t cs (c ∷ [])) ∙ grow.1) p
+
+module _ {S L : Type 0} {s : Ghosts S} {l : Widths L} (t : Task) (read : List (List Change)) (last : List Change) (c : Incoming) (start mid now : Option (List ℕ)) (old new : Maker S L s l) (i : c.input ≡ length read + 1) (n : c.number ≡ length last + 1) (comes : ComesFrom (s.image old.store) (s.image new.store)) where
+  all_came : came read (last ++ c.it ∷ []) ≡ came read last ++ c ∷ []
+  all_came = came_more c.input c.number read last c.it i n
+
+  -- it ended with the item
+  ended_with : (f : Fault) → InCourse t (came read last) start mid old → WhereHonest (s.image new.store) (EndsSo l.WORD t (came read last) f start now ⊎ EndsSo l.WORD t (came read last ++ c ∷ []) f start now)
+      → WhereHonest (s.image new.store) (EndsSo l.WORD t (came read (last ++ c.it ∷ [])) f start now)
+  ended_with f h stops = record {
+    each = λ b is.
+        let a = comes.each b is in
+        elim (stops.each b is) [
+          | inl e ↦ absurd (not_ended l.WORD t (came read last) f start now (h.goes.each a.0 a.1).going e)
+          | inr e ↦ subst (λ cs. EndsSo l.WORD t cs f start now) (sym all_came) e
+        ];
+  }
+
+  part_of : WhereHonest (s.image new.store) (PutStops l.WORD t (came read last) c start now Output) → WhereHonest (s.image new.store) (TellsPart t.options.names (course_of l.WORD t (came read (last ++ c.it ∷ []))).told start now)
+  part_of stops = record {
+    each = λ b is. elim (stops.each b is) [
+      | inl p ↦ part_with l.WORD t (came read last) c (came read (last ++ c.it ∷ [])) start now all_came p
+      | inr p ↦ subst (λ cs. TellsPart t.options.names (course_of l.WORD t cs).told start now) (sym all_came) p
+    ];
+  }
+
+  never : {P : Type 0} → WhereHonest (s.image new.store) (⊥ ⊎ ⊥) → WhereHonest (s.image new.store) P
+  never stops = record { each = λ b is. elim (stops.each b is) [ inl x ↦ absurd x | inr x ↦ absurd x ] }
+
+  pub item_stopped : (f : Fault) → InCourse t (came read last) start mid old → WhereHonest (s.image new.store) (PutStops l.WORD t (came read last) c start now f) → (IsHalt f → MakeStandsAt t (came read last) start now new) → StoppedAt t (came read (last_by f last c.it)) start now new f
+  item_stopped (Make make.Lookup) h stops stands = record { stops = (stands tt).goes; stands = stands }
+  item_stopped (Make make.Writing) h stops stands = record { stops = (stands tt).goes; stands = stands }
+  item_stopped NoMemory h stops stands = record { stops = (stands tt).goes; stands = stands }
+  item_stopped (Make make.TooBig) h stops stands = record { stops = ended_with (Make make.TooBig) h stops; stands = λ is. absurd is }
+  item_stopped Duplicate h stops stands = record { stops = ended_with Duplicate h stops; stands = λ is. absurd is }
+  item_stopped Output h stops stands = record { stops = part_of stops; stands = λ is. absurd is }
+  item_stopped f h stops stands = record { stops = never stops; stands = λ is. absurd is }

@@ -1,0 +1,146 @@
+use Rattle.std.proofs.Common.{refl, arith, sym, subst, ap, ◌∙◌, ◌+◌, ◌∷◌, ◌++◌, [], ℕ, length-append}
+use Rattle.std.proofs.lemmas.Result.{err_from_is_err_and}
+use Rattle.cdb_form.specs.Fed.Feed.{FromTo}
+use Rattle.cdb_form.specs.Text.Amending.{Change, Putting}
+use Rattle.cdb_form.specs.Views.Pairs.{change_in}
+use Rattle.cdb_form.specs.Views.Prefix.{shown_by}
+use Rattle.cdb_make.proofs.Callers.{follows_same}
+use Rattle.cdb_make.proofs.Rolls.{follows_then}
+use Rattle.cdb_show.specs.Runs.Inputs.{IsInputOf}
+use Rattle.cdb_show.specs.Views.FedItems.{form_of, reader_of}
+use Rattle.cdb_show.proofs.ItemInputs.{items_all, items_fewer, items_form, items_more, items_none}
+use Rattle.cdb_tool.specs.Runs.Make.{InCourse}
+use Rattle.cdb_tool.proofs.Courses.{came_more}
+use Rattle.cdb_tool.proofs.FedPuts.{item_stopped, item_stops, last_by, text_stopped, text_stops}
+use Rattle.cdb_tool.proofs.InputRuns.{none_put}
+use Rattle.cdb_tool.proofs.MakerSteps.{step_failed}
+use Rattle.cdb_tool.proofs.runs.make_input.put_input_fed.Goals as goal
+
+pub loop-peeked-init : goal.loop-peeked-init
+loop-peeked-init g c = record {
+  last = [];
+  gave = items_none g.L.Width.GREATEST g.F.Feeds.feed c.args.items.now c.requires.fresh;
+  form = refl;
+  number = refl;
+  asks = omega (arith, c.requires.fresh.asks);
+  course = λ t read start o n h. none_put {s = g.S.Store} {l = g.L.Width} t read start _ _ h;
+  follows = follows_same {s = g.S.Store} {l = g.L.Width} c.args.maker.now;
+  fine = refl;
+}
+
+pub returns-in-Err-clause-fails : goal.returns-in-Err-clause-fails
+returns-in-Err-clause-fails g c =
+    let inv = c.loop-peeked.invariant in
+    rw c.of_text.ensures (
+      inv.last,
+      text_stops g.L.Width.GREATEST g.F.Feeds.feed c.args.input _ c.loop-peeked.items c.read_into.new.self (form_of c.args.items.now) inv.last c.in-Err.fault (λ it. g.met.F.Feeds.one_rest it) inv.form inv.gave c.in-Err.ensures.fails,
+      λ t read start o n h. text_stopped {s = g.S.Store} {l = g.L.Width} t _ start _ c.loop-peeked.maker c.args.input c.in-Err.fault (inv.course t read start o n h),
+    )
+
+pub returns-in-Ok-None-clause-ok : goal.returns-in-Ok-None-clause-ok
+returns-in-Ok-None-clause-ok g c =
+    let inv = c.loop-peeked.invariant in
+    let end = rw c.in-Ok-None.field-0-is at c.in-Ok-None.ensures.gives in
+    let greatest = g.L.Width.GREATEST in
+    let feed = g.F.Feeds.feed in
+    let input = feed (reader_of c.args.items.now) in
+    let new = c.read_into.new.self in
+    let all = items_all greatest feed input c.loop-peeked.items new inv.last inv.gave end in
+    (inv.last, subst (λ v. FromTo input (feed (reader_of new)) (IsInputOf v greatest inv.last)) inv.form all, inv.course)
+
+pub loop-peeked-preserved : goal.loop-peeked-preserved
+loop-peeked-preserved g c =
+    let inv = c.loop-peeked.invariant in
+    let item : Change = change_in c.in-Ok-Some.kind c.read_into.new.into in
+    let one = rw c.in-Ok-Some.field-0-is at c.in-Ok-Some.ensures.gives in
+    let greatest = g.L.Width.GREATEST in
+    let feed = g.F.Feeds.feed in
+    let old = c.loop-peeked.items in
+    let new = c.read_into.new.self in
+    record {
+      last = inv.last ++ item ∷ [];
+      gave = items_more greatest feed _ old new inv.last item inv.gave one;
+      form = items_form greatest feed old new item one ∙ inv.form;
+      number = sym (length-append inv.last (item ∷ []) ∙ ap (λ (n : ℕ). n + 1) (sym inv.number));
+      asks = omega (arith, inv.asks, items_fewer greatest feed old new item one);
+      course = λ t read start o n h.
+          subst (λ cs. InCourse {s = g.S.Store} {l = g.L.Width} t cs start (g.E.Sink.contents c.do_item.new.errors) c.do_item.new.maker)
+          (sym (came_more c.args.input (c.loop-peeked.number + 1) read inv.last item n (ap (λ (n : ℕ). n + 1) inv.number)))
+          (c.in_ok-do_item.ensures.ok t _ start o (inv.course t read start o n h));
+      follows = follows_then _ _ _ inv.follows c.do_item.ensures.step.follows;
+      fine = c.in_ok-do_item.ensures.step.fine ∙ inv.fine;
+    }
+
+pub loop-peeked-preserved-in-Continue-1 : goal.loop-peeked-preserved-in-Continue-1
+loop-peeked-preserved-in-Continue-1 g c =
+    let inv = c.loop-peeked.invariant in
+    let item : Change = Putting (shown_by c.in-Some.peeked) in
+    let one = c.take_peeked.ensures (shown_by c.in-Some.peeked) c.in-Some.ensures in
+    let greatest = g.L.Width.GREATEST in
+    let feed = g.F.Feeds.feed in
+    let old = c.loop-peeked.items in
+    let new = c.take_peeked.new.self in
+    record {
+      last = inv.last ++ item ∷ [];
+      gave = items_more greatest feed _ old new inv.last item inv.gave one;
+      form = items_form greatest feed old new item one ∙ inv.form;
+      number = sym (length-append inv.last (item ∷ []) ∙ ap (λ (n : ℕ). n + 1) (sym inv.number));
+      asks = omega (arith, inv.asks, items_fewer greatest feed old new item one);
+      course = λ t read start o n h.
+          subst (λ cs. InCourse {s = g.S.Store} {l = g.L.Width} t cs start (g.E.Sink.contents c.put_record-put.new.errors) c.put_record-put.new.maker)
+          (sym (came_more c.args.input (c.loop-peeked.number + 1) read inv.last item n (ap (λ (n : ℕ). n + 1) inv.number)))
+          (c.in_ok-put.ensures.ok t _ start o (inv.course t read start o n h));
+      follows = follows_then _ _ _ inv.follows c.put_record-put.ensures.step.follows;
+      fine = c.in_ok-put.ensures.step.fine ∙ inv.fine;
+    }
+
+pub returns-in_err-do_item-clause-fails : goal.returns-in_err-do_item-clause-fails
+returns-in_err-do_item-clause-fails g c =
+    let p = err_from_is_err_and c.from_residual-in_err-do_item.result c.from_residual-in_err-do_item.ensures.1 in
+    let inv = c.loop-peeked.invariant in
+    let item : Change = change_in c.in-Ok-Some.kind c.read_into.new.into in
+    let one = rw c.in-Ok-Some.field-0-is at c.in-Ok-Some.ensures.gives in
+    let fault = c.in_err-do_item.field-0.0 in
+    rw (p.1, p.2) (
+      last_by fault inv.last item,
+      item_stops g.L.Width.GREATEST g.F.Feeds.feed c.args.input _ c.loop-peeked.items c.read_into.new.self (form_of c.args.items.now) inv.last item fault inv.form inv.gave one c.in_err-do_item.ensures.own,
+      λ t read start o n h.
+          let course = inv.course t read start o n h in
+          item_stopped {s = g.S.Store} {l = g.L.Width} t read inv.last (record { input = c.args.input; number = c.loop-peeked.number + 1; it = item }) start _ _ c.loop-peeked.maker c.do_item.new.maker n (ap (λ (n : ℕ). n + 1) inv.number) c.do_item.ensures.step.follows.comes fault course
+          (c.in_err-do_item.ensures.fails t _ start o course) (c.in_err-do_item.ensures.stands t _ start o course),
+    )
+
+pub returns-in_err-put-clause-fails : goal.returns-in_err-put-clause-fails
+returns-in_err-put-clause-fails g c =
+    let p = err_from_is_err_and c.from_residual.result c.from_residual.ensures.1 in
+    let inv = c.loop-peeked.invariant in
+    let item : Change = Putting (shown_by c.in-Some.peeked) in
+    let one = c.take_peeked.ensures (shown_by c.in-Some.peeked) c.in-Some.ensures in
+    let fault = c.in_err-put.field-0.0 in
+    rw (p.1, p.2) (
+      last_by fault inv.last item,
+      item_stops g.L.Width.GREATEST g.F.Feeds.feed c.args.input _ c.loop-peeked.items c.take_peeked.new.self (form_of c.args.items.now) inv.last item fault inv.form inv.gave one c.in_err-put.ensures.own,
+      λ t read start o n h.
+          let course = inv.course t read start o n h in
+          item_stopped {s = g.S.Store} {l = g.L.Width} t read inv.last (record { input = c.args.input; number = c.loop-peeked.number + 1; it = item }) start _ _ c.loop-peeked.maker c.put_record-put.new.maker n (ap (λ (n : ℕ). n + 1) inv.number) c.put_record-put.ensures.step.follows.comes fault course
+          (c.in_err-put.ensures.fails t _ start o course) (c.in_err-put.ensures.stands t _ start o course),
+    )
+
+pub loop-peeked-smaller-in-Continue-1 : goal.loop-peeked-smaller-in-Continue-1
+loop-peeked-smaller-in-Continue-1 g c =
+    let item : Change = Putting (shown_by c.in-Some.peeked) in
+    let one = c.take_peeked.ensures (shown_by c.in-Some.peeked) c.in-Some.ensures in
+    let fewer = items_fewer g.L.Width.GREATEST g.F.Feeds.feed c.loop-peeked.items c.take_peeked.new.self item one in
+    omega (arith, fewer)
+
+pub returns-in_err-put-clause-step : goal.returns-in_err-put-clause-step
+returns-in_err-put-clause-step g c =
+    let p = err_from_is_err_and c.from_residual.result c.from_residual.ensures.1 in
+    let inv = c.loop-peeked.invariant in
+    rw (p.1, p.2) (step_failed c.in_err-put.field-0.0 inv.follows inv.fine (λ is. is) c.in_err-put.ensures.step)
+
+pub returns-in_err-do_item-clause-step : goal.returns-in_err-do_item-clause-step
+returns-in_err-do_item-clause-step g c =
+    let p = err_from_is_err_and c.from_residual-in_err-do_item.result c.from_residual-in_err-do_item.ensures.1 in
+    let inv = c.loop-peeked.invariant in
+    rw (p.1, p.2) (step_failed c.in_err-do_item.field-0.0 inv.follows inv.fine (λ is. is) c.in_err-do_item.ensures.step)

@@ -1,0 +1,28 @@
+use Rattle.std.proofs.Common.{◌≡◌, ◌+◌, ◌^◌, ◌≤◌, ℕ, List, length, Option}
+use Rattle.cdb_form.specs.Text.Amending.{Change}
+use Rattle.cdb_make.specs.Views.Maker.{Follows}
+use Rattle.cdb_show.specs.Runs.Incoming.{came, from_inputs}
+use Rattle.cdb_show.specs.Views.FedItems.{asks_left, form_of, reader_of}
+use Rattle.cdb_show.proofs.ItemInputs.{GaveItems}
+use Rattle.cdb_tool.specs.Runs.Course.{Task}
+use Rattle.cdb_tool.specs.Runs.Make.{InCourse}
+use Rattle.cdb_tool.proofs.runs.make_input.put_input_fed.Given as goal
+
+-- the items so far were done
+abbrev pub invariant-loop-peeked : goal.invariant-loop-peeked
+invariant-loop-peeked g l =
+    record {
+      last : List Change;
+      gave : GaveItems g.L.Width.GREATEST g.F.Feeds.feed (g.F.Feeds.feed (reader_of l.fn.items)) l.items last;
+      form : form_of l.items ≡ form_of l.fn.items;
+      number : l.number ≡ length last;
+      asks : l.number + asks_left l.items ≤ 2 ^ 48;
+      course : (t : Task) (read : List (List Change)) (start : Option (List ℕ)) → t.options ≡ l.fn.options → l.fn.input ≡ length read + 1
+          → InCourse {s = g.S.Store} {l = g.L.Width} t (from_inputs 1 read) start (g.E.Sink.contents l.fn.errors) l.fn.maker
+          → InCourse {s = g.S.Store} {l = g.L.Width} t (came read last) start (g.E.Sink.contents l.errors) l.maker;
+      follows : Follows {s = g.S.Store} {l = g.L.Width} l.fn.maker l.maker;
+      fine : g.S.Store.failures l.maker.store ≡ g.S.Store.failures l.fn.maker.store;
+    }
+
+abbrev pub decreases-loop-peeked : goal.decreases-loop-peeked
+decreases-loop-peeked g l = asks_left l.items
