@@ -62,6 +62,12 @@ unmade_memory image size written failures old new make.Broken h e = absurd h
 unmade_memory image size written failures old new make.Lookup h e = absurd h
 unmade_memory image size written failures old new make.TooBig h e = absurd h
 
+-- a fault of the store comes where it failed
+pub unmade_store : {S : Type 0} (image : S → List ℕ → Type 0) (size written failures : S → ℕ) (old new : S) (f : MakeFault) → MakingFault image size written failures old new f → IsOfStore (make_fault f) → failures old < failures new
+unmade_store image size written failures old new make.Writing h is = h
+unmade_store image size written failures old new make.NoMemory h is = absurd is
+unmade_store image size written failures old new f h is = absurd h
+
 -- what holds whatever the base is
 each_base : {B : Type 0} (s : Ghosts B) (base : Option B) (P : Option (List ℕ) → Type 0) → ((x : Option (List ℕ)) → P x) → OfBase s base P
 each_base s None P f = f None

@@ -16,5 +16,5 @@ pub use cdb_show::{
     load, load_from, lookups_run, query_from, query_run, stats_run, status_of, text_run_buffered,
     text_run_fed, write_fault, write_word_fault,
 };
-pub use runs::make::{make_run, make_run_from, put_inputs};
+pub use runs::make::{make_run, make_run_fed, make_run_from, put_inputs, put_inputs_fed};
 pub use runs::make_bytes::make_bytes;

@@ -1,5 +1,6 @@
 -- What a run read of its inputs, and which inputs agree with it.
-use Rattle.std.specs.Prelude.{ℕ, ◌≡◌, ◌≢◌, ⊤, List, [], ◌∷◌, Option, Result, Ok, Err, IfSome, map}
+use Rattle.std.specs.Prelude.{ℕ, ◌≡◌, ◌≢◌, ⊤, List, [], ◌∷◌, Option, Result, Err, IfSome, is_some, map}
+use Rattle.cdb_store.specs.declared.store.Store.{Ghosts}
 use Rattle.cdb_form.specs.Fed.Feed.{Consumes, Feed}
 use Rattle.cdb_form.specs.Text.Amending.{Change}
 use Rattle.cdb_form.specs.Views.TextFault.{IsOfText}
@@ -8,7 +9,9 @@ use Rattle.cdb_form.specs.declared.text.fault.TextFault.TheVariants as text_faul
 use Rattle.cdb_feed.specs.Inputs.{AreRead, Stop, StopsSo, NoMore, HasFault, CutShort, NotBegun}
 use Rattle.cdb_feed.specs.declared.input_reader.InputReader.{InputReader}
 use Rattle.cdb_feed.specs.declared.input_reader.InputReader.TheVariants as reader
-use Rattle.cdb_show.specs.Runs.Inputs.{InputForm, InputsLeft, AreInputs, FirstHas, HasFaults}
+use Rattle.cdb_make.specs.Views.Maker.{WhereHonest}
+use Rattle.cdb_command.specs.declared.options.MakeOptions.{MakeOptions}
+use Rattle.cdb_show.specs.Runs.Inputs.{InputForm, InputsLeft, AreInputs, FirstHas, HasFaults, input_form}
 use Rattle.cdb_show.specs.Views.Window.{feed_of}
 use Rattle.cdb_show.specs.declared.fault.Fault.{Fault}
 use Rattle.cdb_show.specs.declared.fault.Fault.TheVariants.{Text}
@@ -16,6 +19,7 @@ use Rattle.cdb_show.specs.declared.inputs.Inputs.{Inputs}
 use Rattle.cdb_show.specs.declared.inputs.Turn.{Turn}
 use Rattle.cdb_show.specs.declared.inputs.Turn.TheVariants as turn
 use Rattle.cdb_tool.specs.Runs.FormParsing.{BeginsSo, FailsSo, parsing}
+use Rattle.cdb_tool.specs.Runs.Make.{MakeRuns, OfBase}
 use Rattle.cdb_tool.specs.declared.runs.shared_window.SharedWindow.{SharedWindow}
 use Rattle.cdb_tool.specs.declared.runs.shared_window.SharedWindow.TheVariants.{InHand, Unread}
 
@@ -85,3 +89,15 @@ pub record HasRead (form : InputForm) (greatest : ℕ) (answer : Result Unit Fau
   pub rest : InputsLeft
   pub are : AreInputs form greatest read inputs rest
   pub stops : StopsIn form greatest answer stop rest
+
+-- What a run leaves that read its inputs, by its base as it was and as it was handed back: what `MakeRuns` says of
+-- any inputs that agree with what was read.
+pub record RunsRead {B J I : Type 0} (w greatest : ℕ) (o : MakeOptions) (own : J → Feed) (shared : I → Feed)
+    (s : Ghosts B) (was base : Option B) (before after : Inputs J I) (images : List ℕ → Type 0)
+    (old new : Option (List ℕ)) (result : Result Unit Fault) : Type 0 where
+  pub read : List (List Change)
+  pub stop : Stop Change TextFault
+  pub were : WereRead own shared (input_form o.style (is_some was)) greatest result read stop before after
+  pub runs : (inputs : InputsLeft)
+      → HasRead (input_form o.style (is_some was)) greatest result read stop inputs
+      → WhereHonest images (OfBase s base (λ b. MakeRuns w greatest o b inputs images old new result))

@@ -12,7 +12,7 @@ ghost use Rattle.cdb_show.specs.Views.Inputs.{inputs_left};
 ghost use Rattle.cdb_show.specs.Views.Output.{OutputSays};
 ghost use Rattle.cdb_show.specs.declared.fault.Fault.TheVariants.{NoMemory, Text};
 ghost use Rattle.cdb_tool.specs.Runs.Course.{Task};
-ghost use Rattle.cdb_tool.specs.Runs.InputsRead.{IsFaultAt, WereRead, stop_by};
+ghost use Rattle.cdb_tool.specs.Runs.InputsRead.{IsFaultAt, RunsRead, WereRead, stop_by};
 ghost use Rattle.cdb_tool.specs.Runs.Make.{InCourse, StepsOn, MakeRuns, InputsFail, IsOfStore, IsOfBase};
 ghost use Rattle.cdb_tool.specs.Runs.Make.{OfBase, HandsBack, BaseHasFailed, Stands, IsHalt};
 ghost use Rattle.cdb_tool.specs.Runs.Make.{PutsInputs, PutsInputsStop};
@@ -115,14 +115,15 @@ pub fn put_inputs_fed<L: Width, S: Store, J: Feeds + Drop, I: Feeds + Drop, E: S
 
 /// What a run hands back, and its answer.
 #[derive(Drop)]
-struct Made<S, B> {
+struct Made<S, B, J, I> {
     store: S,
     base: Option<B>,
+    inputs: Inputs<J, I>,
     answer: Result<(), Fault>,
 }
 
 /// Makes the database, whose lines the writer may keep in a buffer.
-fn make_unflushed<L: Width, S: Store, B: Store, J: Read + Drop, I: Read + Drop, E: Sink>(
+fn make_unflushed<L: Width, S: Store, B: Store, J: Feeds + Drop, I: Feeds + Drop, E: Sink>(
     alloc: Global,
     store: S,
     base: Option<B>,
@@ -130,12 +131,12 @@ fn make_unflushed<L: Width, S: Store, B: Store, J: Read + Drop, I: Read + Drop, 
     options: &MakeOptions<'_>,
     lines: &Lines,
     errors: &mut E,
-) -> Made<S, B>
+) -> Made<S, B, J, I>
     requires head { head_size L.WORD ≤ options.now.limit }
     requires words { options.now.limit ≤ L.GREATEST }
-    ensures runs { WhereHonest (S.image result.store) (OfBase B.Store result.base (λ base.
-        MakeRuns L.WORD L.GREATEST options.now base (inputs_left J.remaining I.remaining inputs)
-        (S.image result.store) (E.contents errors.old) (E.contents errors.new) result.answer)) }
+    ensures runs { RunsRead L.WORD L.GREATEST options.now J.feed I.feed B.Store base result.base
+        inputs result.inputs (S.image result.store) (E.contents errors.old)
+        (E.contents errors.new) result.answer }
     ensures hands { HandsBack B.Store base result.base }
     ensures settled { OnOk result.answer (S.settled result.store) }
     ensures failed { IfErr result.answer
@@ -151,6 +152,7 @@ fn make_unflushed<L: Width, S: Store, B: Store, J: Read + Drop, I: Read + Drop, 
             return Made {
                 store: refused.store,
                 base,
+                inputs,
                 answer: Err(Fault::from(refused.fault)),
             };
         }
@@ -161,16 +163,18 @@ fn make_unflushed<L: Width, S: Store, B: Store, J: Read + Drop, I: Read + Drop, 
         return Made {
             store: maker.into_store(),
             base,
+            inputs,
             answer: Err(fault),
         };
     }
-    let put = put_inputs::<L, S, J, I, E>(
+    let (inputs, put) = put_inputs_fed::<L, S, J, I, E>(
         alloc, &mut maker, options, amends, inputs, lines, errors,
     );
     if let Err(fault) = put {
         return Made {
             store: maker.into_store(),
             base,
+            inputs,
             answer: Err(fault),
         };
     }
@@ -178,11 +182,13 @@ fn make_unflushed<L: Width, S: Store, B: Store, J: Read + Drop, I: Read + Drop, 
         Ok(store) => Made {
             store,
             base,
+            inputs,
             answer: Ok(()),
         },
         Err(unfinished) => Made {
             store: unfinished.maker.into_store(),
             base,
+            inputs,
             answer: Err(Fault::from(unfinished.fault)),
         },
     }
@@ -281,9 +287,42 @@ pub fn make_run_from<L: Width, S: Store, B: Store, J: Read + Drop, I: Read + Dro
     ensures base_failed { IfErr result.2 (λ f. IsOfBase f → BaseHasFailed B.Store base result.1) }
     ensures output { OutputSays (E.failed errors.new) result.2 }
 {
+    let (store, base, _inputs, answer) = make_run_fed::<L, S, B, J, I, E>(
+        alloc, store, base, inputs, options, lines, errors,
+    );
+    (store, base, answer)
+}
+
+/// Does what `make_run_from` does, and hands the inputs back whatever the answer. What their windows took
+/// past the texts is lost.
+///
+/// The contract holds of whatever bytes agree with what the readers gave: for all inputs that agree with what was
+/// read, it says what `make_run_from` says of them.
+pub fn make_run_fed<L: Width, S: Store, B: Store, J: Feeds + Drop, I: Feeds + Drop, E: Sink>(
+    alloc: Global,
+    store: S,
+    base: Option<B>,
+    inputs: Inputs<J, I>,
+    options: MakeOptions<'_>,
+    lines: &Lines,
+    errors: &mut E,
+) -> (S, Option<B>, Inputs<J, I>, Result<(), Fault>)
+    requires head { head_size L.WORD ≤ options.limit }
+    requires words { options.limit ≤ L.GREATEST }
+    ensures runs { RunsRead L.WORD L.GREATEST options.entry J.feed I.feed B.Store base result.1
+        inputs result.2 (S.image result.0) (E.contents errors.old) (E.contents errors.new)
+        result.3 }
+    ensures hands { HandsBack B.Store base result.1 }
+    ensures settled { OnOk result.3 (S.settled result.0) }
+    ensures failed { IfErr result.3
+        (λ f. IsOfStore f → S.failures store < S.failures result.0) }
+    ensures memory { IfErr result.3 (λ f. f ≡ NoMemory → S.failures result.0 ≡ S.failures store) }
+    ensures base_failed { IfErr result.3 (λ f. IsOfBase f → BaseHasFailed B.Store base result.1) }
+    ensures output { OutputSays (E.failed errors.new) result.3 }
+{
     let made = make_unflushed::<L, S, B, J, I, E>(
         alloc, store, base, inputs, &options, lines, errors,
     );
     let answer = flushed(errors, made.answer);
-    (made.store, made.base, answer)
+    (made.store, made.base, made.inputs, answer)
 }
