@@ -1,9 +1,9 @@
 -- Which inputs agree with what a run read: those of readers that tell their bytes, and any bytes that agree with
 -- what is known of the readers afterwards.
-use Rattle.std.proofs.Common.{◌≡◌, ◌+◌, ◌++◌, ◌∙◌, ℕ, zero, suc, List, [], ◌∷◌, length, map, refl, sym, ap, subst, arith, Option, None, Some, IfSome, Result}
+use Rattle.std.proofs.Common.{◌≡◌, ◌++◌, ◌∙◌, ℕ, zero, suc, List, [], ◌∷◌, length, map, refl, sym, ap, subst, arith, Option, None, Some, IfSome, Result}
 use Rattle.std.specs.Prelude.{⊤}
 use Rattle.std.proofs.lemmas.List.{length-map}
-use Rattle.cdb_form.specs.Fed.Feed.{Consumes, Feed, FromTo, IsSome, Keeps, reader_feed}
+use Rattle.cdb_form.specs.Fed.Feed.{Feed, FromTo, IsSome, Keeps, reader_feed}
 use Rattle.cdb_form.specs.Fed.Rests.{same_remaining}
 use Rattle.cdb_form.specs.Text.Amending.{Change}
 use Rattle.cdb_form.specs.Views.KnownBytes.{FromTo as KnownFromTo}

@@ -1,5 +1,5 @@
 -- How a run ends whose readers are handed back: for all inputs that agree with what was read, as its maker says.
-use Rattle.std.proofs.Common.{◌≡◌, ◌+◌, ◌⊎◌, ◌∙◌, ℕ, inl, inr, Bool, List, [], ◌∷◌, length, refl, sym, subst, Option, IfSome, is_some, Result, Ok, Err}
+use Rattle.std.proofs.Common.{◌≡◌, ◌+◌, ◌⊎◌, ◌∙◌, ℕ, inl, inr, Bool, List, [], ◌∷◌, length, refl, sym, subst, Option, is_some, Result, Ok, Err}
 use Rattle.std.specs.Prelude.{IsOk}
 use Rattle.std.specs.Vec.{with_items}
 use Rattle.std.proofs.lemmas.List.{with_items_is}
@@ -26,14 +26,14 @@ use Rattle.cdb_show.specs.Runs.Incoming.{came}
 use Rattle.cdb_show.specs.Runs.Inputs.{AreAllInputs, HasFaults, InputForm, InputsLeft, input_form}
 use Rattle.cdb_show.specs.Views.Fault.{make_fault}
 use Rattle.cdb_show.specs.declared.fault.Fault.{Fault}
-use Rattle.cdb_show.specs.declared.fault.Fault.TheVariants.{Make, NoMemory, Output, Text}
+use Rattle.cdb_show.specs.declared.fault.Fault.TheVariants.{Output, Text}
 use Rattle.cdb_show.specs.declared.inputs.Inputs.{Inputs}
 use Rattle.cdb_show.specs.declared.inputs.Turn.{Turn}
 use Rattle.cdb_show.proofs.NativeInputs.{some_weaker}
 use Rattle.cdb_show.proofs.NextInputs.{first_begins}
 use Rattle.cdb_show.proofs.Writers.{not_ok}
 use Rattle.cdb_tool.specs.Runs.Course.{Task}
-use Rattle.cdb_tool.specs.Runs.FormParsing.{BeginsSo, FailsSo, parsing}
+use Rattle.cdb_tool.specs.Runs.FormParsing.{BeginsSo, parsing}
 use Rattle.cdb_tool.specs.Runs.InputsRead.{HasRead, IsFaultAt, RunsRead, StopsIn, WereRead, input_readers, shared_feed, stop_by}
 use Rattle.cdb_tool.specs.Runs.Make.{HoldsBase, InputsFail, IsHalt, MakeRuns, OfBase, PutsInputs, PutsInputsStop, Stands, StoppedAt, form_of}
 use Rattle.cdb_tool.specs.declared.runs.shared_window.SharedWindow.{SharedWindow}

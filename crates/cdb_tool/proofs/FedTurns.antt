@@ -1,5 +1,5 @@
 -- What a run read of an input through a window, whatever bytes agree with it.
-use Rattle.std.proofs.Common.{◌≡◌, ◌+◌, ◌++◌, ◌∙◌, ℕ, List, [], ◌∷◌, length, refl, sym, subst, Option, Some, Result, Ok, Err}
+use Rattle.std.proofs.Common.{◌≡◌, ◌++◌, ℕ, List, [], ◌∷◌, refl, sym, subst, Option, Some, Result, Ok, Err}
 use Rattle.std.specs.Prelude.{OnOk}
 use Rattle.cdb_store.specs.declared.store.Store.{Ghosts}
 use Rattle.cdb_form.specs.Fed.Feed.{Consumes, Feed, FromTo, Keeps}
@@ -26,11 +26,11 @@ use Rattle.cdb_show.specs.declared.inputs.Turn.TheVariants as turns
 use Rattle.cdb_show.specs.declared.window.Window.{Window}
 use Rattle.cdb_show.proofs.NextInputs.{begins_none}
 use Rattle.cdb_tool.specs.Runs.FormParsing.{BeginsSo, FailsSo, parsing}
-use Rattle.cdb_tool.specs.Runs.InputsRead.{IsFaultAt, StopsInput, input_reader, shared_feed, stop_by}
+use Rattle.cdb_tool.specs.Runs.InputsRead.{StopsInput, input_reader, shared_feed, stop_by}
 use Rattle.cdb_tool.specs.Runs.Make.{PutsStop}
 use Rattle.cdb_tool.specs.declared.runs.shared_window.SharedWindow.{SharedWindow}
 use Rattle.cdb_tool.specs.declared.runs.shared_window.SharedWindow.TheVariants.{InHand, Unread}
-use Rattle.cdb_tool.proofs.FedPuts.{text_stopped}
+use Rattle.cdb_tool.proofs.InputRuns.{text_stopped}
 use Rattle.cdb_tool.proofs.InputRuns.{none_put}
 
 pub ok_each : {T E P Q : Type 0} (r : Result T E) → (P → Q) → OnOk r P → OnOk r Q

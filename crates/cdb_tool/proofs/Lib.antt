@@ -1,9 +1,7 @@
 pub mod WholeRuns
-pub mod ItemTexts
 pub mod BaseRecords
 pub mod Courses
 pub mod InputRuns
-pub mod FedPuts
 pub mod FedTurns
 pub mod FedRuns
 pub mod AgreeingInputs

@@ -1,6 +1,6 @@
 -- How a run ends: without a record, with a fault of its inputs or its store, or with its file; and
 -- then the flush.
-use Rattle.std.proofs.Common.{◌≡◌, ◌<◌, ◌≤◌, ◌⊎◌, true≢false, Bool, ℕ, inl, inr, List, [], ◌∷◌, refl, sym, ap, subst, ◌∙◌, Option, Some, None, is_some, Result, Ok, Err, arith}
+use Rattle.std.proofs.Common.{◌≡◌, ◌<◌, ◌≤◌, ◌⊎◌, true≢false, Bool, ℕ, inl, inr, List, [], refl, sym, ap, subst, ◌∙◌, Option, Some, None, is_some, Result, Ok, Err, arith}
 use Rattle.std.specs.Prelude.{IsOk}
 use Rattle.std.specs.Io.KnownBytes.{Keeps}
 use Rattle.cdb_store.specs.declared.store.Store.{Ghosts}
@@ -30,7 +30,6 @@ use Rattle.cdb_show.specs.declared.fault.Fault.TheVariants.{Text, Make, Duplicat
 use Rattle.cdb_command.specs.declared.options.MakeOptions.{MakeOptions}
 use Rattle.cdb_tool.proofs.ToldLines.{part_kept, part_whole, tells_kept, tells_none}
 use Rattle.cdb_show.proofs.Writers.{not_ok}
-use Rattle.cdb_show.proofs.NextInputs.{begins_none}
 use Rattle.cdb_form.proofs.Bytes.WritingLemmas.{appends_none}
 use Rattle.cdb_tool.proofs.Courses.{came_none, course_starts}
 use Rattle.cdb_show.proofs.NextInputs.{first_none}

@@ -21,7 +21,7 @@ use Rattle.cdb_tool.specs.Runs.Base.{NotAdded}
 use Rattle.cdb_tool.specs.Runs.Course.{Task, task_of, course_of, Goes}
 use Rattle.cdb_show.specs.Runs.Incoming.{Incoming, from_inputs}
 use Rattle.cdb_tool.specs.Runs.Course.{StopsSo}
-use Rattle.cdb_show.specs.Runs.Inputs.{InputForm, input_form, HasItemFault, BeginsWithItems}
+use Rattle.cdb_show.specs.Runs.Inputs.{InputForm, input_form, HasItemFault}
 use Rattle.cdb_show.specs.Runs.Inputs.{InputsLeft, AreInputs, AreAllInputs, FirstBegins, FirstHas}
 use Rattle.cdb_show.specs.Views.Output.{OutputSays}
 use Rattle.cdb_show.specs.declared.fault.Fault.{Fault}
@@ -181,15 +181,7 @@ pub record MakeStandsAt {S L : Type 0} {s : Ghosts S} {l : Widths L} (t : Task) 
       (told_count m ≡ length (course_of l.WORD t cs).records)
   pub goes : WhereHonest (s.image m.store) (Goes l.WORD t cs old new)
 
--- the same behind these items of an input, which comes after those that were read
-pub record StandsIn {S L : Type 0} {s : Ghosts S} {l : Widths L} (form : InputForm) (greatest : ℕ)
-    (t : Task) (read : List (List Change)) (input old new : Option (List ℕ)) (m : Maker S L s l)
-    : Type 0 where
-  pub last : List Change
-  pub begins : IfSome input (BeginsWithItems form greatest last)
-  pub stands : MakeStandsAt t (came read last) old new m
-
--- and behind the items of some inputs, and these of the next one
+-- the same behind the items of some inputs, and these of the next one
 pub record Stands {S L : Type 0} {s : Ghosts S} {l : Widths L} (form : InputForm) (greatest : ℕ)
     (t : Task) (inputs : InputsLeft) (old new : Option (List ℕ)) (m : Maker S L s l)
     : Type 0 where
@@ -255,28 +247,6 @@ abbrev pub PutsInputsStop : {S L : Type 0} {s : Ghosts S} {l : Widths L} → Mak
 PutsInputsStop o read last before now old new fault =
     (t : Task) (start : Option (List ℕ)) → t.options ≡ o → InCourse t [] start before old
     → StoppedAt t (came read last) start now new fault
-
--- how it stopped in an input of which these items are whole
-pub record MakeStopsIn (w greatest : ℕ) (t : Task) (read : List (List Change))
-    (input old new : Option (List ℕ)) (fault : Fault) : Type 0 where
-  pub last : List Change
-  pub begins : IfSome input (BeginsWithItems (form_of t) greatest last)
-  pub stops : StopsSo w t (came read last) old new fault
-
-pub record MeetsHere (w greatest : ℕ) (t : Task) (read : List (List Change))
-    (input old new : Option (List ℕ)) (number : ℕ) (fault : TextFault) : Type 0 where
-  pub last : List Change
-  pub numbered : number ≡ length read + 1
-  pub memory : fault ≢ text_fault.NoMemory
-  pub native : IsOfText fault → t.options.style ≡ Native
-  pub has : IfSome input (HasItemFault (form_of t) greatest last fault)
-  pub goes : Goes w t (came read last) old new
-
-abbrev pub InputFails : ℕ → ℕ → Task → List (List Change) → Option (List ℕ)
-    → Option (List ℕ) → Option (List ℕ) → Fault → Type 0
-InputFails w greatest t read input old new (Text number fault) =
-    MeetsHere w greatest t read input old new number fault
-InputFails w greatest t read input old new fault = MakeStopsIn w greatest t read input old new fault
 
 -- ---- the base, amid a run
 

@@ -1,15 +1,12 @@
-use Rattle.std.proofs.Common.{arith, refl, sym, ap, subst, rules, ◌≡◌, ◌∙◌, ◌+◌, ◌∷◌, ◌++◌, [], ℕ, length, Ok}
-use Rattle.std.specs.Prelude.{IfErr, OnOk}
-use Rattle.std.proofs.lemmas.Grind.{common_steps}
+use Rattle.std.proofs.Common.{arith, refl, sym, ap, ◌∙◌, ◌+◌, ◌∷◌, ◌++◌, [], ℕ, length, Ok}
 use Rattle.cdb_make.proofs.Callers.{follows_same}
 use Rattle.cdb_make.proofs.Rolls.{follows_then}
-use Rattle.cdb_feed.specs.Inputs.{TakesOne}
 use Rattle.cdb_show.specs.Runs.Inputs.{input_form}
 use Rattle.cdb_tool.specs.Runs.FormParsing.{parsing}
-use Rattle.cdb_tool.specs.Runs.InputsRead.{input_reader, shared_feed}
+use Rattle.cdb_tool.specs.Runs.InputsRead.{shared_feed}
 use Rattle.cdb_tool.proofs.FedRuns.{all_turns, offset_fits, so_far_none, stopped_here, turn_more}
 use Rattle.cdb_tool.proofs.MakerSteps.{step_failed}
-use Rattle.cdb_tool.proofs.runs.make_inputs.put_turns_fed.Goals as goal
+use Rattle.cdb_tool.proofs.runs.make.put_turns.Goals as goal
 
 pub loop-i-init : goal.loop-i-init
 loop-i-init g c = record {
@@ -31,22 +28,22 @@ returns-clause-ok g c =
 pub returns-in-Err-clause-fails : goal.returns-in-Err-clause-fails
 returns-in-Err-clause-fails g c =
     let inv = c.loop-i.invariant in
-    let e = rw c.in-Err.is at c.put_turn_fed-left.ensures.fails in
-    stopped_here {s = g.S.Store} {l = g.L.Width} g.J.Feeds.feed (shared_feed g.I.Feeds.feed) _ _ _ _ c.index-turns-i.result c.put_turn_fed-left.new.turn _ _ _ c.loop-i.i inv.read c.args.options.now _ _ _ _ _ _ c.in-Err.fault inv.far c.loop-i-test.true c.index-turns-i.is inv.course e
+    let e = rw c.in-Err.is at c.put_turn-left.ensures.fails in
+    stopped_here {s = g.S.Store} {l = g.L.Width} g.J.Feeds.feed (shared_feed g.I.Feeds.feed) _ _ _ _ c.index-turns-i.result c.put_turn-left.new.turn _ _ _ c.loop-i.i inv.read c.args.options.now _ _ _ _ _ _ c.in-Err.fault inv.far c.loop-i-test.true c.index-turns-i.is inv.course e
 
 pub returns-in-Err-clause-step : goal.returns-in-Err-clause-step
 returns-in-Err-clause-step g c =
     let inv = c.loop-i.invariant in
-    step_failed c.in-Err.fault inv.follows inv.fine (λ is. is) (rw c.in-Err.is at c.put_turn_fed-left.ensures.step)
+    step_failed c.in-Err.fault inv.follows inv.fine (λ is. is) (rw c.in-Err.is at c.put_turn-left.ensures.step)
 
 pub loop-i-preserved : goal.loop-i-preserved
 loop-i-preserved g c =
     let inv = c.loop-i.invariant in
-    let e = rw c.in_default.is at c.put_turn_fed-left.ensures.ok in
-    let step = rw c.in_default.is at c.put_turn_fed-left.ensures.step in
+    let e = rw c.in_default.is at c.put_turn-left.ensures.ok in
+    let step = rw c.in_default.is at c.put_turn-left.ensures.step in
     record {
       read = inv.read ++ e.0 ∷ [];
-      far = turn_more g.J.Feeds.feed (shared_feed g.I.Feeds.feed) _ _ _ _ c.index-turns-i.result c.put_turn_fed-left.new.turn _ _ _ c.loop-i.i inv.read c.loop-i-test.true c.index-turns-i.is e.0 inv.far e.1;
+      far = turn_more g.J.Feeds.feed (shared_feed g.I.Feeds.feed) _ _ _ _ c.index-turns-i.result c.put_turn-left.new.turn _ _ _ c.loop-i.i inv.read c.loop-i-test.true c.index-turns-i.is e.0 inv.far e.1;
       course = λ t start same h. e.2 t inv.read start same (ap (λ (n : ℕ). n + 1) (sym inv.far.count)) (inv.course t start same h);
       follows = follows_then _ _ _ inv.follows step.follows;
       fine = step.fine ∙ inv.fine;

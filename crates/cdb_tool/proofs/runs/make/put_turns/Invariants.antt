@@ -6,7 +6,7 @@ use Rattle.cdb_tool.specs.Runs.FormParsing.{parsing}
 use Rattle.cdb_tool.specs.Runs.InputsRead.{input_readers, shared_feed}
 use Rattle.cdb_tool.specs.Runs.Make.{PutsInputs}
 use Rattle.cdb_tool.proofs.FedRuns.{SoFar}
-use Rattle.cdb_tool.proofs.runs.make_inputs.put_turns_fed.Given as goal
+use Rattle.cdb_tool.proofs.runs.make.put_turns.Given as goal
 
 -- the inputs so far were done, and the others not reached
 abbrev pub invariant-loop-i : goal.invariant-loop-i
