@@ -1,5 +1,5 @@
 -- What a query of the keys of some inputs came to, by the readers of the inputs as they come back.
-use Rattle.std.proofs.Common.{◌≡◌, ℕ, ◌+◌, ◌<◌, ◌≤◌, Bool, List, [], ◌∷◌, ◌++◌, length, refl, sym, ap, subst, ◌∙◌, arith, slice_set, slice_index_or, Option, None, Some, Result, Ok, Err, OnOk, IfErr, ◌≢◌, inl, inr, true, false}
+use Rattle.std.proofs.Common.{◌≡◌, ℕ, ◌+◌, ◌<◌, ◌≤◌, Bool, List, [], ◌∷◌, ◌++◌, length, refl, sym, ap, subst, ◌∙◌, arith, slice_set, slice_index_or, Option, None, Some, Result, Ok, Err, OnOk, IfErr, inl, inr, true, false}
 use Rattle.std.specs.Prelude.{⊤}
 use Rattle.std.proofs.lemmas.List.{append-nil}
 use Rattle.cdb_store.specs.declared.store.Store.{Ghosts}
