@@ -24,6 +24,7 @@ pub mod OutputFaults
 pub mod OutputLemmas
 pub mod DifferenceRuns
 pub mod GivenInputs
+pub mod PlacedReaders
 pub mod LookedUp
 pub mod ShownParts
 pub mod LineCounts

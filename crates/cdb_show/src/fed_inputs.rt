@@ -1,13 +1,15 @@
 // The inputs of a run, whose readers come back.
-ghost use Rattle.std.specs.Prelude.{◌≡◌, IfErr, IfOk};
+ghost use Rattle.std.specs.Prelude.{◌≡◌, IfErr, IfOk, map};
 ghost use Rattle.cdb_form.specs.Fed.Feed.{Consumes, Keeps};
-ghost use Rattle.cdb_show.specs.Views.FedInputs.{held_of, reader_of, shared_feed};
+ghost use Rattle.cdb_show.specs.Runs.Inputs.{Own};
+ghost use Rattle.cdb_show.specs.Views.FedInputs.{held_of, one_of, reader_of, shared_feed};
 ghost use Rattle.cdb_show.specs.Views.Window.{feed_of};
 
 use crate::window::{NoWindow, Window};
 use cdb_feed::InputReader;
 use cdb_form::Feeds;
-use std::alloc::Global;
+use std::alloc::{AllocError, Global};
+use std::io::Read;
 
 /// The inputs of a run, which are read in turn, each through a window of 64 KiB.
 #[derive(Drop)]
@@ -17,6 +19,31 @@ pub struct FedInputs<J, I> {
     /// The reader of those that have none of their own, as each `-` of a command line has standard
     /// input: each of them begins where the text of the one before it ended.
     pub shared: I,
+}
+
+impl<J: Read, I: Read> FedInputs<J, I> {
+    /// Inputs that each have a reader of their own. None has the shared one.
+    pub fn each_own(
+        alloc: Global,
+        readers: Vec<J>,
+        shared: I,
+    ) -> Result<FedInputs<J, I>, AllocError>
+    where
+        J: Drop,
+        I: Drop,
+        ensures each { IfOk result (λ inputs. map (one_of J.remaining) inputs.readers.items
+            ≡ map Own (map J.remaining readers.items)) }
+        ensures shared { IfOk result (λ inputs. inputs.shared ≡ shared) }
+    {
+        let mut own = Vec::with_capacity(alloc, readers.len())?;
+        for reader in readers {
+            own.push(InputReader::Own(reader))?;
+        }
+        Ok(FedInputs {
+            readers: own,
+            shared,
+        })
+    }
 }
 
 /// The reader that inputs share, which has its window from the first of them on.

@@ -14,15 +14,13 @@ use Rattle.cdb_feed.specs.declared.input_reader.InputReader.TheVariants.{Own, Sh
 use Rattle.cdb_show.specs.Runs.Incoming.{one_input}
 use Rattle.cdb_show.specs.Runs.Inputs.{InputForm, InputsLeft, IsInputOf, OneInput, bytes_of}
 use Rattle.cdb_show.specs.Runs.Inputs as form
-use Rattle.cdb_show.specs.Views.Inputs.{inputs_left, one_of}
+use Rattle.cdb_show.specs.Views.FedInputs.{inputs_left, one_of, shared_feed}
 use Rattle.cdb_show.specs.declared.fault.Fault.{Fault}
-use Rattle.cdb_show.specs.declared.inputs.Inputs.{Inputs}
-use Rattle.cdb_show.specs.declared.inputs.Turn.{Turn}
-use Rattle.cdb_show.specs.declared.inputs.Turn.TheVariants as turns
+use Rattle.cdb_show.specs.declared.fed_inputs.FedInputs.{FedInputs}
 use Rattle.cdb_tool.specs.Runs.FormParsing.{BeginsSo, FailsSo, parsing}
-use Rattle.cdb_tool.specs.Runs.InputsRead.{HasRead, WereRead, input_reader, input_readers, shared_feed}
-use Rattle.cdb_tool.specs.declared.runs.shared_window.SharedWindow.{SharedWindow}
-use Rattle.cdb_tool.specs.declared.runs.shared_window.SharedWindow.TheVariants.{Unread}
+use Rattle.cdb_tool.specs.Runs.InputsRead.{HasRead, WereRead}
+use Rattle.cdb_show.specs.declared.fed_inputs.SharedWindow.{SharedWindow}
+use Rattle.cdb_show.specs.declared.fed_inputs.SharedWindow.TheVariants.{Unread}
 
 -- ---- the bytes of a reader
 
@@ -238,14 +236,14 @@ module _ {J I : Type 0} (own : J → Option (List ℕ)) (shared : I → Option (
         record { whole = []; rest = left.0; may = left.1; only = λ text may. same_remaining may e };
   }
 
-  one_known : (P : List ℕ → List ℕ → Type 0) (t : Turn J) (left : InputReader J) (old new : SharedWindow I) → TakesOne own_feed window_feed P (input_reader t) left old new → OneFound own_feed (one_of own t) (input_reader t) left
-  one_known P (turns.Own reader) (Own left) old new takes = own_found (own reader) reader left refl
-  one_known P turns.Shared Shared old new takes = tt
-  one_known P (turns.Own reader) Shared old new takes = absurd takes
-  one_known P turns.Shared (Own left) old new takes = absurd takes
+  one_known : (P : List ℕ → List ℕ → Type 0) (t : InputReader J) (left : InputReader J) (old new : SharedWindow I) → TakesOne own_feed window_feed P t left old new → OneFound own_feed (one_of own t) t left
+  one_known P (Own reader) (Own left) old new takes = own_found (own reader) reader left refl
+  one_known P Shared Shared old new takes = tt
+  one_known P (Own reader) Shared old new takes = absurd takes
+  one_known P Shared (Own left) old new takes = absurd takes
 
-  first_known : (st : InputForm) (g : ℕ) (answer : Result Unit Fault) (read : List (List Change)) (stop : Stop Change TextFault) (before : List (Turn J)) (after : List (InputReader J)) (old new : SharedWindow I) → AreRead own_feed window_feed (parsing st g answer) read stop (input_readers before) after old new
-      → FirstFound own_feed (reached read stop) (map (one_of own) before) (input_readers before) after
+  first_known : (st : InputForm) (g : ℕ) (answer : Result Unit Fault) (read : List (List Change)) (stop : Stop Change TextFault) (before : List (InputReader J)) (after : List (InputReader J)) (old new : SharedWindow I) → AreRead own_feed window_feed (parsing st g answer) read stop before after old new
+      → FirstFound own_feed (reached read stop) (map (one_of own) before) before after
   first_known st g answer [] NoMore before after old new stops = tt
   first_known st g answer [] NotBegun before after old new stops = tt
   first_known st g answer [] (HasFault last fault) (t ∷ before) (left ∷ after) old new takes = (one_known (λ text rest. FailsSo st g last fault text) t left old new takes, tt)
@@ -258,30 +256,30 @@ module _ {J I : Type 0} (own : J → Option (List ℕ)) (shared : I → Option (
   first_known st g answer (items ∷ read) stop [] after old new are = absurd are
   first_known st g answer (items ∷ read) stop (t ∷ before) [] old new are = absurd are
 
-  as_many : (before : List (Turn J)) → length (map (one_of own) before) ≡ length (input_readers before)
-  as_many before = length-map before (one_of own) ∙ sym (length-map before input_reader)
+  as_many : (before : List (InputReader J)) → length (map (one_of own) before) ≡ length before
+  as_many before = length-map before (one_of own)
 
   -- the inputs that they had before a run
-  pub known_inputs : (st : InputForm) (g : ℕ) (answer : Result Unit Fault) (read : List (List Change)) (stop : Stop Change TextFault) (before after : Inputs J I) → WereRead own_feed (λ reader. reader_feed (shared reader)) st g answer read stop before after → HasRead st g answer read stop (inputs_left own shared before)
+  pub known_inputs : (st : InputForm) (g : ℕ) (answer : Result Unit Fault) (read : List (List Change)) (stop : Stop Change TextFault) (before after : FedInputs J I) → WereRead own_feed (λ reader. reader_feed (shared reader)) st g answer read stop before after → HasRead st g answer read stop (inputs_left own shared before)
   known_inputs st g answer read stop before after were = at (shared before.shared) refl where
     all : (whole rest : Option (List ℕ)) → IsKnown whole (reader_feed (shared before.shared)) → IsLeft whole (window_feed were.window) rest
-        → Before whole (reader_feed (shared before.shared)) (λ s. HasRead st g answer read stop (record { each = map (one_of own) before.turns.items; shared = s }))
+        → Before whole (reader_feed (shared before.shared)) (λ s. HasRead st g answer read stop (record { each = map (one_of own) before.readers.items; shared = s }))
     all whole rest known left =
-        all_agree own_feed window_feed st g answer whole read stop (map (one_of own) before.turns.items) (input_readers before.turns.items) (input_readers after.turns.items) (Unread before.shared) were.window rest known were.are
-        (first_known st g answer read stop before.turns.items (input_readers after.turns.items) (Unread before.shared) were.window were.are) (as_many before.turns.items) left
+        all_agree own_feed window_feed st g answer whole read stop (map (one_of own) before.readers.items) before.readers.items after.readers.items (Unread before.shared) were.window rest known were.are
+        (first_known st g answer read stop before.readers.items after.readers.items (Unread before.shared) were.window were.are) (as_many before.readers.items) left
 
     at : (remaining : Option (List ℕ)) → shared before.shared ≡ remaining → HasRead st g answer read stop (inputs_left own shared before)
     at None e =
         let b = all None None tt tt in
-        subst (λ s. HasRead st g answer read stop (record { each = map (one_of own) before.turns.items; shared = s })) (sym e)
-        (of_none (reader_feed (shared before.shared)) (λ s. HasRead st g answer read stop (record { each = map (one_of own) before.turns.items; shared = s })) b.left b.is b.holds)
+        subst (λ s. HasRead st g answer read stop (record { each = map (one_of own) before.readers.items; shared = s })) (sym e)
+        (of_none (reader_feed (shared before.shared)) (λ s. HasRead st g answer read stop (record { each = map (one_of own) before.readers.items; shared = s })) b.left b.is b.holds)
     at (Some bytes) e =
         let known : IsSome (shared before.shared) = subst IsSome (sym e) tt in
-        let still = all_known own_feed window_feed st g answer (Some []) read stop (input_readers before.turns.items) (input_readers after.turns.items) (Unread before.shared) were.window known were.are in
+        let still = all_known own_feed window_feed st g answer (Some []) read stop before.readers.items after.readers.items (Unread before.shared) were.window known were.are in
         let rest = some_of (shared after.shared) (were.let_go.known still) in
         let b = all (Some []) (Some (were.lost ++ rest.0)) known (were.let_go.back still [] rest.0 rest.1) in
-        let found = of_some [] (reader_feed (shared before.shared)) (λ s. HasRead st g answer read stop (record { each = map (one_of own) before.turns.items; shared = s })) b.left b.is b.holds in
-        subst (λ s. HasRead st g answer read stop (record { each = map (one_of own) before.turns.items; shared = s })) (sym found.1) found.2
+        let found = of_some [] (reader_feed (shared before.shared)) (λ s. HasRead st g answer read stop (record { each = map (one_of own) before.readers.items; shared = s })) b.left b.is b.holds in
+        subst (λ s. HasRead st g answer read stop (record { each = map (one_of own) before.readers.items; shared = s })) (sym found.1) found.2
 
 -- ---- any bytes that agree
 
@@ -335,15 +333,15 @@ module _ {R S : Type 0} (own : R → Feed) (shared : S → Feed) (fits : List �
   first_agreed st g answer (items ∷ read) stop [] (reader ∷ before) (left ∷ after) old new are unread agree = absurd agree
 
 -- of readers of which nothing was read before a run
-pub agreeing_inputs : {J I : Type 0} (own : J → Feed) (shared : I → Feed) (fits : List ℕ → Type 0) (st : InputForm) (g : ℕ) (answer : Result Unit Fault) (read : List (List Change)) (stop : Stop Change TextFault) (before after : Inputs J I) (inputs : List (Option (List ℕ))) (whole : List ℕ)
-    → WereRead own shared st g answer read stop before after → AreUnread own (input_readers before.turns.items) → IsUnread (shared before.shared) → length inputs ≡ length before.turns.items → FirstAgree own fits (reached read stop) inputs (input_readers after.turns.items) → AgreesWith fits (shared after.shared) whole
+pub agreeing_inputs : {J I : Type 0} (own : J → Feed) (shared : I → Feed) (fits : List ℕ → Type 0) (st : InputForm) (g : ℕ) (answer : Result Unit Fault) (read : List (List Change)) (stop : Stop Change TextFault) (before after : FedInputs J I) (inputs : List (Option (List ℕ))) (whole : List ℕ)
+    → WereRead own shared st g answer read stop before after → AreUnread own before.readers.items → IsUnread (shared before.shared) → length inputs ≡ length before.readers.items → FirstAgree own fits (reached read stop) inputs after.readers.items → AgreesWith fits (shared after.shared) whole
     → HasRead st g answer read stop (record { each = map one_input inputs; shared = Some whole })
 agreeing_inputs own shared fits st g answer read stop before after inputs whole were unread first long agree agrees =
-    let readers = input_readers before.turns.items in
-    let lefts = input_readers after.turns.items in
+    let readers = before.readers.items in
+    let lefts = after.readers.items in
     let still = all_known own (shared_feed shared) st g answer (Some whole) read stop readers lefts (Unread before.shared) were.window first.known were.are in
     let b = all_agree own (shared_feed shared) st g answer (Some whole) read stop (map one_input inputs) readers lefts (Unread before.shared) were.window (Some (were.lost ++ agrees.rest)) first.known were.are
     (first_agreed own (shared_feed shared) fits st g answer read stop inputs readers lefts (Unread before.shared) were.window were.are unread agree)
-    (length-map inputs one_input ∙ long ∙ sym (length-map before.turns.items input_reader)) (were.let_go.back still whole agrees.rest agrees.may) in
+    (length-map inputs one_input ∙ long) (were.let_go.back still whole agrees.rest agrees.may) in
     let found = of_some whole (shared before.shared) (λ s. HasRead st g answer read stop (record { each = map one_input inputs; shared = s })) b.left b.is b.holds in
     subst (λ t. HasRead st g answer read stop (record { each = map one_input inputs; shared = Some t })) (first.all whole found.0 found.1) found.2

@@ -1,8 +1,9 @@
 -- How a run ends whose readers are handed back: for all inputs that agree with what was read, as its maker says.
-use Rattle.std.proofs.Common.{◌≡◌, ◌+◌, ◌⊎◌, ◌∙◌, ℕ, inl, inr, Bool, List, [], ◌∷◌, length, refl, sym, subst, Option, is_some, Result, Ok, Err}
+use Rattle.std.proofs.Common.{◌≡◌, ◌+◌, ◌⊎◌, ◌∙◌, ℕ, inl, inr, Bool, List, [], ◌∷◌, length, drop, refl, sym, ap, subst, arith, Option, is_some, Result, Ok, Err}
 use Rattle.std.specs.Prelude.{IsOk}
 use Rattle.std.specs.Vec.{with_items}
 use Rattle.std.proofs.lemmas.List.{with_items_is}
+use Rattle.std.proofs.Math.Seq.{drop-length}
 use Rattle.cdb_store.specs.declared.store.Store.{Ghosts}
 use Rattle.cdb_store.specs.declared.make_fault.MakeFault.{MakeFault}
 use Rattle.cdb_store.specs.declared.make_fault.MakeFault.TheVariants as make
@@ -13,7 +14,7 @@ use Rattle.cdb_form.specs.declared.text.fault.TextFault.{TextFault}
 use Rattle.cdb_form.specs.declared.text.fault.TextFault.TheVariants as text
 use Rattle.cdb_form.specs.declared.width.Width.{Ghosts as Widths}
 use Rattle.cdb_form.proofs.Fed.FeedLemmas.{from_weaker, nothing_taken}
-use Rattle.cdb_feed.specs.Inputs.{AreRead, CutShort, HasFault, NoMore, NotBegun, Stop, StopsSo, TakesOne}
+use Rattle.cdb_feed.specs.Inputs.{AreRead, CutShort, HasFault, NoMore, NotBegun, Stop, StopsSo, TakesOne, reached}
 use Rattle.cdb_feed.specs.declared.input_reader.InputReader.{InputReader}
 use Rattle.cdb_feed.specs.declared.input_reader.InputReader.TheVariants.{Own, Shared}
 use Rattle.cdb_make.specs.Views.Maker.{ComesFrom, FailsFinishing, Holds, IsFile, WhereHonest, limit_of}
@@ -25,39 +26,56 @@ use Rattle.cdb_show.specs.Runs.Flushed.{Flushed}
 use Rattle.cdb_show.specs.Runs.Incoming.{came}
 use Rattle.cdb_show.specs.Runs.Inputs.{AreAllInputs, HasFaults, InputForm, InputsLeft, input_form}
 use Rattle.cdb_show.specs.Views.Fault.{make_fault}
+use Rattle.cdb_show.specs.Views.FedInputs.{ArePassed, shared_feed}
 use Rattle.cdb_show.specs.declared.fault.Fault.{Fault}
 use Rattle.cdb_show.specs.declared.fault.Fault.TheVariants.{Output, Text}
-use Rattle.cdb_show.specs.declared.inputs.Inputs.{Inputs}
-use Rattle.cdb_show.specs.declared.inputs.Turn.{Turn}
+use Rattle.cdb_show.specs.declared.fed_inputs.FedInputs.{FedInputs}
 use Rattle.cdb_show.proofs.NativeInputs.{some_weaker}
 use Rattle.cdb_show.proofs.NextInputs.{first_begins}
 use Rattle.cdb_show.proofs.Writers.{not_ok}
 use Rattle.cdb_tool.specs.Runs.Course.{Task}
 use Rattle.cdb_tool.specs.Runs.FormParsing.{BeginsSo, parsing}
-use Rattle.cdb_tool.specs.Runs.InputsRead.{HasRead, IsFaultAt, RunsRead, StopsIn, WereRead, input_readers, shared_feed, stop_by}
+use Rattle.cdb_tool.specs.Runs.InputsRead.{HasRead, IsFaultAt, RunsRead, StopsIn, WereRead, stop_by}
 use Rattle.cdb_tool.specs.Runs.Make.{HoldsBase, InputsFail, IsHalt, MakeRuns, OfBase, PutsInputs, PutsInputsStop, Stands, StoppedAt, form_of}
-use Rattle.cdb_tool.specs.declared.runs.shared_window.SharedWindow.{SharedWindow}
-use Rattle.cdb_tool.specs.declared.runs.shared_window.SharedWindow.TheVariants.{Unread}
-use Rattle.cdb_tool.proofs.FedRuns.{read_as}
+use Rattle.cdb_show.specs.declared.fed_inputs.SharedWindow.{SharedWindow}
+use Rattle.cdb_show.specs.declared.fed_inputs.SharedWindow.TheVariants.{Unread}
+use Rattle.cdb_tool.proofs.FedRuns.{reached_whole, read_as}
 use Rattle.cdb_tool.proofs.InputRuns.{form_is}
 use Rattle.cdb_tool.proofs.RunEnds.{runs_flushed, runs_stopped, runs_unfinished, runs_whole}
 
 -- ---- the inputs
 
 -- they were read, and written over those in a vector
-pub were_written : {J I : Type 0} (own : J → Feed) (shared : I → Feed) (form : InputForm) (g : ℕ) (answer : Result Unit Fault) (read : List (List Change)) (stop : Stop Change TextFault) (before : Inputs J I) (left : I) (now : List (Turn J)) (window : SharedWindow I)
-    → AreRead own (shared_feed shared) (parsing form g answer) read stop (input_readers before.turns.items) (input_readers now) (Unread before.shared) window → (lost : List ℕ) × Consumes (shared_feed shared window) (shared left) lost → length now ≡ before.turns.len
-    → WereRead own shared form g answer read stop before (record { turns = with_items before.turns now; shared = left })
-were_written own shared form g answer read stop before left now window are gone long = record {
+pub were_written : {J I : Type 0} (own : J → Feed) (shared : I → Feed) (form : InputForm) (g : ℕ) (answer : Result Unit Fault) (read : List (List Change)) (stop : Stop Change TextFault) (before : FedInputs J I) (left : I) (now : List (InputReader J)) (window : SharedWindow I)
+    → AreRead own (shared_feed shared) (parsing form g answer) read stop before.readers.items now (Unread before.shared) window → ArePassed read stop before.readers.items now → (lost : List ℕ) → Consumes (shared_feed shared window) (shared left) lost → length now ≡ before.readers.len
+    → WereRead own shared form g answer read stop before (record { readers = with_items before.readers now; shared = left })
+were_written own shared form g answer read stop before left now window are passed lost gone long = record {
   window = window;
-  are = subst (λ xs. AreRead own (shared_feed shared) (parsing form g answer) read stop (input_readers before.turns.items) (input_readers xs) (Unread before.shared) window) (sym (with_items_is before.turns now long)) are;
-  lost = gone.0;
-  let_go = gone.1;
+  are = subst (λ xs. AreRead own (shared_feed shared) (parsing form g answer) read stop before.readers.items xs (Unread before.shared) window) (sym (with_items_is before.readers now long)) are;
+  passed = subst (λ xs. ArePassed read stop before.readers.items xs) (sym (with_items_is before.readers now long)) passed;
+  lost = lost;
+  let_go = gone;
 }
 
+-- all were
+all_long : {R S : Type 0} (own : R → Feed) (shared : S → Feed) (form : InputForm) (g : ℕ) (answer : Result Unit Fault) (read : List (List Change)) (before now : List (InputReader R)) (old new : S) → AreRead own shared (parsing form g answer) read NoMore before now old new → length before ≡ length read
+all_long own shared form g answer [] before now old new (none, kept) = ap length none
+all_long own shared form g answer (items ∷ read) (reader ∷ before) (left ∷ now) old new (mid, takes, more) = let h = all_long own shared form g answer read before now mid new more in omega (arith, h)
+all_long own shared form g answer (items ∷ read) [] now old new are = absurd are
+all_long own shared form g answer (items ∷ read) (reader ∷ before) [] old new are = absurd are
+
+pub none_passed : {R S : Type 0} (own : R → Feed) (shared : S → Feed) (form : InputForm) (g : ℕ) (answer : Result Unit Fault) (read : List (List Change)) (before now : List (InputReader R)) (old new : S) → AreRead own shared (parsing form g answer) read NoMore before now old new → length now ≡ length before
+    → ArePassed {Fault = TextFault} read NoMore before now
+none_passed own shared form g answer read before now old new are long =
+    let n = all_long own shared form g answer read before now old new are in
+    let whole = reached_whole read in
+    let a : length now ≡ reached {Fault = TextFault} read NoMore = omega (arith, n, whole, long) in
+    let b : length before ≡ reached {Fault = TextFault} read NoMore = omega (arith, n, whole) in
+    subst (λ k. drop k now ≡ []) a (drop-length now) ∙ sym (subst (λ k. drop k before ≡ []) b (drop-length before))
+
 -- none was begun
-pub were_none : {J I : Type 0} (own : J → Feed) (shared : I → Feed) (form : InputForm) (g : ℕ) (answer : Result Unit Fault) (inputs : Inputs J I) → WereRead own shared form g answer [] NotBegun inputs inputs
-were_none own shared form g answer inputs = record { window = Unread inputs.shared; are = nothing_taken (shared inputs.shared); lost = []; let_go = nothing_taken (shared inputs.shared) }
+pub were_none : {J I : Type 0} (own : J → Feed) (shared : I → Feed) (form : InputForm) (g : ℕ) (answer : Result Unit Fault) (inputs : FedInputs J I) → WereRead own shared form g answer [] NotBegun inputs inputs
+were_none own shared form g answer inputs = record { window = Unread inputs.shared; are = nothing_taken (shared inputs.shared); passed = refl; lost = []; let_go = nothing_taken (shared inputs.shared) }
 
 pub all_inputs : (form : InputForm) (g : ℕ) (answer : Result Unit Fault) (read : List (List Change)) (inputs : InputsLeft) → HasRead form g answer read NoMore inputs → AreAllInputs form g read inputs
 all_inputs form g answer read inputs h = record { rest = h.rest; are = h.are; none = h.stops }
@@ -89,10 +107,11 @@ module _ (form : InputForm) (g : ℕ) (was is : Result Unit Fault) (none : IsNon
   stops_as own shared (CutShort items) [] after old new takes = absurd takes
   stops_as own shared (CutShort items) (reader ∷ before) [] old new takes = absurd takes
 
-  pub were_as : {J I : Type 0} (own : J → Feed) (shared : I → Feed) (read : List (List Change)) (stop : Stop Change TextFault) (before after : Inputs J I) → WereRead own shared form g was read stop before after → WereRead own shared form g is read stop before after
+  pub were_as : {J I : Type 0} (own : J → Feed) (shared : I → Feed) (read : List (List Change)) (stop : Stop Change TextFault) (before after : FedInputs J I) → WereRead own shared form g was read stop before after → WereRead own shared form g is read stop before after
   were_as own shared read stop before after were = record {
     window = were.window;
-    are = read_as own (shared_feed shared) form g was is read stop (input_readers before.turns.items) (input_readers after.turns.items) (Unread before.shared) were.window (λ befores afters mid stops. stops_as own (shared_feed shared) stop befores afters mid were.window stops) were.are;
+    are = read_as own (shared_feed shared) form g was is read stop before.readers.items after.readers.items (Unread before.shared) were.window (λ befores afters mid stops. stops_as own (shared_feed shared) stop befores afters mid were.window stops) were.are;
+    passed = were.passed;
     lost = were.lost;
     let_go = were.let_go;
   }
@@ -208,7 +227,7 @@ none_made make.NoMemory n f e = cc
 none_made made n f e = cc
 
 -- it read nothing
-pub read_none : {B J I : Type 0} (t : Ghosts B) (was base : Option B) (own : J → Feed) (shared : I → Feed) (w g : ℕ) (o : MakeOptions) (inputs : Inputs J I) (images : List ℕ → Type 0) (old new : Option (List ℕ)) (result : Result Unit Fault)
+pub read_none : {B J I : Type 0} (t : Ghosts B) (was base : Option B) (own : J → Feed) (shared : I → Feed) (w g : ℕ) (o : MakeOptions) (inputs : FedInputs J I) (images : List ℕ → Type 0) (old new : Option (List ℕ)) (result : Result Unit Fault)
     → ((given : InputsLeft) → WhereHonest images (OfBase t base (λ b. MakeRuns w g o b given images old new result))) → RunsRead w g o own shared t was base inputs inputs images old new result
 read_none t was base own shared w g o inputs images old new result runs = record {
   read = [];
@@ -217,7 +236,7 @@ read_none t was base own shared w g o inputs images old new result runs = record
   runs = λ given h. runs given;
 }
 
-module _ {S L B J I : Type 0} {s : Ghosts S} {l : Widths L} (t : Ghosts B) (was base : Option B) (own : J → Feed) (shared : I → Feed) (g : ℕ) (o : MakeOptions) (amends : Bool) (before after : Inputs J I) (start now : Option (List ℕ)) (begun m : Maker S L s l) (of_was : amends ≡ is_some was) (of_base : is_some base ≡ amends)
+module _ {S L B J I : Type 0} {s : Ghosts S} {l : Widths L} (t : Ghosts B) (was base : Option B) (own : J → Feed) (shared : I → Feed) (g : ℕ) (o : MakeOptions) (amends : Bool) (before after : FedInputs J I) (start now : Option (List ℕ)) (begun m : Maker S L s l) (of_was : amends ≡ is_some was) (of_base : is_some base ≡ amends)
     (wide : (l.WORD ≡ 4) ⊎ (l.WORD ≡ 8)) (holds : HoldsBase l.WORD t base begun) (limit : limit_of begun ≡ o.limit) (comes : ComesFrom (s.image begun.store) (s.image m.store)) (read : List (List Change)) where
   of_form : (answer : Result Unit Fault) (stop : Stop Change TextFault) → WereRead own shared (input_form o.style amends) g answer read stop before after → WereRead own shared (input_form o.style (is_some was)) g answer read stop before after
   of_form answer stop were = subst (λ v. WereRead own shared (input_form o.style v) g answer read stop before after) of_was were
@@ -259,7 +278,7 @@ module _ {S L B J I : Type 0} {s : Ghosts S} {l : Widths L} (t : Ghosts B) (was 
 
 -- ---- the flush
 
-flush_err : {B J I : Type 0} (t : Ghosts B) (was base : Option B) (own : J → Feed) (shared : I → Feed) (w g : ℕ) (o : MakeOptions) (before after : Inputs J I) (images : List ℕ → Type 0) (old mid new : Option (List ℕ)) (answer : Result Unit Fault) → IsOk answer → Flushed mid new answer (Err Output)
+flush_err : {B J I : Type 0} (t : Ghosts B) (was base : Option B) (own : J → Feed) (shared : I → Feed) (w g : ℕ) (o : MakeOptions) (before after : FedInputs J I) (images : List ℕ → Type 0) (old mid new : Option (List ℕ)) (answer : Result Unit Fault) → IsOk answer → Flushed mid new answer (Err Output)
     → RunsRead w g o own shared t was base before after images old mid answer → RunsRead w g o own shared t was base before after images old new (Err Output)
 flush_err t was base own shared w g o before after images old mid new (Ok u) ok f h = record {
   read = h.read;
@@ -269,7 +288,7 @@ flush_err t was base own shared w g o before after images old mid new (Ok u) ok 
 }
 flush_err t was base own shared w g o before after images old mid new (Err e) ok f h = absurd (not_ok ok)
 
-pub read_flushed : {B J I : Type 0} (t : Ghosts B) (was base : Option B) (own : J → Feed) (shared : I → Feed) (w g : ℕ) (o : MakeOptions) (before after : Inputs J I) (images : List ℕ → Type 0) (old mid new : Option (List ℕ)) (answer result : Result Unit Fault) → RunsRead w g o own shared t was base before after images old mid answer
+pub read_flushed : {B J I : Type 0} (t : Ghosts B) (was base : Option B) (own : J → Feed) (shared : I → Feed) (w g : ℕ) (o : MakeOptions) (before after : FedInputs J I) (images : List ℕ → Type 0) (old mid new : Option (List ℕ)) (answer result : Result Unit Fault) → RunsRead w g o own shared t was base before after images old mid answer
     → Flushed mid new answer result → RunsRead w g o own shared t was base before after images old new result
 read_flushed t was base own shared w g o before after images old mid new answer result h f = elim f.answered as (λ _. RunsRead w g o own shared t was base before after images old new result) [
   | inl e ↦

@@ -17,19 +17,18 @@ use Rattle.cdb_command.specs.declared.options.MakeOptions.{MakeOptions}
 use Rattle.cdb_show.specs.Runs.Incoming.{came}
 use Rattle.cdb_show.specs.Runs.Inputs.{BeginsWithItems, HasItemFault, InputForm, IsInputOf}
 use Rattle.cdb_show.specs.Runs.Lookups.{StopsBehind}
+use Rattle.cdb_show.specs.Views.FedInputs.{shared_feed}
 use Rattle.cdb_show.specs.Views.Window.{feed_of, held_in, reader_of}
 use Rattle.cdb_show.specs.Views.WindowRests.{same_held}
 use Rattle.cdb_show.specs.declared.fault.Fault.{Fault}
 use Rattle.cdb_show.specs.declared.fault.Fault.TheVariants.{NoMemory, Text}
-use Rattle.cdb_show.specs.declared.inputs.Turn.{Turn}
-use Rattle.cdb_show.specs.declared.inputs.Turn.TheVariants as turns
 use Rattle.cdb_show.specs.declared.window.Window.{Window}
 use Rattle.cdb_show.proofs.NextInputs.{begins_none}
 use Rattle.cdb_tool.specs.Runs.FormParsing.{BeginsSo, FailsSo, parsing}
-use Rattle.cdb_tool.specs.Runs.InputsRead.{StopsInput, input_reader, shared_feed, stop_by}
+use Rattle.cdb_tool.specs.Runs.InputsRead.{StopsInput, stop_by}
 use Rattle.cdb_tool.specs.Runs.Make.{PutsStop}
-use Rattle.cdb_tool.specs.declared.runs.shared_window.SharedWindow.{SharedWindow}
-use Rattle.cdb_tool.specs.declared.runs.shared_window.SharedWindow.TheVariants.{InHand, Unread}
+use Rattle.cdb_show.specs.declared.fed_inputs.SharedWindow.{SharedWindow}
+use Rattle.cdb_show.specs.declared.fed_inputs.SharedWindow.TheVariants.{InHand, Unread}
 use Rattle.cdb_tool.proofs.InputRuns.{text_stopped}
 use Rattle.cdb_tool.proofs.InputRuns.{none_put}
 
@@ -115,23 +114,23 @@ module _ {J I : Type 0} (own : J → Feed) (shared : I → Feed) (form : InputFo
   own_takes : (reader left : J) (s : SharedWindow I) → Takes own (shared_feed shared) (own reader) (own left) (Own reader) (Own left) s s
   own_takes reader left s B f = (from_weaker (own reader) (own left) (λ text rest. B text) (λ text left. (rest : List ℕ) × B text) f (λ text rest b. (rest, b)), nothing_taken (shared_feed shared s))
 
-  pub own_read : (last : List Change) (turn : Turn J) (reader left : J) (window over : Window J) (s : SharedWindow I) → turn ≡ turns.Own reader → Keeps (own reader) (feed_of own window) → FromTo (feed_of own window) (feed_of own over) (IsInputOf form g last)
-      → Consumes (feed_of own over) (own left) (held_in over) → TakesOne own (shared_feed shared) (IsInputOf form g last) (input_reader turn) (Own left) s s
+  pub own_read : (last : List Change) (turn : InputReader J) (reader left : J) (window over : Window J) (s : SharedWindow I) → turn ≡ Own reader → Keeps (own reader) (feed_of own window) → FromTo (feed_of own window) (feed_of own over) (IsInputOf form g last)
+      → Consumes (feed_of own over) (own left) (held_in over) → TakesOne own (shared_feed shared) (IsInputOf form g last) turn (Own left) s s
   own_read last turn reader left window over s is kept f gone =
       let P = IsInputOf form g last in
-      subst (λ t. TakesOne own (shared_feed shared) P (input_reader t) (Own left) s s) (sym is)
+      subst (λ t. TakesOne own (shared_feed shared) P t (Own left) s s) (sym is)
       (let_go (own reader) (feed_of own over) (own left) P (held_in over) (from_behind (own reader) (feed_of own window) (feed_of own over) [] P kept f) gone, nothing_taken (shared_feed shared s))
 
-  pub own_stops : (n : ℕ) (last : List Change) (fault : Fault) (turn : Turn J) (reader left : J) (window over : Window J) (s : SharedWindow I) → ((it : J) (whole x y : List ℕ) → (own it).may whole x → (own it).may whole y → x ≡ y) → turn ≡ turns.Own reader → Keeps (own reader) (feed_of own window)
-      → StopsBehind form g n last (feed_of own window) (feed_of own over) fault → Consumes (feed_of own over) (own left) (held_in over) → StopsInput own (shared_feed shared) form g n last fault (input_reader turn) (Own left) s s
+  pub own_stops : (n : ℕ) (last : List Change) (fault : Fault) (turn : InputReader J) (reader left : J) (window over : Window J) (s : SharedWindow I) → ((it : J) (whole x y : List ℕ) → (own it).may whole x → (own it).may whole y → x ≡ y) → turn ≡ Own reader → Keeps (own reader) (feed_of own window)
+      → StopsBehind form g n last (feed_of own window) (feed_of own over) fault → Consumes (feed_of own over) (own left) (held_in over) → StopsInput own (shared_feed shared) form g n last fault turn (Own left) s s
   own_stops n last fault turn reader left window over s one is kept stops gone =
-      subst (λ t. StopsInput own (shared_feed shared) form g n last fault (input_reader t) (Own left) s s) (sym is)
+      subst (λ t. StopsInput own (shared_feed shared) form g n last fault t (Own left) s s) (sym is)
       (stops_input own (shared_feed shared) form g n last (own reader) (own left) fault (Own reader) (Own left) s s (own_takes reader left s) (one reader)
       (behind_let_go form g n last (own reader) (feed_of own window) (feed_of own over) (own left) (held_in over) fault kept stops gone))
 
-  pub own_unread : (n : ℕ) (turn : Turn J) (reader left : J) (s : SharedWindow I) → ((it : J) (whole x y : List ℕ) → (own it).may whole x → (own it).may whole y → x ≡ y) → turn ≡ turns.Own reader → left ≡ reader → StopsInput own (shared_feed shared) form g n [] NoMemory (input_reader turn) (Own left) s s
+  pub own_unread : (n : ℕ) (turn : InputReader J) (reader left : J) (s : SharedWindow I) → ((it : J) (whole x y : List ℕ) → (own it).may whole x → (own it).may whole y → x ≡ y) → turn ≡ Own reader → left ≡ reader → StopsInput own (shared_feed shared) form g n [] NoMemory turn (Own left) s s
   own_unread n turn reader left s one is same =
-      subst (λ t. StopsInput own (shared_feed shared) form g n [] NoMemory (input_reader t) (Own left) s s) (sym is)
+      subst (λ t. StopsInput own (shared_feed shared) form g n [] NoMemory t (Own left) s s) (sym is)
       (subst (λ l. StopsInput own (shared_feed shared) form g n [] NoMemory (Own reader) (Own l) s s) (sym same)
       (stops_input own (shared_feed shared) form g n [] (own reader) (own reader) NoMemory (Own reader) (Own reader) s s (own_takes reader reader s) (one reader) (behind_none form g n (own reader))))
 
@@ -140,28 +139,28 @@ module _ {J I : Type 0} (own : J → Feed) (shared : I → Feed) (form : InputFo
   shared_one (Unread reader) one whole x y a b = one reader whole x y a b
   shared_one (InHand window) one whole x y a b = same_held (one (reader_of window) whole) a b
 
-  both_shared : (P : InputReader J → InputReader J → Type 0) (turn after : Turn J) → turn ≡ turns.Shared → after ≡ turns.Shared → P Shared Shared → P (input_reader turn) (input_reader after)
-  both_shared P turn after is stays h = subst (λ t. P (input_reader t) (input_reader after)) (sym is) (subst (λ t. P Shared (input_reader t)) (sym stays) h)
+  both_shared : (P : InputReader J → InputReader J → Type 0) (turn after : InputReader J) → turn ≡ Shared → after ≡ Shared → P Shared Shared → P turn after
+  both_shared P turn after is stays h = subst (λ t. P t after) (sym is) (subst (λ t. P Shared t) (sym stays) h)
 
-  pub shared_read : (last : List Change) (turn after : Turn J) (s : SharedWindow I) (window over : Window I) → turn ≡ turns.Shared → after ≡ turns.Shared → Keeps (shared_feed shared s) (feed_of shared window) → FromTo (feed_of shared window) (feed_of shared over) (IsInputOf form g last)
-      → TakesOne own (shared_feed shared) (IsInputOf form g last) (input_reader turn) (input_reader after) s (InHand over)
+  pub shared_read : (last : List Change) (turn after : InputReader J) (s : SharedWindow I) (window over : Window I) → turn ≡ Shared → after ≡ Shared → Keeps (shared_feed shared s) (feed_of shared window) → FromTo (feed_of shared window) (feed_of shared over) (IsInputOf form g last)
+      → TakesOne own (shared_feed shared) (IsInputOf form g last) turn after s (InHand over)
   shared_read last turn after s window over is stays kept f =
       let P = IsInputOf form g last in
       both_shared (λ x y. TakesOne own (shared_feed shared) P x y s (InHand over)) turn after is stays (from_behind (shared_feed shared s) (feed_of shared window) (feed_of shared over) [] P kept f)
 
-  pub shared_stops : (n : ℕ) (last : List Change) (fault : Fault) (turn after : Turn J) (s : SharedWindow I) (window over : Window I) → ((it : I) (whole x y : List ℕ) → (shared it).may whole x → (shared it).may whole y → x ≡ y) → turn ≡ turns.Shared → after ≡ turns.Shared → Keeps (shared_feed shared s) (feed_of shared window)
-      → StopsBehind form g n last (feed_of shared window) (feed_of shared over) fault → StopsInput own (shared_feed shared) form g n last fault (input_reader turn) (input_reader after) s (InHand over)
+  pub shared_stops : (n : ℕ) (last : List Change) (fault : Fault) (turn after : InputReader J) (s : SharedWindow I) (window over : Window I) → ((it : I) (whole x y : List ℕ) → (shared it).may whole x → (shared it).may whole y → x ≡ y) → turn ≡ Shared → after ≡ Shared → Keeps (shared_feed shared s) (feed_of shared window)
+      → StopsBehind form g n last (feed_of shared window) (feed_of shared over) fault → StopsInput own (shared_feed shared) form g n last fault turn after s (InHand over)
   shared_stops n last fault turn after s window over one is stays kept stops =
       both_shared (λ x y. StopsInput own (shared_feed shared) form g n last fault x y s (InHand over)) turn after is stays
       (stops_input own (shared_feed shared) form g n last (shared_feed shared s) (feed_of shared over) fault Shared Shared s (InHand over) (λ B f. f) (shared_one s one)
       (behind_let_go form g n last (shared_feed shared s) (feed_of shared window) (feed_of shared over) (feed_of shared over) [] fault kept stops (nothing_taken (feed_of shared over))))
 
-  pub shared_unread : (n : ℕ) (turn after : Turn J) (s : SharedWindow I) (refused : I) → ((it : I) (whole x y : List ℕ) → (shared it).may whole x → (shared it).may whole y → x ≡ y) → turn ≡ turns.Shared → after ≡ turns.Shared → Unread refused ≡ s
-      → StopsInput own (shared_feed shared) form g n [] NoMemory (input_reader turn) (input_reader after) s (Unread refused)
-  shared_unread n turn after s refused one is stays same =
-      subst (λ o. StopsInput own (shared_feed shared) form g n [] NoMemory (input_reader turn) (input_reader after) o (Unread refused)) same
-      (both_shared (λ x y. StopsInput own (shared_feed shared) form g n [] NoMemory x y (Unread refused) (Unread refused)) turn after is stays
-      (stops_input own (shared_feed shared) form g n [] (shared refused) (shared refused) NoMemory Shared Shared (Unread refused) (Unread refused) (λ B f. f) (one refused) (behind_none form g n (shared refused))))
+  pub shared_unread : (n : ℕ) (turn after : InputReader J) (s : SharedWindow I) (refused : I) → ((it : I) (whole x y : List ℕ) → (shared it).may whole x → (shared it).may whole y → x ≡ y) → turn ≡ Shared → after ≡ Shared → Keeps (shared_feed shared s) (shared refused)
+      → StopsInput own (shared_feed shared) form g n [] NoMemory turn after s (Unread refused)
+  shared_unread n turn after s refused one is stays kept =
+      both_shared (λ x y. StopsInput own (shared_feed shared) form g n [] NoMemory x y s (Unread refused)) turn after is stays
+      (stops_input own (shared_feed shared) form g n [] (shared_feed shared s) (shared refused) NoMemory Shared Shared s (Unread refused) (λ B f. f) (shared_one s one)
+      (behind_let_go form g n [] (shared_feed shared s) (shared_feed shared s) (shared_feed shared s) (shared refused) [] NoMemory (nothing_taken (shared_feed shared s)) (behind_none form g n (shared_feed shared s)) kept))
 
 -- nothing was put of it
 pub none_stops : {S L : Type 0} {s : Ghosts S} {l : Widths L} (o : MakeOptions) (n : ℕ) (now : Option (List ℕ)) (m : Maker S L s l) → PutsStop o n [] now now m m NoMemory

@@ -1,8 +1,11 @@
 -- What is known of the readers of the inputs of a run.
-use Rattle.std.specs.Prelude.{◌≡◌, ℕ, List, []}
-use Rattle.cdb_feed.specs.Inputs.{AreRead, Stop}
+use Rattle.std.specs.Prelude.{◌≡◌, ℕ, List, [], ◌∷◌, drop, map, Option, ⊤}
+use Rattle.cdb_feed.specs.Inputs.{AreRead, Stop, reached}
 use Rattle.cdb_feed.specs.Parsing.{Parsing}
+use Rattle.cdb_feed.specs.declared.input_reader.InputReader.{InputReader}
+use Rattle.cdb_feed.specs.declared.input_reader.InputReader.TheVariants as reader
 use Rattle.cdb_form.specs.Fed.Feed.{Feed}
+use Rattle.cdb_show.specs.Runs.Inputs.{InputsLeft, OneInput, Own, Shared}
 use Rattle.cdb_show.specs.Views.Window as window
 use Rattle.cdb_show.specs.declared.fed_inputs.FedInputs.{FedInputs}
 use Rattle.cdb_show.specs.declared.fed_inputs.SharedWindow.{SharedWindow}
@@ -32,3 +35,26 @@ pub record AreReadTo {J I Item Fault : Type 0} (own : J → Feed) (shared : I �
   pub are : AreRead own (shared_feed shared) p read stop inputs.readers.items left.readers.items
       (Unread inputs.shared) window
   pub handed : left.shared ≡ reader_of window
+
+-- the readers that a run did not reach are as they were
+abbrev pub ArePassed : {R Item Fault : Type 0} → (read : List (List Item)) → Stop Item Fault
+    → (before after : List (InputReader R)) → Type 0
+ArePassed read stop before after = drop (reached read stop) after ≡ drop (reached read stop) before
+
+-- each reader is in its place, and the inputs that share one still do
+abbrev pub AreInPlace : {R : Type 0} → (before after : List (InputReader R)) → Type 0
+AreInPlace [] [] = ⊤
+AreInPlace (reader.Own before ∷ befores) (reader.Own after ∷ afters) = AreInPlace befores afters
+AreInPlace (reader.Shared ∷ befores) (reader.Shared ∷ afters) = AreInPlace befores afters
+AreInPlace before after = ⊥
+
+-- an input, by what the readers have left
+abbrev pub one_of : {J : Type 0} → (J → Option (List ℕ)) → InputReader J → OneInput
+one_of remaining (reader.Own own) = Own (remaining own)
+one_of remaining reader.Shared = Shared
+
+-- the inputs of a run, before the first is read
+abbrev pub inputs_left : {J I : Type 0} → (own : J → Option (List ℕ))
+    → (shared : I → Option (List ℕ)) → FedInputs J I → InputsLeft
+inputs_left own shared inputs =
+    record { each = map (one_of own) inputs.readers.items; shared = shared inputs.shared }

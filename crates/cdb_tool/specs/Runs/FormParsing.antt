@@ -11,7 +11,7 @@ use Rattle.cdb_show.specs.Runs.Given.{input_parsed}
 use Rattle.cdb_show.specs.Runs.Inputs.{BeginsWithItems, HasFaults, HasItemFault, InputForm, IsInputOf}
 use Rattle.cdb_show.specs.declared.fault.Fault.{Fault}
 use Rattle.cdb_show.specs.declared.fault.Fault.TheVariants.{Text}
-use Rattle.cdb_show.proofs.GivenInputs.{text_begins, text_fails, text_input}
+use Rattle.cdb_show.specs.Runs.InputLaws.{text_begins, text_fails, text_input}
 
 -- an input has this fault of its text behind these items
 pub record FailsSo (form : InputForm) (greatest : ℕ) (items : List Change) (fault : TextFault) (input : List ℕ)

@@ -8,35 +8,19 @@ use Rattle.cdb_form.specs.declared.text.fault.TextFault.{TextFault}
 use Rattle.cdb_form.specs.declared.text.fault.TextFault.TheVariants as text_fault
 use Rattle.cdb_feed.specs.Inputs.{AreRead, Stop, StopsSo, NoMore, HasFault, CutShort, NotBegun}
 use Rattle.cdb_feed.specs.declared.input_reader.InputReader.{InputReader}
-use Rattle.cdb_feed.specs.declared.input_reader.InputReader.TheVariants as reader
 use Rattle.cdb_make.specs.Views.Maker.{WhereHonest}
 use Rattle.cdb_command.specs.declared.options.MakeOptions.{MakeOptions}
 use Rattle.cdb_show.specs.Runs.Inputs.{InputForm, InputsLeft, AreInputs, FirstHas, HasFaults, input_form}
-use Rattle.cdb_show.specs.Views.Window.{feed_of}
+use Rattle.cdb_show.specs.Views.FedInputs.{ArePassed, shared_feed}
 use Rattle.cdb_show.specs.declared.fault.Fault.{Fault}
 use Rattle.cdb_show.specs.declared.fault.Fault.TheVariants.{Text}
-use Rattle.cdb_show.specs.declared.inputs.Inputs.{Inputs}
-use Rattle.cdb_show.specs.declared.inputs.Turn.{Turn}
-use Rattle.cdb_show.specs.declared.inputs.Turn.TheVariants as turn
+use Rattle.cdb_show.specs.declared.fed_inputs.FedInputs.{FedInputs}
+use Rattle.cdb_show.specs.declared.fed_inputs.SharedWindow.{SharedWindow}
+use Rattle.cdb_show.specs.declared.fed_inputs.SharedWindow.TheVariants.{Unread}
 use Rattle.cdb_tool.specs.Runs.FormParsing.{BeginsSo, FailsSo, parsing}
 use Rattle.cdb_tool.specs.Runs.Make.{MakeRuns, OfBase}
-use Rattle.cdb_tool.specs.declared.runs.shared_window.SharedWindow.{SharedWindow}
-use Rattle.cdb_tool.specs.declared.runs.shared_window.SharedWindow.TheVariants.{InHand, Unread}
 
 -- ---- the readers
-
--- what is known of the reader that inputs share
-abbrev pub shared_feed : {I : Type 0} → (I → Feed) → SharedWindow I → Feed
-shared_feed feed (Unread reader) = feed reader
-shared_feed feed (InHand window) = feed_of feed window
-
--- the reader of an input
-abbrev pub input_reader : {J : Type 0} → Turn J → InputReader J
-input_reader (turn.Own own) = reader.Own own
-input_reader turn.Shared = reader.Shared
-
-abbrev pub input_readers : {J : Type 0} → List (Turn J) → List (InputReader J)
-input_readers turns = map input_reader turns
 
 -- why no more was read in a run with this fault, behind these items of an input: it has a fault, or the run
 -- stopped there
@@ -60,14 +44,15 @@ pub record StopsInput {R S : Type 0} (own : R → Feed) (shared : S → Feed) (f
       (after ∷ []) old new
   pub of_text : (n : ℕ) (f : TextFault) → fault ≡ Text n f → IsFaultAt form number n f
 
--- The inputs of a run with this answer were read in turn, the first ones whole, with these items. What the
--- window over the shared reader held was lost when the reader was handed back.
+-- The inputs of a run with this answer were read in turn, the first ones whole, with these items, and the readers
+-- of those that were not reached are as they were. What the window over the shared reader held was lost when the reader was handed back.
 pub record WereRead {J I : Type 0} (own : J → Feed) (shared : I → Feed) (form : InputForm) (greatest : ℕ)
     (answer : Result Unit Fault) (read : List (List Change)) (stop : Stop Change TextFault)
-    (before after : Inputs J I) : Type 0 where
+    (before after : FedInputs J I) : Type 0 where
   pub window : SharedWindow I
   pub are : AreRead own (shared_feed shared) (parsing form greatest answer) read stop
-      (input_readers before.turns.items) (input_readers after.turns.items) (Unread before.shared) window
+      before.readers.items after.readers.items (Unread before.shared) window
+  pub passed : ArePassed read stop before.readers.items after.readers.items
   pub lost : List ℕ
   pub let_go : Consumes (shared_feed shared window) (shared after.shared) lost
 
@@ -93,7 +78,7 @@ pub record HasRead (form : InputForm) (greatest : ℕ) (answer : Result Unit Fau
 -- What a run leaves that read its inputs, by its base as it was and as it was handed back: what `MakeRuns` says of
 -- any inputs that agree with what was read.
 pub record RunsRead {B J I : Type 0} (w greatest : ℕ) (o : MakeOptions) (own : J → Feed) (shared : I → Feed)
-    (s : Ghosts B) (was base : Option B) (before after : Inputs J I) (images : List ℕ → Type 0)
+    (s : Ghosts B) (was base : Option B) (before after : FedInputs J I) (images : List ℕ → Type 0)
     (old new : Option (List ℕ)) (result : Result Unit Fault) : Type 0 where
   pub read : List (List Change)
   pub stop : Stop Change TextFault

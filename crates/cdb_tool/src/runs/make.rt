@@ -10,25 +10,26 @@ ghost use Rattle.cdb_make.specs.Views.Maker.{Follows, WhereHonest, store_of};
 ghost use Rattle.cdb_show.specs.Runs.Incoming.{from_inputs};
 ghost use Rattle.cdb_show.specs.Runs.Inputs.{AreAllInputs, IsInputOf, input_form, own_inputs};
 ghost use Rattle.cdb_show.specs.Runs.Lookups.{StopsBehind};
-ghost use Rattle.cdb_show.specs.Views.Inputs.{inputs_left};
+ghost use Rattle.cdb_show.specs.Views.FedInputs.{ArePassed, inputs_left, shared_feed};
 ghost use Rattle.cdb_show.specs.Views.Output.{OutputSays};
 ghost use Rattle.cdb_show.specs.Views.Window.{feed_of};
 ghost use Rattle.cdb_show.specs.declared.fault.Fault.TheVariants.{NoMemory, Text};
 ghost use Rattle.cdb_tool.specs.Runs.Course.{Task};
 ghost use Rattle.cdb_tool.specs.Runs.FormParsing.{parsing};
-ghost use Rattle.cdb_tool.specs.Runs.InputsRead.{IsFaultAt, RunsRead, StopsInput, WereRead};
-ghost use Rattle.cdb_tool.specs.Runs.InputsRead.{input_reader, input_readers, shared_feed, stop_by};
+ghost use Rattle.cdb_tool.specs.Runs.InputsRead.{IsFaultAt, RunsRead, StopsInput, WereRead, stop_by};
 ghost use Rattle.cdb_tool.specs.Runs.Make.{InCourse, StepsOn, MakeRuns, InputsFail, IsOfStore, IsOfBase};
 ghost use Rattle.cdb_tool.specs.Runs.Make.{OfBase, HandsBack, BaseHasFailed, Stands, IsHalt};
 ghost use Rattle.cdb_tool.specs.Runs.Make.{PutsInputs, PutsInputsStop, PutsItems, PutsStop};
 
 use crate::runs::make_base::add_base;
 use crate::runs::make_input::put_input;
-use crate::runs::shared_window::SharedWindow;
 use cdb_command::MakeOptions;
+use cdb_feed::InputReader;
 use cdb_form::{Feeds, Sink, Width};
 use cdb_make::Maker;
-use cdb_show::{Fault, FedItems, InLined, InWindow, Inputs, Lined, Lines, Turn, Window, flushed};
+use cdb_show::{
+    Fault, FedInputs, FedItems, InLined, InWindow, Lined, Lines, SharedWindow, Window, flushed,
+};
 use cdb_store::Store;
 use std::alloc::Global;
 use std::io::Read;
@@ -81,7 +82,7 @@ fn put_turn<L: Width, S: Store, J: Feeds + Drop, I: Feeds + Drop, E: Sink>(
     options: &MakeOptions<'_>,
     amends: bool,
     number: u64,
-    turn: &mut Turn<J>,
+    turn: &mut InputReader<J>,
     shared: SharedWindow<I>,
     lines: &Lines,
     errors: &mut E,
@@ -89,33 +90,33 @@ fn put_turn<L: Width, S: Store, J: Feeds + Drop, I: Feeds + Drop, E: Sink>(
     ensures ok { OnOk result.1 ((last : List Change)
         × TakesOne J.feed (shared_feed I.feed)
         (IsInputOf (input_form options.now.style amends) L.GREATEST last)
-        (input_reader turn.old) (input_reader turn.new) shared result.0
+        turn.old turn.new shared result.0
         × PutsItems options.now number last (E.contents errors.old) (E.contents errors.new)
         maker.old maker.new) }
     ensures fails { IfErr result.1 (λ fault. (last : List Change)
         × StopsInput J.feed (shared_feed I.feed) (input_form options.now.style amends) L.GREATEST
-        number last fault (input_reader turn.old) (input_reader turn.new) shared result.0
+        number last fault turn.old turn.new shared result.0
         × PutsStop options.now number last (E.contents errors.old) (E.contents errors.new)
         maker.old maker.new fault) }
     ensures step { StepsOn maker.old maker.new ⊥ (E.failed errors.new) result.1 }
 {
-    match replace(turn, Turn::Shared) {
-        Turn::Own(reader) => {
+    match replace(turn, InputReader::Shared) {
+        InputReader::Own(reader) => {
             lines.begin(false);
             let window = match Window::growing(alloc, reader) {
                 Ok(window) => window,
                 Err(refused) => {
-                    *turn = Turn::Own(refused.reader);
+                    *turn = InputReader::Own(refused.reader);
                     return (shared, Err(Fault::NoMemory));
                 }
             };
             let (window, put) = put_text(
                 alloc, maker, options, amends, number, window, lines, errors,
             );
-            *turn = Turn::Own(window.into_reader());
+            *turn = InputReader::Own(window.into_reader());
             (shared, put)
         }
-        Turn::Shared => {
+        InputReader::Shared => {
             lines.begin(true);
             let window = match shared.in_hand(alloc) {
                 Ok(window) => window,
@@ -137,7 +138,7 @@ fn put_turns<L: Width, S: Store, J: Feeds + Drop, I: Feeds + Drop, E: Sink>(
     maker: &mut Maker<S, L>,
     options: &MakeOptions<'_>,
     amends: bool,
-    turns: &mut [Turn<J>],
+    readers: &mut [InputReader<J>],
     shared: SharedWindow<I>,
     lines: &Lines,
     errors: &mut E,
@@ -145,13 +146,14 @@ fn put_turns<L: Width, S: Store, J: Feeds + Drop, I: Feeds + Drop, E: Sink>(
     ensures ok { OnOk result.1 ((read : List (List Change))
         × AreRead J.feed (shared_feed I.feed)
         (parsing (input_form options.now.style amends) L.GREATEST (Ok tt)) read NoMore
-        (input_readers turns.old) (input_readers turns.new) shared result.0
+        readers.old readers.new shared result.0
         × PutsInputs options.now read (E.contents errors.old) (E.contents errors.new)
         maker.old maker.new) }
     ensures fails { IfErr result.1 (λ fault. (read : List (List Change)) × (last : List Change)
         × AreRead J.feed (shared_feed I.feed)
         (parsing (input_form options.now.style amends) L.GREATEST (Err fault)) read
-        (stop_by fault last) (input_readers turns.old) (input_readers turns.new) shared result.0
+        (stop_by fault last) readers.old readers.new shared result.0
+        × ArePassed read (stop_by fault last) readers.old readers.new
         × ((n : ℕ) (f : TextFault) → fault ≡ Text n f
         → IsFaultAt (input_form options.now.style amends) (length read + 1) n f)
         × PutsInputsStop options.now read last (E.contents errors.old) (E.contents errors.new)
@@ -160,7 +162,7 @@ fn put_turns<L: Width, S: Store, J: Feeds + Drop, I: Feeds + Drop, E: Sink>(
 {
     let mut shared = shared;
     let mut i = 0;
-    while i < turns.len() {
+    while i < readers.len() {
         let number = i as u64 + 1;
         let (left, put) = put_turn::<L, S, J, I, E>(
             alloc,
@@ -168,7 +170,7 @@ fn put_turns<L: Width, S: Store, J: Feeds + Drop, I: Feeds + Drop, E: Sink>(
             options,
             amends,
             number,
-            &mut turns[i],
+            &mut readers[i],
             shared,
             lines,
             errors,
@@ -194,7 +196,7 @@ pub fn put_inputs<L: Width, S: Store, J: Read + Drop, I: Read + Drop, E: Sink>(
     maker: &mut Maker<S, L>,
     options: &MakeOptions<'_>,
     amends: bool,
-    inputs: Inputs<J, I>,
+    inputs: FedInputs<J, I>,
     lines: &Lines,
     errors: &mut E,
 ) -> Result<(), Fault>
@@ -231,10 +233,10 @@ pub fn put_inputs_fed<L: Width, S: Store, J: Feeds + Drop, I: Feeds + Drop, E: S
     maker: &mut Maker<S, L>,
     options: &MakeOptions<'_>,
     amends: bool,
-    inputs: Inputs<J, I>,
+    inputs: FedInputs<J, I>,
     lines: &Lines,
     errors: &mut E,
-) -> (Inputs<J, I>, Result<(), Fault>)
+) -> (FedInputs<J, I>, Result<(), Fault>)
     ensures ok { OnOk result.1 ((read : List (List Change))
         × WereRead J.feed I.feed (input_form options.now.style amends) L.GREATEST (Ok tt) read
         NoMore inputs result.0
@@ -249,19 +251,22 @@ pub fn put_inputs_fed<L: Width, S: Store, J: Feeds + Drop, I: Feeds + Drop, E: S
         maker.old maker.new fault) }
     ensures step { StepsOn maker.old maker.new ⊥ (E.failed errors.new) result.1 }
 {
-    let Inputs { mut turns, shared } = inputs;
+    let FedInputs {
+        mut readers,
+        shared,
+    } = inputs;
     let (shared, put) = put_turns::<L, S, J, I, E>(
         alloc,
         maker,
         options,
         amends,
-        &mut turns,
+        &mut readers,
         SharedWindow::Unread(shared),
         lines,
         errors,
     );
-    let inputs = Inputs {
-        turns,
+    let inputs = FedInputs {
+        readers,
         shared: shared.into_reader(),
     };
     (inputs, put)
@@ -272,7 +277,7 @@ pub fn put_inputs_fed<L: Width, S: Store, J: Feeds + Drop, I: Feeds + Drop, E: S
 struct Made<S, B, J, I> {
     store: S,
     base: Option<B>,
-    inputs: Inputs<J, I>,
+    inputs: FedInputs<J, I>,
     answer: Result<(), Fault>,
 }
 
@@ -281,7 +286,7 @@ fn make_unflushed<L: Width, S: Store, B: Store, J: Feeds + Drop, I: Feeds + Drop
     alloc: Global,
     store: S,
     base: Option<B>,
-    inputs: Inputs<J, I>,
+    inputs: FedInputs<J, I>,
     options: &MakeOptions<'_>,
     lines: &Lines,
     errors: &mut E,
@@ -399,7 +404,7 @@ pub fn make_run<L: Width, S: Store, B: Store, R: Read + Drop, E: Sink>(
     ensures output { OutputSays (E.failed errors.new) result.2 }
 {
     let none: &[u8] = &[];
-    match Inputs::each_own(alloc, inputs, none) {
+    match FedInputs::each_own(alloc, inputs, none) {
         Ok(inputs) => make_run_from::<L, S, B, R, _, E>(
             alloc,
             store,
@@ -423,7 +428,7 @@ pub fn make_run_from<L: Width, S: Store, B: Store, J: Read + Drop, I: Read + Dro
     alloc: Global,
     store: S,
     base: Option<B>,
-    inputs: Inputs<J, I>,
+    inputs: FedInputs<J, I>,
     options: MakeOptions<'_>,
     lines: &Lines,
     errors: &mut E,
@@ -456,11 +461,11 @@ pub fn make_run_fed<L: Width, S: Store, B: Store, J: Feeds + Drop, I: Feeds + Dr
     alloc: Global,
     store: S,
     base: Option<B>,
-    inputs: Inputs<J, I>,
+    inputs: FedInputs<J, I>,
     options: MakeOptions<'_>,
     lines: &Lines,
     errors: &mut E,
-) -> (S, Option<B>, Inputs<J, I>, Result<(), Fault>)
+) -> (S, Option<B>, FedInputs<J, I>, Result<(), Fault>)
     requires head { head_size L.WORD ≤ options.limit }
     requires words { options.limit ≤ L.GREATEST }
     ensures runs { RunsRead L.WORD L.GREATEST options.entry J.feed I.feed B.Store base result.1
