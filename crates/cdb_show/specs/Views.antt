@@ -7,5 +7,4 @@ pub mod Inputs
 pub mod Noted
 pub mod Output
 pub mod ItemReader
-pub mod FedItems
 pub mod KeyReader

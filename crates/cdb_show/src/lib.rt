@@ -31,7 +31,6 @@ pub use output::Output;
 pub use runs::check::check_run;
 pub use runs::content::Content;
 pub use runs::difference::difference_run;
-pub use runs::fed_items::FedItems;
 pub use runs::flushed::flushed;
 pub use runs::item_reader::ItemReader;
 pub use runs::load::{load, load_fed, load_from};
