@@ -28,7 +28,7 @@ use cdb_feed::InputReader;
 use cdb_form::{Feeds, Sink, Width};
 use cdb_make::Maker;
 use cdb_show::{
-    Fault, FedInputs, FedItems, InLined, InWindow, Lined, Lines, SharedWindow, Window, flushed,
+    Fault, FedInputs, InLined, InWindow, ItemReader, Lined, Lines, SharedWindow, Window, flushed,
 };
 use cdb_store::Store;
 use std::alloc::Global;
@@ -61,13 +61,13 @@ fn put_text<L: Width, S: Store, F: Feeds + Drop, E: Sink>(
 {
     if options.names.is_some() {
         let lined = Lined::new(window, lines);
-        let mut items = FedItems::new(alloc, options.style, amends, lined);
+        let mut items = ItemReader::new(alloc, options.style, amends, lined);
         let put = put_input::<L, S, _, E, InLined>(
             alloc, maker, options, number, &mut items, lines, errors,
         );
         return (items.into_reader().into_window(), put);
     }
-    let mut items = FedItems::new(alloc, options.style, amends, window);
+    let mut items = ItemReader::new(alloc, options.style, amends, window);
     let put = put_input::<L, S, _, E, InWindow>(
         alloc, maker, options, number, &mut items, lines, errors,
     );
