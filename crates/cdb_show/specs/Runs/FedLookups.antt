@@ -92,8 +92,7 @@ FedLookupsFail w s number style inputs left read stop old new start end (Read re
     IsUnopened s inputs left read stop old new start end ((s.size old < head_size w) × (new ≡ old))
 FedLookupsFail w s number style inputs left read stop old new start end (Read read_fault.Device) =
     StopsInNext w s number style read stop old new start end (Read read_fault.Device)
-    ⊎ IsUnopened s inputs left read stop old new start end
-    ((head_size w ≤ s.size new) × (s.failures old < s.failures new))
+    ⊎ IsUnopened s inputs left read stop old new start end (s.failures old < s.failures new)
 FedLookupsFail w s number style inputs left read stop old new start end Output =
     StopsInNext w s number style read stop old new start end Output
     ⊎ ((missing : Bool) × (stop ≡ NoMore)
