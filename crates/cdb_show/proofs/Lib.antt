@@ -13,6 +13,7 @@ pub mod NextInputs
 pub mod LookupRuns
 pub mod FedTurns
 pub mod FedLookupRuns
+pub mod FedLookedUp
 pub mod WalksSoFar
 pub mod WholeTexts
 pub mod FedTexts

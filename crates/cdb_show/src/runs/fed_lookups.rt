@@ -1,12 +1,13 @@
 // The records of the keys that some inputs give, whose readers come back.
 ghost use Rattle.std.specs.Prelude.{◌≡◌, ◌+◌, ◌≤◌, ◌++◌, ℕ, List, Option, None, Err, IfSome};
 ghost use Rattle.std.specs.Prelude.{IfErr, OnOk};
-ghost use Rattle.std.specs.Prelude.{length, []};
+ghost use Rattle.std.specs.Prelude.{drop, length, []};
 ghost use Rattle.cdb_store.specs.Reads.{OnlyReads};
 ghost use Rattle.cdb_feed.specs.Inputs.{AreRead, NoMore, TakesOne};
 ghost use Rattle.cdb_form.specs.Fed.Feed.{FromTo};
 ghost use Rattle.cdb_form.specs.Text.Amending.{Change};
 ghost use Rattle.cdb_show.specs.Runs.FedLookups.{LooksFurther, StopsFurther, StopsTurn};
+ghost use Rattle.cdb_show.specs.Runs.FedLookups.{FedLookupsLeave, FedLooksUp};
 ghost use Rattle.cdb_show.specs.Runs.Inputs.{IsInputOf, keys_form, keys_of, keys_of_each};
 ghost use Rattle.cdb_show.specs.Runs.Lookups.{HasLooked, LookupsStopAt, StopsBehind};
 ghost use Rattle.cdb_show.specs.Runs.Parsing.{IsFaultOf, fault_in, stop_of, stopped_parsing};
@@ -179,6 +180,7 @@ fn look_up_readers<L: Width, S: Store, J: Feeds + Drop, I: Feeds, W: Sink>(
     ensures ok { OnOk result.1 ((read : List (List Change))
         × AreRead J.feed (shared_feed I.feed) (stopped_parsing (keys_form style) L.GREATEST None)
         read NoMore readers.old readers.new shared result.0
+        × (drop (length read) readers.new ≡ drop (length read) readers.old)
         × ((start : Option (List ℕ))
         → HasLooked L.WORD S.Store number style [] reader.old.store start
         (W.contents w.old) missing.old
@@ -188,6 +190,7 @@ fn look_up_readers<L: Width, S: Store, J: Feeds + Drop, I: Feeds, W: Sink>(
         × AreRead J.feed (shared_feed I.feed)
         (stopped_parsing (keys_form style) L.GREATEST (fault_in (Err fault)))
         read (stop_of (fault_in (Err fault)) last) readers.old readers.new shared result.0
+        × (drop (length read + 1) readers.new ≡ drop (length read + 1) readers.old)
         × IsFaultOf (keys_form style) (length read + 1) fault
         × ((start : Option (List ℕ))
         → HasLooked L.WORD S.Store number style [] reader.old.store start
@@ -219,4 +222,131 @@ fn look_up_readers<L: Width, S: Store, J: Feeds + Drop, I: Feeds, W: Sink>(
         i += 1;
     }
     (shared, Ok(()))
+}
+
+/// Writes the records of the keys of some inputs, and what ends their text.
+fn look_up_all<L: Width, S: Store, J: Feeds + Drop, I: Feeds, W: Sink>(
+    alloc: Global,
+    reader: &mut Reader<S, L>,
+    number: Option<u64>,
+    style: Style,
+    inputs: FedInputs<J, I>,
+    lines: &Lines,
+    w: &mut W,
+) -> (FedInputs<J, I>, Result<(), Fault>)
+    requires { IfSome number (λ j. 1 ≤ j) }
+    ensures leaves { FedLookupsLeave L.WORD L.GREATEST S.Store number style J.feed I.feed
+        inputs result.0 reader.old.store reader.new.store
+        (W.contents w.old) (W.contents w.new) result.1 }
+    ensures output { OutputSays (W.failed w.new) result.1 }
+{
+    let FedInputs {
+        mut readers,
+        shared,
+    } = inputs;
+    let mut missing = false;
+    let (window, looked) = look_up_readers::<L, S, J, I, W>(
+        alloc,
+        reader,
+        number,
+        style,
+        &mut readers,
+        SharedWindow::Unread(shared),
+        &mut missing,
+        lines,
+        w,
+    );
+    let left = FedInputs {
+        readers,
+        shared: window.into_reader(),
+    };
+    match looked {
+        Ok(()) => {}
+        Err(fault) => return (left, Err(fault)),
+    }
+    match write_last(w, style) {
+        Ok(()) => {}
+        Err(_) => return (left, Err(Fault::Output)),
+    }
+    if missing {
+        (left, Err(Fault::Missing))
+    } else {
+        (left, Ok(()))
+    }
+}
+
+/// Writes the records, which the writer may keep in a buffer.
+fn lookups_unflushed<L: Width, S: Store, J: Feeds + Drop, I: Feeds, W: Sink>(
+    alloc: Global,
+    store: S,
+    inputs: FedInputs<J, I>,
+    number: Option<u64>,
+    style: Style,
+    lines: &Lines,
+    w: &mut W,
+) -> (S, FedInputs<J, I>, Result<(), Fault>)
+    requires { IfSome number (λ j. 1 ≤ j) }
+    ensures leaves { FedLookupsLeave L.WORD L.GREATEST S.Store number style J.feed I.feed
+        inputs result.1 store result.0 (W.contents w.old) (W.contents w.new) result.2 }
+    ensures output { OutputSays (W.failed w.new) result.2 }
+{
+    let mut reader = match Reader::<S, L>::open(store) {
+        Ok(reader) => reader,
+        Err(unread) => return (unread.store, inputs, Err(Fault::from(unread.fault))),
+    };
+    let (left, answer) = look_up_all::<L, S, J, I, W>(
+        alloc,
+        &mut reader,
+        number,
+        style,
+        inputs,
+        lines,
+        w,
+    );
+    (reader.into_store(), left, answer)
+}
+
+/// Writes the records that the database in a store has of the keys that some inputs give, key after
+/// key, as a dump writes records; with a number, counted from 1, the one of each key with it alone.
+///
+/// Each input is a list text, or in the style of a map a map text, of whose records the keys are
+/// taken. Of a key without a value nothing is written. Values go from the store to the writer in
+/// pieces, and one key is held at a time. The faults:
+/// - `Missing`: some key has no value, or fewer than the number; the records of the others, and what
+///   ends the text, were written;
+/// - `Read(Short)`: the store is shorter than a head; it was not read, nor was an input, and nothing
+///   was written;
+/// - `Read(Table(n))`, `Read(Record(place))`: the look-up of a key met this damage; what was found
+///   before it was written;
+/// - `Text(input, fault)`: an input, counted from 1, has this fault, its place in bytes from the
+///   input's first one, or its reader failed or has no end; the records of the keys before it were
+///   written;
+/// - `NoMemory`: an allocation failed; the records of some first keys were written;
+/// - `Read(Device)`: the store failed; a prefix of the text was written;
+/// - `Output`: the writer failed, and holds a prefix of the text.
+///
+/// Only after `Missing`, and at Ok, is what ends the text written. The store is handed back whatever
+/// the answer, and was only read. So are the readers of the inputs, each in its place: what was taken
+/// of one behind its text, or behind the last key, is lost. The writer is flushed last, after a fault
+/// too. If that fails, `Output` takes the place of Ok and of `Missing`. `lines` may count the lines of
+/// the inputs, and then knows afterwards that of a fault.
+pub fn lookups_run_fed<L: Width, S: Store, J: Feeds + Drop, I: Feeds, W: Sink>(
+    alloc: Global,
+    store: S,
+    inputs: FedInputs<J, I>,
+    number: Option<u64>,
+    style: Style,
+    lines: &Lines,
+    w: &mut W,
+) -> (S, FedInputs<J, I>, Result<(), Fault>)
+    requires { IfSome number (λ j. 1 ≤ j) }
+    ensures looks { FedLooksUp L.WORD L.GREATEST S.Store number style J.feed I.feed
+        inputs result.1 store result.0 (W.contents w.old) (W.contents w.new) result.2 }
+    ensures output { OutputSays (W.failed w.new) result.2 }
+{
+    let (store, left, looked) = lookups_unflushed::<L, S, J, I, W>(
+        alloc, store, inputs, number, style, lines, w,
+    );
+    let answer = flushed_whole(w, looked);
+    (store, left, answer)
 }
