@@ -16,11 +16,11 @@ use Rattle.cdb_show.specs.Runs.Incoming.{Incoming, came, from_inputs}
 use Rattle.cdb_show.specs.Runs.Inputs.{BeginsWithItems, InputForm, input_form}
 use Rattle.cdb_show.specs.Runs.Lookups.{FaultBehind, StopsBehind}
 use Rattle.cdb_show.specs.Views.Fault.{text_fault}
-use Rattle.cdb_show.specs.Views.FedItems.{Fails, GivesItem, form_of, reader_of}
+use Rattle.cdb_show.specs.Views.ItemReader.{Fails, GivesItem, form_of, reader_of}
 use Rattle.cdb_show.specs.declared.fault.Fault.{Fault}
 use Rattle.cdb_show.specs.declared.fault.Fault.TheVariants.{Text, Make, Duplicate, Output, NoMemory}
-use Rattle.cdb_show.specs.declared.runs.fed_items.FedItems.{FedItems}
-use Rattle.cdb_show.specs.declared.runs.fed_items.FedItems.TheVariants.{Form, Map}
+use Rattle.cdb_show.specs.declared.runs.item_reader.ItemReader.{ItemReader}
+use Rattle.cdb_show.specs.declared.runs.item_reader.ItemReader.TheVariants.{Form, Map}
 use Rattle.cdb_show.proofs.ItemInputs.{GaveItems, items_begin, items_fault, items_form, items_more, items_own, items_still}
 use Rattle.cdb_show.proofs.SpelledInputs.{from_lost}
 use Rattle.cdb_tool.specs.Runs.Course.{EndsSo, Task, course_of}
@@ -61,7 +61,7 @@ last_by NoMemory last c = last
 last_by f last c = last ++ c ∷ []
 
 module _ {F L : Type 0} (g : ℕ) (feed : F → Feed) where
-  pub text_stops : (n : ℕ) (start : Feed) (t u : FedItems F L) (form : InputForm) (last : List Change) (f : TextFault) → ((it : F) (whole a b : List ℕ) → (feed it).may whole a → (feed it).may whole b → a ≡ b)
+  pub text_stops : (n : ℕ) (start : Feed) (t u : ItemReader F L) (form : InputForm) (last : List Change) (f : TextFault) → ((it : F) (whole a b : List ℕ) → (feed it).may whole a → (feed it).may whole b → a ≡ b)
       → form_of t ≡ form → GaveItems g feed start t last → Fails g feed t u f → StopsBehind form g n last start (feed (reader_of u)) (text_fault n f)
   text_stops n start t u form last f one same gave fails = subst (λ v. StopsBehind v g n last start (feed (reader_of u)) (text_fault n f)) same (record {
     begins = items_still g feed start t u last f gave fails;
@@ -77,29 +77,29 @@ module _ {F L : Type 0} (g : ℕ) (feed : F → Feed) where
   })
 
   -- the bytes of an item
-  item_taken : (t u : FedItems F L) (c : Change) → GivesItem g feed t u c → (bytes : List ℕ) × Consumes (feed (reader_of t)) (feed (reader_of u)) bytes
+  item_taken : (t u : ItemReader F L) (c : Change) → GivesItem g feed t u c → (bytes : List ℕ) × Consumes (feed (reader_of t)) (feed (reader_of u)) bytes
   item_taken (Form t true) (Form u true) c m = (m.reads.text, m.reads.read)
   item_taken (Form t false) (Form u false) (Putting r) m = (m.reads.text, m.reads.read)
   item_taken (Map t) (Map u) (Putting r) m = ((with_newlines m.reads.ignored ++ m.reads.line) ++ m.ending, m.reads.reads.takes.read)
   item_taken t u c m = absurd m
 
   -- it begins with the items before one that was taken, and with these and that one
-  items_before : (start : Feed) (t u : FedItems F L) (last : List Change) (c : Change) → GaveItems g feed start t last → GivesItem g feed t u c → FromTo start (feed (reader_of u)) (λ text rest. BeginsWithItems (form_of t) g last text)
+  items_before : (start : Feed) (t u : ItemReader F L) (last : List Change) (c : Change) → GaveItems g feed start t last → GivesItem g feed t u c → FromTo start (feed (reader_of u)) (λ text rest. BeginsWithItems (form_of t) g last text)
   items_before start t u last c h m =
       let taken = item_taken t u c m in
       from_lost start (feed (reader_of t)) (feed (reader_of u)) (λ text rest. BeginsWithItems (form_of t) g last text) (λ text. BeginsWithItems (form_of t) g last text) taken.0 (items_begin g feed start t last h) taken.1 (λ text rest so. so)
 
-  items_with : (start : Feed) (t u : FedItems F L) (last : List Change) (c : Change) → GaveItems g feed start t last → GivesItem g feed t u c → FromTo start (feed (reader_of u)) (λ text rest. BeginsWithItems (form_of t) g (last ++ c ∷ []) text)
+  items_with : (start : Feed) (t u : ItemReader F L) (last : List Change) (c : Change) → GaveItems g feed start t last → GivesItem g feed t u c → FromTo start (feed (reader_of u)) (λ text rest. BeginsWithItems (form_of t) g (last ++ c ∷ []) text)
   items_with start t u last c h m =
       subst (λ v. FromTo start (feed (reader_of u)) (λ text rest. BeginsWithItems v g (last ++ c ∷ []) text)) (items_form g feed t u c m) (items_begin g feed start u (last ++ c ∷ []) (items_more g feed start t u last c h m))
 
-  items_by : (start : Feed) (t u : FedItems F L) (last : List Change) (c : Change) (f : Fault) → GaveItems g feed start t last → GivesItem g feed t u c → FromTo start (feed (reader_of u)) (λ text rest. BeginsWithItems (form_of t) g (last_by f last c) text)
+  items_by : (start : Feed) (t u : ItemReader F L) (last : List Change) (c : Change) (f : Fault) → GaveItems g feed start t last → GivesItem g feed t u c → FromTo start (feed (reader_of u)) (λ text rest. BeginsWithItems (form_of t) g (last_by f last c) text)
   items_by start t u last c (Make make.Lookup) h m = items_before start t u last c h m
   items_by start t u last c (Make make.Writing) h m = items_before start t u last c h m
   items_by start t u last c NoMemory h m = items_before start t u last c h m
   items_by start t u last c f h m = items_with start t u last c h m
 
-  pub item_stops : (n : ℕ) (start : Feed) (t u : FedItems F L) (form : InputForm) (last : List Change) (c : Change) (f : Fault) → form_of t ≡ form → GaveItems g feed start t last → GivesItem g feed t u c → IsNoText f
+  pub item_stops : (n : ℕ) (start : Feed) (t u : ItemReader F L) (form : InputForm) (last : List Change) (c : Change) (f : Fault) → form_of t ≡ form → GaveItems g feed start t last → GivesItem g feed t u c → IsNoText f
       → StopsBehind form g n (last_by f last c) start (feed (reader_of u)) f
   item_stops n start t u form last c f same h m is = subst (λ v. StopsBehind v g n (last_by f last c) start (feed (reader_of u)) f) same (record {
     begins = items_by start t u last c f h m;

@@ -28,7 +28,7 @@ use crate::runs::shared_window::SharedWindow;
 use cdb_command::MakeOptions;
 use cdb_form::{Feeds, Sink, Width};
 use cdb_make::Maker;
-use cdb_show::{Fault, FedItems, InLined, InWindow, Inputs, Lined, Lines, Turn, Window, flushed};
+use cdb_show::{Fault, InLined, InWindow, Inputs, ItemReader, Lined, Lines, Turn, Window, flushed};
 use cdb_store::Store;
 use std::alloc::Global;
 use std::io::Read;
@@ -60,13 +60,13 @@ fn put_text<L: Width, S: Store, F: Feeds + Drop, E: Sink>(
 {
     if options.names.is_some() {
         let lined = Lined::new(window, lines);
-        let mut items = FedItems::new(alloc, options.style, amends, lined);
+        let mut items = ItemReader::new(alloc, options.style, amends, lined);
         let put = put_input::<L, S, _, E, InLined>(
             alloc, maker, options, number, &mut items, lines, errors,
         );
         return (items.into_reader().into_window(), put);
     }
-    let mut items = FedItems::new(alloc, options.style, amends, window);
+    let mut items = ItemReader::new(alloc, options.style, amends, window);
     let put = put_input::<L, S, _, E, InWindow>(
         alloc, maker, options, number, &mut items, lines, errors,
     );

@@ -10,7 +10,7 @@ ghost use Rattle.cdb_show.specs.Message.{TellsEach, TellsPart};
 ghost use Rattle.cdb_show.specs.Runs.Incoming.{Incoming, from_inputs};
 ghost use Rattle.cdb_show.specs.Runs.Inputs.{IsInputOf};
 ghost use Rattle.cdb_show.specs.Runs.Lookups.{StopsBehind};
-ghost use Rattle.cdb_show.specs.Views.FedItems.{form_of, reader_of, IsNew};
+ghost use Rattle.cdb_show.specs.Views.ItemReader.{form_of, reader_of, IsNew};
 ghost use Rattle.cdb_show.specs.Views.Output.{OutputSays};
 ghost use Rattle.cdb_show.specs.declared.fault.Fault.TheVariants.{NoMemory};
 ghost use Rattle.cdb_tool.specs.Runs.Course.{mode_of, meets_key, told};
@@ -22,7 +22,7 @@ ghost use Rattle.cdb_tool.specs.Runs.Make.{PutsItems, PutsStop};
 use cdb_command::{MakeOptions, Style};
 use cdb_form::{AtHand, Feeds, ItemKind, OutFault, Record, Sink, Width};
 use cdb_make::{Maker, Mode, Put};
-use cdb_show::{Fault, FedItems, Lines, write_duplicates};
+use cdb_show::{Fault, ItemReader, Lines, write_duplicates};
 use cdb_store::Store;
 use std::alloc::Global;
 
@@ -234,7 +234,7 @@ pub(crate) fn put_input<L: Width, S: Store, F: Feeds, E: Sink, A: AtHand<F>>(
     maker: &mut Maker<S, L>,
     options: &MakeOptions<'_>,
     input: u64,
-    items: &mut FedItems<F, L>,
+    items: &mut ItemReader<F, L>,
     lines: &Lines,
     errors: &mut E,
 ) -> Result<(), Fault>

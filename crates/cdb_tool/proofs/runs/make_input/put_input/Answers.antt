@@ -7,7 +7,7 @@ use Rattle.cdb_form.specs.Views.Prefix.{shown_by}
 use Rattle.cdb_make.proofs.Callers.{follows_same}
 use Rattle.cdb_make.proofs.Rolls.{follows_then}
 use Rattle.cdb_show.specs.Runs.Inputs.{IsInputOf}
-use Rattle.cdb_show.specs.Views.FedItems.{form_of, reader_of}
+use Rattle.cdb_show.specs.Views.ItemReader.{form_of, reader_of}
 use Rattle.cdb_show.proofs.ItemInputs.{items_all, items_fewer, items_form, items_more, items_none}
 use Rattle.cdb_tool.specs.Runs.Make.{InCourse}
 use Rattle.cdb_tool.proofs.Courses.{came_more}

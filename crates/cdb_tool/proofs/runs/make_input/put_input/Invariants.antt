@@ -2,7 +2,7 @@ use Rattle.std.proofs.Common.{◌≡◌, ◌+◌, ◌^◌, ◌≤◌, ℕ, List,
 use Rattle.cdb_form.specs.Text.Amending.{Change}
 use Rattle.cdb_make.specs.Views.Maker.{Follows}
 use Rattle.cdb_show.specs.Runs.Incoming.{came, from_inputs}
-use Rattle.cdb_show.specs.Views.FedItems.{asks_left, form_of, reader_of}
+use Rattle.cdb_show.specs.Views.ItemReader.{asks_left, form_of, reader_of}
 use Rattle.cdb_show.proofs.ItemInputs.{GaveItems}
 use Rattle.cdb_tool.specs.Runs.Course.{Task}
 use Rattle.cdb_tool.specs.Runs.Make.{InCourse}
