@@ -18,7 +18,6 @@ pub mod WalksSoFar
 pub mod WholeTexts
 pub mod FedTexts
 pub mod FedLoads
-pub mod InputLemmas
 pub mod WindowLemmas
 pub mod OutputFaults
 pub mod OutputLemmas

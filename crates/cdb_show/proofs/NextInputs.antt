@@ -1,17 +1,10 @@
 -- The inputs that are left, and the one that comes next.
 use Rattle.cdb_form.specs.Text.Amending.{Change}
 use Rattle.cdb_form.specs.Text.Map.{map_lines}
-use Rattle.cdb_show.specs.Runs.Inputs.{InputForm, AreInputs, ReadsFirstInputs, InputsLeft, bytes_of, OneInput, OneBegins, BeginsWithItems, FirstHas, FirstBegins}
-use Rattle.cdb_show.specs.Views.Inputs.{shared_bytes, one_of}
-use Rattle.cdb_show.specs.declared.inputs.SharedInput.{SharedInput}
-use Rattle.cdb_show.specs.declared.inputs.Turn.{Turn}
-use Rattle.std.proofs.Common.{List, sym, ℕ, subst, refl, IfSome, Option, ap, map, None, Some, ◌+◌, [], ◌∷◌, ◌++◌, ◌≡◌}
+use Rattle.cdb_show.specs.Runs.Inputs.{InputForm, InputsLeft, bytes_of, OneInput, OneBegins, BeginsWithItems, FirstHas, FirstBegins}
+use Rattle.std.proofs.Common.{List, sym, ℕ, subst, refl, IfSome, Option, ap, map, None, Some, [], ◌∷◌, ◌≡◌}
 use Rattle.cdb_show.specs.Runs.Inputs as form
 use Rattle.cdb_command.specs.declared.style.Style.TheVariants as style
-
-pub inputs_next : (st : InputForm) (g : ℕ) (read : List (List Change)) (last : List Change) (inputs mid rest : InputsLeft) → AreInputs st g read inputs mid → ReadsFirstInputs st g last mid rest → AreInputs st g (read ++ last ∷ []) inputs rest
-inputs_next st g [] last inputs mid rest e is = (rest, subst (λ v. ReadsFirstInputs st g last v rest) (sym e) is, refl)
-inputs_next st g (q ∷ read) last inputs mid rest e is = (e.0, e.1, inputs_next st g read last e.0 mid rest e.2 is)
 
 -- an input with these bytes that begins with items is the first one
 one_begins : (st : InputForm) (g : ℕ) (last : List Change) (each more : List OneInput) (shared : Option (List ℕ)) (one : OneInput) → each ≡ one ∷ more → IfSome (bytes_of one shared) (BeginsWithItems st g last) → OneBegins st g last each shared
@@ -28,15 +21,7 @@ pub own_bytes : {J : Type 0} (remaining : J → Option (List ℕ)) (readers : Li
 own_bytes remaining [] = refl
 own_bytes remaining (reader ∷ readers) = ap (λ v. form.Own (remaining reader) ∷ v) (own_bytes remaining readers)
 
--- the inputs that are left, while they are read
-abbrev pub left_now : {J I : Type 0} → (J → Option (List ℕ)) → (I → Option (List ℕ)) → List (Turn J) → SharedInput I → InputsLeft
-left_now own shared turns reader = record { each = map (one_of own) turns; shared = shared_bytes shared reader }
-
--- the next one
-pub next_has : {J I : Type 0} (own : J → Option (List ℕ)) (shared : I → Option (List ℕ)) (left rest : List (Turn J)) (turn : Turn J) (reader : SharedInput I) → left ≡ turn ∷ rest → FirstHas (left_now own shared left reader) (bytes_of (one_of own turn) (shared_bytes shared reader))
-next_has own shared left rest turn reader e = record { one = one_of own turn; more = map (one_of own) rest; first = ap (map (one_of own)) e; has = refl }
-
--- memory for its window was refused before anything was read of it
+-- each text begins with no items
 pub begins_none : (st : InputForm) (g : ℕ) (input : Option (List ℕ)) → IfSome input (BeginsWithItems st g [])
 begins_none st g None = tt
 begins_none (form.Puts style.Native) g (Some text) = ([], refl, (text, refl))

@@ -1,9 +1,7 @@
 -- What clauses read of the types of this crate.
 pub mod Fault
-pub mod Input
 pub mod Window
 pub mod WindowRests
-pub mod Inputs
 pub mod FedInputs
 pub mod Noted
 pub mod Output

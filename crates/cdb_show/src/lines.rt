@@ -1,14 +1,12 @@
 // The lines of inputs, which are counted as their bytes are taken.
 ghost use Rattle.std.specs.Prelude.{◌≡◌};
-ghost use Rattle.cdb_show.specs.Views.Input.{input_bytes, window_of};
 ghost use Rattle.cdb_show.specs.Views.Window.{feed_of, held_in, reader_of};
 
 use crate::counting::newlines;
-use crate::input::{InWindow, Input};
-use crate::window::Window;
+use crate::window::{InWindow, Window};
 use cdb_form::{AtHand, Feeds};
 use std::cell::Cell;
-use std::io::{self, Read};
+use std::io;
 
 /// The lines of the inputs of a run, as their bytes are taken: those of an input from its first byte on, and
 /// those of inputs that share a reader from the first byte of that. They are kept in cells, of which no
@@ -96,59 +94,9 @@ impl Lines {
     }
 }
 
-/// An input whose lines are counted.
-#[derive(Drop)]
-pub struct LinedInput<'a, R> {
-    input: Input<R>,
-    lines: &'a Lines,
-}
-
-impl<'a, R> LinedInput<'a, R> {
-    /// An input over which the lines are counted from here on.
-    pub fn new(input: Input<R>, lines: &'a Lines) -> LinedInput<'a, R>
-        ensures { result.input ≡ input }
-    {
-        LinedInput { input, lines }
-    }
-
-    /// The input, which goes on after what was taken.
-    pub fn into_input(self) -> Input<R>
-        ensures { result ≡ self.entry.input }
-    {
-        self.input
-    }
-}
-
-impl<'a, R: Read> Read for LinedInput<'a, R> {
-    ghost remaining = { λ r. input_bytes R.remaining r.input };
-
-    #[inline(always)]
-    fn read(&mut self, buf: &mut [u8]) -> io::Result<usize> {
-        let n = self.input.read(buf)?;
-        self.lines.take(&buf[..n]);
-        Ok(n)
-    }
-}
-
 /// The bytes of its window are at hand.
 #[derive(Clone, Copy, Debug)]
 pub struct InLined;
-
-impl<'a, R: Read> AtHand<LinedInput<'a, R>> for InLined {
-    ghost held = { λ r. window_of r.input };
-
-    #[inline(always)]
-    fn window<'w>(reader: &'w LinedInput<'a, R>) -> &'w [u8] {
-        InWindow::window(&reader.input)
-    }
-
-    #[inline(always)]
-    fn take(reader: &mut LinedInput<'a, R>, n: usize) {
-        let window = InWindow::window(&reader.input);
-        reader.lines.take(&window[..n]);
-        InWindow::take(&mut reader.input, n);
-    }
-}
 
 /// A window whose lines are counted as its bytes are taken.
 #[derive(Drop)]

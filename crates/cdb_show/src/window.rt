@@ -3,7 +3,6 @@ ghost use Rattle.std.specs.Prelude.{◌≡◌, ◌<◌, ◌≤◌, [], length, t
 ghost use Rattle.std.specs.Prelude.{vec_len};
 ghost use Rattle.cdb_form.specs.Fed.Feed.{Consumes, IsAtEnd, Keeps};
 
-use crate::input::InWindow;
 use cdb_form::{AtHand, Feeds, PIPE};
 use std::alloc::Global;
 use std::io::{self, ErrorKind};
@@ -204,6 +203,10 @@ impl<F: Feeds> Feeds for Window<F> {
         Ok(self.give(into))
     }
 }
+
+/// The window's bytes are at hand.
+#[derive(Clone, Copy, Debug)]
+pub struct InWindow;
 
 impl<F: Feeds> AtHand<Window<F>> for InWindow {
     ghost use Rattle.cdb_show.specs.Views.Window.{held_in};

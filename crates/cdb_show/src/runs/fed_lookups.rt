@@ -17,13 +17,12 @@ ghost use Rattle.cdb_show.specs.Views.Window.{feed_of};
 
 use crate::fault::Fault;
 use crate::fed_inputs::{FedInputs, SharedWindow};
-use crate::input::InWindow;
 use crate::lines::{InLined, Lined, Lines};
 use crate::runs::flushed::flushed_whole;
 use crate::runs::key_reader::KeyReader;
 use crate::runs::lookups::look_up_input;
 use crate::runs::walk_text::write_last;
-use crate::window::Window;
+use crate::window::{InWindow, Window};
 use cdb_command::Style;
 use cdb_feed::InputReader;
 use cdb_form::{Feeds, Sink, Width};
