@@ -12,7 +12,7 @@ use Rattle.cdb_feed.specs.Inputs.{AgreesWith, AreRead, AreUnread, CutShort, Firs
 use Rattle.cdb_feed.specs.declared.input_reader.InputReader.{InputReader}
 use Rattle.cdb_feed.specs.declared.input_reader.InputReader.TheVariants.{Own, Shared}
 use Rattle.cdb_show.specs.Runs.Incoming.{one_input}
-use Rattle.cdb_show.specs.Runs.Inputs.{InputForm, InputsLeft, IsInputOf, OneInput, bytes_of}
+use Rattle.cdb_show.specs.Runs.Inputs.{InputForm, InputsLeft, IsInputOf, OneInput, Own, bytes_of, own_inputs}
 use Rattle.cdb_show.specs.Runs.Inputs as form
 use Rattle.cdb_show.specs.Views.FedInputs.{inputs_left, one_of, shared_feed}
 use Rattle.cdb_show.specs.declared.fault.Fault.{Fault}
@@ -345,3 +345,9 @@ agreeing_inputs own shared fits st g answer read stop before after inputs whole 
     (length-map inputs one_input ∙ long) (were.let_go.back still whole agrees.rest agrees.may) in
     let found = of_some whole (shared before.shared) (λ s. HasRead st g answer read stop (record { each = map one_input inputs; shared = s })) b.left b.is b.holds in
     subst (λ t. HasRead st g answer read stop (record { each = map one_input inputs; shared = Some t })) (first.all whole found.0 found.1) found.2
+
+-- those of readers of their own
+pub own_left : {J I : Type 0} (own : J → Option (List ℕ)) (shared : I → Option (List ℕ)) (inputs : FedInputs J I) (bytes : List (Option (List ℕ))) → map (one_of own) inputs.readers.items ≡ map Own bytes → shared inputs.shared ≡ Some [] → inputs_left own shared inputs ≡ own_inputs bytes
+own_left own shared inputs bytes each none =
+    ap (λ es. let left : InputsLeft = record { each = es; shared = shared inputs.shared } in left) each
+    ∙ ap (λ s. let left : InputsLeft = record { each = map Own bytes; shared = s } in left) none

@@ -1,24 +1,22 @@
 // A database made of the records of a base, if there is one, and of what some inputs say.
-ghost use Rattle.std.specs.Prelude.{◌≡◌, ◌+◌, ◌<◌, ◌≤◌, ℕ, List, [], ◌∷◌, ◌++◌, map, Option, is_some};
+ghost use Rattle.std.specs.Prelude.{◌≡◌, ◌+◌, ◌<◌, ◌≤◌, ℕ, List, [], map, Option, is_some};
 ghost use Rattle.std.specs.Prelude.{Result, Ok, Err, length, IfErr, OnOk};
 ghost use Rattle.cdb_form.specs.Fed.Feed.{FromTo};
 ghost use Rattle.cdb_form.specs.Format.Pair.{head_size};
 ghost use Rattle.cdb_form.specs.Text.Amending.{Change};
 ghost use Rattle.cdb_form.specs.declared.text.fault.TextFault.{TextFault};
 ghost use Rattle.cdb_feed.specs.Inputs.{AreRead, NoMore, TakesOne};
-ghost use Rattle.cdb_make.specs.Views.Maker.{Follows, WhereHonest, store_of};
-ghost use Rattle.cdb_show.specs.Runs.Incoming.{from_inputs};
-ghost use Rattle.cdb_show.specs.Runs.Inputs.{AreAllInputs, IsInputOf, input_form, own_inputs};
+ghost use Rattle.cdb_make.specs.Views.Maker.{WhereHonest};
+ghost use Rattle.cdb_show.specs.Runs.Inputs.{IsInputOf, input_form, own_inputs};
 ghost use Rattle.cdb_show.specs.Runs.Lookups.{StopsBehind};
-ghost use Rattle.cdb_show.specs.Views.FedInputs.{ArePassed, inputs_left, shared_feed};
+ghost use Rattle.cdb_show.specs.Views.FedInputs.{ArePassed, shared_feed};
 ghost use Rattle.cdb_show.specs.Views.Output.{OutputSays};
 ghost use Rattle.cdb_show.specs.Views.Window.{feed_of};
 ghost use Rattle.cdb_show.specs.declared.fault.Fault.TheVariants.{NoMemory, Text};
-ghost use Rattle.cdb_tool.specs.Runs.Course.{Task};
 ghost use Rattle.cdb_tool.specs.Runs.FormParsing.{parsing};
 ghost use Rattle.cdb_tool.specs.Runs.InputsRead.{IsFaultAt, RunsRead, StopsInput, WereRead, stop_by};
-ghost use Rattle.cdb_tool.specs.Runs.Make.{InCourse, StepsOn, MakeRuns, InputsFail, IsOfStore, IsOfBase};
-ghost use Rattle.cdb_tool.specs.Runs.Make.{OfBase, HandsBack, BaseHasFailed, Stands, IsHalt};
+ghost use Rattle.cdb_tool.specs.Runs.Make.{StepsOn, MakeRuns, IsOfStore, IsOfBase};
+ghost use Rattle.cdb_tool.specs.Runs.Make.{OfBase, HandsBack, BaseHasFailed};
 ghost use Rattle.cdb_tool.specs.Runs.Make.{PutsInputs, PutsInputsStop, PutsItems, PutsStop};
 
 use crate::runs::make_base::add_base;
@@ -191,43 +189,9 @@ fn put_turns<L: Width, S: Store, J: Feeds + Drop, I: Feeds + Drop, E: Sink>(
 /// `Make(Lookup)` and `Make(Writing)` the maker holds the records of the items that were done,
 /// unless it is broken, and the lines are those of these items. `errors` is not flushed. The lines of the
 /// inputs are counted by `lines` if duplicates are explained.
-pub fn put_inputs<L: Width, S: Store, J: Read + Drop, I: Read + Drop, E: Sink>(
-    alloc: Global,
-    maker: &mut Maker<S, L>,
-    options: &MakeOptions<'_>,
-    amends: bool,
-    inputs: FedInputs<J, I>,
-    lines: &Lines,
-    errors: &mut E,
-) -> Result<(), Fault>
-    ensures ok { OnOk result ((read : List (List Change))
-        × AreAllInputs (input_form options.now.style amends) L.GREATEST read
-        (inputs_left J.remaining I.remaining inputs)
-        × ((t : Task) (start : Option (List ℕ)) → t.options ≡ options.now
-        → InCourse t [] start (E.contents errors.old) maker.old
-        → InCourse t (from_inputs 1 read) start (E.contents errors.new) maker.new)) }
-    ensures fails { (t : Task) (start : Option (List ℕ)) → t.options ≡ options.now
-        → is_some t.base ≡ amends
-        → InCourse t [] start (E.contents errors.old) maker.old
-        → IfErr result (λ f. WhereHonest (S.image (store_of maker.new))
-        (InputsFail L.WORD L.GREATEST t (inputs_left J.remaining I.remaining inputs)
-        start (E.contents errors.new) f)) }
-    ensures stands { (t : Task) (start : Option (List ℕ)) → t.options ≡ options.now
-        → InCourse t [] start (E.contents errors.old) maker.old
-        → IfErr result (λ f. IsHalt f → Stands (input_form options.now.style amends) L.GREATEST t
-        (inputs_left J.remaining I.remaining inputs) start (E.contents errors.new) maker.new) }
-    ensures step { StepsOn maker.old maker.new ⊥ (E.failed errors.new) result }
-{
-    let (_inputs, put) = put_inputs_fed::<L, S, J, I, E>(
-        alloc, maker, options, amends, inputs, lines, errors,
-    );
-    put
-}
-
-/// Does what `put_inputs` does, and hands the inputs back whatever the answer. What their windows took past
-/// the texts is lost.
 ///
-/// The contract holds of whatever bytes agree with what the readers gave.
+/// The inputs are handed back whatever the answer; what their windows took past the texts is lost. The
+/// contract holds of whatever bytes agree with what the readers gave.
 pub fn put_inputs_fed<L: Width, S: Store, J: Feeds + Drop, I: Feeds + Drop, E: Sink>(
     alloc: Global,
     maker: &mut Maker<S, L>,
@@ -404,59 +368,24 @@ pub fn make_run<L: Width, S: Store, B: Store, R: Read + Drop, E: Sink>(
     ensures output { OutputSays (E.failed errors.new) result.2 }
 {
     let none: &[u8] = &[];
-    match FedInputs::each_own(alloc, inputs, none) {
-        Ok(inputs) => make_run_from::<L, S, B, R, _, E>(
-            alloc,
-            store,
-            base,
-            inputs,
-            options,
-            &Lines::new(options.names.is_some()),
-            errors,
-        ),
-        Err(_) => {
-            let answer = flushed(errors, Err(Fault::NoMemory));
-            (store, base, answer)
-        }
-    }
+    let Ok(inputs) = FedInputs::each_own(alloc, inputs, none) else {
+        let answer = flushed(errors, Err(Fault::NoMemory));
+        return (store, base, answer);
+    };
+    let lines = Lines::new(options.names.is_some());
+    let (store, base, _inputs, answer) = make_run_fed::<L, S, B, R, _, E>(
+        alloc, store, base, inputs, options, &lines, errors,
+    );
+    (store, base, answer)
 }
 
 /// Does what `make_run` does, of inputs of which several may share a reader: each of these begins
 /// where the text of the one before it ended. A map text leaves nothing. If duplicates are explained, `lines`
 /// counts the lines of the inputs, and knows afterwards that of a fault.
-pub fn make_run_from<L: Width, S: Store, B: Store, J: Read + Drop, I: Read + Drop, E: Sink>(
-    alloc: Global,
-    store: S,
-    base: Option<B>,
-    inputs: FedInputs<J, I>,
-    options: MakeOptions<'_>,
-    lines: &Lines,
-    errors: &mut E,
-) -> (S, Option<B>, Result<(), Fault>)
-    requires head { head_size L.WORD ≤ options.limit }
-    requires words { options.limit ≤ L.GREATEST }
-    ensures runs { WhereHonest (S.image result.0) (OfBase B.Store result.1 (λ base.
-        MakeRuns L.WORD L.GREATEST options.entry base (inputs_left J.remaining I.remaining inputs)
-        (S.image result.0) (E.contents errors.old) (E.contents errors.new) result.2)) }
-    ensures hands { HandsBack B.Store base result.1 }
-    ensures settled { OnOk result.2 (S.settled result.0) }
-    ensures failed { IfErr result.2
-        (λ f. IsOfStore f → S.failures store < S.failures result.0) }
-    ensures memory { IfErr result.2 (λ f. f ≡ NoMemory → S.failures result.0 ≡ S.failures store) }
-    ensures base_failed { IfErr result.2 (λ f. IsOfBase f → BaseHasFailed B.Store base result.1) }
-    ensures output { OutputSays (E.failed errors.new) result.2 }
-{
-    let (store, base, _inputs, answer) = make_run_fed::<L, S, B, J, I, E>(
-        alloc, store, base, inputs, options, lines, errors,
-    );
-    (store, base, answer)
-}
-
-/// Does what `make_run_from` does, and hands the inputs back whatever the answer. What their windows took
-/// past the texts is lost.
 ///
-/// The contract holds of whatever bytes agree with what the readers gave: for all inputs that agree with what was
-/// read, it says what `make_run_from` says of them.
+/// The inputs are handed back whatever the answer; what their windows took past the texts is lost. The
+/// contract holds of whatever bytes agree with what the readers gave: for all inputs that agree with what was
+/// read, it says what `make_run` says of its own.
 pub fn make_run_fed<L: Width, S: Store, B: Store, J: Feeds + Drop, I: Feeds + Drop, E: Sink>(
     alloc: Global,
     store: S,
