@@ -20,6 +20,7 @@ mod resuming;
 mod running;
 mod streams;
 mod surface;
+mod through;
 mod walk_windows;
 mod windows;
 mod worked;

@@ -1,9 +1,9 @@
-// put_inputs: the records that are held and the lines that were written, where a put fails.
+// put_inputs_fed: the records that are held and the lines that were written, where a put fails.
 use super::running::{Duplicates, options, texts};
 use cdb_form::Narrow;
 use cdb_make::{MakeFault, Maker, Mode};
 use cdb_store::{FuseStore, MemStore};
-use cdb_tool::{Fault, FedInputs, Lines, Style, put_inputs};
+use cdb_tool::{Fault, FedInputs, Lines, Style, put_inputs_fed};
 use std::alloc::{AllocError, Global};
 use std::prelude::*;
 use std::test::Fail;
@@ -34,9 +34,9 @@ fn put(
     let none: &[u8] = &[];
     let inputs = FedInputs::each_own(alloc, inputs, none)?;
     let counted = Lines::new(false);
-    put_inputs::<Narrow, _, &[u8], &[u8], Vec<u8>>(
+    put_inputs_fed::<Narrow, _, &[u8], &[u8], Vec<u8>>(
         alloc, maker, &options, false, inputs, &counted, lines,
-    )
+    ).1
 }
 
 /// The lines of as many of the records as a maker holds.

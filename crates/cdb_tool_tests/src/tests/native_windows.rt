@@ -1,10 +1,10 @@
 // Native and amending texts through windows of all sizes, over readers that give a byte, two, or
 // all: each is read as byte by byte, with the same fault, and as far.
+use super::through::{InThrough, Through};
 use super::windows::{Dripping, MOST, SIZES};
 use cdb_form::{
     AmendReader, AtHand, ItemKind, Narrow, NoneAtHand, Record, TextFault, TextReader, Wide, Width,
 };
-use cdb_tool::{InWindow, Input};
 use std::alloc::{AllocError, Global};
 use std::io::{self, Read};
 use std::prelude::*;
@@ -66,7 +66,7 @@ const TEXTS: [&[u8]; 49] = [
 /// An input that a reader of a text or of a file is lent, so that what it left can be seen.
 #[derive(Drop)]
 pub(super) struct Lent<'a, 'b> {
-    pub(super) input: &'a mut Input<Dripping<'b>>,
+    pub(super) input: &'a mut Through<Dripping<'b>>,
 }
 
 impl Read for Lent<'_, '_> {
@@ -79,16 +79,16 @@ impl Read for Lent<'_, '_> {
 pub(super) struct InLent;
 
 impl AtHand<Lent<'_, '_>> for InLent {
-    ghost use Rattle.cdb_show.specs.Views.Input.{window_of};
+    ghost use Rattle.cdb_show.specs.Views.Window.{held_in};
 
-    ghost held = { λ lent. window_of lent.input.now };
+    ghost held = { λ lent. held_in lent.input.now.window };
 
     fn window<'r>(lent: &'r Lent<'_, '_>) -> &'r [u8] {
-        InWindow::window(&*lent.input)
+        InThrough::window(&*lent.input)
     }
 
     fn take(lent: &mut Lent<'_, '_>, n: usize) {
-        InWindow::take(&mut *lent.input, n);
+        InThrough::take(&mut *lent.input, n);
     }
 }
 
@@ -233,7 +233,7 @@ fn read_form<R: Read + Drop, A: AtHand<R>>(
 }
 
 /// What is left of an input.
-pub(super) fn rest_of(alloc: Global, input: &mut Input<Dripping<'_>>) -> Result<Vec<u8>, Fail> {
+pub(super) fn rest_of(alloc: Global, input: &mut Through<Dripping<'_>>) -> Result<Vec<u8>, Fail> {
     let mut rest = Vec::new(alloc);
     let mut piece = [0u8; 16];
     for _ in 0..100 {
@@ -254,7 +254,7 @@ fn by_window(
     size: usize,
     most: usize,
 ) -> Result<Outcome, Fail> {
-    let mut input = Input::new(alloc, Dripping { text, most }, size.max(1))?;
+    let mut input = Through::new(alloc, Dripping { text, most }, size.max(1))?;
     let mut shown = Vec::new(alloc);
     let lent = Lent { input: &mut input };
     let fault = read_form::<Lent<'_, '_>, InLent>(alloc, form, lent, &mut shown)?;

@@ -1,11 +1,12 @@
-// query_run and lookups_run, over worked, damaged and foreign files, and over stores and writers that fail.
+// query_run and lookups_run_fed, over worked, damaged and foreign files, and over stores and writers that fail.
 use super::differing::made;
 use super::fakes::{FakeWriter, NotingWriter, SlowWriter};
 use super::worked::File;
+use cdb_feed::InputReader;
 use cdb_form::{Narrow, TextFault, Wide, Width};
 use cdb_read::ReadFault;
 use cdb_store::{FuseStore, MemStore, Store};
-use cdb_tool::{Fault, Inputs, Lines, Style, Turn, lookups_run, query_run};
+use cdb_tool::{Fault, FedInputs, Lines, Style, lookups_run_fed, query_run};
 use std::alloc::{AllocError, Global};
 use std::io::Write;
 use std::prelude::*;
@@ -524,13 +525,13 @@ fn the_flush_comes_last(rt: HostRuntime) -> Result<(), Fail> {
 fn looked_up(alloc: Global, file: Vec<u8>, keys: &[u8]) -> Result<Answer, AllocError> {
     let mut w = FakeWriter::new(alloc, 4096);
     w.flush_fails = true;
-    let inputs = Inputs {
-        turns: vec![in alloc; Turn::<&[u8]>::Shared]?,
+    let inputs = FedInputs {
+        readers: vec![in alloc; InputReader::<&[u8]>::Shared]?,
         shared: keys,
     };
     let store = MemStore::from_vec(file);
     Ok(
-        lookups_run::<Narrow, MemStore, &[u8], &[u8], FakeWriter>(
+        lookups_run_fed::<Narrow, MemStore, &[u8], &[u8], FakeWriter>(
             alloc,
             store,
             inputs,
@@ -539,7 +540,7 @@ fn looked_up(alloc: Global, file: Vec<u8>, keys: &[u8]) -> Result<Answer, AllocE
             &Lines::new(false),
             &mut w,
         )
-        .1,
+        .2,
     )
 }
 

@@ -1,7 +1,8 @@
 // The windows of the program's input and output.
 use super::fakes::{CountingReader, FakeReader, FlakyWriter, FullWriter, NotingWriter, SlowWriter};
+use super::through::Through;
 use cdb_form::{InFault, flush_whole, read_whole, write_whole};
-use cdb_tool::{Input, Output};
+use cdb_tool::Output;
 use std::alloc::{AllocError, Global};
 use std::io::{ErrorKind, Read, Write};
 use std::prelude::*;
@@ -10,7 +11,7 @@ use std::test::Fail;
 /// What reads of these sizes give through a window of four bytes.
 fn read_in(alloc: Global, reader: &mut CountingReader, sizes: &[usize]) -> Result<Vec<u8>, Fail> {
     let mut given = Vec::new(alloc);
-    let mut input = Input::new(alloc, reader, 4)?;
+    let mut input = Through::new(alloc, reader, 4)?;
     for size in sizes {
         let mut piece = [0u8; 8];
         let n = input.read(&mut piece[..(*size).min(8)])?;
@@ -54,7 +55,7 @@ fn reports_an_interrupt(alloc: Global, size: usize, given: usize) -> Result<bool
         text: b"abcde",
         fails: false,
     };
-    let mut input = Input::new(alloc, reader, 4)?;
+    let mut input = Through::new(alloc, reader, 4)?;
     let mut bytes = vec![in alloc; 0u8; size]?;
     let is_reported = match input.read(&mut bytes) {
         Ok(_) => false,
@@ -87,7 +88,7 @@ fn reads_whole(
         text: b"abcde",
         fails: false,
     };
-    let mut input = Input::new(alloc, reader, size.max(1))?;
+    let mut input = Through::new(alloc, reader, size.max(1))?;
     let mut given = Vec::new(alloc);
     Ok(match read_whole(&mut input, &mut given, 100) {
         Ok(_) => want == Ok(given.as_slice()),

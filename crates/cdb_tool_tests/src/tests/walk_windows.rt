@@ -2,10 +2,11 @@
 // fault, and how far is read.
 use super::fakes::FakeReader;
 use super::native_windows::{InLent, Lent, rest_of};
+use super::through::{InThrough, Through};
 use super::windows::{Dripping, MOST};
 use super::worked::{File, TWO_TEXT};
 use cdb_form::{AtHand, Narrow, NoneAtHand, Record, RecordReader, WalkFault, Wide, Width};
-use cdb_tool::{Content, Fault, InWindow, Input, Style, text_run_buffered};
+use cdb_tool::{Content, Fault, Style, text_run_buffered};
 use std::alloc::{AllocError, Global};
 use std::io::Read;
 use std::prelude::*;
@@ -349,7 +350,7 @@ fn is_walked(
         text: file.bytes,
         most,
     };
-    let mut input = Input::new(alloc, drops, size.max(1))?;
+    let mut input = Through::new(alloc, drops, size.max(1))?;
     let mut shown = Vec::new(alloc);
     let lent = Lent { input: &mut input };
     let fault = walk_wide::<_, InLent>(alloc, file.wide, lent, keeping, &mut shown)?;
@@ -451,20 +452,20 @@ fn cut_files_through_windows(rt: HostRuntime) -> Result<(), Fail> {
 }
 
 /// Some bytes of a file through a window, after which the reader fails.
-fn failing(alloc: Global, piece: &[u8]) -> Result<Input<FakeReader<'_>>, AllocError> {
+fn failing(alloc: Global, piece: &[u8]) -> Result<Through<FakeReader<'_>>, AllocError> {
     let reader = FakeReader {
         interrupts: 3,
         text: piece,
         fails: true,
     };
-    Input::new(alloc, reader, 2064)
+    Through::new(alloc, reader, 2064)
 }
 
 /// The answer of a dump of some bytes of a file, and whether this text was written.
 fn dump(alloc: Global, piece: &[u8], text: &[u8]) -> Result<(Result<(), Fault>, bool), AllocError> {
     let mut out = Vec::new(alloc);
     let input = failing(alloc, piece)?;
-    let answer = text_run_buffered::<Narrow, _, _, InWindow>(
+    let answer = text_run_buffered::<Narrow, _, _, InThrough>(
         alloc,
         Content::Records,
         input,
@@ -478,7 +479,7 @@ fn dump(alloc: Global, piece: &[u8], text: &[u8]) -> Result<(Result<(), Fault>, 
 fn list(alloc: Global, piece: &[u8], text: &[u8]) -> Result<(Result<(), Fault>, bool), AllocError> {
     let mut out = Vec::new(alloc);
     let input = failing(alloc, piece)?;
-    let answer = text_run_buffered::<Narrow, _, _, InWindow>(
+    let answer = text_run_buffered::<Narrow, _, _, InThrough>(
         alloc,
         Content::Keys,
         input,

@@ -1,6 +1,6 @@
 // Map texts through windows of all sizes, over readers that give a byte, two, or all.
+use super::through::{InThrough, Through};
 use cdb_form::{MapReader, Record};
-use cdb_tool::{InWindow, Input};
 use std::alloc::{AllocError, Global};
 use std::io::{self, Read};
 use std::prelude::*;
@@ -101,15 +101,15 @@ fn show(key: &[u8], value: &[u8], shown: &mut Vec<u8>) -> Result<(), AllocError>
 
 /// Shows the next record where it lies, if it is whole at hand, and takes it.
 fn show_peeked<R: Read>(
-    maps: &mut MapReader<Input<R>>,
+    maps: &mut MapReader<Through<R>>,
     shown: &mut Vec<u8>,
 ) -> Result<bool, AllocError> {
-    let Some(peeked) = maps.peek::<InWindow>() else {
+    let Some(peeked) = maps.peek::<InThrough>() else {
         return Ok(false);
     };
     let len = peeked.len;
     show(peeked.key, peeked.value, shown)?;
-    maps.take_peeked::<InWindow>(len);
+    maps.take_peeked::<InThrough>(len);
     Ok(true)
 }
 
@@ -123,7 +123,7 @@ fn shown(
     peeks: bool,
 ) -> Result<Vec<u8>, Fail> {
     let mut reader = Dripping { text, most };
-    let mut maps = MapReader::new(alloc, Input::new(alloc, &mut reader, size.max(1))?);
+    let mut maps = MapReader::new(alloc, Through::new(alloc, &mut reader, size.max(1))?);
     let mut record = Record {
         key: Vec::new(alloc),
         value: Vec::new(alloc),
@@ -133,7 +133,7 @@ fn shown(
         if peeks && show_peeked(&mut maps, &mut shown)? {
             continue;
         }
-        if !maps.read_buffered::<InWindow>(&mut record)? {
+        if !maps.read_buffered::<InThrough>(&mut record)? {
             break;
         }
         show(&record.key, &record.value, &mut shown)?;
@@ -177,14 +177,14 @@ fn given_for(alloc: Global, asks: u64, size: usize) -> Result<(usize, bool), Fai
         text: TWO_LINES,
         most: 4096,
     };
-    let input = Input::new(alloc, &mut reader, size.max(1))?;
+    let input = Through::new(alloc, &mut reader, size.max(1))?;
     let mut maps = MapReader::with_bound(alloc, input, asks.min(1 << 48));
     let mut record = Record {
         key: Vec::new(alloc),
         value: Vec::new(alloc),
     };
     for count in 0..10 {
-        match maps.read_buffered::<InWindow>(&mut record) {
+        match maps.read_buffered::<InThrough>(&mut record) {
             Ok(true) => {}
             Ok(false) => return Ok((count, true)),
             Err(_) => return Ok((count, false)),
