@@ -6,9 +6,9 @@ use Rattle.std.proofs.lemmas.Bool.{cond-true, cond-false, lt-ltb, le-ltb}
 use Rattle.std.proofs.lemmas.List.{append-nil, append_cancel_right}
 use Rattle.std.specs.Io.KnownBytes.{Keeps, Appends}
 use Rattle.cdb_form.proofs.Bytes.WritingLemmas.{same_appends}
+use Rattle.cdb_form.specs.Fed.Feed.{Feed}
 use Rattle.cdb_form.specs.Views.KnownBytes.{AppendsPrefix}
 use Rattle.cdb_form.specs.Format.Pair.{head_size}
-use Rattle.cdb_feed.specs.declared.noted_reader.NotedReader.{NotedReader}
 use Rattle.cdb_names.specs.declared.name_fault.NameFault.{NameFault}
 use Rattle.cdb_names.specs.declared.refusal.Cause.{Cause}
 use Rattle.cdb_names.specs.declared.name_fault.NameFault.TheVariants as why
@@ -20,6 +20,7 @@ use Rattle.cdb_system.specs.Answered.{AreAnswered, IsAnswered, Reading, Shows}
 use Rattle.cdb_system.specs.Opening.{OpenCalls, unopened}
 use Rattle.cdb_system.specs.Oracle.{Disk, Outcome, ended, of_file}
 use Rattle.cdb_system.specs.Reading.{Refuses}
+use Rattle.cdb_system.specs.Streams.{AgreeInTurn, names_in_turn}
 use Rattle.cdb_system.specs.declared.open_trace.OpenCall.TheVariants.{Unopened}
 
 -- ---- a command whose faults have these statuses, before its output is handed on
@@ -72,26 +73,33 @@ gives_none writes reads status o start end fault refusal k = gives_up writes rea
 -- ---- the calls
 
 -- those of a run, whichever list has them
-abbrev pub EachAnswered : {F I : Type 0} → Ghosts F → Disk → List F → List (NotedReader I) → (old new : OpenCalls) → Type 0
-EachAnswered s disk stores streams old new = (calls : OpenCalls) → new ≡ calls ++ old → AreAnswered s disk calls stores streams
+abbrev pub EachAnswered : {F : Type 0} → Ghosts F → Disk → List F → (old new : OpenCalls) → Type 0
+EachAnswered s disk stores old new = (calls : OpenCalls) → new ≡ calls ++ old → AreAnswered s disk calls stores
 
-pub each_answered : {F I : Type 0} (s : Ghosts F) (disk : Disk) (stores : List F) (streams : List (NotedReader I)) (old new calls : OpenCalls) → new ≡ calls ++ old → AreAnswered s disk calls stores streams → EachAnswered s disk stores streams old new
-each_answered s disk stores streams old new calls is h = λ others are. subst (λ c. AreAnswered s disk c stores streams) (append_cancel_right calls others old (sym is ∙ are)) h
+pub each_answered : {F : Type 0} (s : Ghosts F) (disk : Disk) (stores : List F) (old new calls : OpenCalls) → new ≡ calls ++ old → AreAnswered s disk calls stores → EachAnswered s disk stores old new
+each_answered s disk stores old new calls is h = λ others are. subst (λ c. AreAnswered s disk c stores) (append_cancel_right calls others old (sym is ∙ are)) h
+
+-- the files that were read from their start on agree with the readers that came back
+abbrev pub EachAgrees : {I : Type 0} → (I → Feed) → Disk → List I → (old new : OpenCalls) → Type 0
+EachAgrees feed disk streams old new = (calls : OpenCalls) → new ≡ calls ++ old → AgreeInTurn feed disk (names_in_turn calls) streams
+
+pub each_agrees : {I : Type 0} (feed : I → Feed) (disk : Disk) (streams : List I) (old new calls : OpenCalls) → new ≡ calls ++ old → AgreeInTurn feed disk (names_in_turn calls) streams → EachAgrees feed disk streams old new
+each_agrees feed disk streams old new calls is h = λ others are. subst (λ c. AgreeInTurn feed disk (names_in_turn c) streams) (append_cancel_right calls others old (sym is ∙ are)) h
 
 -- a file that was not opened
-pub missed_so : {F I : Type 0} (writes : Bool) (reads : Reading) (s : Ghosts F) (status : Fault → ℕ) (name : List ℕ) (disk : Disk) (stores : List F) (streams : List (NotedReader I)) (outcome : List ℕ → Outcome) (why : NameFault) (found : Cause) (start end : Option (List ℕ)) → 111 ≡ status Open → IsAnswered s disk stores streams (Unopened why found) name → Keeps start end
+pub missed_so : {F : Type 0} (writes : Bool) (reads : Reading) (s : Ghosts F) (status : Fault → ℕ) (name : List ℕ) (disk : Disk) (stores : List F) (outcome : List ℕ → Outcome) (why : NameFault) (found : Cause) (start end : Option (List ℕ)) → 111 ≡ status Open → IsAnswered s disk stores (Unopened why found) name → Keeps start end
     → Comes writes reads status (of_file (disk name) outcome) start end (Err (unopened why))
-missed_so writes reads s status name disk stores streams outcome why.Failed found start end plain none k =
+missed_so writes reads s status name disk stores outcome why.Failed found start end plain none k =
     comes_so writes reads status _ [] start end (Err Open) (ap (λ file. of_file file outcome) none ∙ ap (λ n. record { status = n; output = []; lines = fault_line Open }) plain) (nothing_written start end k)
-missed_so writes reads s status name disk stores streams outcome why.NoMemory found start end plain none k = gives_none writes reads status _ start end NoMemory tt k
+missed_so writes reads s status name disk stores outcome why.NoMemory found start end plain none k = gives_none writes reads status _ start end NoMemory tt k
 
-pub refused_so : {F I : Type 0} (writes : Bool) (reads : Reading) (s : Ghosts F) (status : Fault → ℕ) (name : List ℕ) (disk : Disk) (stores : List F) (streams : List (NotedReader I)) (outcome : List ℕ → Outcome) (old new more : OpenCalls) (start end : Option (List ℕ)) (result : Result Unit Fault) → 111 ≡ status Open → EachAnswered s disk stores streams old new → Refuses name (more ++ old) new start end result
+pub refused_so : {F : Type 0} (writes : Bool) (reads : Reading) (s : Ghosts F) (status : Fault → ℕ) (name : List ℕ) (disk : Disk) (stores : List F) (outcome : List ℕ → Outcome) (old new more : OpenCalls) (start end : Option (List ℕ)) (result : Result Unit Fault) → 111 ≡ status Open → EachAnswered s disk stores old new → Refuses name (more ++ old) new start end result
     → Comes writes reads status (of_file (disk name) outcome) start end result
-refused_so writes reads s status name disk stores streams outcome old new more start end result plain answers refuses =
+refused_so writes reads s status name disk stores outcome old new more start end result plain answers refuses =
     let m = refuses.misses in
     let answer = (answers ((Unopened m.why m.found, name) ∷ more) m.calls).0 in
     subst (Comes writes reads status (of_file (disk name) outcome) start end) (sym (refuses.is ∙ ap (λ f. Err f) m.is))
-    (missed_so writes reads s status name disk stores streams outcome m.why m.found start end plain answer refuses.kept)
+    (missed_so writes reads s status name disk stores outcome m.why m.found start end plain answer refuses.kept)
 
 -- each image of a store has its length
 abbrev pub IsSized : {S : Type 0} → Ghosts S → Type 0

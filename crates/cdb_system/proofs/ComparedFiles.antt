@@ -6,6 +6,7 @@ use Rattle.std.specs.Option.{option_or}
 use Rattle.std.proofs.lemmas.Bool.{cond-true, cond-false}
 use Rattle.std.specs.Io.KnownBytes.{Keeps}
 use Rattle.cdb_form.proofs.Bytes.WritingLemmas.{same_appends}
+use Rattle.cdb_form.specs.Fed.Feed.{Feed}
 use Rattle.cdb_form.specs.Views.KnownBytes.{AppendsPrefix}
 use Rattle.cdb_form.specs.Format.Pair.{head_size}
 use Rattle.cdb_form.specs.Format.Walk.{walk_of}
@@ -23,7 +24,7 @@ use Rattle.cdb_show.specs.Runs.Difference.{ComesAfter, DifferenceFails, Differen
 use Rattle.cdb_show.specs.Status.{plain_status}
 use Rattle.cdb_show.specs.declared.fault.Fault.{Fault}
 use Rattle.cdb_show.specs.declared.fault.Fault.TheVariants.{Text, Make, Duplicate, Missing, Read, Walk, Output, Long, Open, Rename, NoMemory, Old, New, NoOldTables, NoNewTables}
-use Rattle.cdb_system.specs.Answered.{AreComparable, IsInOrder, Nothing, Shows, stores_in, streams_in}
+use Rattle.cdb_system.specs.Answered.{AreComparable, IsInOrder, Nothing, Shows, stores_in}
 use Rattle.cdb_system.proofs.Coming.{Comes, EachAnswered, IsSized, comes_so, gives_up, long_is, nothing_written, of_shown, refused_so, short_is}
 use Rattle.cdb_system.specs.Oracle.{Disk, difference_outcome, of_file, unless_fault}
 use Rattle.cdb_system.specs.Reading.{PerformsDifference}
@@ -137,16 +138,16 @@ compared w s (Some b) (Some c) old old_last new new_last start end result sized 
     difference_comes w s old_last new_last b c (record { is = shows.0; size = sized old_last b shows.0; works = shows.1 }) (record { is = beside.0; size = sized new_last c beside.0; works = beside.1 })
     old new start end order result h
 
-pub difference_foretold : {F I J M Y : Type 0} (remaining : I → Option (List ℕ)) (w : ℕ) (s : Ghosts F) (m : Ghosts M) (y : Systems Y F I M) (first second : List ℕ) (disk : Disk) (old new : State Y) (left : Left F M I J) (result : Result Unit Fault) → IsSized s → EachAnswered s disk (stores_in left) (streams_in left) (y.calls old.opened) (y.calls new.opened) → AreComparable w (disk first) (disk second)
-    → PerformsDifference w (files_of s m remaining y) first second old new left result → Comes true Nothing plain_status (of_file (disk first) (λ b. of_file (disk second) (difference_outcome w b))) old.output new.output result
-difference_foretold remaining w s m y first second disk old new left result sized answers order (inl none) =
-    refused_so true Nothing s plain_status first disk (stores_in left) (streams_in left) _ (y.calls old.opened) (y.calls new.opened) [] old.output new.output result refl answers none.1
-difference_foretold remaining w s m y first second disk old new left result sized answers order (inr (inl half)) =
+pub difference_foretold : {F I J M Y : Type 0} (feed : I → Feed) (w : ℕ) (s : Ghosts F) (m : Ghosts M) (y : Systems Y F I M) (first second : List ℕ) (disk : Disk) (old new : State Y) (left : Left F M I J) (result : Result Unit Fault) → IsSized s → EachAnswered s disk (stores_in left) (y.calls old.opened) (y.calls new.opened) → AreComparable w (disk first) (disk second)
+    → PerformsDifference w (files_of s m feed y) first second old new left result → Comes true Nothing plain_status (of_file (disk first) (λ b. of_file (disk second) (difference_outcome w b))) old.output new.output result
+difference_foretold feed w s m y first second disk old new left result sized answers order (inl none) =
+    refused_so true Nothing s plain_status first disk (stores_in left) _ (y.calls old.opened) (y.calls new.opened) [] old.output new.output result refl answers none.1
+difference_foretold feed w s m y first second disk old new left result sized answers order (inr (inl half)) =
     let miss = half.refuses.misses in
-    let calls = subst (λ l. EachAnswered s disk (stores_in l) (streams_in l) (y.calls old.opened) (y.calls new.opened)) half.is_left answers ((Unopened miss.why miss.found, second) ∷ (AtPlaces, first) ∷ []) miss.calls in
+    let calls = subst (λ l. EachAnswered s disk (stores_in l) (y.calls old.opened) (y.calls new.opened)) half.is_left answers ((Unopened miss.why miss.found, second) ∷ (AtPlaces, first) ∷ []) miss.calls in
     of_shown true Nothing s plain_status (disk first) half.file [] _ old.output new.output result calls.1.0
-    (λ b is works. refused_so true Nothing s plain_status second disk (stores_in left) (streams_in left) (difference_outcome w b) (y.calls old.opened) (y.calls new.opened) ((AtPlaces, first) ∷ []) old.output new.output result refl answers half.refuses)
-difference_foretold remaining w s m y first second disk old new left result sized answers order (inr (inr both)) =
+    (λ b is works. refused_so true Nothing s plain_status second disk (stores_in left) (difference_outcome w b) (y.calls old.opened) (y.calls new.opened) ((AtPlaces, first) ∷ []) old.output new.output result refl answers half.refuses)
+difference_foretold feed w s m y first second disk old new left result sized answers order (inr (inr both)) =
     let files = both.1 in
-    let calls = subst (λ l. EachAnswered s disk (stores_in l) (streams_in l) (y.calls old.opened) (y.calls new.opened)) files.are_last answers ((AtPlaces, second) ∷ (AtPlaces, first) ∷ []) both.0 in
+    let calls = subst (λ l. EachAnswered s disk (stores_in l) (y.calls old.opened) (y.calls new.opened)) files.are_last answers ((AtPlaces, second) ∷ (AtPlaces, first) ∷ []) both.0 in
     compared w s (disk first) (disk second) files.old files.old_last files.new files.new_last old.output new.output result sized order calls.1.0 calls.0 files.tells

@@ -1,12 +1,11 @@
 -- What comes of each command that reads one file: what the oracle says of it, or a refusal.
 use Rattle.cdb_system.proofs.OutputTaken.{taken}
-use Rattle.std.proofs.Common.{ℕ, Bool, true, false, ◌<◌, ◌≤◌, List, [], ◌∷◌, ◌++◌, length, flat_map, Option, Some, None, Result, Ok, Err, ◌≡◌, ◌∙◌, ap, inl, inr, refl, subst, sym, arith, append_assoc}
+use Rattle.std.proofs.Common.{ℕ, Bool, true, false, ◌<◌, ◌≤◌, List, [], ◌∷◌, ◌++◌, length, flat_map, Option, Some, None, IfSome, Result, Ok, Err, ◌≡◌, ◌∙◌, ap, inl, inr, refl, subst, sym, arith, append_assoc}
 use Rattle.std.specs.Prelude.{nat_lt, if◌then◌else◌}
 use Rattle.std.proofs.lemmas.Bool.{cond-true, cond-false, lt-ltb, le-ltb}
 use Rattle.std.proofs.lemmas.Grind.{flat_map-append}
 use Rattle.std.specs.Io.KnownBytes.{Appends, Keeps}
-use Rattle.cdb_feed.specs.Noted.{noted_feed}
-use Rattle.cdb_feed.specs.declared.noted_reader.NotedReader.{NotedReader}
+use Rattle.cdb_feed.specs.Inputs.{IsUnread}
 use Rattle.cdb_form.specs.Fed.Feed.{Feed, FromTo}
 use Rattle.cdb_form.specs.Views.KnownBytes.{AppendsPrefix}
 use Rattle.cdb_form.specs.Format.Pair.{head_size}
@@ -35,16 +34,16 @@ use Rattle.cdb_show.specs.Runs.Query.{QueryAnswers, Query, Queries, QueryFails, 
 use Rattle.cdb_show.specs.Status.{plain_status, check_status}
 use Rattle.cdb_show.specs.declared.fault.Fault.{Fault}
 use Rattle.cdb_show.specs.declared.fault.Fault.TheVariants.{Text, Make, Duplicate, Missing, Read, Walk, Output, Long, Open, Rename, NoMemory, Old, New, NoOldTables, NoNewTables}
-use Rattle.cdb_system.specs.Answered.{Database, Nothing, Reading, if_some, stores_in, streams_in}
-use Rattle.cdb_system.proofs.Coming.{Comes, EachAnswered, IsSized, comes_so, gives_none, gives_up, long_is, nothing_written, of_shown, output_of, refused_so, short_is}
+use Rattle.cdb_system.specs.Answered.{Database, Nothing, Reading, stores_in, streams_in}
+use Rattle.cdb_system.proofs.Coming.{Comes, EachAgrees, EachAnswered, IsSized, comes_so, gives_none, gives_up, long_is, nothing_written, of_shown, output_of, refused_so, short_is}
 use Rattle.cdb_system.specs.Oracle.{Disk, Outcome, check_outcome, ended, met, of_file, query_outcome, short_or, stats_outcome, text_outcome, unless_damaged}
 use Rattle.cdb_system.specs.Reading.{ChecksStore, IsNotLoaded, LacksMemory, OfInput, PerformsOn, PerformsQuery, PerformsText, ReadsText, Tells}
 use Rattle.cdb_show.specs.Views.Window.{window_feed}
-use Rattle.cdb_system.specs.Streams.{Agrees, unread}
+use Rattle.cdb_system.specs.Streams.{Agrees}
 use Rattle.cdb_system.specs.declared.left.Left.{Left}
 use Rattle.cdb_system.specs.declared.open_trace.OpenCall.TheVariants.{AtPlaces, InTurn, Stream, Unopened}
 use Rattle.cdb_system.specs.declared.system.System.{Ghosts as Systems}
-use Rattle.cdb_system.specs.State.{State}
+use Rattle.cdb_system.specs.State.{Standard, State}
 use Rattle.cdb_system.specs.Files.{files_of}
 
 -- ---- query
@@ -91,13 +90,13 @@ query_comes : {S : Type 0} (w : ℕ) (s : Ghosts S) (q : Query) (file last : S) 
 query_comes w s q file last bytes start end (Ok done) is size works h = query_answered w s q last bytes start end (Ok tt) is size h.ok
 query_comes w s q file last bytes start end (Err fault) is size works h = query_ended w s q file last bytes start end fault is size works h.err
 
-pub query_foretold : {F I J M Y : Type 0} (remaining : I → Option (List ℕ)) (w : ℕ) (s : Ghosts F) (m : Ghosts M) (y : Systems Y F I M) (name : List ℕ) (q : Query) (disk : Disk) (old new : State Y) (left : Left F M I J) (result : Result Unit Fault) → IsSized s → EachAnswered s disk (stores_in left) (streams_in left) (y.calls old.opened) (y.calls new.opened)
-    → PerformsQuery w (files_of s m remaining y) name q old new left result → Comes true Nothing plain_status (of_file (disk name) (query_outcome w q)) old.output new.output result
-query_foretold remaining w s m y name q disk old new left result sized answers (inl none) =
-    refused_so true Nothing s plain_status name disk (stores_in left) (streams_in left) (query_outcome w q) (y.calls old.opened) (y.calls new.opened) [] old.output new.output result refl answers none.1
-query_foretold remaining w s m y name q disk old new left result sized answers (inr some) =
+pub query_foretold : {F I J M Y : Type 0} (feed : I → Feed) (w : ℕ) (s : Ghosts F) (m : Ghosts M) (y : Systems Y F I M) (name : List ℕ) (q : Query) (disk : Disk) (old new : State Y) (left : Left F M I J) (result : Result Unit Fault) → IsSized s → EachAnswered s disk (stores_in left) (y.calls old.opened) (y.calls new.opened)
+    → PerformsQuery w (files_of s m feed y) name q old new left result → Comes true Nothing plain_status (of_file (disk name) (query_outcome w q)) old.output new.output result
+query_foretold feed w s m y name q disk old new left result sized answers (inl none) =
+    refused_so true Nothing s plain_status name disk (stores_in left) (query_outcome w q) (y.calls old.opened) (y.calls new.opened) [] old.output new.output result refl answers none.1
+query_foretold feed w s m y name q disk old new left result sized answers (inr some) =
     let file = some.1 in
-    of_shown true Nothing s plain_status (disk name) file.last [] (query_outcome w q) old.output new.output result (subst (λ l. EachAnswered s disk (stores_in l) (streams_in l) (y.calls old.opened) (y.calls new.opened)) file.is_last answers ((AtPlaces, name) ∷ []) some.0).0
+    of_shown true Nothing s plain_status (disk name) file.last [] (query_outcome w q) old.output new.output result (subst (λ l. EachAnswered s disk (stores_in l) (y.calls old.opened) (y.calls new.opened)) file.is_last answers ((AtPlaces, name) ∷ []) some.0).0
     (λ bytes is works. query_comes w s q file.file file.last bytes old.output new.output result is (sized file.last bytes is) works file.queries)
 
 -- ---- dump and list
@@ -112,9 +111,9 @@ first_written form records first more ending e =
 text_output : (w : ℕ) (form : Form) (bytes : List ℕ) → (text_outcome w form bytes).output ≡ walk_text form (walk_of w bytes)
 text_output w form bytes = output_of plain_status (walk_text form (walk_of w bytes)) (met (walk_of w bytes).damage)
 
--- what holds of each stream that agrees holds of this one
-of_this : (left : Feed) (P : List ℕ → List ℕ → Type 0) (bytes rest : List ℕ) → FromTo unread left P → left.may bytes rest → P bytes rest
-of_this left P bytes rest f m = let t = f.back tt bytes rest m in subst (λ b. P b rest) t.1 t.2
+-- what holds of each stream that agrees holds of this one, of which nothing had been taken
+of_this : (before after : Feed) (P : List ℕ → List ℕ → Type 0) (bytes rest : List ℕ) → IsUnread before → FromTo before after P → after.may bytes rest → P bytes rest
+of_this before after P bytes rest unread f m = let t = f.back unread.known bytes rest m in subst (λ b. P b rest) (unread.all bytes t.0 t.1) t.2
 
 text_walked : (w : ℕ) (form : Form) (bytes : List ℕ) (walked : Walked) (damage : Option Damage) (start end : Option (List ℕ)) (result : Result Unit Fault) → ((text : List ℕ) → ended plain_status text (met damage) ≡ ended plain_status text result) → walk_of w bytes ≡ walked → walked.damage ≡ damage → Appends start end (walk_text form walked) → Comes true Database plain_status (text_outcome w form bytes) start end result
 text_walked w form bytes walked damage start end result same is ends appended =
@@ -124,13 +123,13 @@ text_walked w form bytes walked damage start end result same is ends appended =
     appended
 
 -- the text of a stream that agrees with what is left
-module _ (w : ℕ) (form : Form) (left : Feed) (bytes rest : List ℕ) (m : left.may bytes rest) (start end : Option (List ℕ)) where
-  text_damaged : (damage : Option Damage) (result : Result Unit Fault) → ((text : List ℕ) → ended plain_status text (met damage) ≡ ended plain_status text result) → WritesToDamage w form unread left damage start end → Comes true Database plain_status (text_outcome w form bytes) start end result
-  text_damaged damage result same h = text_walked w form bytes h.walked damage start end result same (of_this left _ bytes rest h.is m).0 h.ends h.appended
+module _ (w : ℕ) (form : Form) (before left : Feed) (unread : IsUnread before) (bytes rest : List ℕ) (m : left.may bytes rest) (start end : Option (List ℕ)) where
+  text_damaged : (damage : Option Damage) (result : Result Unit Fault) → ((text : List ℕ) → ended plain_status text (met damage) ≡ ended plain_status text result) → WritesToDamage w form before left damage start end → Comes true Database plain_status (text_outcome w form bytes) start end result
+  text_damaged damage result same h = text_walked w form bytes h.walked damage start end result same (of_this before left _ bytes rest unread h.is m).0 h.ends h.appended
 
-  text_first : WritesFirst w form unread left start end → AppendsPrefix start end (text_outcome w form bytes).output
+  text_first : WritesFirst w form before left start end → AppendsPrefix start end (text_outcome w form bytes).output
   text_first h =
-      let is = (of_this left _ bytes rest h.is m).0 in
+      let is = (of_this before left _ bytes rest unread h.is m).0 in
       let ending = closing form (walk_of w bytes).damage in
       record {
         front = flat_map form.item h.first;
@@ -139,10 +138,10 @@ module _ (w : ℕ) (form : Form) (left : Feed) (bytes rest : List ℕ) (m : left
         appended = h.appended;
       }
 
-  text_prefix : WritesTextPrefix w form unread left start end → AppendsPrefix start end (text_outcome w form bytes).output
-  text_prefix h = subst (AppendsPrefix start end) (sym (text_output w form bytes)) (of_this left _ bytes rest h.is m).0
+  text_prefix : WritesTextPrefix w form before left start end → AppendsPrefix start end (text_outcome w form bytes).output
+  text_prefix h = subst (AppendsPrefix start end) (sym (text_output w form bytes)) (of_this before left _ bytes rest unread h.is m).0
 
-  text_ended : (fault : Fault) → WritingFails w form unread left start end fault → Comes true Database plain_status (text_outcome w form bytes) start end (Err fault)
+  text_ended : (fault : Fault) → WritingFails w form before left start end fault → Comes true Database plain_status (text_outcome w form bytes) start end (Err fault)
   text_ended (Walk walk.Short) h = text_damaged _ _ (λ text. refl) h
   text_ended (Walk (walk.Table n)) h = text_damaged _ _ (λ text. refl) h
   text_ended (Walk (walk.Record place)) h = text_damaged _ _ (λ text. refl) h
@@ -163,36 +162,37 @@ module _ (w : ℕ) (form : Form) (left : Feed) (bytes rest : List ℕ) (m : left
   text_ended (Old fault) h = absurd h
   text_ended (New fault) h = absurd h
 
-  text_comes : (result : Result Unit Fault) → WritesWalk w form unread left start end result → Comes true Database plain_status (text_outcome w form bytes) start end result
-  text_comes (Ok done) h = text_walked w form bytes h.ok.walked None start end (Ok tt) (λ text. refl) (of_this left _ bytes rest h.ok.is m).0 h.ok.ends h.ok.appended
+  text_comes : (result : Result Unit Fault) → WritesWalk w form before left start end result → Comes true Database plain_status (text_outcome w form bytes) start end result
+  text_comes (Ok done) h = text_walked w form bytes h.ok.walked None start end (Ok tt) (λ text. refl) (of_this before left _ bytes rest unread h.ok.is m).0 h.ok.ends h.ok.appended
   text_comes (Err fault) h = text_ended fault h.err
 
 lacks_memory : (status : Fault → ℕ) (o : Outcome) (start end : Option (List ℕ)) (result : Result Unit Fault) → LacksMemory start end result → Comes true Database status o start end result
 lacks_memory status o start end result h = subst (Comes true Database status o start end) (sym h.0) (gives_none true Database status o start end NoMemory tt h.1)
 
-text_read : (w : ℕ) (form : Form) (left : Feed) (bytes rest : List ℕ) (start end : Option (List ℕ)) (result : Result Unit Fault) → left.may bytes rest → ReadsText w form left start end result → Comes true Database plain_status (text_outcome w form bytes) start end result
-text_read w form left bytes rest start end result m (inl lacks) = lacks_memory plain_status _ start end result lacks
-text_read w form left bytes rest start end result m (inr writes) =
-    text_comes w form (window_feed left writes.held) bytes (writes.held ++ rest) (record { behind = rest; may = m; is = refl }) start end result writes.walk
+text_read : (w : ℕ) (form : Form) (before left : Feed) (bytes rest : List ℕ) (start end : Option (List ℕ)) (result : Result Unit Fault) → IsUnread before → left.may bytes rest → ReadsText w form before left start end result → Comes true Database plain_status (text_outcome w form bytes) start end result
+text_read w form before left bytes rest start end result unread m (inl lacks) = lacks_memory plain_status _ start end result lacks
+text_read w form before left bytes rest start end result unread m (inr writes) =
+    text_comes w form before (window_feed left writes.held) unread bytes (writes.held ++ rest) (record { behind = rest; may = m; is = refl }) start end result writes.walk
 
-text_agrees : {R : Type 0} (w : ℕ) (form : Form) (file : Option (List ℕ)) (last : NotedReader R) (start end : Option (List ℕ)) (result : Result Unit Fault) → Agrees file (last ∷ []) → ReadsText w form (noted_feed last) start end result → Comes true Database plain_status (of_file file (text_outcome w form)) start end result
-text_agrees w form (Some bytes) last start end result agrees h = text_read w form (noted_feed last) bytes agrees.0 start end result agrees.1 h
-text_agrees w form None last start end result agrees h = absurd agrees
+text_agrees : (w : ℕ) (form : Form) (file : Option (List ℕ)) (before left : Feed) (start end : Option (List ℕ)) (result : Result Unit Fault) → IsUnread before → Agrees file left → ReadsText w form before left start end result → Comes true Database plain_status (of_file file (text_outcome w form)) start end result
+text_agrees w form (Some bytes) before left start end result unread agrees h = text_read w form before left bytes agrees.0 start end result unread agrees.1 h
+text_agrees w form None before left start end result unread agrees h = absurd agrees
 
-pub text_named : {F I J M Y : Type 0} (s : Ghosts F) (remaining : I → Option (List ℕ)) (w : ℕ) (m : Ghosts M) (y : Systems Y F I M) (form : Form) (name : List ℕ) (disk : Disk) (old new : State Y) (left : Left F M I J) (result : Result Unit Fault) → EachAnswered s disk (stores_in left) (streams_in left) (y.calls old.opened) (y.calls new.opened)
-    → PerformsText w (files_of s m remaining y) form (Some name) old new left result → Comes true Database plain_status (of_file (disk name) (text_outcome w form)) old.output new.output result
-text_named s remaining w m y form name disk old new left result answers (inl none) =
-    refused_so true Database s plain_status name disk (stores_in left) (streams_in left) (text_outcome w form) (y.calls old.opened) (y.calls new.opened) [] old.output new.output result refl answers none.1
-text_named s remaining w m y form name disk old new left result answers (inr opened) =
+pub text_named : {F I J M Y : Type 0} (s : Ghosts F) (feed : I → Feed) (w : ℕ) (m : Ghosts M) (y : Systems Y F I M) (form : Form) (name : List ℕ) (disk : Disk) (input : Standard J) (old new : State Y) (left : Left F M I J) (result : Result Unit Fault) → EachAnswered s disk (stores_in left) (y.calls old.opened) (y.calls new.opened) → EachAgrees feed disk (streams_in left) (y.calls old.opened) (y.calls new.opened)
+    → PerformsText w (files_of s m feed y) form (Some name) input old new left result → Comes true Database plain_status (of_file (disk name) (text_outcome w form)) old.output new.output result
+text_named s feed w m y form name disk input old new left result answers agree (inl none) =
+    refused_so true Database s plain_status name disk (stores_in left) (text_outcome w form) (y.calls old.opened) (y.calls new.opened) [] old.output new.output result refl answers none.1
+text_named s feed w m y form name disk input old new left result answers agree (inr opened) =
     let of = opened.1 in
-    text_agrees w form (disk name) of.last old.output new.output result
-    (subst (λ l. EachAnswered s disk (stores_in l) (streams_in l) (y.calls old.opened) (y.calls new.opened)) of.is_last answers ((InTurn, name) ∷ []) opened.0).0
+    text_agrees w form (disk name) (feed of.file) (feed of.last) old.output new.output result of.unread
+    (subst (λ l. EachAgrees feed disk (streams_in l) (y.calls old.opened) (y.calls new.opened)) of.is_last agree ((InTurn, name) ∷ []) opened.0).0
     of.reads
 
-pub text_input : {F I J M Y : Type 0} (s : Ghosts F) (remaining : I → Option (List ℕ)) (w : ℕ) (m : Ghosts M) (y : Systems Y F I M) (form : Form) (input : List ℕ) (old new : State Y) (left : Left F M I J) (result : Result Unit Fault) → Agrees (Some input) (if_some left.input)
-    → PerformsText w (files_of s m remaining y) form None old new left result → Comes true Database plain_status (text_outcome w form input) old.output new.output result
-text_input s remaining w m y form input old new left result agrees h =
-    text_agrees w form (Some input) h.1.last old.output new.output result (subst (λ l. Agrees (Some input) (if_some l.input)) h.1.is_last agrees) h.1.reads
+pub text_input : {F I J M Y : Type 0} (s : Ghosts F) (feed : I → Feed) (w : ℕ) (m : Ghosts M) (y : Systems Y F I M) (form : Form) (bytes : List ℕ) (input : Standard J) (old new : State Y) (left : Left F M I J) (result : Result Unit Fault) → IsUnread (input.feed input.reader) → IfSome left.input (λ reader. Agrees (Some bytes) (input.feed reader))
+    → PerformsText w (files_of s m feed y) form None input old new left result → Comes true Database plain_status (text_outcome w form bytes) old.output new.output result
+text_input s feed w m y form bytes input old new left result unread agrees h =
+    let reads = h.1 in
+    text_agrees w form (Some bytes) (input.feed input.reader) (input.feed reads.last) old.output new.output result unread (subst (λ l. IfSome l.input (λ reader. Agrees (Some bytes) (input.feed reader))) reads.is_last agrees) reads.reads
 
 -- ---- statistics
 
@@ -285,15 +285,15 @@ yes_is_no e = cc
 unknown_is_no : looks.Unknown ≡ looks.No → ⊥
 unknown_is_no e = cc
 
-pub on_named : {F I J M Y : Type 0} (writes : Bool) (s : Ghosts F) (m : Ghosts M) (remaining : I → Option (List ℕ)) (y : Systems Y F I M) (status : Fault → ℕ) (most : ℕ) (name : List ℕ) (disk : Disk) (outcome : List ℕ → Outcome) (old new : State Y) (left : Left F M I J) (result : Result Unit Fault) (file : F → F → Type 0) (taken : MemStore → MemStore → Type 0)
-    → 111 ≡ status Open → EachAnswered s disk (stores_in left) (streams_in left) (y.calls old.opened) (y.calls new.opened) → ((store last : F) (bytes : List ℕ) → s.image last bytes → s.failures last ≡ 0 → file store last → Comes writes Nothing status (outcome bytes) old.output new.output result)
-    → PerformsOn (files_of s m remaining y) most (Some name) old new left result file taken → Comes writes Nothing status (of_file (disk name) outcome) old.output new.output result
-on_named writes s m remaining y status most name disk outcome old new left result file taken plain answers comes h = elim h [
-  | inl none ↦ refused_so writes Nothing s status name disk (stores_in left) (streams_in left) outcome (y.calls old.opened) (y.calls new.opened) ((Stream looks.No, name) ∷ []) old.output new.output result plain answers none.1
+pub on_named : {F I J M Y : Type 0} (writes : Bool) (s : Ghosts F) (m : Ghosts M) (feed : I → Feed) (y : Systems Y F I M) (status : Fault → ℕ) (most : ℕ) (name : List ℕ) (disk : Disk) (outcome : List ℕ → Outcome) (input : Standard J) (old new : State Y) (left : Left F M I J) (result : Result Unit Fault) (file : F → F → Type 0) (taken : MemStore → MemStore → Type 0)
+    → 111 ≡ status Open → EachAnswered s disk (stores_in left) (y.calls old.opened) (y.calls new.opened) → ((store last : F) (bytes : List ℕ) → s.image last bytes → s.failures last ≡ 0 → file store last → Comes writes Nothing status (outcome bytes) old.output new.output result)
+    → PerformsOn (files_of s m feed y) most (Some name) input old new left result file taken → Comes writes Nothing status (of_file (disk name) outcome) old.output new.output result
+on_named writes s m feed y status most name disk outcome input old new left result file taken plain answers comes h = elim h [
+  | inl none ↦ refused_so writes Nothing s status name disk (stores_in left) outcome (y.calls old.opened) (y.calls new.opened) ((Stream looks.No, name) ∷ []) old.output new.output result plain answers none.1
   | inr h ↦ elim h [
     | inl some ↦
         (let of = some.1 in
-        of_shown writes Nothing s status (disk name) of.last [] outcome old.output new.output result (subst (λ l. EachAnswered s disk (stores_in l) (streams_in l) (y.calls old.opened) (y.calls new.opened)) of.is_last answers ((AtPlaces, name) ∷ (Stream looks.No, name) ∷ []) some.0).0 (λ bytes is works. comes of.file of.last bytes is works of.does))
+        of_shown writes Nothing s status (disk name) of.last [] outcome old.output new.output result (subst (λ l. EachAnswered s disk (stores_in l) (y.calls old.opened) (y.calls new.opened)) of.is_last answers ((AtPlaces, name) ∷ (Stream looks.No, name) ∷ []) some.0).0 (λ bytes is works. comes of.file of.last bytes is works of.does))
     | inr h ↦ elim h [
       | inl none ↦
           (let miss = none.1.misses in
@@ -306,39 +306,39 @@ on_named writes s m remaining y status most name disk outcome old new left resul
   ]
 ]
 
-not_taken : (writes : Bool) (status : Fault → ℕ) (most : ℕ) (left : Feed) (input rest : List ℕ) (outcome : List ℕ → Outcome) (start end : Option (List ℕ)) (fault : Fault) → 111 ≡ status Long → left.may input rest → IsNotLoaded most left fault → Keeps start end → Comes writes Database status (if nat_lt most (length input) then ended plain_status [] (Err Long) else outcome input) start end (Err fault)
-not_taken writes status most left input rest outcome start end Long plain m h k =
-    comes_so writes Database status _ [] start end (Err Long) (cond-true (nat_lt most (length input)) _ _ (lt-ltb most (length input) (of_this left _ input rest h m)) ∙ ap (λ n. record { status = n; output = []; lines = fault_line Long }) plain) (nothing_written start end k)
-not_taken writes status most left input rest outcome start end (Walk walk.Input) plain m h k = gives_none writes Database status _ start end _ refl k
-not_taken writes status most left input rest outcome start end NoMemory plain m h k = gives_none writes Database status _ start end _ tt k
-not_taken writes status most left input rest outcome start end (Walk walk.Short) plain m h k = absurd h
-not_taken writes status most left input rest outcome start end (Walk (walk.Table n)) plain m h k = absurd h
-not_taken writes status most left input rest outcome start end (Walk (walk.Record place)) plain m h k = absurd h
-not_taken writes status most left input rest outcome start end (Walk walk.NoMemory) plain m h k = absurd h
-not_taken writes status most left input rest outcome start end (Text n fault) plain m h k = absurd h
-not_taken writes status most left input rest outcome start end (Make fault) plain m h k = absurd h
-not_taken writes status most left input rest outcome start end Duplicate plain m h k = absurd h
-not_taken writes status most left input rest outcome start end Missing plain m h k = absurd h
-not_taken writes status most left input rest outcome start end (Read fault) plain m h k = absurd h
-not_taken writes status most left input rest outcome start end Output plain m h k = absurd h
-not_taken writes status most left input rest outcome start end Open plain m h k = absurd h
-not_taken writes status most left input rest outcome start end Rename plain m h k = absurd h
-not_taken writes status most left input rest outcome start end NoOldTables plain m h k = absurd h
-not_taken writes status most left input rest outcome start end NoNewTables plain m h k = absurd h
-not_taken writes status most left input rest outcome start end (Old fault) plain m h k = absurd h
-not_taken writes status most left input rest outcome start end (New fault) plain m h k = absurd h
+not_taken : (writes : Bool) (status : Fault → ℕ) (most : ℕ) (before left : Feed) (input rest : List ℕ) (outcome : List ℕ → Outcome) (start end : Option (List ℕ)) (fault : Fault) → 111 ≡ status Long → IsUnread before → left.may input rest → IsNotLoaded most before left fault → Keeps start end → Comes writes Database status (if nat_lt most (length input) then ended plain_status [] (Err Long) else outcome input) start end (Err fault)
+not_taken writes status most before left input rest outcome start end Long plain unread m h k =
+    comes_so writes Database status _ [] start end (Err Long) (cond-true (nat_lt most (length input)) _ _ (lt-ltb most (length input) (of_this before left _ input rest unread h m)) ∙ ap (λ n. record { status = n; output = []; lines = fault_line Long }) plain) (nothing_written start end k)
+not_taken writes status most before left input rest outcome start end (Walk walk.Input) plain unread m h k = gives_none writes Database status _ start end _ refl k
+not_taken writes status most before left input rest outcome start end NoMemory plain unread m h k = gives_none writes Database status _ start end _ tt k
+not_taken writes status most before left input rest outcome start end (Walk walk.Short) plain unread m h k = absurd h
+not_taken writes status most before left input rest outcome start end (Walk (walk.Table n)) plain unread m h k = absurd h
+not_taken writes status most before left input rest outcome start end (Walk (walk.Record place)) plain unread m h k = absurd h
+not_taken writes status most before left input rest outcome start end (Walk walk.NoMemory) plain unread m h k = absurd h
+not_taken writes status most before left input rest outcome start end (Text n fault) plain unread m h k = absurd h
+not_taken writes status most before left input rest outcome start end (Make fault) plain unread m h k = absurd h
+not_taken writes status most before left input rest outcome start end Duplicate plain unread m h k = absurd h
+not_taken writes status most before left input rest outcome start end Missing plain unread m h k = absurd h
+not_taken writes status most before left input rest outcome start end (Read fault) plain unread m h k = absurd h
+not_taken writes status most before left input rest outcome start end Output plain unread m h k = absurd h
+not_taken writes status most before left input rest outcome start end Open plain unread m h k = absurd h
+not_taken writes status most before left input rest outcome start end Rename plain unread m h k = absurd h
+not_taken writes status most before left input rest outcome start end NoOldTables plain unread m h k = absurd h
+not_taken writes status most before left input rest outcome start end NoNewTables plain unread m h k = absurd h
+not_taken writes status most before left input rest outcome start end (Old fault) plain unread m h k = absurd h
+not_taken writes status most before left input rest outcome start end (New fault) plain unread m h k = absurd h
 
-pub on_input : {F I J M : Type 0} (writes : Bool) (status : Fault → ℕ) (most : ℕ) (input : List ℕ) (outcome : List ℕ → Outcome) (left : Left F M I J) (start end : Option (List ℕ)) (result : Result Unit Fault) (taken : MemStore → MemStore → Type 0)
-    → 111 ≡ status Long → Agrees (Some input) (if_some left.input) → ((store last : MemStore) → taken store last → Comes writes Database status (outcome (contents store)) start end result)
-    → OfInput most left start end result taken → Comes writes Database status (if nat_lt most (length input) then ended plain_status [] (Err Long) else outcome input) start end result
-on_input writes status most input outcome left start end result taken plain agrees comes h =
-    let agrees = subst (λ l. Agrees (Some input) (if_some l.input)) h.is_last agrees in
+pub on_input : {F I J M : Type 0} (writes : Bool) (status : Fault → ℕ) (most : ℕ) (bytes : List ℕ) (outcome : List ℕ → Outcome) (input : Standard J) (left : Left F M I J) (start end : Option (List ℕ)) (result : Result Unit Fault) (taken : MemStore → MemStore → Type 0)
+    → 111 ≡ status Long → IsUnread (input.feed input.reader) → IfSome left.input (λ reader. Agrees (Some bytes) (input.feed reader)) → ((store last : MemStore) → taken store last → Comes writes Database status (outcome (contents store)) start end result)
+    → OfInput most input left start end result taken → Comes writes Database status (if nat_lt most (length bytes) then ended plain_status [] (Err Long) else outcome bytes) start end result
+on_input writes status most bytes outcome input left start end result taken plain unread agrees comes h =
+    let agrees = subst (λ l. IfSome l.input (λ reader. Agrees (Some bytes) (input.feed reader))) h.is_last agrees in
     elim h.takes [
-      | inl none ↦ subst (Comes writes Database status _ start end) (sym none.is) (not_taken writes status most (noted_feed h.last) input agrees.0 outcome start end none.fault plain agrees.1 none.why none.kept)
+      | inl none ↦ subst (Comes writes Database status _ start end) (sym none.is) (not_taken writes status most (input.feed input.reader) (input.feed h.last) bytes agrees.0 outcome start end none.fault plain unread agrees.1 none.why none.kept)
       | inr some ↦
-          (let whole : contents some.store ≡ input = of_this (noted_feed h.last) _ input agrees.0 some.is.whole agrees.1 in
+          (let whole : contents some.store ≡ bytes = of_this (input.feed input.reader) (input.feed h.last) _ bytes agrees.0 unread some.is.whole agrees.1 in
           let few = subst (λ b. length b ≤ most) whole some.is.few in
-          subst (λ o. Comes writes Database status o start end result) (sym (cond-false (nat_lt most (length input)) _ _ (le-ltb most (length input) few)))
+          subst (λ o. Comes writes Database status o start end result) (sym (cond-false (nat_lt most (length bytes)) _ _ (le-ltb most (length bytes) few)))
           (subst (λ b. Comes writes Database status (outcome b) start end result) whole (comes some.store some.last some.does)))
     ]
 

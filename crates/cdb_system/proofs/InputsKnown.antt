@@ -1,39 +1,38 @@
 -- What the inputs have that were opened, and that one was not there, by the calls that were noted.
-use Rattle.std.proofs.Common.{ℕ, true, false, List, [], ◌∷◌, ◌++◌, map, Option, Some, None, IfSome, ◌≡◌, ◌∙◌, ap, refl, subst, sym, append_assoc, option_map, codes}
+use Rattle.std.proofs.Common.{ℕ, suc, true, false, List, [], ◌∷◌, ◌++◌, length, Option, Some, None, IfSome, ◌≡◌, ◌∙◌, ap, refl, subst, sym, append_assoc, append-nil, option_map, codes}
+use Rattle.std.specs.Prelude.{⊤}
 use Rattle.std.specs.List.{AllByRecursion}
 use Rattle.std.proofs.lemmas.Bool.{cond-true, cond-false, false_from_ne_true}
-use Rattle.std.proofs.lemmas.List.{append_cancel_right}
 use Rattle.std.proofs.lemmas.Slice.Eq.{bytes_eq-Decides}
+use Rattle.cdb_feed.specs.Inputs.{AgreesWith, AreRead, FirstAgree, Stop, NoMore, HasFault, CutShort, NotBegun, StopsSo, TakesOne, reached}
+use Rattle.cdb_feed.specs.Parsing.{Parsing}
+use Rattle.cdb_feed.specs.declared.input_reader.InputReader.{InputReader}
+use Rattle.cdb_feed.specs.declared.input_reader.InputReader.TheVariants.{Own, Shared}
+use Rattle.cdb_form.specs.Fed.Feed.{Feed}
 use Rattle.cdb_form.specs.Format.Record.{AreBytes}
 use Rattle.cdb_store.specs.declared.store.Store.{Ghosts}
-use Rattle.cdb_show.specs.Views.Inputs.{one_of}
-use Rattle.cdb_show.specs.declared.inputs.Turn.{Turn}
-use Rattle.cdb_show.specs.declared.inputs.Turn.TheVariants.{Own, Shared}
-use Rattle.cdb_show.specs.Runs.Inputs as form
-use Rattle.cdb_show.specs.Runs.Incoming.{EachOfBytes, one_input}
-use Rattle.cdb_system.specs.Answered.{IsRevealed, Reveals, if_some}
-use Rattle.cdb_system.specs.Inputs.{IsStandard, OpensEach, OpensInput, OpensInputs}
+use Rattle.cdb_show.specs.Runs.Incoming.{EachOfBytes}
+use Rattle.cdb_system.specs.Answered.{AreAnswered, IsAnswered, IsThere, stores_before}
+use Rattle.cdb_system.specs.Inputs.{IsStandard, OpensEach, OpensInputs, inputs_read}
 use Rattle.cdb_system.specs.Opening.{OpenCalls}
 use Rattle.cdb_system.specs.Oracle.{Disk, both, each_of, input_of, inputs_of, is_standard}
+use Rattle.cdb_system.specs.Streams.{AgreeInTurn, Agrees, name_in_turn, names_in_turn, own_readers}
+use Rattle.cdb_system.specs.declared.open_trace.OpenCall.{OpenCall}
 use Rattle.cdb_system.specs.declared.open_trace.OpenCall.TheVariants.{InTurn}
 use Rattle.cdb_system.specs.declared.system.System.{Ghosts as Systems}
 
--- ---- lists of calls
+-- ---- lists
 
-pub all_front : {A : Type 0} (P : A → Type 0) (xs ys : List A) → AllByRecursion P (xs ++ ys) → AllByRecursion P xs
-all_front P [] ys h = tt
-all_front P (x ∷ xs) ys h = (h.0, all_front P xs ys h.1)
+pub all_join : {A : Type 0} (P : A → Type 0) (xs ys : List A) → AllByRecursion P xs → AllByRecursion P ys → AllByRecursion P (xs ++ ys)
+all_join P [] ys a b = b
+all_join P (x ∷ xs) ys a b = (a.0, all_join P xs ys a.1 b)
 
-pub all_back : {A : Type 0} (P : A → Type 0) (xs ys : List A) → AllByRecursion P (xs ++ ys) → AllByRecursion P ys
-all_back P [] ys h = h
-all_back P (x ∷ xs) ys h = all_back P xs ys h.1
+pub in_turn_then : (later earlier : OpenCalls) → names_in_turn (later ++ earlier) ≡ names_in_turn earlier ++ names_in_turn later
+in_turn_then [] earlier = sym (append-nil (names_in_turn earlier))
+in_turn_then (call ∷ later) earlier =
+    ap (λ names. names ++ name_in_turn call.0 call.1) (in_turn_then later earlier) ∙ append_assoc (names_in_turn earlier) (names_in_turn later) (name_in_turn call.0 call.1)
 
 -- ---- what was opened
-
-revealed : (file left : Option (List ℕ)) → Reveals file left → (b : List ℕ) × (file ≡ Some b) × (left ≡ Some b)
-revealed (Some b) (Some c) h = (b, refl, ap (λ (z : List ℕ). Some z) h)
-revealed (Some b) None h = absurd h
-revealed None left h = absurd h
 
 pub standard_is : (name : List ℕ) → IsStandard name → is_standard name ≡ true
 standard_is name is = (bytes_eq-Decides name (codes "-")).1 is
@@ -41,84 +40,146 @@ standard_is name is = (bytes_eq-Decides name (codes "-")).1 is
 pub standard_not : (name : List ℕ) → (IsStandard name → ⊥) → is_standard name ≡ false
 standard_not name other = false_from_ne_true (is_standard name) (λ e. other ((bytes_eq-Decides name (codes "-")).0 e))
 
--- what the inputs have
-pub record EachKnown {I : Type 0} (remaining : I → Option (List ℕ)) (disk : Disk) (names : List (List ℕ)) (turns : List (Turn I)) : Type 0 where
+-- the names of the inputs that have a reader of their own
+abbrev pub own_names : {I : Type 0} → List (List ℕ) → List (InputReader I) → List (List ℕ)
+own_names (name ∷ names) (Own reader ∷ readers) = name ∷ own_names names readers
+own_names (name ∷ names) (Shared ∷ readers) = own_names names readers
+own_names names readers = []
+
+-- each call since opened one of these
+pub record OpenedSince {I : Type 0} (names : List (List ℕ)) (readers : List (InputReader I)) (old new : OpenCalls) : Type 0 where
+  pub since : OpenCalls
+  pub are : new ≡ since ++ old
+  pub each : AllByRecursion (λ c. c.0 ≡ InTurn) since
+  pub in_turn : names_in_turn since ≡ own_names names readers
+
+pub opened_since : {F I M Y : Type 0} (y : Systems Y F I M) (names : List (List ℕ)) (readers : List (InputReader I)) (old new : OpenCalls) → OpensEach y names readers old new → OpenedSince names readers old new
+opened_since y [] [] old new e = record { since = []; are = e; each = tt; in_turn = refl }
+opened_since y (name ∷ names) (Shared ∷ readers) old new (mid, one, more) =
+    let rest = opened_since y names readers mid new more in
+    record { since = rest.since; are = rest.are ∙ ap (λ c. rest.since ++ c) one.1; each = rest.each; in_turn = rest.in_turn }
+opened_since y (name ∷ names) (Own reader ∷ readers) old new (mid, one, more) =
+    let rest = opened_since y names readers mid new more in
+    record {
+      since = rest.since ++ (InTurn, name) ∷ [];
+      are = rest.are ∙ ap (λ c. rest.since ++ c) one.1 ∙ sym (append_assoc rest.since ((InTurn, name) ∷ []) old);
+      each = all_join _ rest.since ((InTurn, name) ∷ []) rest.each (refl, tt);
+      in_turn = in_turn_then rest.since ((InTurn, name) ∷ []) ∙ ap (λ ns. name ∷ ns) rest.in_turn;
+    }
+opened_since y [] (reader ∷ readers) old new e = absurd e
+opened_since y (name ∷ names) [] old new e = absurd e
+
+pub inputs_since : {F I M Y : Type 0} (y : Systems Y F I M) (names : List (List ℕ)) (readers : List (InputReader I)) (old new : OpenCalls) → OpensInputs y names readers old new → OpensEach y (inputs_read names) readers old new
+inputs_since y [] readers old new h = subst (λ rs. OpensEach y (codes "-" ∷ []) rs old new) (sym h.0) (new, (refl, h.1), refl)
+inputs_since y (name ∷ names) readers old new h = h
+
+pub inputs_are : (disk : Disk) (names : List (List ℕ)) → inputs_of disk names ≡ each_of disk (inputs_read names)
+inputs_are disk [] = refl
+inputs_are disk (name ∷ names) = refl
+
+-- ---- what the files have
+
+-- the calls before those were answered, whatever stores were opened
+pub answered_before : {F : Type 0} (s : Ghosts F) (disk : Disk) (stores : List F) (since calls : OpenCalls) → AllByRecursion (λ c. c.0 ≡ InTurn) since → AreAnswered s disk (since ++ calls) stores → AreAnswered s disk calls stores
+answered_before s disk stores [] calls each h = h
+answered_before s disk stores (c ∷ since) calls each h =
+    answered_before s disk stores since calls each.1 (subst (λ k. AreAnswered s disk (since ++ calls) (stores_before k stores)) each.0 h.1)
+
+there_in_turn : {F : Type 0} (s : Ghosts F) (disk : Disk) (stores : List F) (call : OpenCall) (name : List ℕ) → call ≡ InTurn → IsAnswered s disk stores call name → AllByRecursion (λ name. IsThere (disk name)) (name_in_turn call name)
+there_in_turn s disk stores call name is h = subst (λ k. AllByRecursion (λ name. IsThere (disk name)) (name_in_turn k name)) (sym is) (subst (λ k. IsAnswered s disk stores k name) is h, tt)
+
+-- what was opened so is there
+pub opened_there : {F : Type 0} (s : Ghosts F) (disk : Disk) (stores : List F) (since calls : OpenCalls) → AllByRecursion (λ c. c.0 ≡ InTurn) since → AreAnswered s disk (since ++ calls) stores → AllByRecursion (λ name. IsThere (disk name)) (names_in_turn since)
+opened_there s disk stores [] calls each h = tt
+opened_there s disk stores (c ∷ since) calls each h =
+    all_join _ (names_in_turn since) _
+    (opened_there s disk stores since calls each.1 (subst (λ k. AreAnswered s disk (since ++ calls) (stores_before k stores)) each.0 h.1))
+    (there_in_turn s disk stores c.0 c.1 each.0 h.0)
+
+-- these are the bytes of the inputs, by the readers that were opened
+abbrev pub AreOf : {I : Type 0} → Disk → List (List ℕ) → List (InputReader I) → List (Option (List ℕ)) → Type 0
+AreOf disk [] [] [] = ⊤
+AreOf disk (name ∷ names) (Own reader ∷ readers) (Some bytes ∷ files) = (disk name ≡ Some bytes) × AreOf disk names readers files
+AreOf disk (name ∷ names) (Shared ∷ readers) (None ∷ files) = AreOf disk names readers files
+AreOf disk names readers files = ⊥
+
+pub record FilesOf {I : Type 0} (disk : Disk) (names : List (List ℕ)) (readers : List (InputReader I)) : Type 0 where
   pub files : List (Option (List ℕ))
   pub are : each_of disk names ≡ Some files
-  pub each : map (one_of remaining) turns ≡ map one_input files
+  pub of : AreOf disk names readers files
+  pub long : length files ≡ length readers
   pub own : EachOfBytes files
-
-own_bytes : (disk : Disk) (name b : List ℕ) → ((name : List ℕ) → IfSome (disk name) AreBytes) → disk name ≡ Some b → AreBytes b
-own_bytes disk name b all e = subst (λ o. IfSome o AreBytes) e (all name)
 
 both_are : {A : Type 0} (x : Option A) (xs : Option (List A)) (a : A) (rest : List A) → x ≡ Some a → xs ≡ Some rest → both (λ p ps. p ∷ ps) x xs ≡ Some (a ∷ rest)
 both_are x xs a rest e f = ap (λ o. both (λ p ps. p ∷ ps) o xs) e ∙ ap (λ o. both (λ p ps. p ∷ ps) (Some a) o) f
 
-one_grows : {F I M Y : Type 0} (y : Systems Y F I M) (name : List ℕ) (turn : Turn I) (old new : OpenCalls) → OpensInput y name turn old new → (calls : OpenCalls) × (new ≡ calls ++ old)
-one_grows y name Shared old new h = ([], h.1)
-one_grows y name (Own file) old new h = ((InTurn, name) ∷ [], h.1)
+there : (file : Option (List ℕ)) → IsThere file → (bytes : List ℕ) × (file ≡ Some bytes)
+there (Some bytes) h = (bytes, refl)
+there None h = absurd h
 
-pub grows : {F I M Y : Type 0} (y : Systems Y F I M) (names : List (List ℕ)) (turns : List (Turn I)) (old new : OpenCalls) → OpensEach y names turns old new → (calls : OpenCalls) × (new ≡ calls ++ old)
-grows y [] [] old new e = ([], e)
-grows y (name ∷ names) (turn ∷ turns) old new (mid, one, more) =
-    let a = one_grows y name turn old mid one in
-    let b = grows y names turns mid new more in
-    (b.0 ++ a.0, b.1 ∙ ap (λ c. b.0 ++ c) a.1 ∙ sym (append_assoc b.0 a.0 old))
-grows y [] (turn ∷ turns) old new e = absurd e
-grows y (name ∷ names) [] old new e = absurd e
-
--- one input
-one_known : {F I M Y : Type 0} (s : Ghosts F) (remaining : I → Option (List ℕ)) (y : Systems Y F I M) (disk : Disk) (read : Option F) (name : List ℕ) (turn : Turn I) (old new calls : OpenCalls) → ((name : List ℕ) → IfSome (disk name) AreBytes) → OpensInput y name turn old new
-    → new ≡ calls ++ old → AllByRecursion (λ c. IsRevealed s remaining y disk (if_some read) c.0 c.1) calls → (one : Option (List ℕ)) × (input_of disk name ≡ Some one) × (one_of remaining turn ≡ one_input one) × EachOfBytes (one ∷ [])
-one_known s remaining y disk read name Shared old new calls bytes h e all =
-    (None, cond-true (is_standard name) _ _ (standard_is name h.0), refl, tt)
-one_known s remaining y disk read name (Own file) old new calls bytes h e all =
-    let only : calls ≡ (InTurn, name) ∷ [] = append_cancel_right calls ((InTurn, name) ∷ []) old (sym e ∙ h.1) in
-    let answered = (subst (AllByRecursion (λ c. IsRevealed s remaining y disk (if_some read) c.0 c.1)) only all).0 in
-    let is = revealed (disk name) (remaining file) (answered file h.2) in (
-      Some is.0,
-      cond-false (is_standard name) _ _ (standard_not name h.0) ∙ ap (option_map (λ b. Some b)) is.1,
-      ap (λ (o : Option (List ℕ)). form.Own o) is.2,
-      (own_bytes disk name is.0 bytes is.1, tt),
-    )
-
-bytes_more : (one : Option (List ℕ)) (files : List (Option (List ℕ))) → EachOfBytes (one ∷ []) → EachOfBytes files → EachOfBytes (one ∷ files)
-bytes_more None files a b = b
-bytes_more (Some x) files a b = (a.0, b)
-
-pub same_calls : (a b c d : OpenCalls) (old mid new : OpenCalls) → new ≡ a ++ old → mid ≡ b ++ old → new ≡ c ++ mid → a ≡ c ++ b
-same_calls a b c d old mid new e f g = append_cancel_right a (c ++ b) old (sym e ∙ g ∙ ap (λ m. c ++ m) f ∙ sym (append_assoc c b old))
-
-each_known : {F I M Y : Type 0} (s : Ghosts F) (remaining : I → Option (List ℕ)) (y : Systems Y F I M) (disk : Disk) (read : Option F) (names : List (List ℕ)) (turns : List (Turn I)) (old new calls : OpenCalls) → ((name : List ℕ) → IfSome (disk name) AreBytes) → OpensEach y names turns old new
-    → new ≡ calls ++ old → AllByRecursion (λ c. IsRevealed s remaining y disk (if_some read) c.0 c.1) calls → EachKnown remaining disk names turns
-each_known s remaining y disk read [] [] old new calls bytes h e all = record { files = []; are = refl; each = refl; own = tt }
-each_known s remaining y disk read (name ∷ names) (turn ∷ turns) old new calls bytes (mid, one, more) e all =
-    let P : OpenCalls → Type 0 = AllByRecursion (λ c. IsRevealed s remaining y disk (if_some read) c.0 c.1) in
-    let a = one_grows y name turn old mid one in
-    let b = grows y names turns mid new more in
-    let split : calls ≡ b.0 ++ a.0 = same_calls calls a.0 b.0 [] old mid new e a.1 b.1 in
-    let answered : P (b.0 ++ a.0) = subst P split all in
-    let first = one_known s remaining y disk read name turn old mid a.0 bytes one a.1 (all_back _ b.0 a.0 answered) in
-    let rest = each_known s remaining y disk read names turns mid new b.0 bytes more b.1 (all_front _ b.0 a.0 answered) in
+pub files_of_each : {F I M Y : Type 0} (y : Systems Y F I M) (disk : Disk) (names : List (List ℕ)) (readers : List (InputReader I)) (old new : OpenCalls) → ((name : List ℕ) → IfSome (disk name) AreBytes) → OpensEach y names readers old new → AllByRecursion (λ name. IsThere (disk name)) (own_names names readers) → FilesOf disk names readers
+files_of_each y disk [] [] old new bytes h all = record { files = []; are = refl; of = tt; long = refl; own = tt }
+files_of_each y disk (name ∷ names) (Shared ∷ readers) old new bytes (mid, one, more) all =
+    let rest = files_of_each y disk names readers mid new bytes more all in
     record {
-      files = first.0 ∷ rest.files;
-      are = both_are (input_of disk name) (each_of disk names) first.0 rest.files first.1 rest.are;
-      each = ap (λ o. o ∷ map (one_of remaining) turns) first.2 ∙ ap (λ os. one_input first.0 ∷ os) rest.each;
-      own = bytes_more first.0 rest.files first.3 rest.own;
+      files = None ∷ rest.files;
+      are = both_are (input_of disk name) (each_of disk names) None rest.files (cond-true (is_standard name) _ _ (standard_is name one.0)) rest.are;
+      of = rest.of;
+      long = ap suc rest.long;
+      own = rest.own;
     }
-each_known s remaining y disk read [] (turn ∷ turns) old new calls bytes h e all = absurd h
-each_known s remaining y disk read (name ∷ names) [] old new calls bytes h e all = absurd h
+files_of_each y disk (name ∷ names) (Own reader ∷ readers) old new bytes (mid, one, more) all =
+    let rest = files_of_each y disk names readers mid new bytes more all.1 in
+    let file = there (disk name) all.0 in
+    record {
+      files = Some file.0 ∷ rest.files;
+      are = both_are (input_of disk name) (each_of disk names) (Some file.0) rest.files (cond-false (is_standard name) _ _ (standard_not name one.0) ∙ ap (option_map (λ b. Some b)) file.1) rest.are;
+      of = (file.1, rest.of);
+      long = ap suc rest.long;
+      own = (subst (λ o. IfSome o AreBytes) file.1 (bytes name), rest.own);
+    }
+files_of_each y disk [] (reader ∷ readers) old new bytes h all = absurd h
+files_of_each y disk (name ∷ names) [] old new bytes h all = absurd h
 
-pub inputs_grow : {F I M Y : Type 0} (y : Systems Y F I M) (names : List (List ℕ)) (turns : List (Turn I)) (old new : OpenCalls) → OpensInputs y names turns old new → (calls : OpenCalls) × (new ≡ calls ++ old)
-inputs_grow y [] turns old new h = ([], h.1)
-inputs_grow y (name ∷ names) turns old new h = grows y (name ∷ names) turns old new h
+-- ---- the readers that were reached agree with these bytes
 
-pub inputs_known : {F I M Y : Type 0} (s : Ghosts F) (remaining : I → Option (List ℕ)) (y : Systems Y F I M) (disk : Disk) (read : Option F) (names : List (List ℕ)) (turns : List (Turn I)) (old new calls : OpenCalls) → ((name : List ℕ) → IfSome (disk name) AreBytes) → OpensInputs y names turns old new
-    → new ≡ calls ++ old → AllByRecursion (λ c. IsRevealed s remaining y disk (if_some read) c.0 c.1) calls → (files : List (Option (List ℕ))) × (inputs_of disk names ≡ Some files) × (map (one_of remaining) turns ≡ map one_input files) × EachOfBytes files
-inputs_known s remaining y disk read [] turns old new calls bytes h e all = (None ∷ [], refl, ap (map (one_of remaining)) h.0, tt)
-inputs_known s remaining y disk read (name ∷ names) turns old new calls bytes h e all =
-    let k = each_known s remaining y disk read (name ∷ names) turns old new calls bytes h e all in
-    (k.files, k.are, k.each, k.own)
+agrees_so : (file : Option (List ℕ)) (bytes : List ℕ) (feed : Feed) → file ≡ Some bytes → AreBytes bytes → Agrees file feed → AgreesWith AreBytes feed bytes
+agrees_so file bytes feed is fit agrees = let h = subst (λ o. Agrees o feed) is agrees in record { fit = fit; rest = h.0; may = h.1 }
+
+module _ {I S Item Fault : Type 0} (own : I → Feed) (shared : S → Feed) (p : Parsing Item Fault) (disk : Disk) where
+  -- the first input was, and it has a reader of its own or not, as before
+  first_agrees : (P : (text rest : List ℕ) → Type 0) (n : ℕ) (names : List (List ℕ)) (before after : List (InputReader I)) (reader left : InputReader I) (files : List (Option (List ℕ))) (old new : S) → TakesOne own shared P reader left old new → AreOf disk names (reader ∷ before) files → EachOfBytes files
+      → AgreeInTurn own disk (own_names names (reader ∷ before)) (own_readers (left ∷ after))
+      → ((names : List (List ℕ)) (files : List (Option (List ℕ))) → AreOf disk names before files → EachOfBytes files → AgreeInTurn own disk (own_names names before) (own_readers after) → FirstAgree own AreBytes n files after)
+      → FirstAgree own AreBytes (suc n) files (left ∷ after)
+  first_agrees P n (name ∷ names) before after (Own reader) (Own left) (Some bytes ∷ files) old new takes of fit agree rest = (agrees_so (disk name) bytes (own left) of.0 fit.0 agree.0, rest names files of.1 fit.1 agree.1)
+  first_agrees P n (name ∷ names) before after Shared Shared (None ∷ files) old new takes of fit agree rest = rest names files of fit agree
+  first_agrees P n names before after (Own reader) Shared files old new takes of fit agree rest = absurd takes
+  first_agrees P n names before after Shared (Own left) files old new takes of fit agree rest = absurd takes
+  first_agrees P n [] before after (Own reader) (Own left) files old new takes of fit agree rest = absurd of
+  first_agrees P n (name ∷ names) before after (Own reader) (Own left) [] old new takes of fit agree rest = absurd of
+  first_agrees P n (name ∷ names) before after (Own reader) (Own left) (None ∷ files) old new takes of fit agree rest = absurd of
+  first_agrees P n [] before after Shared Shared files old new takes of fit agree rest = absurd of
+  first_agrees P n (name ∷ names) before after Shared Shared [] old new takes of fit agree rest = absurd of
+  first_agrees P n (name ∷ names) before after Shared Shared (Some bytes ∷ files) old new takes of fit agree rest = absurd of
+
+  last_agrees : (stop : Stop Item Fault) (names : List (List ℕ)) (before after : List (InputReader I)) (files : List (Option (List ℕ))) (old new : S) → StopsSo own shared p stop before after old new → AreOf disk names before files → EachOfBytes files → AgreeInTurn own disk (own_names names before) (own_readers after)
+      → FirstAgree own AreBytes (reached [] stop) files after
+  last_agrees NoMore names before after files old new stops of fit agree = tt
+  last_agrees NotBegun names before after files old new stops of fit agree = tt
+  last_agrees (HasFault items fault) names (reader ∷ before) (left ∷ after) files old new stops of fit agree = first_agrees _ 0 names before after reader left files old new stops of fit agree (λ names files of fit agree. tt)
+  last_agrees (CutShort items) names (reader ∷ before) (left ∷ after) files old new stops of fit agree = first_agrees _ 0 names before after reader left files old new stops of fit agree (λ names files of fit agree. tt)
+  last_agrees (HasFault items fault) names [] after files old new stops of fit agree = absurd stops
+  last_agrees (HasFault items fault) names (reader ∷ before) [] files old new stops of fit agree = absurd stops
+  last_agrees (CutShort items) names [] after files old new stops of fit agree = absurd stops
+  last_agrees (CutShort items) names (reader ∷ before) [] files old new stops of fit agree = absurd stops
+
+  pub reached_agree : (read : List (List Item)) (stop : Stop Item Fault) (names : List (List ℕ)) (before after : List (InputReader I)) (files : List (Option (List ℕ))) (old new : S) → AreRead own shared p read stop before after old new → AreOf disk names before files → EachOfBytes files → AgreeInTurn own disk (own_names names before) (own_readers after)
+      → FirstAgree own AreBytes (reached read stop) files after
+  reached_agree [] stop names before after files old new are of fit agree = last_agrees stop names before after files old new are of fit agree
+  reached_agree (items ∷ read) stop names (reader ∷ before) (left ∷ after) files old new (mid, one, more) of fit agree = first_agrees _ (reached read stop) names before after reader left files old mid one of fit agree (λ names files of fit agree. reached_agree read stop names before after files mid new more of fit agree)
+  reached_agree (items ∷ read) stop names [] after files old new are of fit agree = absurd are
+  reached_agree (items ∷ read) stop names (reader ∷ before) [] files old new are of fit agree = absurd are
 
 -- ---- what was not opened
 

@@ -1,11 +1,8 @@
--- What was read of a stream of which nothing was taken before.
-use Rattle.std.proofs.Common.{ℕ, ◌+◌, ◌<◌, List, [], ◌++◌, length, Option, IfOk, IfErr, Result, Ok, Err, ◌≡◌, ◌∙◌, ap, arith, refl, subst, sym}
+-- What was read of a stream, from what is known of its reader before and after.
+use Rattle.std.proofs.Common.{ℕ, ◌+◌, ◌<◌, List, [], ◌++◌, length, Option, IfOk, IfErr, Result, Ok, Err, ◌≡◌, ◌∙◌, ap, arith, subst, sym}
 use Rattle.std.proofs.lemmas.List.{append-nil, length-append}
-use Rattle.cdb_feed.specs.Inputs.{IsUnread}
-use Rattle.cdb_feed.specs.Noted.{noted_feed}
-use Rattle.cdb_feed.specs.declared.noted_reader.NotedReader.{NotedReader}
 use Rattle.cdb_form.proofs.Fed.FeedLemmas.{consumes_then, from_behind}
-use Rattle.cdb_form.specs.Fed.Feed.{Consumes, Feed, Keeps}
+use Rattle.cdb_form.specs.Fed.Feed.{Consumes, Feed, FromTo, Keeps}
 use Rattle.cdb_form.specs.Fed.Taking.{GivesAll, GivesMore}
 use Rattle.cdb_form.specs.declared.walk.fault.WalkFault.TheVariants as walk
 use Rattle.cdb_show.specs.Runs.FedText.{WritesFirst, WritesToDamage, WritesWalk, WritingFails}
@@ -18,16 +15,6 @@ use Rattle.cdb_store.specs.declared.memory.MemStore.{MemStore}
 use Rattle.cdb_show.specs.Views.Window.{feed_of, held_in, reader_of, window_feed}
 use Rattle.cdb_show.specs.declared.window.Window.{Window}
 use Rattle.cdb_system.specs.Reading.{IsNotLoaded, IsWhole, WritesText}
-use Rattle.cdb_system.specs.Streams.{OfEach, unread}
-
--- ---- nothing was taken
-
-pub nothing_read : (first : Feed) → IsUnread first → Keeps unread first
-nothing_read first h = record { known = λ k. h.known; back = λ k whole rest m. h.all whole rest m }
-
-pub taken_since : (first mid new : Feed) (bytes : List ℕ) → IsUnread first → Keeps first mid → Consumes mid new bytes → Consumes unread new bytes
-taken_since first mid new bytes none kept read =
-    consumes_then unread mid new [] bytes (consumes_then unread first mid [] [] (nothing_read first none) kept) read
 
 -- ---- the text of a stream
 
@@ -68,67 +55,63 @@ module _ (w : ℕ) (form : Form) (old mid new : Feed) (kept : Keeps old mid) (st
   walk_since (Ok done) h = record { ok = record { walked = h.ok.walked; ends = h.ok.ends; appended = h.ok.appended; is = from_behind old mid new [] _ kept h.ok.is }; err = tt }
   walk_since (Err fault) h = record { ok = tt; err = fails_since fault h.err }
 
--- of a window over a reader of which nothing was taken, and which is handed back
-pub text_handed : {R : Type 0} (w : ℕ) (form : Form) (first window : Feed) (last : Window (NotedReader R)) (left : NotedReader R) (start end : Option (List ℕ)) (result : Result Unit Fault) → IsUnread first → Keeps first window → left ≡ reader_of last → WritesWalk w form window (feed_of noted_feed last) start end result → WritesText w form (noted_feed left) start end result
-text_handed w form first window last left start end result none kept is h =
-    let new = feed_of noted_feed last in
-    let whole = walk_since w form unread first new (nothing_read first none) start end result (walk_since w form first window new kept start end result h) in
-    record { held = held_in last; walk = subst (λ r. WritesWalk w form unread (window_feed (noted_feed r) (held_in last)) start end result) (sym is) whole }
+-- of a window over a reader, which is handed back
+pub text_handed : {R : Type 0} (feed : R → Feed) (w : ℕ) (form : Form) (first window : Feed) (last : Window R) (left : R) (start end : Option (List ℕ)) (result : Result Unit Fault) → Keeps first window → left ≡ reader_of last → WritesWalk w form window (feed_of feed last) start end result → WritesText w form first (feed left) start end result
+text_handed feed w form first window last left start end result kept is h =
+    let walk = walk_since w form first window (feed_of feed last) kept start end result h in
+    record { held = held_in last; walk = subst (λ r. WritesWalk w form first (window_feed (feed r) (held_in last)) start end result) (sym is) walk }
 
 -- ---- a stream that is taken into memory
 
 -- all bytes were taken, and what a window holds then is let go
-pub whole_is : (most : ℕ) (first mid new left : Feed) (bytes held : List ℕ) → IsUnread first → Keeps first mid → GivesAll most mid new bytes → Consumes new left held → OfEach left (λ stream. bytes ≡ stream)
-whole_is most first mid new left bytes held none kept gives lost =
-    let read = taken_since first mid new bytes none kept gives.read in
+pub whole_is : (most : ℕ) (first mid new left : Feed) (bytes held : List ℕ) → Keeps first mid → GivesAll most mid new bytes → Consumes new left held → FromTo first left (λ stream rest. bytes ≡ stream)
+whole_is most first mid new left bytes held kept gives lost =
+    let read = consumes_then first mid new [] bytes kept gives.read in
     record {
       known = λ k. lost.known (read.known k);
       back = λ k whole rest m.
           let behind = lost.back (read.known k) whole rest m in
           let ended : held ++ rest ≡ [] = gives.end (read.known k) whole (held ++ rest) behind in
-          let all : bytes ++ (held ++ rest) ≡ whole = read.back k whole (held ++ rest) behind in
-          (whole, refl, sym (append-nil bytes) ∙ ap (λ r. bytes ++ r) (sym ended) ∙ all);
+          (bytes ++ (held ++ rest), read.back k whole (held ++ rest) behind, sym (append-nil bytes) ∙ ap (λ r. bytes ++ r) (sym ended));
     }
 
 -- more than the most were
-pub more_is : (most : ℕ) (first mid new left : Feed) (bytes held : List ℕ) → IsUnread first → Keeps first mid → GivesMore most mid new bytes → Consumes new left held → OfEach left (λ stream. most < length stream)
-more_is most first mid new left bytes held none kept gives lost =
-    let read = taken_since first mid new bytes none kept gives.read in
+pub more_is : (most : ℕ) (first mid new left : Feed) (bytes held : List ℕ) → Keeps first mid → GivesMore most mid new bytes → Consumes new left held → FromTo first left (λ stream rest. most < length stream)
+more_is most first mid new left bytes held kept gives lost =
+    let read = consumes_then first mid new [] bytes kept gives.read in
     record {
       known = λ k. lost.known (read.known k);
       back = λ k whole rest m.
-          let behind = lost.back (read.known k) whole rest m in
-          let all : bytes ++ (held ++ rest) ≡ whole = read.back k whole (held ++ rest) behind in
-          let size : length whole ≡ length bytes + length (held ++ rest) = ap length (sym all) ∙ length-append bytes (held ++ rest) in
-          (whole, refl, omega (arith, size, gives.long));
+          let size : length (bytes ++ (held ++ rest)) ≡ length bytes + length (held ++ rest) = length-append bytes (held ++ rest) in
+          (bytes ++ (held ++ rest), read.back k whole (held ++ rest) (lost.back (read.known k) whole rest m), omega (arith, size, gives.long));
     }
 
 -- so it is taken into memory, or not
-pub is_whole : (most : ℕ) (first mid new left : Feed) (held : List ℕ) (result : Result MemStore Fault) → IsUnread first → Keeps first mid → Consumes new left held → IfOk result (λ store. GivesAll most mid new (contents store)) → IfOk result (IsWhole most left)
-is_whole most first mid new left held (Ok store) none kept lost h = record { whole = whole_is most first mid new left (contents store) held none kept h lost; few = h.few }
-is_whole most first mid new left held (Err fault) none kept lost h = tt
+pub is_whole : (most : ℕ) (first mid new left : Feed) (held : List ℕ) (result : Result MemStore Fault) → Keeps first mid → Consumes new left held → IfOk result (λ store. GivesAll most mid new (contents store)) → IfOk result (IsWhole most first left)
+is_whole most first mid new left held (Ok store) kept lost h = record { whole = whole_is most first mid new left (contents store) held kept h lost; few = h.few }
+is_whole most first mid new left held (Err fault) kept lost h = tt
 
-why_not : (most : ℕ) (first mid new left : Feed) (held : List ℕ) (fault : Fault) → IsUnread first → Keeps first mid → Consumes new left held → LoadStops most mid new fault → IsNotLoaded most left fault
-why_not most first mid new left held Long none kept lost h = more_is most first mid new left h.0 held none kept h.1 lost
-why_not most first mid new left held (Walk walk.Input) none kept lost h = tt
-why_not most first mid new left held NoMemory none kept lost h = tt
-why_not most first mid new left held (Walk walk.Short) none kept lost h = absurd h
-why_not most first mid new left held (Walk (walk.Table n)) none kept lost h = absurd h
-why_not most first mid new left held (Walk (walk.Record place)) none kept lost h = absurd h
-why_not most first mid new left held (Walk walk.NoMemory) none kept lost h = absurd h
-why_not most first mid new left held (Text input f) none kept lost h = absurd h
-why_not most first mid new left held (Make f) none kept lost h = absurd h
-why_not most first mid new left held Duplicate none kept lost h = absurd h
-why_not most first mid new left held Missing none kept lost h = absurd h
-why_not most first mid new left held (Read f) none kept lost h = absurd h
-why_not most first mid new left held Output none kept lost h = absurd h
-why_not most first mid new left held Open none kept lost h = absurd h
-why_not most first mid new left held Rename none kept lost h = absurd h
-why_not most first mid new left held NoOldTables none kept lost h = absurd h
-why_not most first mid new left held NoNewTables none kept lost h = absurd h
-why_not most first mid new left held (Old f) none kept lost h = absurd h
-why_not most first mid new left held (New f) none kept lost h = absurd h
+why_not : (most : ℕ) (first mid new left : Feed) (held : List ℕ) (fault : Fault) → Keeps first mid → Consumes new left held → LoadStops most mid new fault → IsNotLoaded most first left fault
+why_not most first mid new left held Long kept lost h = more_is most first mid new left h.0 held kept h.1 lost
+why_not most first mid new left held (Walk walk.Input) kept lost h = tt
+why_not most first mid new left held NoMemory kept lost h = tt
+why_not most first mid new left held (Walk walk.Short) kept lost h = absurd h
+why_not most first mid new left held (Walk (walk.Table n)) kept lost h = absurd h
+why_not most first mid new left held (Walk (walk.Record place)) kept lost h = absurd h
+why_not most first mid new left held (Walk walk.NoMemory) kept lost h = absurd h
+why_not most first mid new left held (Text input f) kept lost h = absurd h
+why_not most first mid new left held (Make f) kept lost h = absurd h
+why_not most first mid new left held Duplicate kept lost h = absurd h
+why_not most first mid new left held Missing kept lost h = absurd h
+why_not most first mid new left held (Read f) kept lost h = absurd h
+why_not most first mid new left held Output kept lost h = absurd h
+why_not most first mid new left held Open kept lost h = absurd h
+why_not most first mid new left held Rename kept lost h = absurd h
+why_not most first mid new left held NoOldTables kept lost h = absurd h
+why_not most first mid new left held NoNewTables kept lost h = absurd h
+why_not most first mid new left held (Old f) kept lost h = absurd h
+why_not most first mid new left held (New f) kept lost h = absurd h
 
-pub is_not_loaded : (most : ℕ) (first mid new left : Feed) (held : List ℕ) (result : Result MemStore Fault) → IsUnread first → Keeps first mid → Consumes new left held → IfErr result (LoadStops most mid new) → IfErr result (IsNotLoaded most left)
-is_not_loaded most first mid new left held (Ok store) none kept lost h = tt
-is_not_loaded most first mid new left held (Err fault) none kept lost h = why_not most first mid new left held fault none kept lost h
+pub is_not_loaded : (most : ℕ) (first mid new left : Feed) (held : List ℕ) (result : Result MemStore Fault) → Keeps first mid → Consumes new left held → IfErr result (LoadStops most mid new) → IfErr result (IsNotLoaded most first left)
+is_not_loaded most first mid new left held (Ok store) kept lost h = tt
+is_not_loaded most first mid new left held (Err fault) kept lost h = why_not most first mid new left held fault kept lost h

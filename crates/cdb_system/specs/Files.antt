@@ -1,17 +1,17 @@
 -- The files of a system.
-use Rattle.std.specs.Prelude.{ℕ, List, Option}
+use Rattle.cdb_form.specs.Fed.Feed.{Feed}
 use Rattle.cdb_store.specs.declared.store.Store.{Ghosts}
 use Rattle.cdb_system.specs.declared.system.System.{Ghosts as Systems}
 
--- what is read at places, what is made, what is read from its start on, and the system that gives
--- them
+-- what is read at places, what is made, what is known of what is read from its start on, and the system
+-- that gives them
 pub record Files (F I M Y : Type 0) : Type 1 where
   pub stores : Ghosts F
   pub made : Ghosts M
-  pub remaining : I → Option (List ℕ)
+  pub feed : I → Feed
   pub system : Systems Y F I M
 
-abbrev pub files_of : {F I M Y : Type 0} → Ghosts F → Ghosts M → (I → Option (List ℕ))
+abbrev pub files_of : {F I M Y : Type 0} → Ghosts F → Ghosts M → (I → Feed)
     → Systems Y F I M → Files F I M Y
-files_of stores made remaining system =
-    record { stores = stores; made = made; remaining = remaining; system = system }
+files_of stores made feed system =
+    record { stores = stores; made = made; feed = feed; system = system }

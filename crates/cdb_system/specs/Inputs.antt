@@ -1,7 +1,7 @@
 -- What a create reads: its base, and its inputs in their order. The newest call comes first.
 use Rattle.std.specs.Prelude.{ℕ, ◌≡◌, ◌⊎◌, List, [], ◌∷◌, ◌++◌, Option, Some, None, codes}
-use Rattle.cdb_show.specs.declared.inputs.Turn.{Turn}
-use Rattle.cdb_show.specs.declared.inputs.Turn.TheVariants.{Own, Shared}
+use Rattle.cdb_feed.specs.declared.input_reader.InputReader.{InputReader}
+use Rattle.cdb_feed.specs.declared.input_reader.InputReader.TheVariants.{Own, Shared}
 use Rattle.cdb_show.specs.declared.fault.Fault.{Fault}
 use Rattle.cdb_show.specs.declared.fault.Fault.TheVariants.{NoMemory}
 use Rattle.cdb_system.specs.Opening.{OpenCalls, Misses}
@@ -31,25 +31,25 @@ MissesBase None old new fault = ⊥
 MissesBase (Some name) old new fault = Misses name old new fault
 
 -- an input is standard input, for which nothing is opened, or the file that came for its name
-abbrev pub OpensInput : {F I M Y : Type 0} → Systems Y F I M → List ℕ → Turn I
+abbrev pub OpensInput : {F I M Y : Type 0} → Systems Y F I M → List ℕ → InputReader I
     → (old new : OpenCalls) → Type 0
 OpensInput y name Shared old new = IsStandard name × (new ≡ old)
 OpensInput y name (Own file) old new =
     (IsStandard name → ⊥) × (new ≡ (InTurn, name) ∷ old) × y.reads name file
 
 -- each of these is
-abbrev pub OpensEach : {F I M Y : Type 0} → Systems Y F I M → List (List ℕ) → List (Turn I)
+abbrev pub OpensEach : {F I M Y : Type 0} → Systems Y F I M → List (List ℕ) → List (InputReader I)
     → (old new : OpenCalls) → Type 0
 OpensEach y [] [] old new = new ≡ old
-OpensEach y (name ∷ names) (turn ∷ turns) old new =
-    (mid : OpenCalls) × OpensInput y name turn old mid × OpensEach y names turns mid new
-OpensEach y names turns old new = ⊥
+OpensEach y (name ∷ names) (reader ∷ readers) old new =
+    (mid : OpenCalls) × OpensInput y name reader old mid × OpensEach y names readers mid new
+OpensEach y names readers old new = ⊥
 
 -- no names stand for one, which is standard input
-abbrev pub OpensInputs : {F I M Y : Type 0} → Systems Y F I M → List (List ℕ) → List (Turn I)
+abbrev pub OpensInputs : {F I M Y : Type 0} → Systems Y F I M → List (List ℕ) → List (InputReader I)
     → (old new : OpenCalls) → Type 0
-OpensInputs y [] turns old new = (turns ≡ Shared ∷ []) × (new ≡ old)
-OpensInputs y (name ∷ names) turns old new = OpensEach y (name ∷ names) turns old new
+OpensInputs y [] readers old new = (readers ≡ Shared ∷ []) × (new ≡ old)
+OpensInputs y (name ∷ names) readers old new = OpensEach y (name ∷ names) readers old new
 
 -- the file of an input was not opened
 abbrev pub MissesInput : List ℕ → (old new : OpenCalls) → Fault → Type 0
@@ -61,9 +61,9 @@ pub record StopsOpening {F I M Y : Type 0} (y : Systems Y F I M) (names : List (
   pub opened : List (List ℕ)
   pub left : List (List ℕ)
   pub are : names ≡ opened ++ left
-  pub turns : List (Turn I)
+  pub readers : List (InputReader I)
   pub mid : OpenCalls
-  pub opens : OpensEach y opened turns old mid
+  pub opens : OpensEach y opened readers old mid
   pub last : ((new ≡ mid) × (fault ≡ NoMemory))
       ⊎ ((name : List ℕ) × (more : List (List ℕ)) × (left ≡ name ∷ more)
       × MissesInput name mid new fault)

@@ -1,7 +1,6 @@
 -- The calls on files, and why one is not opened. The newest call comes first.
 use Rattle.std.specs.Prelude.{ℕ, ◌≡◌, ◌≢◌, ◌⊎◌, Bool, true, false, List, [], ◌∷◌}
 use Rattle.std.specs.Prelude.{Option, None, Some, Result, Ok, Err, string_bytes}
-use Rattle.cdb_feed.specs.declared.noted_reader.NotedReader.{NotedReader}
 use Rattle.cdb_names.specs.Refusals.{is_of_system, may_be_for}
 use Rattle.cdb_names.specs.declared.answer.Answer.{Answer}
 use Rattle.cdb_names.specs.declared.answer.Answer.TheVariants.{No, Unknown, Yes}
@@ -17,6 +16,7 @@ use Rattle.cdb_system.specs.declared.left.Left.{Left}
 use Rattle.cdb_system.specs.declared.open_trace.OpenCall.{OpenCall}
 use Rattle.cdb_system.specs.declared.open_trace.OpenCall.TheVariants.{Emptied, Locked, Own, Stream, ToEmpty}
 use Rattle.cdb_system.specs.declared.open_trace.OpenCall.TheVariants.{Unopened}
+use Rattle.cdb_show.specs.declared.fed_inputs.FedInputs.{FedInputs}
 use Rattle.cdb_show.specs.declared.fault.Fault.{Fault}
 use Rattle.cdb_show.specs.declared.fault.Fault.TheVariants.{Open, NoMemory, Rename}
 
@@ -73,7 +73,7 @@ MissesEmptying name old new fault =
 
 -- no file is handed back; or one that was read, a base if there is one, or an old database and a new
 abbrev pub none_left : {F M S I : Type 0} → Left F M S I
-none_left = record { read = None; other = None; made = None; stream = None; input = None }
+none_left = record { read = None; other = None; made = None; stream = None; inputs = None; input = None }
 
 abbrev pub read_left : {F M S I : Type 0} → F → Left F M S I
 read_left file = record none_left { read = Some file }
@@ -85,11 +85,19 @@ abbrev pub both_left : {F M S I : Type 0} → (old new : F) → Left F M S I
 both_left old new = record none_left { read = Some old; other = Some new }
 
 -- or a file that was read from its start on, or standard input
-abbrev pub stream_left : {F M S I : Type 0} → NotedReader S → Left F M S I
+abbrev pub stream_left : {F M S I : Type 0} → S → Left F M S I
 stream_left file = record none_left { stream = Some file }
 
-abbrev pub input_left : {F M S I : Type 0} → NotedReader I → Left F M S I
+abbrev pub input_left : {F M S I : Type 0} → I → Left F M S I
 input_left input = record none_left { input = Some input }
+
+-- or a file in which keys were looked up, and the readers of the inputs that gave them
+abbrev pub looked_left : {F M S I : Type 0} → F → FedInputs S I → Left F M S I
+looked_left file inputs = record none_left {
+  read = Some file;
+  inputs = Some inputs.readers;
+  input = Some inputs.shared;
+}
 
 -- this cause, if it fits
 abbrev pub if_fits : (fits : Bool) → Cause → Cause

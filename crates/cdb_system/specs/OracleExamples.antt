@@ -1,11 +1,15 @@
 -- What the oracle says of worked files, and calls by which it comes true.
 use Rattle.std.specs.Prelude.{ℕ, ◌≡◌, true, false, bytes_eq, if◌then◌else◌, List, [], ◌∷◌, ◌++◌}
 use Rattle.std.specs.Prelude.{take, codes, Option, None, Some, IfSome, ⊤, refl, zero, suc}
-use Rattle.std.proofs.Common.{arith, subst}
+use Rattle.std.proofs.Common.{arith, subst, sym}
 use Rattle.std.proofs.lemmas.Bool.{cond_both}
 use Rattle.std.specs.Fmt.{digits}
 use Rattle.cdb_command.specs.Asked.{Query, Lookups, Dump, Listing, Stats, Check, Difference}
 use Rattle.cdb_command.specs.declared.style.Style.TheVariants.{Native, Map}
+use Rattle.cdb_feed.specs.Noted.{noted_feed}
+use Rattle.cdb_feed.specs.declared.input_reader.InputReader.{InputReader}
+use Rattle.cdb_feed.specs.declared.input_reader.InputReader.TheVariants.{Own, Shared}
+use Rattle.cdb_feed.specs.declared.noted_reader.NotedReader.{NotedReader}
 use Rattle.cdb_form.specs.Examples.WorkedFiles.{words_of, repeat, put_at, two_file, foreign_file}
 use Rattle.cdb_form.proofs.Bytes.ByteLemmas.{AreBytes-nil}
 use Rattle.cdb_form.specs.Format.Reading.{head_at}
@@ -22,13 +26,16 @@ use Rattle.cdb_read.specs.Statistics.{distances_in, statistics_of, statistics_da
 use Rattle.cdb_store.specs.Contents.{contents}
 use Rattle.cdb_store.specs.contracts.memory.MemStoreStore.TheImpl.{ghosts as in_memory}
 use Rattle.cdb_store.specs.declared.memory.MemStore.{MemStore}
-use Rattle.cdb_show.specs.Runs.Incoming.{KnownFor}
+use Rattle.cdb_show.specs.declared.fed_inputs.FedInputs.{FedInputs}
 use Rattle.cdb_show.specs.Runs.StatsText.{distance_lines, stats_text}
-use Rattle.cdb_system.specs.Files.{files_of}
-use Rattle.cdb_system.specs.Answered.{AreComparable, Honest, Reveals}
-use Rattle.cdb_system.specs.Opening.{OpenCalls, input_left, read_left, stream_left}
+use Rattle.cdb_system.specs.Files.{Files, files_of}
+use Rattle.cdb_system.specs.Answered.{AreComparable, Honest}
+use Rattle.cdb_system.specs.Opening.{OpenCalls, input_left, looked_left, read_left, stream_left}
 use Rattle.cdb_system.specs.Oracle.{Disk, Outcome, command_outcome, difference_outcome, lookups_outcome}
-use Rattle.cdb_system.specs.NotedExamples.{ended, front_agrees, more_agree, noted, these_agree}
+use Rattle.cdb_system.specs.NotedExamples.{ended, fresh, fresh_is_unread, front_agrees, more_agree, noted, these_agree}
+use Rattle.cdb_system.specs.State.{Standard, standard_of}
+use Rattle.cdb_system.specs.Streams.{AgreeInTurn, Agrees, own_readers}
+use Rattle.cdb_system.specs.declared.left.Left.{Left}
 use Rattle.cdb_system.specs.declared.open_trace.OpenCall.TheVariants.{AtPlaces, InTurn}
 use Rattle.cdb_system.specs.declared.system.System.{Ghosts as Systems}
 
@@ -172,100 +179,124 @@ damage_asked = refl
 -- ---- calls by which it comes true
 
 -- a system that opens each file of a disk: in memory, to be read at places, or as its bytes
-of_disk : Disk → Systems OpenCalls MemStore (List ℕ) MemStore
+of_disk : Disk → Systems OpenCalls MemStore (NotedReader (List ℕ)) MemStore
 of_disk disk = record {
   calls = λ calls. calls;
-  gives = λ name store. Reveals (disk name) (Some (contents store));
-  reads = λ name bytes. Reveals (disk name) (Some bytes);
+  gives = λ name store. disk name ≡ Some (contents store);
+  reads = λ name stream. disk name ≡ Some stream.reader;
   makes = λ name store. ⊤;
 }
 
+abbrev from : Disk → Files MemStore (NotedReader (List ℕ)) MemStore OpenCalls
+from disk = files_of in_memory in_memory noted_feed (of_disk disk)
+
+abbrev Back : Type 0
+Back = Left MemStore MemStore (NotedReader (List ℕ)) (NotedReader (List ℕ))
+
+abbrev standard : (input : List ℕ) → Standard (NotedReader (List ℕ))
+standard input = standard_of noted_feed (fresh input)
+
 -- a query of a file that lies in memory
 query_is_honest : (store : MemStore) → two_file ≡ contents store
-    → Honest (files_of in_memory in_memory Some (of_disk disk)) disk []
-    (Query name (codes "two") None true false) None
-    [] ((AtPlaces, name) ∷ []) (read_left {M = MemStore} {S = List ℕ} {I = List ℕ} store)
+    → Honest (from disk) disk [] (Query name (codes "two") None true false) (standard [])
+    [] ((AtPlaces, name) ∷ []) (let left : Back = read_left store in left)
 unfolding disk name other of_disk
 query_is_honest store has = record {
   calls = (AtPlaces, name) ∷ [];
   are = refl;
   answered = ((has, refl), tt);
-  standard = tt;
-  reveals = tt;
+  in_turn = tt;
+  unread = fresh_is_unread {R = List ℕ} [];
+  agrees = tt;
+  bytes = tt;
   in_order = tt;
 }
 
 -- a dump of a file whose records came, and not the end
-dump_is_honest : Honest (files_of in_memory in_memory Some (of_disk disk)) disk []
-    (Dump (Some name) Native false) None [] ((InTurn, name) ∷ [])
-    (stream_left {F = MemStore} {M = MemStore} {I = List ℕ} (noted [] (take 2082 two_file)))
+dump_is_honest : Honest (from disk) disk [] (Dump (Some name) Native false) (standard [])
+    [] ((InTurn, name) ∷ []) (let left : Back = stream_left (noted [] (take 2082 two_file)) in left)
 unfolding disk name of_disk
 dump_is_honest = record {
   calls = (InTurn, name) ∷ [];
   are = refl;
-  answered = (front_agrees {R = List ℕ} [] 2082 two_file, tt);
-  standard = tt;
-  reveals = tt;
+  answered = (tt, tt);
+  in_turn = (front_agrees {R = List ℕ} [] 2082 two_file, tt);
+  unread = fresh_is_unread {R = List ℕ} [];
+  agrees = tt;
+  bytes = tt;
   in_order = tt;
 }
 
 -- one of standard input, of which no end came, and the statistics of all of it
 input_dump_is_honest : (more : List ℕ)
-    → Honest (files_of in_memory in_memory Some (of_disk disk)) disk (two_file ++ more)
-    (Dump None Native false) None [] []
-    (input_left {F = MemStore} {M = MemStore} {S = List ℕ} {I = List ℕ} (noted [] two_file))
+    → Honest (from disk) disk (two_file ++ more) (Dump None Native false) (standard (two_file ++ more))
+    [] [] (let left : Back = input_left (noted more two_file) in left)
 unfolding of_disk
 input_dump_is_honest more = record {
   calls = [];
   are = refl;
   answered = tt;
-  standard = more_agree {R = List ℕ} [] two_file more;
-  reveals = tt;
+  in_turn = tt;
+  unread = fresh_is_unread (two_file ++ more);
+  agrees = more_agree {R = List ℕ} more two_file more;
+  bytes = tt;
   in_order = tt;
 }
 
-input_stats_are_honest : Honest (files_of in_memory in_memory Some (of_disk disk)) disk two_file
-    (Stats None false) None [] []
-    (input_left {F = MemStore} {M = MemStore} {S = List ℕ} {I = List ℕ} (ended [] two_file))
+input_stats_are_honest : Honest (from disk) disk two_file (Stats None false) (standard two_file)
+    [] [] (let left : Back = input_left (ended [] two_file) in left)
 unfolding of_disk
 input_stats_are_honest = record {
   calls = [];
   are = refl;
   answered = tt;
-  standard = these_agree {R = List ℕ} [] two_file;
-  reveals = tt;
+  in_turn = tt;
+  unread = fresh_is_unread two_file;
+  agrees = these_agree {R = List ℕ} [] two_file;
+  bytes = tt;
   in_order = tt;
 }
 
--- a query of the keys of an empty list, of which standard input is the only input
+-- a query of the keys of two inputs: of an empty list in a file, whose end came, and of standard input, which begins
+-- with an empty list; of a third, for which the run had no time, nothing came
 empty_list_is : AreBytes (codes "\n")
 empty_list_is zero = omega arith
 empty_list_is (suc k) = omega arith
 
-unfoldable small : Disk
-unfolding name
-small file = if bytes_eq file name then Some [] else None
+unfoldable lists : Disk
+unfolding name other
+lists file =
+    if bytes_eq file name then Some [] else if bytes_eq file other then Some (codes "\n") else None
 
-small_has : (file : List ℕ) → IfSome (small file) AreBytes
-unfolding small name
-small_has file = cond_both (bytes_eq file name) _ _ (λ o. IfSome o AreBytes) (λ is. AreBytes-nil) (λ no. tt)
+lists_have : (file : List ℕ) → IfSome (lists file) AreBytes
+unfolding lists name other
+lists_have file =
+    cond_both (bytes_eq file name) _ _ (λ o. IfSome o AreBytes) (λ is. AreBytes-nil)
+    (λ no. cond_both (bytes_eq file other) _ _ (λ o. IfSome o AreBytes) (λ is. empty_list_is) (λ no. tt))
 
-of_none : (files : List (Option (List ℕ))) → ◌≡◌ {A = Option (List (Option (List ℕ)))} (Some (None ∷ [])) (Some files) → KnownFor files (Some (codes "\n")) (codes "\n")
-of_none files e = subst (λ (v : Option (List (Option (List ℕ)))). IfSome v (λ fs. KnownFor fs (Some (codes "\n")) (codes "\n"))) e refl
+abbrev asked_lists : List (List ℕ)
+asked_lists = other ∷ codes "-" ∷ name ∷ []
+
+abbrev list_readers : List (InputReader (NotedReader (List ℕ)))
+list_readers = Own (ended [] (codes "\n")) ∷ Shared ∷ Own (fresh []) ∷ []
 
 lookups_are_honest : (store : MemStore) → [] ≡ contents store
-    → Honest (files_of in_memory in_memory Some (of_disk small)) small (codes "\n")
-    (Lookups name [] None Native false) (Some (codes "\n"))
-    [] ((AtPlaces, name) ∷ []) (read_left {M = MemStore} {S = List ℕ} {I = List ℕ} store)
-unfolding small name of_disk
-lookups_are_honest store has = record {
-  calls = (AtPlaces, name) ∷ [];
+    → (inputs : FedInputs (NotedReader (List ℕ)) (NotedReader (List ℕ)))
+    → inputs.readers.items ≡ list_readers → inputs.shared ≡ noted [] (codes "\n")
+    → Honest (from lists) lists (codes "\n") (Lookups name asked_lists None Native false)
+    (standard (codes "\n")) []
+    ((InTurn, name) ∷ (InTurn, other) ∷ (AtPlaces, name) ∷ [])
+    (let left : Back = looked_left store inputs in left)
+unfolding lists name other of_disk
+lookups_are_honest store has inputs are shared = record {
+  calls = (InTurn, name) ∷ (InTurn, other) ∷ (AtPlaces, name) ∷ [];
   are = refl;
-  answered = ((has, refl), tt);
-  standard = tt;
-  reveals = (
-    record { bytes = record { files = small_has; standard = empty_list_is }; known = of_none },
-    ((has, refl), tt),
-  );
+  answered = (tt, (tt, ((has, refl), tt)));
+  in_turn = subst (λ rs. AgreeInTurn noted_feed lists (other ∷ name ∷ []) (own_readers rs)) (sym are)
+      (these_agree {R = List ℕ} [] (codes "\n"), (([], record { begins = refl; ends = λ e. refl }), tt));
+  unread = fresh_is_unread (codes "\n");
+  agrees = subst (λ r. Agrees (Some (codes "\n")) (noted_feed r)) (sym shared)
+      (more_agree {R = List ℕ} [] (codes "\n") []);
+  bytes = record { files = lists_have; standard = empty_list_is };
   in_order = tt;
 }

@@ -1,10 +1,9 @@
 -- What a command that only reads does: the calls on files, in their order, and what it writes on its output.
-use Rattle.std.specs.Prelude.{ℕ, ◌≡◌, ◌⊎◌, ◌<◌, ◌≤◌, ⊤, List, ◌∷◌, length, map, Option, Some, None, Result, Err, OnOk, IfErr}
+use Rattle.std.specs.Prelude.{ℕ, ◌≡◌, ◌⊎◌, ◌<◌, ◌≤◌, ⊤, List, ◌∷◌, length, Option, Some, None, Result, Err, OnOk, IfErr}
 use Rattle.std.specs.Io.KnownBytes.{Keeps, Appends}
 use Rattle.cdb_command.specs.declared.style.Style.{Style}
-use Rattle.cdb_feed.specs.Noted.{noted_feed}
-use Rattle.cdb_feed.specs.declared.noted_reader.NotedReader.{NotedReader}
-use Rattle.cdb_form.specs.Fed.Feed.{Feed}
+use Rattle.cdb_feed.specs.Inputs.{AreUnread, IsUnread}
+use Rattle.cdb_form.specs.Fed.Feed.{Feed, FromTo}
 use Rattle.cdb_form.specs.Views.KnownBytes.{AppendsPrefix}
 use Rattle.cdb_form.specs.declared.walk.fault.WalkFault.TheVariants as walk
 use Rattle.cdb_store.specs.Contents.{contents}
@@ -14,22 +13,19 @@ use Rattle.cdb_store.specs.declared.store.Store.{Ghosts}
 use Rattle.cdb_show.specs.Runs.Check.{FindsSound, CheckingFails}
 use Rattle.cdb_show.specs.Runs.Difference.{TellsDifference}
 use Rattle.cdb_show.specs.Runs.Form.{Form}
-use Rattle.cdb_show.specs.Runs.Inputs.{InputsLeft}
-use Rattle.cdb_show.specs.Runs.Lookups.{LooksUp}
+use Rattle.cdb_show.specs.Runs.FedLookups.{FedLooksUp}
 use Rattle.cdb_show.specs.Runs.Query.{Query, Queries}
 use Rattle.cdb_show.specs.Runs.Stats.{TellsStats}
 use Rattle.cdb_show.specs.Runs.FedText.{WritesWalk}
-use Rattle.cdb_show.specs.Views.Inputs.{one_of}
 use Rattle.cdb_show.specs.declared.fault.Fault.{Fault}
 use Rattle.cdb_show.specs.declared.fault.Fault.TheVariants.{Long, Open, NoMemory as NoRoom, Output, Walk}
 use Rattle.cdb_names.specs.declared.answer.Answer.TheVariants as looks
 use Rattle.cdb_system.specs.Files.{Files}
-use Rattle.cdb_show.specs.declared.inputs.Turn.{Turn}
+use Rattle.cdb_show.specs.declared.fed_inputs.FedInputs.{FedInputs}
 use Rattle.cdb_system.specs.Inputs.{OpensInputs, StopsOpening}
-use Rattle.cdb_system.specs.Opening.{Misses, OpenCalls, both_left, input_left, none_left, read_left, stream_left}
-use Rattle.cdb_system.specs.State.{State, calls_in}
+use Rattle.cdb_system.specs.Opening.{Misses, OpenCalls, both_left, input_left, looked_left, none_left, read_left, stream_left}
+use Rattle.cdb_system.specs.State.{Standard, State, calls_in}
 use Rattle.cdb_show.specs.Views.Window.{window_feed}
-use Rattle.cdb_system.specs.Streams.{OfEach, unread}
 use Rattle.cdb_system.specs.declared.left.Left.{Left}
 use Rattle.cdb_system.specs.declared.open_trace.OpenCall.TheVariants.{AtPlaces, InTurn, Stream}
 
@@ -68,44 +64,45 @@ PerformsQuery w files name q old new left result =
 -- ---- dump and list
 
 -- The text of a stream that is read in one pass. Of the bytes that came, a window held some, which were let go.
-pub record WritesText (w : ℕ) (form : Form) (left : Feed) (start end : Option (List ℕ))
+pub record WritesText (w : ℕ) (form : Form) (before after : Feed) (start end : Option (List ℕ))
     (result : Result Unit Fault) : Type 0 where
   pub held : List ℕ
-  pub walk : WritesWalk w form unread (window_feed left held) start end result
+  pub walk : WritesWalk w form before (window_feed after held) start end result
 
 -- it is written, unless memory for the window is refused
-abbrev pub ReadsText : ℕ → Form → (left : Feed) → (start end : Option (List ℕ))
+abbrev pub ReadsText : ℕ → Form → (before after : Feed) → (start end : Option (List ℕ))
     → Result Unit Fault → Type 0
-ReadsText w form left start end result =
-    LacksMemory start end result ⊎ WritesText w form left start end result
+ReadsText w form before after start end result =
+    LacksMemory start end result ⊎ WritesText w form before after start end result
 
--- of the file that came, whose reader is handed back
+-- of the file that came, of which nothing had been taken, and whose reader is handed back
 pub record WritesFile {F I J M Y : Type 0} (w : ℕ) (files : Files F I M Y) (form : Form)
     (name : List ℕ) (left : Left F M I J) (start end : Option (List ℕ))
     (result : Result Unit Fault) : Type 0 where
   pub file : I
   pub came : files.system.reads name file
-  pub last : NotedReader I
+  pub unread : IsUnread (files.feed file)
+  pub last : I
   pub is_last : left ≡ stream_left last
-  pub reads : ReadsText w form (noted_feed last) start end result
+  pub reads : ReadsText w form (files.feed file) (files.feed last) start end result
 
 -- of standard input, whose reader is
-pub record WritesInput {F I J M : Type 0} (w : ℕ) (form : Form) (left : Left F M I J)
-    (start end : Option (List ℕ)) (result : Result Unit Fault) : Type 0 where
-  pub last : NotedReader J
+pub record WritesInput {F I J M : Type 0} (w : ℕ) (form : Form) (input : Standard J)
+    (left : Left F M I J) (start end : Option (List ℕ)) (result : Result Unit Fault) : Type 0 where
+  pub last : J
   pub is_last : left ≡ input_left last
-  pub reads : ReadsText w form (noted_feed last) start end result
+  pub reads : ReadsText w form (input.feed input.reader) (input.feed last) start end result
 
 -- that file alone is opened, or none, if standard input is read
 abbrev pub PerformsText : {F I J M Y : Type 0} → ℕ → Files F I M Y → Form → Option (List ℕ)
-    → (old new : State Y) → Left F M I J → Result Unit Fault → Type 0
-PerformsText w files form (Some name) old new left result =
+    → (input : Standard J) → (old new : State Y) → Left F M I J → Result Unit Fault → Type 0
+PerformsText w files form (Some name) input old new left result =
     ((left ≡ none_left)
     × Refuses name (calls_in files old) (calls_in files new) old.output new.output result)
     ⊎ ((calls_in files new ≡ (InTurn, name) ∷ calls_in files old)
     × WritesFile w files form name left old.output new.output result)
-PerformsText w files form None old new left result =
-    (new.opened ≡ old.opened) × WritesInput w form left old.output new.output result
+PerformsText w files form None input old new left result =
+    (new.opened ≡ old.opened) × WritesInput w form input left old.output new.output result
 
 -- ---- statistics and check
 
@@ -123,37 +120,37 @@ pub record ChecksStore {S : Type 0} (w : ℕ) (start end : Option (List ℕ))
   pub fails : IfErr result (CheckingFails w s store left)
 
 -- why a stream is not taken into memory
-abbrev pub IsNotLoaded : (most : ℕ) → (left : Feed) → Fault → Type 0
-IsNotLoaded most left Long = OfEach left (λ stream. most < length stream)
-IsNotLoaded most left (Walk walk.Input) = ⊤
-IsNotLoaded most left NoRoom = ⊤
-IsNotLoaded most left fault = ⊥
+abbrev pub IsNotLoaded : (most : ℕ) → (before after : Feed) → Fault → Type 0
+IsNotLoaded most before after Long = FromTo before after (λ stream rest. most < length stream)
+IsNotLoaded most before after (Walk walk.Input) = ⊤
+IsNotLoaded most before after NoRoom = ⊤
+IsNotLoaded most before after fault = ⊥
 
 -- it is not, and nothing is written
-pub record IsNotTaken (most : ℕ) (left : Feed) (start end : Option (List ℕ))
+pub record IsNotTaken (most : ℕ) (before after : Feed) (start end : Option (List ℕ))
     (result : Result Unit Fault) : Type 0 where
   pub fault : Fault
   pub is : result ≡ Err fault
-  pub why : IsNotLoaded most left fault
+  pub why : IsNotLoaded most before after fault
   pub kept : Keeps start end
 
--- a store has all its bytes
-pub record IsWhole (most : ℕ) (left : Feed) (store : MemStore) : Type 0 where
-  pub whole : OfEach left (λ stream. contents store ≡ stream)
+-- a store has all bytes that were left
+pub record IsWhole (most : ℕ) (before after : Feed) (store : MemStore) : Type 0 where
+  pub whole : FromTo before after (λ stream rest. contents store ≡ stream)
   pub few : length (contents store) ≤ most
 
 -- it is taken, and this is done with it
-pub record IsTakenInMemory (most : ℕ) (left : Feed) (done : MemStore → MemStore → Type 0) : Type 0
-  where
-    pub store : MemStore
-    pub is : IsWhole most left store
-    pub last : MemStore
-    pub does : done store last
+pub record IsTakenInMemory (most : ℕ) (before after : Feed) (done : MemStore → MemStore → Type 0)
+    : Type 0 where
+  pub store : MemStore
+  pub is : IsWhole most before after store
+  pub last : MemStore
+  pub does : done store last
 
-abbrev pub Takes : ℕ → (left : Feed) → (start end : Option (List ℕ)) → Result Unit Fault
+abbrev pub Takes : ℕ → (before after : Feed) → (start end : Option (List ℕ)) → Result Unit Fault
     → (MemStore → MemStore → Type 0) → Type 0
-Takes most left start end result done =
-    IsNotTaken most left start end result ⊎ IsTakenInMemory most left done
+Takes most before after start end result done =
+    IsNotTaken most before after start end result ⊎ IsTakenInMemory most before after done
 
 -- the file that came is read at places, and is left so
 pub record OfFile {F I J M Y : Type 0} (files : Files F I M Y) (name : List ℕ) (left : Left F M I J)
@@ -164,30 +161,31 @@ pub record OfFile {F I J M Y : Type 0} (files : Files F I M Y) (name : List ℕ)
   pub is_last : left ≡ read_left last
   pub does : done file last
 
--- it is taken into memory, and its reader is handed back
+-- nothing had been taken of it: it is taken into memory, and its reader is handed back
 pub record OfStream {F I J M Y : Type 0} (files : Files F I M Y) (name : List ℕ) (most : ℕ)
     (left : Left F M I J) (start end : Option (List ℕ)) (result : Result Unit Fault)
     (done : MemStore → MemStore → Type 0) : Type 0 where
   pub file : I
   pub came : files.system.reads name file
-  pub last : NotedReader I
+  pub unread : IsUnread (files.feed file)
+  pub last : I
   pub is_last : left ≡ stream_left last
-  pub takes : Takes most (noted_feed last) start end result done
+  pub takes : Takes most (files.feed file) (files.feed last) start end result done
 
 -- so is standard input
-pub record OfInput {F I J M : Type 0} (most : ℕ) (left : Left F M I J)
+pub record OfInput {F I J M : Type 0} (most : ℕ) (input : Standard J) (left : Left F M I J)
     (start end : Option (List ℕ)) (result : Result Unit Fault)
     (done : MemStore → MemStore → Type 0) : Type 0 where
-  pub last : NotedReader J
+  pub last : J
   pub is_last : left ≡ input_left last
-  pub takes : Takes most (noted_feed last) start end result done
+  pub takes : Takes most (input.feed input.reader) (input.feed last) start end result done
 
 -- that file alone is opened, once it was seen whether it is a stream; or none, if the system did not
 -- say, or if standard input is read
 abbrev pub PerformsOn : {F I J M Y : Type 0} → Files F I M Y → (most : ℕ)
-    → (name : Option (List ℕ)) → (old new : State Y) → Left F M I J
+    → (name : Option (List ℕ)) → (input : Standard J) → (old new : State Y) → Left F M I J
     → Result Unit Fault → (F → F → Type 0) → (MemStore → MemStore → Type 0) → Type 0
-PerformsOn files most (Some name) old new left result file taken =
+PerformsOn files most (Some name) input old new left result file taken =
     ((left ≡ none_left) × Refuses name ((Stream looks.No, name) ∷ calls_in files old)
     (calls_in files new) old.output new.output result)
     ⊎ ((calls_in files new ≡ (AtPlaces, name) ∷ (Stream looks.No, name) ∷ calls_in files old)
@@ -198,8 +196,8 @@ PerformsOn files most (Some name) old new left result file taken =
     × OfStream files name most left old.output new.output result taken)
     ⊎ ((calls_in files new ≡ (Stream looks.Unknown, name) ∷ calls_in files old)
     × (left ≡ none_left) × (result ≡ Err Open) × Keeps old.output new.output)
-PerformsOn files most None old new left result file taken =
-    (new.opened ≡ old.opened) × OfInput most left old.output new.output result taken
+PerformsOn files most None input old new left result file taken =
+    (new.opened ≡ old.opened) × OfInput most input left old.output new.output result taken
 
 -- ---- difference
 
@@ -238,29 +236,30 @@ PerformsDifference w files first second old new left result =
 
 -- ---- many keys
 
--- what is looked up: in the file of this name the keys of these inputs, of which standard input has
--- these bytes, by number and style
+-- what is looked up: in the file of this name the keys of these inputs, by number and style
 pub record Lookups : Type 0 where
   pub name : List ℕ
   pub inputs : List (List ℕ)
-  pub standard : Option (List ℕ)
   pub number : Option ℕ
   pub style : Style
 
--- the records of the keys of the inputs that were opened behind the file that came, which is left so
+-- the records of the keys of the inputs that were opened after the file that came. Nothing had been taken of any
+-- input, and their readers are handed back with the file
 pub record LooksUpFile {F I J M Y : Type 0} (w most : ℕ) (files : Files F I M Y) (l : Lookups)
-    (old new : State Y) (left : Left F M I J) (result : Result Unit Fault) : Type 0 where
+    (input : Standard J) (old new : State Y) (left : Left F M I J) (result : Result Unit Fault)
+    : Type 0 where
   pub file : F
   pub came : files.system.gives l.name file
-  pub last : F
-  pub is_last : left ≡ read_left last
-  pub turns : List (Turn I)
-  pub opens : OpensInputs files.system l.inputs turns
+  pub inputs : FedInputs I J
+  pub opens : OpensInputs files.system l.inputs inputs.readers.items
       ((AtPlaces, l.name) ∷ calls_in files old) (calls_in files new)
-  pub each : InputsLeft
-  pub each_are : each ≡ record { each = map (one_of files.remaining) turns; shared = l.standard }
-  pub looks : LooksUp w most files.stores l.number l.style each file last old.output new.output
-      result
+  pub unread : AreUnread files.feed inputs.readers.items
+  pub shared : inputs.shared ≡ input.reader
+  pub last : F
+  pub handed : FedInputs I J
+  pub are_last : left ≡ looked_left last handed
+  pub looks : FedLooksUp w most files.stores l.number l.style files.feed input.feed inputs handed
+      file last old.output new.output result
 
 -- an input was not opened, and nothing was written; the file is left as it came
 pub record RefusesInputs {F I J M Y : Type 0} (files : Files F I M Y) (name : List ℕ)
@@ -277,12 +276,12 @@ pub record RefusesInputs {F I J M Y : Type 0} (files : Files F I M Y) (name : Li
 
 -- the file is opened, to be read at places, and then the inputs
 abbrev pub PerformsLookups : {F I J M Y : Type 0} → (w most : ℕ) → Files F I M Y → Lookups
-    → (old new : State Y) → Left F M I J → Result Unit Fault → Type 0
-PerformsLookups w most files l old new left result =
+    → (input : Standard J) → (old new : State Y) → Left F M I J → Result Unit Fault → Type 0
+PerformsLookups w most files l input old new left result =
     ((left ≡ none_left)
     × Refuses l.name (calls_in files old) (calls_in files new) old.output new.output result)
     ⊎ RefusesInputs files l.name l.inputs old new left result
-    ⊎ LooksUpFile w most files l old new left result
+    ⊎ LooksUpFile w most files l input old new left result
 
 -- ---- help and version
 

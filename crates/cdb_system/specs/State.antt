@@ -1,16 +1,25 @@
 -- What a command is given, and what it has asked of the system and written so far.
 use Rattle.std.specs.Prelude.{ℕ, Bool, List, Option}
+use Rattle.cdb_form.specs.Fed.Feed.{Feed}
 use Rattle.cdb_names.specs.Folder.{NameCalls}
 use Rattle.cdb_system.specs.Files.{Files}
 use Rattle.cdb_system.specs.Opening.{OpenCalls}
 
--- what is asked for, whether its faults are explained, and what standard input has
-pub record Given (A : Type 0) : Type 0 where
+-- standard input as it is given: its reader, and what is known of such readers
+pub record Standard (J : Type 0) : Type 1 where
+  pub feed : J → Feed
+  pub reader : J
+
+abbrev pub standard_of : {J : Type 0} → (J → Feed) → J → Standard J
+standard_of feed reader = record { feed = feed; reader = reader }
+
+-- what is asked for, whether its faults are explained, and standard input
+pub record Given (A J : Type 0) : Type 1 where
   pub asked : A
   pub explained : Bool
-  pub input : Option (List ℕ)
+  pub input : Standard J
 
-abbrev pub given_of : {A : Type 0} → A → (explained : Bool) → (input : Option (List ℕ)) → Given A
+abbrev pub given_of : {A J : Type 0} → A → (explained : Bool) → (input : Standard J) → Given A J
 given_of asked explained input = record { asked = asked; explained = explained; input = input }
 
 -- what was opened, as the system itself or as the calls on its files; the calls on names; and what

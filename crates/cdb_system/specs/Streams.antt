@@ -1,20 +1,36 @@
--- What is known of a stream that a command read, whose reader it hands back with a note of what that gave.
-use Rattle.std.specs.Prelude.{◌≡◌, ⊤, ℕ, List, [], ◌∷◌, Option, Some, None}
-use Rattle.cdb_feed.specs.Noted.{noted_feed}
-use Rattle.cdb_feed.specs.declared.noted_reader.NotedReader.{NotedReader}
-use Rattle.cdb_form.specs.Fed.Feed.{Feed, FromTo}
+-- What is known of the files that were opened to be read from their start on, by the readers that came back.
+use Rattle.std.specs.Prelude.{⊤, ℕ, List, [], ◌∷◌, ◌++◌, Option, Some, None}
+use Rattle.cdb_feed.specs.declared.input_reader.InputReader.{InputReader}
+use Rattle.cdb_feed.specs.declared.input_reader.InputReader.TheVariants.{Own, Shared}
+use Rattle.cdb_form.specs.Fed.Feed.{Feed}
+use Rattle.cdb_system.specs.Opening.{OpenCalls}
+use Rattle.cdb_system.specs.declared.open_trace.OpenCall.{OpenCall}
+use Rattle.cdb_system.specs.declared.open_trace.OpenCall.TheVariants.{InTurn}
 
--- a stream of which nothing was taken
-abbrev pub unread : Feed
-unread = record { known = ⊤; may = λ whole rest. rest ≡ whole }
+-- the bytes of a file agree with what is known of a reader of it; a name without a file has none
+abbrev pub Agrees : Option (List ℕ) → Feed → Type 0
+Agrees None feed = ⊥
+Agrees (Some bytes) feed = (rest : List ℕ) × feed.may bytes rest
 
--- P holds of each stream that agrees with what was taken, whatever may be left of it now
-abbrev pub OfEach : (left : Feed) → (P : List ℕ → Type 0) → Type 0
-OfEach left P = FromTo unread left (λ stream rest. P stream)
+-- the names that were opened so, the oldest first
+abbrev pub name_in_turn : OpenCall → List ℕ → List (List ℕ)
+name_in_turn InTurn name = name ∷ []
+name_in_turn call name = []
 
--- The bytes of a file agree with what the first of some readers gave. Any bytes do if no reader is handed back. A name
--- without a file is not read.
-abbrev pub Agrees : {R : Type 0} → (file : Option (List ℕ)) → List (NotedReader R) → Type 0
-Agrees (Some bytes) (reader ∷ readers) = (rest : List ℕ) × (noted_feed reader).may bytes rest
-Agrees (Some bytes) [] = ⊤
-Agrees None readers = ⊥
+abbrev pub names_in_turn : OpenCalls → List (List ℕ)
+names_in_turn [] = []
+names_in_turn (call ∷ calls) = names_in_turn calls ++ name_in_turn call.0 call.1
+
+-- the readers of inputs that have one of their own
+abbrev pub own_readers : {R : Type 0} → List (InputReader R) → List R
+own_readers [] = []
+own_readers (Own reader ∷ readers) = reader ∷ own_readers readers
+own_readers (Shared ∷ readers) = own_readers readers
+
+-- the files of these names agree with these readers, the first with the first. Of a name whose reader did not
+-- come back nothing is said
+abbrev pub AgreeInTurn : {R : Type 0} → (feed : R → Feed) → (file : List ℕ → Option (List ℕ))
+    → (names : List (List ℕ)) → List R → Type 0
+AgreeInTurn feed file (name ∷ names) (reader ∷ readers) =
+    Agrees (file name) (feed reader) × AgreeInTurn feed file names readers
+AgreeInTurn feed file names readers = ⊤

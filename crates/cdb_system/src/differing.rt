@@ -28,7 +28,7 @@ where
     I: Drop,
     O: Sink,
     ensures performs { (named : NameCalls) (errors : Option (List ℕ)) → PerformsDifference L.WORD
-        (files_of Y.File.Store Y.Made.Store Y.Stream.remaining Y.System) old.now new.now
+        (files_of Y.File.Store Y.Made.Store Y.Stream.feed Y.System) old.now new.now
         (state_of system.old named (O.contents output.old) errors)
         (state_of system.new named (O.contents output.new) errors) result.0 result.1 }
     ensures output { OutputSays (O.failed output.new) result.1 }

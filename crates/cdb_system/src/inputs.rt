@@ -1,14 +1,16 @@
 // What a create reads: its base and its inputs, which are opened before anything is made.
-ghost use Rattle.std.specs.Prelude.{◌≡◌, ◌≢◌, ◌↔◌, [], map, option_map, string_bytes, codes};
+ghost use Rattle.std.specs.Prelude.{◌≡◌, ◌≢◌, ◌↔◌, [], ◌∷◌, map, option_map, string_bytes, codes};
 ghost use Rattle.std.specs.Prelude.{IfOk, IfErr, IsTrue};
+ghost use Rattle.cdb_feed.specs.Inputs.{AreUnread};
 ghost use Rattle.cdb_show.specs.Views.Output.{OutputSays};
 ghost use Rattle.cdb_system.specs.Inputs.{IsStandard, OpensBase, MissesBase, OpensInput, OpensEach};
 ghost use Rattle.cdb_system.specs.Inputs.{OpensInputs, StopsOpening, MissesInput};
 
 use crate::system::System;
-use cdb_show::{Fault, Inputs, Turn};
+use cdb_feed::InputReader;
+use cdb_form::Feeds;
+use cdb_show::{Fault, FedInputs};
 use std::alloc::Global;
-use std::io::Read;
 
 /// The name of standard input.
 pub const STANDARD_INPUT: &str = "-";
@@ -35,16 +37,17 @@ pub fn open_base<Y: System>(system: &mut Y, name: &Option<String>) -> Result<Opt
 }
 
 /// Opens an input, unless it is standard input.
-fn open_input<Y: System>(system: &mut Y, name: &str) -> Result<Turn<Y::Stream>, Fault>
-    ensures ok { IfOk result (λ turn. OpensInput Y.System name.now turn
+fn open_input<Y: System>(system: &mut Y, name: &str) -> Result<InputReader<Y::Stream>, Fault>
+    ensures ok { IfOk result (λ reader. OpensInput Y.System name.now reader
         (Y.calls system.old) (Y.calls system.new)) }
+    ensures unread { IfOk result (λ reader. AreUnread Y.Stream.feed (reader ∷ [])) }
     ensures missed { IfErr result (MissesInput name.now
         (Y.calls system.old) (Y.calls system.new)) }
 {
     if is_standard(name) {
-        return Ok(Turn::Shared);
+        return Ok(InputReader::Shared);
     }
-    Ok(Turn::Own(system.open(name)?))
+    Ok(InputReader::Own(system.open(name)?))
 }
 
 /// Opens the inputs of these names.
@@ -52,40 +55,42 @@ fn open_each<Y: System>(
     alloc: Global,
     system: &mut Y,
     names: &[String],
-) -> Result<Vec<Turn<Y::Stream>>, Fault>
-    ensures ok { IfOk result (λ turns. OpensEach Y.System (map string_bytes names.now) turns.items
-        (Y.calls system.old) (Y.calls system.new)) }
+) -> Result<Vec<InputReader<Y::Stream>>, Fault>
+    ensures ok { IfOk result (λ readers. OpensEach Y.System (map string_bytes names.now)
+        readers.items (Y.calls system.old) (Y.calls system.new)) }
+    ensures unread { IfOk result (λ readers. AreUnread Y.Stream.feed readers.items) }
     ensures stops { IfErr result (StopsOpening Y.System (map string_bytes names.now)
         (Y.calls system.old) (Y.calls system.new)) }
 {
-    let mut turns = Vec::new(alloc);
+    let mut readers = Vec::new(alloc);
     for name in names {
-        let turn = open_input::<Y>(system, name.as_str())?;
-        turns.push(turn)?;
+        let reader = open_input::<Y>(system, name.as_str())?;
+        readers.push(reader)?;
     }
-    Ok(turns)
+    Ok(readers)
 }
 
 /// Opens the inputs of these names. No name is standard input, as each `-` is.
-pub fn open_inputs<Y: System, I: Read + Drop>(
+pub fn open_inputs<Y: System, I: Feeds + Drop>(
     alloc: Global,
     system: &mut Y,
     names: &[String],
     input: I,
-) -> Result<Inputs<Y::Stream, I>, Fault>
-    ensures ok { IfOk result (λ i. OpensInputs Y.System (map string_bytes names.now) i.turns.items
-        (Y.calls system.old) (Y.calls system.new)) }
+) -> Result<FedInputs<Y::Stream, I>, Fault>
+    ensures ok { IfOk result (λ i. OpensInputs Y.System (map string_bytes names.now)
+        i.readers.items (Y.calls system.old) (Y.calls system.new)) }
+    ensures unread { IfOk result (λ i. AreUnread Y.Stream.feed i.readers.items) }
     ensures shared { IfOk result (λ i. i.shared ≡ input) }
     ensures stops { IfErr result (StopsOpening Y.System (map string_bytes names.now)
         (Y.calls system.old) (Y.calls system.new)) }
     ensures output { OutputSays ⊥ result }
 {
-    let mut turns = open_each::<Y>(alloc, system, names)?;
+    let mut readers = open_each::<Y>(alloc, system, names)?;
     if names.is_empty() {
-        turns.push(Turn::Shared)?;
+        readers.push(InputReader::Shared)?;
     }
-    Ok(Inputs {
-        turns,
+    Ok(FedInputs {
+        readers,
         shared: input,
     })
 }

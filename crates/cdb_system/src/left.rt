@@ -1,9 +1,10 @@
 // What a command hands back.
 ghost use Rattle.std.specs.Prelude.{◌≡◌};
 ghost use Rattle.cdb_system.specs.Opening.{none_left, read_left, base_left, both_left};
-ghost use Rattle.cdb_system.specs.Opening.{stream_left, input_left};
+ghost use Rattle.cdb_system.specs.Opening.{stream_left, input_left, looked_left};
 
-use cdb_feed::NotedReader;
+use cdb_feed::InputReader;
+use cdb_show::FedInputs;
 
 /// The files that a command opened and has not closed, and standard input if it was read, as they are
 /// at its end. A clause says what was read of them, or made.
@@ -16,10 +17,12 @@ pub struct Left<F, M, S, I> {
     pub other: Option<F>,
     /// The file that was made in place.
     pub made: Option<M>,
-    /// The file that was read from its start on, with a note of what it gave.
-    pub stream: Option<NotedReader<S>>,
-    /// Standard input, with a note of what it gave.
-    pub input: Option<NotedReader<I>>,
+    /// The file that was read from its start on.
+    pub stream: Option<S>,
+    /// The readers of inputs, in their order.
+    pub inputs: Option<Vec<InputReader<S>>>,
+    /// Standard input.
+    pub input: Option<I>,
 }
 
 /// No file is handed back.
@@ -31,6 +34,7 @@ pub fn none_left<F: Drop, M: Drop, S: Drop, I: Drop>() -> Left<F, M, S, I>
         other: None,
         made: None,
         stream: None,
+        inputs: None,
         input: None,
     }
 }
@@ -44,6 +48,7 @@ pub fn read_left<F: Drop, M: Drop, S: Drop, I: Drop>(file: F) -> Left<F, M, S, I
         other: None,
         made: None,
         stream: None,
+        inputs: None,
         input: None,
     }
 }
@@ -57,6 +62,7 @@ pub fn base_left<F: Drop, M: Drop, S: Drop, I: Drop>(base: Option<F>) -> Left<F,
         other: None,
         made: None,
         stream: None,
+        inputs: None,
         input: None,
     }
 }
@@ -70,12 +76,13 @@ pub fn both_left<F: Drop, M: Drop, S: Drop, I: Drop>(old: F, new: F) -> Left<F, 
         other: Some(new),
         made: None,
         stream: None,
+        inputs: None,
         input: None,
     }
 }
 
 /// A file that was read from its start on is handed back.
-pub fn stream_left<F: Drop, M: Drop, S: Drop, I: Drop>(file: NotedReader<S>) -> Left<F, M, S, I>
+pub fn stream_left<F: Drop, M: Drop, S: Drop, I: Drop>(file: S) -> Left<F, M, S, I>
     ensures { result ≡ stream_left file }
 {
     Left {
@@ -83,12 +90,13 @@ pub fn stream_left<F: Drop, M: Drop, S: Drop, I: Drop>(file: NotedReader<S>) -> 
         other: None,
         made: None,
         stream: Some(file),
+        inputs: None,
         input: None,
     }
 }
 
 /// Standard input was read, and is handed back.
-pub fn input_left<F: Drop, M: Drop, S: Drop, I: Drop>(input: NotedReader<I>) -> Left<F, M, S, I>
+pub fn input_left<F: Drop, M: Drop, S: Drop, I: Drop>(input: I) -> Left<F, M, S, I>
     ensures { result ≡ input_left input }
 {
     Left {
@@ -96,6 +104,24 @@ pub fn input_left<F: Drop, M: Drop, S: Drop, I: Drop>(input: NotedReader<I>) -> 
         other: None,
         made: None,
         stream: None,
+        inputs: None,
         input: Some(input),
+    }
+}
+
+/// A file in which keys were looked up is handed back, and the readers of the inputs that gave them.
+pub fn looked_left<F: Drop, M: Drop, S: Drop, I: Drop>(
+    file: F,
+    inputs: FedInputs<S, I>,
+) -> Left<F, M, S, I>
+    ensures { result ≡ looked_left file inputs }
+{
+    Left {
+        read: Some(file),
+        other: None,
+        made: None,
+        stream: None,
+        inputs: Some(inputs.readers),
+        input: Some(inputs.shared),
     }
 }

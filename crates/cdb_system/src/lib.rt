@@ -20,7 +20,9 @@ pub use causes::{Reason, Told, reason_of};
 pub use differing::difference;
 pub use explaining::cause_line;
 pub use inputs::{STANDARD_INPUT, is_standard, open_base, open_inputs};
-pub use left::{Left, base_left, both_left, input_left, none_left, read_left, stream_left};
+pub use left::{
+    Left, base_left, both_left, input_left, looked_left, none_left, read_left, stream_left,
+};
 pub use looking::lookups;
 pub use open_trace::{OpenCall, OpenTrace};
 pub use places::is_in_place;

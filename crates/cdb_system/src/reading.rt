@@ -5,25 +5,22 @@ ghost use Rattle.cdb_show.specs.Views.Output.{OutputSays};
 ghost use Rattle.cdb_store.specs.contracts.memory.MemStoreStore.TheImpl.{ghosts as in_memory};
 ghost use Rattle.cdb_show.specs.Runs.Form.{form_of};
 ghost use Rattle.cdb_show.specs.Runs.Query.{value_text};
-ghost use Rattle.cdb_feed.specs.Noted.{noted_feed};
 ghost use Rattle.cdb_names.specs.Folder.{NameCalls};
 ghost use Rattle.cdb_system.specs.Files.{files_of};
-ghost use Rattle.cdb_system.specs.State.{state_of};
+ghost use Rattle.cdb_system.specs.State.{state_of, standard_of};
 ghost use Rattle.cdb_system.specs.Reading.{PerformsQuery, PerformsText, PerformsOn, LacksMemory, WritesText};
 ghost use Rattle.cdb_system.specs.Reading.{Takes, IsWhole, IsNotLoaded, TellsStore, ChecksStore};
 
 use crate::left::{Left, input_left, none_left, read_left, stream_left};
 use crate::system::System;
 use cdb_command::Style;
-use cdb_feed::NotedReader;
-use cdb_form::{PIPE, Sink, Width};
+use cdb_form::{Feeds, PIPE, Sink, Width};
 use cdb_names::Answer;
 use cdb_show::{
     Content, Fault, InWindow, Window, check_run, load_fed, query_run, stats_run, text_run_fed,
 };
 use cdb_store::{MemStore, Store};
 use std::alloc::Global;
-use std::io::Read;
 
 /// Writes the values of a key, which are counted from 1.
 #[inline(never)]
@@ -42,7 +39,7 @@ where
     O: Sink,
     requires { IfSome number (λ n. 1 ≤ n) }
     ensures performs { (named : NameCalls) (errors : Option (List ℕ)) → PerformsQuery L.WORD
-        (files_of Y.File.Store Y.Made.Store Y.Stream.remaining Y.System) name.now
+        (files_of Y.File.Store Y.Made.Store Y.Stream.feed Y.System) name.now
         (record { key = key.now; number = number; shown = value_text lines })
         (state_of system.old named (O.contents output.old) errors)
         (state_of system.new named (O.contents output.new) errors) result.0 result.1 }
@@ -64,19 +61,19 @@ where
 }
 
 /// Writes the records of a database that is read in one pass, or their keys, and hands its reader back.
-fn write_text<L: Width, R: Read + Drop, O: Sink>(
+fn write_text<L: Width, F: Feeds + Drop, O: Sink>(
     alloc: Global,
     content: Content,
     style: Style,
-    file: R,
+    file: F,
     output: &mut O,
-) -> (NotedReader<R>, Result<(), Fault>)
+) -> (F, Result<(), Fault>)
     ensures writes { LacksMemory (O.contents output.old) (O.contents output.new) result.1
-        ⊎ WritesText L.WORD (form_of content style) (noted_feed result.0)
+        ⊎ WritesText L.WORD (form_of content style) (F.feed file) (F.feed result.0)
         (O.contents output.old) (O.contents output.new) result.1 }
     ensures output { OutputSays (O.failed output.new) result.1 }
 {
-    match Window::new(alloc, NotedReader::over(file), PIPE) {
+    match Window::new(alloc, file, PIPE) {
         Ok(window) => {
             let (window, answer) = text_run_fed::<L, _, O, InWindow>(
                 alloc, content, window, style, output,
@@ -101,11 +98,11 @@ pub fn text<L, Y, I, O>(
 where
     L: Width,
     Y: System,
-    I: Read + Drop,
+    I: Feeds + Drop,
     O: Sink,
     ensures performs { (named : NameCalls) (errors : Option (List ℕ)) → PerformsText L.WORD
-        (files_of Y.File.Store Y.Made.Store Y.Stream.remaining Y.System) (form_of content style)
-        (option_map string_bytes name.now)
+        (files_of Y.File.Store Y.Made.Store Y.Stream.feed Y.System) (form_of content style)
+        (option_map string_bytes name.now) (standard_of I.feed input)
         (state_of system.old named (O.contents output.old) errors)
         (state_of system.new named (O.contents output.new) errors) result.0 result.1 }
     ensures output { OutputSays (O.failed output.new) result.1 }
@@ -124,15 +121,12 @@ where
 }
 
 /// Takes a stream into memory, and hands its reader back.
-fn taken<L: Width, R: Read + Drop>(
-    alloc: Global,
-    stream: R,
-) -> (NotedReader<R>, Result<MemStore, Fault>)
-    ensures ok { IfOk result.1 (IsWhole L.GREATEST (noted_feed result.0)) }
-    ensures fails { IfErr result.1 (IsNotLoaded L.GREATEST (noted_feed result.0)) }
+fn taken<L: Width, F: Feeds + Drop>(alloc: Global, stream: F) -> (F, Result<MemStore, Fault>)
+    ensures ok { IfOk result.1 (IsWhole L.GREATEST (F.feed stream) (F.feed result.0)) }
+    ensures fails { IfErr result.1 (IsNotLoaded L.GREATEST (F.feed stream) (F.feed result.0)) }
     ensures output { OutputSays ⊥ result.1 }
 {
-    match Window::new(alloc, NotedReader::over(stream), PIPE) {
+    match Window::new(alloc, stream, PIPE) {
         Ok(mut window) => {
             let taken = load_fed(alloc, &mut window, L::GREATEST);
             (window.into_reader(), taken)
@@ -142,17 +136,17 @@ fn taken<L: Width, R: Read + Drop>(
 }
 
 /// Writes the statistics of a stream, and hands its reader back.
-fn stats_of_stream<L: Width, R: Read + Drop, O: Sink>(
+fn stats_of_stream<L: Width, F: Feeds + Drop, O: Sink>(
     alloc: Global,
-    stream: R,
+    stream: F,
     output: &mut O,
-) -> (NotedReader<R>, Result<(), Fault>)
-    ensures takes { Takes L.GREATEST (noted_feed result.0)
+) -> (F, Result<(), Fault>)
+    ensures takes { Takes L.GREATEST (F.feed stream) (F.feed result.0)
         (O.contents output.old) (O.contents output.new) result.1
         (TellsStore L.WORD (O.contents output.old) (O.contents output.new) result.1 in_memory) }
     ensures output { OutputSays (O.failed output.new) result.1 }
 {
-    let (stream, taken) = taken::<L, R>(alloc, stream);
+    let (stream, taken) = taken::<L, F>(alloc, stream);
     match taken {
         Ok(store) => (stream, stats_run::<L, MemStore, O>(store, output).1),
         Err(fault) => (stream, Err(fault)),
@@ -172,11 +166,11 @@ pub fn stats<L, Y, I, O>(
 where
     L: Width,
     Y: System,
-    I: Read + Drop,
+    I: Feeds + Drop,
     O: Sink,
     ensures performs { (named : NameCalls) (errors : Option (List ℕ)) → PerformsOn
-        (files_of Y.File.Store Y.Made.Store Y.Stream.remaining Y.System) L.GREATEST
-        (option_map string_bytes name.now)
+        (files_of Y.File.Store Y.Made.Store Y.Stream.feed Y.System) L.GREATEST
+        (option_map string_bytes name.now) (standard_of I.feed input)
         (state_of system.old named (O.contents output.old) errors)
         (state_of system.new named (O.contents output.new) errors) result.0 result.1
         (TellsStore L.WORD (O.contents output.old) (O.contents output.new) result.1 Y.File.Store)
@@ -207,15 +201,12 @@ where
 }
 
 /// Checks a stream, and hands its reader back.
-fn check_of_stream<L: Width, R: Read + Drop>(
-    alloc: Global,
-    stream: R,
-) -> (NotedReader<R>, Result<(), Fault>)
-    ensures takes { (known : Option (List ℕ)) → Takes L.GREATEST (noted_feed result.0) known known
-        result.1 (ChecksStore L.WORD known known result.1 in_memory) }
+fn check_of_stream<L: Width, F: Feeds + Drop>(alloc: Global, stream: F) -> (F, Result<(), Fault>)
+    ensures takes { (known : Option (List ℕ)) → Takes L.GREATEST (F.feed stream)
+        (F.feed result.0) known known result.1 (ChecksStore L.WORD known known result.1 in_memory) }
     ensures output { OutputSays ⊥ result.1 }
 {
-    let (stream, taken) = taken::<L, R>(alloc, stream);
+    let (stream, taken) = taken::<L, F>(alloc, stream);
     match taken {
         Ok(store) => (stream, check_run::<L, MemStore>(alloc, store).1),
         Err(fault) => (stream, Err(fault)),
@@ -234,10 +225,10 @@ pub fn check<L, Y, I>(
 where
     L: Width,
     Y: System,
-    I: Read + Drop,
+    I: Feeds + Drop,
     ensures performs { (named : NameCalls) (known errors : Option (List ℕ)) → PerformsOn
-        (files_of Y.File.Store Y.Made.Store Y.Stream.remaining Y.System) L.GREATEST
-        (option_map string_bytes name.now)
+        (files_of Y.File.Store Y.Made.Store Y.Stream.feed Y.System) L.GREATEST
+        (option_map string_bytes name.now) (standard_of I.feed input)
         (state_of system.old named known errors) (state_of system.new named known errors) result.0
         result.1 (ChecksStore L.WORD known known result.1 Y.File.Store)
         (ChecksStore L.WORD known known result.1 in_memory) }

@@ -8,6 +8,7 @@ ghost use Rattle.cdb_system.specs.declared.open_trace.OpenCall.TheVariants.{Unop
 use crate::open_trace::{OpenCall, OpenTrace};
 use crate::seen::{Seen, SeenReader};
 use crate::system::System;
+use cdb_feed::NotedReader;
 use cdb_names::{Answer, Cause, Lock, NameFault, Refusal, has_name, locked};
 use cdb_show::Fault;
 use cdb_store::{FileStore, LAST_STANDARD, RealFile, StoreFault};
@@ -83,7 +84,7 @@ impl<'a, R: Files<File = File> + AllocGlobal> RealSystem<'a, R> {
 impl<'a, R: Files<File = File> + AllocGlobal> System for RealSystem<'a, R> {
     type File = FileStore;
 
-    type Stream = SeenReader<'a, File>;
+    type Stream = NotedReader<SeenReader<'a, File>>;
 
     type Made = FileStore;
 
@@ -132,11 +133,11 @@ impl<'a, R: Files<File = File> + AllocGlobal> System for RealSystem<'a, R> {
 
     // Shown by tests/cli/cases.py and tests/faults/closed.py.
     /// The file is given up if it got the number of a standard stream that is closed.
-    fn open(&mut self, name: &str) -> Result<SeenReader<'a, File>, Fault> {
+    fn open(&mut self, name: &str) -> Result<NotedReader<SeenReader<'a, File>>, Fault> {
         match opened_in_turn(self.rt, name) {
             Ok(file) => {
                 self.note(&OpenCall::InTurn, name);
-                Ok(SeenReader::new(file, self.seen))
+                Ok(NotedReader::over(SeenReader::new(file, self.seen)))
             }
             Err(why) => Err(self.refused(why, name)),
         }

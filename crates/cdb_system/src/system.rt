@@ -1,21 +1,22 @@
 // The files of a system, by their names and the calls on them.
 ghost use Rattle.std.specs.Prelude.{◌≡◌, ◌∷◌, ℕ, List, IfOk, IfErr, IfSome, OnOk};
+ghost use Rattle.cdb_feed.specs.Inputs.{IsUnread};
 ghost use Rattle.cdb_system.specs.Opening.{IsOpenRefusal, OpenCalls, Misses, MayEmpty};
 ghost use Rattle.cdb_system.specs.declared.open_trace.OpenCall.TheVariants.{AtPlaces, InTurn, Stream};
 ghost use Rattle.cdb_system.specs.declared.open_trace.OpenCall.TheVariants.{Emptied, Locked, Own, ToEmpty};
 
+use cdb_form::Feeds;
 use cdb_names::{Answer, Lock, Refusal};
 use cdb_show::Fault;
 use cdb_store::{RealFile, Store};
-use std::io::Read;
 
 /// The files of a system, by their names, each call on which is noted in proof-only data.
 pub trait System {
     /// A file that is read at places.
     type File: Store + Drop;
 
-    /// A file that is read from its start on.
-    type Stream: Read + Drop;
+    /// A file that is read from its start on, of which something is known in the end.
+    type Stream: Feeds + Drop;
 
     /// A file that is made.
     type Made: Store + Drop;
@@ -59,10 +60,12 @@ pub trait System {
         ensures gives { IfOk result (gives name.now) }
         ensures fails { IfErr result (Misses name.now (calls self.old) (calls self.new)) };
 
-    /// Opens the file of a name, to be read from its start on. `Open`: it cannot be opened.
+    /// Opens the file of a name, to be read from its start on: nothing was taken of it yet. `Open`: it
+    /// cannot be opened.
     fn open(&mut self, name: &str) -> Result<Self::Stream, Fault>
         ensures calls { OnOk result (calls self.new ≡ (InTurn, name.now) ∷ calls self.old) }
         ensures reads { IfOk result (reads name.now) }
+        ensures unread { IfOk result (λ stream. IsUnread (Self.Stream.feed stream)) }
         ensures fails { IfErr result (Misses name.now (calls self.old) (calls self.new)) };
 
     /// Whether a name is that of a pipe or a device, which is read from its start to its end alone.

@@ -1,7 +1,10 @@
 use Rattle.std.proofs.Common.{map, string_bytes, take}
+use Rattle.cdb_feed.specs.Inputs.{AreUnread}
 use Rattle.cdb_system.specs.Inputs.{OpensEach}
 use Rattle.cdb_system.proofs.inputs.open_each.Given as goal
 
 -- the inputs so far were opened
 abbrev pub invariant-loop-name : goal.invariant-loop-name
-invariant-loop-name g l = OpensEach g.Y.System (map string_bytes (take l.name-index l.names)) l.turns.items (g.Y.System.calls l.fn.system) (g.Y.System.calls l.system)
+invariant-loop-name g l =
+    OpensEach g.Y.System (map string_bytes (take l.name-index l.names)) l.readers.items (g.Y.System.calls l.fn.system) (g.Y.System.calls l.system)
+    × AreUnread g.Y.Stream.Feeds.feed l.readers.items

@@ -4,11 +4,11 @@ use Rattle.cdb_system.proofs.reading.check.Goals as goal
 
 pub returns-in_default-clause-performs : goal.returns-in_default-clause-performs
 returns-in_default-clause-performs g c = λ named known errors.
-    on_input_read _ _ _ _ _ _ _ c.check_of_stream-input.result.0 _ _ (ap (option_map string_bytes) c.in_default.is) refl c.input_left.ensures (c.check_of_stream-input.ensures.takes known)
+    on_input_read _ _ _ _ _ _ _ _ c.check_of_stream-input.result.0 _ _ (ap (option_map string_bytes) c.in_default.is) refl c.input_left.ensures (c.check_of_stream-input.ensures.takes known)
 
 pub returns-in-Ok-clause-performs : goal.returns-in-Ok-clause-performs
 returns-in-Ok-clause-performs g c = λ named known errors.
-    on_stream_read _ _ _ _ _ _ _ _ _ _ _ c.in-Ok.file c.check_of_stream-file.result.0 _ _ (ap (option_map string_bytes) c.in-Some.is) c.as_str.ensures.value c.as_str-in-Yes.ensures.value c.in-Yes.ensures.calls c.in-Ok.ensures.calls c.in-Ok.ensures.reads c.stream_left.ensures (c.check_of_stream-file.ensures.takes known)
+    on_stream_read _ _ _ _ _ _ _ _ _ _ _ _ c.in-Ok.file c.check_of_stream-file.result.0 _ _ (ap (option_map string_bytes) c.in-Some.is) c.as_str.ensures.value c.as_str-in-Yes.ensures.value c.in-Yes.ensures.calls c.in-Ok.ensures.calls c.in-Ok.ensures.reads c.in-Ok.ensures.unread c.stream_left.ensures (c.check_of_stream-file.ensures.takes known)
 
 pub returns-in-Ok-open_store-clause-performs : goal.returns-in-Ok-open_store-clause-performs
 returns-in-Ok-open_store-clause-performs g c = search rules

@@ -4,8 +4,8 @@ use Rattle.cdb_system.proofs.reading.text.Goals as goal
 
 pub returns-in_default-clause-performs : goal.returns-in_default-clause-performs
 returns-in_default-clause-performs g c = λ named errors.
-    text_of_input _ _ _ _ _ _ _ _ c.write_text-input.result.0 (ap (option_map string_bytes) c.in_default.is) refl c.input_left.ensures c.write_text-input.ensures.writes
+    text_of_input _ _ _ _ _ _ _ _ _ c.write_text-input.result.0 (ap (option_map string_bytes) c.in_default.is) refl c.input_left.ensures c.write_text-input.ensures.writes
 
 pub returns-in-Ok-clause-performs : goal.returns-in-Ok-clause-performs
 returns-in-Ok-clause-performs g c = λ named errors.
-    text_of_file _ _ _ _ _ _ _ _ _ _ c.in-Ok.file c.write_text-file.result.0 (ap (option_map string_bytes) c.in-Some.is) c.as_str.ensures.value c.in-Ok.ensures.calls c.in-Ok.ensures.reads c.stream_left.ensures c.write_text-file.ensures.writes
+    text_of_file _ _ _ _ _ _ _ _ _ _ _ c.in-Ok.file c.write_text-file.result.0 (ap (option_map string_bytes) c.in-Some.is) c.as_str.ensures.value c.in-Ok.ensures.calls c.in-Ok.ensures.reads c.in-Ok.ensures.unread c.stream_left.ensures c.write_text-file.ensures.writes
