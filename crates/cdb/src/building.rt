@@ -1,47 +1,56 @@
 // What builds the database of what was opened.
-ghost use Rattle.std.specs.Prelude.{◌≡◌, ◌<◌};
+ghost use Rattle.std.specs.Prelude.{◌≡◌, ◌<◌, OnOk};
+ghost use Rattle.cdb_show.specs.Views.FedInputs.{AreInPlace};
 ghost use Rattle.cdb_show.specs.Views.Output.{OutputSays};
-ghost use Rattle.cdb.specs.Creating.{IsBufferedRun, IsCaused, IsDatabase, MakesIn};
+ghost use Rattle.cdb.specs.Agreeing.{OfAgreeing};
+ghost use Rattle.cdb.specs.Creating.{HasCauseInStore, IsBufferedRun, IsCaused, IsDatabase, IsMakeRun};
 ghost use Rattle.cdb.specs.Contents.{making_of};
 
-use crate::contents::Contents;
-use cdb_form::{PIPE, Sink, Width};
+use crate::contents::{Contents, Sources};
+use cdb_form::{Feeds, PIPE, Sink, Width};
 use cdb_names::{Builder, Unsynced};
 use cdb_store::{BufferedStore, Store};
-use cdb_tool::{Fault, make_run_from};
+use cdb_tool::{Fault, make_run_fed};
 use std::alloc::Global;
-use std::io::Read;
 use std::marker::PhantomData;
 
-/// Makes it in a store, which is handed back, and the base too.
+/// Makes it in a store, which is handed back, and what was read too.
 pub(crate) fn make_in<L, S, F, J, I, E>(
     alloc: Global,
     store: S,
     contents: Contents<'_, L, F, J, I>,
     errors: &mut E,
-) -> (S, Option<F>, Result<(), Fault>)
+) -> (S, Sources<F, J, I>, Result<(), Fault>)
 where
     L: Width,
     S: Store,
     F: Store + Drop,
-    J: Read + Drop,
-    I: Read + Drop,
+    J: Feeds + Drop,
+    I: Feeds + Drop,
     E: Sink,
-    ensures makes { MakesIn S.Store F.Store (making_of L.WORD L.GREATEST J.remaining I.remaining contents.entry)
-        store result.0 result.1 (E.contents errors.old) (E.contents errors.new) result.2 }
+    ensures runs { OfAgreeing J.feed I.feed contents.entry.sources.inputs result.1.inputs (λ inputs.
+        IsMakeRun F.Store (making_of L.WORD L.GREATEST contents.entry inputs) result.1.base
+        (S.image result.0) (E.contents errors.old) (E.contents errors.new) result.2) }
+    ensures failed { HasCauseInStore S.Store store result.0 result.2 }
+    ensures settled { OnOk result.2 (S.settled result.0) }
+    ensures placed { AreInPlace contents.entry.sources.inputs.readers.items
+        result.1.inputs.readers.items }
     ensures output { OutputSays (E.failed errors.new) result.2 }
 {
     let Contents {
-        base,
-        inputs,
+        sources,
         options,
         lines,
         width: _,
     } = contents;
-    make_run_from::<L, S, F, J, I, E>(alloc, store, base, inputs, options, lines, errors)
+    let Sources { base, inputs } = sources;
+    let (store, base, inputs, made) = make_run_fed::<L, S, F, J, I, E>(
+        alloc, store, base, inputs, options, lines, errors,
+    );
+    (store, Sources { base, inputs }, made)
 }
 
-/// Builds the database in a file that is empty, through a buffer. The base is handed back, also if
+/// Builds the database in a file that is empty, through a buffer. What was read is handed back, also if
 /// there is no file to build in.
 #[derive(Drop)]
 pub(crate) struct Building<'a, L: Width, F, J, I, E> {
@@ -57,29 +66,32 @@ where
     S: Store + Drop,
     L: Width,
     F: Store + Drop,
-    J: Read + Drop,
-    I: Read + Drop,
+    J: Feeds + Drop,
+    I: Feeds + Drop,
     E: Sink,
 {
     type Fault = Fault;
 
     type Told = E;
 
-    type Back = Option<F>;
+    type Back = Sources<F, J, I>;
 
-    ghost builds = { λ b. IsDatabase F.Store
-        (making_of L.WORD L.GREATEST J.remaining I.remaining b.contents) };
+    ghost builds = { λ b back bytes. OfAgreeing J.feed I.feed b.contents.sources.inputs back.inputs
+        (λ inputs. IsDatabase F.Store (making_of L.WORD L.GREATEST b.contents inputs) back.base
+        bytes) };
 
     ghost fails = { λ _ old new fault. IsCaused fault (S.failures old) (S.failures new) };
 
-    ghost tells = { λ b back told said images made. IsBufferedRun F.Store
-        (making_of L.WORD L.GREATEST J.remaining I.remaining b.contents) back images
-        (E.contents told) (E.contents said) made
+    ghost tells = { λ b back told said images made.
+        OfAgreeing J.feed I.feed b.contents.sources.inputs back.inputs (λ inputs.
+        IsBufferedRun F.Store (making_of L.WORD L.GREATEST b.contents inputs) back.base images
+        (E.contents told) (E.contents said) made)
+        × AreInPlace b.contents.sources.inputs.readers.items back.inputs.readers.items
         × OutputSays (E.failed said) made };
 
-    ghost gives_up = { λ b back. back ≡ b.contents.base };
+    ghost gives_up = { λ b back. back ≡ b.contents.sources };
 
-    fn build(self, store: S, errors: &mut E) -> (S, Option<F>, Result<(), Fault>) {
+    fn build(self, store: S, errors: &mut E) -> (S, Sources<F, J, I>, Result<(), Fault>) {
         let Building {
             alloc,
             contents,
@@ -87,20 +99,25 @@ where
         } = self;
         match BufferedStore::new(alloc, Unsynced::over(store), PIPE) {
             Ok(buffered) => {
-                let (buffered, base, made) = make_in::<L, BufferedStore<Unsynced<S>>, F, J, I, E>(
-                    alloc, buffered, contents, errors,
-                );
-                (buffered.discard().into_inner(), base, made)
+                let (buffered, sources, made) = make_in::<
+                    L,
+                    BufferedStore<Unsynced<S>>,
+                    F,
+                    J,
+                    I,
+                    E,
+                >(alloc, buffered, contents, errors);
+                (buffered.discard().into_inner(), sources, made)
             }
             Err(failed) => {
-                let base = contents.into_base();
-                (failed.value.into_inner(), base, Err(Fault::NoMemory))
+                let sources = contents.into_sources();
+                (failed.value.into_inner(), sources, Err(Fault::NoMemory))
             }
         }
     }
 
-    fn give_up(self) -> Option<F> {
+    fn give_up(self) -> Sources<F, J, I> {
         let Building { contents, .. } = self;
-        contents.into_base()
+        contents.into_sources()
     }
 }

@@ -3,16 +3,45 @@ ghost use Rattle.std.specs.Prelude.{◌≡◌, ◌≤◌};
 ghost use Rattle.cdb_form.specs.Format.Pair.{head_size};
 
 use cdb_form::Width;
-use cdb_tool::{Inputs, Lines, MakeOptions};
+use cdb_show::FedInputs;
+use cdb_system::Left;
+use cdb_tool::{Lines, MakeOptions};
 use std::marker::PhantomData;
+
+/// The files and streams that a create reads, as they were opened or as they are handed back.
+#[derive(Drop)]
+pub(crate) struct Sources<F, J, I> {
+    /// The base, if one is amended.
+    pub(crate) base: Option<F>,
+    /// The inputs, in their order.
+    pub(crate) inputs: FedInputs<J, I>,
+}
+
+impl<F: Drop, J: Drop, I: Drop> Sources<F, J, I> {
+    ghost use Rattle.cdb.specs.Contents.{sources_left};
+
+    /// What a create hands back of them, and of a file that was made in place.
+    pub(crate) fn into_left<M: Drop>(self, made: Option<M>) -> Left<F, M, J, I>
+        ensures { result ≡ sources_left self made }
+    {
+        let Sources { base, inputs } = self;
+        let FedInputs { readers, shared } = inputs;
+        Left {
+            read: base,
+            other: None,
+            made,
+            stream: None,
+            inputs: Some(readers),
+            input: Some(shared),
+        }
+    }
+}
 
 /// What a database is made of, with its files opened. Its limit is one of its width.
 #[derive(Drop)]
 pub(crate) struct Contents<'a, L: Width, F, J, I> {
-    /// The base, if one is amended.
-    pub(crate) base: Option<F>,
-    /// The inputs, in their order.
-    pub(crate) inputs: Inputs<J, I>,
+    /// What is read.
+    pub(crate) sources: Sources<F, J, I>,
     /// How it is made.
     pub(crate) options: MakeOptions<'a>,
     /// The lines of the inputs.
@@ -24,11 +53,11 @@ pub(crate) struct Contents<'a, L: Width, F, J, I> {
 }
 
 impl<'a, L: Width, F: Drop, J: Drop, I: Drop> Contents<'a, L, F, J, I> {
-    /// The base. The inputs are closed.
-    pub(crate) fn into_base(self) -> Option<F>
-        ensures { result ≡ self.entry.base }
+    /// What is read, of which nothing was.
+    pub(crate) fn into_sources(self) -> Sources<F, J, I>
+        ensures { result ≡ self.entry.sources }
     {
-        let Contents { base, .. } = self;
-        base
+        let Contents { sources, .. } = self;
+        sources
     }
 }

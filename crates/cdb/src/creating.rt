@@ -1,26 +1,26 @@
 // A create: its base and inputs are opened, and then the database is made of them.
 ghost use Rattle.std.specs.Prelude.{◌⊎◌, ◌≡◌, ◌≤◌, IfOk, IfErr, map, option_map};
 ghost use Rattle.std.specs.Prelude.{string_bytes};
+ghost use Rattle.cdb_show.specs.Views.FedInputs.{AreInPlace};
 ghost use Rattle.cdb_show.specs.Views.Output.{OutputSays};
 ghost use Rattle.cdb_form.specs.Format.Pair.{head_size};
-ghost use Rattle.cdb_show.specs.Views.Inputs.{inputs_left};
+ghost use Rattle.cdb.specs.Agreeing.{OfAgreeing};
 ghost use Rattle.cdb.specs.Creating.{Creates, MakesOnOutput};
 ghost use Rattle.cdb.specs.Creating.{NotOpened, OpensAll, WritesAll};
 ghost use Rattle.cdb_system.specs.Places.{temporary_of};
 ghost use Rattle.cdb_system.specs.Files.{files_of};
-ghost use Rattle.cdb_system.specs.State.{state_of};
+ghost use Rattle.cdb_system.specs.State.{standard_of, state_of};
 ghost use Rattle.cdb.specs.Contents.{making_of, wanted_of};
 
 use crate::building::make_in;
-use crate::contents::Contents;
+use crate::contents::{Contents, Sources};
 use crate::placing::{make_in_place, replace_database};
-use cdb_form::{Sink, Width, write_whole};
+use cdb_form::{Feeds, Sink, Width, write_whole};
 use cdb_names::Names;
 use cdb_store::{MemStore, Store};
 use cdb_system::{Left, System, base_left, is_in_place, is_standard, open_base, open_inputs};
 use cdb_tool::{Fault, Lines, MakeOptions, flushed};
 use std::alloc::{AllocError, Global};
-use std::io::Read;
 use std::marker::PhantomData;
 
 /// What is to be made.
@@ -42,7 +42,8 @@ pub(crate) struct Creation<'a> {
 
 /// Makes a database, on standard output or under its name: in place, or in a temporary file. The
 /// base and then all inputs are opened before anything is made. A base that was opened is handed back,
-/// however the create ends, and a file that was made in place.
+/// however the create ends, and so is a file that was made in place. If all inputs were opened, their
+/// readers are handed back too, and standard input.
 #[inline(never)]
 pub(crate) fn create<L, Y, N, I, O, E>(
     alloc: Global,
@@ -57,13 +58,13 @@ where
     L: Width,
     Y: System,
     N: Names,
-    I: Read + Drop,
+    I: Feeds + Drop,
     O: Sink,
     E: Sink,
     requires head { head_size L.WORD ≤ creation.options.limit }
     requires words { creation.options.limit ≤ L.GREATEST }
-    ensures creates { Creates (files_of Y.File.Store Y.Made.Store Y.Stream.remaining Y.System)
-        N.File.RawFile (wanted_of L.WORD L.GREATEST creation.entry) (I.remaining input)
+    ensures creates { Creates (files_of Y.File.Store Y.Made.Store Y.Stream.feed Y.System)
+        N.File.RawFile (wanted_of L.WORD L.GREATEST creation.entry) (standard_of I.feed input)
         (state_of (Y.calls system.old) (N.calls names.old) (O.contents output.old)
         (E.contents errors.old))
         (state_of (Y.calls system.new) (N.calls names.new) (O.contents output.new)
@@ -76,17 +77,20 @@ where
         Err(unopened) => return (base_left(unopened.base), Err(unopened.fault)),
     };
     if is_standard(creation.name) {
-        let (read, made) = make_on_output::<L, _, _, I, O, E>(alloc, contents, output, errors);
-        return (base_left(read), made);
+        let (sources, made) = make_on_output::<L, _, _, I, O, E>(alloc, contents, output, errors);
+        return (sources.into_left(None), made);
     }
     if is_in_place(creation.name, creation.temporary) {
         return make_in_place::<L, Y, N, I, E>(alloc, system, names, creation, contents, errors);
     }
     let temporary = match temporary_name(alloc, creation.name, creation.temporary) {
         Ok(temporary) => temporary,
-        Err(_) => return (base_left(contents.into_base()), Err(Fault::NoMemory)),
+        Err(_) => return (
+            contents.into_sources().into_left(None),
+            Err(Fault::NoMemory),
+        ),
     };
-    let (read, made) = replace_database::<L, Y::File, Y::Stream, N, I, E>(
+    let (sources, made) = replace_database::<L, Y::File, Y::Stream, N, I, E>(
         alloc,
         names,
         temporary.as_str(),
@@ -94,7 +98,7 @@ where
         contents,
         errors,
     );
-    (base_left(read), made)
+    (sources.into_left(None), made)
 }
 
 /// Why what is read was not opened.
@@ -115,14 +119,14 @@ fn open_all<'a, L, Y, I>(
 where
     L: Width,
     Y: System,
-    I: Read + Drop,
+    I: Feeds + Drop,
     requires head { head_size L.WORD ≤ creation.options.limit }
     requires words { creation.options.limit ≤ L.GREATEST }
     ensures ok { IfOk result (λ c. OpensAll
-        (files_of Y.File.Store Y.Made.Store Y.Stream.remaining Y.System)
+        (files_of Y.File.Store Y.Made.Store Y.Stream.feed Y.System)
         (option_map string_bytes creation.entry.base.now) (map string_bytes creation.entry.inputs.now)
-        (I.remaining input) (Y.calls system.old) (Y.calls system.new) c.base
-        (inputs_left Y.Stream.remaining I.remaining c.inputs)) }
+        (Y.calls system.old) (Y.calls system.new) c.sources.base c.sources.inputs.readers.items) }
+    ensures shared { IfOk result (λ c. c.sources.inputs.shared ≡ input) }
     ensures options { IfOk result (λ c. c.options ≡ creation.entry.options) }
     ensures fails { IfErr result (λ u. NotOpened Y.System
         (option_map string_bytes creation.entry.base.now) (map string_bytes creation.entry.inputs.now)
@@ -134,8 +138,7 @@ where
     };
     match open_inputs::<Y, I>(alloc, system, creation.inputs, input) {
         Ok(inputs) => Ok(Contents {
-            base,
-            inputs,
+            sources: Sources { base, inputs },
             options: creation.options,
             lines: creation.lines,
             width: PhantomData,
@@ -144,32 +147,34 @@ where
     }
 }
 
-/// Makes it in memory and writes it.
+/// Makes it in memory and writes it. What was read is handed back.
 #[inline(never)]
 fn make_on_output<L, F, J, I, O, E>(
     alloc: Global,
     contents: Contents<'_, L, F, J, I>,
     output: &mut O,
     errors: &mut E,
-) -> (Option<F>, Result<(), Fault>)
+) -> (Sources<F, J, I>, Result<(), Fault>)
 where
     L: Width,
     F: Store + Drop,
-    J: Read + Drop,
-    I: Read + Drop,
+    J: Feeds + Drop,
+    I: Feeds + Drop,
     O: Sink,
     E: Sink,
-    ensures makes { MakesOnOutput F.Store
-        (making_of L.WORD L.GREATEST J.remaining I.remaining contents.entry) result.0
-        (O.contents output.old) (O.contents output.new)
-        (E.contents errors.old) (E.contents errors.new) result.1 }
+    ensures makes { OfAgreeing J.feed I.feed contents.entry.sources.inputs result.0.inputs
+        (λ inputs. MakesOnOutput F.Store (making_of L.WORD L.GREATEST contents.entry inputs)
+        result.0.base (O.contents output.old) (O.contents output.new)
+        (E.contents errors.old) (E.contents errors.new) result.1) }
+    ensures placed { AreInPlace contents.entry.sources.inputs.readers.items
+        result.0.inputs.readers.items }
     ensures output { OutputSays (O.failed output.new ⊎ E.failed errors.new) result.1 }
 {
     let empty = MemStore::new(alloc);
-    let (store, base, made) = make_in::<L, MemStore, F, J, I, E>(alloc, empty, contents, errors);
+    let (store, sources, made) = make_in::<L, MemStore, F, J, I, E>(alloc, empty, contents, errors);
     match made {
-        Ok(()) => (base, write_bytes(store.bytes(), output)),
-        Err(fault) => (base, Err(fault)),
+        Ok(()) => (sources, write_bytes(store.bytes(), output)),
+        Err(fault) => (sources, Err(fault)),
     }
 }
 

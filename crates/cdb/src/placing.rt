@@ -1,7 +1,9 @@
 // A database made under its name: in place, or in a temporary file that replaces it.
 ghost use Rattle.std.specs.Prelude.{◌≡◌, ◌∷◌, [], true, false, map, option_map, string_bytes};
 ghost use Rattle.std.specs.Prelude.{IfOk, IfErr, OnOk, List, Option, ℕ};
+ghost use Rattle.cdb_show.specs.Views.FedInputs.{AreInPlace};
 ghost use Rattle.cdb_show.specs.Views.Output.{OutputSays};
+ghost use Rattle.cdb.specs.Agreeing.{HandsInputs, OfAgreeing, OpensNoMore};
 ghost use Rattle.cdb.specs.Creating.{AsksAll, AsksBase, AsksEach, AsksOne};
 ghost use Rattle.cdb.specs.Creating.{FindsBase, FindsInput, FindsOne, MayBeInput, MayBeOne};
 ghost use Rattle.cdb.specs.Creating.{MayBeStandard};
@@ -15,16 +17,16 @@ ghost use Rattle.cdb_names.specs.declared.name_trace.NameCall.TheVariants.{Input
 ghost use Rattle.cdb.specs.Contents.{making_of, wanted_of};
 
 use crate::building::Building;
-use crate::contents::Contents;
+use crate::contents::{Contents, Sources};
 use crate::creating::Creation;
-use cdb_form::{Sink, Width};
+use cdb_form::{Feeds, Sink, Width};
 use cdb_make::MakeFault;
 use cdb_names::{Answer, Builder, Lock, Names, ReplaceFault, replace_file};
+use cdb_show::FedInputs;
 use cdb_store::Store;
-use cdb_system::{Left, STANDARD_INPUT, System, base_left, is_standard};
+use cdb_system::{Left, STANDARD_INPUT, System, is_standard};
 use cdb_tool::Fault;
 use std::alloc::Global;
-use std::io::Read;
 use std::marker::PhantomData;
 
 /// Whether a file that is read may be the one of this name, which is not followed as a link: it is, or
@@ -164,7 +166,7 @@ fn named(has_file: Answer) -> Result<(), Fault>
 /// `Rename`: another file has the name before the file is emptied or once it is whole, or none has, or the
 /// system did not say.
 ///
-/// The base is handed back, and the file if it was opened.
+/// What was read is handed back, and the file if it was opened.
 #[inline(never)]
 pub(crate) fn make_in_place<L, Y, N, I, E>(
     alloc: Global,
@@ -178,40 +180,36 @@ where
     L: Width,
     Y: System,
     N: Names,
-    I: Read + Drop,
+    I: Feeds + Drop,
     E: Sink,
-    ensures makes { (output : Option (List ℕ)) → MakesInPlace
-        (files_of Y.File.Store Y.Made.Store Y.Stream.remaining Y.System)
-        (making_of L.WORD L.GREATEST Y.Stream.remaining I.remaining contents.entry)
+    ensures makes { (handed : FedInputs Y.Stream I) × HandsInputs contents.entry.sources.inputs
+        handed result.0 × ((output : Option (List ℕ))
+        → OfAgreeing Y.Stream.feed I.feed contents.entry.sources.inputs handed (λ inputs.
+        MakesInPlace (files_of Y.File.Store Y.Made.Store Y.Stream.feed Y.System)
+        (making_of L.WORD L.GREATEST contents.entry inputs)
         (wanted_of L.WORD L.GREATEST creation.entry)
         (state_of (Y.calls system.old) (N.calls names.old) output (E.contents errors.old))
         (state_of (Y.calls system.new) (N.calls names.new) output (E.contents errors.new))
-        result.0 result.1 }
+        result.0 result.1)) }
+    ensures opens { OpensNoMore (Y.calls system.old) (Y.calls system.new) }
     ensures output { OutputSays (E.failed errors.new) result.1 }
 {
     if may_be_read(names, creation.name, creation) {
-        return (base_left(contents.into_base()), Err(Fault::Open));
+        return (contents.into_sources().into_left(None), Err(Fault::Open));
     }
     let store = match emptied::<Y>(system, creation.name) {
         Ok(store) => store,
-        Err(fault) => return (base_left(contents.into_base()), Err(fault)),
+        Err(fault) => return (contents.into_sources().into_left(None), Err(fault)),
     };
     let building = Building::<L, Y::File, Y::Stream, I, E> {
         alloc,
         contents,
         errors: PhantomData,
     };
-    let (mut store, read, built) = building.build(store, errors);
+    let (mut store, sources, built) = building.build(store, errors);
     let flushed = synced(&mut store, built);
     let answer = kept::<Y>(system, creation.name, &store, flushed);
-    let left = Left {
-        read,
-        other: None,
-        made: Some(store),
-        stream: None,
-        input: None,
-    };
-    (left, answer)
+    (sources.into_left(Some(store)), answer)
 }
 
 /// What building a database in a store comes to once the store is flushed, unless it failed.
@@ -243,7 +241,7 @@ where
 /// Makes it in a temporary file, which replaces the database once it is whole.
 ///
 /// If the temporary name refers to the base or to an input, or the system did not say whether it does,
-/// nothing is removed and the call fails. The base is handed back, also if nothing was built.
+/// nothing is removed and the call fails. What was read is handed back, also if nothing was built.
 #[inline(never)]
 pub(crate) fn replace_database<L, F, J, N, I, E>(
     alloc: Global,
@@ -252,37 +250,41 @@ pub(crate) fn replace_database<L, F, J, N, I, E>(
     creation: Creation<'_>,
     contents: Contents<'_, L, F, J, I>,
     errors: &mut E,
-) -> (Option<F>, Result<(), Fault>)
+) -> (Sources<F, J, I>, Result<(), Fault>)
 where
     L: Width,
     F: Store + Drop,
-    J: Read + Drop,
+    J: Feeds + Drop,
     N: Names,
-    I: Read + Drop,
+    I: Feeds + Drop,
     E: Sink,
-    ensures replaces { (opened : OpenCalls) (output : Option (List ℕ)) → MakesApart F.Store N.File.RawFile
-        (making_of L.WORD L.GREATEST J.remaining I.remaining contents.entry) temporary.now
-        (wanted_of L.WORD L.GREATEST creation.entry)
+    ensures replaces { (opened : OpenCalls) (output : Option (List ℕ))
+        → OfAgreeing J.feed I.feed contents.entry.sources.inputs result.0.inputs (λ inputs.
+        MakesApart F.Store N.File.RawFile (making_of L.WORD L.GREATEST contents.entry inputs)
+        temporary.now (wanted_of L.WORD L.GREATEST creation.entry)
         (state_of opened (N.calls names.old) output (E.contents errors.old))
-        (state_of opened (N.calls names.new) output (E.contents errors.new)) result.0 result.1 }
+        (state_of opened (N.calls names.new) output (E.contents errors.new))
+        result.0.base result.1) }
+    ensures placed { AreInPlace contents.entry.sources.inputs.readers.items
+        result.0.inputs.readers.items }
     ensures output { OutputSays (E.failed errors.new) result.1 }
 {
     if may_be_read(names, temporary, creation) {
-        return (contents.into_base(), Err(Fault::Open));
+        return (contents.into_sources(), Err(Fault::Open));
     }
     let building = Building::<L, F, J, I, E> {
         alloc,
         contents,
         errors: PhantomData,
     };
-    let (base, answer) = replace_file::<N, Building<'_, L, F, J, I, E>>(
+    let (sources, answer) = replace_file::<N, Building<'_, L, F, J, I, E>>(
         names,
         creation.name,
         temporary,
         building,
         errors,
     );
-    (base, answer_to_program(answer))
+    (sources, answer_to_program(answer))
 }
 
 /// What the answer of a replacement is to the program.

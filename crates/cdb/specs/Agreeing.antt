@@ -1,0 +1,52 @@
+-- Which bytes agree with the inputs of a create, as they were opened and as their readers are handed back.
+use Rattle.std.specs.Prelude.{ℕ, ◌≡◌, ◌++◌, List, Option, Some, None, ⊤, length, map}
+use Rattle.std.specs.List.{AllByRecursion}
+use Rattle.cdb_feed.specs.Inputs.{AgreesWith, AreUnread, FirstAgree, IsUnread}
+use Rattle.cdb_form.specs.Fed.Feed.{Feed}
+use Rattle.cdb_form.specs.Format.Record.{AreBytes}
+use Rattle.cdb_show.specs.Runs.Incoming.{one_input}
+use Rattle.cdb_show.specs.Runs.Inputs.{InputsLeft}
+use Rattle.cdb_show.specs.Views.FedInputs.{AreInPlace}
+use Rattle.cdb_show.specs.declared.fed_inputs.FedInputs.{FedInputs}
+use Rattle.cdb_system.specs.Opening.{OpenCalls}
+use Rattle.cdb_system.specs.declared.left.Left.{Left}
+use Rattle.cdb_system.specs.declared.open_trace.OpenCall.{OpenCall}
+use Rattle.cdb_system.specs.declared.open_trace.OpenCall.TheVariants.{AtPlaces, InTurn}
+
+-- inputs that have these bytes, where one without bytes of its own begins in the shared ones
+abbrev pub inputs_of : (each : List (Option (List ℕ))) → (shared : List ℕ) → InputsLeft
+inputs_of each shared = record { each = map one_input each; shared = Some shared }
+
+-- they agree with what is known of the readers afterwards, of which nothing had been taken before
+pub record InputsAgree {J I : Type 0} (own : J → Feed) (shared : I → Feed)
+    (before after : FedInputs J I) (each : List (Option (List ℕ))) (bytes : List ℕ) : Type 0 where
+  pub unread : AreUnread own before.readers.items
+  pub none_read : IsUnread (shared before.shared)
+  pub long : length each ≡ length before.readers.items
+  pub agree : FirstAgree own AreBytes (length each) each after.readers.items
+  pub shared_agrees : AgreesWith AreBytes (shared after.shared) bytes
+
+-- this holds of all inputs that agree
+abbrev pub OfAgreeing : {J I : Type 0} → (own : J → Feed) → (shared : I → Feed)
+    → (before after : FedInputs J I) → (InputsLeft → Type 0) → Type 0
+OfAgreeing own shared before after P = (each : List (Option (List ℕ))) (bytes : List ℕ)
+    → InputsAgree own shared before after each bytes → P (inputs_of each bytes)
+
+-- a call opens no file that is read
+abbrev pub OpensNone : OpenCall → Type 0
+OpensNone AtPlaces = ⊥
+OpensNone InTurn = ⊥
+OpensNone call = ⊤
+
+-- so were the calls since
+pub record OpensNoMore (old new : OpenCalls) : Type 0 where
+  pub since : OpenCalls
+  pub are : new ≡ since ++ old
+  pub each : AllByRecursion (λ c. OpensNone c.0) since
+
+-- the readers of the inputs are handed back, each in its place, and no other stream is
+pub record HandsInputs {F I J M : Type 0} (inputs handed : FedInputs I J) (left : Left F M I J) : Type 0 where
+  pub readers : left.inputs ≡ Some handed.readers
+  pub shared : left.input ≡ Some handed.shared
+  pub stream : left.stream ≡ None
+  pub placed : AreInPlace inputs.readers.items handed.readers.items
