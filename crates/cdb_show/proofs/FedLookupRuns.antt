@@ -1,5 +1,5 @@
 -- What a query of the keys of some inputs came to, by the readers of the inputs as they come back.
-use Rattle.std.proofs.Common.{◌≡◌, ℕ, ◌+◌, ◌<◌, ◌≤◌, Bool, List, [], ◌∷◌, ◌++◌, length, refl, sym, ap, subst, ◌∙◌, arith, slice_set, slice_index_or, Option, None, Some, Result, Ok, Err, OnOk, IfErr, inl, inr, true, false}
+use Rattle.std.proofs.Common.{◌≡◌, ℕ, ◌+◌, ◌<◌, ◌≤◌, Bool, List, [], ◌∷◌, ◌++◌, length, drop, refl, sym, ap, subst, ◌∙◌, arith, slice_set, slice_index_or, Option, None, Some, Result, Ok, Err, OnOk, IfErr, inl, inr, true, false}
 use Rattle.std.specs.Prelude.{⊤}
 use Rattle.std.proofs.lemmas.List.{append-nil}
 use Rattle.cdb_store.specs.declared.store.Store.{Ghosts}
@@ -10,7 +10,7 @@ use Rattle.cdb_read.specs.Views.Reads.{OpeningFails}
 use Rattle.cdb_read.specs.declared.fault.ReadFault.{ReadFault}
 use Rattle.cdb_read.specs.declared.fault.ReadFault.TheVariants as damage
 use Rattle.cdb_read.proofs.FoundSoFar.{reads_none}
-use Rattle.cdb_feed.specs.Inputs.{AreRead, NoMore, NotBegun, Stop, StopsSo, TakesOne}
+use Rattle.cdb_feed.specs.Inputs.{AreRead, NoMore, NotBegun, Stop, StopsSo, TakesOne, reached}
 use Rattle.cdb_feed.specs.Parsing.{Parsing}
 use Rattle.cdb_feed.specs.declared.input_reader.InputReader.{InputReader}
 use Rattle.cdb_feed.specs.declared.input_reader.InputReader.TheVariants.{Own, Shared}
@@ -39,7 +39,7 @@ use Rattle.cdb_show.specs.declared.fed_inputs.FedInputs.{FedInputs}
 use Rattle.cdb_show.specs.declared.fed_inputs.SharedWindow.{SharedWindow}
 use Rattle.cdb_show.specs.declared.fed_inputs.SharedWindow.TheVariants.{InHand, Unread}
 use Rattle.cdb_show.specs.declared.window.Window.{Window}
-use Rattle.cdb_show.proofs.FedTurns.{SoFar, one_more, one_stops, all_read}
+use Rattle.cdb_show.proofs.FedTurns.{SoFar, one_more, one_stops, all_read, others_same, reached_all, reached_more}
 use Rattle.cdb_show.proofs.LookupRuns.{each_more, stops_later}
 use Rattle.cdb_show.proofs.NextInputs.{begins_none}
 use Rattle.cdb_show.proofs.Writers.{keeps_self}
@@ -239,20 +239,21 @@ module _ {J I S : Type 0} (w g : ℕ) (s : Ghosts S) (number : Option ℕ) (styl
 
     pub fed_stops : (fault : Fault) → (last : List Change) × StopsTurn style g own shared (fault_in (Err fault)) last it left window further × IsFaultOf (keys_form style) (i + 1) fault × StopsFurther w s number style last store next mid written missing fault
         → (read : List (List Change)) × (last : List Change) × AreRead own (shared_feed shared) (keys_parsing style g (fault_in (Err fault))) read (stop_of (fault_in (Err fault)) last) before (slice_set now i left) start further
-        × IsFaultOf (keys_form style) (length read + 1) fault
+        × (drop (length read + 1) (slice_set now i left) ≡ drop (length read + 1) before) × IsFaultOf (keys_form style) (length read + 1) fault
         × ((begun : Option (List ℕ)) → HasLooked w s number style [] first begun out was → LookupsStopAt w s number style (keys_of_each read ++ keys_of last) first next begun written fault)
     fed_stops fault (last, stop, is, stops) = (
       h.so_far.read,
       last,
       one_stops own (shared_feed shared) (keys_parsing style g) before now it left start window further i (stop_of (fault_in (Err fault)) last) (fault_in (Err fault)) h.so_far within e (λ others rest. stops_on style g own shared (fault_in (Err fault)) last it left others rest window further stop),
+      others_same own (shared_feed shared) (keys_parsing style g) before now it left start window i h.so_far within e,
       subst (λ n. IsFaultOf (keys_form style) (n + 1) fault) (sym h.so_far.count) is,
       λ begun k. stops_later w s number style _ first store next begun written fault h.reads (stops (keys_of_each h.so_far.read) begun (h.looked begun k)),
     )
 
   pub fed_all : (now : List (InputReader J)) (window : SharedWindow I) (i : ℕ) (store : S) (written : Option (List ℕ)) (missing : Bool) → LookedFed now window i store written missing → length now ≤ i
-      → (read : List (List Change)) × AreRead own (shared_feed shared) (keys_parsing style g None) read NoMore before now start window
+      → (read : List (List Change)) × AreRead own (shared_feed shared) (keys_parsing style g None) read NoMore before now start window × (drop (length read) now ≡ drop (length read) before)
       × ((begun : Option (List ℕ)) → HasLooked w s number style [] first begun out was → HasLooked w s number style (keys_of_each read) store begun written missing)
-  fed_all now window i store written missing h end = (h.so_far.read, all_read own (shared_feed shared) (keys_parsing style g) before now start window i None h.so_far end, h.looked)
+  fed_all now window i store written missing h end = (h.so_far.read, all_read own (shared_feed shared) (keys_parsing style g) before now start window i None h.so_far end, subst (λ n. drop n now ≡ drop n before) (sym h.so_far.count) h.so_far.same, h.looked)
 
 -- ---- the end
 
@@ -282,6 +283,15 @@ fails_in w s number style inputs left read stop old new start now NoOldTables h 
 fails_in w s number style inputs left read stop old new start now NoNewTables h = h
 fails_in w s number style inputs left read stop old new start now NoMemory h = h
 
+one_reached : (fault : Option TextFault) (last : List Change) → reached {Item = Change} [] (stop_of fault last) ≡ 1
+one_reached None last = refl
+one_reached (Some (kind.Syntax at)) last = refl
+one_reached (Some (kind.Ended at)) last = refl
+one_reached (Some (kind.Large at)) last = refl
+one_reached (Some kind.Input) last = refl
+one_reached (Some kind.Endless) last = refl
+one_reached (Some kind.NoMemory) last = refl
+
 not_missing : (missing : Bool) (f : Fault) → Err f ≡ missing_answer missing → f ≡ Missing
 not_missing true f e = cc
 not_missing false f e = cc
@@ -291,18 +301,18 @@ no_fault true = refl
 no_fault false = refl
 
 module _ {J I S : Type 0} (w g : ℕ) (s : Ghosts S) (number : Option ℕ) (style : Style) (own : J → Feed) (shared : I → Feed) (inputs left : FedInputs J I) (window : SharedWindow I) (old new : S) (start : Option (List ℕ)) (now : List (InputReader J)) (same : left.readers.items ≡ now) (handed : left.shared ≡ reader_of window) (reads : OnlyReads s old new) where
-  handed_back : (fault : Option TextFault) (read : List (List Change)) (stop : Stop Change TextFault) → AreRead own (shared_feed shared) (keys_parsing style g fault) read stop inputs.readers.items now (Unread inputs.shared) window → AreReadTo own shared (keys_parsing style g fault) read stop inputs left
-  handed_back fault read stop are = record { window = window; are = subst (λ xs. AreRead own (shared_feed shared) (keys_parsing style g fault) read stop inputs.readers.items xs (Unread inputs.shared) window) (sym same) are; handed = handed }
+  handed_back : (fault : Option TextFault) (read : List (List Change)) (stop : Stop Change TextFault) → AreRead own (shared_feed shared) (keys_parsing style g fault) read stop inputs.readers.items now (Unread inputs.shared) window → drop (reached read stop) now ≡ drop (reached read stop) inputs.readers.items → AreReadTo own shared (keys_parsing style g fault) read stop inputs left
+  handed_back fault read stop are others = record { window = window; are = subst (λ xs. AreRead own (shared_feed shared) (keys_parsing style g fault) read stop inputs.readers.items xs (Unread inputs.shared) window) (sym same) are; handed = handed; others = subst (λ xs. drop (reached read stop) xs ≡ drop (reached read stop) inputs.readers.items) (sym same) others }
 
   -- it stopped in an input
   pub fed_stopped : (end : Option (List ℕ)) (f : Fault) → (read : List (List Change)) × (last : List Change) × AreRead own (shared_feed shared) (keys_parsing style g (fault_in (Err f))) read (stop_of (fault_in (Err f)) last) inputs.readers.items now (Unread inputs.shared) window
-      × IsFaultOf (keys_form style) (length read + 1) f × LookupsStopAt w s number style (keys_of_each read ++ keys_of last) old new start end f
+      × (drop (length read + 1) now ≡ drop (length read + 1) inputs.readers.items) × IsFaultOf (keys_form style) (length read + 1) f × LookupsStopAt w s number style (keys_of_each read ++ keys_of last) old new start end f
       → FedLookupsLeave w g s number style own shared inputs left old new start end (Err f)
-  fed_stopped end f (read, last, are, is, stops) = record {
+  fed_stopped end f (read, last, are, others, is, stops) = record {
     reads = reads;
     read = read;
     stop = stop_of (fault_in (Err f)) last;
-    are = handed_back (fault_in (Err f)) read (stop_of (fault_in (Err f)) last) are;
+    are = handed_back (fault_in (Err f)) read (stop_of (fault_in (Err f)) last) are (subst (λ n. drop n now ≡ drop n inputs.readers.items) (sym (reached_more read (stop_of (fault_in (Err f)) last) (one_reached (fault_in (Err f)) last))) others);
     all = λ missing e. absurd (subst (λ x. LookupsStopAt w s number style (keys_of_each read ++ keys_of last) old new start end x) (not_missing missing f e) stops);
     fails = λ v e other.
         let k : f ≡ v = cc in
@@ -310,14 +320,17 @@ module _ {J I S : Type 0} (w g : ℕ) (s : Ghosts S) (number : Option ℕ) (styl
         (fails_in w s number style inputs left read (stop_of (fault_in (Err f)) last) old new start end f (record { last = last; is_stop = refl; stops = stops; is_fault = is }));
   }
 
-  module _ (read : List (List Change)) (mid end : Option (List ℕ)) (missing : Bool) (are : AreRead own (shared_feed shared) (keys_parsing style g None) read NoMore inputs.readers.items now (Unread inputs.shared) window) (h : HasLooked w s number style (keys_of_each read) new start mid missing) where
+  module _ (read : List (List Change)) (mid end : Option (List ℕ)) (missing : Bool) (are : AreRead own (shared_feed shared) (keys_parsing style g None) read NoMore inputs.readers.items now (Unread inputs.shared) window) (others : drop (length read) now ≡ drop (length read) inputs.readers.items) (h : HasLooked w s number style (keys_of_each read) new start mid missing) where
+    unreached : drop (reached {Fault = TextFault} read NoMore) now ≡ drop (reached {Fault = TextFault} read NoMore) inputs.readers.items
+    unreached = subst (λ n. drop n now ≡ drop n inputs.readers.items) (sym (reached_all TextFault read)) others
+
     -- all keys were looked up
     pub fed_whole : (result : Result Unit Fault) → result ≡ missing_answer missing → Appends mid end (end_of style) → FedLookupsLeave w g s number style own shared inputs left old new start end result
     fed_whole result is last = record {
       reads = reads;
       read = read;
       stop = NoMore;
-      are = handed_back (fault_in result) read NoMore (subst (λ f. AreRead own (shared_feed shared) (keys_parsing style g f) read NoMore inputs.readers.items now (Unread inputs.shared) window) (sym (ap fault_in is ∙ no_fault missing)) are);
+      are = handed_back (fault_in result) read NoMore (subst (λ f. AreRead own (shared_feed shared) (keys_parsing style g f) read NoMore inputs.readers.items now (Unread inputs.shared) window) (sym (ap fault_in is ∙ no_fault missing)) are) unreached;
       all = λ other e. (refl, record { long = h.long; answered = λ b at. h.answered b at ∙ sym is ∙ e; written = λ b at. appends_then start mid end _ _ (h.written b at) last });
       fails = λ f e other. absurd (other (not_missing missing f (sym e ∙ is)));
     }
@@ -328,7 +341,7 @@ module _ {J I S : Type 0} (w g : ℕ) (s : Ghosts S) (number : Option ℕ) (styl
       reads = reads;
       read = read;
       stop = NoMore;
-      are = handed_back None read NoMore are;
+      are = handed_back None read NoMore are unreached;
       all = λ other e. absurd (let k = not_missing other Output e in let no : ⊥ = cc in no);
       fails = λ f e other.
           let k : Output ≡ f = cc in
@@ -345,7 +358,7 @@ fed_unopened w g s number style own shared inputs old new start damage.Short h =
   reads = subst (OnlyReads s old) (sym h.1) (reads_none s old);
   read = [];
   stop = NotBegun;
-  are = record { window = Unread inputs.shared; are = nothing_taken (shared inputs.shared); handed = refl };
+  are = record { window = Unread inputs.shared; are = nothing_taken (shared inputs.shared); handed = refl; others = refl };
   all = λ missing e. absurd (let k = not_missing missing (Read damage.Short) e in let no : ⊥ = cc in no);
   fails = λ v e other.
       let k : Read damage.Short ≡ v = cc in
@@ -355,7 +368,7 @@ fed_unopened w g s number style own shared inputs old new start damage.Device h 
   reads = h.0;
   read = [];
   stop = NotBegun;
-  are = record { window = Unread inputs.shared; are = nothing_taken (shared inputs.shared); handed = refl };
+  are = record { window = Unread inputs.shared; are = nothing_taken (shared inputs.shared); handed = refl; others = refl };
   all = λ missing e. absurd (let k = not_missing missing (Read damage.Device) e in let no : ⊥ = cc in no);
   fails = λ v e other.
       let k : Read damage.Device ≡ v = cc in

@@ -1,11 +1,11 @@
 -- The inputs that a loop has read so far, one after the other, and how it ends.
-use Rattle.std.proofs.Common.{◌≡◌, ℕ, ◌+◌, ◌<◌, ◌≤◌, List, [], ◌∷◌, ◌++◌, length, take, drop, refl, sym, ap, subst, ◌∙◌, arith, slice_set, slice_index_or, length-append}
+use Rattle.std.proofs.Common.{◌≡◌, ℕ, suc, ◌+◌, ◌<◌, ◌≤◌, List, [], ◌∷◌, ◌++◌, length, take, drop, refl, sym, ap, subst, ◌∙◌, arith, slice_set, slice_index_or, length-append}
 use Rattle.std.proofs.lemmas.List.{append-nil, drop-set, take-set, drop_more, drop-set-lt}
 use Rattle.std.proofs.Math.ListN.{length-set}
 use Rattle.std.proofs.Math.Seq.{drop-length}
 use Rattle.cdb_form.specs.Fed.Feed.{Feed}
 use Rattle.cdb_form.proofs.Fed.FeedLemmas.{nothing_taken}
-use Rattle.cdb_feed.specs.Inputs.{AreRead, NotBegun, NoMore, Stop, StopsSo, TakesOne}
+use Rattle.cdb_feed.specs.Inputs.{AreRead, NotBegun, NoMore, Stop, StopsSo, TakesOne, reached}
 use Rattle.cdb_feed.specs.Parsing.{Parsing}
 use Rattle.cdb_feed.specs.declared.input_reader.InputReader.{InputReader}
 use Rattle.cdb_feed.proofs.InputsInTurn.{read_then}
@@ -39,6 +39,18 @@ module _ {R S Item F X : Type 0} (own : R → Feed) (shared : S → Feed) (p : X
       (subst (λ n. take n now ≡ take n (slice_set now i left)) (sym s.count) (sym (take-set now i left)))
       (subst (λ n. AreRead own shared (p x) more stop (drop n before) (drop n (slice_set now i left)) mid new) (sym s.count) step)
 
+  after_same : (before now : List (InputReader R)) (it left : InputReader R) (i : ℕ) → i < length now → length now ≡ length before → drop i now ≡ drop i before → it ≡ slice_index_or now i it → drop (i + 1) (slice_set now i left) ≡ drop (i + 1) before
+  after_same before now it left i within long same e =
+      let b = rest_of before now it i within long same e in
+      let n = drop_more now i it within in
+      let h : slice_index_or now i it ∷ drop (i + 1) now ≡ it ∷ drop (i + 1) before = sym n ∙ same ∙ b in
+      let k : drop (i + 1) now ≡ drop (i + 1) before = cc in
+      drop-set-lt (i + 1) now i left (omega arith) ∙ k
+
+  -- the readers behind the next input are as they were
+  pub others_same : (before now : List (InputReader R)) (it left : InputReader R) (old mid : S) (i : ℕ) (s : SoFar before now old mid i) → i < length now → it ≡ slice_index_or now i it → drop (length s.read + 1) (slice_set now i left) ≡ drop (length s.read + 1) before
+  others_same before now it left old mid i s within e = subst (λ n. drop (n + 1) (slice_set now i left) ≡ drop (n + 1) before) (sym s.count) (after_same before now it left i within s.long s.same e)
+
   pub one_more : (before now : List (InputReader R)) (it left : InputReader R) (old mid new : S) (i : ℕ) (items : List Item) (s : SoFar before now old mid i) → i < length now → it ≡ slice_index_or now i it
       → ((x : X) → TakesOne own shared ((p x).reads items) it left mid new) → (t : SoFar before (slice_set now i left) old new (i + 1)) × (t.read ≡ s.read ++ items ∷ [])
   one_more before now it left old mid new i items s within e takes = (
@@ -47,17 +59,11 @@ module _ {R S Item F X : Type 0} (own : R → Feed) (shared : S → Feed) (p : X
       are = λ x. then before now it left old mid new i (items ∷ []) NotBegun s x within e (new, takes x, nothing_taken (shared new));
       count = omega (arith, length-append s.read (items ∷ []), s.count);
       within = omega (arith, within, length-set now i left);
-      same = drop-set-lt (i + 1) now i left (omega arith) ∙ after_same;
+      same = after_same before now it left i within s.long s.same e;
       long = length-set now i left ∙ s.long;
     },
     refl,
-  ) where
-    after_same : drop (i + 1) now ≡ drop (i + 1) before
-    after_same =
-        let b = rest_of before now it i within s.long s.same e in
-        let n = drop_more now i it within in
-        let h : slice_index_or now i it ∷ drop (i + 1) now ≡ it ∷ drop (i + 1) before = sym n ∙ s.same ∙ b in
-        cc
+  )
 
   pub one_stops : (before now : List (InputReader R)) (it left : InputReader R) (old mid new : S) (i : ℕ) (stop : Stop Item F) (x : X) (s : SoFar before now old mid i) → i < length now → it ≡ slice_index_or now i it
       → ((others rest : List (InputReader R)) → StopsSo own shared (p x) stop (it ∷ others) (left ∷ rest) mid new) → AreRead own shared (p x) s.read stop before (slice_set now i left) old new
@@ -70,3 +76,13 @@ module _ {R S Item F X : Type 0} (own : R → Feed) (shared : S → Feed) (p : X
       let none : drop (length s.read) before ≡ [] = subst (λ n. drop n before ≡ []) (sym at) (drop-length before) in
       subst (λ read. AreRead own shared (p x) read NoMore before now old mid) (append-nil s.read)
       (read_then own shared (p x) s.read [] NoMore before now now old mid mid (s.are x) refl (none, nothing_taken (shared mid)))
+
+-- ---- how many inputs were reached
+
+pub reached_all : {Item : Type 0} (F : Type 0) (read : List (List Item)) → reached {Fault = F} read NoMore ≡ length read
+reached_all F [] = refl
+reached_all F (items ∷ read) = ap suc (reached_all F read)
+
+pub reached_more : {Item F : Type 0} (read : List (List Item)) (stop : Stop Item F) → reached {Item = Item} [] stop ≡ 1 → reached read stop ≡ length read + 1
+reached_more [] stop e = e
+reached_more (items ∷ read) stop e = let k = reached_more read stop e in ap suc k ∙ omega arith

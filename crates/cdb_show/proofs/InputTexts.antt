@@ -1,29 +1,22 @@
--- What a reader of a native text gave of an input, and one of a map text.
-use Rattle.std.proofs.Common.{◌≡◌, ◌≢◌, ℕ, ◌+◌, ◌*◌, ◌^◌, ◌≤◌, inl, inr, List, [], ◌∷◌, ◌++◌, refl, append_assoc, Option, Some, None, IfSome, sym, ap, subst, ◌∙◌, length, length-append, take, drop, arith}
-use Rattle.std.proofs.lemmas.List.{append-nil, take-append-drop, length-take-le}
-use Rattle.std.specs.Prelude.{codes}
+-- What a reader of a map text gave of an input.
+use Rattle.std.proofs.Common.{◌≡◌, ◌≢◌, ℕ, ◌+◌, ◌*◌, ◌^◌, ◌≤◌, inl, inr, List, [], ◌∷◌, ◌++◌, refl, append_assoc, Option, Some, None, IfSome, sym, ap, subst, ◌∙◌, length, length-append, arith}
+use Rattle.std.proofs.lemmas.List.{append-nil}
 use Rattle.std.specs.Io.KnownBytes.{Consumes, IsAtEnd}
 use Rattle.cdb_form.specs.Format.Record.{KeyValue}
 use Rattle.cdb_form.specs.Text.Map.{map_lines, with_newlines}
-use Rattle.cdb_form.specs.Text.Native.{Spells, Spelled, Reads}
 use Rattle.cdb_form.specs.Views.KnownBytes.{FromTo}
 use Rattle.cdb_form.specs.Views.MapReader as maps
 use Rattle.cdb_form.specs.Views.MapReader.{ReadAmid, ReadsLinesOf, IsAmidLines}
 use Rattle.cdb_form.specs.Views.Source.{LeavesAmid, Takes, budget}
 use Rattle.cdb_form.specs.declared.text.map_reader.MapReader.{MapReader}
-use Rattle.cdb_form.specs.Views.TextFault.{IsOfText}
-use Rattle.cdb_form.specs.Views.TextReader as texts
 use Rattle.cdb_form.specs.declared.text.fault.TextFault.{TextFault}
 use Rattle.cdb_form.specs.declared.text.fault.TextFault.TheVariants.{Syntax, Ended, Large, Endless}
 use Rattle.cdb_form.specs.declared.text.fault.TextFault.TheVariants as fault
-use Rattle.cdb_form.specs.declared.text.native_reader.TextReader.{TextReader}
 use Rattle.cdb_form.specs.declared.text.source.Source.{Source}
 use Rattle.cdb_form.proofs.MapTexts.WholeMap.{GaveAll, GaveSoFar, gave_so_far_amid, gave_so_far_none, gave_so_far_rest, going_on}
 use Rattle.cdb_form.proofs.MapTexts.WholeMap.{Gave as GaveLines, gave_more as gave_lines_more, gave_all as gave_lines_all}
-use Rattle.cdb_form.proofs.NativeTexts.WholeText.{SoFar, so_far_none, so_far_more}
-use Rattle.cdb_show.specs.Runs.Inputs.{HasFaultBehind, IsInput, InputsBeginWith, HasInputFault}
+use Rattle.cdb_show.specs.Runs.Inputs.{IsInput, InputsBeginWith, HasInputFault}
 use Rattle.cdb_command.specs.declared.style.Style.TheVariants as style
-use Rattle.cdb_show.proofs.NativeInputs.{fault_of_text, fault_of_part}
 
 -- ---- the asks of a map text
 
@@ -40,19 +33,12 @@ abbrev pub HasNoMore : Option (List ℕ) → Option (List ℕ) → Type 0
 HasNoMore input now = FromTo input now (λ text rest. rest ≡ [])
 
 -- it gave these records so far
-abbrev pub GaveNative : {R L : Type 0} → ℕ → (R → Option (List ℕ)) → Option (List ℕ) → TextReader R L → List KeyValue → Type 0
-GaveNative g remaining input t rs = texts.IsGoing t × SoFar g input (texts.unread remaining t) (texts.taken_of t) rs × (2 ^ 48 ≤ texts.budget t)
-
 abbrev pub GaveMap : {R : Type 0} → (R → Option (List ℕ)) → Option (List ℕ) → MapReader R → List KeyValue → Type 0
 GaveMap remaining input t rs = GaveLines remaining input t rs × (maps.IsGoing t → HasSpent remaining input t) × (maps.HasEnded t → HasNoMore input (maps.unread remaining t))
 
 spent_none : (asks taken : ℕ) (o n : Option (List ℕ)) → n ≡ o → taken ≡ 0 → asks ≡ 2 ^ 48 → FromTo o n (Spent asks taken)
 spent_none asks taken None n e t a = tt
 spent_none asks taken (Some text) n e t a = subst (λ n. FromTo (Some text) n (Spent asks taken)) (sym e) (record { counted = omega (arith, t); asked = omega (arith, t, a) })
-
-pub native_none : {R L : Type 0} (g : ℕ) (remaining : R → Option (List ℕ)) (input : Option (List ℕ)) (t : TextReader R L) → texts.IsGoing t → texts.unread remaining t ≡ input → texts.taken_of t ≡ 0 → texts.asks_left t ≡ 2 ^ 48
-    → GaveNative g remaining input t []
-native_none g remaining input t going e taken asks = (going, subst (λ n. SoFar g input (texts.unread remaining t) n []) (sym taken) (so_far_none g input _ e), omega (arith, taken, asks))
 
 pub map_none : {R : Type 0} (remaining : R → Option (List ℕ)) (input : Option (List ℕ)) (t : MapReader R) → maps.IsGoing t → maps.unread remaining t ≡ input → maps.taken_of t ≡ 0 → maps.asks_left t ≡ 2 ^ 48
     → GaveMap remaining input t []
@@ -92,20 +78,11 @@ ended_line : {R : Type 0} (remaining : R → Option (List ℕ)) (input : Option 
 ended_line remaining input t u r [] s m goes ended = known_end (Spent (maps.asks_left t) (maps.taken_of t)) input (maps.unread remaining t) (maps.unread remaining u) ((with_newlines m.ignored ++ m.line) ++ []) s m.reads.takes.read m.reads.ends
 ended_line remaining input t u r (c ∷ bytes) s m goes ended = absurd (going_on u goes ended)
 
-pub native_more : {R L : Type 0} (g : ℕ) (remaining : R → Option (List ℕ)) (input : Option (List ℕ)) (t u : TextReader R L) (rs : List KeyValue) (r : KeyValue) → GaveNative g remaining input t rs → texts.GivesRecord g remaining t u r → GaveNative g remaining input u (rs ++ r ∷ [])
-native_more g remaining input t u rs r h m = (m.going, so_far_more g input _ _ _ _ rs r h.1 m.reads, omega (arith, h.2, m.spends))
-
 pub map_more : {R : Type 0} (remaining : R → Option (List ℕ)) (input : Option (List ℕ)) (t u : MapReader R) (rs : List KeyValue) (r : KeyValue) → GaveMap remaining input t rs → maps.GivesRecord remaining t u r → GaveMap remaining input u (rs ++ r ∷ [])
 map_more remaining input t u rs r h m =
     (gave_lines_more remaining input t u rs r h.0 m, spent_line remaining input t u r m.ending h.1 m.was m.reads m.going, ended_line remaining input t u r m.ending (h.1 m.was) m.reads m.going)
 
 -- ---- the end, and how far it is
-
-all_spelled : (g : ℕ) (o m n : Option (List ℕ)) (taken : ℕ) (rs : List KeyValue) → SoFar g o m taken rs → Consumes m n (codes "\n") → FromTo o n (Reads g rs)
-all_spelled g None m n taken rs a b = tt
-all_spelled g (Some t) None n taken rs a b = absurd a
-all_spelled g (Some t) (Some m) None taken rs a b = absurd b
-all_spelled g (Some t) (Some m) (Some n) taken rs a b = subst (Spelled g rs t) b a.0
 
 both_known : (P : List ℕ → Type 0) (Q : List ℕ → List ℕ → Type 0) (o n : Option (List ℕ)) → IfSome o P → FromTo o n Q → FromTo o n (λ text rest. P text × Q text rest)
 both_known P Q None n p q = tt
@@ -119,16 +96,8 @@ none_left remaining input t u rs gave spent none m = elim gave as (λ _. HasNoMo
   | inr ended ↦ subst (λ v. HasNoMore input (maps.unread remaining v)) (sym (m.stays ended.0)) (none ended.0)
 ]
 
-pub native_all : {R L : Type 0} (g : ℕ) (remaining : R → Option (List ℕ)) (input : Option (List ℕ)) (t u : TextReader R L) (rs : List KeyValue) → GaveNative g remaining input t rs → texts.GivesEnd remaining t u → FromTo input (texts.unread remaining u) (IsInput style.Native g rs)
-native_all g remaining input t u rs h m = all_spelled g input _ _ _ rs h.1 (m.newline h.0)
-
 pub map_all : {R : Type 0} (g : ℕ) (remaining : R → Option (List ℕ)) (input : Option (List ℕ)) (t u : MapReader R) (rs : List KeyValue) → GaveMap remaining input t rs → maps.GivesEnd remaining t u → FromTo input (maps.unread remaining u) (IsInput style.Map g rs)
 map_all g remaining input t u rs h m = both_known _ _ input (maps.unread remaining u) (gave_lines_all remaining input t u rs h.0 m) (none_left remaining input t u rs h.0 h.1 h.2 m)
-
-begins_native : (g : ℕ) (o m : Option (List ℕ)) (taken : ℕ) (rs : List KeyValue) → SoFar g o m taken rs → IfSome o (λ t. (rest : List ℕ) × Spelled g rs t rest)
-begins_native g None m taken rs a = tt
-begins_native g (Some t) None taken rs a = absurd a
-begins_native g (Some t) (Some m) taken rs a = (m, a.0)
 
 begins_map : (o m : Option (List ℕ)) (rs : List KeyValue) → FromTo o m (λ text rest. map_lines text ≡ rs ++ map_lines rest) → IfSome o (λ t. (more : List KeyValue) × (map_lines t ≡ rs ++ more))
 begins_map None m rs a = tt
@@ -139,9 +108,6 @@ all_begins : (o : Option (List ℕ)) (rs : List KeyValue) → GaveAll o rs → I
 all_begins None rs a = tt
 all_begins (Some t) rs a = ([], a ∙ sym (append-nil rs))
 
-pub native_first : {R L : Type 0} (g : ℕ) (remaining : R → Option (List ℕ)) (input : Option (List ℕ)) (t : TextReader R L) (rs : List KeyValue) → GaveNative g remaining input t rs → IfSome input (InputsBeginWith style.Native g rs)
-native_first g remaining input t rs h = begins_native g input _ _ rs h.1
-
 pub map_first : {R : Type 0} (g : ℕ) (remaining : R → Option (List ℕ)) (input : Option (List ℕ)) (t : MapReader R) (rs : List KeyValue) → GaveMap remaining input t rs → IfSome input (InputsBeginWith style.Map g rs)
 map_first g remaining input t rs h = elim h.0 [
   | inl so ↦ begins_map input _ rs (gave_so_far_rest input _ rs so.1)
@@ -149,24 +115,6 @@ map_first g remaining input t rs h = elim h.0 [
 ]
 
 -- ---- a fault
-
-so_far_native : {R L : Type 0} (g : ℕ) (remaining : R → Option (List ℕ)) (o : Option (List ℕ)) (t u : TextReader R L) (rs : List KeyValue) (f : TextFault) → SoFar g o (texts.unread remaining t) (texts.taken_of t) rs → 2 ^ 48 ≤ texts.budget t
-    → texts.MeetsFault g remaining t u f → f ≢ fault.NoMemory → IfSome o (HasInputFault style.Native g rs f)
-so_far_native g remaining None t u rs f a b m other = tt
-so_far_native g remaining (Some x) t u rs f a b m other = record {
-  of_text = fault_of_text g (Some x) _ _ rs f a m.exact m.no_record;
-  of_reader = λ is.
-      let p = fault_of_part g (Some x) _ _ _ (texts.taken_of u) rs f a (m.took other) m.part is in
-      let to : ℕ = texts.taken_of u in
-      let short : length (take to x) ≡ to = length-take-le to x p.0 in
-      record {
-        part = take to x;
-        more = drop to x;
-        split = sym (take-append-drop to x);
-        amid = subst (λ (n : ℕ). HasFaultBehind Spells g (take to x) rs (Ended n)) (sym short) p.1;
-        asked = λ endless. omega (arith, short, m.spent endless, m.spends, b);
-      };
-}
 
 amid_map : {R : Type 0} (g : ℕ) (remaining : R → Option (List ℕ)) (o : Option (List ℕ)) (old new : Source R) (rs : List KeyValue) (f : TextFault) → GaveSoFar o (remaining old.reader) rs → FromTo o (remaining old.reader) (Spent old.asks old.taken)
     → LeavesAmid IsAmidLines remaining old new f → f ≢ fault.NoMemory → (m n : Option (List ℕ)) → remaining old.reader ≡ m → remaining new.reader ≡ n → IfSome o (HasInputFault style.Map g rs f)
@@ -201,20 +149,9 @@ amid_map g remaining (Some x) old new rs f a b l other (Some mid) (Some rest) e 
       };
     }
 
-pub native_fault : {R L : Type 0} (g : ℕ) (remaining : R → Option (List ℕ)) (input : Option (List ℕ)) (t u : TextReader R L) (rs : List KeyValue) (f : TextFault) → GaveNative g remaining input t rs → texts.Fails g remaining t u f → f ≢ fault.NoMemory
-    → IfSome input (HasInputFault style.Native g rs f)
-native_fault g remaining input t u rs f h m other = so_far_native g remaining input t u rs f h.1 h.2 (m.meets h.0) other
-
 pub map_fault : {R : Type 0} (g : ℕ) (remaining : R → Option (List ℕ)) (input : Option (List ℕ)) (t u : MapReader R) (rs : List KeyValue) (f : TextFault) → GaveMap remaining input t rs → maps.Fails remaining t u f → f ≢ fault.NoMemory
     → IfSome input (HasInputFault style.Map g rs f)
 map_fault g remaining input t u rs f h m other = elim h.0 [
   | inl so ↦ amid_map g remaining input t.source u.source rs f so.1 (h.1 so.0) (m.meets so.0) other _ _ refl refl
   | inr ended ↦ absurd (m.unended ended.0)
-]
-
--- a map text has no fault of its own
-pub no_map_fault : {R : Type 0} (remaining : R → Option (List ℕ)) (input : Option (List ℕ)) (t u : MapReader R) (rs : List KeyValue) (f : TextFault) → GaveMap remaining input t rs → maps.Fails remaining t u f → IsOfText f → ⊥
-no_map_fault remaining input t u rs f h m is = elim h.0 [
-  | inl so ↦ (m.meets so.0).outside is
-  | inr ended ↦ m.unended ended.0
 ]

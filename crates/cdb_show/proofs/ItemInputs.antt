@@ -14,9 +14,9 @@ use Rattle.cdb_form.proofs.Fed.FeedLemmas.{from_weaker}
 use Rattle.cdb_form.proofs.NativeTexts.Spelling.{changes, records}
 use Rattle.cdb_command.specs.declared.style.Style.TheVariants as style
 use Rattle.cdb_show.specs.Runs.Inputs.{BeginsWithItems, HasFaults, HasInputFault, HasItemFault, InputsBeginWith, IsInput, IsInputOf, Puts}
-use Rattle.cdb_show.specs.Views.FedItems.{Fails, GivesEnd, GivesItem, HasPeeked, IsNew, asks_left, form_of, reader_of}
-use Rattle.cdb_show.specs.declared.runs.fed_items.FedItems.{FedItems}
-use Rattle.cdb_show.specs.declared.runs.fed_items.FedItems.TheVariants.{Form, Map}
+use Rattle.cdb_show.specs.Views.ItemReader.{Fails, GivesEnd, GivesItem, HasPeeked, IsNew, asks_left, form_of, reader_of}
+use Rattle.cdb_show.specs.declared.runs.item_reader.ItemReader.{ItemReader}
+use Rattle.cdb_show.specs.declared.runs.item_reader.ItemReader.TheVariants.{Form, Map}
 use Rattle.cdb_show.proofs.KeyInputs.{more_puts}
 use Rattle.cdb_show.proofs.MapInputs.{GaveLines, lines_all, lines_begin, lines_behind, lines_fault, lines_more, lines_none, lines_own}
 use Rattle.cdb_show.proofs.SpelledInputs.{GaveSpelled, spelled_all, spelled_begins, spelled_behind, spelled_fault, spelled_more, spelled_none}
@@ -33,37 +33,37 @@ put_of g feed false t u r h = record {
   spends = h.spends;
 }
 
-pub peeked_put : {F L : Type 0} (g n : ℕ) (held : F → List ℕ) (feed : F → Feed) (removals : Bool) (old : FedItems F L) (t u : FormReader F L) → old ≡ Form t removals → ((r : KeyValue) → text.HasPeeked held g t n r → fed.GivesItem SpellsChange g feed t u (Putting r))
+pub peeked_put : {F L : Type 0} (g n : ℕ) (held : F → List ℕ) (feed : F → Feed) (removals : Bool) (old : ItemReader F L) (t u : FormReader F L) → old ≡ Form t removals → ((r : KeyValue) → text.HasPeeked held g t n r → fed.GivesItem SpellsChange g feed t u (Putting r))
     → (r : KeyValue) → HasPeeked held g old n r → GivesItem g feed old (Form u removals) (Putting r)
 peeked_put g n held feed removals old t u e takes = rw e (λ r peeked. put_of g feed removals t u r (takes r peeked))
 
 -- ---- the items so far
 
 -- it gave these items so far
-abbrev pub GaveItems : {F L : Type 0} → ℕ → (F → Feed) → Feed → FedItems F L → List Change → Type 0
+abbrev pub GaveItems : {F L : Type 0} → ℕ → (F → Feed) → Feed → ItemReader F L → List Change → Type 0
 GaveItems g feed start (Form t true) items = text.IsGoing t × GaveSpelled SpellsChange g feed start t.source items
 GaveItems g feed start (Form t false) items = (given : List KeyValue) × (items ≡ map Putting given) × text.IsGoing t × GaveSpelled Spells g feed start t.source given
 GaveItems g feed start (Map t) items = (given : List KeyValue) × (items ≡ map Putting given) × GaveLines feed start t given
 
 module _ {F L : Type 0} (g : ℕ) (feed : F → Feed) where
-  pub items_none : (t : FedItems F L) → IsNew t → GaveItems g feed (feed (reader_of t)) t []
+  pub items_none : (t : ItemReader F L) → IsNew t → GaveItems g feed (feed (reader_of t)) t []
   items_none (Form t true) new = (new.going, spelled_none SpellsChange g feed t.source new.taken new.asks)
   items_none (Form t false) new = ([], refl, new.going, spelled_none Spells g feed t.source new.taken new.asks)
   items_none (Map t) new = ([], refl, lines_none feed t new.going new.taken new.asks)
 
-  pub items_more : (start : Feed) (t u : FedItems F L) (items : List Change) (c : Change) → GaveItems g feed start t items → GivesItem g feed t u c → GaveItems g feed start u (items ++ c ∷ [])
+  pub items_more : (start : Feed) (t u : ItemReader F L) (items : List Change) (c : Change) → GaveItems g feed start t items → GivesItem g feed t u c → GaveItems g feed start u (items ++ c ∷ [])
   items_more start (Form t true) (Form u true) items c h m = (m.going, spelled_more SpellsChange g feed start t.source u.source items c h.1 m.reads m.spends)
   items_more start (Form t false) (Form u false) items (Putting r) h m = (h.0 ++ r ∷ [], more_puts items h.0 r h.1, m.going, spelled_more Spells g feed start t.source u.source h.0 r h.3 m.reads m.spends)
   items_more start (Map t) (Map u) items (Putting r) h m = (h.0 ++ r ∷ [], more_puts items h.0 r h.1, lines_more feed start t u h.0 r h.2 m)
   items_more start t u items c h m = absurd m
 
-  pub items_fewer : (t u : FedItems F L) (c : Change) → GivesItem g feed t u c → asks_left u < asks_left t
+  pub items_fewer : (t u : ItemReader F L) (c : Change) → GivesItem g feed t u c → asks_left u < asks_left t
   items_fewer (Form t true) (Form u true) c m = m.fewer
   items_fewer (Form t false) (Form u false) (Putting r) m = m.fewer
   items_fewer (Map t) (Map u) (Putting r) m = m.fewer
   items_fewer t u c m = absurd m
 
-  pub items_form : (t u : FedItems F L) (c : Change) → GivesItem g feed t u c → form_of u ≡ form_of t
+  pub items_form : (t u : ItemReader F L) (c : Change) → GivesItem g feed t u c → form_of u ≡ form_of t
   items_form (Form t true) (Form u true) c m = refl
   items_form (Form t false) (Form u false) (Putting r) m = refl
   items_form (Map t) (Map u) (Putting r) m = refl
@@ -71,7 +71,7 @@ module _ {F L : Type 0} (g : ℕ) (feed : F → Feed) where
 
   -- ---- the end, and how far it is
 
-  pub items_all : (start : Feed) (t u : FedItems F L) (items : List Change) → GaveItems g feed start t items → GivesEnd feed t u → FromTo start (feed (reader_of u)) (IsInputOf (form_of t) g items)
+  pub items_all : (start : Feed) (t u : ItemReader F L) (items : List Change) → GaveItems g feed start t items → GivesEnd feed t u → FromTo start (feed (reader_of u)) (IsInputOf (form_of t) g items)
   items_all start (Form t true) (Form u true) items h m = spelled_all SpellsChange g feed start t.source u.source items h.1 (m.newline h.0)
   items_all start (Form t false) (Form u false) items h m =
       from_weaker start (feed u.source.reader) (IsInput style.Native g h.0) (IsInputOf (Puts style.Native) g items) (spelled_all Spells g feed start t.source u.source h.0 h.3 (m.newline h.2)) (λ text rest is. (h.0, h.1, is))
@@ -79,7 +79,7 @@ module _ {F L : Type 0} (g : ℕ) (feed : F → Feed) where
       from_weaker start (feed u.source.reader) (IsInput style.Map g h.0) (IsInputOf (Puts style.Map) g items) (lines_all feed g start t u h.0 h.2 m) (λ text rest is. (h.0, h.1, is))
   items_all start t u items h m = absurd m
 
-  pub items_begin : (start : Feed) (t : FedItems F L) (items : List Change) → GaveItems g feed start t items → FromTo start (feed (reader_of t)) (λ text rest. BeginsWithItems (form_of t) g items text)
+  pub items_begin : (start : Feed) (t : ItemReader F L) (items : List Change) → GaveItems g feed start t items → FromTo start (feed (reader_of t)) (λ text rest. BeginsWithItems (form_of t) g items text)
   items_begin start (Form t true) items h = spelled_begins SpellsChange g feed start t.source items h.1
   items_begin start (Form t false) items h =
       from_weaker start (feed t.source.reader) (λ text rest. InputsBeginWith style.Native g h.0 text) (λ text rest. BeginsWithItems (Puts style.Native) g items text) (spelled_begins Spells g feed start t.source h.0 h.3) (λ text rest is. (h.0, h.1, is))
@@ -88,7 +88,7 @@ module _ {F L : Type 0} (g : ℕ) (feed : F → Feed) where
 
   -- ---- a fault
 
-  pub items_fault : (start : Feed) (t u : FedItems F L) (items : List Change) (f : TextFault) → ((it : F) (whole a b : List ℕ) → (feed it).may whole a → (feed it).may whole b → a ≡ b) → GaveItems g feed start t items → Fails g feed t u f → f ≢ NoMemory
+  pub items_fault : (start : Feed) (t u : ItemReader F L) (items : List Change) (f : TextFault) → ((it : F) (whole a b : List ℕ) → (feed it).may whole a → (feed it).may whole b → a ≡ b) → GaveItems g feed start t items → Fails g feed t u f → f ≢ NoMemory
       → FromTo start (feed (reader_of u)) (λ text rest. HasItemFault (form_of t) g items f text)
   items_fault start (Form t true) (Form u true) items f one h m other = spelled_fault SpellsChange g feed changes start t.source u.source items f (one t.source.reader) h.1 (m.meets h.0)
   items_fault start (Form t false) (Form u false) items f one h m other =
@@ -99,7 +99,7 @@ module _ {F L : Type 0} (g : ℕ) (feed : F → Feed) where
   items_fault start t u items f one h m other = absurd m
 
   -- it still begins with these items, whatever was taken behind them
-  pub items_still : (start : Feed) (t u : FedItems F L) (items : List Change) (f : TextFault) → GaveItems g feed start t items → Fails g feed t u f → FromTo start (feed (reader_of u)) (λ text rest. BeginsWithItems (form_of t) g items text)
+  pub items_still : (start : Feed) (t u : ItemReader F L) (items : List Change) (f : TextFault) → GaveItems g feed start t items → Fails g feed t u f → FromTo start (feed (reader_of u)) (λ text rest. BeginsWithItems (form_of t) g items text)
   items_still start (Form t true) (Form u true) items f h m = spelled_behind SpellsChange g feed start t.source u.source items f h.1 (m.meets h.0)
   items_still start (Form t false) (Form u false) items f h m =
       from_weaker start (feed u.source.reader) (λ text rest. InputsBeginWith style.Native g h.0 text) (λ text rest. BeginsWithItems (Puts style.Native) g items text) (spelled_behind Spells g feed start t.source u.source h.0 f h.3 (m.meets h.2)) (λ text rest is. (h.0, h.1, is))
@@ -108,7 +108,7 @@ module _ {F L : Type 0} (g : ℕ) (feed : F → Feed) where
   items_still start t u items f h m = absurd m
 
   -- a map text has none of its own
-  pub items_own : (start : Feed) (t u : FedItems F L) (items : List Change) (f : TextFault) → GaveItems g feed start t items → Fails g feed t u f → IsOfText f → HasFaults (form_of t)
+  pub items_own : (start : Feed) (t u : ItemReader F L) (items : List Change) (f : TextFault) → GaveItems g feed start t items → Fails g feed t u f → IsOfText f → HasFaults (form_of t)
   items_own start (Form t true) (Form u true) items f h m is = tt
   items_own start (Form t false) (Form u false) items f h m is = tt
   items_own start (Map t) (Map u) items f h m is = lines_own feed start t u h.0 f h.2 m is

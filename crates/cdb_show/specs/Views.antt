@@ -8,5 +8,4 @@ pub mod FedInputs
 pub mod Noted
 pub mod Output
 pub mod ItemReader
-pub mod FedItems
 pub mod KeyReader

@@ -33,7 +33,6 @@ pub use output::Output;
 pub use runs::check::check_run;
 pub use runs::content::Content;
 pub use runs::difference::difference_run;
-pub use runs::fed_items::FedItems;
 pub use runs::fed_lookups::lookups_run_fed;
 pub use runs::flushed::flushed;
 pub use runs::item_reader::ItemReader;

@@ -2,7 +2,6 @@
 pub mod check;
 pub mod content;
 pub mod difference;
-pub mod fed_items;
 pub mod fed_lookups;
 pub mod flushed;
 pub mod item_reader;

@@ -1,8 +1,11 @@
 pub mod WholeRuns
-pub mod ItemTexts
 pub mod BaseRecords
 pub mod Courses
 pub mod InputRuns
+pub mod FedTurns
+pub mod FedRuns
+pub mod AgreeingInputs
+pub mod FedEnds
 pub mod RunEnds
 pub mod RestoreLaws
 pub mod BaseDifferences

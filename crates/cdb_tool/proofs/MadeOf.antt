@@ -45,7 +45,7 @@ use Rattle.cdb_show.specs.declared.fault.Fault.TheVariants.{Text, Make, Duplicat
 
 -- ---- the course over more items
 
-course_more : (w : ℕ) (t : Task) (cs more : List Incoming) → course_of w t (cs ++ more) ≡ fold (with_next w t.options) (course_of w t cs) more
+pub course_more : (w : ℕ) (t : Task) (cs more : List Incoming) → course_of w t (cs ++ more) ≡ fold (with_next w t.options) (course_of w t cs) more
 course_more w t cs more = fold-append (with_next w t.options) (at_start t) cs more
 
 -- one that has ended stays
@@ -64,7 +64,7 @@ told_next : (w : ℕ) (o : MakeOptions) (s : Course) (c : Incoming) (e : Option 
 told_next w o s c None = told_changed w o s c.input c.number c.it
 told_next w o s c (Some fault) = ([], sym (append-nil s.told))
 
-told_grow : (w : ℕ) (o : MakeOptions) (s : Course) (more : List Incoming) → (x : List Told) × ((fold (with_next w o) s more).told ≡ s.told ++ x)
+pub told_grow : (w : ℕ) (o : MakeOptions) (s : Course) (more : List Incoming) → (x : List Told) × ((fold (with_next w o) s more).told ≡ s.told ++ x)
 told_grow w o s [] = ([], sym (append-nil s.told))
 told_grow w o s (c ∷ more) =
     let one = told_next w o s c s.ended in

@@ -1,6 +1,6 @@
 -- How a run ends: without a record, with a fault of its inputs or its store, or with its file; and
 -- then the flush.
-use Rattle.std.proofs.Common.{◌≡◌, ◌<◌, ◌≤◌, ◌⊎◌, true≢false, Bool, ℕ, inl, inr, List, [], ◌∷◌, refl, sym, ap, subst, ◌∙◌, Option, Some, None, is_some, Result, Ok, Err, arith}
+use Rattle.std.proofs.Common.{◌≡◌, ◌<◌, ◌≤◌, ◌⊎◌, true≢false, Bool, ℕ, inl, inr, List, [], refl, sym, ap, subst, ◌∙◌, Option, Some, None, is_some, Result, Ok, Err, arith}
 use Rattle.std.specs.Prelude.{IsOk}
 use Rattle.std.specs.Io.KnownBytes.{Keeps}
 use Rattle.cdb_store.specs.declared.store.Store.{Ghosts}
@@ -30,7 +30,6 @@ use Rattle.cdb_show.specs.declared.fault.Fault.TheVariants.{Text, Make, Duplicat
 use Rattle.cdb_command.specs.declared.options.MakeOptions.{MakeOptions}
 use Rattle.cdb_tool.proofs.ToldLines.{part_kept, part_whole, tells_kept, tells_none}
 use Rattle.cdb_show.proofs.Writers.{not_ok}
-use Rattle.cdb_show.proofs.NextInputs.{begins_none}
 use Rattle.cdb_form.proofs.Bytes.WritingLemmas.{appends_none}
 use Rattle.cdb_tool.proofs.Courses.{came_none, course_starts}
 use Rattle.cdb_show.proofs.NextInputs.{first_none}
@@ -61,6 +60,12 @@ unmade_memory image size written failures old new make.Writing h e = absurd (let
 unmade_memory image size written failures old new make.Broken h e = absurd h
 unmade_memory image size written failures old new make.Lookup h e = absurd h
 unmade_memory image size written failures old new make.TooBig h e = absurd h
+
+-- a fault of the store comes where it failed
+pub unmade_store : {S : Type 0} (image : S → List ℕ → Type 0) (size written failures : S → ℕ) (old new : S) (f : MakeFault) → MakingFault image size written failures old new f → IsOfStore (make_fault f) → failures old < failures new
+unmade_store image size written failures old new make.Writing h is = h
+unmade_store image size written failures old new make.NoMemory h is = absurd is
+unmade_store image size written failures old new f h is = absurd h
 
 -- what holds whatever the base is
 each_base : {B : Type 0} (s : Ghosts B) (base : Option B) (P : Option (List ℕ) → Type 0) → ((x : Option (List ℕ)) → P x) → OfBase s base P

@@ -5,3 +5,5 @@ pub mod Make
 pub mod Made
 pub mod MakesSo
 pub mod Base
+pub mod FormParsing
+pub mod InputsRead

@@ -7,8 +7,7 @@ mod runs;
 
 pub use cdb_command::{
     Command, Lacking, MakeOptions, Style, Usage, WordFault, escaped, explains, plan,
-    plan_explained, write_usage,
-    write_version,
+    plan_explained, write_usage, write_version,
 };
 pub use cdb_show::{
     BAD_USAGE, Content, DONE, FAILED, Fault, InWindow, Input, Inputs, Lines, Noted, Output,
@@ -16,5 +15,5 @@ pub use cdb_show::{
     load, load_from, lookups_run, query_from, query_run, stats_run, status_of, text_run_buffered,
     text_run_fed, write_fault, write_word_fault,
 };
-pub use runs::make::{make_run, make_run_from, put_inputs};
+pub use runs::make::{make_run, make_run_fed, make_run_from, put_inputs, put_inputs_fed};
 pub use runs::make_bytes::make_bytes;

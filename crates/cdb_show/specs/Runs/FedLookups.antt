@@ -74,9 +74,8 @@ pub record StopsInNext {S : Type 0} (w : ℕ) (s : Ghosts S) (number : Option �
   pub is_fault : IsFaultOf (keys_form style) (length read + 1) fault
 
 -- the store was not opened: no input was begun, and nothing was written
-pub record IsUnopened {J I S : Type 0} (s : Ghosts S) (inputs left : FedInputs J I)
-    (read : List (List Change)) (stop : Stop Change TextFault) (old new : S)
-    (start end : Option (List ℕ)) (Why : Type 0) : Type 0 where
+pub record IsUnopened {J I : Type 0} (inputs left : FedInputs J I) (read : List (List Change))
+    (stop : Stop Change TextFault) (start end : Option (List ℕ)) (Why : Type 0) : Type 0 where
   pub none : read ≡ []
   pub is_stop : stop ≡ NotBegun
   pub same : left ≡ inputs
@@ -89,10 +88,10 @@ abbrev pub FedLookupsFail : {J I S : Type 0} → ℕ → Ghosts S → Option ℕ
     → (inputs left : FedInputs J I) → List (List Change) → Stop Change TextFault → (old new : S)
     → (start end : Option (List ℕ)) → Fault → Type 0
 FedLookupsFail w s number style inputs left read stop old new start end (Read read_fault.Short) =
-    IsUnopened s inputs left read stop old new start end ((s.size old < head_size w) × (new ≡ old))
+    IsUnopened inputs left read stop start end ((s.size old < head_size w) × (new ≡ old))
 FedLookupsFail w s number style inputs left read stop old new start end (Read read_fault.Device) =
     StopsInNext w s number style read stop old new start end (Read read_fault.Device)
-    ⊎ IsUnopened s inputs left read stop old new start end (s.failures old < s.failures new)
+    ⊎ IsUnopened inputs left read stop start end (s.failures old < s.failures new)
 FedLookupsFail w s number style inputs left read stop old new start end Output =
     StopsInNext w s number style read stop old new start end Output
     ⊎ ((missing : Bool) × (stop ≡ NoMore)

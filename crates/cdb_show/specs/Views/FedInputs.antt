@@ -1,6 +1,6 @@
 -- What is known of the readers of the inputs of a run.
-use Rattle.std.specs.Prelude.{◌≡◌, ℕ, List, []}
-use Rattle.cdb_feed.specs.Inputs.{AreRead, Stop}
+use Rattle.std.specs.Prelude.{◌≡◌, ℕ, List, [], drop}
+use Rattle.cdb_feed.specs.Inputs.{AreRead, Stop, reached}
 use Rattle.cdb_feed.specs.Parsing.{Parsing}
 use Rattle.cdb_form.specs.Fed.Feed.{Feed}
 use Rattle.cdb_show.specs.Views.Window as window
@@ -23,8 +23,8 @@ abbrev pub shared_feed : {I : Type 0} → (I → Feed) → SharedWindow I → Fe
 shared_feed feed (Unread reader) = feed reader
 shared_feed feed (InHand w) = window.feed_of feed w
 
--- the inputs of a run were read up to a stop, and their readers came back: what is known of the shared one is known
--- of its window, with what that held
+-- the inputs of a run were read up to a stop, and their readers came back, those that were not reached as they were:
+-- what was known of the window of the shared one is known of it, with what that held
 pub record AreReadTo {J I Item Fault : Type 0} (own : J → Feed) (shared : I → Feed)
     (p : Parsing Item Fault) (read : List (List Item)) (stop : Stop Item Fault)
     (inputs left : FedInputs J I) : Type 0 where
@@ -32,3 +32,5 @@ pub record AreReadTo {J I Item Fault : Type 0} (own : J → Feed) (shared : I �
   pub are : AreRead own (shared_feed shared) p read stop inputs.readers.items left.readers.items
       (Unread inputs.shared) window
   pub handed : left.shared ≡ reader_of window
+  pub others : drop (reached read stop) left.readers.items
+      ≡ drop (reached read stop) inputs.readers.items

@@ -1,80 +1,76 @@
--- What a clause reads of the reader of an input, whatever its form.
-use Rattle.std.specs.Prelude.{ℕ, ◌≡◌, ◌^◌, List, Option}
+-- What a clause reads of the reader of an input, whatever its form and whatever gives its bytes.
+use Rattle.std.specs.Prelude.{List, false, true, ◌≡◌, ◌^◌, ℕ}
+use Rattle.cdb_form.specs.Fed.Feed.{Feed}
+use Rattle.cdb_form.specs.Fed.FormReader as fed
+use Rattle.cdb_form.specs.Fed.MapReader as fed_map
 use Rattle.cdb_form.specs.Format.Record.{KeyValue}
-use Rattle.cdb_form.specs.Text.Amending.{Change, Putting}
-use Rattle.cdb_form.specs.Views.AmendReader as changes
+use Rattle.cdb_form.specs.Text.Amending.{Change, Putting, SpellsChange}
+use Rattle.cdb_form.specs.Text.Native.{Spells}
+use Rattle.cdb_form.specs.Views.FormReader as text
 use Rattle.cdb_form.specs.Views.MapReader as map
-use Rattle.cdb_form.specs.Views.TextReader as native
 use Rattle.cdb_form.specs.declared.text.fault.TextFault.{TextFault}
 use Rattle.cdb_command.specs.declared.style.Style.TheVariants as style
 use Rattle.cdb_show.specs.Runs.Inputs.{InputForm}
 use Rattle.cdb_show.specs.Runs.Inputs as form
 use Rattle.cdb_show.specs.declared.runs.item_reader.ItemReader.{ItemReader}
-use Rattle.cdb_show.specs.declared.runs.item_reader.ItemReader.TheVariants.{Native, Map, Changes}
+use Rattle.cdb_show.specs.declared.runs.item_reader.ItemReader.TheVariants.{Form, Map}
 
 -- the form that it reads
-abbrev pub form_of : {R L : Type 0} → ItemReader R L → InputForm
-form_of (Native t) = form.Puts style.Native
+abbrev pub form_of : {F L : Type 0} → ItemReader F L → InputForm
+form_of (Form t true) = form.Changes
+form_of (Form t false) = form.Puts style.Native
 form_of (Map t) = form.Puts style.Map
-form_of (Changes t) = form.Changes
 
--- the bytes that its reader has left, where they are known
-abbrev pub unread : {R L : Type 0} → (R → Option (List ℕ)) → ItemReader R L → Option (List ℕ)
-unread remaining (Native t) = native.unread remaining t
-unread remaining (Map t) = map.unread remaining t
-unread remaining (Changes t) = changes.unread remaining t
+-- what gives its bytes
+abbrev pub reader_of : {F L : Type 0} → ItemReader F L → F
+reader_of (Form t removals) = text.reader_of t
+reader_of (Map t) = map.reader_of t
 
--- how many bytes it read, and how often its reader may still be asked
-abbrev pub taken_of : {R L : Type 0} → ItemReader R L → ℕ
-taken_of (Native t) = native.taken_of t
+-- how many bytes it took, and how often its reader may still be asked
+abbrev pub taken_of : {F L : Type 0} → ItemReader F L → ℕ
+taken_of (Form t removals) = text.taken_of t
 taken_of (Map t) = map.taken_of t
-taken_of (Changes t) = changes.taken_of t
 
-abbrev pub asks_left : {R L : Type 0} → ItemReader R L → ℕ
-asks_left (Native t) = native.asks_left t
+abbrev pub asks_left : {F L : Type 0} → ItemReader F L → ℕ
+asks_left (Form t removals) = text.asks_left t
 asks_left (Map t) = map.asks_left t
-asks_left (Changes t) = changes.asks_left t
 
 -- it has told neither the end nor a fault
-abbrev pub IsGoing : {R L : Type 0} → ItemReader R L → Type 0
-IsGoing (Native t) = native.IsGoing t
+abbrev pub IsGoing : {F L : Type 0} → ItemReader F L → Type 0
+IsGoing (Form t removals) = text.IsGoing t
 IsGoing (Map t) = map.IsGoing t
-IsGoing (Changes t) = changes.IsGoing t
 
--- nothing was read of it, and its reader may be asked 2^48 times
-pub record IsNew {R L : Type 0} (t : ItemReader R L) : Type 0 where
+-- nothing was taken yet, and its reader may be asked 2^48 times
+pub record IsNew {F L : Type 0} (t : ItemReader F L) : Type 0 where
   pub going : IsGoing t
   pub taken : taken_of t ≡ 0
   pub asks : asks_left t ≡ 2 ^ 48
 
 -- the next item is a record that is whole at hand, spelled by n bytes there
-abbrev pub HasPeeked : {R L : Type 0} → (R → List ℕ) → ℕ → ItemReader R L → ℕ → KeyValue → Type 0
-HasPeeked held greatest (Native t) n r = native.HasPeeked held greatest t n r
+abbrev pub HasPeeked : {F L : Type 0} → (F → List ℕ) → ℕ → ItemReader F L → ℕ → KeyValue → Type 0
+HasPeeked held greatest (Form t removals) n r = text.HasPeeked held greatest t n r
 HasPeeked held greatest (Map t) n r = map.HasPeeked held t n r
-HasPeeked held greatest (Changes t) n r = changes.HasPeeked held greatest t n r
 
 -- a call gave an item, told the end, or answered a fault, as a reader of its form does
-abbrev pub GivesItem : {R L : Type 0} → ℕ → (R → Option (List ℕ)) → ItemReader R L
-    → ItemReader R L → Change → Type 0
-GivesItem greatest remaining (Native old) (Native new) (Putting r) =
-    native.GivesRecord greatest remaining old new r
-GivesItem greatest remaining (Map old) (Map new) (Putting r) = map.GivesRecord remaining old new r
-GivesItem greatest remaining (Changes old) (Changes new) change =
-    changes.GivesChange greatest remaining old new change
-GivesItem greatest remaining old new change = ⊥
-
-abbrev pub GivesEnd : {R L : Type 0} → (R → Option (List ℕ)) → ItemReader R L → ItemReader R L
+abbrev pub GivesItem : {F L : Type 0} → ℕ → (F → Feed) → ItemReader F L → ItemReader F L → Change
     → Type 0
-GivesEnd remaining (Native old) (Native new) = native.GivesEnd remaining old new
-GivesEnd remaining (Map old) (Map new) = map.GivesEnd remaining old new
-GivesEnd remaining (Changes old) (Changes new) = changes.GivesEnd remaining old new
-GivesEnd remaining old new = ⊥
+GivesItem greatest feed (Form old true) (Form new true) change =
+    fed.GivesItem SpellsChange greatest feed old new change
+GivesItem greatest feed (Form old false) (Form new false) (Putting r) =
+    fed.GivesItem Spells greatest feed old new r
+GivesItem greatest feed (Map old) (Map new) (Putting r) = fed_map.GivesRecord feed old new r
+GivesItem greatest feed old new change = ⊥
 
-abbrev pub Fails : {R L : Type 0} → ℕ → (R → Option (List ℕ)) → ItemReader R L → ItemReader R L
-    → TextFault → Type 0
-Fails greatest remaining (Native old) (Native new) fault =
-    native.Fails greatest remaining old new fault
-Fails greatest remaining (Map old) (Map new) fault = map.Fails remaining old new fault
-Fails greatest remaining (Changes old) (Changes new) fault =
-    changes.Fails greatest remaining old new fault
-Fails greatest remaining old new fault = ⊥
+abbrev pub GivesEnd : {F L : Type 0} → (F → Feed) → ItemReader F L → ItemReader F L → Type 0
+GivesEnd feed (Form old true) (Form new true) = fed.GivesEnd feed old new
+GivesEnd feed (Form old false) (Form new false) = fed.GivesEnd feed old new
+GivesEnd feed (Map old) (Map new) = fed_map.GivesEnd feed old new
+GivesEnd feed old new = ⊥
+
+abbrev pub Fails : {F L : Type 0} → ℕ → (F → Feed) → ItemReader F L → ItemReader F L → TextFault → Type 0
+Fails greatest feed (Form old true) (Form new true) fault =
+    fed.Fails SpellsChange greatest feed old new fault
+Fails greatest feed (Form old false) (Form new false) fault =
+    fed.Fails Spells greatest feed old new fault
+Fails greatest feed (Map old) (Map new) fault = fed_map.Fails feed old new fault
+Fails greatest feed old new fault = ⊥

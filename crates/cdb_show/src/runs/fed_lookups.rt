@@ -1,7 +1,7 @@
 // The records of the keys that some inputs give, whose readers come back.
 ghost use Rattle.std.specs.Prelude.{◌≡◌, ◌+◌, ◌≤◌, ◌++◌, ℕ, List, Option, None, Err, IfSome};
 ghost use Rattle.std.specs.Prelude.{IfErr, OnOk};
-ghost use Rattle.std.specs.Prelude.{length, []};
+ghost use Rattle.std.specs.Prelude.{drop, length, []};
 ghost use Rattle.cdb_store.specs.Reads.{OnlyReads};
 ghost use Rattle.cdb_feed.specs.Inputs.{AreRead, NoMore, TakesOne};
 ghost use Rattle.cdb_form.specs.Fed.Feed.{FromTo};
@@ -180,6 +180,7 @@ fn look_up_readers<L: Width, S: Store, J: Feeds + Drop, I: Feeds, W: Sink>(
     ensures ok { OnOk result.1 ((read : List (List Change))
         × AreRead J.feed (shared_feed I.feed) (stopped_parsing (keys_form style) L.GREATEST None)
         read NoMore readers.old readers.new shared result.0
+        × (drop (length read) readers.new ≡ drop (length read) readers.old)
         × ((start : Option (List ℕ))
         → HasLooked L.WORD S.Store number style [] reader.old.store start
         (W.contents w.old) missing.old
@@ -189,6 +190,7 @@ fn look_up_readers<L: Width, S: Store, J: Feeds + Drop, I: Feeds, W: Sink>(
         × AreRead J.feed (shared_feed I.feed)
         (stopped_parsing (keys_form style) L.GREATEST (fault_in (Err fault)))
         read (stop_of (fault_in (Err fault)) last) readers.old readers.new shared result.0
+        × (drop (length read + 1) readers.new ≡ drop (length read + 1) readers.old)
         × IsFaultOf (keys_form style) (length read + 1) fault
         × ((start : Option (List ℕ))
         → HasLooked L.WORD S.Store number style [] reader.old.store start

@@ -1,116 +1,115 @@
-// The items of an input, whatever its form.
-ghost use Rattle.std.specs.Prelude.{◌≡◌, true, false, Some, None, IfOk, IfErr, IfSome};
-ghost use Rattle.std.specs.Prelude.{MatchOption};
+// The items of an input, whatever its form, of any bytes that agree with what was taken of it.
+ghost use Rattle.std.specs.Prelude.{◌≡◌, true, false, Some, None, IfErr, IfOk, IfSome, MatchOption};
 ghost use Rattle.cdb_form.specs.Format.Record.{KeyValue};
 ghost use Rattle.cdb_form.specs.Text.Amending.{Putting};
-ghost use Rattle.cdb_form.specs.Views.Prefix.{shown_by};
 ghost use Rattle.cdb_form.specs.Views.Pairs.{change_in};
+ghost use Rattle.cdb_form.specs.Views.Prefix.{shown_by};
 ghost use Rattle.cdb_form.specs.declared.item.ItemKind.TheVariants.{Put};
 ghost use Rattle.cdb_show.specs.Runs.Inputs.{input_form};
-ghost use Rattle.cdb_show.specs.Views.ItemReader.{form_of, unread, IsNew};
-ghost use Rattle.cdb_show.specs.Views.ItemReader.{HasPeeked, GivesItem, GivesEnd, Fails};
+ghost use Rattle.cdb_show.specs.Views.ItemReader.{Fails, GivesEnd, GivesItem, HasPeeked, IsNew};
+ghost use Rattle.cdb_show.specs.Views.ItemReader.{form_of, reader_of};
 
 use cdb_command::Style;
 use cdb_form::{
-    AmendReader, AtHand, ItemKind, MapReader, PeekedRecord, Record, TextFault, TextReader, Width,
+    AtHand, Feeds, FormReader, ItemKind, MapReader, PeekedRecord, Record, TextFault, Width,
 };
 use std::alloc::Global;
-use std::io::Read;
-
-/// Reads what an input says, one item after the other.
-#[derive(Drop)]
-pub enum ItemReader<R, L> {
-    /// A native text, which only puts records.
-    Native(TextReader<R, L>),
-    /// A map text, which only puts records.
-    Map(MapReader<R>),
-    /// An amending text.
-    Changes(AmendReader<R, L>),
-}
 
 /// What a text says that only puts records, if it has one more.
 #[inline(always)]
-pub(crate) fn put_if(given: bool) -> Option<ItemKind>
+fn put_if(given: bool) -> Option<ItemKind>
     ensures put { given ≡ true → result ≡ Some Put }
     ensures none { given ≡ false → result ≡ None }
 {
     if given { Some(ItemKind::Put) } else { None }
 }
 
-impl<R: Read, L: Width> ItemReader<R, L> {
-    /// A reader of the input that `reader` gives, which may be asked 2^48 times. Where a base is
+/// Reads what an input says, one item after the other.
+///
+/// Its contracts say it of any bytes that agree with what was taken of its reader.
+#[derive(Drop)]
+pub enum ItemReader<F, L> {
+    /// A native text, which only puts records, or an amending one, which may also remove keys.
+    Form {
+        /// Reads the text.
+        reader: FormReader<F, L>,
+        /// Whether it may remove keys.
+        removals: bool,
+    },
+    /// A map text, which only puts records.
+    Map(MapReader<F>),
+}
+
+impl<F: Feeds, L: Width> ItemReader<F, L> {
+    /// A reader of the input that `reader` gives, which may be asked 2^48 times. If a base is
     /// amended, a native text may also remove keys.
-    pub fn new(alloc: Global, style: Style, amends: bool, reader: R) -> ItemReader<R, L>
+    pub fn new(alloc: Global, style: Style, amends: bool, reader: F) -> ItemReader<F, L>
         ensures form { form_of result ≡ input_form style amends }
-        ensures unread { unread R.remaining result ≡ R.remaining reader }
+        ensures reader { reader_of result ≡ reader }
         ensures fresh { IsNew result }
     {
         match style {
-            Style::Map => ItemReader::Map(MapReader::new(alloc, reader)),
-            Style::Native => {
-                if amends {
-                    ItemReader::Changes(AmendReader::new(alloc, reader))
-                } else {
-                    ItemReader::Native(TextReader::new(alloc, reader))
-                }
-            }
+            Style::Map => ItemReader::Map(MapReader::fed(alloc, reader, 1 << 48)),
+            Style::Native => ItemReader::Form {
+                reader: FormReader::new(reader, 1 << 48),
+                removals: amends,
+            },
         }
     }
 
-    /// The record that the next item puts, if it is whole at hand, where it is. Nothing is taken.
+    /// The record that the next item puts, if all its bytes are at hand. Nothing is taken.
     #[inline(always)]
-    pub fn peek<A: AtHand<R>>(&self) -> Option<PeekedRecord<'_>>
+    pub fn peek<A: AtHand<F>>(&self) -> Option<PeekedRecord<'_>>
         ensures { IfSome result (λ f. HasPeeked A.held L.GREATEST self.now f.len (shown_by f)) }
     {
         match self {
-            ItemReader::Native(text) => text.peek::<A>(),
+            ItemReader::Form { reader, .. } => reader.peek::<A>(),
             ItemReader::Map(text) => text.peek::<A>(),
-            ItemReader::Changes(items) => items.peek::<A>(),
         }
     }
 
     /// Takes the record that `peek` shows.
     #[inline(always)]
-    pub fn take_peeked<A: AtHand<R>>(&mut self, len: usize)
+    pub fn take_peeked<A: AtHand<F>>(&mut self, len: usize)
         requires { (r : KeyValue) × HasPeeked A.held L.GREATEST self.old len r }
         ensures { (r : KeyValue) → HasPeeked A.held L.GREATEST self.old len r
-            → GivesItem L.GREATEST R.remaining self.old self.new (Putting r) }
+            → GivesItem L.GREATEST F.feed self.old self.new (Putting r) }
     {
         match self {
-            ItemReader::Native(text) => text.take_peeked::<A>(len),
-            ItemReader::Map(text) => text.take_peeked::<A>(len),
-            ItemReader::Changes(items) => items.take_peeked::<A>(len),
+            ItemReader::Form { reader, .. } => reader.take_peeked::<A>(len),
+            ItemReader::Map(text) => text.take_fed::<A>(len),
         }
     }
 
-    /// Reads the next item over a record, whose memory it takes, and answers its kind, or that there
-    /// is none. Of a map bytes at hand are taken without an ask.
+    /// Reads the next item over a record, whose memory it takes, and answers its kind, or `None` at
+    /// the end of the text. Of a map text it takes bytes at hand without a request to the reader.
+    ///
+    /// The faults are those of the reader of the form. After a fault every later call answers the
+    /// same fault.
     #[inline(always)]
-    pub fn read_into<A: AtHand<R>>(
+    pub fn read_into<A: AtHand<F>>(
         &mut self,
         into: &mut Record,
     ) -> Result<Option<ItemKind>, TextFault>
         ensures gives { IfOk result (λ found. MatchOption found
-            (GivesEnd R.remaining self.old self.new)
-            (λ kind. GivesItem L.GREATEST R.remaining self.old self.new
+            (GivesEnd F.feed self.old self.new)
+            (λ kind. GivesItem L.GREATEST F.feed self.old self.new
             (change_in kind into.new))) }
-        ensures fails { IfErr result (Fails L.GREATEST R.remaining self.old self.new) }
+        ensures fails { IfErr result (Fails L.GREATEST F.feed self.old self.new) }
     {
         match self {
-            ItemReader::Native(text) => Ok(put_if(text.read_into(into)?)),
-            ItemReader::Map(text) => Ok(put_if(text.read_buffered::<A>(into)?)),
-            ItemReader::Changes(items) => items.read_into(into),
+            ItemReader::Form { reader, removals } => reader.read_into(into, *removals),
+            ItemReader::Map(text) => Ok(put_if(text.read_fed::<A>(into)?)),
         }
     }
 
-    /// Its reader, which goes on after what was read of it.
-    pub fn into_reader(self) -> R
-        ensures { R.remaining result ≡ unread R.remaining self }
+    /// Its reader, which goes on after what was taken.
+    pub fn into_reader(self) -> F
+        ensures { result ≡ reader_of self }
     {
         match self {
-            ItemReader::Native(text) => text.into_reader(),
-            ItemReader::Map(text) => text.into_reader(),
-            ItemReader::Changes(items) => items.into_reader(),
+            ItemReader::Form { reader, .. } => reader.into_reader(),
+            ItemReader::Map(text) => text.into_fed(),
         }
     }
 }

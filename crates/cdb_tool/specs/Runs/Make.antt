@@ -21,7 +21,7 @@ use Rattle.cdb_tool.specs.Runs.Base.{NotAdded}
 use Rattle.cdb_tool.specs.Runs.Course.{Task, task_of, course_of, Goes}
 use Rattle.cdb_show.specs.Runs.Incoming.{Incoming, from_inputs}
 use Rattle.cdb_tool.specs.Runs.Course.{StopsSo}
-use Rattle.cdb_show.specs.Runs.Inputs.{InputForm, input_form, HasItemFault, BeginsWithItems}
+use Rattle.cdb_show.specs.Runs.Inputs.{InputForm, input_form, HasItemFault}
 use Rattle.cdb_show.specs.Runs.Inputs.{InputsLeft, AreInputs, AreAllInputs, FirstBegins, FirstHas}
 use Rattle.cdb_show.specs.Views.Output.{OutputSays}
 use Rattle.cdb_show.specs.declared.fault.Fault.{Fault}
@@ -181,15 +181,7 @@ pub record MakeStandsAt {S L : Type 0} {s : Ghosts S} {l : Widths L} (t : Task) 
       (told_count m ≡ length (course_of l.WORD t cs).records)
   pub goes : WhereHonest (s.image m.store) (Goes l.WORD t cs old new)
 
--- the same behind these items of an input, which comes after those that were read
-pub record StandsIn {S L : Type 0} {s : Ghosts S} {l : Widths L} (form : InputForm) (greatest : ℕ)
-    (t : Task) (read : List (List Change)) (input old new : Option (List ℕ)) (m : Maker S L s l)
-    : Type 0 where
-  pub last : List Change
-  pub begins : IfSome input (BeginsWithItems form greatest last)
-  pub stands : MakeStandsAt t (came read last) old new m
-
--- and behind the items of some inputs, and these of the next one
+-- the same behind the items of some inputs, and these of the next one
 pub record Stands {S L : Type 0} {s : Ghosts S} {l : Widths L} (form : InputForm) (greatest : ℕ)
     (t : Task) (inputs : InputsLeft) (old new : Option (List ℕ)) (m : Maker S L s l)
     : Type 0 where
@@ -217,27 +209,44 @@ abbrev pub PutStops : ℕ → Task → List Incoming → Incoming → Option (Li
 PutStops w t cs c old new fault =
     StopsSo w t cs old new fault ⊎ StopsSo w t (cs ++ c ∷ []) old new fault
 
--- how it stopped in an input of which these items are whole
-pub record MakeStopsIn (w greatest : ℕ) (t : Task) (read : List (List Change))
-    (input old new : Option (List ℕ)) (fault : Fault) : Type 0 where
-  pub last : List Change
-  pub begins : IfSome input (BeginsWithItems (form_of t) greatest last)
-  pub stops : StopsSo w t (came read last) old new fault
+-- the fault is none of an input
+abbrev pub IsNoText : Fault → Type 0
+IsNoText (Text number fault) = ⊥
+IsNoText fault = ⊤
 
-pub record MeetsHere (w greatest : ℕ) (t : Task) (read : List (List Change))
-    (input old new : Option (List ℕ)) (number : ℕ) (fault : TextFault) : Type 0 where
-  pub last : List Change
-  pub numbered : number ≡ length read + 1
-  pub memory : fault ≢ text_fault.NoMemory
-  pub native : IsOfText fault → t.options.style ≡ Native
-  pub has : IfSome input (HasItemFault (form_of t) greatest last fault)
-  pub goes : Goes w t (came read last) old new
+-- how a run stopped that had come to these items: behind them, if it met a fault of an input
+abbrev pub StopsAt : ℕ → Task → List Incoming → Option (List ℕ) → Option (List ℕ) → Fault → Type 0
+StopsAt w t cs old new (Text number fault) = Goes w t cs old new
+StopsAt w t cs old new fault = StopsSo w t cs old new fault
 
-abbrev pub InputFails : ℕ → ℕ → Task → List (List Change) → Option (List ℕ)
-    → Option (List ℕ) → Option (List ℕ) → Fault → Type 0
-InputFails w greatest t read input old new (Text number fault) =
-    MeetsHere w greatest t read input old new number fault
-InputFails w greatest t read input old new fault = MakeStopsIn w greatest t read input old new fault
+-- it stopped so, and a maker is where it came to, if the fault is one of the store or of memory
+pub record StoppedAt {S L : Type 0} {s : Ghosts S} {l : Widths L} (t : Task) (cs : List Incoming)
+    (old new : Option (List ℕ)) (m : Maker S L s l) (fault : Fault) : Type 0 where
+  pub stops : WhereHonest (s.image m.store) (StopsAt l.WORD t cs old new fault)
+  pub stands : IsHalt fault → MakeStandsAt t cs old new m
+
+-- it stopped behind these items of an input of this number, behind those of the inputs that were read
+abbrev pub PutsStop : {S L : Type 0} {s : Ghosts S} {l : Widths L} → MakeOptions → (number : ℕ)
+    → List Change → (before now : Option (List ℕ)) → (old new : Maker S L s l) → Fault → Type 0
+PutsStop o number last before now old new fault =
+    (t : Task) (read : List (List Change)) (start : Option (List ℕ)) → t.options ≡ o
+    → number ≡ length read + 1 → InCourse t (from_inputs 1 read) start before old
+    → StoppedAt t (came read last) start now new fault
+
+-- the items of the first inputs were done; and then the run stopped, behind these items of the next one
+abbrev pub PutsInputs : {S L : Type 0} {s : Ghosts S} {l : Widths L} → MakeOptions
+    → (read : List (List Change)) → (before now : Option (List ℕ)) → (old new : Maker S L s l)
+    → Type 0
+PutsInputs o read before now old new =
+    (t : Task) (start : Option (List ℕ)) → t.options ≡ o → InCourse t [] start before old
+    → InCourse t (from_inputs 1 read) start now new
+
+abbrev pub PutsInputsStop : {S L : Type 0} {s : Ghosts S} {l : Widths L} → MakeOptions
+    → (read : List (List Change)) → (last : List Change) → (before now : Option (List ℕ))
+    → (old new : Maker S L s l) → Fault → Type 0
+PutsInputsStop o read last before now old new fault =
+    (t : Task) (start : Option (List ℕ)) → t.options ≡ o → InCourse t [] start before old
+    → StoppedAt t (came read last) start now new fault
 
 -- ---- the base, amid a run
 

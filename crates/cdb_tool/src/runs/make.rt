@@ -1,125 +1,185 @@
 // A database made of the records of a base, if there is one, and of what some inputs say.
 ghost use Rattle.std.specs.Prelude.{◌≡◌, ◌+◌, ◌<◌, ◌≤◌, ℕ, List, [], ◌∷◌, ◌++◌, map, Option, is_some};
-ghost use Rattle.std.specs.Prelude.{length, IfOk, IfErr, OnOk};
-ghost use Rattle.cdb_show.specs.Views.Output.{OutputSays};
+ghost use Rattle.std.specs.Prelude.{Result, Ok, Err, length, IfErr, OnOk};
+ghost use Rattle.cdb_form.specs.Fed.Feed.{FromTo};
 ghost use Rattle.cdb_form.specs.Format.Pair.{head_size};
 ghost use Rattle.cdb_form.specs.Text.Amending.{Change};
-ghost use Rattle.cdb_form.specs.Views.KnownBytes.{FromTo};
+ghost use Rattle.cdb_form.specs.declared.text.fault.TextFault.{TextFault};
+ghost use Rattle.cdb_feed.specs.Inputs.{AreRead, NoMore, TakesOne};
 ghost use Rattle.cdb_make.specs.Views.Maker.{Follows, WhereHonest, store_of};
-ghost use Rattle.cdb_tool.specs.Runs.Course.{Task};
 ghost use Rattle.cdb_show.specs.Runs.Incoming.{from_inputs};
-ghost use Rattle.cdb_show.specs.Runs.Inputs.{AreAllInputs, IsInputOf, ReadsOne, bytes_of, input_form};
-ghost use Rattle.cdb_show.specs.Runs.Inputs.{own_inputs};
-ghost use Rattle.cdb_tool.specs.Runs.Make.{InCourse, StepsOn, MakeRuns, InputFails, InputsFail, IsOfStore, IsOfBase};
-ghost use Rattle.cdb_tool.specs.Runs.Make.{OfBase, HandsBack, BaseHasFailed, Stands, StandsIn, IsHalt};
-ghost use Rattle.cdb_tool.specs.Runs.Make.{PutsItems};
-ghost use Rattle.cdb_show.specs.Views.Input.{input_bytes};
-ghost use Rattle.cdb_show.specs.Views.Inputs.{inputs_left, one_of, shared_bytes};
-ghost use Rattle.cdb_show.specs.declared.fault.Fault.TheVariants.{NoMemory};
+ghost use Rattle.cdb_show.specs.Runs.Inputs.{AreAllInputs, IsInputOf, input_form, own_inputs};
+ghost use Rattle.cdb_show.specs.Runs.Lookups.{StopsBehind};
+ghost use Rattle.cdb_show.specs.Views.Inputs.{inputs_left};
+ghost use Rattle.cdb_show.specs.Views.Output.{OutputSays};
+ghost use Rattle.cdb_show.specs.Views.Window.{feed_of};
+ghost use Rattle.cdb_show.specs.declared.fault.Fault.TheVariants.{NoMemory, Text};
+ghost use Rattle.cdb_tool.specs.Runs.Course.{Task};
+ghost use Rattle.cdb_tool.specs.Runs.FormParsing.{parsing};
+ghost use Rattle.cdb_tool.specs.Runs.InputsRead.{IsFaultAt, RunsRead, StopsInput, WereRead};
+ghost use Rattle.cdb_tool.specs.Runs.InputsRead.{input_reader, input_readers, shared_feed, stop_by};
+ghost use Rattle.cdb_tool.specs.Runs.Make.{InCourse, StepsOn, MakeRuns, InputsFail, IsOfStore, IsOfBase};
+ghost use Rattle.cdb_tool.specs.Runs.Make.{OfBase, HandsBack, BaseHasFailed, Stands, IsHalt};
+ghost use Rattle.cdb_tool.specs.Runs.Make.{PutsInputs, PutsInputsStop, PutsItems, PutsStop};
 
 use crate::runs::make_base::add_base;
 use crate::runs::make_input::put_input;
+use crate::runs::shared_window::SharedWindow;
 use cdb_command::MakeOptions;
-use cdb_form::{Sink, Width};
+use cdb_form::{Feeds, Sink, Width};
 use cdb_make::Maker;
-use cdb_show::{
-    Fault, InLined, InWindow, Input, Inputs, ItemReader, LinedInput, Lines, SharedInput, Turn,
-    flushed,
-};
+use cdb_show::{Fault, InLined, InWindow, Inputs, ItemReader, Lined, Lines, Turn, Window, flushed};
 use cdb_store::Store;
 use std::alloc::Global;
 use std::io::Read;
+use std::mem::replace;
 
-/// Does what an input says from here on, whose number is counted from 1, and answers it as it goes on
-/// after its text. Its lines are counted if duplicates are explained.
-fn put_text<L: Width, S: Store, R: Read + Drop, E: Sink>(
+/// Does what an input says from here on, whose number is counted from 1, and hands its window back,
+/// which goes on after its text. Its lines are counted if duplicates are explained.
+fn put_text<L: Width, S: Store, F: Feeds + Drop, E: Sink>(
     alloc: Global,
     maker: &mut Maker<S, L>,
     options: &MakeOptions<'_>,
     amends: bool,
     number: u64,
-    input: Input<R>,
+    window: Window<F>,
     lines: &Lines,
     errors: &mut E,
-) -> Result<Input<R>, Fault>
-    ensures ok { IfOk result (λ left. (last : List Change)
-        × FromTo (input_bytes R.remaining input) (input_bytes R.remaining left)
+) -> (Window<F>, Result<(), Fault>)
+    ensures ok { OnOk result.1 ((last : List Change)
+        × FromTo (feed_of F.feed window) (feed_of F.feed result.0)
         (IsInputOf (input_form options.now.style amends) L.GREATEST last)
         × PutsItems options.now number last (E.contents errors.old) (E.contents errors.new)
         maker.old maker.new) }
-    ensures fails { (t : Task) (read : List (List Change)) (start : Option (List ℕ))
-        → t.options ≡ options.now → is_some t.base ≡ amends → number ≡ length read + 1
-        → InCourse t (from_inputs 1 read) start (E.contents errors.old) maker.old
-        → IfErr result (λ f. WhereHonest (S.image (store_of maker.new))
-        (InputFails L.WORD L.GREATEST t read (input_bytes R.remaining input)
-        start (E.contents errors.new) f)) }
-    ensures stands { (t : Task) (read : List (List Change)) (start : Option (List ℕ))
-        → t.options ≡ options.now → number ≡ length read + 1
-        → InCourse t (from_inputs 1 read) start (E.contents errors.old) maker.old
-        → IfErr result (λ f. IsHalt f
-        → StandsIn (input_form options.now.style amends) L.GREATEST t read
-        (input_bytes R.remaining input) start (E.contents errors.new) maker.new) }
-    ensures step { StepsOn maker.old maker.new ⊥ (E.failed errors.new) result }
+    ensures fails { IfErr result.1 (λ fault. (last : List Change)
+        × StopsBehind (input_form options.now.style amends) L.GREATEST number last
+        (feed_of F.feed window) (feed_of F.feed result.0) fault
+        × PutsStop options.now number last (E.contents errors.old) (E.contents errors.new)
+        maker.old maker.new fault) }
+    ensures step { StepsOn maker.old maker.new ⊥ (E.failed errors.new) result.1 }
 {
     if options.names.is_some() {
-        let lined = LinedInput::new(input, lines);
-        let items = ItemReader::new(alloc, options.style, amends, lined);
-        let left = put_input::<L, S, _, E, InLined>(
-            alloc, maker, options, number, items, lines, errors,
-        )?;
-        return Ok(left.into_input());
+        let lined = Lined::new(window, lines);
+        let mut items = ItemReader::new(alloc, options.style, amends, lined);
+        let put = put_input::<L, S, _, E, InLined>(
+            alloc, maker, options, number, &mut items, lines, errors,
+        );
+        return (items.into_reader().into_window(), put);
     }
-    let items = ItemReader::new(alloc, options.style, amends, input);
-    put_input::<L, S, _, E, InWindow>(alloc, maker, options, number, items, lines, errors)
+    let mut items = ItemReader::new(alloc, options.style, amends, window);
+    let put = put_input::<L, S, _, E, InWindow>(
+        alloc, maker, options, number, &mut items, lines, errors,
+    );
+    (items.into_reader(), put)
 }
 
-/// Does what an input says, whose number is counted from 1, and answers what the inputs share.
-fn put_turn<L: Width, S: Store, J: Read + Drop, I: Read + Drop, E: Sink>(
+/// Does what an input says, whose number is counted from 1, and hands back what the inputs share. The
+/// input keeps its reader; what a window took of it past the text is lost.
+fn put_turn<L: Width, S: Store, J: Feeds + Drop, I: Feeds + Drop, E: Sink>(
     alloc: Global,
     maker: &mut Maker<S, L>,
     options: &MakeOptions<'_>,
     amends: bool,
     number: u64,
-    turn: Turn<J>,
-    shared: SharedInput<I>,
+    turn: &mut Turn<J>,
+    shared: SharedWindow<I>,
     lines: &Lines,
     errors: &mut E,
-) -> Result<SharedInput<I>, Fault>
-    ensures ok { IfOk result (λ left. (last : List Change)
-        × ReadsOne (input_form options.now.style amends) L.GREATEST last
-        (one_of J.remaining turn) (shared_bytes I.remaining shared) (shared_bytes I.remaining left)
+) -> (SharedWindow<I>, Result<(), Fault>)
+    ensures ok { OnOk result.1 ((last : List Change)
+        × TakesOne J.feed (shared_feed I.feed)
+        (IsInputOf (input_form options.now.style amends) L.GREATEST last)
+        (input_reader turn.old) (input_reader turn.new) shared result.0
         × PutsItems options.now number last (E.contents errors.old) (E.contents errors.new)
         maker.old maker.new) }
-    ensures fails { (t : Task) (read : List (List Change)) (start : Option (List ℕ))
-        → t.options ≡ options.now → is_some t.base ≡ amends → number ≡ length read + 1
-        → InCourse t (from_inputs 1 read) start (E.contents errors.old) maker.old
-        → IfErr result (λ f. WhereHonest (S.image (store_of maker.new))
-        (InputFails L.WORD L.GREATEST t read
-        (bytes_of (one_of J.remaining turn) (shared_bytes I.remaining shared))
-        start (E.contents errors.new) f)) }
-    ensures stands { (t : Task) (read : List (List Change)) (start : Option (List ℕ))
-        → t.options ≡ options.now → number ≡ length read + 1
-        → InCourse t (from_inputs 1 read) start (E.contents errors.old) maker.old
-        → IfErr result (λ f. IsHalt f
-        → StandsIn (input_form options.now.style amends) L.GREATEST t read
-        (bytes_of (one_of J.remaining turn) (shared_bytes I.remaining shared))
-        start (E.contents errors.new) maker.new) }
-    ensures step { StepsOn maker.old maker.new ⊥ (E.failed errors.new) result }
+    ensures fails { IfErr result.1 (λ fault. (last : List Change)
+        × StopsInput J.feed (shared_feed I.feed) (input_form options.now.style amends) L.GREATEST
+        number last fault (input_reader turn.old) (input_reader turn.new) shared result.0
+        × PutsStop options.now number last (E.contents errors.old) (E.contents errors.new)
+        maker.old maker.new fault) }
+    ensures step { StepsOn maker.old maker.new ⊥ (E.failed errors.new) result.1 }
 {
-    match turn {
+    match replace(turn, Turn::Shared) {
         Turn::Own(reader) => {
             lines.begin(false);
-            let input = Input::growing(alloc, reader)?;
-            put_text(alloc, maker, options, amends, number, input, lines, errors)?;
-            Ok(shared)
+            let window = match Window::growing(alloc, reader) {
+                Ok(window) => window,
+                Err(refused) => {
+                    *turn = Turn::Own(refused.reader);
+                    return (shared, Err(Fault::NoMemory));
+                }
+            };
+            let (window, put) = put_text(
+                alloc, maker, options, amends, number, window, lines, errors,
+            );
+            *turn = Turn::Own(window.into_reader());
+            (shared, put)
         }
         Turn::Shared => {
             lines.begin(true);
-            let input = shared.in_hand(alloc)?;
-            let left = put_text(alloc, maker, options, amends, number, input, lines, errors)?;
-            Ok(SharedInput::InHand(left))
+            let window = match shared.in_hand(alloc) {
+                Ok(window) => window,
+                Err(refused) => {
+                    return (SharedWindow::Unread(refused.reader), Err(Fault::NoMemory));
+                }
+            };
+            let (window, put) = put_text(
+                alloc, maker, options, amends, number, window, lines, errors,
+            );
+            (SharedWindow::InHand(window), put)
         }
     }
+}
+
+/// Does what some inputs say, one after the other, and hands back what they share.
+fn put_turns<L: Width, S: Store, J: Feeds + Drop, I: Feeds + Drop, E: Sink>(
+    alloc: Global,
+    maker: &mut Maker<S, L>,
+    options: &MakeOptions<'_>,
+    amends: bool,
+    turns: &mut [Turn<J>],
+    shared: SharedWindow<I>,
+    lines: &Lines,
+    errors: &mut E,
+) -> (SharedWindow<I>, Result<(), Fault>)
+    ensures ok { OnOk result.1 ((read : List (List Change))
+        × AreRead J.feed (shared_feed I.feed)
+        (parsing (input_form options.now.style amends) L.GREATEST (Ok tt)) read NoMore
+        (input_readers turns.old) (input_readers turns.new) shared result.0
+        × PutsInputs options.now read (E.contents errors.old) (E.contents errors.new)
+        maker.old maker.new) }
+    ensures fails { IfErr result.1 (λ fault. (read : List (List Change)) × (last : List Change)
+        × AreRead J.feed (shared_feed I.feed)
+        (parsing (input_form options.now.style amends) L.GREATEST (Err fault)) read
+        (stop_by fault last) (input_readers turns.old) (input_readers turns.new) shared result.0
+        × ((n : ℕ) (f : TextFault) → fault ≡ Text n f
+        → IsFaultAt (input_form options.now.style amends) (length read + 1) n f)
+        × PutsInputsStop options.now read last (E.contents errors.old) (E.contents errors.new)
+        maker.old maker.new fault) }
+    ensures step { StepsOn maker.old maker.new ⊥ (E.failed errors.new) result.1 }
+{
+    let mut shared = shared;
+    let mut i = 0;
+    while i < turns.len() {
+        let number = i as u64 + 1;
+        let (left, put) = put_turn::<L, S, J, I, E>(
+            alloc,
+            maker,
+            options,
+            amends,
+            number,
+            &mut turns[i],
+            shared,
+            lines,
+            errors,
+        );
+        shared = left;
+        if let Err(fault) = put {
+            return (shared, Err(fault));
+        }
+        i += 1;
+    }
+    (shared, Ok(()))
 }
 
 /// Does what some inputs say, one after the other, to a maker that its caller keeps: what `make_run`
@@ -156,28 +216,68 @@ pub fn put_inputs<L: Width, S: Store, J: Read + Drop, I: Read + Drop, E: Sink>(
         (inputs_left J.remaining I.remaining inputs) start (E.contents errors.new) maker.new) }
     ensures step { StepsOn maker.old maker.new ⊥ (E.failed errors.new) result }
 {
-    let Inputs { turns, shared } = inputs;
-    let mut shared = SharedInput::Unread(shared);
-    let mut number = 0;
-    for turn in turns {
-        number += 1;
-        shared = put_turn::<L, S, J, I, E>(
-            alloc, maker, options, amends, number, turn, shared, lines, errors,
-        )?;
-    }
-    Ok(())
+    let (_inputs, put) = put_inputs_fed::<L, S, J, I, E>(
+        alloc, maker, options, amends, inputs, lines, errors,
+    );
+    put
+}
+
+/// Does what `put_inputs` does, and hands the inputs back whatever the answer. What their windows took past
+/// the texts is lost.
+///
+/// The contract holds of whatever bytes agree with what the readers gave.
+pub fn put_inputs_fed<L: Width, S: Store, J: Feeds + Drop, I: Feeds + Drop, E: Sink>(
+    alloc: Global,
+    maker: &mut Maker<S, L>,
+    options: &MakeOptions<'_>,
+    amends: bool,
+    inputs: Inputs<J, I>,
+    lines: &Lines,
+    errors: &mut E,
+) -> (Inputs<J, I>, Result<(), Fault>)
+    ensures ok { OnOk result.1 ((read : List (List Change))
+        × WereRead J.feed I.feed (input_form options.now.style amends) L.GREATEST (Ok tt) read
+        NoMore inputs result.0
+        × PutsInputs options.now read (E.contents errors.old) (E.contents errors.new)
+        maker.old maker.new) }
+    ensures fails { IfErr result.1 (λ fault. (read : List (List Change)) × (last : List Change)
+        × WereRead J.feed I.feed (input_form options.now.style amends) L.GREATEST (Err fault) read
+        (stop_by fault last) inputs result.0
+        × ((n : ℕ) (f : TextFault) → fault ≡ Text n f
+        → IsFaultAt (input_form options.now.style amends) (length read + 1) n f)
+        × PutsInputsStop options.now read last (E.contents errors.old) (E.contents errors.new)
+        maker.old maker.new fault) }
+    ensures step { StepsOn maker.old maker.new ⊥ (E.failed errors.new) result.1 }
+{
+    let Inputs { mut turns, shared } = inputs;
+    let (shared, put) = put_turns::<L, S, J, I, E>(
+        alloc,
+        maker,
+        options,
+        amends,
+        &mut turns,
+        SharedWindow::Unread(shared),
+        lines,
+        errors,
+    );
+    let inputs = Inputs {
+        turns,
+        shared: shared.into_reader(),
+    };
+    (inputs, put)
 }
 
 /// What a run hands back, and its answer.
 #[derive(Drop)]
-struct Made<S, B> {
+struct Made<S, B, J, I> {
     store: S,
     base: Option<B>,
+    inputs: Inputs<J, I>,
     answer: Result<(), Fault>,
 }
 
 /// Makes the database, whose lines the writer may keep in a buffer.
-fn make_unflushed<L: Width, S: Store, B: Store, J: Read + Drop, I: Read + Drop, E: Sink>(
+fn make_unflushed<L: Width, S: Store, B: Store, J: Feeds + Drop, I: Feeds + Drop, E: Sink>(
     alloc: Global,
     store: S,
     base: Option<B>,
@@ -185,12 +285,12 @@ fn make_unflushed<L: Width, S: Store, B: Store, J: Read + Drop, I: Read + Drop, 
     options: &MakeOptions<'_>,
     lines: &Lines,
     errors: &mut E,
-) -> Made<S, B>
+) -> Made<S, B, J, I>
     requires head { head_size L.WORD ≤ options.now.limit }
     requires words { options.now.limit ≤ L.GREATEST }
-    ensures runs { WhereHonest (S.image result.store) (OfBase B.Store result.base (λ base.
-        MakeRuns L.WORD L.GREATEST options.now base (inputs_left J.remaining I.remaining inputs)
-        (S.image result.store) (E.contents errors.old) (E.contents errors.new) result.answer)) }
+    ensures runs { RunsRead L.WORD L.GREATEST options.now J.feed I.feed B.Store base result.base
+        inputs result.inputs (S.image result.store) (E.contents errors.old)
+        (E.contents errors.new) result.answer }
     ensures hands { HandsBack B.Store base result.base }
     ensures settled { OnOk result.answer (S.settled result.store) }
     ensures failed { IfErr result.answer
@@ -206,6 +306,7 @@ fn make_unflushed<L: Width, S: Store, B: Store, J: Read + Drop, I: Read + Drop, 
             return Made {
                 store: refused.store,
                 base,
+                inputs,
                 answer: Err(Fault::from(refused.fault)),
             };
         }
@@ -216,16 +317,18 @@ fn make_unflushed<L: Width, S: Store, B: Store, J: Read + Drop, I: Read + Drop, 
         return Made {
             store: maker.into_store(),
             base,
+            inputs,
             answer: Err(fault),
         };
     }
-    let put = put_inputs::<L, S, J, I, E>(
+    let (inputs, put) = put_inputs_fed::<L, S, J, I, E>(
         alloc, &mut maker, options, amends, inputs, lines, errors,
     );
     if let Err(fault) = put {
         return Made {
             store: maker.into_store(),
             base,
+            inputs,
             answer: Err(fault),
         };
     }
@@ -233,11 +336,13 @@ fn make_unflushed<L: Width, S: Store, B: Store, J: Read + Drop, I: Read + Drop, 
         Ok(store) => Made {
             store,
             base,
+            inputs,
             answer: Ok(()),
         },
         Err(unfinished) => Made {
             store: unfinished.maker.into_store(),
             base,
+            inputs,
             answer: Err(Fault::from(unfinished.fault)),
         },
     }
@@ -336,9 +441,42 @@ pub fn make_run_from<L: Width, S: Store, B: Store, J: Read + Drop, I: Read + Dro
     ensures base_failed { IfErr result.2 (λ f. IsOfBase f → BaseHasFailed B.Store base result.1) }
     ensures output { OutputSays (E.failed errors.new) result.2 }
 {
+    let (store, base, _inputs, answer) = make_run_fed::<L, S, B, J, I, E>(
+        alloc, store, base, inputs, options, lines, errors,
+    );
+    (store, base, answer)
+}
+
+/// Does what `make_run_from` does, and hands the inputs back whatever the answer. What their windows took
+/// past the texts is lost.
+///
+/// The contract holds of whatever bytes agree with what the readers gave: for all inputs that agree with what was
+/// read, it says what `make_run_from` says of them.
+pub fn make_run_fed<L: Width, S: Store, B: Store, J: Feeds + Drop, I: Feeds + Drop, E: Sink>(
+    alloc: Global,
+    store: S,
+    base: Option<B>,
+    inputs: Inputs<J, I>,
+    options: MakeOptions<'_>,
+    lines: &Lines,
+    errors: &mut E,
+) -> (S, Option<B>, Inputs<J, I>, Result<(), Fault>)
+    requires head { head_size L.WORD ≤ options.limit }
+    requires words { options.limit ≤ L.GREATEST }
+    ensures runs { RunsRead L.WORD L.GREATEST options.entry J.feed I.feed B.Store base result.1
+        inputs result.2 (S.image result.0) (E.contents errors.old) (E.contents errors.new)
+        result.3 }
+    ensures hands { HandsBack B.Store base result.1 }
+    ensures settled { OnOk result.3 (S.settled result.0) }
+    ensures failed { IfErr result.3
+        (λ f. IsOfStore f → S.failures store < S.failures result.0) }
+    ensures memory { IfErr result.3 (λ f. f ≡ NoMemory → S.failures result.0 ≡ S.failures store) }
+    ensures base_failed { IfErr result.3 (λ f. IsOfBase f → BaseHasFailed B.Store base result.1) }
+    ensures output { OutputSays (E.failed errors.new) result.3 }
+{
     let made = make_unflushed::<L, S, B, J, I, E>(
         alloc, store, base, inputs, &options, lines, errors,
     );
     let answer = flushed(errors, made.answer);
-    (made.store, made.base, answer)
+    (made.store, made.base, made.inputs, answer)
 }

@@ -1,31 +1,30 @@
 // The items of an input, one after the other: records are put, and keys removed.
 ghost use Rattle.std.specs.Prelude.{◌≡◌, ◌+◌, ◌<◌, ◌≤◌, ℕ, List, [], ◌∷◌, ◌++◌, length, Option};
-ghost use Rattle.std.specs.Prelude.{◌||◌, None, OnOk, OnErr, IfOk, IfErr};
-ghost use Rattle.cdb_show.specs.Views.Output.{OutputSays};
+ghost use Rattle.std.specs.Prelude.{◌||◌, None, Ok, OnOk, OnErr, IfErr};
+ghost use Rattle.cdb_form.specs.Fed.Feed.{FromTo};
 ghost use Rattle.cdb_form.specs.Format.Record.{KeyValue};
 ghost use Rattle.cdb_form.specs.Text.Amending.{Change, Putting, Removing};
-ghost use Rattle.cdb_form.specs.Views.KnownBytes.{FromTo};
 ghost use Rattle.cdb_form.specs.Views.Pairs.{change_in};
 ghost use Rattle.cdb_make.specs.Views.Maker.{Follows, WhereHonest, store_of};
-ghost use Rattle.cdb_show.specs.Views.ItemReader.{form_of, unread, IsNew};
 ghost use Rattle.cdb_show.specs.Message.{TellsEach, TellsPart};
 ghost use Rattle.cdb_show.specs.Runs.Incoming.{Incoming, from_inputs};
-ghost use Rattle.cdb_tool.specs.Runs.Course.{mode_of, meets_key, told};
-ghost use Rattle.cdb_tool.specs.Runs.Course.{Task, ends, TellFails};
 ghost use Rattle.cdb_show.specs.Runs.Inputs.{IsInputOf};
-ghost use Rattle.cdb_tool.specs.Runs.Make.{InCourse, StepsOn, PutStops, InputFails, IsOfStore, IsOfBase};
-ghost use Rattle.cdb_tool.specs.Runs.Make.{MakeStandsAt, StandsIn, IsHalt, TakesNext, PutsItems};
-ghost use Rattle.cdb_tool.specs.Runs.Course.{StopsSo};
+ghost use Rattle.cdb_show.specs.Runs.Lookups.{StopsBehind};
+ghost use Rattle.cdb_show.specs.Views.ItemReader.{form_of, reader_of, IsNew};
+ghost use Rattle.cdb_show.specs.Views.Output.{OutputSays};
 ghost use Rattle.cdb_show.specs.declared.fault.Fault.TheVariants.{NoMemory};
-ghost use Rattle.cdb_tool.specs.Runs.Make.{form_of as task_form};
+ghost use Rattle.cdb_tool.specs.Runs.Course.{mode_of, meets_key, told};
+ghost use Rattle.cdb_tool.specs.Runs.Course.{StopsSo, Task, ends, TellFails};
+ghost use Rattle.cdb_tool.specs.Runs.Make.{InCourse, StepsOn, PutStops, IsOfStore, IsOfBase};
+ghost use Rattle.cdb_tool.specs.Runs.Make.{MakeStandsAt, IsHalt, IsNoText, TakesNext};
+ghost use Rattle.cdb_tool.specs.Runs.Make.{PutsItems, PutsStop};
 
 use cdb_command::{MakeOptions, Style};
-use cdb_form::{AtHand, ItemKind, OutFault, Record, Sink, Width};
+use cdb_form::{AtHand, Feeds, ItemKind, OutFault, Record, Sink, Width};
 use cdb_make::{Maker, Mode, Put};
 use cdb_show::{Fault, ItemReader, Lines, write_duplicates};
 use cdb_store::Store;
 use std::alloc::Global;
-use std::io::Read;
 
 /// How each record is put.
 fn put_mode(options: &MakeOptions<'_>) -> Mode
@@ -141,6 +140,7 @@ fn put_record<L: Width, S: Store, E: Sink>(
         → IfErr result (λ f. f ≡ NoMemory → WhereHonest (S.image (store_of maker.new))
         (TakesNext L.WORD t cs
         (record { input = input; number = number; it = Putting (record { key = key.now; value = value.now }) }))) }
+    ensures own { IfErr result IsNoText }
     ensures step { StepsOn maker.old maker.new ⊥ (E.failed errors.new) result }
 {
     let put = maker.put(mode, key, value)?;
@@ -161,6 +161,7 @@ fn remove_key<L: Width, S: Store>(maker: &mut Maker<S, L>, key: &[u8]) -> Result
     ensures stands { (t : Task) (cs : List Incoming) (start now : Option (List ℕ))
         → InCourse t cs start now maker.old
         → IfErr result (λ f. IsHalt f → MakeStandsAt t cs start now maker.new) }
+    ensures own { IfErr result IsNoText }
     ensures step { StepsOn maker.old maker.new ⊥ ⊥ result }
 {
     maker.remove(key)?;
@@ -198,6 +199,7 @@ fn do_item<L: Width, S: Store, E: Sink>(
         → InCourse t cs start (E.contents errors.old) maker.old
         → IfErr result (λ f. IsHalt f
         → MakeStandsAt t cs start (E.contents errors.new) maker.new) }
+    ensures own { IfErr result IsNoText }
     ensures step { StepsOn maker.old maker.new ⊥ (E.failed errors.new) result }
 {
     match kind {
@@ -225,35 +227,28 @@ fn line_of_last(style: Style, next: u64, lines: &Lines) -> u64 {
     }
 }
 
-/// Does what the items of an input say, whose number is counted from 1, up to its end, and answers
-/// its reader, which goes on after its text. The lines are those of the reader.
-pub(crate) fn put_input<L: Width, S: Store, R: Read + Drop, E: Sink, A: AtHand<R>>(
+/// Does what the items of an input say, whose number is counted from 1, up to the end of its text. The
+/// lines are those of the reader.
+pub(crate) fn put_input<L: Width, S: Store, F: Feeds, E: Sink, A: AtHand<F>>(
     alloc: Global,
     maker: &mut Maker<S, L>,
     options: &MakeOptions<'_>,
     input: u64,
-    mut items: ItemReader<R, L>,
+    items: &mut ItemReader<F, L>,
     lines: &Lines,
     errors: &mut E,
-) -> Result<R, Fault>
-    requires fresh { IsNew items }
-    ensures ok { IfOk result (λ left. (last : List Change)
-        × FromTo (unread R.remaining items) (R.remaining left)
-        (IsInputOf (form_of items) L.GREATEST last)
+) -> Result<(), Fault>
+    requires fresh { IsNew items.old }
+    ensures ok { OnOk result ((last : List Change)
+        × FromTo (F.feed (reader_of items.old)) (F.feed (reader_of items.new))
+        (IsInputOf (form_of items.old) L.GREATEST last)
         × PutsItems options.now input last (E.contents errors.old) (E.contents errors.new)
         maker.old maker.new) }
-    ensures fails { (t : Task) (read : List (List Change)) (start : Option (List ℕ))
-        → t.options ≡ options.now → task_form t ≡ form_of items
-        → input ≡ length read + 1
-        → InCourse t (from_inputs 1 read) start (E.contents errors.old) maker.old
-        → IfErr result (λ f. WhereHonest (S.image (store_of maker.new))
-        (InputFails L.WORD L.GREATEST t read (unread R.remaining items)
-        start (E.contents errors.new) f)) }
-    ensures stands { (t : Task) (read : List (List Change)) (start : Option (List ℕ))
-        → t.options ≡ options.now → input ≡ length read + 1
-        → InCourse t (from_inputs 1 read) start (E.contents errors.old) maker.old
-        → IfErr result (λ f. IsHalt f → StandsIn (form_of items) L.GREATEST t read
-        (unread R.remaining items) start (E.contents errors.new) maker.new) }
+    ensures fails { IfErr result (λ fault. (last : List Change)
+        × StopsBehind (form_of items.old) L.GREATEST input last
+        (F.feed (reader_of items.old)) (F.feed (reader_of items.new)) fault
+        × PutsStop options.now input last (E.contents errors.old) (E.contents errors.new)
+        maker.old maker.new fault) }
     ensures step { StepsOn maker.old maker.new ⊥ (E.failed errors.new) result }
 {
     let mut item = Record {
@@ -283,7 +278,7 @@ pub(crate) fn put_input<L: Width, S: Store, R: Read + Drop, E: Sink, A: AtHand<R
         } else {
             let kind = match items.read_into::<A>(&mut item) {
                 Err(fault) => return Err(Fault::of_text(input, fault)),
-                Ok(None) => return Ok(items.into_reader()),
+                Ok(None) => return Ok(()),
                 Ok(Some(kind)) => kind,
             };
             let line = line_of_last(options.style, next, lines);

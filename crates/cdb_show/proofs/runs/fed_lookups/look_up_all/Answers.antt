@@ -13,7 +13,7 @@ returns-in-Err-clause-leaves g c =
     let left : FedInputs _ _ = record { readers = with_items c.args.inputs.readers c.look_up_readers-window.new.readers; shared = c.into_reader.result } in
     let same = with_items_is c.args.inputs.readers c.look_up_readers-window.new.readers (search (rules, places)) in
     fed_stopped g.L.Width.WORD g.L.Width.GREATEST g.S.Store c.args.number c.args.style g.J.Feeds.feed g.I.Feeds.feed c.args.inputs left c.look_up_readers-window.result.0 _ _ (g.W.Sink.contents c.args.w.now) _ same c.into_reader.ensures.reader c.look_up_readers-window.ensures.reads _ c.in-Err.fault
-    (e.0, e.1, e.2, e.3, e.4 _ (looked_none _ g.S.Store _ _ _ _ c.args.reader.now.long))
+    (e.0, e.1, e.2, e.3, e.4, e.5 _ (looked_none _ g.S.Store _ _ _ _ c.args.reader.now.long))
 
 pub returns-in-Err-write_last-clause-leaves : goal.returns-in-Err-write_last-clause-leaves
 returns-in-Err-write_last-clause-leaves g c =
@@ -21,7 +21,7 @@ returns-in-Err-write_last-clause-leaves g c =
     let left : FedInputs _ _ = record { readers = with_items c.args.inputs.readers c.look_up_readers-window.new.readers; shared = c.into_reader.result } in
     let same = with_items_is c.args.inputs.readers c.look_up_readers-window.new.readers (search (rules, places)) in
     fed_unended g.L.Width.WORD g.L.Width.GREATEST g.S.Store c.args.number c.args.style g.J.Feeds.feed g.I.Feeds.feed c.args.inputs left c.look_up_readers-window.result.0 _ _ (g.W.Sink.contents c.args.w.now) _ same c.into_reader.ensures.reader c.look_up_readers-window.ensures.reads e.0 _ _ c.look_up_readers-window.new.missing
-    e.1 (e.2 _ (looked_none _ g.S.Store _ _ _ _ c.args.reader.now.long)) c.in-Err-write_last.ensures.writes.err
+    e.1 e.2 (e.3 _ (looked_none _ g.S.Store _ _ _ _ c.args.reader.now.long)) c.in-Err-write_last.ensures.writes.err
 
 pub returns-then-missing-clause-leaves : goal.returns-then-missing-clause-leaves
 returns-then-missing-clause-leaves g c =
@@ -29,7 +29,7 @@ returns-then-missing-clause-leaves g c =
     let left : FedInputs _ _ = record { readers = with_items c.args.inputs.readers c.look_up_readers-window.new.readers; shared = c.into_reader.result } in
     let same = with_items_is c.args.inputs.readers c.look_up_readers-window.new.readers (search (rules, places)) in
     fed_whole g.L.Width.WORD g.L.Width.GREATEST g.S.Store c.args.number c.args.style g.J.Feeds.feed g.I.Feeds.feed c.args.inputs left c.look_up_readers-window.result.0 _ _ (g.W.Sink.contents c.args.w.now) _ same c.into_reader.ensures.reader c.look_up_readers-window.ensures.reads e.0 _ _ c.look_up_readers-window.new.missing
-    e.1 (e.2 _ (looked_none _ g.S.Store _ _ _ _ c.args.reader.now.long)) _ (ap missing_answer (sym c.if-missing.true)) c.in-Ok-write_last.ensures.writes.ok
+    e.1 e.2 (e.3 _ (looked_none _ g.S.Store _ _ _ _ c.args.reader.now.long)) _ (ap missing_answer (sym c.if-missing.true)) c.in-Ok-write_last.ensures.writes.ok
 
 pub returns-else-missing-clause-leaves : goal.returns-else-missing-clause-leaves
 returns-else-missing-clause-leaves g c =
@@ -37,4 +37,4 @@ returns-else-missing-clause-leaves g c =
     let left : FedInputs _ _ = record { readers = with_items c.args.inputs.readers c.look_up_readers-window.new.readers; shared = c.into_reader.result } in
     let same = with_items_is c.args.inputs.readers c.look_up_readers-window.new.readers (search (rules, places)) in
     fed_whole g.L.Width.WORD g.L.Width.GREATEST g.S.Store c.args.number c.args.style g.J.Feeds.feed g.I.Feeds.feed c.args.inputs left c.look_up_readers-window.result.0 _ _ (g.W.Sink.contents c.args.w.now) _ same c.into_reader.ensures.reader c.look_up_readers-window.ensures.reads e.0 _ _ c.look_up_readers-window.new.missing
-    e.1 (e.2 _ (looked_none _ g.S.Store _ _ _ _ c.args.reader.now.long)) _ (ap missing_answer (sym c.if-missing.false)) c.in-Ok-write_last.ensures.writes.ok
+    e.1 e.2 (e.3 _ (looked_none _ g.S.Store _ _ _ _ c.args.reader.now.long)) _ (ap missing_answer (sym c.if-missing.false)) c.in-Ok-write_last.ensures.writes.ok

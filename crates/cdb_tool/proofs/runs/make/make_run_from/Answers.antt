@@ -1,13 +1,7 @@
-use Rattle.std.proofs.lemmas.Grind.{common_steps}
-use Rattle.std.proofs.Common.{arith}
-use Rattle.cdb_tool.proofs.RunEnds.{runs_flushed}
+use Rattle.cdb_tool.proofs.AgreeingInputs.{known_inputs}
 use Rattle.cdb_tool.proofs.runs.make.make_run_from.Goals as goal
 
 pub returns-clause-runs : goal.returns-clause-runs
-returns-clause-runs g c = runs_flushed g.B.Store _ _ _ _ _ _ _ _ _ _ _ c.make_unflushed-made.ensures.runs c.flushed-answer.ensures.flushes
-
-pub returns-clause-settled : goal.returns-clause-settled
-returns-clause-settled g c = grind (arith, common_steps)
-
-pub returns-clause-output : goal.returns-clause-output
-returns-clause-output g c = grind (arith, common_steps)
+returns-clause-runs g c =
+    let fed = c.make_run_fed-store.ensures.runs in
+    fed.runs _ (known_inputs g.J.Read.remaining g.I.Read.remaining _ _ _ fed.read fed.stop c.args.inputs c.make_run_fed-store.result.2 fed.were)

@@ -1,51 +1,50 @@
-use Rattle.std.proofs.lemmas.Grind.{common_steps}
-use Rattle.std.proofs.Common.{arith}
-use Rattle.std.proofs.lemmas.Result.{err_from_is_err_and}
-use Rattle.cdb_tool.proofs.InputRuns.{no_window, no_window_stands}
+use Rattle.std.proofs.Common.{[], sym, ◌∙◌}
+use Rattle.cdb_tool.proofs.Courses.{err_each}
+use Rattle.cdb_tool.proofs.FedTurns.{none_stops, ok_each, own_read, own_stops, own_unread, shared_read, shared_stops, shared_unread}
 use Rattle.cdb_tool.proofs.runs.make.put_turn.Goals as goal
 
-pub returns-in_err-input-in-Own-clause-fails : goal.returns-in_err-input-in-Own-clause-fails
-returns-in_err-input-in-Own-clause-fails g c = λ t read start same based n h.
-    let p = err_from_is_err_and c.from_residual.result c.from_residual.ensures.1 in
-    rw (p.1, p.2) (no_window {s = g.S.Store} {k = g.L.Width} _ t read _ start _ c.args.maker.now h)
+pub returns-in-Err-clause-fails : goal.returns-in-Err-clause-fails
+returns-in-Err-clause-fails g c = (
+  [],
+  own_unread g.J.Feeds.feed g.I.Feeds.feed _ _ _ _ c.in-Own.reader c.in-Err.refused.reader _ (λ it. g.met.J.Feeds.one_rest it) (sym c.replace.ensures.value ∙ c.in-Own.is) c.in-Err.ensures.back,
+  none_stops {s = g.S.Store} {l = g.L.Width} _ _ _ c.args.maker.now,
+)
 
-pub returns-in_err-input-in-Own-clause-stands : goal.returns-in_err-input-in-Own-clause-stands
-returns-in_err-input-in-Own-clause-stands g c = λ t read start same n h.
-    let p = err_from_is_err_and c.from_residual.result c.from_residual.ensures.1 in
-    rw (p.1, p.2) (λ halt. no_window_stands {s = g.S.Store} {k = g.L.Width} _ _ t read _ start _ c.args.maker.now h)
+pub returns-in-Err-in_hand-clause-fails : goal.returns-in-Err-in_hand-clause-fails
+returns-in-Err-in_hand-clause-fails g c = (
+  [],
+  shared_unread g.J.Feeds.feed g.I.Feeds.feed _ _ _ _ _ _ c.in-Err-in_hand.refused.reader (λ it. g.met.I.Feeds.one_rest it) (sym c.replace.ensures.value ∙ c.in-Shared.is) c.replace.ensures.after c.in-Err-in_hand.ensures.back,
+  none_stops {s = g.S.Store} {l = g.L.Width} _ _ _ c.args.maker.now,
+)
 
-pub returns-in_err-input-in-Shared-clause-fails : goal.returns-in_err-input-in-Shared-clause-fails
-returns-in_err-input-in-Shared-clause-fails g c = λ t read start same based n h.
-    let p = err_from_is_err_and c.from_residual-in_err-input-in-Shared.result c.from_residual-in_err-input-in-Shared.ensures.1 in
-    rw (p.1, p.2) (no_window {s = g.S.Store} {k = g.L.Width} _ t read _ start _ c.args.maker.now h)
+pub returns-in-Ok-clause-ok : goal.returns-in-Ok-clause-ok
+returns-in-Ok-clause-ok g c =
+    ok_each c.put_text-window.result.1
+    (λ h. (h.0, own_read g.J.Feeds.feed g.I.Feeds.feed _ _ h.0 _ c.in-Own.reader c.into_reader.result c.in-Ok.window c.put_text-window.result.0 _ (sym c.replace.ensures.value ∙ c.in-Own.is) c.in-Ok.ensures.kept h.1 c.into_reader.ensures.lost, h.2))
+    c.put_text-window.ensures.ok
 
-pub returns-in_err-input-in-Shared-clause-stands : goal.returns-in_err-input-in-Shared-clause-stands
-returns-in_err-input-in-Shared-clause-stands g c = λ t read start same n h.
-    let p = err_from_is_err_and c.from_residual-in_err-input-in-Shared.result c.from_residual-in_err-input-in-Shared.ensures.1 in
-    rw (p.1, p.2) (λ halt. no_window_stands {s = g.S.Store} {k = g.L.Width} _ _ t read _ start _ c.args.maker.now h)
+pub returns-in-Ok-clause-fails : goal.returns-in-Ok-clause-fails
+returns-in-Ok-clause-fails g c =
+    err_each c.put_text-window.result.1
+    (λ f h. (
+      h.0,
+      own_stops g.J.Feeds.feed g.I.Feeds.feed _ _ _ h.0 f _ c.in-Own.reader c.into_reader.result c.in-Ok.window c.put_text-window.result.0 _ (λ it. g.met.J.Feeds.one_rest it) (sym c.replace.ensures.value ∙ c.in-Own.is) c.in-Ok.ensures.kept h.1 c.into_reader.ensures.lost,
+      h.2,
+    ))
+    c.put_text-window.ensures.fails
 
-pub returns-in_err-put_text-in-Own-clause-fails : goal.returns-in_err-put_text-in-Own-clause-fails
-returns-in_err-put_text-in-Own-clause-fails g c = λ t read start same based n h.
-    let p = err_from_is_err_and c.from_residual-in_err-put_text-in-Own.result c.from_residual-in_err-put_text-in-Own.ensures.1 in
-    rw (p.1, p.2, c.in-Own.is) (rw c.in_ok-input-in-Own.ensures.bytes at (c.in_err-put_text-in-Own.ensures.fails t read start same based n h))
+pub returns-in-Ok-in_hand-clause-ok : goal.returns-in-Ok-in_hand-clause-ok
+returns-in-Ok-in_hand-clause-ok g c =
+    ok_each c.put_text-window-in-Shared.result.1
+    (λ h. (h.0, shared_read g.J.Feeds.feed g.I.Feeds.feed _ _ h.0 _ _ _ c.in-Ok-in_hand.window c.put_text-window-in-Shared.result.0 (sym c.replace.ensures.value ∙ c.in-Shared.is) c.replace.ensures.after c.in-Ok-in_hand.ensures.kept h.1, h.2))
+    c.put_text-window-in-Shared.ensures.ok
 
-pub returns-in_err-put_text-in-Own-clause-stands : goal.returns-in_err-put_text-in-Own-clause-stands
-returns-in_err-put_text-in-Own-clause-stands g c = λ t read start same n h.
-    let p = err_from_is_err_and c.from_residual-in_err-put_text-in-Own.result c.from_residual-in_err-put_text-in-Own.ensures.1 in
-    rw (p.1, p.2, c.in-Own.is) (rw c.in_ok-input-in-Own.ensures.bytes at (c.in_err-put_text-in-Own.ensures.stands t read start same n h))
-
-pub returns-in_err-left-in-Shared-clause-fails : goal.returns-in_err-left-in-Shared-clause-fails
-returns-in_err-left-in-Shared-clause-fails g c = λ t read start same based n h.
-    let p = err_from_is_err_and c.from_residual-in_err-left-in-Shared.result c.from_residual-in_err-left-in-Shared.ensures.1 in
-    rw (p.1, p.2, c.in-Shared.is) (rw c.in_ok-input-in-Shared.ensures at (c.in_err-left-in-Shared.ensures.fails t read start same based n h))
-
-pub returns-in_err-left-in-Shared-clause-stands : goal.returns-in_err-left-in-Shared-clause-stands
-returns-in_err-left-in-Shared-clause-stands g c = λ t read start same n h.
-    let p = err_from_is_err_and c.from_residual-in_err-left-in-Shared.result c.from_residual-in_err-left-in-Shared.ensures.1 in
-    rw (p.1, p.2, c.in-Shared.is) (rw c.in_ok-input-in-Shared.ensures at (c.in_err-left-in-Shared.ensures.stands t read start same n h))
-
-pub returns-in_ok-left-in-Shared-clause-fails : goal.returns-in_ok-left-in-Shared-clause-fails
-returns-in_ok-left-in-Shared-clause-fails g c = grind (arith, common_steps)
-
-pub returns-in_ok-left-in-Shared-clause-ok : goal.returns-in_ok-left-in-Shared-clause-ok
-returns-in_ok-left-in-Shared-clause-ok g c = grind (arith, common_steps)
+pub returns-in-Ok-in_hand-clause-fails : goal.returns-in-Ok-in_hand-clause-fails
+returns-in-Ok-in_hand-clause-fails g c =
+    err_each c.put_text-window-in-Shared.result.1
+    (λ f h. (
+      h.0,
+      shared_stops g.J.Feeds.feed g.I.Feeds.feed _ _ _ h.0 f _ _ _ c.in-Ok-in_hand.window c.put_text-window-in-Shared.result.0 (λ it. g.met.I.Feeds.one_rest it) (sym c.replace.ensures.value ∙ c.in-Shared.is) c.replace.ensures.after c.in-Ok-in_hand.ensures.kept h.1,
+      h.2,
+    ))
+    c.put_text-window-in-Shared.ensures.fails

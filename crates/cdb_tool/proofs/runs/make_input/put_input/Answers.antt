@@ -1,25 +1,25 @@
-use Rattle.std.proofs.lemmas.Grind.{common_steps}
 use Rattle.std.proofs.Common.{refl, arith, sym, subst, ap, ◌∙◌, ◌+◌, ◌∷◌, ◌++◌, [], ℕ, length-append}
 use Rattle.std.proofs.lemmas.Result.{err_from_is_err_and}
+use Rattle.cdb_form.specs.Fed.Feed.{FromTo}
 use Rattle.cdb_form.specs.Text.Amending.{Change, Putting}
-use Rattle.cdb_form.specs.Views.Prefix.{shown_by}
-use Rattle.cdb_form.specs.Views.KnownBytes.{FromTo}
 use Rattle.cdb_form.specs.Views.Pairs.{change_in}
+use Rattle.cdb_form.specs.Views.Prefix.{shown_by}
 use Rattle.cdb_make.proofs.Callers.{follows_same}
 use Rattle.cdb_make.proofs.Rolls.{follows_then}
 use Rattle.cdb_show.specs.Runs.Inputs.{IsInputOf}
-use Rattle.cdb_tool.specs.Runs.Make.{InCourse, form_of as task_form}
-use Rattle.cdb_show.specs.Views.ItemReader.{form_of, unread}
-use Rattle.cdb_tool.proofs.Courses.{came_more, course_stands}
-use Rattle.cdb_tool.proofs.ItemTexts.{items_none, items_more, items_all, items_first, items_begin, items_behind, items_fewer, same_form}
-use Rattle.cdb_tool.proofs.InputRuns.{none_put, put_stops, input_fails, halted_here}
+use Rattle.cdb_show.specs.Views.ItemReader.{form_of, reader_of}
+use Rattle.cdb_show.proofs.ItemInputs.{items_all, items_fewer, items_form, items_more, items_none}
+use Rattle.cdb_tool.specs.Runs.Make.{InCourse}
+use Rattle.cdb_tool.proofs.Courses.{came_more}
+use Rattle.cdb_tool.proofs.InputRuns.{item_stopped, item_stops, last_by, text_stopped, text_stops}
+use Rattle.cdb_tool.proofs.InputRuns.{none_put}
 use Rattle.cdb_tool.proofs.MakerSteps.{step_failed}
 use Rattle.cdb_tool.proofs.runs.make_input.put_input.Goals as goal
 
 pub loop-peeked-init : goal.loop-peeked-init
 loop-peeked-init g c = record {
   last = [];
-  gave = items_none g.L.Width.GREATEST g.R.Read.remaining _ c.args.items c.requires.fresh refl;
+  gave = items_none g.L.Width.GREATEST g.F.Feeds.feed c.args.items.now c.requires.fresh;
   form = refl;
   number = refl;
   asks = omega (arith, c.requires.fresh.asks);
@@ -29,23 +29,24 @@ loop-peeked-init g c = record {
 }
 
 pub returns-in-Err-clause-fails : goal.returns-in-Err-clause-fails
-returns-in-Err-clause-fails g c = λ t read start o f n h.
+returns-in-Err-clause-fails g c =
     let inv = c.loop-peeked.invariant in
-    rw c.of_text.ensures
-    (input_fails {s = g.S.Store} {k = g.L.Width} g.L.Width.GREATEST t g.R.Read.remaining read _ c.args.input c.loop-peeked.items c.read_into.new.self inv.last start _ c.loop-peeked.maker c.in-Err.fault (inv.form ∙ sym f) inv.gave c.in-Err.ensures.fails n
-    (inv.course t read start o n h))
+    rw c.of_text.ensures (
+      inv.last,
+      text_stops g.L.Width.GREATEST g.F.Feeds.feed c.args.input _ c.loop-peeked.items c.read_into.new.self (form_of c.args.items.now) inv.last c.in-Err.fault (λ it. g.met.F.Feeds.one_rest it) inv.form inv.gave c.in-Err.ensures.fails,
+      λ t read start o n h. text_stopped {s = g.S.Store} {l = g.L.Width} t _ start _ c.loop-peeked.maker c.args.input c.in-Err.fault (inv.course t read start o n h),
+    )
 
 pub returns-in-Ok-None-clause-ok : goal.returns-in-Ok-None-clause-ok
 returns-in-Ok-None-clause-ok g c =
     let inv = c.loop-peeked.invariant in
     let end = rw c.in-Ok-None.field-0-is at c.in-Ok-None.ensures.gives in
     let greatest = g.L.Width.GREATEST in
-    let remaining = g.R.Read.remaining in
-    let input = unread remaining c.args.items in
+    let feed = g.F.Feeds.feed in
+    let input = feed (reader_of c.args.items.now) in
     let new = c.read_into.new.self in
-    let all = items_all greatest remaining input c.loop-peeked.items new inv.last inv.gave end in
-    let in_form = subst (λ v. FromTo input (unread remaining new) (IsInputOf v greatest inv.last)) inv.form all in
-    (inv.last, subst (λ v. FromTo input v (IsInputOf (form_of c.args.items) greatest inv.last)) (sym c.into_reader.ensures) in_form, inv.course)
+    let all = items_all greatest feed input c.loop-peeked.items new inv.last inv.gave end in
+    (inv.last, subst (λ v. FromTo input (feed (reader_of new)) (IsInputOf v greatest inv.last)) inv.form all, inv.course)
 
 pub loop-peeked-preserved : goal.loop-peeked-preserved
 loop-peeked-preserved g c =
@@ -53,15 +54,15 @@ loop-peeked-preserved g c =
     let item : Change = change_in c.in-Ok-Some.kind c.read_into.new.into in
     let one = rw c.in-Ok-Some.field-0-is at c.in-Ok-Some.ensures.gives in
     let greatest = g.L.Width.GREATEST in
-    let remaining = g.R.Read.remaining in
+    let feed = g.F.Feeds.feed in
     let old = c.loop-peeked.items in
     let new = c.read_into.new.self in
     record {
       last = inv.last ++ item ∷ [];
-      gave = items_more greatest remaining _ old new inv.last item inv.gave one;
-      form = same_form greatest remaining old new item one ∙ inv.form;
+      gave = items_more greatest feed _ old new inv.last item inv.gave one;
+      form = items_form greatest feed old new item one ∙ inv.form;
       number = sym (length-append inv.last (item ∷ []) ∙ ap (λ (n : ℕ). n + 1) (sym inv.number));
-      asks = omega (arith, inv.asks, items_fewer greatest remaining old new item one);
+      asks = omega (arith, inv.asks, items_fewer greatest feed old new item one);
       course = λ t read start o n h.
           subst (λ cs. InCourse {s = g.S.Store} {l = g.L.Width} t cs start (g.E.Sink.contents c.do_item.new.errors) c.do_item.new.maker)
           (sym (came_more c.args.input (c.loop-peeked.number + 1) read inv.last item n (ap (λ (n : ℕ). n + 1) inv.number)))
@@ -76,15 +77,15 @@ loop-peeked-preserved-in-Continue-1 g c =
     let item : Change = Putting (shown_by c.in-Some.peeked) in
     let one = c.take_peeked.ensures (shown_by c.in-Some.peeked) c.in-Some.ensures in
     let greatest = g.L.Width.GREATEST in
-    let remaining = g.R.Read.remaining in
+    let feed = g.F.Feeds.feed in
     let old = c.loop-peeked.items in
     let new = c.take_peeked.new.self in
     record {
       last = inv.last ++ item ∷ [];
-      gave = items_more greatest remaining _ old new inv.last item inv.gave one;
-      form = same_form greatest remaining old new item one ∙ inv.form;
+      gave = items_more greatest feed _ old new inv.last item inv.gave one;
+      form = items_form greatest feed old new item one ∙ inv.form;
       number = sym (length-append inv.last (item ∷ []) ∙ ap (λ (n : ℕ). n + 1) (sym inv.number));
-      asks = omega (arith, inv.asks, items_fewer greatest remaining old new item one);
+      asks = omega (arith, inv.asks, items_fewer greatest feed old new item one);
       course = λ t read start o n h.
           subst (λ cs. InCourse {s = g.S.Store} {l = g.L.Width} t cs start (g.E.Sink.contents c.put_record-put.new.errors) c.put_record-put.new.maker)
           (sym (came_more c.args.input (c.loop-peeked.number + 1) read inv.last item n (ap (λ (n : ℕ). n + 1) inv.number)))
@@ -94,83 +95,42 @@ loop-peeked-preserved-in-Continue-1 g c =
     }
 
 pub returns-in_err-do_item-clause-fails : goal.returns-in_err-do_item-clause-fails
-returns-in_err-do_item-clause-fails g c = λ t read start o f n h.
+returns-in_err-do_item-clause-fails g c =
     let p = err_from_is_err_and c.from_residual-in_err-do_item.result c.from_residual-in_err-do_item.ensures.1 in
     let inv = c.loop-peeked.invariant in
     let item : Change = change_in c.in-Ok-Some.kind c.read_into.new.into in
     let one = rw c.in-Ok-Some.field-0-is at c.in-Ok-Some.ensures.gives in
-    let greatest = g.L.Width.GREATEST in
-    let remaining = g.R.Read.remaining in
-    let input = unread remaining c.args.items in
-    let same = inv.form ∙ sym f in
-    let before = items_begin greatest remaining input c.loop-peeked.items (task_form t) inv.last same inv.gave in
-    let after = items_behind greatest remaining input c.loop-peeked.items c.read_into.new.self (task_form t) inv.last item same inv.gave one in
-    let stops = c.in_err-do_item.ensures.fails t _ start o (inv.course t read start o n h) in
     let fault = c.in_err-do_item.field-0.0 in
-    rw (p.1, p.2)
-    (record {
-      each = λ b is. put_stops g.L.Width.WORD greatest t read input inv.last (record { input = c.args.input; number = c.loop-peeked.number + 1; it = item }) start _ fault before after n (ap (λ (n : ℕ). n + 1) inv.number) (stops.each b is);
-    })
+    rw (p.1, p.2) (
+      last_by fault inv.last item,
+      item_stops g.L.Width.GREATEST g.F.Feeds.feed c.args.input _ c.loop-peeked.items c.read_into.new.self (form_of c.args.items.now) inv.last item fault inv.form inv.gave one c.in_err-do_item.ensures.own,
+      λ t read start o n h.
+          let course = inv.course t read start o n h in
+          item_stopped {s = g.S.Store} {l = g.L.Width} t read inv.last (record { input = c.args.input; number = c.loop-peeked.number + 1; it = item }) start _ _ c.loop-peeked.maker c.do_item.new.maker n (ap (λ (n : ℕ). n + 1) inv.number) c.do_item.ensures.step.follows.comes fault course
+          (c.in_err-do_item.ensures.fails t _ start o course) (c.in_err-do_item.ensures.stands t _ start o course),
+    )
 
 pub returns-in_err-put-clause-fails : goal.returns-in_err-put-clause-fails
-returns-in_err-put-clause-fails g c = λ t read start o f n h.
+returns-in_err-put-clause-fails g c =
     let p = err_from_is_err_and c.from_residual.result c.from_residual.ensures.1 in
     let inv = c.loop-peeked.invariant in
     let item : Change = Putting (shown_by c.in-Some.peeked) in
     let one = c.take_peeked.ensures (shown_by c.in-Some.peeked) c.in-Some.ensures in
-    let greatest = g.L.Width.GREATEST in
-    let remaining = g.R.Read.remaining in
-    let input = unread remaining c.args.items in
-    let same = inv.form ∙ sym f in
-    let before = items_begin greatest remaining input c.loop-peeked.items (task_form t) inv.last same inv.gave in
-    let after = items_behind greatest remaining input c.loop-peeked.items c.take_peeked.new.self (task_form t) inv.last item same inv.gave one in
-    let stops = c.in_err-put.ensures.fails t _ start o (inv.course t read start o n h) in
     let fault = c.in_err-put.field-0.0 in
-    rw (p.1, p.2)
-    (record {
-      each = λ b is. put_stops g.L.Width.WORD greatest t read input inv.last (record { input = c.args.input; number = c.loop-peeked.number + 1; it = item }) start _ fault before after n (ap (λ (n : ℕ). n + 1) inv.number) (stops.each b is);
-    })
-
-pub returns-in-Err-clause-stands : goal.returns-in-Err-clause-stands
-returns-in-Err-clause-stands g c = λ t read start o n h.
-    let inv = c.loop-peeked.invariant in
-    let greatest = g.L.Width.GREATEST in
-    let remaining = g.R.Read.remaining in
-    let input = unread remaining c.args.items in
-    rw c.of_text.ensures
-    (λ halt. halted_here {s = g.S.Store} {k = g.L.Width} _ _ greatest t read input inv.last start _ c.loop-peeked.maker inv.form (items_first greatest remaining input c.loop-peeked.items inv.last inv.gave)
-    (course_stands {s = g.S.Store} {l = g.L.Width} t _ start _ c.loop-peeked.maker (inv.course t read start o n h)))
-
-pub returns-in_err-do_item-clause-stands : goal.returns-in_err-do_item-clause-stands
-returns-in_err-do_item-clause-stands g c = λ t read start o n h.
-    let p = err_from_is_err_and c.from_residual-in_err-do_item.result c.from_residual-in_err-do_item.ensures.1 in
-    let inv = c.loop-peeked.invariant in
-    let greatest = g.L.Width.GREATEST in
-    let remaining = g.R.Read.remaining in
-    let input = unread remaining c.args.items in
-    let stands = c.in_err-do_item.ensures.stands t _ start o (inv.course t read start o n h) in
-    rw (p.1, p.2)
-    (λ halt. halted_here {s = g.S.Store} {k = g.L.Width} _ _ greatest t read input inv.last start _ c.do_item.new.maker inv.form (items_first greatest remaining input c.loop-peeked.items inv.last inv.gave) (stands halt))
-
-pub returns-in_err-put-clause-stands : goal.returns-in_err-put-clause-stands
-returns-in_err-put-clause-stands g c = λ t read start o n h.
-    let p = err_from_is_err_and c.from_residual.result c.from_residual.ensures.1 in
-    let inv = c.loop-peeked.invariant in
-    let greatest = g.L.Width.GREATEST in
-    let remaining = g.R.Read.remaining in
-    let input = unread remaining c.args.items in
-    let stands = c.in_err-put.ensures.stands t _ start o (inv.course t read start o n h) in
-    rw (p.1, p.2)
-    (λ halt. halted_here {s = g.S.Store} {k = g.L.Width} _ _ greatest t read input inv.last start _ c.put_record-put.new.maker inv.form (items_first greatest remaining input c.loop-peeked.items inv.last inv.gave) (stands halt))
-
-pub returns-in-Ok-None-clause-fails : goal.returns-in-Ok-None-clause-fails
-returns-in-Ok-None-clause-fails g c = grind (arith, common_steps)
+    rw (p.1, p.2) (
+      last_by fault inv.last item,
+      item_stops g.L.Width.GREATEST g.F.Feeds.feed c.args.input _ c.loop-peeked.items c.take_peeked.new.self (form_of c.args.items.now) inv.last item fault inv.form inv.gave one c.in_err-put.ensures.own,
+      λ t read start o n h.
+          let course = inv.course t read start o n h in
+          item_stopped {s = g.S.Store} {l = g.L.Width} t read inv.last (record { input = c.args.input; number = c.loop-peeked.number + 1; it = item }) start _ _ c.loop-peeked.maker c.put_record-put.new.maker n (ap (λ (n : ℕ). n + 1) inv.number) c.put_record-put.ensures.step.follows.comes fault course
+          (c.in_err-put.ensures.fails t _ start o course) (c.in_err-put.ensures.stands t _ start o course),
+    )
 
 pub loop-peeked-smaller-in-Continue-1 : goal.loop-peeked-smaller-in-Continue-1
 loop-peeked-smaller-in-Continue-1 g c =
     let item : Change = Putting (shown_by c.in-Some.peeked) in
     let one = c.take_peeked.ensures (shown_by c.in-Some.peeked) c.in-Some.ensures in
-    let fewer = items_fewer g.L.Width.GREATEST g.R.Read.remaining c.loop-peeked.items c.take_peeked.new.self item one in
+    let fewer = items_fewer g.L.Width.GREATEST g.F.Feeds.feed c.loop-peeked.items c.take_peeked.new.self item one in
     omega (arith, fewer)
 
 pub returns-in_err-put-clause-step : goal.returns-in_err-put-clause-step

@@ -1,12 +1,11 @@
 use Rattle.std.proofs.Common.{◌≡◌, ◌+◌, ◌^◌, ◌≤◌, ℕ, List, length, Option}
 use Rattle.cdb_form.specs.Text.Amending.{Change}
 use Rattle.cdb_make.specs.Views.Maker.{Follows}
+use Rattle.cdb_show.specs.Runs.Incoming.{came, from_inputs}
+use Rattle.cdb_show.specs.Views.ItemReader.{asks_left, form_of, reader_of}
+use Rattle.cdb_show.proofs.ItemInputs.{GaveItems}
 use Rattle.cdb_tool.specs.Runs.Course.{Task}
-use Rattle.cdb_show.specs.Runs.Incoming.{from_inputs}
 use Rattle.cdb_tool.specs.Runs.Make.{InCourse}
-use Rattle.cdb_show.specs.Runs.Incoming.{came}
-use Rattle.cdb_show.specs.Views.ItemReader.{form_of, unread, asks_left}
-use Rattle.cdb_tool.proofs.ItemTexts.{GaveItems}
 use Rattle.cdb_tool.proofs.runs.make_input.put_input.Given as goal
 
 -- the items so far were done
@@ -14,7 +13,7 @@ abbrev pub invariant-loop-peeked : goal.invariant-loop-peeked
 invariant-loop-peeked g l =
     record {
       last : List Change;
-      gave : GaveItems g.L.Width.GREATEST g.R.Read.remaining (unread g.R.Read.remaining l.fn.items) l.items last;
+      gave : GaveItems g.L.Width.GREATEST g.F.Feeds.feed (g.F.Feeds.feed (reader_of l.fn.items)) l.items last;
       form : form_of l.items ≡ form_of l.fn.items;
       number : l.number ≡ length last;
       asks : l.number + asks_left l.items ≤ 2 ^ 48;

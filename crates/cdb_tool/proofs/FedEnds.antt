@@ -1,0 +1,279 @@
+-- How a run ends whose readers are handed back: for all inputs that agree with what was read, as its maker says.
+use Rattle.std.proofs.Common.{◌≡◌, ◌+◌, ◌⊎◌, ◌∙◌, ℕ, inl, inr, Bool, List, [], ◌∷◌, length, refl, sym, subst, Option, is_some, Result, Ok, Err}
+use Rattle.std.specs.Prelude.{IsOk}
+use Rattle.std.specs.Vec.{with_items}
+use Rattle.std.proofs.lemmas.List.{with_items_is}
+use Rattle.cdb_store.specs.declared.store.Store.{Ghosts}
+use Rattle.cdb_store.specs.declared.make_fault.MakeFault.{MakeFault}
+use Rattle.cdb_store.specs.declared.make_fault.MakeFault.TheVariants as make
+use Rattle.cdb_form.specs.Fed.Feed.{Consumes, Feed}
+use Rattle.cdb_form.specs.Format.Record.{KeyValue}
+use Rattle.cdb_form.specs.Text.Amending.{Change}
+use Rattle.cdb_form.specs.declared.text.fault.TextFault.{TextFault}
+use Rattle.cdb_form.specs.declared.text.fault.TextFault.TheVariants as text
+use Rattle.cdb_form.specs.declared.width.Width.{Ghosts as Widths}
+use Rattle.cdb_form.proofs.Fed.FeedLemmas.{from_weaker, nothing_taken}
+use Rattle.cdb_feed.specs.Inputs.{AreRead, CutShort, HasFault, NoMore, NotBegun, Stop, StopsSo, TakesOne}
+use Rattle.cdb_feed.specs.declared.input_reader.InputReader.{InputReader}
+use Rattle.cdb_feed.specs.declared.input_reader.InputReader.TheVariants.{Own, Shared}
+use Rattle.cdb_make.specs.Views.Maker.{ComesFrom, FailsFinishing, Holds, IsFile, WhereHonest, limit_of}
+use Rattle.cdb_make.specs.declared.maker.Maker.{Maker}
+use Rattle.cdb_command.specs.declared.options.MakeOptions.{MakeOptions}
+use Rattle.cdb_command.specs.declared.style.Style.{Style}
+use Rattle.cdb_command.specs.declared.style.Style.TheVariants as style
+use Rattle.cdb_show.specs.Runs.Flushed.{Flushed}
+use Rattle.cdb_show.specs.Runs.Incoming.{came}
+use Rattle.cdb_show.specs.Runs.Inputs.{AreAllInputs, HasFaults, InputForm, InputsLeft, input_form}
+use Rattle.cdb_show.specs.Views.Fault.{make_fault}
+use Rattle.cdb_show.specs.declared.fault.Fault.{Fault}
+use Rattle.cdb_show.specs.declared.fault.Fault.TheVariants.{Output, Text}
+use Rattle.cdb_show.specs.declared.inputs.Inputs.{Inputs}
+use Rattle.cdb_show.specs.declared.inputs.Turn.{Turn}
+use Rattle.cdb_show.proofs.NativeInputs.{some_weaker}
+use Rattle.cdb_show.proofs.NextInputs.{first_begins}
+use Rattle.cdb_show.proofs.Writers.{not_ok}
+use Rattle.cdb_tool.specs.Runs.Course.{Task}
+use Rattle.cdb_tool.specs.Runs.FormParsing.{BeginsSo, parsing}
+use Rattle.cdb_tool.specs.Runs.InputsRead.{HasRead, IsFaultAt, RunsRead, StopsIn, WereRead, input_readers, shared_feed, stop_by}
+use Rattle.cdb_tool.specs.Runs.Make.{HoldsBase, InputsFail, IsHalt, MakeRuns, OfBase, PutsInputs, PutsInputsStop, Stands, StoppedAt, form_of}
+use Rattle.cdb_tool.specs.declared.runs.shared_window.SharedWindow.{SharedWindow}
+use Rattle.cdb_tool.specs.declared.runs.shared_window.SharedWindow.TheVariants.{Unread}
+use Rattle.cdb_tool.proofs.FedRuns.{read_as}
+use Rattle.cdb_tool.proofs.InputRuns.{form_is}
+use Rattle.cdb_tool.proofs.RunEnds.{runs_flushed, runs_stopped, runs_unfinished, runs_whole}
+
+-- ---- the inputs
+
+-- they were read, and written over those in a vector
+pub were_written : {J I : Type 0} (own : J → Feed) (shared : I → Feed) (form : InputForm) (g : ℕ) (answer : Result Unit Fault) (read : List (List Change)) (stop : Stop Change TextFault) (before : Inputs J I) (left : I) (now : List (Turn J)) (window : SharedWindow I)
+    → AreRead own (shared_feed shared) (parsing form g answer) read stop (input_readers before.turns.items) (input_readers now) (Unread before.shared) window → (lost : List ℕ) × Consumes (shared_feed shared window) (shared left) lost → length now ≡ before.turns.len
+    → WereRead own shared form g answer read stop before (record { turns = with_items before.turns now; shared = left })
+were_written own shared form g answer read stop before left now window are gone long = record {
+  window = window;
+  are = subst (λ xs. AreRead own (shared_feed shared) (parsing form g answer) read stop (input_readers before.turns.items) (input_readers xs) (Unread before.shared) window) (sym (with_items_is before.turns now long)) are;
+  lost = gone.0;
+  let_go = gone.1;
+}
+
+-- none was begun
+pub were_none : {J I : Type 0} (own : J → Feed) (shared : I → Feed) (form : InputForm) (g : ℕ) (answer : Result Unit Fault) (inputs : Inputs J I) → WereRead own shared form g answer [] NotBegun inputs inputs
+were_none own shared form g answer inputs = record { window = Unread inputs.shared; are = nothing_taken (shared inputs.shared); lost = []; let_go = nothing_taken (shared inputs.shared) }
+
+pub all_inputs : (form : InputForm) (g : ℕ) (answer : Result Unit Fault) (read : List (List Change)) (inputs : InputsLeft) → HasRead form g answer read NoMore inputs → AreAllInputs form g read inputs
+all_inputs form g answer read inputs h = record { rest = h.rest; are = h.are; none = h.stops }
+
+-- ---- a run with another answer, which is no fault of an input
+
+abbrev pub IsNone : Result Unit Fault → Type 0
+IsNone answer = (n : ℕ) (f : TextFault) → answer ≡ Err (Text n f) → ⊥
+
+module _ (form : InputForm) (g : ℕ) (was is : Result Unit Fault) (none : IsNone is) where
+  begins_as : (items : List Change) (text : List ℕ) → BeginsSo form g was items text → BeginsSo form g is items text
+  begins_as items text h = record { begins = h.begins; has = λ n f e. absurd (none n f e) }
+
+  takes_as : {R S : Type 0} (own : R → Feed) (shared : S → Feed) (items : List Change) (reader left : InputReader R) (old new : S) → TakesOne own shared (λ text rest. BeginsSo form g was items text) reader left old new → TakesOne own shared (λ text rest. BeginsSo form g is items text) reader left old new
+  takes_as own shared items (Own reader) (Own left) old new (f, kept) =
+      (from_weaker (own reader) (own left) (λ text left. (rest : List ℕ) × BeginsSo form g was items text) (λ text left. (rest : List ℕ) × BeginsSo form g is items text) f (λ text rest h. (h.0, begins_as items text h.1)), kept)
+  takes_as own shared items Shared Shared old new f =
+      from_weaker (shared old) (shared new) (λ text rest. BeginsSo form g was items text) (λ text rest. BeginsSo form g is items text) f (λ text rest h. begins_as items text h)
+  takes_as own shared items (Own reader) Shared old new takes = absurd takes
+  takes_as own shared items Shared (Own left) old new takes = absurd takes
+
+  stops_as : {R S : Type 0} (own : R → Feed) (shared : S → Feed) (stop : Stop Change TextFault) (before after : List (InputReader R)) (old new : S) → StopsSo own shared (parsing form g was) stop before after old new → StopsSo own shared (parsing form g is) stop before after old new
+  stops_as own shared NoMore before after old new stops = stops
+  stops_as own shared NotBegun before after old new stops = stops
+  stops_as own shared (HasFault items fault) (reader ∷ before) (left ∷ after) old new takes = takes
+  stops_as own shared (HasFault items fault) [] after old new takes = absurd takes
+  stops_as own shared (HasFault items fault) (reader ∷ before) [] old new takes = absurd takes
+  stops_as own shared (CutShort items) (reader ∷ before) (left ∷ after) old new takes = takes_as own shared items reader left old new takes
+  stops_as own shared (CutShort items) [] after old new takes = absurd takes
+  stops_as own shared (CutShort items) (reader ∷ before) [] old new takes = absurd takes
+
+  pub were_as : {J I : Type 0} (own : J → Feed) (shared : I → Feed) (read : List (List Change)) (stop : Stop Change TextFault) (before after : Inputs J I) → WereRead own shared form g was read stop before after → WereRead own shared form g is read stop before after
+  were_as own shared read stop before after were = record {
+    window = were.window;
+    are = read_as own (shared_feed shared) form g was is read stop (input_readers before.turns.items) (input_readers after.turns.items) (Unread before.shared) were.window (λ befores afters mid stops. stops_as own (shared_feed shared) stop befores afters mid were.window stops) were.are;
+    lost = were.lost;
+    let_go = were.let_go;
+  }
+
+  stops_in_as : (stop : Stop Change TextFault) (rest : InputsLeft) → StopsIn form g was stop rest → StopsIn form g is stop rest
+  stops_in_as NoMore rest h = h
+  stops_in_as NotBegun rest h = h
+  stops_in_as (HasFault items fault) rest h = h
+  stops_in_as (CutShort items) rest h = (h.0, h.1, some_weaker h.0 (λ input begins. begins_as items input begins) h.2)
+
+  pub has_as : (read : List (List Change)) (stop : Stop Change TextFault) (inputs : InputsLeft) → HasRead form g was read stop inputs → HasRead form g is read stop inputs
+  has_as read stop inputs h = record { rest = h.rest; are = h.are; stops = stops_in_as stop h.rest h.stops }
+
+-- ---- an input stopped it
+
+has_native : (s : Style) (amends : Bool) → HasFaults (input_form s amends) → s ≡ style.Native
+has_native style.Native amends h = refl
+has_native style.Map amends h = absurd h
+
+module _ {S L : Type 0} {s : Ghosts S} {l : Widths L} (g : ℕ) (t : Task) (read : List (List Change)) (last : List Change) (inputs : InputsLeft) (start now : Option (List ℕ)) (m : Maker S L s l) where
+  stops_each : (fault : Fault) → HasRead (form_of t) g (Err fault) read (stop_by fault last) inputs → ((n : ℕ) (f : TextFault) → fault ≡ Text n f → IsFaultAt (form_of t) (length read + 1) n f) → StoppedAt t (came read last) start now m fault
+      → (b : List ℕ) → s.image m.store b → InputsFail l.WORD g t inputs start now fault
+  stops_each (Text n (text.Syntax at)) h of_text stopped b is = record {
+    read = read;
+    last = last;
+    input = h.stops.0;
+    rest = h.rest;
+    are = h.are;
+    first = h.stops.1;
+    numbered = (of_text n (text.Syntax at) refl).numbered;
+    memory = (of_text n (text.Syntax at) refl).memory;
+    native = λ k. has_native t.options.style (is_some t.base) ((of_text n (text.Syntax at) refl).own k);
+    has = some_weaker h.stops.0 (λ input fails. fails.has) h.stops.2;
+    goes = stopped.stops.each b is;
+  }
+  stops_each (Text n (text.Ended at)) h of_text stopped b is = record {
+    read = read;
+    last = last;
+    input = h.stops.0;
+    rest = h.rest;
+    are = h.are;
+    first = h.stops.1;
+    numbered = (of_text n (text.Ended at) refl).numbered;
+    memory = (of_text n (text.Ended at) refl).memory;
+    native = λ k. has_native t.options.style (is_some t.base) ((of_text n (text.Ended at) refl).own k);
+    has = some_weaker h.stops.0 (λ input fails. fails.has) h.stops.2;
+    goes = stopped.stops.each b is;
+  }
+  stops_each (Text n (text.Large at)) h of_text stopped b is = record {
+    read = read;
+    last = last;
+    input = h.stops.0;
+    rest = h.rest;
+    are = h.are;
+    first = h.stops.1;
+    numbered = (of_text n (text.Large at) refl).numbered;
+    memory = (of_text n (text.Large at) refl).memory;
+    native = λ k. has_native t.options.style (is_some t.base) ((of_text n (text.Large at) refl).own k);
+    has = some_weaker h.stops.0 (λ input fails. fails.has) h.stops.2;
+    goes = stopped.stops.each b is;
+  }
+  stops_each (Text n f) h of_text stopped b is = record {
+    read = read;
+    last = last;
+    input = h.stops.0;
+    rest = h.rest;
+    are = h.are;
+    first = h.stops.1;
+    numbered = (of_text n f refl).numbered;
+    memory = (of_text n f refl).memory;
+    native = λ k. has_native t.options.style (is_some t.base) ((of_text n f refl).own k);
+    has = some_weaker h.stops.0 (λ input begins. begins.has n f refl) h.stops.2;
+    goes = stopped.stops.each b is;
+  }
+  stops_each fault h of_text stopped b is = record {
+    read = read;
+    last = last;
+    rest = h.rest;
+    are = h.are;
+    begins = first_begins (form_of t) g last h.rest h.stops.0 h.stops.1 (some_weaker h.stops.0 (λ input begins. begins.begins) h.stops.2);
+    stops = stopped.stops.each b is;
+  }
+
+  pub inputs_stop : (form : InputForm) (fault : Fault) → form_of t ≡ form → HasRead form g (Err fault) read (stop_by fault last) inputs → ((n : ℕ) (f : TextFault) → fault ≡ Text n f → IsFaultAt form (length read + 1) n f) → StoppedAt t (came read last) start now m fault
+      → WhereHonest (s.image m.store) (InputsFail l.WORD g t inputs start now fault)
+  inputs_stop form fault same h of_text stopped = record {
+    each = λ b is.
+        stops_each fault (subst (λ v. HasRead v g (Err fault) read (stop_by fault last) inputs) (sym same) h)
+        (λ n f e. subst (λ v. IsFaultAt v (length read + 1) n f) (sym same) (of_text n f e)) stopped b is;
+  }
+
+  pub inputs_stand : (form : InputForm) (fault : Fault) → HasRead form g (Err fault) read (stop_by fault last) inputs → StoppedAt t (came read last) start now m fault → IsHalt fault → Stands form g t inputs start now m
+  inputs_stand form (Text n f) h stopped halt = absurd halt
+  inputs_stand form fault h stopped halt = record {
+    read = read;
+    last = last;
+    rest = h.rest;
+    are = h.are;
+    begins = first_begins form g last h.rest h.stops.0 h.stops.1 (some_weaker h.stops.0 (λ input begins. begins.begins) h.stops.2);
+    stands = stopped.stands halt;
+  }
+
+-- ---- the run
+
+none_ok : IsNone (Ok tt)
+none_ok n f e = cc
+
+none_output : IsNone (Err Output)
+none_output n f e = cc
+
+none_made : (f : MakeFault) → IsNone (Err (make_fault f))
+none_made make.NoMemory n f e = cc
+none_made made n f e = cc
+
+-- it read nothing
+pub read_none : {B J I : Type 0} (t : Ghosts B) (was base : Option B) (own : J → Feed) (shared : I → Feed) (w g : ℕ) (o : MakeOptions) (inputs : Inputs J I) (images : List ℕ → Type 0) (old new : Option (List ℕ)) (result : Result Unit Fault)
+    → ((given : InputsLeft) → WhereHonest images (OfBase t base (λ b. MakeRuns w g o b given images old new result))) → RunsRead w g o own shared t was base inputs inputs images old new result
+read_none t was base own shared w g o inputs images old new result runs = record {
+  read = [];
+  stop = NotBegun;
+  were = were_none own shared (input_form o.style (is_some was)) g result inputs;
+  runs = λ given h. runs given;
+}
+
+module _ {S L B J I : Type 0} {s : Ghosts S} {l : Widths L} (t : Ghosts B) (was base : Option B) (own : J → Feed) (shared : I → Feed) (g : ℕ) (o : MakeOptions) (amends : Bool) (before after : Inputs J I) (start now : Option (List ℕ)) (begun m : Maker S L s l) (of_was : amends ≡ is_some was) (of_base : is_some base ≡ amends)
+    (wide : (l.WORD ≡ 4) ⊎ (l.WORD ≡ 8)) (holds : HoldsBase l.WORD t base begun) (limit : limit_of begun ≡ o.limit) (comes : ComesFrom (s.image begun.store) (s.image m.store)) (read : List (List Change)) where
+  of_form : (answer : Result Unit Fault) (stop : Stop Change TextFault) → WereRead own shared (input_form o.style amends) g answer read stop before after → WereRead own shared (input_form o.style (is_some was)) g answer read stop before after
+  of_form answer stop were = subst (λ v. WereRead own shared (input_form o.style v) g answer read stop before after) of_was were
+
+  given_form : (answer : Result Unit Fault) (stop : Stop Change TextFault) (given : InputsLeft) → HasRead (input_form o.style (is_some was)) g answer read stop given → HasRead (input_form o.style amends) g answer read stop given
+  given_form answer stop given h = subst (λ v. HasRead (input_form o.style v) g answer read stop given) (sym of_was) h
+
+  all_given : (answer : Result Unit Fault) (given : InputsLeft) → HasRead (input_form o.style (is_some was)) g answer read NoMore given → AreAllInputs (input_form o.style (is_some base)) g read given
+  all_given answer given h = subst (λ v. AreAllInputs (input_form o.style v) g read given) (sym (of_base ∙ of_was)) (all_inputs (input_form o.style (is_some was)) g answer read given h)
+
+  pub read_stopped : (last : List Change) (f : Fault) → WereRead own shared (input_form o.style amends) g (Err f) read (stop_by f last) before after → ((n : ℕ) (x : TextFault) → f ≡ Text n x → IsFaultAt (input_form o.style amends) (length read + 1) n x)
+      → PutsInputsStop o read last start now begun m f → RunsRead l.WORD g o own shared t was base before after (s.image m.store) start now (Err f)
+  read_stopped last f were of_text stops = record {
+    read = read;
+    stop = stop_by f last;
+    were = of_form (Err f) (stop_by f last) were;
+    runs = λ given h.
+        runs_stopped {s = s} {l = l} t base g o amends given start now begun (s.image m.store) f wide holds limit of_base comes
+        (λ k same based begins. inputs_stop {s = s} {l = l} g k read last given start now m (input_form o.style amends) f (form_is k o amends same based) (given_form (Err f) (stop_by f last) given h) of_text (stops k start same begins));
+  }
+
+  pub read_whole : (images : List ℕ → Type 0) → WereRead own shared (input_form o.style amends) g (Ok tt) read NoMore before after → PutsInputs o read start now begun m → ComesFrom (s.image m.store) images → ((rs : List KeyValue) → Holds m rs → IsFile l.WORD rs images)
+      → RunsRead l.WORD g o own shared t was base before after images start now (Ok tt)
+  read_whole images were puts finished file = record {
+    read = read;
+    stop = NoMore;
+    were = of_form (Ok tt) NoMore were;
+    runs = λ given h. runs_whole {s = s} {l = l} t base g o given read start now begun m images wide holds limit (all_given (Ok tt) given h) (λ k same begins. puts k start same begins) comes finished file;
+  }
+
+  pub read_unfinished : (new : Maker S L s l) (f : MakeFault) → WereRead own shared (input_form o.style amends) g (Ok tt) read NoMore before after → PutsInputs o read start now begun m → ComesFrom (s.image m.store) (s.image new.store) → FailsFinishing m new f
+      → RunsRead l.WORD g o own shared t was base before after (s.image new.store) start now (Err (make_fault f))
+  read_unfinished new f were puts finished fails = record {
+    read = read;
+    stop = NoMore;
+    were = of_form (Err (make_fault f)) NoMore (were_as (input_form o.style amends) g (Ok tt) (Err (make_fault f)) (none_made f) own shared read NoMore before after were);
+    runs = λ given h. runs_unfinished {s = s} {l = l} t base g o given read start now begun m new f wide holds limit (all_given (Err (make_fault f)) given h) (λ k same begins. puts k start same begins) comes finished fails;
+  }
+
+-- ---- the flush
+
+flush_err : {B J I : Type 0} (t : Ghosts B) (was base : Option B) (own : J → Feed) (shared : I → Feed) (w g : ℕ) (o : MakeOptions) (before after : Inputs J I) (images : List ℕ → Type 0) (old mid new : Option (List ℕ)) (answer : Result Unit Fault) → IsOk answer → Flushed mid new answer (Err Output)
+    → RunsRead w g o own shared t was base before after images old mid answer → RunsRead w g o own shared t was base before after images old new (Err Output)
+flush_err t was base own shared w g o before after images old mid new (Ok u) ok f h = record {
+  read = h.read;
+  stop = h.stop;
+  were = were_as (input_form o.style (is_some was)) g (Ok u) (Err Output) none_output own shared h.read h.stop before after h.were;
+  runs = λ given has. runs_flushed t base w g o given images old mid new (Ok u) (Err Output) (h.runs given (has_as (input_form o.style (is_some was)) g (Err Output) (Ok u) none_ok h.read h.stop given has)) f;
+}
+flush_err t was base own shared w g o before after images old mid new (Err e) ok f h = absurd (not_ok ok)
+
+pub read_flushed : {B J I : Type 0} (t : Ghosts B) (was base : Option B) (own : J → Feed) (shared : I → Feed) (w g : ℕ) (o : MakeOptions) (before after : Inputs J I) (images : List ℕ → Type 0) (old mid new : Option (List ℕ)) (answer result : Result Unit Fault) → RunsRead w g o own shared t was base before after images old mid answer
+    → Flushed mid new answer result → RunsRead w g o own shared t was base before after images old new result
+read_flushed t was base own shared w g o before after images old mid new answer result h f = elim f.answered as (λ _. RunsRead w g o own shared t was base before after images old new result) [
+  | inl e ↦
+      subst (RunsRead w g o own shared t was base before after images old new) (sym e)
+      (record { read = h.read; stop = h.stop; were = h.were; runs = λ given has. runs_flushed t base w g o given images old mid new answer answer (h.runs given has) (subst (Flushed mid new answer) e f) })
+  | inr e ↦ subst (RunsRead w g o own shared t was base before after images old new) (sym e.1) (flush_err t was base own shared w g o before after images old mid new answer e.0 (subst (Flushed mid new answer) e.1 f) h)
+]

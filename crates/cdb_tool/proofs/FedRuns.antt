@@ -1,0 +1,171 @@
+-- Inputs that a run read, one after the other, whatever bytes agree with them.
+use Rattle.std.proofs.Common.{◌≡◌, ℕ, ◌+◌, ◌*◌, ◌<◌, ◌≤◌, Fits, w64, Option, List, [], ◌∷◌, ◌++◌, length, take, drop, refl, sym, ap, subst, ◌∙◌, arith, slice_set, slice_index_or, length-append, append-nil, Result, Ok, Err}
+use Rattle.std.proofs.lemmas.List.{drop-set, take-set, drop_more, drop-set-lt, map-set, length-map}
+use Rattle.std.proofs.Math.Nat.{mul-le-mul_right}
+use Rattle.std.proofs.Math.ListN.{length-set, get_or-map}
+use Rattle.std.proofs.Math.Seq.{drop-length}
+use Rattle.cdb_form.specs.Fed.Feed.{Feed}
+use Rattle.cdb_form.specs.Text.Amending.{Change}
+use Rattle.cdb_form.specs.declared.text.fault.TextFault.{TextFault}
+use Rattle.cdb_form.proofs.Fed.FeedLemmas.{nothing_taken}
+use Rattle.cdb_feed.specs.Inputs.{AreRead, NotBegun, NoMore, Stop, StopsSo, HasFault, CutShort, TakesOne}
+use Rattle.cdb_feed.specs.Parsing.{Parsing}
+use Rattle.cdb_feed.specs.declared.input_reader.InputReader.{InputReader}
+use Rattle.cdb_feed.proofs.InputsInTurn.{read_then}
+use Rattle.cdb_store.specs.declared.store.Store.{Ghosts}
+use Rattle.cdb_form.specs.declared.width.Width.{Ghosts as Widths}
+use Rattle.cdb_make.specs.declared.maker.Maker.{Maker}
+use Rattle.cdb_command.specs.declared.options.MakeOptions.{MakeOptions}
+use Rattle.cdb_show.specs.Runs.Inputs.{InputForm, IsInputOf}
+use Rattle.cdb_show.specs.declared.fault.Fault.{Fault}
+use Rattle.cdb_show.specs.declared.fault.Fault.TheVariants.{Text}
+use Rattle.cdb_show.specs.declared.inputs.Turn.{Turn}
+use Rattle.cdb_tool.specs.Runs.FormParsing.{parsing}
+use Rattle.cdb_tool.specs.Runs.InputsRead.{IsFaultAt, StopsInput, input_reader, input_readers, stop_by}
+use Rattle.cdb_tool.specs.Runs.Make.{PutsInputs, PutsInputsStop, PutsStop}
+
+-- the offset of an element of a slice
+pub offset_fits : (i n m s : ℕ) → i < n → n ≡ m → m * s < 9223372036854775808 → Fits w64 (i * s)
+offset_fits i n m s within same few =
+    let most : i * s ≤ m * s = mul-le-mul_right s (omega (arith, within, same)) in
+    record { fits = omega (arith, most, few) }
+
+-- ---- the readers of inputs, one after the other
+
+module _ {R S Item F : Type 0} (own : R → Feed) (shared : S → Feed) (p : Parsing Item F) where
+  -- the first i inputs were read, and the others not reached
+  pub record SoFar (read : List (List Item)) (before now : List (InputReader R)) (old mid : S) (i : ℕ) : Type 0 where
+    pub are : AreRead own shared p read NotBegun before now old mid
+    pub count : length read ≡ i
+    pub within : i ≤ length now
+    pub same : drop i now ≡ drop i before
+    pub long : length now ≡ length before
+
+  pub so_far_none : (before : List (InputReader R)) (old : S) → SoFar [] before before old old 0
+  so_far_none before old = record { are = nothing_taken (shared old); count = refl; within = omega arith; same = refl; long = refl }
+
+  -- what follows
+  rest_of : (before now : List (InputReader R)) (it left : InputReader R) (i : ℕ) → i < length now → length now ≡ length before → drop i now ≡ drop i before → it ≡ slice_index_or now i it → drop i before ≡ it ∷ drop (i + 1) before
+  rest_of before now it left i within long same e =
+      let b = drop_more before i it (omega arith) in
+      let n = drop_more now i it within in
+      let h : slice_index_or now i it ∷ drop (i + 1) now ≡ slice_index_or before i it ∷ drop (i + 1) before = sym n ∙ same ∙ b in
+      let x : slice_index_or before i it ≡ it = cc in
+      b ∙ ap (λ y. y ∷ drop (i + 1) before) x
+
+  pub read_on : (before now : List (InputReader R)) (it left : InputReader R) (old mid new : S) (i : ℕ) (read more : List (List Item)) (stop : Stop Item F) (s : SoFar read before now old mid i) → i < length now → it ≡ slice_index_or now i it
+      → AreRead own shared p more stop (it ∷ drop (i + 1) before) (left ∷ drop (i + 1) now) mid new → AreRead own shared p (read ++ more) stop before (slice_set now i left) old new
+  read_on before now it left old mid new i read more stop s within e are =
+      let b = rest_of before now it left i within s.long s.same e in
+      let a = drop-set now i left within in
+      let step = subst (λ xs. AreRead own shared p more stop xs (drop i (slice_set now i left)) mid new) (sym b) (subst (λ ys. AreRead own shared p more stop (it ∷ drop (i + 1) before) ys mid new) (sym a) are) in
+      read_then own shared p read more stop before now (slice_set now i left) old mid new s.are
+      (subst (λ n. take n now ≡ take n (slice_set now i left)) (sym s.count) (sym (take-set now i left)))
+      (subst (λ n. AreRead own shared p more stop (drop n before) (drop n (slice_set now i left)) mid new) (sym s.count) step)
+
+  pub one_more : (before now : List (InputReader R)) (it left : InputReader R) (old mid new : S) (i : ℕ) (read : List (List Item)) (items : List Item) → SoFar read before now old mid i → i < length now → it ≡ slice_index_or now i it
+      → TakesOne own shared (p.reads items) it left mid new → SoFar (read ++ items ∷ []) before (slice_set now i left) old new (i + 1)
+  one_more before now it left old mid new i read items s within e takes = record {
+    are = read_on before now it left old mid new i read (items ∷ []) NotBegun s within e (new, takes, nothing_taken (shared new));
+    count = omega (arith, length-append read (items ∷ []), s.count);
+    within = omega (arith, within, length-set now i left);
+    same = drop-set-lt (i + 1) now i left (omega arith) ∙ after_same;
+    long = length-set now i left ∙ s.long;
+  } where
+    after_same : drop (i + 1) now ≡ drop (i + 1) before
+    after_same =
+        let b = rest_of before now it left i within s.long s.same e in
+        let n = drop_more now i it within in
+        let h : slice_index_or now i it ∷ drop (i + 1) now ≡ it ∷ drop (i + 1) before = sym n ∙ s.same ∙ b in
+        cc
+
+  -- a stop looks at the first input that is left
+  first_stops : (stop : Stop Item F) (it left : InputReader R) (others left_others : List (InputReader R)) (mid new : S) → StopsSo own shared p stop (it ∷ []) (left ∷ []) mid new → StopsSo own shared p stop (it ∷ others) (left ∷ left_others) mid new
+  first_stops NoMore it left others left_others mid new (none, kept) = absurd (let k : ◌≡◌ {A = List (InputReader R)} (it ∷ []) [] = none in cc)
+  first_stops NotBegun it left others left_others mid new kept = kept
+  first_stops (HasFault items fault) it left others left_others mid new takes = takes
+  first_stops (CutShort items) it left others left_others mid new takes = takes
+
+  pub one_stops : (before now : List (InputReader R)) (it left : InputReader R) (old mid new : S) (i : ℕ) (read : List (List Item)) (stop : Stop Item F) → SoFar read before now old mid i → i < length now → it ≡ slice_index_or now i it
+      → StopsSo own shared p stop (it ∷ []) (left ∷ []) mid new → AreRead own shared p read stop before (slice_set now i left) old new
+  one_stops before now it left old mid new i read stop s within e stops =
+      subst (λ r. AreRead own shared p r stop before (slice_set now i left) old new) (append-nil read)
+      (read_on before now it left old mid new i read [] stop s within e (first_stops stop it left (drop (i + 1) before) (drop (i + 1) now) mid new stops))
+
+  pub all_read : (before now : List (InputReader R)) (old mid : S) (i : ℕ) (read : List (List Item)) → SoFar read before now old mid i → length now ≤ i → AreRead own shared p read NoMore before now old mid
+  all_read before now old mid i read s end =
+      let at : length read ≡ length before = omega (arith, s.count, s.within, s.long) in
+      let none : drop (length read) before ≡ [] = subst (λ n. drop n before ≡ []) (sym at) (drop-length before) in
+      subst (λ r. AreRead own shared p r NoMore before now old mid) (append-nil read) (read_then own shared p read [] NoMore before now now old mid mid s.are refl (none, nothing_taken (shared mid)))
+
+-- ---- the same in a run with another answer, which says nothing of the inputs that were read whole
+
+module _ {R S : Type 0} (own : R → Feed) (shared : S → Feed) (form : InputForm) (g : ℕ) (was is : Result Unit Fault) where
+  pub read_as : (read : List (List Change)) (stop : Stop Change TextFault) (before after : List (InputReader R)) (old new : S)
+      → ((befores afters : List (InputReader R)) (mid : S) → StopsSo own shared (parsing form g was) stop befores afters mid new → StopsSo own shared (parsing form g is) stop befores afters mid new)
+      → AreRead own shared (parsing form g was) read stop before after old new → AreRead own shared (parsing form g is) read stop before after old new
+  read_as [] stop before after old new same stops = same before after old stops
+  read_as (items ∷ read) stop (reader ∷ before) (left ∷ after) old new same (mid, takes, more) = (mid, takes, read_as read stop before after mid new same more)
+  read_as (items ∷ read) stop [] after old new same are = absurd are
+  read_as (items ∷ read) stop (reader ∷ before) [] old new same are = absurd are
+
+  pub first_read_as : (read : List (List Change)) (before after : List (InputReader R)) (old new : S) → AreRead own shared (parsing form g was) read NotBegun before after old new → AreRead own shared (parsing form g is) read NotBegun before after old new
+  first_read_as read before after old new are = read_as read NotBegun before after old new (λ befores afters mid stops. stops) are
+
+  pub all_read_as : (read : List (List Change)) (before after : List (InputReader R)) (old new : S) → AreRead own shared (parsing form g was) read NoMore before after old new → AreRead own shared (parsing form g is) read NoMore before after old new
+  all_read_as read before after old new are = read_as read NoMore before after old new (λ befores afters mid stops. stops) are
+
+-- ---- inputs by their readers
+
+pub all_turns : {J S : Type 0} (own : J → Feed) (shared : S → Feed) (form : InputForm) (g : ℕ) (answer : Result Unit Fault) (before now : List (Turn J)) (old mid : S) (i : ℕ) (read : List (List Change)) → SoFar own shared (parsing form g answer) read (input_readers before) (input_readers now) old mid i → length now ≤ i
+    → AreRead own shared (parsing form g answer) read NoMore (input_readers before) (input_readers now) old mid
+all_turns own shared form g answer before now old mid i read s end =
+    let n = length-map now input_reader in
+    all_read own shared (parsing form g answer) (input_readers before) (input_readers now) old mid i read s (omega (arith, end, n))
+
+module _ {J S : Type 0} (own : J → Feed) (shared : S → Feed) (form : InputForm) (g : ℕ) (before now : List (Turn J)) (it left : Turn J) (old mid new : S) (i : ℕ) (read : List (List Change)) (within : i < length now) (e : it ≡ slice_index_or now i it) where
+  is_within : i < length (input_readers now)
+  is_within = let n = length-map now input_reader in omega (arith, within, n)
+
+  is_reader : input_reader it ≡ slice_index_or (input_readers now) i (input_reader it)
+  is_reader = ap input_reader e ∙ sym (get_or-map input_reader now i it)
+
+  with_left : (P : List (InputReader J) → Type 0) → P (slice_set (input_readers now) i (input_reader left)) → P (input_readers (slice_set now i left))
+  with_left P h = subst P (sym (map-set input_reader now i left)) h
+
+  pub turn_more : (items : List Change) → SoFar own shared (parsing form g (Ok tt)) read (input_readers before) (input_readers now) old mid i → TakesOne own shared (IsInputOf form g items) (input_reader (slice_index_or now i it)) (input_reader left) mid new
+      → SoFar own shared (parsing form g (Ok tt)) (read ++ items ∷ []) (input_readers before) (input_readers (slice_set now i left)) old new (i + 1)
+  turn_more items s takes =
+      with_left (λ xs. SoFar own shared (parsing form g (Ok tt)) (read ++ items ∷ []) (input_readers before) xs old new (i + 1))
+      (one_more own shared (parsing form g (Ok tt)) (input_readers before) (input_readers now) (input_reader it) (input_reader left) old mid new i read items s is_within is_reader
+      (subst (λ t. TakesOne own shared (IsInputOf form g items) (input_reader t) (input_reader left) mid new) (sym e) takes))
+
+  pub turn_stops : (fault : Fault) (stop : Stop Change TextFault) → SoFar own shared (parsing form g (Ok tt)) read (input_readers before) (input_readers now) old mid i → StopsSo own shared (parsing form g (Err fault)) stop (input_reader it ∷ []) (input_reader left ∷ []) mid new
+      → AreRead own shared (parsing form g (Err fault)) read stop (input_readers before) (input_readers (slice_set now i left)) old new
+  turn_stops fault stop s stops =
+      with_left (λ xs. AreRead own shared (parsing form g (Err fault)) read stop (input_readers before) xs old new)
+      (one_stops own shared (parsing form g (Err fault)) (input_readers before) (input_readers now) (input_reader it) (input_reader left) old mid new i read stop
+      (record { are = first_read_as own shared form g (Ok tt) (Err fault) read (input_readers before) (input_readers now) old mid s.are; count = s.count; within = s.within; same = s.same; long = s.long }) is_within is_reader stops)
+
+-- the run stopped in an input
+abbrev pub StopsHere : {J R S L : Type 0} {s : Ghosts S} {l : Widths L} → (own : J → Feed) → (shared : R → Feed) → InputForm → (g : ℕ) → (before after : List (Turn J)) → (old new : R) → MakeOptions → (was now : Option (List ℕ)) → Maker S L s l → Maker S L s l → Fault → Type 0
+StopsHere own shared form g before after old new o was now m done fault = (read : List (List Change)) × (last : List Change)
+    × AreRead own shared (parsing form g (Err fault)) read (stop_by fault last) (input_readers before) (input_readers after) old new
+    × ((n : ℕ) (f : TextFault) → fault ≡ Text n f → IsFaultAt form (length read + 1) n f)
+    × PutsInputsStop o read last was now m done fault
+
+abbrev pub StopsThere : {J R S L : Type 0} {s : Ghosts S} {l : Widths L} → (own : J → Feed) → (shared : R → Feed) → InputForm → (g number : ℕ) → (before after : Turn J) → (old new : R) → MakeOptions → (was now : Option (List ℕ)) → Maker S L s l → Maker S L s l → Fault → Type 0
+StopsThere own shared form g number before after old new o was now m done fault = (last : List Change)
+    × StopsInput own shared form g number last fault (input_reader before) (input_reader after) old new
+    × PutsStop o number last was now m done fault
+
+pub stopped_here : {J R S L : Type 0} {s : Ghosts S} {l : Widths L} (own : J → Feed) (shared : R → Feed) (form : InputForm) (g : ℕ) (before now : List (Turn J)) (it left : Turn J) (old mid new : R) (i : ℕ) (read : List (List Change)) (o : MakeOptions) (was were are : Option (List ℕ)) (begun m done : Maker S L s l) (fault : Fault)
+    → SoFar own shared (parsing form g (Ok tt)) read (input_readers before) (input_readers now) old mid i → i < length now → it ≡ slice_index_or now i it → PutsInputs o read was were begun m
+    → StopsThere own shared form g (i + 1) (slice_index_or now i it) left mid new o were are m done fault → StopsHere own shared form g before (slice_set now i left) old new o was are begun done fault
+stopped_here own shared form g before now it left old mid new i read o was were are begun m done fault far within e course (last, stops, put) = (
+  read,
+  last,
+  turn_stops own shared form g before now it left old mid new i read within e fault (stop_by fault last) far (subst (λ t. StopsInput own shared form g (i + 1) last fault (input_reader t) (input_reader left) mid new) (sym e) stops).stops,
+  λ n f is. subst (λ k. IsFaultAt form (k + 1) n f) (sym far.count) (stops.of_text n f is),
+  λ t start same h. put t read start same (ap (λ (k : ℕ). k + 1) (sym far.count)) (course t start same h),
+)

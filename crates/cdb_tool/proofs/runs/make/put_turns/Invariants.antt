@@ -1,0 +1,23 @@
+use Rattle.std.proofs.Common.{◌≡◌, ◌-◌, List, Ok, length}
+use Rattle.cdb_form.specs.Text.Amending.{Change}
+use Rattle.cdb_make.specs.Views.Maker.{Follows}
+use Rattle.cdb_show.specs.Runs.Inputs.{input_form}
+use Rattle.cdb_tool.specs.Runs.FormParsing.{parsing}
+use Rattle.cdb_tool.specs.Runs.InputsRead.{input_readers, shared_feed}
+use Rattle.cdb_tool.specs.Runs.Make.{PutsInputs}
+use Rattle.cdb_tool.proofs.FedRuns.{SoFar}
+use Rattle.cdb_tool.proofs.runs.make.put_turns.Given as goal
+
+-- the inputs so far were done, and the others not reached
+abbrev pub invariant-loop-i : goal.invariant-loop-i
+invariant-loop-i g l =
+    record {
+      read : List (List Change);
+      far : SoFar g.J.Feeds.feed (shared_feed g.I.Feeds.feed) (parsing (input_form l.fn.options.style l.fn.amends) g.L.Width.GREATEST (Ok tt)) read (input_readers l.fn.turns) (input_readers l.turns) l.fn.shared l.shared l.i;
+      course : PutsInputs {s = g.S.Store} {l = g.L.Width} l.fn.options read (g.E.Sink.contents l.fn.errors) (g.E.Sink.contents l.errors) l.fn.maker l.maker;
+      follows : Follows {s = g.S.Store} {l = g.L.Width} l.fn.maker l.maker;
+      fine : g.S.Store.failures l.maker.store ≡ g.S.Store.failures l.fn.maker.store;
+    }
+
+abbrev pub decreases-loop-i : goal.decreases-loop-i
+decreases-loop-i g l = length l.initial.turns - l.i

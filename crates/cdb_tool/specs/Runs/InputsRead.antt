@@ -1,0 +1,103 @@
+-- What a run read of its inputs, and which inputs agree with it.
+use Rattle.std.specs.Prelude.{ℕ, ◌≡◌, ◌≢◌, ⊤, List, [], ◌∷◌, Option, Result, Err, IfSome, is_some, map}
+use Rattle.cdb_store.specs.declared.store.Store.{Ghosts}
+use Rattle.cdb_form.specs.Fed.Feed.{Consumes, Feed}
+use Rattle.cdb_form.specs.Text.Amending.{Change}
+use Rattle.cdb_form.specs.Views.TextFault.{IsOfText}
+use Rattle.cdb_form.specs.declared.text.fault.TextFault.{TextFault}
+use Rattle.cdb_form.specs.declared.text.fault.TextFault.TheVariants as text_fault
+use Rattle.cdb_feed.specs.Inputs.{AreRead, Stop, StopsSo, NoMore, HasFault, CutShort, NotBegun}
+use Rattle.cdb_feed.specs.declared.input_reader.InputReader.{InputReader}
+use Rattle.cdb_feed.specs.declared.input_reader.InputReader.TheVariants as reader
+use Rattle.cdb_make.specs.Views.Maker.{WhereHonest}
+use Rattle.cdb_command.specs.declared.options.MakeOptions.{MakeOptions}
+use Rattle.cdb_show.specs.Runs.Inputs.{InputForm, InputsLeft, AreInputs, FirstHas, HasFaults, input_form}
+use Rattle.cdb_show.specs.Views.Window.{feed_of}
+use Rattle.cdb_show.specs.declared.fault.Fault.{Fault}
+use Rattle.cdb_show.specs.declared.fault.Fault.TheVariants.{Text}
+use Rattle.cdb_show.specs.declared.inputs.Inputs.{Inputs}
+use Rattle.cdb_show.specs.declared.inputs.Turn.{Turn}
+use Rattle.cdb_show.specs.declared.inputs.Turn.TheVariants as turn
+use Rattle.cdb_tool.specs.Runs.FormParsing.{BeginsSo, FailsSo, parsing}
+use Rattle.cdb_tool.specs.Runs.Make.{MakeRuns, OfBase}
+use Rattle.cdb_tool.specs.declared.runs.shared_window.SharedWindow.{SharedWindow}
+use Rattle.cdb_tool.specs.declared.runs.shared_window.SharedWindow.TheVariants.{InHand, Unread}
+
+-- ---- the readers
+
+-- what is known of the reader that inputs share
+abbrev pub shared_feed : {I : Type 0} → (I → Feed) → SharedWindow I → Feed
+shared_feed feed (Unread reader) = feed reader
+shared_feed feed (InHand window) = feed_of feed window
+
+-- the reader of an input
+abbrev pub input_reader : {J : Type 0} → Turn J → InputReader J
+input_reader (turn.Own own) = reader.Own own
+input_reader turn.Shared = reader.Shared
+
+abbrev pub input_readers : {J : Type 0} → List (Turn J) → List (InputReader J)
+input_readers turns = map input_reader turns
+
+-- why no more was read in a run with this fault, behind these items of an input: it has a fault, or the run
+-- stopped there
+abbrev pub stop_by : Fault → List Change → Stop Change TextFault
+stop_by (Text number (text_fault.Syntax at)) last = HasFault last (text_fault.Syntax at)
+stop_by (Text number (text_fault.Ended at)) last = HasFault last (text_fault.Ended at)
+stop_by (Text number (text_fault.Large at)) last = HasFault last (text_fault.Large at)
+stop_by fault last = CutShort last
+
+-- a fault of a text is one of the input with this number: no allocation, and a map text has none of its own
+pub record IsFaultAt (form : InputForm) (input number : ℕ) (fault : TextFault) : Type 0 where
+  pub numbered : number ≡ input
+  pub own : IsOfText fault → HasFaults form
+  pub memory : fault ≢ text_fault.NoMemory
+
+-- a run stopped with this fault in the input with this number, of which it had come to these items
+pub record StopsInput {R S : Type 0} (own : R → Feed) (shared : S → Feed) (form : InputForm)
+    (greatest number : ℕ) (last : List Change) (fault : Fault) (before after : InputReader R) (old new : S)
+    : Type 0 where
+  pub stops : StopsSo own shared (parsing form greatest (Err fault)) (stop_by fault last) (before ∷ [])
+      (after ∷ []) old new
+  pub of_text : (n : ℕ) (f : TextFault) → fault ≡ Text n f → IsFaultAt form number n f
+
+-- The inputs of a run with this answer were read in turn, the first ones whole, with these items. What the
+-- window over the shared reader held was lost when the reader was handed back.
+pub record WereRead {J I : Type 0} (own : J → Feed) (shared : I → Feed) (form : InputForm) (greatest : ℕ)
+    (answer : Result Unit Fault) (read : List (List Change)) (stop : Stop Change TextFault)
+    (before after : Inputs J I) : Type 0 where
+  pub window : SharedWindow I
+  pub are : AreRead own (shared_feed shared) (parsing form greatest answer) read stop
+      (input_readers before.turns.items) (input_readers after.turns.items) (Unread before.shared) window
+  pub lost : List ℕ
+  pub let_go : Consumes (shared_feed shared window) (shared after.shared) lost
+
+-- ---- the bytes
+
+-- in the inputs that are left a run stopped so: there are none; the first one has this fault behind these items,
+-- or begins with these; or it was not begun
+abbrev pub StopsIn : InputForm → ℕ → Result Unit Fault → Stop Change TextFault → InputsLeft → Type 0
+StopsIn form greatest answer NoMore rest = rest.each ≡ []
+StopsIn form greatest answer (HasFault last fault) rest =
+    (input : Option (List ℕ)) × FirstHas rest input × IfSome input (FailsSo form greatest last fault)
+StopsIn form greatest answer (CutShort last) rest =
+    (input : Option (List ℕ)) × FirstHas rest input × IfSome input (BeginsSo form greatest answer last)
+StopsIn form greatest answer NotBegun rest = ⊤
+
+-- inputs with these bytes agree with what a run with this answer read
+pub record HasRead (form : InputForm) (greatest : ℕ) (answer : Result Unit Fault) (read : List (List Change))
+    (stop : Stop Change TextFault) (inputs : InputsLeft) : Type 0 where
+  pub rest : InputsLeft
+  pub are : AreInputs form greatest read inputs rest
+  pub stops : StopsIn form greatest answer stop rest
+
+-- What a run leaves that read its inputs, by its base as it was and as it was handed back: what `MakeRuns` says of
+-- any inputs that agree with what was read.
+pub record RunsRead {B J I : Type 0} (w greatest : ℕ) (o : MakeOptions) (own : J → Feed) (shared : I → Feed)
+    (s : Ghosts B) (was base : Option B) (before after : Inputs J I) (images : List ℕ → Type 0)
+    (old new : Option (List ℕ)) (result : Result Unit Fault) : Type 0 where
+  pub read : List (List Change)
+  pub stop : Stop Change TextFault
+  pub were : WereRead own shared (input_form o.style (is_some was)) greatest result read stop before after
+  pub runs : (inputs : InputsLeft)
+      → HasRead (input_form o.style (is_some was)) greatest result read stop inputs
+      → WhereHonest images (OfBase s base (λ b. MakeRuns w greatest o b inputs images old new result))
