@@ -109,7 +109,7 @@ stats_are = refl
 
 -- ---- what is taken as given
 
--- a reader that notes what it gave, over one that tells nothing
+-- a reader that tells nothing before it is read, and notes what it gave
 abbrev Reader : Type 0
 Reader = NotedReader Unit
 
@@ -125,7 +125,7 @@ of_disk = record {
 abbrev files : Files MemStore Reader MemStore OpenCalls
 files = files_of in_memory in_memory noted_feed of_disk
 
--- standard input, of which nothing was taken
+-- standard input is read by such a reader too
 abbrev standard : Standard Reader
 standard = standard_of noted_feed (fresh tt)
 
@@ -206,7 +206,7 @@ stats_are_honest = record {
 -- ---- what is known then
 
 module _ {R O E : Type 0} (r : Raw R) (t : Taking O E) (was now : NameCalls) (output_old output_new : Writer O) (errors_old errors_new : Writer E) (status : ℕ) where
-  -- these words were run, all that was written was taken, and nothing had been taken of standard input
+  -- these words were run, all that was written was taken, and standard input told nothing
   abbrev Ran : (words : List (List ℕ)) → OpenCalls → Back → Type 0
   Ran words calls left =
       IsTaken output_old output_new errors_new
