@@ -22,18 +22,15 @@ use Rattle.cdb_show.specs.declared.fault.Fault.{Fault}
 use Rattle.cdb_show.specs.declared.fault.Fault.TheVariants.{Open}
 use Rattle.cdb_tool.specs.Runs.Made.{Made, made_file, made_lines, made_of}
 use Rattle.cdb.specs.Created.{Created, base_of, create_of, in_temporary, is_in_place, is_no_name, in_place, is_read, placed, unopened}
-use Rattle.cdb.specs.Creating.{IsBufferedRun, AsksAll, Making, OpensAll, Replaces, answer_of}
+use Rattle.cdb.specs.Creating.{IsBufferedRun, AsksAll, Making, Replaces, answer_of}
 use Rattle.cdb_system.specs.Places.{temporary_of}
-use Rattle.cdb.specs.ForetoldCreate.{HadBytes, HoldsAll, HonestCreate, IsNoFailedRemoval, IsNoFailedRename, KeepsAll, LeavesAll, passing, place_of}
+use Rattle.cdb.specs.ForetoldCreate.{HadBytes, HoldsAll, IsNoFailedRemoval, IsNoFailedRename, KeepsAll, LeavesAll, passing, place_of}
 use Rattle.cdb_system.specs.Opening.{OpenCalls}
 use Rattle.cdb_system.specs.Oracle.{Disk, inputs_of, is_standard}
-use Rattle.cdb_system.specs.declared.system.System.{Ghosts as Systems}
 use Rattle.cdb.proofs.Replaced.{IsGone, KeepsOthers, LeavesOldOrMade, ReplacesSo, at_name, none_appended, not_at, replaces_so, said_nothing}
-use Rattle.cdb.proofs.CreateReads.{Asking, all_known_by, asked_all, asked_kept, asking_all, moments_first}
-use Rattle.cdb.proofs.CreateEnds.{Came, CreateSo, apart_is, constant, ends_early, first_is, has_may, last_leaves, last_moment, lines_of, name_holds, open_so, oracle_is, other_name, result_of, same_name, same_some, since_asked}
+use Rattle.cdb.proofs.CreateReads.{Asking, asked_all, asked_kept, asking_all, moments_first}
+use Rattle.cdb.proofs.CreateEnds.{AnsweredNames, Knows, Came, CreateSo, apart_is, constant, ends_early, first_is, has_may, last_leaves, last_moment, lines_of, name_holds, open_so, oracle_is, other_name, result_of, same_name, same_some, since_asked}
 use Rattle.cdb_system.specs.State.{state_of}
-use Rattle.cdb_system.specs.Files.{files_of}
-use Rattle.cdb_system.specs.Answered.{GivesInputs}
 
 -- ---- in a temporary file
 
@@ -182,13 +179,13 @@ failed_so w disk t name o made was asked now told said (Err f) first a so = λ t
 passing_temporary : (name : List ℕ) (temporary : Option (List ℕ)) → is_standard name ≡ false → is_in_place name temporary ≡ false → passing name temporary ≡ Some (temporary_of name temporary)
 passing_temporary name temporary standard in_place = cond-false (is_standard name) _ _ standard ∙ cond-false (is_in_place name temporary) _ _ in_place
 
-named_so : {F I M R Y : Type 0} (s : Ghosts F) (m : Ghosts M) (remaining : I → Option (List ℕ)) (y : Systems Y F I M) (r : Raw R) (w g : ℕ) (disk : Disk) (input name : List ℕ) (base : Option (List ℕ)) (inputs : List (List ℕ)) (temporary : Option (List ℕ)) (o : MakeOptions) (given : Option (List ℕ)) (old mid new : OpenCalls) (file read : Option F) (left : InputsLeft) (was asked now : NameCalls) (start end told said : Option (List ℕ)) (result : Result Unit Fault)
-    → is_standard name ≡ false → is_in_place name temporary ≡ false → is_no_name name ≡ false → (file ≡ None → read ≡ None) → GivesInputs disk inputs input given → HonestCreate (files_of s m remaining y) disk name (state_of old was start told) (state_of new now end said) read → OpensAll (files_of s m remaining y) base inputs given old mid file left → new ≡ mid → Keeps start end → AsksAll (temporary_of name temporary) base inputs was asked
+named_so : {F M R : Type 0} (s : Ghosts F) (m : Ghosts M) (r : Raw R) (w g : ℕ) (disk : Disk) (input name : List ℕ) (base : Option (List ℕ)) (inputs : List (List ℕ)) (temporary : Option (List ℕ)) (o : MakeOptions) (mid new : OpenCalls) (file read : Option F) (left : InputsLeft) (was asked now : NameCalls) (start end told said : Option (List ℕ)) (result : Result Unit Fault)
+    → is_standard name ≡ false → is_in_place name temporary ≡ false → is_no_name name ≡ false → (file ≡ None → read ≡ None) → Knows s disk base inputs input file read left → AnsweredNames disk name was now → Keeps start end → AsksAll (temporary_of name temporary) base inputs was asked
     → Replaces s r (record { word = w; greatest = g; options = o; base = file; inputs = left }) (temporary_of name temporary) name (state_of mid asked start told) (state_of new now end said) read result
     → CreateSo m disk name temporary o (create_of w g disk input name base inputs temporary o) [] was now None start end told said result
-named_so s m remaining y r w g disk input name base inputs temporary o given old mid new file read left was asked now start end told said result standard in_place named none gives honest opens same kept asks replaces =
+named_so s m r w g disk input name base inputs temporary o mid new file read left was asked now start end told said result standard in_place named none knows honest kept asks replaces =
     let t = temporary_of name temporary in
-    let known = all_known_by s m remaining y disk input base inputs given read file left old mid new honest.calls gives.bytes none gives.known opens ([], same) honest.are honest.answered in
+    let known = knows none in
     let apart = apart_is name temporary in_place in
     let more = since_asked asked now replaces.moments.since replaces.moments.calls honest.alone in
     let question = asked_all t base inputs was asked asks more in
@@ -248,11 +245,11 @@ no_name_so s m r w g disk input name base inputs temporary o mk read was asked n
           (open_so o c disk start end told said (no_name_unopened w g disk input name base inputs temporary o standard in_place is) (kept, silent))))
     ]
 
-pub replacing_so : {F I M R Y : Type 0} (s : Ghosts F) (m : Ghosts M) (remaining : I → Option (List ℕ)) (y : Systems Y F I M) (r : Raw R) (w g : ℕ) (disk : Disk) (input name : List ℕ) (base : Option (List ℕ)) (inputs : List (List ℕ)) (temporary : Option (List ℕ)) (o : MakeOptions) (given : Option (List ℕ)) (old mid new : OpenCalls) (file read : Option F) (left : InputsLeft) (was asked now : NameCalls) (start end told said : Option (List ℕ)) (result : Result Unit Fault)
-    → is_standard name ≡ false → is_in_place name temporary ≡ false → (file ≡ None → read ≡ None) → GivesInputs disk inputs input given → HonestCreate (files_of s m remaining y) disk name (state_of old was start told) (state_of new now end said) read → OpensAll (files_of s m remaining y) base inputs given old mid file left → new ≡ mid → Keeps start end → AsksAll (temporary_of name temporary) base inputs was asked
+pub replacing_so : {F M R : Type 0} (s : Ghosts F) (m : Ghosts M) (r : Raw R) (w g : ℕ) (disk : Disk) (input name : List ℕ) (base : Option (List ℕ)) (inputs : List (List ℕ)) (temporary : Option (List ℕ)) (o : MakeOptions) (mid new : OpenCalls) (file read : Option F) (left : InputsLeft) (was asked now : NameCalls) (start end told said : Option (List ℕ)) (result : Result Unit Fault)
+    → is_standard name ≡ false → is_in_place name temporary ≡ false → (file ≡ None → read ≡ None) → Knows s disk base inputs input file read left → AnsweredNames disk name was now → Keeps start end → AsksAll (temporary_of name temporary) base inputs was asked
     → Replaces s r (record { word = w; greatest = g; options = o; base = file; inputs = left }) (temporary_of name temporary) name (state_of mid asked start told) (state_of new now end said) read result
     → CreateSo m disk name temporary o (create_of w g disk input name base inputs temporary o) [] was now None start end told said result
-replacing_so s m remaining y r w g disk input name base inputs temporary o given old mid new file read left was asked now start end told said result standard in_place none gives honest opens same kept asks replaces = elim (cases_Bool (is_no_name name)) [
+replacing_so s m r w g disk input name base inputs temporary o mid new file read left was asked now start end told said result standard in_place none knows honest kept asks replaces = elim (cases_Bool (is_no_name name)) [
   | inl is ↦ no_name_so s m r w g disk input name base inputs temporary o (record { word = w; greatest = g; options = o; base = file; inputs = left }) read was asked now start end told said result standard in_place is honest.first kept asks replaces
-  | inr named ↦ named_so s m remaining y r w g disk input name base inputs temporary o given old mid new file read left was asked now start end told said result standard in_place named none gives honest opens same kept asks replaces
+  | inr named ↦ named_so s m r w g disk input name base inputs temporary o mid new file read left was asked now start end told said result standard in_place named none knows honest kept asks replaces
 ]

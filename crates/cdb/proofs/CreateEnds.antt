@@ -27,7 +27,7 @@ use Rattle.cdb_tool.specs.Runs.Made.{Made, made_file, made_lines, made_of}
 use Rattle.cdb.specs.Created.{Created, base_of, create_of, if_opened, in_temporary, is_base, is_in_place, is_input, is_no_name, in_place, is_read, placed, unopened}
 use Rattle.cdb.specs.Creating.{AsksBase, AsksOne, FindsBase, FindsInput, FindsOne, Making, MayBeOne, NotOpened, Replaces}
 use Rattle.cdb_system.specs.Places.{temporary_of}
-use Rattle.cdb_system.specs.Answered.{IsRevealed, if_some}
+use Rattle.cdb_system.specs.Answered.{AreAnswered, IsAnswered}
 use Rattle.cdb.specs.ForetoldCreate.{HadBytes, HasBytes, HoldsAll, IsNoAlias, IsNoFailedRemoval, IsNoFailedRename, KeepsAll, LeavesAll, passing, place_of}
 use Rattle.cdb_system.specs.Inputs.{inputs_read, MissesBase}
 use Rattle.cdb_system.specs.Opening.{OpenCalls, unopened as unopened_fault}
@@ -35,8 +35,8 @@ use Rattle.cdb_system.specs.Oracle.{Disk, both, inputs_of, is_standard}
 use Rattle.cdb_system.specs.declared.open_trace.OpenCall.TheVariants.{Unopened}
 use Rattle.cdb_system.specs.declared.system.System.{Ghosts as Systems}
 use Rattle.cdb.proofs.Replaced.{IsPlain, none_appended, said_nothing}
-use Rattle.cdb.proofs.CreateReads.{AllKnown, Asking, asked_kept, base_grows, moments_first, read_input}
-use Rattle.cdb_system.proofs.InputsKnown.{all_back, grows, standard_not, both_none, missing_inputs, input_missing}
+use Rattle.cdb.proofs.CreateReads.{AllKnown, Asking, asked_kept, base_since, moments_first, read_input}
+use Rattle.cdb_system.proofs.InputsKnown.{opened_since, standard_not, both_none, missing_inputs, input_missing}
 use Rattle.cdb_system.specs.State.{State}
 
 -- ---- the oracle
@@ -97,6 +97,17 @@ pub record CreateSo {M : Type 0} (m : Ghosts M) (disk : Disk) (name : List ℕ) 
 
 -- ---- names
 
+-- how the names are before a create, and that each call on them was answered as they are
+pub record AnsweredNames (disk : Disk) (name : List ℕ) (was now : NameCalls) : Type 0 where
+  pub first : was ≡ []
+  pub alone : AllByRecursion IsNoAlias now
+  pub held : Option (List ℕ)
+  pub has : Has (place_of name) (disk name) now held
+
+-- all that is read is known, if the base is handed back
+abbrev pub Knows : {F : Type 0} → Ghosts F → Disk → (base : Option (List ℕ)) → (inputs : List (List ℕ)) → (input : List ℕ) → (file read : Option F) → InputsLeft → Type 0
+Knows s disk base inputs input file read items = (file ≡ None → read ≡ None) → AllKnown s disk base inputs input read items
+
 pub same_name : (a b : List ℕ) → bytes_eq a b ≡ true → a ≡ b
 same_name a b e = (bytes_eq-Decides a b).0 e
 
@@ -112,6 +123,10 @@ length_more xs ys e = omega (arith, ap length e, length-append xs ys)
 
 longer : (name : List ℕ) → name ++ codes ".tmp" ≡ name → ⊥
 longer name e = let h : length (codes ".tmp") ≡ 0 = length_more name (codes ".tmp") e in omega (arith, h)
+
+all_back : {A : Type 0} (P : A → Type 0) (xs ys : List A) → AllByRecursion P (xs ++ ys) → AllByRecursion P ys
+all_back P [] ys h = h
+all_back P (x ∷ xs) ys h = all_back P xs ys h.1
 
 pub since_asked : (asked now since : NameCalls) → now ≡ since ++ asked → AllByRecursion IsNoAlias now → AllByRecursion IsNoAlias asked
 since_asked asked now since e all = all_back IsNoAlias since asked (subst (AllByRecursion IsNoAlias) e all)
@@ -209,36 +224,36 @@ no_base w g disk input name base inputs temporary o e =
     ap (λ x. if_opened disk (both f x (inputs_of disk inputs))) e
 
 -- its last call was answered as the disk is
-head_answered : {F I M Y : Type 0} (s : Ghosts F) (remaining : I → Option (List ℕ)) (y : Systems Y F I M) (disk : Disk) (read : Option F) (old mid new calls : OpenCalls) (cause : NameFault) (found : Cause) (name : List ℕ) → new ≡ calls ++ old → ((c : OpenCalls) × (mid ≡ c ++ old)) → new ≡ (Unopened cause found, name) ∷ mid
-    → AllByRecursion (λ c. IsRevealed s remaining y disk (if_some read) c.0 c.1) calls → cause ≡ why.Failed → disk name ≡ None
-head_answered s remaining y disk read old mid new calls cause found name e before is all failed =
+head_answered : {F I M Y : Type 0} (s : Ghosts F) (y : Systems Y F I M) (disk : Disk) (stores : List F) (old mid new calls : OpenCalls) (cause : NameFault) (found : Cause) (name : List ℕ) → new ≡ calls ++ old → ((c : OpenCalls) × (mid ≡ c ++ old)) → new ≡ (Unopened cause found, name) ∷ mid
+    → AreAnswered s disk calls stores → cause ≡ why.Failed → disk name ≡ None
+head_answered s y disk stores old mid new calls cause found name e before is all failed =
     let split : calls ≡ (Unopened cause found, name) ∷ before.0 = append_cancel_right calls ((Unopened cause found, name) ∷ before.0) old (sym e ∙ is ∙ ap (λ c. (Unopened cause found, name) ∷ c) before.1) in
-    let answered = (subst (AllByRecursion (λ c. IsRevealed s remaining y disk (if_some read) c.0 c.1)) split all).0 in
-    subst (λ v. IsRevealed s remaining y disk (if_some read) (Unopened v found) name) failed answered
+    let answered = (subst (λ c. AreAnswered s disk c stores) split all).0 in
+    subst (λ v. IsAnswered s disk stores (Unopened v found) name) failed answered
 
-base_missed : {F I M Y : Type 0} (s : Ghosts F) (remaining : I → Option (List ℕ)) (y : Systems Y F I M) (w g : ℕ) (disk : Disk) (input name : List ℕ) (base : Option (List ℕ)) (inputs : List (List ℕ)) (temporary : Option (List ℕ)) (o : MakeOptions) (old new calls : OpenCalls) (read : Option F) (start end told said : Option (List ℕ)) (fault : Fault)
-    → new ≡ calls ++ old → AllByRecursion (λ c. IsRevealed s remaining y disk (if_some read) c.0 c.1) calls → MissesBase base old new fault → Keeps start end × Keeps told said
+base_missed : {F I M Y : Type 0} (s : Ghosts F) (y : Systems Y F I M) (w g : ℕ) (disk : Disk) (input name : List ℕ) (base : Option (List ℕ)) (inputs : List (List ℕ)) (temporary : Option (List ℕ)) (o : MakeOptions) (old new calls : OpenCalls) (stores : List F) (read : Option F) (start end told said : Option (List ℕ)) (fault : Fault)
+    → new ≡ calls ++ old → AreAnswered s disk calls stores → MissesBase base old new fault → Keeps start end × Keeps told said
     → EndsEarly o (create_of w g disk input name base inputs temporary o) disk start end told said fault
-base_missed s remaining y w g disk input name None inputs temporary o old new calls read start end told said fault e all h k = absurd h
-base_missed s remaining y w g disk input name (Some base) inputs temporary o old new calls read start end told said fault e all h k =
+base_missed s y w g disk input name None inputs temporary o old new calls stores read start end told said fault e all h k = absurd h
+base_missed s y w g disk input name (Some base) inputs temporary o old new calls stores read start end told said fault e all h k =
     missed_why o _ disk start end told said fault h.why h.is (λ failed. no_base w g disk input name (Some base) inputs temporary o
-    (ap (option_map (λ b. Some b)) (head_answered s remaining y disk read old old new calls h.why h.found base e ([], refl) h.calls all failed))) k
+    (ap (option_map (λ b. Some b)) (head_answered s y disk stores old old new calls h.why h.found base e ([], refl) h.calls all failed))) k
 
-pub not_opened_so : {F I M Y : Type 0} (s : Ghosts F) (remaining : I → Option (List ℕ)) (y : Systems Y F I M) (w g : ℕ) (disk : Disk) (input name : List ℕ) (base : Option (List ℕ)) (inputs : List (List ℕ)) (temporary : Option (List ℕ)) (o : MakeOptions) (old new calls : OpenCalls) (read : Option F) (start end told said : Option (List ℕ)) (fault : Fault)
-    → new ≡ calls ++ old → AllByRecursion (λ c. IsRevealed s remaining y disk (if_some read) c.0 c.1) calls → NotOpened y base inputs old new read fault → Keeps start end × Keeps told said
+pub not_opened_so : {F I M Y : Type 0} (s : Ghosts F) (y : Systems Y F I M) (w g : ℕ) (disk : Disk) (input name : List ℕ) (base : Option (List ℕ)) (inputs : List (List ℕ)) (temporary : Option (List ℕ)) (o : MakeOptions) (old new calls : OpenCalls) (stores : List F) (read : Option F) (start end told said : Option (List ℕ)) (fault : Fault)
+    → new ≡ calls ++ old → AreAnswered s disk calls stores → NotOpened y base inputs old new read fault → Keeps start end × Keeps told said
     → EndsEarly o (create_of w g disk input name base inputs temporary o) disk start end told said fault
-not_opened_so s remaining y w g disk input name base inputs temporary o old new calls read start end told said fault e all h k = elim h.calls [
-  | inl missed ↦ base_missed s remaining y w g disk input name base inputs temporary o old new calls read start end told said fault e all missed.0 k
+not_opened_so s y w g disk input name base inputs temporary o old new calls stores read start end told said fault e all h k = elim h.calls [
+  | inl missed ↦ base_missed s y w g disk input name base inputs temporary o old new calls stores read start end told said fault e all missed.0 k
   | inr stopped ↦ elim stopped.2.last [
     | inl memory ↦ memory_so o _ disk start end told said fault memory.1 k
     | inr missed ↦ (let stops = stopped.2 in
         let m = missed.3.1 in
-        let before = base_grows y base read old stopped.0 stopped.1 in
-        let opened = grows y stops.opened stops.turns stopped.0 stops.mid stops.opens in
-        let since : stops.mid ≡ (opened.0 ++ before.0) ++ old = opened.1 ∙ ap (λ c. opened.0 ++ c) before.1 ∙ sym (append_assoc opened.0 before.0 old) in
+        let before = base_since y base read old stopped.0 stopped.1 in
+        let opened = opened_since y stops.opened stops.readers stopped.0 stops.mid stops.opens in
+        let since : stops.mid ≡ (opened.since ++ before.since) ++ old = opened.are ∙ ap (λ c. opened.since ++ c) before.are ∙ sym (append_assoc opened.since before.since old) in
         missed_why o _ disk start end told said fault m.why m.is (λ failed. no_inputs w g disk input name base inputs temporary o
         (missing_inputs disk inputs stops.opened missed.0 missed.1 (stops.are ∙ ap (λ l. stops.opened ++ l) missed.2)
-        (input_missing disk missed.0 missed.3.0 (head_answered s remaining y disk read old stops.mid new calls m.why m.found missed.0 e (opened.0 ++ before.0, since) m.calls all failed)))) k)
+        (input_missing disk missed.0 missed.3.0 (head_answered s y disk stores old stops.mid new calls m.why m.found missed.0 e (opened.since ++ before.since, since) m.calls all failed)))) k)
   ]
 ]
 

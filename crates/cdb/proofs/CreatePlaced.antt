@@ -8,6 +8,7 @@ use Rattle.std.specs.Io.KnownBytes.{Appends, Keeps}
 use Rattle.cdb_command.specs.declared.options.MakeOptions.{MakeOptions}
 use Rattle.cdb_names.specs.Folder.{NameCalls}
 use Rattle.cdb_names.specs.Replacing.{IsNew}
+use Rattle.cdb_form.specs.Fed.Feed.{Feed}
 use Rattle.cdb_store.specs.Contents.{contents}
 use Rattle.cdb_store.specs.contracts.memory.MemStoreStore.TheImpl.{ghosts as in_memory}
 use Rattle.cdb_store.specs.declared.memory.MemStore.{MemStore}
@@ -24,19 +25,17 @@ use Rattle.cdb_show.specs.declared.fault.Fault.TheVariants.{Make, Rename}
 use Rattle.cdb_tool.specs.Runs.Made.{Made, made_file, made_lines, made_of}
 use Rattle.cdb_show.specs.Runs.Incoming.{Known}
 use Rattle.cdb.specs.Created.{Created, base_of, create_of, if_opened, is_in_place, in_place, is_read, on_output, placed, unopened}
-use Rattle.cdb.specs.Creating.{HasDatabase, IsBufferedRun, IsMakeRun, MakesEmptied, MakesOnOutput, SeesName, Syncs, WritesAll, AsksAll, Making, OpensAll}
-use Rattle.cdb.specs.ForetoldCreate.{HoldsAll, HonestCreate, IsNamed, IsNoFailedRename, KeepsAll, passing}
+use Rattle.cdb.specs.Creating.{HasDatabase, IsBufferedRun, IsMakeRun, MakesEmptied, MakesOnOutput, SeesName, Syncs, WritesAll, AsksAll, Making}
+use Rattle.cdb.specs.ForetoldCreate.{HoldsAll, IsNamed, IsNoFailedRename, KeepsAll, passing}
 use Rattle.cdb_system.specs.Opening.{Empties, MissesEmptying, OpenCalls, named_as, unopened as unopened_fault}
 use Rattle.cdb_system.specs.Oracle.{Disk, both, inputs_of, is_standard}
-use Rattle.cdb_system.specs.declared.open_trace.OpenCall.TheVariants.{Emptied, Locked, Own, ToEmpty}
 use Rattle.cdb_system.specs.declared.system.System.{Ghosts as Systems}
 use Rattle.cdb_system.specs.declared.left.Left.{Left}
 use Rattle.cdb.proofs.Replaced.{BaseHas, EndsSo, IsPlain, WasRefused, database_is, made_here, ran_err, ran_ok, whole_lines, none_appended, said_nothing}
-use Rattle.cdb.proofs.CreateReads.{AllKnown, Asking, all_known_by, asked_all, asking_all, asking_none, moments_first}
-use Rattle.cdb.proofs.CreateEnds.{Came, CameTrue, CreateSo, GaveUp, constant, hands_none, has_first, holds_first, keeps_first, same_name}
+use Rattle.cdb.proofs.CreateReads.{AllKnown, Asking, asked_all, asking_all, asking_none, moments_first}
+use Rattle.cdb.proofs.CreateEnds.{AnsweredNames, Knows, Came, CameTrue, CreateSo, GaveUp, constant, hands_none, has_first, holds_first, keeps_first, same_name}
 use Rattle.cdb_system.specs.State.{state_of}
 use Rattle.cdb_system.specs.Files.{files_of}
-use Rattle.cdb_system.specs.Answered.{GivesInputs}
 
 -- ---- in place
 
@@ -173,14 +172,6 @@ emptying_refused name old new fault (inr (inl held)) = subst MayGiveUpCreate (sy
 emptying_refused name old new fault (inr (inr (inl (answer, asks, is)))) = unnamed_refused answer fault is
 emptying_refused name old new fault (inr (inr (inr (locked, takes, misses)))) = subst MayGiveUpCreate (sym misses.is) (opening_refused misses.why)
 
--- the calls since what is read was opened
-emptying_grows : (name : List ℕ) (old new : OpenCalls) → Empties name old new → (calls : OpenCalls) × (new ≡ calls ++ old)
-emptying_grows name old new h = ((Emptied, name) ∷ (Own Yes, name) ∷ (Locked h.takes.lock, name) ∷ (ToEmpty, name) ∷ [], h.calls ∙ ap (λ c. (Emptied, name) ∷ c) h.takes.calls)
-
-naming_grows : (name : List ℕ) (old emptied new : OpenCalls) (synced result : Result Unit Fault) → SeesName name emptied new synced result → (calls : OpenCalls) × (emptied ≡ calls ++ old) → (calls : OpenCalls) × (new ≡ calls ++ old)
-naming_grows name old emptied new (Ok done) result (answer, calls, is) (before, are) = ((Own answer, name) ∷ before, calls ∙ ap (λ c. (Own answer, name) ∷ c) are)
-naming_grows name old emptied new (Err f) result (same, is) (before, are) = (before, same ∙ are)
-
 back_of : {F : Type 0} (s : Ghosts F) (mk : Making F) (back : Option F) (images : List ℕ → Type 0) (told said : Option (List ℕ)) (made : Result Unit Fault) → IsBufferedRun s mk back images told said made → mk.base ≡ None → back ≡ None
 back_of s mk back images told said made (inl ran) e = hands_none s mk.base back ran.hands e
 back_of s mk back images told said made (inr lacks) e = lacks.0 ∙ e
@@ -196,13 +187,13 @@ if_err : (P : Type 0) (result : Result Unit Fault) → P → OnErr result P
 if_err P (Ok done) p = tt
 if_err P (Err f) p = p
 
-pub emptied_so : {F I J M Y : Type 0} (s : Ghosts F) (m : Ghosts M) (remaining : I → Option (List ℕ)) (y : Systems Y F I M) (w g : ℕ) (disk : Disk) (input name : List ℕ) (base : Option (List ℕ)) (inputs : List (List ℕ)) (temporary : Option (List ℕ)) (o : MakeOptions) (given : Option (List ℕ)) (old mid emptied new : OpenCalls) (file : Option F) (items : InputsLeft) (left : Left F M I J) (was now : NameCalls) (start end told said : Option (List ℕ)) (result : Result Unit Fault)
-    → is_standard name ≡ false → is_in_place name temporary ≡ true → GivesInputs disk inputs input given → HonestCreate (files_of s m remaining y) disk name (state_of old was start told) (state_of new now end said) left.read → OpensAll (files_of s m remaining y) base inputs given old mid file items → Keeps start end → AsksAll name base inputs was now → Empties name mid emptied
-    → MakesEmptied (files_of s m remaining y) (record { word = w; greatest = g; options = o; base = file; inputs = items }) name emptied (state_of mid was start told) (state_of new now end said) left result → CreateSo m disk name temporary o (create_of w g disk input name base inputs temporary o) new was now left.made start end told said result
-emptied_so s m remaining y w g disk input name base inputs temporary o given old mid emptied new file items left was now start end told said result standard placed_in gives honest opens kept asks empties h =
+pub emptied_so : {F I J M Y : Type 0} (s : Ghosts F) (m : Ghosts M) (feed : I → Feed) (y : Systems Y F I M) (w g : ℕ) (disk : Disk) (input name : List ℕ) (base : Option (List ℕ)) (inputs : List (List ℕ)) (temporary : Option (List ℕ)) (o : MakeOptions) (mid emptied new : OpenCalls) (file : Option F) (items : InputsLeft) (left : Left F M I J) (was now : NameCalls) (start end told said : Option (List ℕ)) (result : Result Unit Fault)
+    → is_standard name ≡ false → is_in_place name temporary ≡ true → Knows s disk base inputs input file left.read items → AnsweredNames disk name was now → Keeps start end → AsksAll name base inputs was now → Empties name mid emptied
+    → MakesEmptied (files_of s m feed y) (record { word = w; greatest = g; options = o; base = file; inputs = items }) name emptied (state_of mid was start told) (state_of new now end said) left result → CreateSo m disk name temporary o (create_of w g disk input name base inputs temporary o) new was now left.made start end told said result
+emptied_so s m feed y w g disk input name base inputs temporary o mid emptied new file items left was now start end told said result standard placed_in knows honest kept asks empties h =
     let mk : Making _ = record { word = w; greatest = g; options = o; base = file; inputs = items } in
     let none : file ≡ None → left.read ≡ None = back_of s mk left.read (m.image h.built) told said h.made h.run in
-    let known = all_known_by s m remaining y disk input base inputs given left.read file items old mid new honest.calls gives.bytes none gives.known opens (naming_grows name mid emptied new h.synced result h.named (emptying_grows name mid emptied empties)) honest.are honest.answered in
+    let known = knows none in
     let question = asked_all name base inputs was now asks honest.alone in
     let a = asking_all name base inputs was now asks in
     let c = create_of w g disk input name base inputs temporary o in
@@ -293,13 +284,13 @@ if_ok : (P : Type 0) (result : Result Unit Fault) → P → OnOk result P
 if_ok P (Ok done) p = p
 if_ok P (Err f) p = tt
 
-pub output_so : {F I M Y : Type 0} (s : Ghosts F) (m : Ghosts M) (remaining : I → Option (List ℕ)) (y : Systems Y F I M) (w g : ℕ) (disk : Disk) (input name : List ℕ) (base : Option (List ℕ)) (inputs : List (List ℕ)) (temporary : Option (List ℕ)) (o : MakeOptions) (given : Option (List ℕ)) (old mid new : OpenCalls) (file read : Option F) (items : InputsLeft) (was now : NameCalls) (start end told said : Option (List ℕ)) (result : Result Unit Fault)
-    → is_standard name ≡ true → GivesInputs disk inputs input given → HonestCreate (files_of s m remaining y) disk name (state_of old was start told) (state_of new now end said) read → OpensAll (files_of s m remaining y) base inputs given old mid file items → new ≡ mid → now ≡ was
+pub output_so : {F M : Type 0} (s : Ghosts F) (m : Ghosts M) (w g : ℕ) (disk : Disk) (input name : List ℕ) (base : Option (List ℕ)) (inputs : List (List ℕ)) (temporary : Option (List ℕ)) (o : MakeOptions) (file read : Option F) (items : InputsLeft) (was now : NameCalls) (start end told said : Option (List ℕ)) (result : Result Unit Fault)
+    → is_standard name ≡ true → Knows s disk base inputs input file read items → AnsweredNames disk name was now → now ≡ was
     → MakesOnOutput s (record { word = w; greatest = g; options = o; base = file; inputs = items }) read start end told said result → CreateSo m disk name temporary o (create_of w g disk input name base inputs temporary o) [] was now None start end told said result
-output_so s m remaining y w g disk input name base inputs temporary o given old mid new file read items was now start end told said result standard gives honest opens same calls h =
+output_so s m w g disk input name base inputs temporary o file read items was now start end told said result standard knows honest calls h =
     let mk : Making _ = record { word = w; greatest = g; options = o; base = file; inputs = items } in
     let none : file ≡ None → read ≡ None = hands_none s file read h.makes.run.hands in
-    let known = all_known_by s m remaining y disk input base inputs given read file items old mid new honest.calls gives.bytes none gives.known opens ([], same) honest.are honest.answered in
+    let known = knows none in
     let c = create_of w g disk input name base inputs temporary o in
     let v = made_here mk known.old known.files input in
     let is = output_is s w g disk input name base inputs temporary o read items known standard v refl in

@@ -1,6 +1,6 @@
 -- What a create reads, and what is asked of its names, by the calls that were noted.
-use Rattle.std.proofs.Common.{ℕ, Bool, false, List, [], ◌∷◌, ◌++◌, Option, Some, None, ◌≡◌, ◌∙◌, ap, inl, inr, refl, subst, sym, append_assoc, bytes_eq, option_map, if◌then◌else◌}
-use Rattle.std.specs.Prelude.{⊤}
+use Rattle.std.proofs.Common.{ℕ, Bool, false, List, [], ◌∷◌, ◌++◌, length, Option, Some, None, IfSome, ◌≡◌, ◌∙◌, ap, inl, inr, refl, subst, sym, append_assoc, append-nil, bytes_eq, option_map, if◌then◌else◌}
+use Rattle.std.specs.Prelude.{⊤, unwrap_or}
 use Rattle.std.specs.List.{AllByRecursion}
 use Rattle.std.proofs.lemmas.Bool.{cond-true, cond-false, false_from_ne_true, or_from}
 use Rattle.std.proofs.lemmas.List.{append_cancel_right}
@@ -9,21 +9,35 @@ use Rattle.cdb_names.specs.Folder.{MayHave, NameCalls}
 use Rattle.cdb_names.specs.Replacing.{AtEach, AtEachMoment, NameEvent, renames}
 use Rattle.cdb_names.specs.declared.answer.Answer.TheVariants as looks
 use Rattle.cdb_names.specs.declared.name_trace.NameCall.TheVariants as name_call
+use Rattle.cdb_feed.specs.Inputs.{AgreesWith, FirstAgree, IsUnread}
+use Rattle.cdb_feed.specs.declared.input_reader.InputReader.{InputReader}
+use Rattle.cdb_feed.specs.declared.input_reader.InputReader.TheVariants as reader
+use Rattle.cdb_form.specs.Fed.Feed.{Feed}
+use Rattle.cdb_form.specs.Format.Record.{AreBytes}
 use Rattle.cdb_store.specs.declared.store.Store.{Ghosts}
 use Rattle.cdb_show.specs.Runs.Inputs.{InputsLeft}
-use Rattle.cdb_show.specs.Runs.Incoming.{Known, KnownFor}
+use Rattle.cdb_show.specs.Runs.Incoming.{EachOfBytes, Known}
+use Rattle.cdb_show.specs.Views.FedInputs.{AreInPlace}
+use Rattle.cdb_show.specs.declared.fed_inputs.FedInputs.{FedInputs}
+use Rattle.cdb_show.proofs.GivenInputs.{known_all}
+use Rattle.cdb.specs.Agreeing.{HandsInputs, InputsAgree, OpensNone, OpensNoMore}
+use Rattle.cdb.specs.Agreeing.{inputs_of as bytes_of}
 use Rattle.cdb.specs.Created.{base_of, is_base, is_input, is_read}
 use Rattle.cdb.specs.Creating.{AsksAll, AsksBase, AsksEach, AsksOne, FindsBase, FindsInput, FindsOne, OpensAll}
-use Rattle.cdb_system.specs.Answered.{IsRevealed, Shows, if_some, IsOfBytes}
-use Rattle.cdb.specs.ForetoldCreate.{IsNoAlias, LeavesAll, place_of}
-use Rattle.cdb_system.specs.Inputs.{inputs_read, OpensBase}
+use Rattle.cdb_system.specs.Answered.{AreAnswered, IsThere, Shows, if_some, stores_before, stores_in, streams_in}
+use Rattle.cdb.specs.ForetoldCreate.{HonestCreate, IsNoAlias, LeavesAll, place_of}
+use Rattle.cdb_system.specs.Inputs.{inputs_read, OpensBase, OpensEach}
 use Rattle.cdb_system.specs.Opening.{OpenCalls}
 use Rattle.cdb_system.specs.Oracle.{Disk, inputs_of, is_standard}
-use Rattle.cdb_system.specs.declared.open_trace.OpenCall.TheVariants.{AtPlaces}
+use Rattle.cdb_system.specs.State.{Standard, state_of}
+use Rattle.cdb_system.specs.Streams.{AgreeInTurn, Agrees, name_in_turn, names_in_turn, own_readers}
+use Rattle.cdb_system.specs.declared.left.Left.{Left}
+use Rattle.cdb_system.specs.declared.open_trace.OpenCall.{OpenCall}
+use Rattle.cdb_system.specs.declared.open_trace.OpenCall.TheVariants.{AtPlaces, Emptied, InTurn, Locked, Own, Stream, ToEmpty, Unopened}
 use Rattle.cdb_system.specs.declared.system.System.{Ghosts as Systems}
 use Rattle.cdb.proofs.Replaced.{BaseHas}
 use Rattle.cdb_system.specs.Files.{files_of}
-use Rattle.cdb_system.proofs.InputsKnown.{all_front, all_back, standard_is, standard_not, same_calls, inputs_grow, inputs_known}
+use Rattle.cdb_system.proofs.InputsKnown.{AreOf, OpenedSince, answered_before, files_of_each, in_turn_then, inputs_are, inputs_since, opened_since, opened_there, own_names, standard_is, standard_not}
 
 shown : {F : Type 0} (s : Ghosts F) (file : Option (List ℕ)) (read : Option F) → Shows s file (if_some read) → (b : List ℕ) × (file ≡ Some b) × BaseHas s read (Some b)
 shown s (Some b) (Some store) h = (b, refl, h.0)
@@ -40,64 +54,153 @@ pub record AllKnown {F : Type 0} (s : Ghosts F) (disk : Disk) (base : Option (Li
   pub known : Known files input left
 
 -- the base
-base_known : {F I M Y : Type 0} (s : Ghosts F) (remaining : I → Option (List ℕ)) (y : Systems Y F I M) (disk : Disk) (read file : Option F) (base : Option (List ℕ)) (old new calls : OpenCalls) → OpensBase y base file old new → (file ≡ None → read ≡ None)
-    → new ≡ calls ++ old → AllByRecursion (λ c. IsRevealed s remaining y disk (if_some read) c.0 c.1) calls → (x : Option (List ℕ)) × (base_of disk base ≡ Some x) × BaseHas s read x
-base_known s remaining y disk read None None old new calls h none e all = (None, refl, subst (λ r. BaseHas s r None) (sym (none refl)) tt)
-base_known s remaining y disk read (Some file) (Some name) old new calls h none e all =
+base_known : {F I M Y : Type 0} (s : Ghosts F) (y : Systems Y F I M) (disk : Disk) (read file : Option F) (base : Option (List ℕ)) (old new calls : OpenCalls) → OpensBase y base file old new → (file ≡ None → read ≡ None)
+    → new ≡ calls ++ old → AreAnswered s disk calls (if_some read) → (x : Option (List ℕ)) × (base_of disk base ≡ Some x) × BaseHas s read x
+base_known s y disk read None None old new calls h none e all = (None, refl, subst (λ r. BaseHas s r None) (sym (none refl)) tt)
+base_known s y disk read (Some file) (Some name) old new calls h none e all =
     let only : calls ≡ (AtPlaces, name) ∷ [] = append_cancel_right calls ((AtPlaces, name) ∷ []) old (sym e ∙ h.0) in
-    let answered = (subst (AllByRecursion (λ c. IsRevealed s remaining y disk (if_some read) c.0 c.1)) only all).0 in
+    let answered = (subst (λ c. AreAnswered s disk c (if_some read)) only all).0 in
     let is = shown s (disk name) read answered in
     (Some is.0, ap (option_map (λ b. Some b)) is.1, is.2)
-base_known s remaining y disk read None (Some name) old new calls h none e all = absurd h
-base_known s remaining y disk read (Some file) None old new calls h none e all = absurd h
+base_known s y disk read None (Some name) old new calls h none e all = absurd h
+base_known s y disk read (Some file) None old new calls h none e all = absurd h
 
-pub base_grows : {F I M Y : Type 0} (y : Systems Y F I M) (base : Option (List ℕ)) (file : Option F) (old new : OpenCalls) → OpensBase y base file old new → (calls : OpenCalls) × (new ≡ calls ++ old)
-base_grows y None None old new h = ([], h)
-base_grows y (Some name) (Some file) old new h = ((AtPlaces, name) ∷ [], h.0)
-base_grows y (Some name) None old new h = absurd h
-base_grows y None (Some file) old new h = absurd h
+-- the call that opened it, which opened nothing in turn
+pub record BaseSince (old new : OpenCalls) : Type 0 where
+  pub since : OpenCalls
+  pub are : new ≡ since ++ old
+  pub in_turn : names_in_turn since ≡ []
 
-all_known : {F I M Y : Type 0} (s : Ghosts F) (m : Ghosts M) (remaining : I → Option (List ℕ)) (y : Systems Y F I M) (disk : Disk) (input : List ℕ) (base : Option (List ℕ)) (inputs : List (List ℕ)) (given : Option (List ℕ)) (read file : Option F) (left : InputsLeft) (old new calls : OpenCalls) → IsOfBytes disk input → (file ≡ None → read ≡ None)
-    → ((files : List (Option (List ℕ))) → inputs_of disk inputs ≡ Some files → KnownFor files given input) → OpensAll (files_of s m remaining y) base inputs given old new file left → new ≡ calls ++ old → AllByRecursion (λ c. IsRevealed s remaining y disk (if_some read) c.0 c.1) calls
-    → AllKnown s disk base inputs input read left
-all_known s m remaining y disk input base inputs given read file left old new calls bytes none reads opens e all =
-    let P : OpenCalls → Type 0 = AllByRecursion (λ c. IsRevealed s remaining y disk (if_some read) c.0 c.1) in
-    let a = base_grows y base file old opens.mid opens.base_is in
-    let b = inputs_grow y inputs opens.turns opens.mid new opens.inputs_are in
-    let split : calls ≡ b.0 ++ a.0 = same_calls calls a.0 b.0 [] old opens.mid new e a.1 b.1 in
-    let answered : P (b.0 ++ a.0) = subst P split all in
-    let x = base_known s remaining y disk read file base old opens.mid a.0 opens.base_is none a.1 (all_back _ b.0 a.0 answered) in
-    let i = inputs_known s remaining y disk read inputs opens.turns opens.mid new b.0 bytes.files opens.inputs_are b.1 (all_front _ b.0 a.0 answered) in
-    record {
-      old = x.0;
-      base_is = x.1;
-      has = x.2;
-      files = i.0;
-      are = i.1;
-      known = record {
-        each = ap (λ (l : InputsLeft). l.each) opens.left_is ∙ i.2;
-        known = subst (λ g. KnownFor i.0 g input) (sym (ap (λ (l : InputsLeft). l.shared) opens.left_is)) (reads i.0 i.1);
-        own = i.3;
-        bytes = bytes.standard;
-      };
-    }
+pub base_since : {F I M Y : Type 0} (y : Systems Y F I M) (base : Option (List ℕ)) (file : Option F) (old new : OpenCalls) → OpensBase y base file old new → BaseSince old new
+base_since y None None old new h = record { since = []; are = h; in_turn = refl }
+base_since y (Some name) (Some file) old new h = record { since = (AtPlaces, name) ∷ []; are = h.0; in_turn = refl }
+base_since y (Some name) None old new h = absurd h
+base_since y None (Some file) old new h = absurd h
 
-opens_grow : {F I M Y : Type 0} (s : Ghosts F) (m : Ghosts M) (remaining : I → Option (List ℕ)) (y : Systems Y F I M) (base : Option (List ℕ)) (inputs : List (List ℕ)) (given : Option (List ℕ)) (old new : OpenCalls) (file : Option F) (left : InputsLeft) → OpensAll (files_of s m remaining y) base inputs given old new file left → (calls : OpenCalls) × (new ≡ calls ++ old)
-opens_grow s m remaining y base inputs given old new file left opens =
-    let a = base_grows y base file old opens.mid opens.base_is in
-    let b = inputs_grow y inputs opens.turns opens.mid new opens.inputs_are in
-    (b.0 ++ a.0, b.1 ∙ ap (λ c. b.0 ++ c) a.1 ∙ sym (append_assoc b.0 a.0 old))
+-- ---- the calls before those that opened no more
 
--- whatever is called then
-pub all_known_by : {F I M Y : Type 0} (s : Ghosts F) (m : Ghosts M) (remaining : I → Option (List ℕ)) (y : Systems Y F I M) (disk : Disk) (input : List ℕ) (base : Option (List ℕ)) (inputs : List (List ℕ)) (given : Option (List ℕ)) (read file : Option F) (left : InputsLeft) (old mid new calls : OpenCalls) → IsOfBytes disk input → (file ≡ None → read ≡ None)
-    → ((files : List (Option (List ℕ))) → inputs_of disk inputs ≡ Some files → KnownFor files given input) → OpensAll (files_of s m remaining y) base inputs given old mid file left → (later : OpenCalls) × (new ≡ later ++ mid) → new ≡ calls ++ old → AllByRecursion (λ c. IsRevealed s remaining y disk (if_some read) c.0 c.1) calls
-    → AllKnown s disk base inputs input read left
-all_known_by s m remaining y disk input base inputs given read file left old mid new calls bytes none reads opens later e all =
-    let P : OpenCalls → Type 0 = AllByRecursion (λ c. IsRevealed s remaining y disk (if_some read) c.0 c.1) in
-    let first = opens_grow s m remaining y base inputs given old mid file left opens in
-    let split : calls ≡ later.0 ++ first.0 = same_calls calls first.0 later.0 [] old mid new e first.1 later.1 in
-    let answered : P (later.0 ++ first.0) = subst P split all in
-    all_known s m remaining y disk input base inputs given read file left old mid first.0 bytes none reads opens first.1 (all_back _ later.0 first.0 answered)
+stores_same : {F : Type 0} (call : OpenCall) (stores : List F) → OpensNone call → stores_before call stores ≡ stores
+stores_same AtPlaces stores none = absurd none
+stores_same InTurn stores none = absurd none
+stores_same (Stream answer) stores none = refl
+stores_same ToEmpty stores none = refl
+stores_same (Locked lock) stores none = refl
+stores_same (Own answer) stores none = refl
+stores_same Emptied stores none = refl
+stores_same (Unopened why found) stores none = refl
+
+name_none : (call : OpenCall) (name : List ℕ) → OpensNone call → name_in_turn call name ≡ []
+name_none AtPlaces name none = absurd none
+name_none InTurn name none = absurd none
+name_none (Stream answer) name none = refl
+name_none ToEmpty name none = refl
+name_none (Locked lock) name none = refl
+name_none (Own answer) name none = refl
+name_none Emptied name none = refl
+name_none (Unopened why found) name none = refl
+
+names_none : (since : OpenCalls) → AllByRecursion (λ c. OpensNone c.0) since → names_in_turn since ≡ []
+names_none [] each = refl
+names_none (c ∷ since) each = ap (λ names. names ++ name_in_turn c.0 c.1) (names_none since each.1) ∙ name_none c.0 c.1 each.0
+
+answered_since : {F : Type 0} (s : Ghosts F) (disk : Disk) (stores : List F) (since calls : OpenCalls) → AllByRecursion (λ c. OpensNone c.0) since → AreAnswered s disk (since ++ calls) stores → AreAnswered s disk calls stores
+answered_since s disk stores [] calls each h = h
+answered_since s disk stores (c ∷ since) calls each h =
+    answered_since s disk stores since calls each.1 (subst (λ l. AreAnswered s disk (since ++ calls) l) (stores_same c.0 stores each.0) h.1)
+
+-- ---- the inputs
+
+agrees_so : (file : Option (List ℕ)) (bytes : List ℕ) (feed : Feed) → file ≡ Some bytes → AreBytes bytes → Agrees file feed → AgreesWith AreBytes feed bytes
+agrees_so file bytes feed is fit agrees = let h = subst (λ o. Agrees o feed) is agrees in record { fit = fit; rest = h.0; may = h.1 }
+
+-- each reader agrees with its file, in its place
+all_agree : {I : Type 0} (own : I → Feed) (disk : Disk) (names : List (List ℕ)) (before after : List (InputReader I)) (files : List (Option (List ℕ))) → AreInPlace before after → AreOf disk names before files → EachOfBytes files → AgreeInTurn own disk (own_names names before) (own_readers after)
+    → FirstAgree own AreBytes (length files) files after
+all_agree own disk names before after [] placed of fit agree = tt
+all_agree own disk (name ∷ names) (reader.Own old ∷ before) (reader.Own left ∷ after) (Some bytes ∷ files) placed of fit agree =
+    (agrees_so (disk name) bytes (own left) of.0 fit.0 agree.0, all_agree own disk names before after files placed of.1 fit.1 agree.1)
+all_agree own disk (name ∷ names) (reader.Shared ∷ before) (reader.Shared ∷ after) (None ∷ files) placed of fit agree = all_agree own disk names before after files placed of fit agree
+all_agree own disk [] [] after (one ∷ files) placed of fit agree = absurd of
+all_agree own disk (name ∷ names) [] after (one ∷ files) placed of fit agree = absurd of
+all_agree own disk [] (reader.Own old ∷ before) after (one ∷ files) placed of fit agree = absurd of
+all_agree own disk [] (reader.Shared ∷ before) after (one ∷ files) placed of fit agree = absurd of
+all_agree own disk (name ∷ names) (reader.Own old ∷ before) after (None ∷ files) placed of fit agree = absurd of
+all_agree own disk (name ∷ names) (reader.Shared ∷ before) after (Some bytes ∷ files) placed of fit agree = absurd of
+all_agree own disk (name ∷ names) (reader.Own old ∷ before) [] (Some bytes ∷ files) placed of fit agree = absurd placed
+all_agree own disk (name ∷ names) (reader.Own old ∷ before) (reader.Shared ∷ after) (Some bytes ∷ files) placed of fit agree = absurd placed
+all_agree own disk (name ∷ names) (reader.Shared ∷ before) [] (None ∷ files) placed of fit agree = absurd placed
+all_agree own disk (name ∷ names) (reader.Shared ∷ before) (reader.Own left ∷ after) (None ∷ files) placed of fit agree = absurd placed
+
+-- the bytes of the inputs, which agree with the readers that are handed back
+pub record InputsFound {I J : Type 0} (own : I → Feed) (shared : J → Feed) (disk : Disk) (inputs : List (List ℕ)) (input : List ℕ) (before after : FedInputs I J) : Type 0 where
+  pub files : List (Option (List ℕ))
+  pub are : inputs_of disk inputs ≡ Some files
+  pub of_bytes : EachOfBytes files
+  pub agree : InputsAgree own shared before after files input
+
+-- the readers of the files that were read in turn are those of the inputs
+streams_are : {F I J M : Type 0} (inputs handed : FedInputs I J) (left : Left F M I J) → HandsInputs inputs handed left → streams_in left ≡ own_readers handed.readers.items
+streams_are inputs handed left h =
+    ap (λ v. if_some v ++ own_readers (unwrap_or (option_map (λ readers. readers.items) left.inputs) [])) h.stream
+    ∙ ap (λ v. own_readers (unwrap_or (option_map (λ readers. readers.items) v) [])) h.readers
+
+module _ {F I J M Y : Type 0} (s : Ghosts F) (m : Ghosts M) (feed : I → Feed) (y : Systems Y F I M) (disk : Disk) (input name : List ℕ) (base : Option (List ℕ)) (inputs : List (List ℕ)) (standard : Standard J) (old mid new : OpenCalls) (left : Left F M I J) (was now : NameCalls) (start end told said : Option (List ℕ)) (file : Option F) (before handed : FedInputs I J)
+    (honest : HonestCreate (files_of s m feed y) disk input name standard (state_of old was start told) (state_of new now end said) left) (opens : OpensAll (files_of s m feed y) base inputs old mid file before.readers.items) (shared : before.shared ≡ standard.reader) (hands : HandsInputs before handed left) (more : OpensNoMore mid new) where
+  at_base : BaseSince old opens.mid
+  at_base = base_since y base file old opens.mid opens.base_is
+
+  each_opens : OpensEach y (inputs_read inputs) before.readers.items opens.mid mid
+  each_opens = inputs_since y inputs before.readers.items opens.mid mid opens.inputs_are
+
+  at_inputs : OpenedSince (inputs_read inputs) before.readers.items opens.mid mid
+  at_inputs = opened_since y (inputs_read inputs) before.readers.items opens.mid mid each_opens
+
+  -- all calls on files
+  calls_are : honest.calls ≡ more.since ++ (at_inputs.since ++ at_base.since)
+  calls_are = append_cancel_right honest.calls (more.since ++ (at_inputs.since ++ at_base.since)) old
+      (sym honest.are ∙ more.are ∙ ap (λ c. more.since ++ c) (at_inputs.are ∙ ap (λ c. at_inputs.since ++ c) at_base.are ∙ sym (append_assoc at_inputs.since at_base.since old)) ∙ sym (append_assoc more.since (at_inputs.since ++ at_base.since) old))
+
+  answered_there : AreAnswered s disk (at_inputs.since ++ at_base.since) (stores_in left)
+  answered_there = answered_since s disk (stores_in left) more.since (at_inputs.since ++ at_base.since) more.each (subst (λ c. AreAnswered s disk c (stores_in left)) calls_are honest.answered)
+
+  names_are : names_in_turn honest.calls ≡ own_names (inputs_read inputs) before.readers.items
+  names_are =
+      ap names_in_turn calls_are ∙ in_turn_then more.since (at_inputs.since ++ at_base.since) ∙ ap (λ n. names_in_turn (at_inputs.since ++ at_base.since) ++ n) (names_none more.since more.each) ∙ append-nil (names_in_turn (at_inputs.since ++ at_base.since))
+      ∙ in_turn_then at_inputs.since at_base.since ∙ ap (λ n. n ++ names_in_turn at_inputs.since) at_base.in_turn ∙ at_inputs.in_turn
+
+  pub inputs_found : InputsFound feed standard.feed disk inputs input before handed
+  inputs_found =
+      let there = subst (AllByRecursion (λ name. IsThere (disk name))) at_inputs.in_turn (opened_there s disk (stores_in left) at_inputs.since at_base.since at_inputs.each answered_there) in
+      let k = files_of_each y disk (inputs_read inputs) before.readers.items opens.mid mid honest.bytes.files each_opens there in
+      let streams = subst (λ rs. AgreeInTurn feed disk (own_names (inputs_read inputs) before.readers.items) rs) (streams_are before handed left hands) (subst (λ ns. AgreeInTurn feed disk ns (streams_in left)) names_are honest.in_turn) in
+      let agrees = subst (λ v. IfSome v (λ reader. Agrees (Some input) (standard.feed reader))) hands.shared honest.agrees in
+      record {
+        files = k.files;
+        are = inputs_are disk inputs ∙ k.are;
+        of_bytes = k.own;
+        agree = record {
+          unread = opens.unread;
+          none_read = subst (λ r. IsUnread (standard.feed r)) (sym shared) honest.unread;
+          long = k.long;
+          agree = all_agree feed disk (inputs_read inputs) before.readers.items handed.readers.items k.files hands.placed k.of k.own streams;
+          shared_agrees = record { fit = honest.bytes.standard; rest = agrees.0; may = agrees.1 };
+        };
+      }
+
+  -- and the base, if it is handed back as it was opened or not at all
+  pub all_found : left.other ≡ None → (file ≡ None → left.read ≡ None) → AllKnown s disk base inputs input left.read (bytes_of inputs_found.files input)
+  all_found alone none =
+      let found = inputs_found in
+      let answered = subst (λ l. AreAnswered s disk at_base.since l) (ap (λ v. if_some v ++ if_some left.read) alone) (answered_before s disk (stores_in left) at_inputs.since at_base.since at_inputs.each answered_there) in
+      let x = base_known s y disk left.read file base old opens.mid at_base.since opens.base_is none at_base.are answered in
+      record {
+        old = x.0;
+        base_is = x.1;
+        has = x.2;
+        files = found.files;
+        are = found.are;
+        known = record { each = refl; known = known_all found.files input; own = found.of_bytes; bytes = honest.bytes.standard };
+      }
 
 -- ---- no file that is read has the temporary name
 

@@ -6,8 +6,7 @@ use Rattle.cdb_command.specs.Asked.{Asked}
 use Rattle.cdb_command.specs.Refused.{Refused}
 use Rattle.cdb_names.specs.Folder.{NameCalls}
 use Rattle.cdb_names.specs.declared.answer.Answer.TheVariants.{No, Unknown, Yes}
-use Rattle.cdb_names.specs.Replacing.{BuilderTells}
-use Rattle.cdb_names.specs.declared.replace.ReplaceFault.{ReplaceFault}
+use Rattle.cdb_form.specs.Fed.Feed.{Feed}
 use Rattle.cdb_store.specs.declared.raw.RawFile.{Ghosts as Raw}
 use Rattle.cdb_store.specs.declared.store.Store.{Ghosts}
 use Rattle.cdb_make.specs.Views.Maker.{WhereHonest}
@@ -22,7 +21,7 @@ use Rattle.cdb_system.specs.Telling.{refused_lines}
 use Rattle.cdb.specs.Performs.{Runs}
 use Rattle.cdb_system.specs.declared.left.Left.{Left}
 use Rattle.cdb_system.specs.declared.system.System.{Ghosts as Systems}
-use Rattle.cdb_system.specs.State.{failed_of, given_of, state_of}
+use Rattle.cdb_system.specs.State.{Standard, failed_of, given_of, state_of}
 use Rattle.cdb_system.specs.Files.{files_of}
 use Rattle.cdb_system.proofs.Said.{line_kept, says_kept}
 
@@ -58,13 +57,6 @@ run_under f m back images inner told said made ran over in_image = record {
   base_failed = ran.base_failed;
   runs = record { each = λ b is. of_weaker f back _ _ (runs_under m images inner told said made in_image) (ran.runs.each (over b is).0 (over b is).1) };
 }
-
--- what is said of a writer is said of what it has
-pub of_contents : {F R T : Type 0} (contents : T → Option (List ℕ)) (failed : T → Type 0) (f : Ghosts F) (r : Raw R) (m : Making F) (t n : List ℕ) (old new : NameCalls) (back : Option F) (told said : T) (answer : Result Unit (ReplaceFault Fault))
-    → BuilderTells r (λ base. base ≡ m.base) (λ base before after images made. IsBufferedRun f m base images (contents before) (contents after) made × OutputSays (failed after) made) t n old new back told said answer
-    → BuilderTells r (λ base. base ≡ m.base) (λ base before after images made. IsBufferedRun f m base images before after made) t n old new back (contents told) (contents said) answer
-of_contents contents failed f r m t n old new back told said answer (inl none) = inl (record { gave_up = none.gave_up; same = ap contents none.same; fault = none.fault; is = none.is; stops = none.stops; calls = none.calls; moments = none.moments })
-of_contents contents failed f r m t n old new back told said answer (inr some) = inr (record { left = some.left; built = some.built; tells_so = some.tells_so.0; answers = some.answers; sealed = some.sealed; same = some.same; unsynced = some.unsynced; renamed = some.renamed; cleared = some.cleared })
 
 -- ---- a store that was flushed
 
@@ -103,9 +95,9 @@ pub failed_stays : {T E : Type 0} (r : Result T E) (old new : Bool) → OnOk r (
 failed_stays (Ok done) old new same failed is = same ∙ is
 failed_stays (Err e) old new same failed is = failed
 
-pub run_kept : {F I J M R Y : Type 0} (s : Ghosts F) (m : Ghosts M) (r : Raw R) (remaining : I → Option (List ℕ)) (y : Systems Y F I M) (planned : Result Asked Refused) (explained : Bool) (input : Option (List ℕ)) (old new : Y) (was now : NameCalls) (left : Left F M I J) (start end final told mid said : Option (List ℕ)) (unwritten before after : Type 0) (status : ℕ)
-    → Runs (files_of s m remaining y) r (given_of planned explained input) (state_of old was start told) (state_of new now end mid) final left (failed_of unwritten before) status → (before → after) → Keeps mid said → Runs (files_of s m remaining y) r (given_of planned explained input) (state_of old was start told) (state_of new now end said) final left (failed_of unwritten after) status
-run_kept s m r remaining y planned explained input old new was now left start end final told mid said unwritten before after status h stays k = elim h as (λ _. Runs (files_of s m remaining y) r (given_of planned explained input) (state_of old was start told) (state_of new now end said) final left (failed_of unwritten after) status) [
+pub run_kept : {F I J M R Y : Type 0} (s : Ghosts F) (m : Ghosts M) (r : Raw R) (feed : I → Feed) (y : Systems Y F I M) (planned : Result Asked Refused) (explained : Bool) (input : Standard J) (old new : Y) (was now : NameCalls) (left : Left F M I J) (start end final told mid said : Option (List ℕ)) (unwritten before after : Type 0) (status : ℕ)
+    → Runs (files_of s m feed y) r (given_of planned explained input) (state_of old was start told) (state_of new now end mid) final left (failed_of unwritten before) status → (before → after) → Keeps mid said → Runs (files_of s m feed y) r (given_of planned explained input) (state_of old was start told) (state_of new now end said) final left (failed_of unwritten after) status
+run_kept s m r feed y planned explained input old new was now left start end final told mid said unwritten before after status h stays k = elim h as (λ _. Runs (files_of s m feed y) r (given_of planned explained input) (state_of old was start told) (state_of new now end said) final left (failed_of unwritten after) status) [
   | inl none ↦ inl (record { refused = none.refused; why = none.why; line = line_kept (refused_lines explained none.refused) told mid said before after stays none.line k; untouched = none.untouched; none = none.none; same = none.same; kept = none.kept; is_status = none.is_status })
   | inr some ↦
       inr (record {

@@ -1,3 +1,5 @@
+mod Agreeing
+mod HandedBack
 mod Databases
 mod Asks
 mod Oracles

@@ -5,6 +5,7 @@ use Rattle.std.specs.Prelude.{map, IfOk, string_bytes}
 use Rattle.std.proofs.lemmas.List.{append-nil}
 use Rattle.std.specs.Io.KnownBytes.{Keeps, Appends, append_known}
 use Rattle.std.proofs.KnownBytes.{Appends-kept, Keeps-refl, Keeps-trans}
+use Rattle.cdb_form.specs.Fed.Feed.{Feed}
 use Rattle.cdb_form.specs.declared.text.fault.TextFault.TheVariants as text
 use Rattle.cdb_form.specs.declared.walk.fault.WalkFault.TheVariants as walk
 use Rattle.cdb_command.specs.Asked.{Asked, asked_in, has_wide_words}
@@ -28,7 +29,7 @@ use Rattle.cdb_show.specs.declared.fault.Fault.TheVariants.{Text, Walk, Output, 
 use Rattle.cdb.specs.Created.{foretell}
 use Rattle.cdb.specs.Foretold.{AsksNoCreate, ComesTrue, IsForetold, IsRefused, IsTaken, MayFail, SaysLines}
 use Rattle.cdb_system.specs.Answered.{Honest, Nothing, reads_in_turn, stores_in, streams_in}
-use Rattle.cdb_system.proofs.Coming.{Comes, EachAnswered, IsSized, each_answered, no_prefix, nothing_written}
+use Rattle.cdb_system.proofs.Coming.{Comes, EachAgrees, EachAnswered, IsSized, each_agrees, each_answered, no_prefix, nothing_written}
 use Rattle.cdb_system.proofs.ManyKeys.{lookups_foretold}
 use Rattle.cdb_system.proofs.ComparedFiles.{difference_foretold}
 use Rattle.cdb_system.specs.Oracle.{Disk, Outcome, check_outcome, command_outcome, ended, oracle, stats_outcome}
@@ -38,7 +39,7 @@ use Rattle.cdb_system.specs.Causes.{Explains}
 use Rattle.cdb_system.specs.Opening.{OpenCalls}
 use Rattle.cdb_system.specs.declared.left.Left.{Left}
 use Rattle.cdb_system.specs.declared.system.System.{Ghosts as Systems}
-use Rattle.cdb_system.specs.State.{State, failed_of, given_of, state_of}
+use Rattle.cdb_system.specs.State.{Standard, State, failed_of, given_of, state_of}
 use Rattle.cdb_system.specs.Files.{files_of}
 use Rattle.cdb_system.proofs.FilesRead.{query_foretold, text_named, text_input, stats_comes, check_comes, on_named, on_input, stats_taken, check_taken, told_comes}
 
@@ -122,60 +123,60 @@ ends_so command o explained start end final told said unwritten unsaid result st
 
 -- ---- each command
 
-abbrev CommandComes : {F I J M R Y : Type 0} → Ghosts F → Ghosts M → Raw R → (I → Option (List ℕ)) → Systems Y F I M → (explained : Bool) → Command → Disk → (input : List ℕ) → (given : Option (List ℕ)) → (old new : State Y) → Left F M I J → Result Unit Fault → Type 0
-CommandComes s m r remaining y explained command disk input given old new left result =
-    Honest (files_of s m remaining y) disk input (asked_in command) given old.opened new.opened left → PerformsIn (has_wide_words (asked_in command)) (files_of s m remaining y) r (given_of (asked_in command) explained given) old new left result
+abbrev CommandComes : {F I J M R Y : Type 0} → Ghosts F → Ghosts M → Raw R → (I → Feed) → Systems Y F I M → (explained : Bool) → Command → Disk → (input : List ℕ) → (given : Standard J) → (old new : State Y) → Left F M I J → Result Unit Fault → Type 0
+CommandComes s m r feed y explained command disk input given old new left result =
+    Honest (files_of s m feed y) disk input (asked_in command) given old.opened new.opened left → PerformsIn (has_wide_words (asked_in command)) (files_of s m feed y) r (given_of (asked_in command) explained given) old new left result
     → IfSome (command_outcome (asked_in command) disk input) (λ o. Comes (writes_output (asked_in command)) (reads_in_turn (asked_in command)) (exit_status command) o old.output new.output result)
 
-command_comes : {F I J M R Y : Type 0} (s : Ghosts F) (m : Ghosts M) (r : Raw R) (remaining : I → Option (List ℕ)) (y : Systems Y F I M) (explained : Bool) (command : Command) (disk : Disk) (input : List ℕ) (given : Option (List ℕ)) (old new : State Y) (left : Left F M I J) (result : Result Unit Fault) → IsSized s → EachAnswered s disk (stores_in left) (streams_in left) (y.calls old.opened) (y.calls new.opened)
-    → CommandComes s m r remaining y explained command disk input given old new left result
-command_comes s m r remaining y explained (command.Query name key number lines true) disk input given old new left result sized calls honest h =
-    query_foretold remaining 8 s m y (string_bytes name) _ disk old new left result sized calls h
-command_comes s m r remaining y explained (command.Query name key number lines false) disk input given old new left result sized calls honest h =
-    query_foretold remaining 4 s m y (string_bytes name) _ disk old new left result sized calls h
-command_comes s m r remaining y explained (command.Dump (Some name) style true) disk input given old new left result sized calls honest h =
-    text_named s remaining 8 m y (dump_form style) (string_bytes name) disk old new left result calls h
-command_comes s m r remaining y explained (command.Dump (Some name) style false) disk input given old new left result sized calls honest h =
-    text_named s remaining 4 m y (dump_form style) (string_bytes name) disk old new left result calls h
-command_comes s m r remaining y explained (command.Dump None style true) disk input given old new left result sized calls honest h =
-    text_input s remaining 8 m y (dump_form style) input old new left result honest.standard h
-command_comes s m r remaining y explained (command.Dump None style false) disk input given old new left result sized calls honest h =
-    text_input s remaining 4 m y (dump_form style) input old new left result honest.standard h
-command_comes s m r remaining y explained (command.List (Some name) style true) disk input given old new left result sized calls honest h =
-    text_named s remaining 8 m y (list_form style) (string_bytes name) disk old new left result calls h
-command_comes s m r remaining y explained (command.List (Some name) style false) disk input given old new left result sized calls honest h =
-    text_named s remaining 4 m y (list_form style) (string_bytes name) disk old new left result calls h
-command_comes s m r remaining y explained (command.List None style true) disk input given old new left result sized calls honest h =
-    text_input s remaining 8 m y (list_form style) input old new left result honest.standard h
-command_comes s m r remaining y explained (command.List None style false) disk input given old new left result sized calls honest h =
-    text_input s remaining 4 m y (list_form style) input old new left result honest.standard h
-command_comes s m r remaining y explained (command.Stats (Some name) true) disk input given old new left result sized calls honest h =
-    on_named true s m remaining y plain_status _ (string_bytes name) disk (stats_outcome 8) old new left result _ _ refl calls (λ store last bytes is works does. stats_comes Nothing 8 s store last bytes old.output new.output result is (sized last bytes is) works does) h
-command_comes s m r remaining y explained (command.Stats (Some name) false) disk input given old new left result sized calls honest h =
-    on_named true s m remaining y plain_status _ (string_bytes name) disk (stats_outcome 4) old new left result _ _ refl calls (λ store last bytes is works does. stats_comes Nothing 4 s store last bytes old.output new.output result is (sized last bytes is) works does) h
-command_comes s m r remaining y explained (command.Stats None true) disk input given old new left result sized calls honest h =
-    on_input true plain_status _ input (stats_outcome 8) left old.output new.output result _ refl honest.standard (λ store last does. stats_taken 8 store last old.output new.output result does) h.1
-command_comes s m r remaining y explained (command.Stats None false) disk input given old new left result sized calls honest h =
-    on_input true plain_status _ input (stats_outcome 4) left old.output new.output result _ refl honest.standard (λ store last does. stats_taken 4 store last old.output new.output result does) h.1
-command_comes s m r remaining y explained (command.Check (Some name) true) disk input given old new left result sized calls honest h =
-    on_named false s m remaining y check_status _ (string_bytes name) disk (check_outcome 8) old new left result _ _ refl calls (λ store last bytes is works does. check_comes Nothing 8 s store last bytes old.output new.output result (omega arith) is works does) h
-command_comes s m r remaining y explained (command.Check (Some name) false) disk input given old new left result sized calls honest h =
-    on_named false s m remaining y check_status _ (string_bytes name) disk (check_outcome 4) old new left result _ _ refl calls (λ store last bytes is works does. check_comes Nothing 4 s store last bytes old.output new.output result (omega arith) is works does) h
-command_comes s m r remaining y explained (command.Check None true) disk input given old new left result sized calls honest h =
-    on_input false check_status _ input (check_outcome 8) left old.output new.output result _ refl honest.standard (λ store last does. check_taken 8 store last old.output new.output result (omega arith) does) h.1
-command_comes s m r remaining y explained (command.Check None false) disk input given old new left result sized calls honest h =
-    on_input false check_status _ input (check_outcome 4) left old.output new.output result _ refl honest.standard (λ store last does. check_taken 4 store last old.output new.output result (omega arith) does) h.1
-command_comes s m r remaining y explained (command.Difference first second true) disk input given old new left result sized calls honest h =
-    difference_foretold remaining 8 s m y (string_bytes first) (string_bytes second) disk old new left result sized calls honest.in_order h
-command_comes s m r remaining y explained (command.Difference first second false) disk input given old new left result sized calls honest h =
-    difference_foretold remaining 4 s m y (string_bytes first) (string_bytes second) disk old new left result sized calls honest.in_order h
-command_comes s m r remaining y explained (command.Create name base inputs temporary options wide) disk input given old new left result sized calls honest h = tt
-command_comes s m r remaining y explained command.Help disk input given old new left result sized calls honest h = told_comes usage_text old.output new.output result h.2
-command_comes s m r remaining y explained command.Version disk input given old new left result sized calls honest h = told_comes version_text old.output new.output result h.2
-command_comes s m r remaining y explained (command.Lookups name inputs number style true) disk input given old new left result sized calls honest h =
-    lookups_foretold remaining 8 9223372036854775807 s m y (string_bytes name) (map string_bytes inputs.items) number style true given disk input old new honest.calls left result sized calls honest.are honest.reveals h
-command_comes s m r remaining y explained (command.Lookups name inputs number style false) disk input given old new left result sized calls honest h =
-    lookups_foretold remaining 4 4294967295 s m y (string_bytes name) (map string_bytes inputs.items) number style false given disk input old new honest.calls left result sized calls honest.are honest.reveals h
+command_comes : {F I J M R Y : Type 0} (s : Ghosts F) (m : Ghosts M) (r : Raw R) (feed : I → Feed) (y : Systems Y F I M) (explained : Bool) (command : Command) (disk : Disk) (input : List ℕ) (given : Standard J) (old new : State Y) (left : Left F M I J) (result : Result Unit Fault) → IsSized s → EachAnswered s disk (stores_in left) (y.calls old.opened) (y.calls new.opened) → EachAgrees feed disk (streams_in left) (y.calls old.opened) (y.calls new.opened)
+    → CommandComes s m r feed y explained command disk input given old new left result
+command_comes s m r feed y explained (command.Query name key number lines true) disk input given old new left result sized calls agree honest h =
+    query_foretold feed 8 s m y (string_bytes name) _ disk old new left result sized calls h
+command_comes s m r feed y explained (command.Query name key number lines false) disk input given old new left result sized calls agree honest h =
+    query_foretold feed 4 s m y (string_bytes name) _ disk old new left result sized calls h
+command_comes s m r feed y explained (command.Dump (Some name) style true) disk input given old new left result sized calls agree honest h =
+    text_named s feed 8 m y (dump_form style) (string_bytes name) disk given old new left result calls agree h
+command_comes s m r feed y explained (command.Dump (Some name) style false) disk input given old new left result sized calls agree honest h =
+    text_named s feed 4 m y (dump_form style) (string_bytes name) disk given old new left result calls agree h
+command_comes s m r feed y explained (command.Dump None style true) disk input given old new left result sized calls agree honest h =
+    text_input s feed 8 m y (dump_form style) input given old new left result honest.unread honest.agrees h
+command_comes s m r feed y explained (command.Dump None style false) disk input given old new left result sized calls agree honest h =
+    text_input s feed 4 m y (dump_form style) input given old new left result honest.unread honest.agrees h
+command_comes s m r feed y explained (command.List (Some name) style true) disk input given old new left result sized calls agree honest h =
+    text_named s feed 8 m y (list_form style) (string_bytes name) disk given old new left result calls agree h
+command_comes s m r feed y explained (command.List (Some name) style false) disk input given old new left result sized calls agree honest h =
+    text_named s feed 4 m y (list_form style) (string_bytes name) disk given old new left result calls agree h
+command_comes s m r feed y explained (command.List None style true) disk input given old new left result sized calls agree honest h =
+    text_input s feed 8 m y (list_form style) input given old new left result honest.unread honest.agrees h
+command_comes s m r feed y explained (command.List None style false) disk input given old new left result sized calls agree honest h =
+    text_input s feed 4 m y (list_form style) input given old new left result honest.unread honest.agrees h
+command_comes s m r feed y explained (command.Stats (Some name) true) disk input given old new left result sized calls agree honest h =
+    on_named true s m feed y plain_status _ (string_bytes name) disk (stats_outcome 8) given old new left result _ _ refl calls (λ store last bytes is works does. stats_comes Nothing 8 s store last bytes old.output new.output result is (sized last bytes is) works does) h
+command_comes s m r feed y explained (command.Stats (Some name) false) disk input given old new left result sized calls agree honest h =
+    on_named true s m feed y plain_status _ (string_bytes name) disk (stats_outcome 4) given old new left result _ _ refl calls (λ store last bytes is works does. stats_comes Nothing 4 s store last bytes old.output new.output result is (sized last bytes is) works does) h
+command_comes s m r feed y explained (command.Stats None true) disk input given old new left result sized calls agree honest h =
+    on_input true plain_status _ input (stats_outcome 8) given left old.output new.output result _ refl honest.unread honest.agrees (λ store last does. stats_taken 8 store last old.output new.output result does) h.1
+command_comes s m r feed y explained (command.Stats None false) disk input given old new left result sized calls agree honest h =
+    on_input true plain_status _ input (stats_outcome 4) given left old.output new.output result _ refl honest.unread honest.agrees (λ store last does. stats_taken 4 store last old.output new.output result does) h.1
+command_comes s m r feed y explained (command.Check (Some name) true) disk input given old new left result sized calls agree honest h =
+    on_named false s m feed y check_status _ (string_bytes name) disk (check_outcome 8) given old new left result _ _ refl calls (λ store last bytes is works does. check_comes Nothing 8 s store last bytes old.output new.output result (omega arith) is works does) h
+command_comes s m r feed y explained (command.Check (Some name) false) disk input given old new left result sized calls agree honest h =
+    on_named false s m feed y check_status _ (string_bytes name) disk (check_outcome 4) given old new left result _ _ refl calls (λ store last bytes is works does. check_comes Nothing 4 s store last bytes old.output new.output result (omega arith) is works does) h
+command_comes s m r feed y explained (command.Check None true) disk input given old new left result sized calls agree honest h =
+    on_input false check_status _ input (check_outcome 8) given left old.output new.output result _ refl honest.unread honest.agrees (λ store last does. check_taken 8 store last old.output new.output result (omega arith) does) h.1
+command_comes s m r feed y explained (command.Check None false) disk input given old new left result sized calls agree honest h =
+    on_input false check_status _ input (check_outcome 4) given left old.output new.output result _ refl honest.unread honest.agrees (λ store last does. check_taken 4 store last old.output new.output result (omega arith) does) h.1
+command_comes s m r feed y explained (command.Difference first second true) disk input given old new left result sized calls agree honest h =
+    difference_foretold feed 8 s m y (string_bytes first) (string_bytes second) disk old new left result sized calls honest.in_order h
+command_comes s m r feed y explained (command.Difference first second false) disk input given old new left result sized calls agree honest h =
+    difference_foretold feed 4 s m y (string_bytes first) (string_bytes second) disk old new left result sized calls honest.in_order h
+command_comes s m r feed y explained (command.Create name base inputs temporary options wide) disk input given old new left result sized calls agree honest h = tt
+command_comes s m r feed y explained command.Help disk input given old new left result sized calls agree honest h = told_comes usage_text old.output new.output result h.2
+command_comes s m r feed y explained command.Version disk input given old new left result sized calls agree honest h = told_comes version_text old.output new.output result h.2
+command_comes s m r feed y explained (command.Lookups name inputs number style true) disk input given old new left result sized calls agree honest h =
+    lookups_foretold feed 8 9223372036854775807 s m y (record { name = string_bytes name; inputs = map string_bytes inputs.items; number = number; style = style }) disk input given old new left result sized honest.bytes honest.unread calls agree honest.agrees h
+command_comes s m r feed y explained (command.Lookups name inputs number style false) disk input given old new left result sized calls agree honest h =
+    lookups_foretold feed 4 4294967295 s m y (record { name = string_bytes name; inputs = map string_bytes inputs.items; number = number; style = style }) disk input given old new left result sized honest.bytes honest.unread calls agree honest.agrees h
 
 -- only a create says anything before it ends
 is_silent : (command : Command) (disk : Disk) (input : List ℕ) (told before : Option (List ℕ)) → IsUntouched (asked_in command) told before → IfSome (command_outcome (asked_in command) disk input) (λ o. before ≡ told)
@@ -204,10 +205,10 @@ no_memory_may : (planned : Result Asked Refused) → MayFail planned NoMemory
 no_memory_may (Ok command) = tt
 no_memory_may (Err usage) = refl
 
-run_foretold : {F I J M R Y : Type 0} (s : Ghosts F) (m : Ghosts M) (r : Raw R) (remaining : I → Option (List ℕ)) (y : Systems Y F I M) (planned : Result Asked Refused) (explained : Bool) (given : Option (List ℕ)) (old new : Y) (was now : NameCalls) (left : Left F M I J) (start end final told said : Option (List ℕ)) (unwritten unsaid : Type 0) (status : ℕ) (disk : Disk) (input : List ℕ)
-    → IsSized s → (unwritten → ⊥) → (unsaid → ⊥) → Keeps end final → Runs (files_of s m remaining y) r (given_of planned explained given) (state_of old was start told) (state_of new now end said) final left (failed_of unwritten unsaid) status
-    → IfOk planned (λ command. Honest (files_of s m remaining y) disk input command given old new left) → IfSome (oracle planned disk input) (λ o. Foretold planned o explained start final told said status)
-run_foretold s m r remaining y planned explained given old new was now left start end final told said unwritten unsaid status disk input sized writes speaks k (inl none) honest =
+run_foretold : {F I J M R Y : Type 0} (s : Ghosts F) (m : Ghosts M) (r : Raw R) (feed : I → Feed) (y : Systems Y F I M) (planned : Result Asked Refused) (explained : Bool) (given : Standard J) (old new : Y) (was now : NameCalls) (left : Left F M I J) (start end final told said : Option (List ℕ)) (unwritten unsaid : Type 0) (status : ℕ) (disk : Disk) (input : List ℕ)
+    → IsSized s → (unwritten → ⊥) → (unsaid → ⊥) → Keeps end final → Runs (files_of s m feed y) r (given_of planned explained given) (state_of old was start told) (state_of new now end said) final left (failed_of unwritten unsaid) status
+    → IfOk planned (λ command. Honest (files_of s m feed y) disk input command given old new left) → IfSome (oracle planned disk input) (λ o. Foretold planned o explained start final told said status)
+run_foretold s m r feed y planned explained given old new was now left start end final told said unwritten unsaid status disk input sized writes speaks k (inl none) honest =
     let kept = Keeps-trans start end final none.kept k in
     let line = refused_said explained none.refused told said unsaid speaks none.line in
     elim none.why [
@@ -224,14 +225,14 @@ run_foretold s m r remaining y planned explained given old new was now left star
         lines = line;
       }))
     ]
-run_foretold s m r remaining y planned explained given old new was now left start end final told said unwritten unsaid status disk input sized writes speaks k (inr some) honest =
+run_foretold s m r feed y planned explained given old new was now left start end final told said unwritten unsaid status disk input sized writes speaks k (inr some) honest =
     let command = some.command in
-    let honest = subst (λ p. IfOk p (λ c. Honest (files_of s m remaining y) disk input c given old new left)) some.asks honest in
+    let honest = subst (λ p. IfOk p (λ c. Honest (files_of s m feed y) disk input c given old new left)) some.asks honest in
     let handed = handed_all some.does.end final unwritten some.does.answer some.result writes some.does.hands in
     subst (λ p. IfSome (oracle p disk input) (λ o. Foretold p o explained start final told said status)) (sym some.asks)
     (some_so (command_outcome (asked_in command) disk input) (λ o. Comes (writes_output (asked_in command)) (reads_in_turn (asked_in command)) (exit_status command) o start some.does.end some.does.answer) (λ o. some.before ≡ told) (λ o. Foretold (Ok (asked_in command)) o explained start final told said status)
     (λ o comes silent. ends_so command o explained start some.does.end final told said unwritten unsaid some.result status writes some.output speaks handed.0 (subst (λ t. SaysResult explained some.result t said) silent (result_said explained (asked_in command) some.result (y.calls new) now some.more some.before said unsaid speaks some.explains some.says)) some.is_status (subst (Comes (writes_output (asked_in command)) (reads_in_turn (asked_in command)) (exit_status command) o start some.does.end) (sym handed.1) comes))
-    (command_comes s m r remaining y explained command disk input given (state_of old was start told) (state_of new now some.does.end some.before) left some.does.answer sized (each_answered s disk (stores_in left) (streams_in left) (y.calls old) (y.calls new) honest.calls honest.are honest.answered) honest some.does.performs)
+    (command_comes s m r feed y explained command disk input given (state_of old was start told) (state_of new now some.does.end some.before) left some.does.answer sized (each_answered s disk (stores_in left) (y.calls old) (y.calls new) honest.calls honest.are honest.answered) (each_agrees feed disk (streams_in left) (y.calls old) (y.calls new) honest.calls honest.are honest.in_turn) honest some.does.performs)
     (is_silent command disk input told some.before some.silent))
 
 -- an output that was flushed and did not fail holds nothing back
@@ -255,13 +256,13 @@ total_so (Ok asked.Help) disk input P none h = h
 total_so (Ok asked.Version) disk input P none h = h
 total_so (Err usage) disk input P none h = h
 
-pub run_is_foretold : {F I J M R Y W V : Type 0} (s : Ghosts F) (m : Ghosts M) (r : Raw R) (remaining : I → Option (List ℕ)) (y : Systems Y F I M) (planned : Result Asked Refused) (explained : Bool) (given : Option (List ℕ)) (old new : Y) (was now : NameCalls) (left : Left F M I J) (of_output : W → Option (List ℕ)) (of_errors : V → Option (List ℕ)) (output_old output_new : Writer W) (errors_old errors_new : Writer V) (status : ℕ)
+pub run_is_foretold : {F I J M R Y W V : Type 0} (s : Ghosts F) (m : Ghosts M) (r : Raw R) (feed : I → Feed) (y : Systems Y F I M) (planned : Result Asked Refused) (explained : Bool) (given : Standard J) (old new : Y) (was now : NameCalls) (left : Left F M I J) (of_output : W → Option (List ℕ)) (of_errors : V → Option (List ℕ)) (output_old output_new : Writer W) (errors_old errors_new : Writer V) (status : ℕ)
     → IsSized s → (held_by output_old ≡ [] → HasHandedOn output_new) → HasHandedOn errors_new
-    → Runs (files_of s m remaining y) r (given_of planned explained given) (state_of old was (output_bytes of_output output_old) (output_bytes of_errors errors_old)) (state_of new now (output_bytes of_output output_new) (output_bytes of_errors errors_new)) (of_output output_new.writer) left (failed_of (OutputFailed output_new) (OutputFailed errors_new)) status
-    → IsForetold (files_of s m remaining y) (given_of planned explained given) (state_of old was (output_bytes of_output output_old) (output_bytes of_errors errors_old)) (state_of new now (of_output output_new.writer) (of_errors errors_new.writer)) left (IsTaken output_old output_new errors_new) status
-run_is_foretold s m r remaining y planned explained given old new was now left of_output of_errors output_old output_new errors_old errors_new status sized handed said runs = λ disk input taken none honest.
+    → Runs (files_of s m feed y) r (given_of planned explained given) (state_of old was (output_bytes of_output output_old) (output_bytes of_errors errors_old)) (state_of new now (output_bytes of_output output_new) (output_bytes of_errors errors_new)) (of_output output_new.writer) left (failed_of (OutputFailed output_new) (OutputFailed errors_new)) status
+    → IsForetold (files_of s m feed y) (given_of planned explained given) (state_of old was (output_bytes of_output output_old) (output_bytes of_errors errors_old)) (state_of new now (of_output output_new.writer) (of_errors errors_new.writer)) left (IsTaken output_old output_new errors_new) status
+run_is_foretold s m r feed y planned explained given old new was now left of_output of_errors output_old output_new errors_old errors_new status sized handed said runs = λ disk input taken none honest.
     total_so planned disk input (λ o. Foretold planned o explained (output_bytes of_output output_old) (of_output output_new.writer) (output_bytes of_errors errors_old) (of_errors errors_new.writer) status) none
     (let end = output_bytes of_output output_new in
     let kept = subst (Keeps end) (all_taken of_output output_new (handed taken.0) taken.1) (Keeps-refl end) in
     subst (λ t. IfSome (oracle planned disk input) (λ o. Foretold planned o explained (output_bytes of_output output_old) (of_output output_new.writer) (output_bytes of_errors errors_old) t status)) (all_taken of_errors errors_new said taken.2)
-    (run_foretold s m r remaining y planned explained given old new was now left (output_bytes of_output output_old) end (of_output output_new.writer) (output_bytes of_errors errors_old) (output_bytes of_errors errors_new) (OutputFailed output_new) (OutputFailed errors_new) status disk input sized taken.1 taken.2 kept runs honest))
+    (run_foretold s m r feed y planned explained given old new was now left (output_bytes of_output output_old) end (of_output output_new.writer) (output_bytes of_errors errors_old) (output_bytes of_errors errors_new) (OutputFailed output_new) (OutputFailed errors_new) status disk input sized taken.1 taken.2 kept runs honest))

@@ -9,8 +9,8 @@ use Rattle.std.proofs.lemmas.Slice.Eq.{bytes_eq-Decides}
 use Rattle.std.specs.Io.KnownBytes.{Appends, Keeps}
 use Rattle.std.proofs.KnownBytes.{Keeps-refl}
 use Rattle.cdb_command.specs.declared.options.MakeOptions.{MakeOptions}
-use Rattle.cdb_names.specs.Folder.{Has, LeavesFile, MayHave, NameCalls}
-use Rattle.cdb_names.specs.Replacing.{BuilderAnswers, AreOfReplacing, AtEach, ClearsFile, HasCleared, IsNew, IsOfReplacing, IsReady, IsRenamed, LeavesOldOrNew, NameEvent, BuilderTells, TellsOfFile, StopsUnbuilt, renames}
+use Rattle.cdb_names.specs.Folder.{AreNamesApart, Has, LeavesFile, MayHave, NameCalls}
+use Rattle.cdb_names.specs.Replacing.{BuilderAnswers, AreOfReplacing, AtEach, AtEachMoment, ClearsFile, HasCleared, IsNew, IsOfReplacing, IsReady, IsRenamed, LeavesOldOrNew, NameEvent, BuilderTells, TellsOfFile, StopsUnbuilt, renames}
 use Rattle.cdb_names.specs.declared.name_trace.NameCall.{NameCall}
 use Rattle.cdb_names.specs.declared.name_trace.NameCall.TheVariants.{NotRemoved, NotRenamed, NotSynced, Removed, Renamed, Synced}
 use Rattle.cdb_names.specs.declared.name_trace.NameCall.TheVariants as name_call
@@ -358,10 +358,26 @@ unbuilt_says O t n old new replace.Write h = absurd h
 unbuilt_says O t n old new (replace.Build fault) h = absurd h
 
 -- a replacement tells of an output that failed if its builder does
-pub replaced_says : {F R T : Type 0} (contents : T → Option (List ℕ)) (failed : T → Type 0) (f : Ghosts F) (r : Raw R) (m : Making F) (t n : List ℕ) (old new : NameCalls) (back : Option F) (told said : T) (answer : Result Unit (ReplaceFault Fault))
-    → BuilderTells r (λ base. base ≡ m.base) (λ base before after images made. IsBufferedRun f m base images (contents before) (contents after) made × OutputSays (failed after) made) t n old new back told said answer → OutputSays (failed said) (answer_of answer)
-replaced_says contents failed f r m t n old new back told said answer (inl none) = subst (λ a. OutputSays (failed said) (answer_of a)) (sym none.is) (unbuilt_says (failed said) t n old new none.fault none.stops)
-replaced_says contents failed f r m t n old new back told said answer (inr some) = answered_says (failed said) some.built answer some.answers some.tells_so.1
+pub replaced_says : {B R T : Type 0} (failed : T → Type 0) (r : Raw R) (gives_up : B → Type 0) (tells : B → T → T → (List ℕ → Type 0) → Result Unit Fault → Type 0) (t n : List ℕ) (old new : NameCalls) (back : B) (told said : T) (answer : Result Unit (ReplaceFault Fault))
+    → ((images : List ℕ → Type 0) (made : Result Unit Fault) → tells back told said images made → OutputSays (failed said) made) → BuilderTells r gives_up tells t n old new back told said answer → OutputSays (failed said) (answer_of answer)
+replaced_says failed r gives_up tells t n old new back told said answer says (inl none) = subst (λ a. OutputSays (failed said) (answer_of a)) (sym none.is) (unbuilt_says (failed said) t n old new none.fault none.stops)
+replaced_says failed r gives_up tells t n old new back told said answer says (inr some) = answered_says (failed said) some.built answer some.answers (says (images_of some.left) some.built some.tells_so)
+
+-- what is whole may be more
+weaker_new : (P Q : List ℕ → Type 0) → ((b : List ℕ) → P b → Q b) → (held : Option (List ℕ)) → IsNew P held → IsNew Q held
+weaker_new P Q go None new = absurd new
+weaker_new P Q go (Some b) new = go b new
+
+pub weaker_moments : (t n : List ℕ) (P Q : List ℕ → Type 0) (old new : NameCalls) → ((b : List ℕ) → P b → Q b) → AtEachMoment (LeavesOldOrNew t n P old) old new → AtEachMoment (LeavesOldOrNew t n Q old) old new
+weaker_moments t n P Q old new go h = record {
+  since = h.since;
+  calls = h.calls;
+  each = each_weaker (LeavesOldOrNew t n P old) (LeavesOldOrNew t n Q old) h.since old (λ now leaves place here apart first held may. elim (leaves place here apart first held may) as (λ _. MayHave place first old held ⊎ IsNew Q held ⊎ ((place t ≡ true) × (AreNamesApart t n now → ⊥))) [
+    | inl was ↦ inl was
+    | inr (inl new) ↦ inr (inl (weaker_new P Q go held new))
+    | inr (inr both) ↦ inr (inr both)
+  ]) h.each;
+}
 
 same_replace : (e g : ReplaceFault Fault) → ◌≡◌ {A = Result Unit (ReplaceFault Fault)} (Err e) (Err g) → e ≡ g
 same_replace e g h = cc

@@ -13,6 +13,7 @@ use Rattle.cdb_command.specs.declared.command.Command.TheVariants as command
 use Rattle.cdb_command.specs.declared.options.MakeOptions.{MakeOptions}
 use Rattle.cdb_command.specs.Refused.{Refused, usage_of}
 use Rattle.cdb_names.specs.Folder.{NameCalls}
+use Rattle.cdb_form.specs.Fed.Feed.{Feed}
 use Rattle.cdb_store.specs.declared.raw.RawFile.{Ghosts as Raw}
 use Rattle.cdb_store.specs.declared.store.Store.{Ghosts}
 use Rattle.cdb_show.specs.Message.{fault_line}
@@ -21,7 +22,6 @@ use Rattle.cdb_show.specs.declared.fault.Fault.{Fault}
 use Rattle.cdb_show.specs.declared.fault.Fault.TheVariants.{Missing, NoMemory}
 use Rattle.cdb.specs.Created.{Created, create_of}
 use Rattle.cdb.specs.Creating.{Creates}
-use Rattle.cdb_system.specs.Answered.{GivesInputs}
 use Rattle.cdb.specs.Foretold.{IsTaken}
 use Rattle.cdb.specs.ForetoldCreate.{CreateHolds, HonestCreate, IsCreateForetold, IsCreated, IsGivenUp, expected_of, passing}
 use Rattle.cdb_system.specs.Oracle.{Disk, ended, greatest_size, word_size}
@@ -40,7 +40,7 @@ use Rattle.cdb.proofs.CreateReads.{asking_none, moments_first}
 use Rattle.cdb.proofs.Creates.{creates_so}
 use Rattle.cdb.proofs.Oracles.{all_taken, handed_all}
 use Rattle.cdb.proofs.Replaced.{said_nothing}
-use Rattle.cdb_system.specs.State.{failed_of, given_of, state_of}
+use Rattle.cdb_system.specs.State.{Standard, failed_of, given_of, state_of}
 use Rattle.cdb_system.specs.Files.{Files, files_of}
 use Rattle.cdb_system.specs.Opening.{OpenCalls}
 
@@ -105,11 +105,11 @@ if_done P (Err fault) h e = absurd (not_nothing fault e)
 same_asked : (a b : Asked) → ◌≡◌ {A = Result Asked Refused} (Ok a) (Ok b) → a ≡ b
 same_asked a b e = cc
 
-creates_in : {F I J M R Y : Type 0} (s : Ghosts F) (m : Ghosts M) (r : Raw R) (remaining : I → Option (List ℕ)) (y : Systems Y F I M) (name : List ℕ) (base : Option (List ℕ)) (inputs : List (List ℕ)) (temporary : Option (List ℕ)) (o : MakeOptions) (wide explained : Bool) (given : Option (List ℕ)) (old new : Y) (was now : NameCalls) (left : Left F M I J) (start end told said : Option (List ℕ)) (result : Result Unit Fault)
-    → PerformsIn wide (files_of s m remaining y) r (given_of (asked.Create name base inputs temporary o wide) explained given) (state_of old was start told) (state_of new now end said) left result
-    → (shown : MakeOptions) × IsShown explained inputs o shown × Creates (files_of s m remaining y) r (record { word = word_size wide; greatest = greatest_size wide; options = shown; name = name; base = base; inputs = inputs; temporary = temporary }) given (state_of (y.calls old) was start told) (state_of (y.calls new) now end said) left result
-creates_in s m r remaining y name base inputs temporary o true explained given old new was now left start end told said result h = h
-creates_in s m r remaining y name base inputs temporary o false explained given old new was now left start end told said result h = h
+creates_in : {F I J M R Y : Type 0} (s : Ghosts F) (m : Ghosts M) (r : Raw R) (feed : I → Feed) (y : Systems Y F I M) (name : List ℕ) (base : Option (List ℕ)) (inputs : List (List ℕ)) (temporary : Option (List ℕ)) (o : MakeOptions) (wide explained : Bool) (given : Standard J) (old new : Y) (was now : NameCalls) (left : Left F M I J) (start end told said : Option (List ℕ)) (result : Result Unit Fault)
+    → PerformsIn wide (files_of s m feed y) r (given_of (asked.Create name base inputs temporary o wide) explained given) (state_of old was start told) (state_of new now end said) left result
+    → (shown : MakeOptions) × IsShown explained inputs o shown × Creates (files_of s m feed y) r (record { word = word_size wide; greatest = greatest_size wide; options = shown; name = name; base = base; inputs = inputs; temporary = temporary }) given (state_of (y.calls old) was start told) (state_of (y.calls new) now end said) left result
+creates_in s m r feed y name base inputs temporary o true explained given old new was now left start end told said result h = h
+creates_in s m r feed y name base inputs temporary o false explained given old new was now left start end told said result h = h
 
 if_not_done : (P : Type 0) (answer : Result Unit Fault) → OnErr answer P → (plain answer ≡ 0 → ⊥) → P
 if_not_done P (Ok done) h some = absurd (some refl)
@@ -136,14 +136,14 @@ comes_so m disk shown c explained now made command name base inputs temporary o 
     })
 
 -- whether the calls were answered as the disk is says nothing of what was written
-honest_so : {F I M Y : Type 0} {files : Files F I M Y} {disk : Disk} {name : List ℕ} {old new : OpenCalls} {was now : NameCalls} {start end told said : Option (List ℕ)} {read : Option F} (final before : Option (List ℕ))
-    → HonestCreate files disk name (state_of old was start told) (state_of new now end said) read → HonestCreate files disk name (state_of old was start told) (state_of new now final before) read
-honest_so final before h = record { calls = h.calls; are = h.are; answered = h.answered; first = h.first; alone = h.alone; held = h.held; has = h.has }
+honest_so : {F I J M Y : Type 0} {files : Files F I M Y} {disk : Disk} {input name : List ℕ} {standard : Standard J} {old new : OpenCalls} {was now : NameCalls} {start end told said : Option (List ℕ)} {left : Left F M I J} (final before : Option (List ℕ))
+    → HonestCreate files disk input name standard (state_of old was start told) (state_of new now end said) left → HonestCreate files disk input name standard (state_of old was start told) (state_of new now final before) left
+honest_so final before h = record { calls = h.calls; are = h.are; answered = h.answered; in_turn = h.in_turn; unread = h.unread; agrees = h.agrees; bytes = h.bytes; first = h.first; alone = h.alone; held = h.held; has = h.has }
 
-run_holds : {F I J M R Y : Type 0} (s : Ghosts F) (m : Ghosts M) (r : Raw R) (remaining : I → Option (List ℕ)) (y : Systems Y F I M) (planned : Result Asked Refused) (explained : Bool) (given : Option (List ℕ)) (old new : Y) (was now : NameCalls) (left : Left F M I J) (start end final told said : Option (List ℕ)) (unwritten unsaid : Type 0) (status : ℕ) (disk : Disk) (input name : List ℕ) (base : Option (List ℕ)) (inputs : List (List ℕ)) (temporary : Option (List ℕ)) (o : MakeOptions) (wide : Bool)
-    → planned ≡ Ok (asked.Create name base inputs temporary o wide) → (unwritten → ⊥) → (unsaid → ⊥) → Keeps end final → GivesInputs disk inputs input given → HonestCreate (files_of s m remaining y) disk name (state_of (y.calls old) was start told) (state_of (y.calls new) now final said) left.read → Runs (files_of s m remaining y) r (given_of planned explained given) (state_of old was start told) (state_of new now end said) final left (failed_of unwritten unsaid) status
+run_holds : {F I J M R Y : Type 0} (s : Ghosts F) (m : Ghosts M) (r : Raw R) (feed : I → Feed) (y : Systems Y F I M) (planned : Result Asked Refused) (explained : Bool) (given : Standard J) (old new : Y) (was now : NameCalls) (left : Left F M I J) (start end final told said : Option (List ℕ)) (unwritten unsaid : Type 0) (status : ℕ) (disk : Disk) (input name : List ℕ) (base : Option (List ℕ)) (inputs : List (List ℕ)) (temporary : Option (List ℕ)) (o : MakeOptions) (wide : Bool)
+    → planned ≡ Ok (asked.Create name base inputs temporary o wide) → (unwritten → ⊥) → (unsaid → ⊥) → Keeps end final → HonestCreate (files_of s m feed y) disk input name given (state_of (y.calls old) was start told) (state_of (y.calls new) now final said) left → Runs (files_of s m feed y) r (given_of planned explained given) (state_of old was start told) (state_of new now end said) final left (failed_of unwritten unsaid) status
     → CreateHolds m (expected_of disk name temporary (create_of (word_size wide) (greatest_size wide) disk input name base inputs temporary o)) explained left.made (state_of (y.calls old) was start told) (state_of (y.calls new) now final said) status
-run_holds s m r remaining y planned explained given old new was now left start end final told said unwritten unsaid status disk input name base inputs temporary o wide plan writes speaks kept gives honest (inl none) = elim none.why [
+run_holds s m r feed y planned explained given old new was now left start end final told said unwritten unsaid status disk input name base inputs temporary o wide plan writes speaks kept honest (inl none) = elim none.why [
   | inl lacks ↦ (let c = create_of (word_size wide) (greatest_size wide) disk input name base inputs temporary o in
       let is : status ≡ 111 = none.is_status ∙ ap (λ x. usage_status (usage_of x)) lacks in
       record {
@@ -160,15 +160,15 @@ run_holds s m r remaining y planned explained given old new was now left start e
       })
   | inr refused ↦ absurd (let no : ◌≡◌ {A = Result Asked Refused} (Ok (asked.Create name base inputs temporary o wide)) (Err none.refused) = sym plan ∙ refused in cc)
 ]
-run_holds s m r remaining y planned explained given old new was now left start end final told said unwritten unsaid status disk input name base inputs temporary o wide plan writes speaks kept gives honest (inr some) =
+run_holds s m r feed y planned explained given old new was now left start end final told said unwritten unsaid status disk input name base inputs temporary o wide plan writes speaks kept honest (inr some) =
     let command = some.command in
     let does = some.does in
     let a : asked_in command ≡ asked.Create name base inputs temporary o wide = same_asked (asked_in command) (asked.Create name base inputs temporary o wide) (sym some.asks ∙ plan) in
-    let performs = subst (λ q. PerformsIn (has_wide_words q) (files_of s m remaining y) r (given_of q explained given) (state_of old was start told) (state_of new now does.end some.before) left does.answer) a does.performs in
-    let shows = creates_in s m r remaining y name base inputs temporary o wide explained given old new was now left start does.end told some.before does.answer performs in
+    let performs = subst (λ q. PerformsIn (has_wide_words q) (files_of s m feed y) r (given_of q explained given) (state_of old was start told) (state_of new now does.end some.before) left does.answer) a does.performs in
+    let shows = creates_in s m r feed y name base inputs temporary o wide explained given old new was now left start does.end told some.before does.answer performs in
     let shown = shows.0 in
     let creates = shows.2 in
-    let so = creates_so s m r remaining y (word_size wide) (greatest_size wide) disk input name base inputs temporary shown given (y.calls old) (y.calls new) left was now start does.end told some.before does.answer gives (honest_so does.end some.before honest) creates in
+    let so = creates_so s m r feed y (word_size wide) (greatest_size wide) disk input name base inputs temporary shown given (y.calls old) (y.calls new) left was now start does.end told some.before does.answer (honest_so does.end some.before honest) creates in
     let handed = handed_all does.end final unwritten does.answer some.result writes does.hands in
     let c = create_of (word_size wide) (greatest_size wide) disk input name base inputs temporary shown in
     let some_is : status ≡ plain does.answer = some.is_status ∙ status_create command name base inputs temporary o wide some.result a ∙ ap plain handed.1 in
@@ -180,12 +180,12 @@ run_holds s m r remaining y planned explained given old new was now left start e
       moments = so.moments;
     })
 
-pub run_is_created : {F I J M R Y W V : Type 0} (s : Ghosts F) (m : Ghosts M) (r : Raw R) (remaining : I → Option (List ℕ)) (y : Systems Y F I M) (planned : Result Asked Refused) (explained : Bool) (given : Option (List ℕ)) (old new : Y) (was now : NameCalls) (left : Left F M I J) (of_output : W → Option (List ℕ)) (of_errors : V → Option (List ℕ)) (output_old output_new : Writer W) (errors_old errors_new : Writer V) (status : ℕ)
+pub run_is_created : {F I J M R Y W V : Type 0} (s : Ghosts F) (m : Ghosts M) (r : Raw R) (feed : I → Feed) (y : Systems Y F I M) (planned : Result Asked Refused) (explained : Bool) (given : Standard J) (old new : Y) (was now : NameCalls) (left : Left F M I J) (of_output : W → Option (List ℕ)) (of_errors : V → Option (List ℕ)) (output_old output_new : Writer W) (errors_old errors_new : Writer V) (status : ℕ)
     → (held_by output_old ≡ [] → HasHandedOn output_new) → HasHandedOn errors_new
-    → Runs (files_of s m remaining y) r (given_of planned explained given) (state_of old was (output_bytes of_output output_old) (output_bytes of_errors errors_old)) (state_of new now (output_bytes of_output output_new) (output_bytes of_errors errors_new)) (of_output output_new.writer) left (failed_of (OutputFailed output_new) (OutputFailed errors_new)) status
-    → IsCreateForetold (files_of s m remaining y) (given_of planned explained given) (state_of old was (output_bytes of_output output_old) (output_bytes of_errors errors_old)) (state_of new now (of_output output_new.writer) (of_errors errors_new.writer)) left (IsTaken output_old output_new errors_new) status
-run_is_created s m r remaining y planned explained given old new was now left of_output of_errors output_old output_new errors_old errors_new status handed said runs = λ disk input name base inputs temporary o wide plan taken gives honest.
+    → Runs (files_of s m feed y) r (given_of planned explained given) (state_of old was (output_bytes of_output output_old) (output_bytes of_errors errors_old)) (state_of new now (output_bytes of_output output_new) (output_bytes of_errors errors_new)) (of_output output_new.writer) left (failed_of (OutputFailed output_new) (OutputFailed errors_new)) status
+    → IsCreateForetold (files_of s m feed y) (given_of planned explained given) (state_of old was (output_bytes of_output output_old) (output_bytes of_errors errors_old)) (state_of new now (of_output output_new.writer) (of_errors errors_new.writer)) left (IsTaken output_old output_new errors_new) status
+run_is_created s m r feed y planned explained given old new was now left of_output of_errors output_old output_new errors_old errors_new status handed said runs = λ disk input name base inputs temporary o wide plan taken honest.
     (let end = output_bytes of_output output_new in
     let kept = subst (Keeps end) (all_taken of_output output_new (handed taken.0) taken.1) (Keeps-refl end) in
     subst (λ t. CreateHolds m (expected_of disk name temporary (create_of (word_size wide) (greatest_size wide) disk input name base inputs temporary o)) explained left.made (state_of (y.calls old) was (output_bytes of_output output_old) (output_bytes of_errors errors_old)) (state_of (y.calls new) now (of_output output_new.writer) t) status) (all_taken of_errors errors_new said taken.2)
-    (run_holds s m r remaining y planned explained given old new was now left (output_bytes of_output output_old) end (of_output output_new.writer) (output_bytes of_errors errors_old) (output_bytes of_errors errors_new) (OutputFailed output_new) (OutputFailed errors_new) status disk input name base inputs temporary o wide plan taken.1 taken.2 kept gives (honest_so (of_output output_new.writer) (output_bytes of_errors errors_new) honest) runs))
+    (run_holds s m r feed y planned explained given old new was now left (output_bytes of_output output_old) end (of_output output_new.writer) (output_bytes of_errors errors_old) (output_bytes of_errors errors_new) (OutputFailed output_new) (OutputFailed errors_new) status disk input name base inputs temporary o wide plan taken.1 taken.2 kept (honest_so (of_output output_new.writer) (output_bytes of_errors errors_new) honest) runs))

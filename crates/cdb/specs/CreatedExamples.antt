@@ -1,24 +1,35 @@
 -- What the oracle says of worked creates.
 use Rattle.std.specs.Fmt.{digits}
-use Rattle.std.specs.Prelude.{ℕ, ◌≡◌, true, false, bytes_eq, if◌then◌else◌, List, [], ◌∷◌}
+use Rattle.std.specs.Prelude.{ℕ, ◌≡◌, Bool, ◌&&◌, true, false, nat_lt, bytes_eq, if◌then◌else◌, List, [], ◌∷◌}
 use Rattle.std.specs.Prelude.{length, codes, Option, None, Some, Ok, refl, zero, suc, IfSome}
-use Rattle.std.proofs.Common.{arith, inl, subst}
+use Rattle.std.proofs.Common.{arith, inl, subst, sym}
+use Rattle.std.proofs.lemmas.Bool.{and_parts, cond_both, ltb-true}
+use Rattle.cdb_feed.specs.Noted.{noted_feed}
+use Rattle.cdb_feed.specs.declared.input_reader.InputReader.TheVariants.{Own, Shared}
+use Rattle.cdb_feed.specs.declared.noted_reader.NotedReader.{NotedReader}
 use Rattle.cdb_names.specs.Folder.{NameCalls}
 use Rattle.cdb_names.specs.declared.answer.Answer.TheVariants as looks
 use Rattle.cdb_names.specs.declared.name_trace.NameCall.TheVariants as name_call
 use Rattle.cdb_store.specs.Calls.{Calls, FileImage}
+use Rattle.cdb_store.specs.Contents.{contents}
 use Rattle.cdb_store.specs.contracts.memory.MemStoreStore.TheImpl.{ghosts as in_memory}
 use Rattle.cdb_store.specs.declared.memory.MemStore.{MemStore}
 use Rattle.cdb_store.specs.declared.trace.Call.TheVariants as file_call
+use Rattle.cdb_form.proofs.Bytes.ByteLemmas.{AreBytes-cons, AreBytes-nil}
 use Rattle.cdb_form.specs.Format.Record.{AreBytes}
-use Rattle.cdb_show.specs.Runs.Incoming.{KnownFor}
-use Rattle.cdb_system.specs.Files.{files_of}
-use Rattle.cdb_system.specs.Answered.{GivesInputs}
+use Rattle.cdb_system.specs.Answered.{AreAnswered, if_some}
+use Rattle.cdb_system.specs.Files.{Files, files_of}
+use Rattle.cdb_system.specs.NotedExamples.{ended, fresh, fresh_is_unread, more_agree, noted, these_agree}
+use Rattle.cdb_system.specs.Streams.{AgreeInTurn, Agrees, own_readers}
+use Rattle.cdb_system.specs.declared.left.Left.{Left}
+use Rattle.cdb_system.specs.declared.open_trace.OpenCall.TheVariants.{AtPlaces, InTurn}
+use Rattle.cdb.specs.Contents.{sources_left}
+use Rattle.cdb.specs.declared.contents.Sources.{Sources}
 use Rattle.cdb.specs.ForetoldCreate.{HonestCreate}
 use Rattle.cdb_system.specs.Opening.{OpenCalls}
-use Rattle.cdb_system.specs.State.{state_of}
+use Rattle.cdb_system.specs.State.{Standard, State, standard_of, state_of}
 use Rattle.cdb_system.specs.declared.system.System.{Ghosts as Systems}
-use Rattle.cdb_command.specs.Asked.{Create}
+use Rattle.cdb_command.specs.Asked.{Asked, Create}
 use Rattle.cdb_command.specs.declared.options.MakeOptions.{MakeOptions}
 use Rattle.cdb_command.specs.declared.style.Style.TheVariants.{Native}
 use Rattle.cdb_form.specs.Examples.WorkedFiles.{words_of, repeat, two_file}
@@ -118,42 +129,156 @@ empty_file = file_bytes 4 []
 abbrev file_calls : Calls
 file_calls = (file_call.Synced, []) ∷ (file_call.Wrote 0, empty_file) ∷ (file_call.Made, []) ∷ []
 
--- the calls on names of a create of an empty text, the newest first
-abbrev name_calls : NameCalls
-name_calls =
+-- the calls on names of a create of empty texts behind these questions, the newest first
+abbrev name_calls : (asked : NameCalls) → NameCalls
+name_calls asked =
     (name_call.Synced, its, [], []) ∷ (name_call.Renamed 2048, temporary, its, file_calls)
     ∷ (name_call.Same looks.No, temporary, its, []) ∷ (name_call.Own looks.Yes, temporary, [], [])
-    ∷ (name_call.Made 384, temporary, [], []) ∷ (name_call.Special looks.No, its, [], [])
-    ∷ (name_call.Input looks.No, temporary, [], []) ∷ []
+    ∷ (name_call.Made 384, temporary, [], []) ∷ (name_call.Special looks.No, its, [], []) ∷ asked
 
 newline_is : AreBytes (codes "\n")
 newline_is zero = omega arith
 newline_is (suc k) = omega arith
 
+-- whether all are bytes
+abbrev are_small : List ℕ → Bool
+are_small [] = true
+are_small (x ∷ xs) = nat_lt x 256 && are_small xs
+
+small_are : (xs : List ℕ) → are_small xs ≡ true → AreBytes xs
+small_are [] e = AreBytes-nil
+small_are (x ∷ xs) e = let both = and_parts (nat_lt x 256) (are_small xs) e in AreBytes-cons x xs (ltb-true x 256 both.0) (small_are xs both.1)
+
+empty_is : AreBytes empty_file
+unfolding empty_file file_bytes file_tables table_slots filled_slots slots_with table_entries entries_from file_pointers pointers_from record_bytes
+empty_is = small_are empty_file refl
+
 is_written : FileImage 2048 file_calls empty_file
 unfolding empty_file file_bytes file_tables table_slots filled_slots slots_with table_entries entries_from file_pointers pointers_from record_bytes
 is_written = (empty_file, ([], refl, omega arith, refl), omega arith, refl)
 
-of_none : (files : List (Option (List ℕ))) → ◌≡◌ {A = Option (List (Option (List ℕ)))} (Some (None ∷ [])) (Some files) → KnownFor files (Some (codes "\n")) (codes "\n")
-of_none files e = subst (λ (v : Option (List (Option (List ℕ)))). IfSome v (λ fs. KnownFor fs (Some (codes "\n")) (codes "\n"))) e refl
+-- a file of an empty text, and a database without records
+abbrev text : List ℕ
+text = codes "in"
 
-inputs_are_given : GivesInputs nothing [] (codes "\n") (Some (codes "\n"))
-unfolding nothing
-inputs_are_given = record {
-  bytes = record { files = λ name. tt; standard = newline_is };
-  known = λ files e. of_none files e;
-}
+abbrev first : List ℕ
+first = codes "b.cdb"
 
-create_is_honest : (y : Systems OpenCalls MemStore (List ℕ) MemStore)
-    → HonestCreate (files_of in_memory in_memory Some y) nothing its (state_of [] [] None None)
-    (state_of [] name_calls None None) None
+unfoldable with_text : Disk
+with_text file = if bytes_eq file text then Some (codes "\n") else None
+
+unfoldable with_base : Disk
+with_base file = if bytes_eq file first then Some empty_file else None
+
+text_has : (file : List ℕ) → IfSome (with_text file) AreBytes
+unfolding with_text
+text_has file = cond_both (bytes_eq file text) _ _ (λ o. IfSome o AreBytes) (λ is. newline_is) (λ no. tt)
+
+base_has : (file : List ℕ) → IfSome (with_base file) AreBytes
+unfolding with_base
+base_has file = cond_both (bytes_eq file first) _ _ (λ o. IfSome o AreBytes) (λ is. empty_is) (λ no. tt)
+
+-- readers that note what they gave, of files in memory
+abbrev Reader : Type 0
+Reader = NotedReader (List ℕ)
+
+abbrev from : Systems OpenCalls MemStore Reader MemStore → Files MemStore Reader MemStore OpenCalls
+from y = files_of in_memory in_memory noted_feed y
+
+abbrev standard : (input : List ℕ) → Standard Reader
+standard input = standard_of noted_feed (fresh input)
+
+-- what is handed back
+abbrev left_of : Sources MemStore Reader Reader → Left MemStore MemStore Reader Reader
+left_of sources = sources_left sources None
+
+abbrev calls_of : OpenCalls → NameCalls → State OpenCalls
+calls_of opened named = state_of opened named None None
+
+-- cdb -c a.cdb, of standard input, of which an empty text came and no end
+create_is_honest : (y : Systems OpenCalls MemStore Reader MemStore) → (sources : Sources MemStore Reader Reader)
+    → sources.base ≡ None → sources.inputs.readers.items ≡ Shared ∷ [] → sources.inputs.shared ≡ noted [] (codes "\n")
+    → HonestCreate (from y) nothing (codes "\n") its (standard (codes "\n")) (calls_of [] [])
+    (calls_of [] (name_calls ((name_call.Input looks.No, temporary, [], []) ∷ []))) (left_of sources)
 unfolding nothing
-create_is_honest y = record {
+create_is_honest y sources based readers shared = record {
   calls = [];
   are = refl;
   answered = tt;
+  in_turn = tt;
+  unread = fresh_is_unread (codes "\n");
+  agrees = subst (λ r. Agrees (Some (codes "\n")) (noted_feed r)) (sym shared) (more_agree {R = List ℕ} [] (codes "\n") []);
+  bytes = record { files = λ name. tt; standard = newline_is };
   first = refl;
   alone = (tt, (tt, ((λ said same. (let no : temporary ≡ its = same in cc), λ said. absurd (said refl)), (tt, (tt, (tt, (refl, tt)))))));
   held = Some empty_file;
   has = inl (refl, λ synced. is_written);
 }
+
+create_is : (of_file plain None nothing (codes "\n")).disk its ≡ Some empty_file
+unfolding nothing plain text_from empty_file file_bytes file_tables table_slots filled_slots slots_with table_entries entries_from file_pointers pointers_from record_bytes
+create_is = refl
+
+-- cdb -c a.cdb in, of a file, of which all came and its end; of standard input nothing did
+abbrev of_text : Asked
+of_text = Create its None (text ∷ []) None plain false
+
+file_is_honest : (y : Systems OpenCalls MemStore Reader MemStore) → (sources : Sources MemStore Reader Reader)
+    → sources.base ≡ None → sources.inputs.readers.items ≡ Own (ended [] (codes "\n")) ∷ [] → sources.inputs.shared ≡ fresh []
+    → HonestCreate (from y) with_text [] its (standard []) (calls_of [] [])
+    (calls_of ((InTurn, text) ∷ []) (name_calls ((name_call.Same looks.No, temporary, text, []) ∷ []))) (left_of sources)
+unfolding with_text
+file_is_honest y sources based readers shared = record {
+  calls = (InTurn, text) ∷ [];
+  are = refl;
+  answered = (tt, tt);
+  in_turn = subst (λ rs. AgreeInTurn noted_feed with_text (text ∷ []) (own_readers rs)) (sym readers) (these_agree {R = List ℕ} [] (codes "\n"), tt);
+  unread = fresh_is_unread {R = List ℕ} [];
+  agrees = subst (λ r. Agrees (Some []) (noted_feed r)) (sym shared) ([], record { begins = refl; ends = λ e. refl });
+  bytes = record { files = text_has; standard = AreBytes-nil };
+  first = refl;
+  alone = (tt, (tt, ((λ said same. (let no : temporary ≡ its = same in cc), λ said. absurd (said refl)), (tt, (tt, (tt, ((λ said same. (let no : temporary ≡ text = same in cc), λ said. absurd (said refl)), tt)))))));
+  held = Some empty_file;
+  has = inl (refl, λ synced. is_written);
+}
+
+file_is : (foretell (Ok of_text) with_text []).disk its ≡ Some empty_file
+unfolding with_text plain text_from empty_file file_bytes file_tables table_slots filled_slots slots_with table_entries entries_from file_pointers pointers_from record_bytes
+file_is = refl
+
+-- cdb -c -b b.cdb a.cdb - -, of standard input twice, behind a base: two empty texts came
+abbrev of_base : Asked
+of_base = Create its (Some first) (codes "-" ∷ codes "-" ∷ []) None plain false
+
+abbrev texts : List ℕ
+texts = codes "\n\n"
+
+texts_are : AreBytes texts
+texts_are zero = omega arith
+texts_are (suc zero) = omega arith
+texts_are (suc (suc k)) = omega arith
+
+base_is_honest : (y : Systems OpenCalls MemStore Reader MemStore) → (sources : Sources MemStore Reader Reader) → (store : MemStore)
+    → sources.base ≡ Some store → empty_file ≡ contents store → sources.inputs.readers.items ≡ Shared ∷ Shared ∷ [] → sources.inputs.shared ≡ noted [] texts
+    → HonestCreate (from y) with_base texts its (standard texts) (calls_of [] [])
+    (calls_of ((AtPlaces, first) ∷ [])
+    (name_calls ((name_call.Input looks.No, temporary, [], []) ∷ (name_call.Input looks.No, temporary, [], []) ∷ (name_call.Same looks.No, temporary, first, []) ∷ [])))
+    (left_of sources)
+unfolding with_base
+base_is_honest y sources store based has readers shared = record {
+  calls = (AtPlaces, first) ∷ [];
+  are = refl;
+  answered = subst (λ b. AreAnswered in_memory with_base ((AtPlaces, first) ∷ []) (if_some b)) (sym based) ((has, refl), tt);
+  in_turn = tt;
+  unread = fresh_is_unread texts;
+  agrees = subst (λ r. Agrees (Some texts) (noted_feed r)) (sym shared) (more_agree {R = List ℕ} [] texts []);
+  bytes = record { files = base_has; standard = texts_are };
+  first = refl;
+  alone = (tt, (tt, ((λ said same. (let no : temporary ≡ its = same in cc), λ said. absurd (said refl)), (tt, (tt, (tt, (refl, (refl, ((λ said same. (let no : temporary ≡ first = same in cc), λ said. absurd (said refl)), tt)))))))));
+  held = Some empty_file;
+  has = inl (refl, λ synced. is_written);
+}
+
+base_is : (foretell (Ok of_base) with_base texts).disk its ≡ Some empty_file
+unfolding with_base plain text_from empty_file file_bytes file_tables table_slots filled_slots slots_with table_entries entries_from file_pointers pointers_from record_bytes words_of repeat walk_of walk_from whole_records record_end head_at
+base_is = refl

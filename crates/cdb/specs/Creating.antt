@@ -10,6 +10,8 @@ use Rattle.cdb_names.specs.declared.name_trace.NameCall.TheVariants as name_call
 use Rattle.cdb_names.specs.declared.replace.ReplaceFault.{ReplaceFault}
 use Rattle.cdb_names.specs.declared.replace.ReplaceFault.TheVariants as replace
 use Rattle.cdb_form.specs.Views.KnownBytes.{AppendsPrefix}
+use Rattle.cdb_feed.specs.Inputs.{AreUnread}
+use Rattle.cdb_feed.specs.declared.input_reader.InputReader.{InputReader}
 use Rattle.cdb_store.specs.Contents.{contents}
 use Rattle.cdb_store.specs.FileStore.{failures_of}
 use Rattle.cdb_store.specs.Images.{SameImages}
@@ -20,19 +22,19 @@ use Rattle.cdb_store.specs.declared.store.Store.{Ghosts}
 use Rattle.cdb_make.specs.Views.Maker.{WhereHonest}
 use Rattle.cdb_show.specs.Runs.Inputs.{InputsLeft}
 use Rattle.cdb_tool.specs.Runs.Make.{HandsBack, BaseHasFailed, IsOfBase, IsOfStore, Makes, OfBase, MakeRuns}
+use Rattle.cdb_show.specs.declared.fed_inputs.FedInputs.{FedInputs}
 use Rattle.cdb_show.specs.declared.fault.Fault.{Fault}
 use Rattle.cdb_show.specs.declared.fault.Fault.TheVariants.{Open, NoMemory, Output, Rename, Make}
 use Rattle.cdb_store.specs.declared.make_fault.MakeFault.TheVariants.{Writing}
-use Rattle.cdb_show.specs.declared.inputs.Turn.{Turn}
-use Rattle.cdb_show.specs.Views.Inputs.{one_of}
 use Rattle.cdb_system.specs.Files.{Files}
 use Rattle.cdb_system.specs.Inputs.{IsStandard, MissesBase, OpensBase, OpensInputs, StopsOpening, inputs_read}
 use Rattle.cdb_system.specs.Opening.{Empties, MissesEmptying, OpenCalls, base_left, named_as}
-use Rattle.cdb_system.specs.State.{State}
+use Rattle.cdb_system.specs.State.{Standard, State}
 use Rattle.cdb_system.specs.declared.left.Left.{Left}
 use Rattle.cdb_system.specs.declared.open_trace.OpenCall.TheVariants.{Own}
 use Rattle.cdb_system.specs.declared.system.System.{Ghosts as Systems}
 use Rattle.cdb_system.specs.Places.{IsInPlace, temporary_of}
+use Rattle.cdb.specs.Agreeing.{HandsInputs, OfAgreeing, OpensNoMore}
 
 -- ---- the database
 
@@ -201,6 +203,12 @@ SeesName name was now (Ok done) result =
     (answer : Answer) × (now ≡ (Own answer, name) ∷ was) × (result ≡ named_as answer)
 SeesName name was now (Err fault) result = (now ≡ was) × (result ≡ Err fault)
 
+-- no file of a store is handed back but the base, which is this
+pub record HandsBase {F I J M : Type 0} (base : Option F) (left : Left F M I J) : Type 0 where
+  pub read : left.read ≡ base
+  pub other : left.other ≡ None
+  pub made : left.made ≡ None
+
 -- a run was made in the store that came, which was emptied by these calls. It has the database once the run
 -- and its sync succeed, and the create succeeds if the name has the file then. It is left so
 pub record MakesEmptied {F I J M Y : Type 0} (files : Files F I M Y) (m : Making F) (name : List ℕ)
@@ -228,10 +236,10 @@ abbrev pub MakesInPlace : {F I J M Y : Type 0} → Files F I M Y → Making F �
     → (old new : State OpenCalls) → Left F M I J → Result Unit Fault → Type 0
 MakesInPlace files m wanted old new left result =
     (FindsOne wanted.name wanted.base wanted.inputs old.named new.named × (new.opened ≡ old.opened)
-    × (left ≡ base_left m.base) × (result ≡ Err Open) × Keeps old.errors new.errors)
+    × HandsBase m.base left × (result ≡ Err Open) × Keeps old.errors new.errors)
     ⊎ (AsksAll wanted.name wanted.base wanted.inputs old.named new.named
     × (((fault : Fault) × MissesEmptying wanted.name old.opened new.opened fault
-    × (left ≡ base_left m.base) × (result ≡ Err fault) × Keeps old.errors new.errors)
+    × HandsBase m.base left × (result ≡ Err fault) × Keeps old.errors new.errors)
     ⊎ ((emptied : OpenCalls) × Empties wanted.name old.opened emptied
     × MakesEmptied files m wanted.name emptied old new left result)))
 
@@ -290,7 +298,7 @@ abbrev pub MakesNamed : {F I J M R Y : Type 0} → Files F I M Y → Raw R → M
 MakesNamed files r m wanted old new left result =
     (IsInPlace wanted.name wanted.temporary × MakesInPlace files m wanted old new left result)
     ⊎ ((IsInPlace wanted.name wanted.temporary → ⊥) × (new.opened ≡ old.opened)
-    × (left ≡ base_left left.read)
+    × HandsBase left.read left
     × (((new.named ≡ old.named) × (left.read ≡ m.base) × (result ≡ Err NoMemory)
     × Keeps old.errors new.errors)
     ⊎ MakesApart files.stores r m (temporary_of wanted.name wanted.temporary) wanted old new
@@ -298,15 +306,14 @@ MakesNamed files r m wanted old new left result =
 
 -- ---- a create
 
--- what is read was opened: the base, then the inputs, of which standard input has these bytes
+-- what is read was opened: the base, then the inputs, of which nothing had been taken
 pub record OpensAll {F I M Y : Type 0} (files : Files F I M Y) (base : Option (List ℕ))
-    (inputs : List (List ℕ)) (standard : Option (List ℕ)) (old new : OpenCalls) (file : Option F)
-    (left : InputsLeft) : Type 0 where
-  pub turns : List (Turn I)
+    (inputs : List (List ℕ)) (old new : OpenCalls) (file : Option F) (readers : List (InputReader I))
+    : Type 0 where
   pub mid : OpenCalls
   pub base_is : OpensBase files.system base file old mid
-  pub inputs_are : OpensInputs files.system inputs turns mid new
-  pub left_is : left ≡ record { each = map (one_of files.remaining) turns; shared = standard }
+  pub inputs_are : OpensInputs files.system inputs readers mid new
+  pub unread : AreUnread files.feed readers
 
 -- or the base was not, or an input after it, and then that base is handed back
 pub record NotOpened {F I M Y : Type 0} (y : Systems Y F I M) (base : Option (List ℕ))
@@ -319,27 +326,39 @@ abbrev pub MakesAt : {F I J M R Y : Type 0} → Files F I M Y → Raw R → Maki
     → (old new : State OpenCalls) → Left F M I J → Result Unit Fault → Type 0
 MakesAt files r m wanted old new left result =
     (IsStandard wanted.name × (new.opened ≡ old.opened) × (new.named ≡ old.named)
-    × (left ≡ base_left left.read)
+    × HandsBase left.read left
     × MakesOnOutput files.stores m left.read old.output new.output old.errors new.errors result)
     ⊎ ((IsStandard wanted.name → ⊥) × Keeps old.output new.output
     × MakesNamed files r m wanted old new left result)
 
+-- Inputs were opened and handed back, and no other file was opened to be read. Of all inputs that agree with
+-- their readers, this is what was done.
+pub record HandsAll {F I J M Y : Type 0} (files : Files F I M Y) (standard : Standard J)
+    (inputs : FedInputs I J) (mid new : OpenCalls) (left : Left F M I J) (Does : InputsLeft → Type 0)
+    : Type 0 where
+  pub shared : inputs.shared ≡ standard.reader
+  pub handed : FedInputs I J
+  pub hands : HandsInputs inputs handed left
+  pub opens : OpensNoMore mid new
+  pub does : OfAgreeing files.feed standard.feed inputs handed Does
+
 -- all that is read is opened, and then the database is made of it; or nothing is made. A base that was
--- opened is handed back, as it came if nothing was built; so is a file that was made in place
+-- opened is handed back, as it came if nothing was built; so is a file that was made in place, and so are
+-- the readers of the inputs
 abbrev pub Creates : {F I J M R Y : Type 0} → Files F I M Y → Raw R → Wanted
-    → (standard : Option (List ℕ)) → (old new : State OpenCalls) → Left F M I J → Result Unit Fault → Type 0
-Creates {F = F} files r wanted standard old new left result =
+    → (standard : Standard J) → (old new : State OpenCalls) → Left F M I J → Result Unit Fault → Type 0
+Creates {F = F} {I = I} {J = J} files r wanted standard old new left result =
     ((fault : Fault) × (result ≡ Err fault)
     × NotOpened files.system wanted.base wanted.inputs old.opened new.opened left.read fault
     × (new.named ≡ old.named) × (left ≡ base_left left.read) × Keeps old.output new.output
     × Keeps old.errors new.errors)
-    ⊎ ((file : Option F) × (items : InputsLeft) × (mid : OpenCalls)
-    × OpensAll files wanted.base wanted.inputs standard old.opened mid file items
-    × MakesAt files r
+    ⊎ ((file : Option F) × (inputs : FedInputs I J) × (mid : OpenCalls)
+    × OpensAll files wanted.base wanted.inputs old.opened mid file inputs.readers.items
+    × HandsAll files standard inputs mid new.opened left (λ items. MakesAt files r
     (record {
       word = wanted.word;
       greatest = wanted.greatest;
       options = wanted.options;
       base = file;
       inputs = items;
-    }) wanted (record old { opened = mid }) new left result)
+    }) wanted (record old { opened = mid }) new left result))

@@ -1,7 +1,8 @@
 -- What the oracle says of a create comes true if the calls were answered as the disk is. The newest call
 -- comes first.
 use Rattle.std.specs.Prelude.{ℕ, ◌≡◌, ◌≢◌, ◌⊎◌, ⊤, bytes_eq, Bool, true, false, List, [], ◌∷◌, ◌++◌}
-use Rattle.std.specs.Prelude.{if◌then◌else◌, Option, None, Some, Result, Ok}
+use Rattle.std.specs.Prelude.{if◌then◌else◌, Option, None, Some, IfSome, Result, Ok}
+use Rattle.cdb_feed.specs.Inputs.{IsUnread}
 use Rattle.std.specs.List.{AllByRecursion}
 use Rattle.std.specs.Io.KnownBytes.{Appends}
 use Rattle.cdb_command.specs.Asked.{Asked, Create}
@@ -12,7 +13,7 @@ use Rattle.cdb_names.specs.Replacing.{AtEachMoment, IsNew, NameEvent}
 use Rattle.cdb_names.specs.declared.answer.Answer.TheVariants.{No, Yes}
 use Rattle.cdb_names.specs.declared.name_trace.NameCall.TheVariants.{Input, NotRemoved, NotRenamed, Same}
 use Rattle.cdb_form.specs.Views.KnownBytes.{AppendsPrefix}
-use Rattle.cdb_store.specs.Calls.{Agrees, Calls, lost}
+use Rattle.cdb_store.specs.Calls.{Agrees as AgreesFile, Calls, lost}
 use Rattle.cdb_store.specs.declared.store.Store.{Ghosts}
 use Rattle.cdb_show.specs.Message.{fault_line}
 use Rattle.cdb_tool.specs.Runs.MakesSo.{IsMakeRefusal}
@@ -21,10 +22,11 @@ use Rattle.cdb_show.specs.declared.fault.Fault.TheVariants.{Open, Output, Rename
 use Rattle.cdb.specs.Created.{Created, create_of, created_ending, is_in_place}
 use Rattle.cdb_system.specs.Places.{temporary_of}
 use Rattle.cdb_system.specs.Files.{Files}
-use Rattle.cdb_system.specs.Answered.{GivesInputs, IsRevealed, if_some}
+use Rattle.cdb_system.specs.Answered.{AreAnswered, IsOfBytes, stores_in, streams_in}
 use Rattle.cdb_system.specs.Opening.{OpenCalls}
 use Rattle.cdb_system.specs.Oracle.{Disk, greatest_size, is_standard, word_size}
-use Rattle.cdb_system.specs.State.{Given, State, with_calls}
+use Rattle.cdb_system.specs.State.{Given, Standard, State, with_calls}
+use Rattle.cdb_system.specs.Streams.{AgreeInTurn, Agrees, names_in_turn}
 use Rattle.cdb_system.specs.declared.left.Left.{Left}
 use Rattle.cdb_system.specs.declared.open_trace.OpenCall.TheVariants.{Own}
 
@@ -41,13 +43,17 @@ IsNoAlias (call, one, two, file) = ⊤
 abbrev pub place_of : (name : List ℕ) → List ℕ → Bool
 place_of name other = bytes_eq other name
 
--- each call was answered as the disk is, no call on names came before, and the name has something
-pub record HonestCreate {F I M Y : Type 0} (files : Files F I M Y) (disk : Disk) (name : List ℕ)
-    (old new : State OpenCalls) (read : Option F) : Type 0 where
+-- each call was answered as the disk is, and what was read is as its files and standard input are, of which
+-- nothing had been taken; no call on names came before, and the name has something
+pub record HonestCreate {F I J M Y : Type 0} (files : Files F I M Y) (disk : Disk) (input name : List ℕ)
+    (standard : Standard J) (old new : State OpenCalls) (left : Left F M I J) : Type 0 where
   pub calls : OpenCalls
   pub are : new.opened ≡ calls ++ old.opened
-  pub answered : AllByRecursion
-      (λ c. IsRevealed files.stores files.remaining files.system disk (if_some read) c.0 c.1) calls
+  pub answered : AreAnswered files.stores disk calls (stores_in left)
+  pub in_turn : AgreeInTurn files.feed disk (names_in_turn calls) (streams_in left)
+  pub unread : IsUnread (standard.feed standard.reader)
+  pub agrees : IfSome left.input (λ reader. Agrees (Some input) (standard.feed reader))
+  pub bytes : IsOfBytes disk input
   pub first : old.named ≡ []
   pub alone : AllByRecursion IsNoAlias new.named
   pub held : Option (List ℕ)
@@ -56,7 +62,7 @@ pub record HonestCreate {F I M Y : Type 0} (files : Files F I M Y) (disk : Disk)
 -- a file from which the temporary name was taken had some bytes
 abbrev pub HadBytes : (temporary : List ℕ) → NameCalls → Type 0
 HadBytes temporary calls = (file : Calls) (before : NameCalls) → IsCleared temporary file before calls
-    → (lost file ≡ false) × ((a : List ℕ) × Agrees file a)
+    → (lost file ≡ false) × ((a : List ℕ) × AgreesFile file a)
 
 -- the store that was made in place, if one was, has some
 abbrev pub HasBytes : {M : Type 0} → Ghosts M → Option M → Type 0
@@ -174,14 +180,13 @@ pub record CreateHolds {M : Type 0} (m : Ghosts M) (x : Expected) (explained : B
       (LeavesAll x.disk (passing x.name x.temporary) x.created.disk) old.named new.named
 
 -- a run of these words, which ask for a create
-abbrev pub IsCreateForetold : {F I J M Y : Type 0} → Files F I M Y → Given (Result Asked Refused)
+abbrev pub IsCreateForetold : {F I J M Y : Type 0} → Files F I M Y → Given (Result Asked Refused) J
     → (old new : State Y) → Left F M I J → (taken : Type 0) → (status : ℕ) → Type 0
 IsCreateForetold files given old new left taken status =
     (disk : Disk) (input name : List ℕ) (base : Option (List ℕ)) (inputs : List (List ℕ))
     (temporary : Option (List ℕ)) (o : MakeOptions) (wide : Bool)
     → given.asked ≡ Ok (Create name base inputs temporary o wide) → taken
-    → GivesInputs disk inputs input given.input
-    → HonestCreate files disk name (with_calls files old) (with_calls files new) left.read
+    → HonestCreate files disk input name given.input (with_calls files old) (with_calls files new) left
     → CreateHolds files.made (expected_of disk name temporary
     (create_of (word_size wide) (greatest_size wide) disk input name base inputs temporary o))
     given.explained left.made (with_calls files old) (with_calls files new) status

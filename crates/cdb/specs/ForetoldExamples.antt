@@ -7,6 +7,8 @@ use Rattle.std.specs.Prelude.{ℕ, ◌≡◌, ◌⊎◌, true, false, bytes_eq, 
 use Rattle.std.specs.Prelude.{codes, take, None, Some, Ok, ⊤, refl}
 use Rattle.cdb_command.specs.Asked.{Asked, Dump, Query, Stats}
 use Rattle.cdb_command.specs.declared.style.Style.TheVariants.{Native}
+use Rattle.cdb_feed.specs.Noted.{noted_feed}
+use Rattle.cdb_feed.specs.declared.noted_reader.NotedReader.{NotedReader}
 use Rattle.cdb_form.specs.Examples.WorkedFiles.{words_of, repeat, two_file}
 use Rattle.cdb_form.specs.Format.Reading.{head_at}
 use Rattle.cdb_form.specs.Format.Table.{entries_from}
@@ -26,12 +28,12 @@ use Rattle.cdb_store.specs.declared.raw.RawFile.{Ghosts as Raw}
 use Rattle.cdb.specs.Created.{foretell}
 use Rattle.cdb.specs.Foretold.{AsksNoCreate, IsForetold, IsTaken}
 use Rattle.cdb.specs.Running.{IsRun, Taking, given_by, taken, world_of, written}
-use Rattle.cdb_system.specs.Answered.{Honest, Reveals}
+use Rattle.cdb_system.specs.Answered.{Honest}
 use Rattle.cdb_system.specs.Files.{Files, files_of}
-use Rattle.cdb_system.specs.NotedExamples.{ended, front_agrees, noted, these_agree}
+use Rattle.cdb_system.specs.NotedExamples.{ended, fresh, fresh_is_unread, front_agrees, noted, these_agree}
 use Rattle.cdb_system.specs.Opening.{OpenCalls, input_left, read_left, stream_left}
 use Rattle.cdb_system.specs.Oracle.{Disk, Outcome}
-use Rattle.cdb_system.specs.State.{given_of}
+use Rattle.cdb_system.specs.State.{Standard, given_of, standard_of}
 use Rattle.cdb_system.specs.declared.left.Left.{Left}
 use Rattle.cdb_system.specs.declared.open_trace.OpenCall.TheVariants.{AtPlaces, InTurn}
 use Rattle.cdb_system.specs.declared.system.System.{Ghosts as Systems}
@@ -107,35 +109,45 @@ stats_are = refl
 
 -- ---- what is taken as given
 
--- a system that opens the file in memory, or to be read from its start on by a reader that tells nothing
-abbrev of_disk : Systems OpenCalls MemStore Unit MemStore
+-- a reader that tells nothing before it is read, and notes what it gave
+abbrev Reader : Type 0
+Reader = NotedReader Unit
+
+-- a system that opens the file in memory, or to be read from its start on by such a reader
+abbrev of_disk : Systems OpenCalls MemStore Reader MemStore
 of_disk = record {
   calls = λ calls. calls;
-  gives = λ name store. Reveals (disk name) (Some (contents store));
+  gives = λ name store. disk name ≡ Some (contents store);
   reads = λ name reader. ⊤;
   makes = λ name store. ⊤;
 }
 
-abbrev files : Files MemStore Unit MemStore OpenCalls
-files = files_of in_memory in_memory (λ reader. None) of_disk
+abbrev files : Files MemStore Reader MemStore OpenCalls
+files = files_of in_memory in_memory noted_feed of_disk
+
+-- standard input is read by such a reader too
+abbrev standard : Standard Reader
+standard = standard_of noted_feed (fresh tt)
 
 -- what is handed back by a command that makes nothing
 abbrev Back : Type 0
-Back = Left MemStore MemStore Unit Unit
+Back = Left MemStore MemStore Reader Reader
 
 -- the query read the file in memory
 abbrev query_calls : OpenCalls
 query_calls = (AtPlaces, codes "a.cdb") ∷ []
 
 query_is_honest : (store : MemStore) → two_file ≡ contents store
-    → Honest {J = Unit} files disk [] query None [] query_calls (read_left store)
+    → Honest files disk [] query standard [] query_calls (let left : Back = read_left store in left)
 unfolding disk
 query_is_honest store has = record {
   calls = query_calls;
   are = refl;
   answered = ((has, refl), tt);
-  standard = tt;
-  reveals = tt;
+  in_turn = tt;
+  unread = fresh_is_unread {R = Unit} tt;
+  agrees = tt;
+  bytes = tt;
   in_order = tt;
 }
 
@@ -146,14 +158,16 @@ dump_calls = (InTurn, codes "a.cdb") ∷ []
 abbrev dump_left : Back
 dump_left = stream_left (noted tt (take 2082 two_file))
 
-dump_is_honest : Honest files disk [] dump None [] dump_calls dump_left
+dump_is_honest : Honest files disk [] dump standard [] dump_calls dump_left
 unfolding disk
 dump_is_honest = record {
   calls = dump_calls;
   are = refl;
-  answered = (front_agrees {R = Unit} tt 2082 two_file, tt);
-  standard = tt;
-  reveals = tt;
+  answered = (tt, tt);
+  in_turn = (front_agrees {R = Unit} tt 2082 two_file, tt);
+  unread = fresh_is_unread {R = Unit} tt;
+  agrees = tt;
+  bytes = tt;
   in_order = tt;
 }
 
@@ -161,13 +175,15 @@ dump_is_honest = record {
 abbrev input_dump_left : Back
 input_dump_left = input_left (noted tt (take 2082 two_file))
 
-input_dump_is_honest : Honest files disk two_file input_dump None [] [] input_dump_left
+input_dump_is_honest : Honest files disk two_file input_dump standard [] [] input_dump_left
 input_dump_is_honest = record {
   calls = [];
   are = refl;
   answered = tt;
-  standard = front_agrees {R = Unit} tt 2082 two_file;
-  reveals = tt;
+  in_turn = tt;
+  unread = fresh_is_unread {R = Unit} tt;
+  agrees = front_agrees {R = Unit} tt 2082 two_file;
+  bytes = tt;
   in_order = tt;
 }
 
@@ -175,13 +191,15 @@ input_dump_is_honest = record {
 abbrev stats_left : Back
 stats_left = input_left (ended tt two_file)
 
-stats_are_honest : Honest files disk two_file stats None [] [] stats_left
+stats_are_honest : Honest files disk two_file stats standard [] [] stats_left
 stats_are_honest = record {
   calls = [];
   are = refl;
   answered = tt;
-  standard = these_agree {R = Unit} tt two_file;
-  reveals = tt;
+  in_turn = tt;
+  unread = fresh_is_unread {R = Unit} tt;
+  agrees = these_agree {R = Unit} tt two_file;
+  bytes = tt;
   in_order = tt;
 }
 
@@ -192,7 +210,7 @@ module _ {R O E : Type 0} (r : Raw R) (t : Taking O E) (was now : NameCalls) (ou
   abbrev Ran : (words : List (List ℕ)) → OpenCalls → Back → Type 0
   Ran words calls left =
       IsTaken output_old output_new errors_new
-      × IsRun files r (given_by words None) t (world_of [] was output_old errors_old)
+      × IsRun files r (given_by words standard) t (world_of [] was output_old errors_old)
       (world_of calls now output_new errors_new) left status
 
   -- it came to this, or a failure was reported, and a prefix was written
@@ -201,11 +219,11 @@ module _ {R O E : Type 0} (r : Raw R) (t : Taking O E) (was now : NameCalls) (ou
       ((status ≡ o.status) × Appends (output_bytes t.output output_old) (t.output output_new.writer) o.output)
       ⊎ ((status ≡ 111) × AppendsPrefix (output_bytes t.output output_old) (t.output output_new.writer) o.output)
 
-  came_to : (words : List (List ℕ)) (command : Asked) (input : List ℕ) (calls : OpenCalls) (left : Back) (o : Outcome) → plan_of words ≡ Ok command → AsksNoCreate (Ok command) → (foretell (Ok command) disk input).outcome ≡ o → Honest files disk input command None [] calls left → Ran words calls left → CameTo o
+  came_to : (words : List (List ℕ)) (command : Asked) (input : List ℕ) (calls : OpenCalls) (left : Back) (o : Outcome) → plan_of words ≡ Ok command → AsksNoCreate (Ok command) → (foretell (Ok command) disk input).outcome ≡ o → Honest files disk input command standard [] calls left → Ran words calls left → CameTo o
   came_to words command input calls left o asked none is honest ran =
       let old = world_of [] was output_old errors_old in
       let new = world_of calls now output_new errors_new in
-      let foretold = subst (λ p. IsForetold files (given_of p (explains_in words) None) (written t old) (taken t new) left (IsTaken output_old output_new errors_new) status) asked ran.1.foretold in
+      let foretold = subst (λ p. IsForetold files (given_of p (explains_in words) standard) (written t old) (taken t new) left (IsTaken output_old output_new errors_new) status) asked ran.1.foretold in
       subst CameTo is (elim (foretold disk input ran.0 none honest) [
         | inl came ↦ inl (came.is_status, came.output)
         | inr refused ↦ inr (refused.is_status, refused.output)

@@ -21,7 +21,7 @@ use Rattle.cdb.specs.Creating.{Creates}
 use Rattle.cdb_system.specs.Causes.{Explains}
 use Rattle.cdb_system.specs.Files.{Files}
 use Rattle.cdb_system.specs.Opening.{none_left}
-use Rattle.cdb_system.specs.State.{Failed, Given, State, calls_in, given_of, with_calls}
+use Rattle.cdb_system.specs.State.{Failed, Given, Standard, State, calls_in, given_of, with_calls}
 use Rattle.cdb_system.specs.declared.left.Left.{Left}
 use Rattle.cdb_system.specs.Reading.{PerformsQuery, PerformsText, TellsStore, ChecksStore, PerformsOn, PerformsDifference, PerformsLookups, Tells}
 use Rattle.cdb_system.specs.Telling.{refused_lines, SaysLine, Says, usage_status}
@@ -36,7 +36,7 @@ IsShown true inputs options shown =
 
 -- ---- each command, in words of w bytes of files of at most so many; what is left open is handed back
 abbrev pub Performs : {F I J M R Y : Type 0} → (w most : ℕ) → Files F I M Y → Raw R
-    → (explained : Bool) → Asked → (input : Option (List ℕ)) → (old new : State Y) → Left F M I J
+    → (explained : Bool) → Asked → (input : Standard J) → (old new : State Y) → Left F M I J
     → Result Unit Fault → Type 0
 Performs w most files r explained (asked.Query name key number lines wide) input old new left
     result =
@@ -47,20 +47,19 @@ Performs w most files r explained (asked.Lookups name inputs number style wide) 
     PerformsLookups w most files (record {
       name = name;
       inputs = inputs;
-      standard = input;
       number = number;
       style = style;
-    }) old new left result
+    }) input old new left result
 Performs w most files r explained (asked.Dump name style wide) input old new left result =
-    PerformsText w files (dump_form style) name old new left result
+    PerformsText w files (dump_form style) name input old new left result
 Performs w most files r explained (asked.Listing name style wide) input old new left result =
-    PerformsText w files (list_form style) name old new left result
+    PerformsText w files (list_form style) name input old new left result
 Performs w most files r explained (asked.Stats name wide) input old new left result =
-    PerformsOn files most name old new left result
+    PerformsOn files most name input old new left result
     (TellsStore w old.output new.output result files.stores)
     (TellsStore w old.output new.output result in_memory)
 Performs w most files r explained (asked.Check name wide) input old new left result =
-    PerformsOn files most name old new left result
+    PerformsOn files most name input old new left result
     (ChecksStore w old.output new.output result files.stores)
     (ChecksStore w old.output new.output result in_memory)
 Performs w most files r explained (asked.Difference first second wide) input old new left result =
@@ -83,7 +82,7 @@ Performs w most files r explained asked.Version input old new left result =
     (new.opened ≡ old.opened) × (left ≡ none_left) × Tells version_text old.output new.output result
 
 -- in words of 8 bytes or of 4
-abbrev pub PerformsIn : {F I J M R Y : Type 0} → (wide : Bool) → Files F I M Y → Raw R → Given Asked
+abbrev pub PerformsIn : {F I J M R Y : Type 0} → (wide : Bool) → Files F I M Y → Raw R → Given Asked J
     → (old new : State Y) → Left F M I J → Result Unit Fault → Type 0
 PerformsIn true files r given old new left result =
     Performs 8 9223372036854775807 files r given.explained given.asked given.input old new left
@@ -106,7 +105,7 @@ pub record HandsOn (end final : Option (List ℕ)) (unwritten : Type 0)
 
 -- the command was performed, and what it wrote was handed on
 pub record Does {F I J M R Y : Type 0} (files : Files F I M Y) (r : Raw R)
-    (given : Given Asked) (old new : State Y) (left : Left F M I J) (unwritten : Type 0)
+    (given : Given Asked J) (old new : State Y) (left : Left F M I J) (unwritten : Type 0)
     (result : Result Unit Fault) : Type 0 where
   pub end : Option (List ℕ)
   pub answer : Result Unit Fault
@@ -125,7 +124,7 @@ status_of command (Ok done) = 0
 status_of command (Err fault) = exit_status command fault
 
 -- the words ask for nothing, or memory for them was refused
-pub record AsksNothing {F I J M Y : Type 0} (given : Given (Result Asked Refused)) (old new : State Y)
+pub record AsksNothing {F I J M Y : Type 0} (given : Given (Result Asked Refused) J) (old new : State Y)
     (left : Left F M I J) (unsaid : Type 0) (status : ℕ) : Type 0 where
   pub refused : Refused
   pub why : (refused ≡ words.NoMemory) ⊎ (given.asked ≡ Err refused)
@@ -138,7 +137,7 @@ pub record AsksNothing {F I J M Y : Type 0} (given : Given (Result Asked Refused
 
 -- the command that they ask for was performed, and then its fault was said, and explained if it is to be
 pub record AsksFor {F I J M R Y : Type 0} (files : Files F I M Y) (r : Raw R)
-    (given : Given (Result Asked Refused)) (old new : State Y) (left : Left F M I J)
+    (given : Given (Result Asked Refused) J) (old new : State Y) (left : Left F M I J)
     (failed : Failed) (status : ℕ) : Type 0
   where
     pub command : Command
@@ -159,7 +158,7 @@ pub record AsksFor {F I J M R Y : Type 0} (files : Files F I M Y) (r : Raw R)
 -- from its words to its exit status: what was written, what standard output has of it, and what is
 -- said on standard error; whether the one failed, or the other; and which files are handed back
 abbrev pub Runs : {F I J M R Y : Type 0} → Files F I M Y → Raw R
-    → Given (Result Asked Refused) → (old new : State Y) → (final : Option (List ℕ)) → Left F M I J
+    → Given (Result Asked Refused) J → (old new : State Y) → (final : Option (List ℕ)) → Left F M I J
     → Failed → (status : ℕ)
     → Type 0
 Runs files r given old new final left failed status =

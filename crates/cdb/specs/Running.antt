@@ -11,12 +11,12 @@ use Rattle.cdb_system.specs.Files.{Files}
 use Rattle.cdb.specs.Foretold.{IsForetold, IsTaken}
 use Rattle.cdb.specs.ForetoldCreate.{IsCreateForetold}
 use Rattle.cdb.specs.Performs.{Runs}
-use Rattle.cdb_system.specs.State.{Given, State, failed_of, given_of, state_of}
+use Rattle.cdb_system.specs.State.{Given, Standard, State, failed_of, given_of, state_of}
 use Rattle.cdb_system.specs.declared.left.Left.{Left}
 
--- what it is given: what its words ask for, and what standard input has
-abbrev pub given_by : (words : List (List ℕ)) → (input : Option (List ℕ))
-    → Given (Result Asked Refused)
+-- what it is given: what its words ask for, and standard input
+abbrev pub given_by : {J : Type 0} → (words : List (List ℕ)) → (input : Standard J)
+    → Given (Result Asked Refused) J
 given_by words input = given_of (plan_of words) (explains_in words) input
 
 -- what the writers of standard output and standard error took
@@ -48,7 +48,7 @@ taken t w = state_of w.system w.named (t.output w.output.writer) (t.errors w.err
 
 -- what the words ask for was done, and its output handed on, if no older one was held
 pub record Answers {F I J M R Y O E : Type 0} (files : Files F I M Y) (r : Raw R)
-    (given : Given (Result Asked Refused)) (t : Taking O E) (old new : World Y O E)
+    (given : Given (Result Asked Refused) J) (t : Taking O E) (old new : World Y O E)
     (left : Left F M I J) (status : ℕ) : Type 0 where
   pub runs : Runs files r given (written t old) (written t new) (t.output new.output.writer) left
       (failed_of (OutputFailed new.output) (OutputFailed new.errors)) status
@@ -56,7 +56,7 @@ pub record Answers {F I J M R Y O E : Type 0} (files : Files F I M Y) (r : Raw R
 
 -- and so were the lines; and if all was taken, what the oracle foretold came true
 pub record IsRun {F I J M R Y O E : Type 0} (files : Files F I M Y) (r : Raw R)
-    (given : Given (Result Asked Refused)) (t : Taking O E) (old new : World Y O E)
+    (given : Given (Result Asked Refused) J) (t : Taking O E) (old new : World Y O E)
     (left : Left F M I J) (status : ℕ) : Type 0 where
   pub answers : Answers files r given t old new left status
   pub said : HasHandedOn new.errors

@@ -99,9 +99,14 @@ where
         } = self;
         match BufferedStore::new(alloc, Unsynced::over(store), PIPE) {
             Ok(buffered) => {
-                let (buffered, sources, made) = make_in::<L, BufferedStore<Unsynced<S>>, F, J, I, E>(
-                    alloc, buffered, contents, errors,
-                );
+                let (buffered, sources, made) = make_in::<
+                    L,
+                    BufferedStore<Unsynced<S>>,
+                    F,
+                    J,
+                    I,
+                    E,
+                >(alloc, buffered, contents, errors);
                 (buffered.discard().into_inner(), sources, made)
             }
             Err(failed) => {

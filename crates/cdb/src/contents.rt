@@ -1,7 +1,6 @@
 // What a create reads, once it is opened.
 ghost use Rattle.std.specs.Prelude.{◌≡◌, ◌≤◌};
 ghost use Rattle.cdb_form.specs.Format.Pair.{head_size};
-ghost use Rattle.cdb.specs.Contents.{sources_left};
 
 use cdb_form::Width;
 use cdb_show::FedInputs;
@@ -19,6 +18,8 @@ pub(crate) struct Sources<F, J, I> {
 }
 
 impl<F: Drop, J: Drop, I: Drop> Sources<F, J, I> {
+    ghost use Rattle.cdb.specs.Contents.{sources_left};
+
     /// What a create hands back of them, and of a file that was made in place.
     pub(crate) fn into_left<M: Drop>(self, made: Option<M>) -> Left<F, M, J, I>
         ensures { result ≡ sources_left self made }

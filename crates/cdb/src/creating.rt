@@ -85,7 +85,10 @@ where
     }
     let temporary = match temporary_name(alloc, creation.name, creation.temporary) {
         Ok(temporary) => temporary,
-        Err(_) => return (contents.into_sources().into_left(None), Err(Fault::NoMemory)),
+        Err(_) => return (
+            contents.into_sources().into_left(None),
+            Err(Fault::NoMemory),
+        ),
     };
     let (sources, made) = replace_database::<L, Y::File, Y::Stream, N, I, E>(
         alloc,

@@ -8,6 +8,7 @@ mod performing;
 mod placing;
 mod steps;
 
+use cdb_feed::NotedReader;
 use cdb_form::PIPE;
 use cdb_names::RealNames;
 use cdb_store::LAST_STANDARD;
@@ -38,7 +39,11 @@ fn main(rt: HostRuntime) -> ExitCode {
             } = beginning;
             let mut system = RealSystem::new(&rt, &seen);
             let mut names = RealNames::new(&rt);
-            let input = SeenReader::input(rt.stdin(), is_input_held(&held), &seen);
+            let input = NotedReader::over(SeenReader::input(
+                rt.stdin(),
+                is_input_held(&held),
+                &seen,
+            ));
             let (_, status) = steps::run(
                 rt.alloc(),
                 &mut system,

@@ -7,15 +7,14 @@ ghost use Rattle.std.specs.Prelude.{◌⊎◌, ◌≡◌, map, string_bytes};
 ghost use Rattle.cdb_system.specs.Files.{files_of};
 ghost use Rattle.cdb.specs.Performs.{IsShown, IsUntouched, Performs};
 ghost use Rattle.cdb_system.specs.Reading.{Tells};
-ghost use Rattle.cdb_system.specs.State.{state_of};
+ghost use Rattle.cdb_system.specs.State.{standard_of, state_of};
 
 use crate::creating::{Creation, create};
-use cdb_form::{Sink, Width};
+use cdb_form::{Feeds, Sink, Width};
 use cdb_names::Names;
 use cdb_system::{Left, System, check, difference, lookups, none_left, query, stats, text};
 use cdb_tool::{Command, Content, Fault, Lines, MakeOptions, flushed, write_usage, write_version};
 use std::alloc::Global;
-use std::io::Read;
 
 /// Writes how the program is called.
 fn help<O: Sink>(output: &mut O) -> Result<(), Fault>
@@ -66,13 +65,13 @@ where
     L: Width,
     Y: System,
     N: Names,
-    I: Read + Drop,
+    I: Feeds + Drop,
     O: Sink,
     E: Sink,
     requires { FitsIn (head_size L.WORD) L.GREATEST (asked_in command.now) }
     ensures performs { Performs L.WORD L.GREATEST
-        (files_of Y.File.Store Y.Made.Store Y.Stream.remaining Y.System) N.File.RawFile lines.now.counts
-        (asked_in command.now) (I.remaining input)
+        (files_of Y.File.Store Y.Made.Store Y.Stream.feed Y.System) N.File.RawFile lines.now.counts
+        (asked_in command.now) (standard_of I.feed input)
         (state_of system.old (N.calls names.old) (O.contents output.old) (E.contents errors.old))
         (state_of system.new (N.calls names.new) (O.contents output.new) (E.contents errors.new))
         result.0 result.1 }

@@ -6,15 +6,15 @@ ghost use Rattle.cdb_system.specs.Causes.{Explains};
 ghost use Rattle.cdb_system.specs.Files.{files_of};
 ghost use Rattle.cdb.specs.Performs.{Does, HandsOn, IsUntouched};
 ghost use Rattle.cdb.specs.Running.{Answers, IsRun, given_by, taking, world_of};
-ghost use Rattle.cdb_system.specs.State.{given_of, state_of};
+ghost use Rattle.cdb_system.specs.State.{given_of, standard_of, state_of};
 
 use crate::performing::perform_in;
-use cdb_form::{Narrow, Sink, Wide};
+use cdb_form::{Feeds, Narrow, Sink, Wide};
 use cdb_names::Names;
 use cdb_system::{Left, System, cause_line, none_left, reason_of, refuse, tell};
 use cdb_tool::{Command, DONE, Fault, Lines, Output, explains, plan_explained, status_of};
 use std::alloc::Global;
-use std::io::{Read, Write};
+use std::io::Write;
 
 /// Does what the words ask for, of which the first is the program's name, hands back what it leaves
 /// open, and answers the exit status. A fault has its line on `errors`, unless that fails.
@@ -30,11 +30,11 @@ pub(crate) fn run<Y, N, I, O, E>(
 where
     Y: System,
     N: Names,
-    I: Read + Drop,
+    I: Feeds + Drop,
     O: Write,
     E: Write,
-    ensures { IsRun (files_of Y.File.Store Y.Made.Store Y.Stream.remaining Y.System)
-        N.File.RawFile (given_by (map string_bytes words.items) (I.remaining input))
+    ensures { IsRun (files_of Y.File.Store Y.Made.Store Y.Stream.feed Y.System)
+        N.File.RawFile (given_by (map string_bytes words.items) (standard_of I.feed input))
         (taking O.contents E.contents)
         (world_of system.old (N.calls names.old) output.old errors.old)
         (world_of system.new (N.calls names.new) output.new errors.new) result.0 result.1 }
@@ -60,11 +60,11 @@ fn answer<Y, N, I, O, E>(
 where
     Y: System,
     N: Names,
-    I: Read + Drop,
+    I: Feeds + Drop,
     O: Write,
     E: Write,
-    ensures { Answers (files_of Y.File.Store Y.Made.Store Y.Stream.remaining Y.System)
-        N.File.RawFile (given_by (map string_bytes words.items) (I.remaining input))
+    ensures { Answers (files_of Y.File.Store Y.Made.Store Y.Stream.feed Y.System)
+        N.File.RawFile (given_by (map string_bytes words.items) (standard_of I.feed input))
         (taking O.contents E.contents)
         (world_of system.old (N.calls names.old) output.old errors.old)
         (world_of system.new (N.calls names.new) output.new errors.new) result.0 result.1 }
@@ -134,12 +134,12 @@ fn perform<Y, N, I, O, E>(
 where
     Y: System,
     N: Names,
-    I: Read + Drop,
+    I: Feeds + Drop,
     O: Write,
     E: Sink,
     requires { IsInRange (asked_in command.now) }
-    ensures does { Does (files_of Y.File.Store Y.Made.Store Y.Stream.remaining Y.System)
-        N.File.RawFile (given_of (asked_in command.now) lines.now.counts (I.remaining input))
+    ensures does { Does (files_of Y.File.Store Y.Made.Store Y.Stream.feed Y.System)
+        N.File.RawFile (given_of (asked_in command.now) lines.now.counts (standard_of I.feed input))
         (state_of system.old (N.calls names.old) (output_bytes O.contents output.old)
         (E.contents errors.old))
         (state_of system.new (N.calls names.new) (O.contents output.new.writer)

@@ -7,12 +7,12 @@ use Rattle.cdb_feed.specs.declared.input_reader.InputReader.{InputReader}
 use Rattle.cdb_feed.specs.declared.input_reader.InputReader.TheVariants.{Own, Shared}
 use Rattle.cdb_show.specs.Views.FedInputs.{AreInPlace, ArePassed}
 
-same_places : {R : Type 0} (readers : List (InputReader R)) → AreInPlace readers readers
+pub same_places : {R : Type 0} (readers : List (InputReader R)) → AreInPlace readers readers
 same_places [] = tt
 same_places (Own reader ∷ readers) = same_places readers
 same_places (Shared ∷ readers) = same_places readers
 
-all_passed : {R : Type 0} (before after : List (InputReader R)) → after ≡ before → AreInPlace before after
+pub all_passed : {R : Type 0} (before after : List (InputReader R)) → after ≡ before → AreInPlace before after
 all_passed before after e = subst (AreInPlace before) (sym e) (same_places before)
 
 module _ {R S : Type 0} (own : R → Feed) (shared : S → Feed) where

@@ -259,27 +259,31 @@ module _ {J I : Type 0} (own : J → Option (List ℕ)) (shared : I → Option (
   as_many : (before : List (InputReader J)) → length (map (one_of own) before) ≡ length before
   as_many before = length-map before (one_of own)
 
-  -- the inputs that they had before a run
-  pub known_inputs : (st : InputForm) (g : ℕ) (answer : Result Unit Fault) (read : List (List Change)) (stop : Stop Change TextFault) (before after : FedInputs J I) → WereRead own_feed (λ reader. reader_feed (shared reader)) st g answer read stop before after → HasRead st g answer read stop (inputs_left own shared before)
-  known_inputs st g answer read stop before after were = at (shared before.shared) refl where
-    all : (whole rest : Option (List ℕ)) → IsKnown whole (reader_feed (shared before.shared)) → IsLeft whole (window_feed were.window) rest
-        → Before whole (reader_feed (shared before.shared)) (λ s. HasRead st g answer read stop (record { each = map (one_of own) before.readers.items; shared = s }))
-    all whole rest known left =
+  module _ (st : InputForm) (g : ℕ) (answer : Result Unit Fault) (read : List (List Change)) (stop : Stop Change TextFault) (before after : FedInputs J I) (were : WereRead own_feed (λ reader. reader_feed (shared reader)) st g answer read stop before after) where
+    -- those of the shared reader are these
+    abbrev HasLeft : Option (List ℕ) → Type 0
+    HasLeft s = HasRead st g answer read stop (record { each = map (one_of own) before.readers.items; shared = s })
+
+    left_before : (whole rest : Option (List ℕ)) → IsKnown whole (reader_feed (shared before.shared)) → IsLeft whole (window_feed were.window) rest → Before whole (reader_feed (shared before.shared)) HasLeft
+    left_before whole rest known left =
         all_agree own_feed window_feed st g answer whole read stop (map (one_of own) before.readers.items) before.readers.items after.readers.items (Unread before.shared) were.window rest known were.are
         (first_known st g answer read stop before.readers.items after.readers.items (Unread before.shared) were.window were.are) (as_many before.readers.items) left
 
-    at : (remaining : Option (List ℕ)) → shared before.shared ≡ remaining → HasRead st g answer read stop (inputs_left own shared before)
-    at None e =
-        let b = all None None tt tt in
-        subst (λ s. HasRead st g answer read stop (record { each = map (one_of own) before.readers.items; shared = s })) (sym e)
-        (of_none (reader_feed (shared before.shared)) (λ s. HasRead st g answer read stop (record { each = map (one_of own) before.readers.items; shared = s })) b.left b.is b.holds)
-    at (Some bytes) e =
+    known_left : (remaining : Option (List ℕ)) → shared before.shared ≡ remaining → HasLeft (shared before.shared)
+    known_left None e =
+        let b = left_before None None tt tt in
+        subst HasLeft (sym e) (of_none (reader_feed (shared before.shared)) HasLeft b.left b.is b.holds)
+    known_left (Some bytes) e =
         let known : IsSome (shared before.shared) = subst IsSome (sym e) tt in
         let still = all_known own_feed window_feed st g answer (Some []) read stop before.readers.items after.readers.items (Unread before.shared) were.window known were.are in
         let rest = some_of (shared after.shared) (were.let_go.known still) in
-        let b = all (Some []) (Some (were.lost ++ rest.0)) known (were.let_go.back still [] rest.0 rest.1) in
-        let found = of_some [] (reader_feed (shared before.shared)) (λ s. HasRead st g answer read stop (record { each = map (one_of own) before.readers.items; shared = s })) b.left b.is b.holds in
-        subst (λ s. HasRead st g answer read stop (record { each = map (one_of own) before.readers.items; shared = s })) (sym found.1) found.2
+        let b = left_before (Some []) (Some (were.lost ++ rest.0)) known (were.let_go.back still [] rest.0 rest.1) in
+        let found = of_some [] (reader_feed (shared before.shared)) HasLeft b.left b.is b.holds in
+        subst HasLeft (sym found.1) found.2
+
+    -- the inputs that they had before a run
+    pub known_inputs : HasRead st g answer read stop (inputs_left own shared before)
+    known_inputs = known_left (shared before.shared) refl
 
 -- ---- any bytes that agree
 

@@ -6,6 +6,7 @@ pub mod FedTurns
 pub mod FedRuns
 pub mod AgreeingInputs
 pub mod FedEnds
+pub mod AgreeingRuns
 pub mod RunEnds
 pub mod RestoreLaws
 pub mod BaseDifferences

@@ -296,7 +296,7 @@ flush_each w g o x inputs images old mid new answer result f h = elim f.answered
   | inr e ↦ subst (MakeRuns w g o x inputs images old new) (sym e.1) (flush_fails w g o x inputs images old mid new answer h f.kept e.0)
 ]
 
-base_weaker : {B : Type 0} (s : Ghosts B) (base : Option B) (P Q : Option (List ℕ) → Type 0) → ((x : Option (List ℕ)) → P x → Q x) → OfBase s base P → OfBase s base Q
+pub base_weaker : {B : Type 0} (s : Ghosts B) (base : Option B) (P Q : Option (List ℕ) → Type 0) → ((x : Option (List ℕ)) → P x → Q x) → OfBase s base P → OfBase s base Q
 base_weaker s None P Q f h = f None h
 base_weaker s (Some base) P Q f h = λ b is. f (Some b) (h b is)
 

@@ -26,6 +26,11 @@ abbrev pub shared_feed : {I : Type 0} → (I → Feed) → SharedWindow I → Fe
 shared_feed feed (Unread reader) = feed reader
 shared_feed feed (InHand w) = window.feed_of feed w
 
+-- the readers that a run did not reach are as they were
+abbrev pub ArePassed : {R Item Fault : Type 0} → (read : List (List Item)) → Stop Item Fault
+    → (before after : List (InputReader R)) → Type 0
+ArePassed read stop before after = drop (reached read stop) after ≡ drop (reached read stop) before
+
 -- the inputs of a run were read up to a stop, and their readers came back, those that were not reached as they were:
 -- what was known of the window of the shared one is known of it, with what that held
 pub record AreReadTo {J I Item Fault : Type 0} (own : J → Feed) (shared : I → Feed)
@@ -35,13 +40,7 @@ pub record AreReadTo {J I Item Fault : Type 0} (own : J → Feed) (shared : I �
   pub are : AreRead own (shared_feed shared) p read stop inputs.readers.items left.readers.items
       (Unread inputs.shared) window
   pub handed : left.shared ≡ reader_of window
-  pub others : drop (reached read stop) left.readers.items
-      ≡ drop (reached read stop) inputs.readers.items
-
--- the readers that a run did not reach are as they were
-abbrev pub ArePassed : {R Item Fault : Type 0} → (read : List (List Item)) → Stop Item Fault
-    → (before after : List (InputReader R)) → Type 0
-ArePassed read stop before after = drop (reached read stop) after ≡ drop (reached read stop) before
+  pub others : ArePassed read stop inputs.readers.items left.readers.items
 
 -- each reader is in its place, and the inputs that share one still do
 abbrev pub AreInPlace : {R : Type 0} → (before after : List (InputReader R)) → Type 0

@@ -1,38 +1,62 @@
-use Rattle.std.proofs.Common.{inr, refl, rules}
+use Rattle.std.proofs.Common.{inl, inr, refl, rules}
+use Rattle.std.proofs.KnownBytes.{Keeps-refl}
+use Rattle.cdb_show.proofs.PlacedReaders.{same_places}
+use Rattle.cdb.specs.Agreeing.{inputs_of}
 use Rattle.cdb.specs.Contents.{making_of}
+use Rattle.cdb.specs.Creating.{IsDatabase}
+use Rattle.cdb.proofs.Agreeing.{built_of_one}
 use Rattle.cdb.proofs.Databases.{database_synced, named_says, synced_says}
+use Rattle.cdb.proofs.HandedBack.{hands_left, making_opens, missing_opens}
 use Rattle.cdb.proofs.placing.make_in_place.Goals as goal
+
+pub returns-then-may_be_read-clause-makes : goal.returns-then-may_be_read-clause-makes
+returns-then-may_be_read-clause-makes g c =
+    rw c.into_left.ensures (rw c.into_sources.ensures (c.args.contents.sources.inputs, record { readers = refl; shared = refl; stream = refl; placed = same_places c.args.contents.sources.inputs.readers.items }, λ output each bytes agree. inl (search rules, refl, record { read = refl; other = refl; made = refl }, refl, Keeps-refl _)))
+
+pub returns-in-Err-clause-makes : goal.returns-in-Err-clause-makes
+returns-in-Err-clause-makes g c =
+    rw c.into_left-in-Err.ensures (rw c.into_sources-in-Err.ensures (c.args.contents.sources.inputs, record { readers = refl; shared = refl; stream = refl; placed = same_places c.args.contents.sources.inputs.readers.items }, λ output each bytes agree. inr (c.may_be_read.ensures.others (search rules), inl (c.in-Err.fault, c.in-Err.ensures.fails, record { read = refl; other = refl; made = refl }, refl, Keeps-refl _))))
+
+pub returns-in-Err-clause-opens : goal.returns-in-Err-clause-opens
+returns-in-Err-clause-opens g c = missing_opens _ _ _ c.in-Err.fault c.in-Err.ensures.fails
 
 pub returns-clause-makes : goal.returns-clause-makes
 returns-clause-makes g c =
-    let making = making_of g.L.Width.WORD g.L.Width.GREATEST g.Y.Stream.Read.remaining g.I.Read.remaining c.args.contents in
+    let sources = c.build-store.result.1 in
     let built = c.build-store.result.0 in
-    let back = c.build-store.result.1 in
     let made = c.build-store.result.2 in
-    let last = c.synced-flushed.new.store in
-    λ output. inr (
-      c.may_be_read.ensures.others (search rules),
-      inr (
-        g.Y.System.calls c.emptied.new.system,
-        c.in-Ok.ensures.calls,
-        record {
-          store = c.in-Ok.store;
-          came = c.in-Ok.ensures.makes;
-          built = built;
-          made = made;
-          last = last;
-          is_last = refl;
-          alone = refl;
-          run = c.build-store.ensures.tells.0;
-          cause = c.build-store.ensures.fails;
-          synced = c.synced-flushed.result;
-          syncs = c.synced-flushed.ensures;
-          has = database_synced g.Y.File.Store g.Y.Made.Store making back built last made c.synced-flushed.result c.synced-flushed.ensures c.build-store.ensures.built;
-          named = c.kept-answer.ensures;
-        },
-      ),
+    let last = c.synced-flushed.new.store in (
+      sources.inputs,
+      hands_left sources c.into_left-2.result _ c.args.contents.sources.inputs c.into_left-2.ensures c.build-store.ensures.tells.1,
+      λ output each bytes agree.
+          rw c.into_left-2.ensures (inr (
+            c.may_be_read.ensures.others (search rules),
+            inr (
+              g.Y.System.calls c.emptied.new.system,
+              c.in-Ok.ensures.calls,
+              record {
+                store = c.in-Ok.store;
+                came = c.in-Ok.ensures.makes;
+                built = built;
+                made = made;
+                last = last;
+                is_last = refl;
+                alone = refl;
+                run = c.build-store.ensures.tells.0 each bytes agree;
+                cause = c.build-store.ensures.fails;
+                synced = c.synced-flushed.result;
+                syncs = c.synced-flushed.ensures;
+                has = database_synced g.Y.File.Store g.Y.Made.Store (making_of g.L.Width.WORD g.L.Width.GREATEST c.args.contents (inputs_of each bytes)) sources.base built last made c.synced-flushed.result c.synced-flushed.ensures
+                    (built_of_one g.Y.Stream.Feeds.feed g.I.Feeds.feed c.args.contents.sources.inputs sources.inputs (λ inputs b. IsDatabase g.Y.File.Store (making_of g.L.Width.WORD g.L.Width.GREATEST c.args.contents inputs) sources.base b) (g.Y.Made.Store.image built) made each bytes agree c.build-store.ensures.built);
+                named = c.kept-answer.ensures;
+              },
+            ),
+          )),
     )
+
+pub returns-clause-opens : goal.returns-clause-opens
+returns-clause-opens g c = making_opens _ _ _ _ c.synced-flushed.result c.kept-answer.result c.in-Ok.ensures.calls c.kept-answer.ensures
 
 pub returns-clause-output : goal.returns-clause-output
 returns-clause-output g c =
-    named_says _ _ _ _ c.synced-flushed.result c.kept-answer.result c.kept-answer.ensures (synced_says _ c.build-store.result.2 c.synced-flushed.result c.synced-flushed.ensures c.build-store.ensures.tells.1)
+    named_says _ _ _ _ c.synced-flushed.result c.kept-answer.result c.kept-answer.ensures (synced_says _ c.build-store.result.2 c.synced-flushed.result c.synced-flushed.ensures c.build-store.ensures.tells.2)

@@ -1,35 +1,44 @@
-use Rattle.std.proofs.Common.{inr, rules}
+use Rattle.std.proofs.Common.{inr, refl, rules}
+use Rattle.cdb_names.proofs.Replacing.{weaker_replacing, weaker_sure}
+use Rattle.std.proofs.lemmas.Result.{on_ok_weaker}
+use Rattle.cdb_show.proofs.PlacedReaders.{same_places}
 use Rattle.cdb.specs.Contents.{making_of}
-use Rattle.cdb.proofs.Databases.{of_contents}
+use Rattle.cdb.proofs.Agreeing.{Tells, of_contents, told_placed}
 use Rattle.cdb.proofs.Asks.{ok_and}
-use Rattle.cdb.proofs.Replaced.{replaced_says}
+use Rattle.cdb.proofs.Replaced.{replaced_says, weaker_moments}
 use Rattle.cdb.proofs.placing.replace_database.Goals as goal
 
 pub returns-clause-replaces : goal.returns-clause-replaces
 returns-clause-replaces g c =
-    let e = c.replace_file-base.ensures in
-    let answer = c.replace_file-base.result.1 in
-    let making = making_of g.L.Width.WORD g.L.Width.GREATEST g.J.Read.remaining g.I.Read.remaining c.args.contents in
-    λ opened output. inr (
+    let e = c.replace_file-sources.ensures in
+    let sources = c.replace_file-sources.result.0 in
+    let answer = c.replace_file-sources.result.1 in
+    λ opened output each bytes agree. inr (
       g.N.Names.calls c.may_be_read.new.names,
       c.may_be_read.ensures.others (search rules),
       record {
         answer = answer;
         answered = c.answer_to_program.ensures;
-        calls = e.calls;
-        moments = e.any_moment;
-        ok = ok_and _ _ answer e.ok e.sure;
+        calls = weaker_replacing (λ b whole. whole each bytes agree) e.calls;
+        moments = weaker_moments _ _ _ _ _ _ (λ b whole. whole each bytes agree) e.any_moment;
+        ok = ok_and _ _ answer e.ok (on_ok_weaker answer (λ sure. weaker_sure _ _ (λ b whole. whole each bytes agree) sure) e.sure);
         err = e.err;
         no_name = e.no_name;
         guarded = e.guarded;
         renamed = e.renames_ok;
         unrenamed = e.renames_err;
         build = e.build;
-        lines = of_contents g.E.Sink.contents g.E.Sink.failed g.F.Store g.N.File.RawFile making _ _ _ _ _ _ _ answer e.told;
+        lines = of_contents g.J.Feeds.feed g.I.Feeds.feed g.E.Sink.contents g.E.Sink.failed g.F.Store g.N.File.RawFile (making_of g.L.Width.WORD g.L.Width.GREATEST c.args.contents) c.args.contents.sources _ _ _ _ sources _ _ answer each bytes refl agree e.told;
       },
     )
 
+pub returns-then-may_be_read-clause-placed : goal.returns-then-may_be_read-clause-placed
+returns-then-may_be_read-clause-placed g c = rw c.into_sources.ensures (same_places c.args.contents.sources.inputs.readers.items)
+
+pub returns-clause-placed : goal.returns-clause-placed
+returns-clause-placed g c =
+    told_placed g.J.Feeds.feed g.I.Feeds.feed g.E.Sink.contents g.E.Sink.failed g.F.Store g.N.File.RawFile (making_of g.L.Width.WORD g.L.Width.GREATEST c.args.contents) c.args.contents.sources _ _ _ _ c.replace_file-sources.result.0 _ _ c.replace_file-sources.result.1 c.replace_file-sources.ensures.told
+
 pub returns-clause-output : goal.returns-clause-output
 returns-clause-output g c =
-    let making = making_of g.L.Width.WORD g.L.Width.GREATEST g.J.Read.remaining g.I.Read.remaining c.args.contents in
-    rw c.answer_to_program.ensures (replaced_says g.E.Sink.contents g.E.Sink.failed g.F.Store g.N.File.RawFile making _ _ _ _ _ _ _ c.replace_file-base.result.1 c.replace_file-base.ensures.told)
+    rw c.answer_to_program.ensures (replaced_says g.E.Sink.failed g.N.File.RawFile _ (Tells g.J.Feeds.feed g.I.Feeds.feed g.E.Sink.contents g.E.Sink.failed g.F.Store g.N.File.RawFile (making_of g.L.Width.WORD g.L.Width.GREATEST c.args.contents) c.args.contents.sources) _ _ _ _ c.replace_file-sources.result.0 _ _ c.replace_file-sources.result.1 (λ images made told. told.2) c.replace_file-sources.ensures.told)

@@ -1,20 +1,29 @@
-use Rattle.std.proofs.Common.{ap, arith, inl, refl, take, ◌∙◌, ◌≡◌, ◌<◌}
+use Rattle.std.proofs.Common.{[], ap, arith, inl, inr, refl, take, ◌∙◌, ◌≡◌, ◌<◌}
+use Rattle.std.proofs.KnownBytes.{Keeps-refl}
 use Rattle.std.proofs.lemmas.Result.{IfErr-weaker, on_ok_weaker}
 use Rattle.cdb_store.specs.BufferedStore.{bytes_of}
 use Rattle.cdb_store.specs.Images.{overwrite}
 use Rattle.cdb_store.proofs.OverLemmas.{over_emptied}
 use Rattle.cdb_names.specs.Unsynced.{inner_of}
+use Rattle.cdb_show.proofs.PlacedReaders.{same_places}
+use Rattle.cdb.specs.Agreeing.{inputs_of}
 use Rattle.cdb.specs.Contents.{making_of}
+use Rattle.cdb.specs.Creating.{IsDatabase}
+use Rattle.cdb.proofs.Agreeing.{built_of_all}
 use Rattle.cdb.proofs.Databases.{database_made, run_under}
 use Rattle.cdb.proofs.building.BuildingBuilder.build.Goals as goal
 
 pub returns-in-Ok-clause-built : goal.returns-in-Ok-clause-built
 returns-in-Ok-clause-built g c =
-    let e = c.make_in-buffered.ensures.makes in
+    let run = c.make_in-buffered.ensures in
     let left = c.make_in-buffered.result.0 in
+    let back = c.make_in-buffered.result.1 in
+    let made = c.make_in-buffered.result.2 in
     rw (c.into_inner.ensures ∙ ap inner_of c.discard.ensures)
-    (database_made g.F.Store (making_of g.L.Width.WORD g.L.Width.GREATEST g.J.Read.remaining g.I.Read.remaining c.args.self.contents) c.make_in-buffered.result.1 _ (g.S.Store.image left.inner.inner) _ _ c.make_in-buffered.result.2 e.run.hands e.run.runs
-    (on_ok_weaker c.make_in-buffered.result.2 (λ settled. (over_emptied left.pos (bytes_of left) (g.S.Store.image left.inner.inner) (ap (λ n. take n left.buffer.items) settled.0)).no_other) e.settled))
+    (built_of_all g.J.Feeds.feed g.I.Feeds.feed c.args.self.contents.sources.inputs back.inputs (λ inputs b. IsDatabase g.F.Store (making_of g.L.Width.WORD g.L.Width.GREATEST c.args.self.contents inputs) back.base b) (g.S.Store.image left.inner.inner) made
+    (λ each bytes agree. (let ran = run.runs each bytes agree in
+    database_made g.F.Store (making_of g.L.Width.WORD g.L.Width.GREATEST c.args.self.contents (inputs_of each bytes)) back.base _ (g.S.Store.image left.inner.inner) _ _ made ran.hands ran.runs
+    (on_ok_weaker made (λ settled. (over_emptied left.pos (bytes_of left) (g.S.Store.image left.inner.inner) (ap (λ n. take n left.buffer.items) settled.0)).no_other) run.settled))))
 
 pub returns-in-Ok-clause-fails : goal.returns-in-Ok-clause-fails
 returns-in-Ok-clause-fails g c =
@@ -24,14 +33,19 @@ returns-in-Ok-clause-fails g c =
     (IfErr-weaker c.make_in-buffered.result.2 _ _ (λ f fails. (
       (λ is. let rose : g.S.Store.failures c.in-Ok.buffered.inner.inner < g.S.Store.failures left.inner.inner = fails.0 is in omega (arith, rose, c.in-Ok.ensures.failures, over)),
       (λ is. fails.1 is ∙ (c.in-Ok.ensures.failures ∙ over)),
-    )) c.make_in-buffered.ensures.makes.failed)
+    )) c.make_in-buffered.ensures.failed)
 
 pub returns-in-Ok-clause-tells : goal.returns-in-Ok-clause-tells
 returns-in-Ok-clause-tells g c =
-    let e = c.make_in-buffered.ensures.makes in
+    let run = c.make_in-buffered.ensures in
     let left = c.make_in-buffered.result.0 in
+    let back = c.make_in-buffered.result.1 in
     rw (c.into_inner.ensures ∙ ap inner_of c.discard.ensures) (
-      inl (run_under g.F.Store (making_of g.L.Width.WORD g.L.Width.GREATEST g.J.Read.remaining g.I.Read.remaining c.args.self.contents) c.make_in-buffered.result.1 _ (g.S.Store.image left.inner.inner) _ _ c.make_in-buffered.result.2 e.run (λ b is. (overwrite b left.pos (bytes_of left), (b, is, refl)))
-          (on_ok_weaker c.make_in-buffered.result.2 (λ settled. (over_emptied left.pos (bytes_of left) (g.S.Store.image left.inner.inner) (ap (λ n. take n left.buffer.items) settled.0)).no_other) e.settled)),
-      c.make_in-buffered.ensures.output,
+      (λ each bytes agree. inl (run_under g.F.Store (making_of g.L.Width.WORD g.L.Width.GREATEST c.args.self.contents (inputs_of each bytes)) back.base _ (g.S.Store.image left.inner.inner) _ _ c.make_in-buffered.result.2 (run.runs each bytes agree) (λ b is. (overwrite b left.pos (bytes_of left), (b, is, refl)))
+          (on_ok_weaker c.make_in-buffered.result.2 (λ settled. (over_emptied left.pos (bytes_of left) (g.S.Store.image left.inner.inner) (ap (λ n. take n left.buffer.items) settled.0)).no_other) run.settled))),
+      run.placed,
+      run.output,
     )
+
+pub returns-in-Err-clause-tells : goal.returns-in-Err-clause-tells
+returns-in-Err-clause-tells g c = rw c.into_sources-sources.ensures ((λ each bytes agree. inr (refl, refl, Keeps-refl _)), same_places c.args.self.contents.sources.inputs.readers.items, tt)

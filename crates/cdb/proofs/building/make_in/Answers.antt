@@ -1,0 +1,15 @@
+use Rattle.cdb.proofs.Agreeing.{run_placed, runs_agreeing}
+use Rattle.cdb.proofs.building.make_in.Goals as goal
+
+pub returns-clause-runs : goal.returns-clause-runs
+returns-clause-runs g c =
+    let run = c.make_run_fed-store.ensures in
+    λ each bytes agree.
+    record {
+      hands = run.hands;
+      base_failed = run.base_failed;
+      runs = runs_agreeing g.L.Width.WORD g.L.Width.GREATEST _ g.J.Feeds.feed g.I.Feeds.feed g.F.Store _ _ _ _ _ _ _ _ run.runs each bytes agree;
+    }
+
+pub returns-clause-placed : goal.returns-clause-placed
+returns-clause-placed g c = run_placed g.L.Width.WORD g.L.Width.GREATEST _ g.J.Feeds.feed g.I.Feeds.feed g.F.Store _ _ _ _ _ _ _ _ c.make_run_fed-store.ensures.runs

@@ -1,0 +1,41 @@
+-- What a run makes that hands its readers back: what the function says of any bytes that agree with these.
+use Rattle.std.proofs.Common.{◌≡◌, ℕ, List, length, map, refl, Option, Some, Result}
+use Rattle.cdb_store.specs.declared.store.Store.{Ghosts}
+use Rattle.cdb_form.specs.Fed.Feed.{Feed}
+use Rattle.cdb_form.specs.Format.Record.{AreBytes}
+use Rattle.cdb_feed.specs.Inputs.{AgreesWith, AreUnread, FirstAgree, IsUnread, reached}
+use Rattle.cdb_make.specs.Views.Maker.{WhereHonest}
+use Rattle.cdb_command.specs.declared.options.MakeOptions.{MakeOptions}
+use Rattle.cdb_show.specs.Runs.Incoming.{EachOfBytes, Known, one_input}
+use Rattle.cdb_show.specs.Runs.Inputs.{InputsLeft, input_form}
+use Rattle.cdb_show.specs.declared.fault.Fault.{Fault}
+use Rattle.cdb_show.specs.declared.fed_inputs.FedInputs.{FedInputs}
+use Rattle.cdb_show.proofs.GivenInputs.{known_all}
+use Rattle.cdb_tool.specs.Runs.InputsRead.{RunsRead}
+use Rattle.cdb_tool.specs.Runs.Made.{made_of}
+use Rattle.cdb_tool.specs.Runs.Make.{MakeRuns, OfBase}
+use Rattle.cdb_tool.specs.Runs.MakesSo.{ComesOf}
+use Rattle.std.specs.Prelude.{is_some}
+use Rattle.cdb_tool.proofs.AgreeingInputs.{agreeing_inputs}
+use Rattle.cdb_tool.proofs.MadeOf.{run_comes}
+use Rattle.cdb_tool.proofs.RunEnds.{base_weaker}
+
+-- inputs with these bytes
+abbrev left_of : List (Option (List ℕ)) → List ℕ → InputsLeft
+left_of inputs whole = record { each = map one_input inputs; shared = Some whole }
+
+module _ {B J I : Type 0} (t : Ghosts B) (was base : Option B) (own : J → Feed) (shared : I → Feed) (w g : ℕ) (o : MakeOptions) (before after : FedInputs J I) (images : List ℕ → Type 0) (old new : Option (List ℕ)) (result : Result Unit Fault) (run : RunsRead w g o own shared t was base before after images old new result)
+    (unread : AreUnread own before.readers.items) (first : IsUnread (shared before.shared)) (inputs : List (Option (List ℕ))) (whole : List ℕ) (long : length inputs ≡ length before.readers.items) (agree : FirstAgree own AreBytes (reached run.read run.stop) inputs after.readers.items)
+    (agrees : AgreesWith AreBytes (shared after.shared) whole) where
+  -- what it left of such inputs
+  pub agreeing_runs : WhereHonest images (OfBase t base (λ b. MakeRuns w g o b (left_of inputs whole) images old new result))
+  agreeing_runs = run.runs (left_of inputs whole)
+      (agreeing_inputs own shared AreBytes (input_form o.style (is_some was)) g result run.read run.stop before after inputs whole run.were unread first long agree agrees)
+
+  known : EachOfBytes inputs → Known inputs whole (left_of inputs whole)
+  known bytes = record { each = refl; known = known_all inputs whole; own = bytes; bytes = agrees.fit }
+
+  pub agreeing_comes : EachOfBytes inputs → WhereHonest images (OfBase t base (λ b. ComesOf w o (made_of w g o b inputs whole) images old new result))
+  agreeing_comes bytes = record {
+    each = λ im is. base_weaker t base _ _ (λ x runs. run_comes w g o x inputs whole (left_of inputs whole) images old new result (known bytes) runs) (agreeing_runs.each im is);
+  }
