@@ -15,11 +15,11 @@ use Rattle.cdb_store.specs.declared.store.Store.{Ghosts}
 use Rattle.cdb_make.specs.Views.Maker.{WhereHonest}
 use Rattle.cdb_command.specs.declared.options.MakeOptions.{MakeOptions}
 use Rattle.cdb_show.specs.Runs.Inputs.{InputsLeft, input_form}
-use Rattle.cdb_show.specs.Views.FedInputs.{AreInPlace, shared_feed}
+use Rattle.cdb_show.specs.Views.Inputs.{AreInPlace, shared_feed}
 use Rattle.cdb_show.specs.Views.Output.{OutputSays}
 use Rattle.cdb_show.specs.declared.fault.Fault.{Fault}
-use Rattle.cdb_show.specs.declared.fed_inputs.FedInputs.{FedInputs}
-use Rattle.cdb_show.specs.declared.fed_inputs.SharedWindow.TheVariants.{Unread}
+use Rattle.cdb_show.specs.declared.inputs.Inputs.{Inputs}
+use Rattle.cdb_show.specs.declared.inputs.SharedWindow.TheVariants.{Unread}
 use Rattle.cdb_show.proofs.PlacedReaders.{all_passed, in_place}
 use Rattle.cdb_tool.specs.Runs.FormParsing.{parsing}
 use Rattle.cdb_tool.specs.Runs.InputsRead.{RunsRead}
@@ -57,7 +57,7 @@ reached_most own shared p (items ∷ read) stop (reader ∷ before) [] old new a
 
 -- ---- a run
 
-module _ {B J I : Type 0} (w g : ℕ) (o : MakeOptions) (own : J → Feed) (shared : I → Feed) (s : Ghosts B) (was base : Option B) (before after : FedInputs J I) (images : List ℕ → Type 0) (old new : Option (List ℕ)) (result : Result Unit Fault) where
+module _ {B J I : Type 0} (w g : ℕ) (o : MakeOptions) (own : J → Feed) (shared : I → Feed) (s : Ghosts B) (was base : Option B) (before after : Inputs J I) (images : List ℕ → Type 0) (old new : Option (List ℕ)) (result : Result Unit Fault) where
   pub runs_agreeing : RunsRead w g o own shared s was base before after images old new result → OfAgreeing own shared before after (λ inputs. WhereHonest images (OfBase s base (λ b. MakeRuns w g o b inputs images old new result)))
   runs_agreeing h = λ each bytes agree.
       (let many = reached_most own (shared_feed shared) (parsing (input_form o.style (is_some was)) g result) h.read h.stop before.readers.items after.readers.items (Unread before.shared) h.were.window h.were.are in
@@ -69,7 +69,7 @@ module _ {B J I : Type 0} (w g : ℕ) (o : MakeOptions) (own : J → Feed) (shar
 
 -- ---- what was built
 
-module _ {J I : Type 0} (own : J → Feed) (shared : I → Feed) (before after : FedInputs J I) (P : InputsLeft → List ℕ → Type 0) (images : List ℕ → Type 0) where
+module _ {J I : Type 0} (own : J → Feed) (shared : I → Feed) (before after : Inputs J I) (P : InputsLeft → List ℕ → Type 0) (images : List ℕ → Type 0) where
   pub built_of_all : (made : Result Unit Fault) → OfAgreeing own shared before after (λ inputs. OnOk made ((b : List ℕ) → images b → P inputs b)) → OnOk made ((b : List ℕ) → images b → OfAgreeing own shared before after (λ inputs. P inputs b))
   built_of_all (Ok done) h = λ b is each bytes agree. h each bytes agree b is
   built_of_all (Err fault) h = tt

@@ -17,8 +17,8 @@ use Rattle.cdb_form.specs.Format.Record.{AreBytes}
 use Rattle.cdb_store.specs.declared.store.Store.{Ghosts}
 use Rattle.cdb_show.specs.Runs.Inputs.{InputsLeft}
 use Rattle.cdb_show.specs.Runs.Incoming.{EachOfBytes, Known}
-use Rattle.cdb_show.specs.Views.FedInputs.{AreInPlace}
-use Rattle.cdb_show.specs.declared.fed_inputs.FedInputs.{FedInputs}
+use Rattle.cdb_show.specs.Views.Inputs.{AreInPlace}
+use Rattle.cdb_show.specs.declared.inputs.Inputs.{Inputs}
 use Rattle.cdb_show.proofs.GivenInputs.{known_all}
 use Rattle.cdb.specs.Agreeing.{HandsInputs, InputsAgree, OpensNone, OpensNoMore}
 use Rattle.cdb.specs.Agreeing.{inputs_of as bytes_of}
@@ -132,19 +132,19 @@ all_agree own disk (name ∷ names) (reader.Shared ∷ before) [] (None ∷ file
 all_agree own disk (name ∷ names) (reader.Shared ∷ before) (reader.Own left ∷ after) (None ∷ files) placed of fit agree = absurd placed
 
 -- the bytes of the inputs, which agree with the readers that are handed back
-pub record InputsFound {I J : Type 0} (own : I → Feed) (shared : J → Feed) (disk : Disk) (inputs : List (List ℕ)) (input : List ℕ) (before after : FedInputs I J) : Type 0 where
+pub record InputsFound {I J : Type 0} (own : I → Feed) (shared : J → Feed) (disk : Disk) (inputs : List (List ℕ)) (input : List ℕ) (before after : Inputs I J) : Type 0 where
   pub files : List (Option (List ℕ))
   pub are : inputs_of disk inputs ≡ Some files
   pub of_bytes : EachOfBytes files
   pub agree : InputsAgree own shared before after files input
 
 -- the readers of the files that were read in turn are those of the inputs
-streams_are : {F I J M : Type 0} (inputs handed : FedInputs I J) (left : Left F M I J) → HandsInputs inputs handed left → streams_in left ≡ own_readers handed.readers.items
+streams_are : {F I J M : Type 0} (inputs handed : Inputs I J) (left : Left F M I J) → HandsInputs inputs handed left → streams_in left ≡ own_readers handed.readers.items
 streams_are inputs handed left h =
     ap (λ v. if_some v ++ own_readers (unwrap_or (option_map (λ readers. readers.items) left.inputs) [])) h.stream
     ∙ ap (λ v. own_readers (unwrap_or (option_map (λ readers. readers.items) v) [])) h.readers
 
-module _ {F I J M Y : Type 0} (s : Ghosts F) (m : Ghosts M) (feed : I → Feed) (y : Systems Y F I M) (disk : Disk) (input name : List ℕ) (base : Option (List ℕ)) (inputs : List (List ℕ)) (standard : Standard J) (old mid new : OpenCalls) (left : Left F M I J) (was now : NameCalls) (start end told said : Option (List ℕ)) (file : Option F) (before handed : FedInputs I J)
+module _ {F I J M Y : Type 0} (s : Ghosts F) (m : Ghosts M) (feed : I → Feed) (y : Systems Y F I M) (disk : Disk) (input name : List ℕ) (base : Option (List ℕ)) (inputs : List (List ℕ)) (standard : Standard J) (old mid new : OpenCalls) (left : Left F M I J) (was now : NameCalls) (start end told said : Option (List ℕ)) (file : Option F) (before handed : Inputs I J)
     (honest : HonestCreate (files_of s m feed y) disk input name standard (state_of old was start told) (state_of new now end said) left) (opens : OpensAll (files_of s m feed y) base inputs old mid file before.readers.items) (shared : before.shared ≡ standard.reader) (hands : HandsInputs before handed left) (more : OpensNoMore mid new) where
   at_base : BaseSince old opens.mid
   at_base = base_since y base file old opens.mid opens.base_is

@@ -4,9 +4,9 @@ use Rattle.std.specs.List.{AllByRecursion}
 use Rattle.cdb_names.specs.declared.answer.Answer.{Answer}
 use Rattle.cdb_names.specs.declared.answer.Answer.TheVariants.{Yes}
 use Rattle.cdb_names.specs.declared.answer.Lock.TheVariants.{Held}
-use Rattle.cdb_show.specs.Views.FedInputs.{AreInPlace}
+use Rattle.cdb_show.specs.Views.Inputs.{AreInPlace}
 use Rattle.cdb_show.specs.declared.fault.Fault.{Fault}
-use Rattle.cdb_show.specs.declared.fed_inputs.FedInputs.{FedInputs}
+use Rattle.cdb_show.specs.declared.inputs.Inputs.{Inputs}
 use Rattle.cdb_show.proofs.PlacedReaders.{all_passed}
 use Rattle.cdb_system.specs.Opening.{AsksToEmpty, Empties, MissesEmptying, OpenCalls}
 use Rattle.cdb_system.specs.declared.left.Left.{Left}
@@ -20,7 +20,7 @@ use Rattle.cdb.specs.declared.contents.Sources.{Sources}
 -- ---- what is handed back
 
 module _ {F J I M : Type 0} (sources : Sources F J I) (left : Left F M J I) where
-  pub hands_left : (made : Option M) (inputs : FedInputs J I) → left ≡ sources_left sources made → AreInPlace inputs.readers.items sources.inputs.readers.items → HandsInputs inputs sources.inputs left
+  pub hands_left : (made : Option M) (inputs : Inputs J I) → left ≡ sources_left sources made → AreInPlace inputs.readers.items sources.inputs.readers.items → HandsInputs inputs sources.inputs left
   hands_left made inputs e placed = record { readers = ap (λ (l : Left F M J I). l.inputs) e; shared = ap (λ (l : Left F M J I). l.input) e; stream = ap (λ (l : Left F M J I). l.stream) e; placed = placed }
 
   pub hands_base : left ≡ sources_left sources None → HandsBase sources.base left

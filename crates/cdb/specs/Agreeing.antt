@@ -6,8 +6,8 @@ use Rattle.cdb_form.specs.Fed.Feed.{Feed}
 use Rattle.cdb_form.specs.Format.Record.{AreBytes}
 use Rattle.cdb_show.specs.Runs.Incoming.{one_input}
 use Rattle.cdb_show.specs.Runs.Inputs.{InputsLeft}
-use Rattle.cdb_show.specs.Views.FedInputs.{AreInPlace}
-use Rattle.cdb_show.specs.declared.fed_inputs.FedInputs.{FedInputs}
+use Rattle.cdb_show.specs.Views.Inputs.{AreInPlace}
+use Rattle.cdb_show.specs.declared.inputs.Inputs.{Inputs}
 use Rattle.cdb_system.specs.Opening.{OpenCalls}
 use Rattle.cdb_system.specs.declared.left.Left.{Left}
 use Rattle.cdb_system.specs.declared.open_trace.OpenCall.{OpenCall}
@@ -19,7 +19,7 @@ inputs_of each shared = record { each = map one_input each; shared = Some shared
 
 -- they agree with what is known of the readers afterwards, of which nothing had been taken before
 pub record InputsAgree {J I : Type 0} (own : J → Feed) (shared : I → Feed)
-    (before after : FedInputs J I) (each : List (Option (List ℕ))) (bytes : List ℕ) : Type 0 where
+    (before after : Inputs J I) (each : List (Option (List ℕ))) (bytes : List ℕ) : Type 0 where
   pub unread : AreUnread own before.readers.items
   pub none_read : IsUnread (shared before.shared)
   pub long : length each ≡ length before.readers.items
@@ -28,7 +28,7 @@ pub record InputsAgree {J I : Type 0} (own : J → Feed) (shared : I → Feed)
 
 -- this holds of all inputs that agree
 abbrev pub OfAgreeing : {J I : Type 0} → (own : J → Feed) → (shared : I → Feed)
-    → (before after : FedInputs J I) → (InputsLeft → Type 0) → Type 0
+    → (before after : Inputs J I) → (InputsLeft → Type 0) → Type 0
 OfAgreeing own shared before after P = (each : List (Option (List ℕ))) (bytes : List ℕ)
     → InputsAgree own shared before after each bytes → P (inputs_of each bytes)
 
@@ -45,7 +45,7 @@ pub record OpensNoMore (old new : OpenCalls) : Type 0 where
   pub each : AllByRecursion (λ c. OpensNone c.0) since
 
 -- the readers of the inputs are handed back, each in its place, and no other stream is
-pub record HandsInputs {F I J M : Type 0} (inputs handed : FedInputs I J) (left : Left F M I J) : Type 0 where
+pub record HandsInputs {F I J M : Type 0} (inputs handed : Inputs I J) (left : Left F M I J) : Type 0 where
   pub readers : left.inputs ≡ Some handed.readers
   pub shared : left.input ≡ Some handed.shared
   pub stream : left.stream ≡ None

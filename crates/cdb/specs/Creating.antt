@@ -22,7 +22,7 @@ use Rattle.cdb_store.specs.declared.store.Store.{Ghosts}
 use Rattle.cdb_make.specs.Views.Maker.{WhereHonest}
 use Rattle.cdb_show.specs.Runs.Inputs.{InputsLeft}
 use Rattle.cdb_tool.specs.Runs.Make.{HandsBack, BaseHasFailed, IsOfBase, IsOfStore, Makes, OfBase, MakeRuns}
-use Rattle.cdb_show.specs.declared.fed_inputs.FedInputs.{FedInputs}
+use Rattle.cdb_show.specs.declared.inputs.Inputs.{Inputs}
 use Rattle.cdb_show.specs.declared.fault.Fault.{Fault}
 use Rattle.cdb_show.specs.declared.fault.Fault.TheVariants.{Open, NoMemory, Output, Rename, Make}
 use Rattle.cdb_store.specs.declared.make_fault.MakeFault.TheVariants.{Writing}
@@ -334,10 +334,10 @@ MakesAt files r m wanted old new left result =
 -- Inputs were opened and handed back, and no other file was opened to be read. Of all inputs that agree with
 -- their readers, this is what was done.
 pub record HandsAll {F I J M Y : Type 0} (files : Files F I M Y) (standard : Standard J)
-    (inputs : FedInputs I J) (mid new : OpenCalls) (left : Left F M I J) (Does : InputsLeft → Type 0)
+    (inputs : Inputs I J) (mid new : OpenCalls) (left : Left F M I J) (Does : InputsLeft → Type 0)
     : Type 0 where
   pub shared : inputs.shared ≡ standard.reader
-  pub handed : FedInputs I J
+  pub handed : Inputs I J
   pub hands : HandsInputs inputs handed left
   pub opens : OpensNoMore mid new
   pub does : OfAgreeing files.feed standard.feed inputs handed Does
@@ -352,7 +352,7 @@ Creates {F = F} {I = I} {J = J} files r wanted standard old new left result =
     × NotOpened files.system wanted.base wanted.inputs old.opened new.opened left.read fault
     × (new.named ≡ old.named) × (left ≡ base_left left.read) × Keeps old.output new.output
     × Keeps old.errors new.errors)
-    ⊎ ((file : Option F) × (inputs : FedInputs I J) × (mid : OpenCalls)
+    ⊎ ((file : Option F) × (inputs : Inputs I J) × (mid : OpenCalls)
     × OpensAll files wanted.base wanted.inputs old.opened mid file inputs.readers.items
     × HandsAll files standard inputs mid new.opened left (λ items. MakesAt files r
     (record {

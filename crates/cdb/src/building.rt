@@ -1,6 +1,6 @@
 // What builds the database of what was opened.
 ghost use Rattle.std.specs.Prelude.{◌≡◌, ◌<◌, OnOk};
-ghost use Rattle.cdb_show.specs.Views.FedInputs.{AreInPlace};
+ghost use Rattle.cdb_show.specs.Views.Inputs.{AreInPlace};
 ghost use Rattle.cdb_show.specs.Views.Output.{OutputSays};
 ghost use Rattle.cdb.specs.Agreeing.{OfAgreeing};
 ghost use Rattle.cdb.specs.Creating.{HasCauseInStore, IsBufferedRun, IsCaused, IsDatabase, IsMakeRun};
@@ -10,7 +10,7 @@ use crate::contents::{Contents, Sources};
 use cdb_form::{Feeds, PIPE, Sink, Width};
 use cdb_names::{Builder, Unsynced};
 use cdb_store::{BufferedStore, Store};
-use cdb_tool::{Fault, make_run_fed};
+use cdb_tool::{Fault, make_run_from};
 use std::alloc::Global;
 use std::marker::PhantomData;
 
@@ -44,7 +44,7 @@ where
         width: _,
     } = contents;
     let Sources { base, inputs } = sources;
-    let (store, base, inputs, made) = make_run_fed::<L, S, F, J, I, E>(
+    let (store, base, inputs, made) = make_run_from::<L, S, F, J, I, E>(
         alloc, store, base, inputs, options, lines, errors,
     );
     (store, Sources { base, inputs }, made)

@@ -3,7 +3,7 @@ ghost use Rattle.std.specs.Prelude.{◌≡◌, ◌≤◌};
 ghost use Rattle.cdb_form.specs.Format.Pair.{head_size};
 
 use cdb_form::Width;
-use cdb_show::FedInputs;
+use cdb_show::Inputs;
 use cdb_system::Left;
 use cdb_tool::{Lines, MakeOptions};
 use std::marker::PhantomData;
@@ -14,7 +14,7 @@ pub(crate) struct Sources<F, J, I> {
     /// The base, if one is amended.
     pub(crate) base: Option<F>,
     /// The inputs, in their order.
-    pub(crate) inputs: FedInputs<J, I>,
+    pub(crate) inputs: Inputs<J, I>,
 }
 
 impl<F: Drop, J: Drop, I: Drop> Sources<F, J, I> {
@@ -25,7 +25,7 @@ impl<F: Drop, J: Drop, I: Drop> Sources<F, J, I> {
         ensures { result ≡ sources_left self made }
     {
         let Sources { base, inputs } = self;
-        let FedInputs { readers, shared } = inputs;
+        let Inputs { readers, shared } = inputs;
         Left {
             read: base,
             other: None,

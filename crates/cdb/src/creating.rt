@@ -1,7 +1,7 @@
 // A create: its base and inputs are opened, and then the database is made of them.
 ghost use Rattle.std.specs.Prelude.{◌⊎◌, ◌≡◌, ◌≤◌, IfOk, IfErr, map, option_map};
 ghost use Rattle.std.specs.Prelude.{string_bytes};
-ghost use Rattle.cdb_show.specs.Views.FedInputs.{AreInPlace};
+ghost use Rattle.cdb_show.specs.Views.Inputs.{AreInPlace};
 ghost use Rattle.cdb_show.specs.Views.Output.{OutputSays};
 ghost use Rattle.cdb_form.specs.Format.Pair.{head_size};
 ghost use Rattle.cdb.specs.Agreeing.{OfAgreeing};

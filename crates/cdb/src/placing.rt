@@ -1,7 +1,7 @@
 // A database made under its name: in place, or in a temporary file that replaces it.
 ghost use Rattle.std.specs.Prelude.{◌≡◌, ◌∷◌, [], true, false, map, option_map, string_bytes};
 ghost use Rattle.std.specs.Prelude.{IfOk, IfErr, OnOk, List, Option, ℕ};
-ghost use Rattle.cdb_show.specs.Views.FedInputs.{AreInPlace};
+ghost use Rattle.cdb_show.specs.Views.Inputs.{AreInPlace};
 ghost use Rattle.cdb_show.specs.Views.Output.{OutputSays};
 ghost use Rattle.cdb.specs.Agreeing.{HandsInputs, OfAgreeing, OpensNoMore};
 ghost use Rattle.cdb.specs.Creating.{AsksAll, AsksBase, AsksEach, AsksOne};
@@ -22,7 +22,7 @@ use crate::creating::Creation;
 use cdb_form::{Feeds, Sink, Width};
 use cdb_make::MakeFault;
 use cdb_names::{Answer, Builder, Lock, Names, ReplaceFault, replace_file};
-use cdb_show::FedInputs;
+use cdb_show::Inputs;
 use cdb_store::Store;
 use cdb_system::{Left, STANDARD_INPUT, System, is_standard};
 use cdb_tool::Fault;
@@ -182,7 +182,7 @@ where
     N: Names,
     I: Feeds + Drop,
     E: Sink,
-    ensures makes { (handed : FedInputs Y.Stream I) × HandsInputs contents.entry.sources.inputs
+    ensures makes { (handed : Inputs Y.Stream I) × HandsInputs contents.entry.sources.inputs
         handed result.0 × ((output : Option (List ℕ))
         → OfAgreeing Y.Stream.feed I.feed contents.entry.sources.inputs handed (λ inputs.
         MakesInPlace (files_of Y.File.Store Y.Made.Store Y.Stream.feed Y.System)

@@ -24,12 +24,12 @@ use Rattle.cdb_show.specs.Runs.Inputs.{InputForm, InputsLeft, AreAllInputs, AreI
 use Rattle.cdb_show.specs.Runs.Inputs as form_of
 use Rattle.cdb_show.specs.Runs.Lookups.{LookupsFail, LookupsStop, LooksUp, LooksUpAll}
 use Rattle.cdb_show.specs.Runs.Parsing.{StopsIn, fault_in, stop_of, stopped_parsing}
-use Rattle.cdb_show.specs.Views.FedInputs.{AreReadTo, held_of, reader_of, shared_feed}
+use Rattle.cdb_show.specs.Views.Inputs.{AreReadTo, held_of, reader_of, shared_feed}
 use Rattle.cdb_show.specs.declared.fault.Fault.{Fault}
 use Rattle.cdb_show.specs.declared.fault.Fault.TheVariants.{Text, Make, Duplicate, Missing, Read, Walk, Output, Long, Open, Rename, NoMemory, Old, New, NoOldTables, NoNewTables}
-use Rattle.cdb_show.specs.declared.fed_inputs.FedInputs.{FedInputs}
-use Rattle.cdb_show.specs.declared.fed_inputs.SharedWindow.{SharedWindow}
-use Rattle.cdb_show.specs.declared.fed_inputs.SharedWindow.TheVariants.{InHand, Unread}
+use Rattle.cdb_show.specs.declared.inputs.Inputs.{Inputs}
+use Rattle.cdb_show.specs.declared.inputs.SharedWindow.{SharedWindow}
+use Rattle.cdb_show.specs.declared.inputs.SharedWindow.TheVariants.{InHand, Unread}
 use Rattle.cdb_show.proofs.NextInputs.{first_begins, first_none}
 use Rattle.cdb_show.proofs.Queries.{none_prefix}
 
@@ -196,7 +196,7 @@ window_may : {I : Type 0} (shared : I → Feed) (w : SharedWindow I) (whole rest
 window_may shared (Unread reader) whole rest may = may
 window_may shared (InHand w) whole rest may = record { behind = rest; may = may; is = refl }
 
-module _ {J I S : Type 0} (w g : ℕ) (s : Ghosts S) (number : Option ℕ) (style : Style) (own : J → Feed) (shared : I → Feed) (inputs left : FedInputs J I) (each : List (Option (List ℕ))) (whole : List ℕ) where
+module _ {J I S : Type 0} (w g : ℕ) (s : Ghosts S) (number : Option ℕ) (style : Style) (own : J → Feed) (shared : I → Feed) (inputs left : Inputs J I) (each : List (Option (List ℕ))) (whole : List ℕ) where
   -- the inputs that were read have these bytes, and these are left
   record GoesTo (fault : Option TextFault) (read : List (List Change)) (stop : Stop Change TextFault) : Type 0 where
     rest : InputsLeft

@@ -29,15 +29,15 @@ use Rattle.cdb_show.specs.Runs.LookedUp.{looked_up}
 use Rattle.cdb_show.specs.Runs.Inputs.{InputForm, BeginsWithItems, HasItemFault, IsInputOf, keys_form, keys_of, keys_of_each}
 use Rattle.cdb_show.specs.Runs.Lookups.{FaultBehind, HasLooked, LookupsStopAt, StopsBehind, missing_answer}
 use Rattle.cdb_show.specs.Runs.Parsing.{IsFaultOf, StopsIn, fault_in, stop_of, stopped_parsing}
-use Rattle.cdb_show.specs.Views.FedInputs.{AreReadTo, reader_of, shared_feed}
+use Rattle.cdb_show.specs.Views.Inputs.{AreReadTo, reader_of, shared_feed}
 use Rattle.cdb_show.specs.Views.Fault.{read_fault}
 use Rattle.cdb_show.specs.Views.Window.{feed_of}
 use Rattle.cdb_show.specs.Views.WindowRests.{same_held}
 use Rattle.cdb_show.specs.declared.fault.Fault.{Fault}
 use Rattle.cdb_show.specs.declared.fault.Fault.TheVariants.{Text, Make, Duplicate, Missing, Read, Walk, Output, Long, Open, Rename, NoMemory, Old, New, NoOldTables, NoNewTables}
-use Rattle.cdb_show.specs.declared.fed_inputs.FedInputs.{FedInputs}
-use Rattle.cdb_show.specs.declared.fed_inputs.SharedWindow.{SharedWindow}
-use Rattle.cdb_show.specs.declared.fed_inputs.SharedWindow.TheVariants.{InHand, Unread}
+use Rattle.cdb_show.specs.declared.inputs.Inputs.{Inputs}
+use Rattle.cdb_show.specs.declared.inputs.SharedWindow.{SharedWindow}
+use Rattle.cdb_show.specs.declared.inputs.SharedWindow.TheVariants.{InHand, Unread}
 use Rattle.cdb_show.specs.declared.window.Window.{Window}
 use Rattle.cdb_show.proofs.FedTurns.{SoFar, one_more, one_stops, all_read, others_same, reached_all, reached_more}
 use Rattle.cdb_show.proofs.LookupRuns.{each_more, stops_later}
@@ -258,7 +258,7 @@ module _ {J I S : Type 0} (w g : ℕ) (s : Ghosts S) (number : Option ℕ) (styl
 -- ---- the end
 
 -- a fault that stopped it in an input is neither a missing value nor a store without a head
-fails_in : {J I S : Type 0} (w : ℕ) (s : Ghosts S) (number : Option ℕ) (style : Style) (inputs left : FedInputs J I) (read : List (List Change)) (stop : Stop Change TextFault) (old new : S) (start now : Option (List ℕ)) (f : Fault) → StopsInNext w s number style read stop old new start now f → FedLookupsFail w s number style inputs left read stop old new start now f
+fails_in : {J I S : Type 0} (w : ℕ) (s : Ghosts S) (number : Option ℕ) (style : Style) (inputs left : Inputs J I) (read : List (List Change)) (stop : Stop Change TextFault) (old new : S) (start now : Option (List ℕ)) (f : Fault) → StopsInNext w s number style read stop old new start now f → FedLookupsFail w s number style inputs left read stop old new start now f
 fails_in w s number style inputs left read stop old new start now (Read damage.Short) h = absurd h.stops
 fails_in w s number style inputs left read stop old new start now (Read (damage.Table n)) h = h
 fails_in w s number style inputs left read stop old new start now (Read (damage.Record place)) h = h
@@ -300,7 +300,7 @@ no_fault : (missing : Bool) → fault_in (missing_answer missing) ≡ None
 no_fault true = refl
 no_fault false = refl
 
-module _ {J I S : Type 0} (w g : ℕ) (s : Ghosts S) (number : Option ℕ) (style : Style) (own : J → Feed) (shared : I → Feed) (inputs left : FedInputs J I) (window : SharedWindow I) (old new : S) (start : Option (List ℕ)) (now : List (InputReader J)) (same : left.readers.items ≡ now) (handed : left.shared ≡ reader_of window) (reads : OnlyReads s old new) where
+module _ {J I S : Type 0} (w g : ℕ) (s : Ghosts S) (number : Option ℕ) (style : Style) (own : J → Feed) (shared : I → Feed) (inputs left : Inputs J I) (window : SharedWindow I) (old new : S) (start : Option (List ℕ)) (now : List (InputReader J)) (same : left.readers.items ≡ now) (handed : left.shared ≡ reader_of window) (reads : OnlyReads s old new) where
   handed_back : (fault : Option TextFault) (read : List (List Change)) (stop : Stop Change TextFault) → AreRead own (shared_feed shared) (keys_parsing style g fault) read stop inputs.readers.items now (Unread inputs.shared) window → drop (reached read stop) now ≡ drop (reached read stop) inputs.readers.items → AreReadTo own shared (keys_parsing style g fault) read stop inputs left
   handed_back fault read stop are others = record { window = window; are = subst (λ xs. AreRead own (shared_feed shared) (keys_parsing style g fault) read stop inputs.readers.items xs (Unread inputs.shared) window) (sym same) are; handed = handed; others = subst (λ xs. drop (reached read stop) xs ≡ drop (reached read stop) inputs.readers.items) (sym same) others }
 
@@ -352,7 +352,7 @@ module _ {J I S : Type 0} (w g : ℕ) (s : Ghosts S) (number : Option ℕ) (styl
 -- ---- the store
 
 -- it was not opened
-pub fed_unopened : {J I S : Type 0} (w g : ℕ) (s : Ghosts S) (number : Option ℕ) (style : Style) (own : J → Feed) (shared : I → Feed) (inputs : FedInputs J I) (old new : S) (start : Option (List ℕ)) (f : ReadFault) → OpeningFails w s old new f
+pub fed_unopened : {J I S : Type 0} (w g : ℕ) (s : Ghosts S) (number : Option ℕ) (style : Style) (own : J → Feed) (shared : I → Feed) (inputs : Inputs J I) (old new : S) (start : Option (List ℕ)) (f : ReadFault) → OpeningFails w s old new f
     → FedLookupsLeave w g s number style own shared inputs inputs old new start start (Err (read_fault f))
 fed_unopened w g s number style own shared inputs old new start damage.Short h = record {
   reads = subst (OnlyReads s old) (sym h.1) (reads_none s old);
@@ -386,7 +386,7 @@ fed_unopened w g s number style own shared inputs old new start damage.Output h 
 in_next : {S : Type 0} (w : ℕ) (s : Ghosts S) (number : Option ℕ) (style : Style) (read : List (List Change)) (stop : Stop Change TextFault) (old mid new : S) (start now : Option (List ℕ)) (f : Fault) → OnlyReads s old mid → StopsInNext w s number style read stop mid new start now f → StopsInNext w s number style read stop old new start now f
 in_next w s number style read stop old mid new start now f reads h = record { last = h.last; is_stop = h.is_stop; stops = stops_later w s number style _ old mid new start now f reads h.stops; is_fault = h.is_fault }
 
-begun_fails : {J I S : Type 0} (w : ℕ) (s : Ghosts S) (number : Option ℕ) (style : Style) (inputs left : FedInputs J I) (read : List (List Change)) (stop : Stop Change TextFault) (old mid new : S) (start now : Option (List ℕ)) (f : Fault) → OnlyReads s old mid → head_size w ≤ s.size mid
+begun_fails : {J I S : Type 0} (w : ℕ) (s : Ghosts S) (number : Option ℕ) (style : Style) (inputs left : Inputs J I) (read : List (List Change)) (stop : Stop Change TextFault) (old mid new : S) (start now : Option (List ℕ)) (f : Fault) → OnlyReads s old mid → head_size w ≤ s.size mid
     → FedLookupsFail w s number style inputs left read stop mid new start now f → FedLookupsFail w s number style inputs left read stop old new start now f
 begun_fails w s number style inputs left read stop old mid new start now (Read damage.Short) reads long h = let short = h.why.0 in absurd (let no : ⊥ = omega (arith, long, short) in no)
 begun_fails w s number style inputs left read stop old mid new start now (Read damage.Device) reads long (inl h) = inl (in_next w s number style read stop old mid new start now _ reads h)
@@ -414,7 +414,7 @@ begun_fails w s number style inputs left read stop old mid new start now NoOldTa
 begun_fails w s number style inputs left read stop old mid new start now NoNewTables reads long h = in_next w s number style read stop old mid new start now _ reads h
 begun_fails w s number style inputs left read stop old mid new start now NoMemory reads long h = in_next w s number style read stop old mid new start now _ reads h
 
-pub fed_begun : {J I S : Type 0} (w g : ℕ) (s : Ghosts S) (number : Option ℕ) (style : Style) (own : J → Feed) (shared : I → Feed) (inputs left : FedInputs J I) (old mid new last : S) (start now : Option (List ℕ)) (result : Result Unit Fault) → OnlyReads s old mid → head_size w ≤ s.size mid → last ≡ new
+pub fed_begun : {J I S : Type 0} (w g : ℕ) (s : Ghosts S) (number : Option ℕ) (style : Style) (own : J → Feed) (shared : I → Feed) (inputs left : Inputs J I) (old mid new last : S) (start now : Option (List ℕ)) (result : Result Unit Fault) → OnlyReads s old mid → head_size w ≤ s.size mid → last ≡ new
     → FedLookupsLeave w g s number style own shared inputs left mid new start now result → FedLookupsLeave w g s number style own shared inputs left old last start now result
 fed_begun w g s number style own shared inputs left old mid new last start now result reads long same h = subst (λ v. FedLookupsLeave w g s number style own shared inputs left old v start now result) (sym same) (record {
   reads = reads_more reads h.reads;

@@ -5,7 +5,7 @@ use Rattle.cdb_feed.specs.Inputs.{AreRead, CutShort, HasFault, NoMore, NotBegun,
 use Rattle.cdb_feed.specs.Parsing.{Parsing}
 use Rattle.cdb_feed.specs.declared.input_reader.InputReader.{InputReader}
 use Rattle.cdb_feed.specs.declared.input_reader.InputReader.TheVariants.{Own, Shared}
-use Rattle.cdb_show.specs.Views.FedInputs.{AreInPlace, ArePassed}
+use Rattle.cdb_show.specs.Views.Inputs.{AreInPlace, ArePassed}
 
 pub same_places : {R : Type 0} (readers : List (InputReader R)) → AreInPlace readers readers
 same_places [] = tt

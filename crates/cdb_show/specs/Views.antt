@@ -2,7 +2,7 @@
 pub mod Fault
 pub mod Window
 pub mod WindowRests
-pub mod FedInputs
+pub mod Inputs
 pub mod Noted
 pub mod Output
 pub mod ItemReader

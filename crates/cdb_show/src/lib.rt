@@ -5,8 +5,8 @@
 
 mod counting;
 mod fault;
-mod fed_inputs;
 mod input_name;
+mod inputs;
 mod key_line;
 mod lines;
 mod message;
@@ -19,8 +19,8 @@ mod window;
 mod word_message;
 
 pub use fault::Fault;
-pub use fed_inputs::{FedInputs, SharedWindow};
 pub use input_name::{STANDARD_INPUT, input_at};
+pub use inputs::{Inputs, SharedWindow};
 pub use key_line::write_duplicates;
 pub use lines::{InLined, Lined, Lines};
 pub use message::write_fault;
@@ -29,10 +29,10 @@ pub use output::Output;
 pub use runs::check::check_run;
 pub use runs::content::Content;
 pub use runs::difference::difference_run;
-pub use runs::fed_lookups::lookups_run_fed;
 pub use runs::flushed::flushed;
 pub use runs::item_reader::ItemReader;
 pub use runs::load::{load, load_fed, load_from};
+pub use runs::lookups_of_inputs::lookups_run;
 pub use runs::query::{query_from, query_run};
 pub use runs::shown::Shown;
 pub use runs::stats::stats_run;

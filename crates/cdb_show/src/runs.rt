@@ -2,12 +2,12 @@
 pub mod check;
 pub mod content;
 pub mod difference;
-pub mod fed_lookups;
 pub mod flushed;
 pub mod item_reader;
 mod key_reader;
 pub mod load;
 pub mod lookups;
+pub mod lookups_of_inputs;
 pub mod query;
 pub mod shown;
 pub mod stats;

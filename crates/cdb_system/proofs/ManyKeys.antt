@@ -20,8 +20,8 @@ use Rattle.cdb_show.specs.Runs.LookedUp.{Looked, records_asked}
 use Rattle.cdb_show.specs.Status.{plain_status}
 use Rattle.cdb_show.specs.declared.fault.Fault.{Fault}
 use Rattle.cdb_show.specs.declared.fault.Fault.TheVariants.{Text, Read, Output, Open, NoMemory}
-use Rattle.cdb_show.specs.Views.FedInputs.{shared_feed}
-use Rattle.cdb_show.specs.declared.fed_inputs.SharedWindow.TheVariants.{Unread}
+use Rattle.cdb_show.specs.Views.Inputs.{shared_feed}
+use Rattle.cdb_show.specs.declared.inputs.SharedWindow.TheVariants.{Unread}
 use Rattle.cdb_show.proofs.FedLookedUp.{fed_looks_up, inputs_of as known_inputs}
 use Rattle.cdb_show.proofs.GivenInputs.{known_all}
 use Rattle.cdb_show.proofs.LookedUp.{IsLookupRefusal, LooksOrShort, lookups_asked}

@@ -5,7 +5,7 @@ use Rattle.cdb_names.specs.declared.answer.Answer.TheVariants.{Yes}
 use Rattle.cdb_show.specs.Runs.FedLookups.{FedLooksUp}
 use Rattle.cdb_show.specs.Runs.Form.{Form}
 use Rattle.cdb_show.specs.declared.fault.Fault.{Fault}
-use Rattle.cdb_show.specs.declared.fed_inputs.FedInputs.{FedInputs}
+use Rattle.cdb_show.specs.declared.inputs.Inputs.{Inputs}
 use Rattle.cdb_store.specs.declared.memory.MemStore.{MemStore}
 use Rattle.cdb_system.specs.Files.{Files}
 use Rattle.cdb_system.specs.Inputs.{OpensInputs}
@@ -37,7 +37,7 @@ module _ {F I J M Y : Type 0} (files : Files F I M Y) (old new : State Y) (left 
 
 module _ {F I J M Y : Type 0} (files : Files F I M Y) (input : Standard J) (old new : State Y) (left : Left F M I J) (result : Result Unit Fault) where
   -- the keys of inputs were looked up, which were opened after the file
-  pub keys_looked_up : (w most : ℕ) (l : Lookups) (mid : OpenCalls) (file last : F) (inputs handed : FedInputs I J) → mid ≡ (AtPlaces, l.name) ∷ calls_in files old → files.system.gives l.name file → OpensInputs files.system l.inputs inputs.readers.items mid (calls_in files new) → AreUnread files.feed inputs.readers.items → inputs.shared ≡ input.reader → left ≡ looked_left last handed
+  pub keys_looked_up : (w most : ℕ) (l : Lookups) (mid : OpenCalls) (file last : F) (inputs handed : Inputs I J) → mid ≡ (AtPlaces, l.name) ∷ calls_in files old → files.system.gives l.name file → OpensInputs files.system l.inputs inputs.readers.items mid (calls_in files new) → AreUnread files.feed inputs.readers.items → inputs.shared ≡ input.reader → left ≡ looked_left last handed
       → FedLooksUp w most files.stores l.number l.style files.feed input.feed inputs handed file last old.output new.output result → PerformsLookups w most files l input old new left result
   keys_looked_up w most l mid file last inputs handed calls came opens unread shared back looks = inr (inr (record {
     file = file;

@@ -16,7 +16,7 @@ use Rattle.cdb_system.specs.declared.left.Left.{Left}
 use Rattle.cdb_system.specs.declared.open_trace.OpenCall.{OpenCall}
 use Rattle.cdb_system.specs.declared.open_trace.OpenCall.TheVariants.{Emptied, Locked, Own, Stream, ToEmpty}
 use Rattle.cdb_system.specs.declared.open_trace.OpenCall.TheVariants.{Unopened}
-use Rattle.cdb_show.specs.declared.fed_inputs.FedInputs.{FedInputs}
+use Rattle.cdb_show.specs.declared.inputs.Inputs.{Inputs}
 use Rattle.cdb_show.specs.declared.fault.Fault.{Fault}
 use Rattle.cdb_show.specs.declared.fault.Fault.TheVariants.{Open, NoMemory, Rename}
 
@@ -92,7 +92,7 @@ abbrev pub input_left : {F M S I : Type 0} → I → Left F M S I
 input_left input = record none_left { input = Some input }
 
 -- or a file in which keys were looked up, and the readers of the inputs that gave them
-abbrev pub looked_left : {F M S I : Type 0} → F → FedInputs S I → Left F M S I
+abbrev pub looked_left : {F M S I : Type 0} → F → Inputs S I → Left F M S I
 looked_left file inputs = record none_left {
   read = Some file;
   inputs = Some inputs.readers;

@@ -26,7 +26,7 @@ use Rattle.cdb_read.specs.Statistics.{distances_in, statistics_of, statistics_da
 use Rattle.cdb_store.specs.Contents.{contents}
 use Rattle.cdb_store.specs.contracts.memory.MemStoreStore.TheImpl.{ghosts as in_memory}
 use Rattle.cdb_store.specs.declared.memory.MemStore.{MemStore}
-use Rattle.cdb_show.specs.declared.fed_inputs.FedInputs.{FedInputs}
+use Rattle.cdb_show.specs.declared.inputs.Inputs.{Inputs}
 use Rattle.cdb_show.specs.Runs.StatsText.{distance_lines, stats_text}
 use Rattle.cdb_system.specs.Files.{Files, files_of}
 use Rattle.cdb_system.specs.Answered.{AreComparable, Honest}
@@ -281,7 +281,7 @@ abbrev list_readers : List (InputReader (NotedReader (List ℕ)))
 list_readers = Own (ended [] (codes "\n")) ∷ Shared ∷ Own (fresh []) ∷ []
 
 lookups_are_honest : (store : MemStore) → [] ≡ contents store
-    → (inputs : FedInputs (NotedReader (List ℕ)) (NotedReader (List ℕ)))
+    → (inputs : Inputs (NotedReader (List ℕ)) (NotedReader (List ℕ)))
     → inputs.readers.items ≡ list_readers → inputs.shared ≡ noted [] (codes "\n")
     → Honest (from lists) lists (codes "\n") (Lookups name asked_lists None Native false)
     (standard (codes "\n")) []

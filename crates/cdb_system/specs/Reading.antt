@@ -21,7 +21,7 @@ use Rattle.cdb_show.specs.declared.fault.Fault.{Fault}
 use Rattle.cdb_show.specs.declared.fault.Fault.TheVariants.{Long, Open, NoMemory as NoRoom, Output, Walk}
 use Rattle.cdb_names.specs.declared.answer.Answer.TheVariants as looks
 use Rattle.cdb_system.specs.Files.{Files}
-use Rattle.cdb_show.specs.declared.fed_inputs.FedInputs.{FedInputs}
+use Rattle.cdb_show.specs.declared.inputs.Inputs.{Inputs}
 use Rattle.cdb_system.specs.Inputs.{OpensInputs, StopsOpening}
 use Rattle.cdb_system.specs.Opening.{Misses, OpenCalls, both_left, input_left, looked_left, none_left, read_left, stream_left}
 use Rattle.cdb_system.specs.State.{Standard, State, calls_in}
@@ -250,13 +250,13 @@ pub record LooksUpFile {F I J M Y : Type 0} (w most : ℕ) (files : Files F I M 
     : Type 0 where
   pub file : F
   pub came : files.system.gives l.name file
-  pub inputs : FedInputs I J
+  pub inputs : Inputs I J
   pub opens : OpensInputs files.system l.inputs inputs.readers.items
       ((AtPlaces, l.name) ∷ calls_in files old) (calls_in files new)
   pub unread : AreUnread files.feed inputs.readers.items
   pub shared : inputs.shared ≡ input.reader
   pub last : F
-  pub handed : FedInputs I J
+  pub handed : Inputs I J
   pub are_last : left ≡ looked_left last handed
   pub looks : FedLooksUp w most files.stores l.number l.style files.feed input.feed inputs handed
       file last old.output new.output result

@@ -9,7 +9,7 @@ ghost use Rattle.cdb_system.specs.Inputs.{OpensInputs, StopsOpening, MissesInput
 use crate::system::System;
 use cdb_feed::InputReader;
 use cdb_form::Feeds;
-use cdb_show::{Fault, FedInputs};
+use cdb_show::{Fault, Inputs};
 use std::alloc::Global;
 
 /// The name of standard input.
@@ -76,7 +76,7 @@ pub fn open_inputs<Y: System, I: Feeds + Drop>(
     system: &mut Y,
     names: &[String],
     input: I,
-) -> Result<FedInputs<Y::Stream, I>, Fault>
+) -> Result<Inputs<Y::Stream, I>, Fault>
     ensures ok { IfOk result (λ i. OpensInputs Y.System (map string_bytes names.now)
         i.readers.items (Y.calls system.old) (Y.calls system.new)) }
     ensures unread { IfOk result (λ i. AreUnread Y.Stream.feed i.readers.items) }
@@ -89,7 +89,7 @@ pub fn open_inputs<Y: System, I: Feeds + Drop>(
     if names.is_empty() {
         readers.push(InputReader::Shared)?;
     }
-    Ok(FedInputs {
+    Ok(Inputs {
         readers,
         shared: input,
     })

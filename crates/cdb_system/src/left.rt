@@ -4,7 +4,7 @@ ghost use Rattle.cdb_system.specs.Opening.{none_left, read_left, base_left, both
 ghost use Rattle.cdb_system.specs.Opening.{stream_left, input_left, looked_left};
 
 use cdb_feed::InputReader;
-use cdb_show::FedInputs;
+use cdb_show::Inputs;
 
 /// The files that a command opened and has not closed, and standard input if it was read, as they are
 /// at its end. A clause says what was read of them, or made.
@@ -112,7 +112,7 @@ pub fn input_left<F: Drop, M: Drop, S: Drop, I: Drop>(input: I) -> Left<F, M, S,
 /// A file in which keys were looked up is handed back, and the readers of the inputs that gave them.
 pub fn looked_left<F: Drop, M: Drop, S: Drop, I: Drop>(
     file: F,
-    inputs: FedInputs<S, I>,
+    inputs: Inputs<S, I>,
 ) -> Left<F, M, S, I>
     ensures { result ≡ looked_left file inputs }
 {

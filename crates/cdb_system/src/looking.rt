@@ -11,7 +11,7 @@ use crate::left::{Left, looked_left, none_left, read_left};
 use crate::system::System;
 use cdb_command::Style;
 use cdb_form::{Feeds, Sink, Width};
-use cdb_show::{Fault, Lines, lookups_run_fed};
+use cdb_show::{Fault, Lines, lookups_run};
 use std::alloc::Global;
 
 /// Writes the records of the keys of some inputs, whose values are counted from 1. The database is
@@ -52,7 +52,7 @@ where
     };
     match open_inputs::<Y, I>(alloc, system, inputs, input) {
         Ok(inputs) => {
-            let (store, inputs, answer) = lookups_run_fed::<L, Y::File, Y::Stream, I, O>(
+            let (store, inputs, answer) = lookups_run::<L, Y::File, Y::Stream, I, O>(
                 alloc, store, inputs, number, style, lines, output,
             );
             (looked_left(store, inputs), answer)

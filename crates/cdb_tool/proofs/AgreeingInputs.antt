@@ -14,13 +14,13 @@ use Rattle.cdb_feed.specs.declared.input_reader.InputReader.TheVariants.{Own, Sh
 use Rattle.cdb_show.specs.Runs.Incoming.{one_input}
 use Rattle.cdb_show.specs.Runs.Inputs.{InputForm, InputsLeft, IsInputOf, OneInput, Own, bytes_of, own_inputs}
 use Rattle.cdb_show.specs.Runs.Inputs as form
-use Rattle.cdb_show.specs.Views.FedInputs.{inputs_left, one_of, shared_feed}
+use Rattle.cdb_show.specs.Views.Inputs.{inputs_left, one_of, shared_feed}
 use Rattle.cdb_show.specs.declared.fault.Fault.{Fault}
-use Rattle.cdb_show.specs.declared.fed_inputs.FedInputs.{FedInputs}
+use Rattle.cdb_show.specs.declared.inputs.Inputs.{Inputs}
 use Rattle.cdb_tool.specs.Runs.FormParsing.{BeginsSo, FailsSo, parsing}
 use Rattle.cdb_tool.specs.Runs.InputsRead.{HasRead, WereRead}
-use Rattle.cdb_show.specs.declared.fed_inputs.SharedWindow.{SharedWindow}
-use Rattle.cdb_show.specs.declared.fed_inputs.SharedWindow.TheVariants.{Unread}
+use Rattle.cdb_show.specs.declared.inputs.SharedWindow.{SharedWindow}
+use Rattle.cdb_show.specs.declared.inputs.SharedWindow.TheVariants.{Unread}
 
 -- ---- the bytes of a reader
 
@@ -259,7 +259,7 @@ module _ {J I : Type 0} (own : J → Option (List ℕ)) (shared : I → Option (
   as_many : (before : List (InputReader J)) → length (map (one_of own) before) ≡ length before
   as_many before = length-map before (one_of own)
 
-  module _ (st : InputForm) (g : ℕ) (answer : Result Unit Fault) (read : List (List Change)) (stop : Stop Change TextFault) (before after : FedInputs J I) (were : WereRead own_feed (λ reader. reader_feed (shared reader)) st g answer read stop before after) where
+  module _ (st : InputForm) (g : ℕ) (answer : Result Unit Fault) (read : List (List Change)) (stop : Stop Change TextFault) (before after : Inputs J I) (were : WereRead own_feed (λ reader. reader_feed (shared reader)) st g answer read stop before after) where
     -- those of the shared reader are these
     abbrev HasLeft : Option (List ℕ) → Type 0
     HasLeft s = HasRead st g answer read stop (record { each = map (one_of own) before.readers.items; shared = s })
@@ -337,7 +337,7 @@ module _ {R S : Type 0} (own : R → Feed) (shared : S → Feed) (fits : List �
   first_agreed st g answer (items ∷ read) stop [] (reader ∷ before) (left ∷ after) old new are unread agree = absurd agree
 
 -- of readers of which nothing was read before a run
-pub agreeing_inputs : {J I : Type 0} (own : J → Feed) (shared : I → Feed) (fits : List ℕ → Type 0) (st : InputForm) (g : ℕ) (answer : Result Unit Fault) (read : List (List Change)) (stop : Stop Change TextFault) (before after : FedInputs J I) (inputs : List (Option (List ℕ))) (whole : List ℕ)
+pub agreeing_inputs : {J I : Type 0} (own : J → Feed) (shared : I → Feed) (fits : List ℕ → Type 0) (st : InputForm) (g : ℕ) (answer : Result Unit Fault) (read : List (List Change)) (stop : Stop Change TextFault) (before after : Inputs J I) (inputs : List (Option (List ℕ))) (whole : List ℕ)
     → WereRead own shared st g answer read stop before after → AreUnread own before.readers.items → IsUnread (shared before.shared) → length inputs ≡ length before.readers.items → FirstAgree own fits (reached read stop) inputs after.readers.items → AgreesWith fits (shared after.shared) whole
     → HasRead st g answer read stop (record { each = map one_input inputs; shared = Some whole })
 agreeing_inputs own shared fits st g answer read stop before after inputs whole were unread first long agree agrees =
@@ -351,7 +351,7 @@ agreeing_inputs own shared fits st g answer read stop before after inputs whole 
     subst (λ t. HasRead st g answer read stop (record { each = map one_input inputs; shared = Some t })) (first.all whole found.0 found.1) found.2
 
 -- those of readers of their own
-pub own_left : {J I : Type 0} (own : J → Option (List ℕ)) (shared : I → Option (List ℕ)) (inputs : FedInputs J I) (bytes : List (Option (List ℕ))) → map (one_of own) inputs.readers.items ≡ map Own bytes → shared inputs.shared ≡ Some [] → inputs_left own shared inputs ≡ own_inputs bytes
+pub own_left : {J I : Type 0} (own : J → Option (List ℕ)) (shared : I → Option (List ℕ)) (inputs : Inputs J I) (bytes : List (Option (List ℕ))) → map (one_of own) inputs.readers.items ≡ map Own bytes → shared inputs.shared ≡ Some [] → inputs_left own shared inputs ≡ own_inputs bytes
 own_left own shared inputs bytes each none =
     ap (λ es. let left : InputsLeft = record { each = es; shared = shared inputs.shared } in left) each
     ∙ ap (λ s. let left : InputsLeft = record { each = map Own bytes; shared = s } in left) none

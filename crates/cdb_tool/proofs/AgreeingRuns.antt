@@ -9,7 +9,7 @@ use Rattle.cdb_command.specs.declared.options.MakeOptions.{MakeOptions}
 use Rattle.cdb_show.specs.Runs.Incoming.{EachOfBytes, Known, one_input}
 use Rattle.cdb_show.specs.Runs.Inputs.{InputsLeft, input_form}
 use Rattle.cdb_show.specs.declared.fault.Fault.{Fault}
-use Rattle.cdb_show.specs.declared.fed_inputs.FedInputs.{FedInputs}
+use Rattle.cdb_show.specs.declared.inputs.Inputs.{Inputs}
 use Rattle.cdb_show.proofs.GivenInputs.{known_all}
 use Rattle.cdb_tool.specs.Runs.InputsRead.{RunsRead}
 use Rattle.cdb_tool.specs.Runs.Made.{made_of}
@@ -24,7 +24,7 @@ use Rattle.cdb_tool.proofs.RunEnds.{base_weaker}
 abbrev left_of : List (Option (List ℕ)) → List ℕ → InputsLeft
 left_of inputs whole = record { each = map one_input inputs; shared = Some whole }
 
-module _ {B J I : Type 0} (t : Ghosts B) (was base : Option B) (own : J → Feed) (shared : I → Feed) (w g : ℕ) (o : MakeOptions) (before after : FedInputs J I) (images : List ℕ → Type 0) (old new : Option (List ℕ)) (result : Result Unit Fault) (run : RunsRead w g o own shared t was base before after images old new result)
+module _ {B J I : Type 0} (t : Ghosts B) (was base : Option B) (own : J → Feed) (shared : I → Feed) (w g : ℕ) (o : MakeOptions) (before after : Inputs J I) (images : List ℕ → Type 0) (old new : Option (List ℕ)) (result : Result Unit Fault) (run : RunsRead w g o own shared t was base before after images old new result)
     (unread : AreUnread own before.readers.items) (first : IsUnread (shared before.shared)) (inputs : List (Option (List ℕ))) (whole : List ℕ) (long : length inputs ≡ length before.readers.items) (agree : FirstAgree own AreBytes (reached run.read run.stop) inputs after.readers.items)
     (agrees : AgreesWith AreBytes (shared after.shared) whole) where
   -- what it left of such inputs

@@ -26,10 +26,10 @@ use Rattle.cdb_show.specs.Runs.Flushed.{Flushed}
 use Rattle.cdb_show.specs.Runs.Incoming.{came}
 use Rattle.cdb_show.specs.Runs.Inputs.{AreAllInputs, HasFaults, InputForm, InputsLeft, input_form}
 use Rattle.cdb_show.specs.Views.Fault.{make_fault}
-use Rattle.cdb_show.specs.Views.FedInputs.{ArePassed, shared_feed}
+use Rattle.cdb_show.specs.Views.Inputs.{ArePassed, shared_feed}
 use Rattle.cdb_show.specs.declared.fault.Fault.{Fault}
 use Rattle.cdb_show.specs.declared.fault.Fault.TheVariants.{Output, Text}
-use Rattle.cdb_show.specs.declared.fed_inputs.FedInputs.{FedInputs}
+use Rattle.cdb_show.specs.declared.inputs.Inputs.{Inputs}
 use Rattle.cdb_show.proofs.NativeInputs.{some_weaker}
 use Rattle.cdb_show.proofs.NextInputs.{first_begins}
 use Rattle.cdb_show.proofs.Writers.{not_ok}
@@ -37,8 +37,8 @@ use Rattle.cdb_tool.specs.Runs.Course.{Task}
 use Rattle.cdb_tool.specs.Runs.FormParsing.{BeginsSo, parsing}
 use Rattle.cdb_tool.specs.Runs.InputsRead.{HasRead, IsFaultAt, RunsRead, StopsIn, WereRead, stop_by}
 use Rattle.cdb_tool.specs.Runs.Make.{HoldsBase, InputsFail, IsHalt, MakeRuns, OfBase, PutsInputs, PutsInputsStop, Stands, StoppedAt, form_of}
-use Rattle.cdb_show.specs.declared.fed_inputs.SharedWindow.{SharedWindow}
-use Rattle.cdb_show.specs.declared.fed_inputs.SharedWindow.TheVariants.{Unread}
+use Rattle.cdb_show.specs.declared.inputs.SharedWindow.{SharedWindow}
+use Rattle.cdb_show.specs.declared.inputs.SharedWindow.TheVariants.{Unread}
 use Rattle.cdb_tool.proofs.FedRuns.{reached_whole, read_as}
 use Rattle.cdb_tool.proofs.InputRuns.{form_is}
 use Rattle.cdb_tool.proofs.RunEnds.{runs_flushed, runs_stopped, runs_unfinished, runs_whole}
@@ -46,7 +46,7 @@ use Rattle.cdb_tool.proofs.RunEnds.{runs_flushed, runs_stopped, runs_unfinished,
 -- ---- the inputs
 
 -- they were read, and written over those in a vector
-pub were_written : {J I : Type 0} (own : J → Feed) (shared : I → Feed) (form : InputForm) (g : ℕ) (answer : Result Unit Fault) (read : List (List Change)) (stop : Stop Change TextFault) (before : FedInputs J I) (left : I) (now : List (InputReader J)) (window : SharedWindow I)
+pub were_written : {J I : Type 0} (own : J → Feed) (shared : I → Feed) (form : InputForm) (g : ℕ) (answer : Result Unit Fault) (read : List (List Change)) (stop : Stop Change TextFault) (before : Inputs J I) (left : I) (now : List (InputReader J)) (window : SharedWindow I)
     → AreRead own (shared_feed shared) (parsing form g answer) read stop before.readers.items now (Unread before.shared) window → ArePassed read stop before.readers.items now → (lost : List ℕ) → Consumes (shared_feed shared window) (shared left) lost → length now ≡ before.readers.len
     → WereRead own shared form g answer read stop before (record { readers = with_items before.readers now; shared = left })
 were_written own shared form g answer read stop before left now window are passed lost gone long = record {
@@ -74,7 +74,7 @@ none_passed own shared form g answer read before now old new are long =
     subst (λ k. drop k now ≡ []) a (drop-length now) ∙ sym (subst (λ k. drop k before ≡ []) b (drop-length before))
 
 -- none was begun
-pub were_none : {J I : Type 0} (own : J → Feed) (shared : I → Feed) (form : InputForm) (g : ℕ) (answer : Result Unit Fault) (inputs : FedInputs J I) → WereRead own shared form g answer [] NotBegun inputs inputs
+pub were_none : {J I : Type 0} (own : J → Feed) (shared : I → Feed) (form : InputForm) (g : ℕ) (answer : Result Unit Fault) (inputs : Inputs J I) → WereRead own shared form g answer [] NotBegun inputs inputs
 were_none own shared form g answer inputs = record { window = Unread inputs.shared; are = nothing_taken (shared inputs.shared); passed = refl; lost = []; let_go = nothing_taken (shared inputs.shared) }
 
 pub all_inputs : (form : InputForm) (g : ℕ) (answer : Result Unit Fault) (read : List (List Change)) (inputs : InputsLeft) → HasRead form g answer read NoMore inputs → AreAllInputs form g read inputs
@@ -107,7 +107,7 @@ module _ (form : InputForm) (g : ℕ) (was is : Result Unit Fault) (none : IsNon
   stops_as own shared (CutShort items) [] after old new takes = absurd takes
   stops_as own shared (CutShort items) (reader ∷ before) [] old new takes = absurd takes
 
-  pub were_as : {J I : Type 0} (own : J → Feed) (shared : I → Feed) (read : List (List Change)) (stop : Stop Change TextFault) (before after : FedInputs J I) → WereRead own shared form g was read stop before after → WereRead own shared form g is read stop before after
+  pub were_as : {J I : Type 0} (own : J → Feed) (shared : I → Feed) (read : List (List Change)) (stop : Stop Change TextFault) (before after : Inputs J I) → WereRead own shared form g was read stop before after → WereRead own shared form g is read stop before after
   were_as own shared read stop before after were = record {
     window = were.window;
     are = read_as own (shared_feed shared) form g was is read stop before.readers.items after.readers.items (Unread before.shared) were.window (λ befores afters mid stops. stops_as own (shared_feed shared) stop befores afters mid were.window stops) were.are;
@@ -227,7 +227,7 @@ none_made make.NoMemory n f e = cc
 none_made made n f e = cc
 
 -- it read nothing
-pub read_none : {B J I : Type 0} (t : Ghosts B) (was base : Option B) (own : J → Feed) (shared : I → Feed) (w g : ℕ) (o : MakeOptions) (inputs : FedInputs J I) (images : List ℕ → Type 0) (old new : Option (List ℕ)) (result : Result Unit Fault)
+pub read_none : {B J I : Type 0} (t : Ghosts B) (was base : Option B) (own : J → Feed) (shared : I → Feed) (w g : ℕ) (o : MakeOptions) (inputs : Inputs J I) (images : List ℕ → Type 0) (old new : Option (List ℕ)) (result : Result Unit Fault)
     → ((given : InputsLeft) → WhereHonest images (OfBase t base (λ b. MakeRuns w g o b given images old new result))) → RunsRead w g o own shared t was base inputs inputs images old new result
 read_none t was base own shared w g o inputs images old new result runs = record {
   read = [];
@@ -236,7 +236,7 @@ read_none t was base own shared w g o inputs images old new result runs = record
   runs = λ given h. runs given;
 }
 
-module _ {S L B J I : Type 0} {s : Ghosts S} {l : Widths L} (t : Ghosts B) (was base : Option B) (own : J → Feed) (shared : I → Feed) (g : ℕ) (o : MakeOptions) (amends : Bool) (before after : FedInputs J I) (start now : Option (List ℕ)) (begun m : Maker S L s l) (of_was : amends ≡ is_some was) (of_base : is_some base ≡ amends)
+module _ {S L B J I : Type 0} {s : Ghosts S} {l : Widths L} (t : Ghosts B) (was base : Option B) (own : J → Feed) (shared : I → Feed) (g : ℕ) (o : MakeOptions) (amends : Bool) (before after : Inputs J I) (start now : Option (List ℕ)) (begun m : Maker S L s l) (of_was : amends ≡ is_some was) (of_base : is_some base ≡ amends)
     (wide : (l.WORD ≡ 4) ⊎ (l.WORD ≡ 8)) (holds : HoldsBase l.WORD t base begun) (limit : limit_of begun ≡ o.limit) (comes : ComesFrom (s.image begun.store) (s.image m.store)) (read : List (List Change)) where
   of_form : (answer : Result Unit Fault) (stop : Stop Change TextFault) → WereRead own shared (input_form o.style amends) g answer read stop before after → WereRead own shared (input_form o.style (is_some was)) g answer read stop before after
   of_form answer stop were = subst (λ v. WereRead own shared (input_form o.style v) g answer read stop before after) of_was were
@@ -278,7 +278,7 @@ module _ {S L B J I : Type 0} {s : Ghosts S} {l : Widths L} (t : Ghosts B) (was 
 
 -- ---- the flush
 
-flush_err : {B J I : Type 0} (t : Ghosts B) (was base : Option B) (own : J → Feed) (shared : I → Feed) (w g : ℕ) (o : MakeOptions) (before after : FedInputs J I) (images : List ℕ → Type 0) (old mid new : Option (List ℕ)) (answer : Result Unit Fault) → IsOk answer → Flushed mid new answer (Err Output)
+flush_err : {B J I : Type 0} (t : Ghosts B) (was base : Option B) (own : J → Feed) (shared : I → Feed) (w g : ℕ) (o : MakeOptions) (before after : Inputs J I) (images : List ℕ → Type 0) (old mid new : Option (List ℕ)) (answer : Result Unit Fault) → IsOk answer → Flushed mid new answer (Err Output)
     → RunsRead w g o own shared t was base before after images old mid answer → RunsRead w g o own shared t was base before after images old new (Err Output)
 flush_err t was base own shared w g o before after images old mid new (Ok u) ok f h = record {
   read = h.read;
@@ -288,7 +288,7 @@ flush_err t was base own shared w g o before after images old mid new (Ok u) ok 
 }
 flush_err t was base own shared w g o before after images old mid new (Err e) ok f h = absurd (not_ok ok)
 
-pub read_flushed : {B J I : Type 0} (t : Ghosts B) (was base : Option B) (own : J → Feed) (shared : I → Feed) (w g : ℕ) (o : MakeOptions) (before after : FedInputs J I) (images : List ℕ → Type 0) (old mid new : Option (List ℕ)) (answer result : Result Unit Fault) → RunsRead w g o own shared t was base before after images old mid answer
+pub read_flushed : {B J I : Type 0} (t : Ghosts B) (was base : Option B) (own : J → Feed) (shared : I → Feed) (w g : ℕ) (o : MakeOptions) (before after : Inputs J I) (images : List ℕ → Type 0) (old mid new : Option (List ℕ)) (answer result : Result Unit Fault) → RunsRead w g o own shared t was base before after images old mid answer
     → Flushed mid new answer result → RunsRead w g o own shared t was base before after images old new result
 read_flushed t was base own shared w g o before after images old mid new answer result h f = elim f.answered as (λ _. RunsRead w g o own shared t was base before after images old new result) [
   | inl e ↦

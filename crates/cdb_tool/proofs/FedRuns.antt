@@ -18,7 +18,7 @@ use Rattle.cdb_form.specs.declared.width.Width.{Ghosts as Widths}
 use Rattle.cdb_make.specs.declared.maker.Maker.{Maker}
 use Rattle.cdb_command.specs.declared.options.MakeOptions.{MakeOptions}
 use Rattle.cdb_show.specs.Runs.Inputs.{InputForm, IsInputOf}
-use Rattle.cdb_show.specs.Views.FedInputs.{ArePassed}
+use Rattle.cdb_show.specs.Views.Inputs.{ArePassed}
 use Rattle.cdb_show.specs.declared.fault.Fault.{Fault}
 use Rattle.cdb_show.specs.declared.fault.Fault.TheVariants.{Text}
 use Rattle.cdb_tool.specs.Runs.FormParsing.{parsing}

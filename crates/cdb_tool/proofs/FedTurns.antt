@@ -17,7 +17,7 @@ use Rattle.cdb_command.specs.declared.options.MakeOptions.{MakeOptions}
 use Rattle.cdb_show.specs.Runs.Incoming.{came}
 use Rattle.cdb_show.specs.Runs.Inputs.{BeginsWithItems, HasItemFault, InputForm, IsInputOf}
 use Rattle.cdb_show.specs.Runs.Lookups.{StopsBehind}
-use Rattle.cdb_show.specs.Views.FedInputs.{shared_feed}
+use Rattle.cdb_show.specs.Views.Inputs.{shared_feed}
 use Rattle.cdb_show.specs.Views.Window.{feed_of, held_in, reader_of}
 use Rattle.cdb_show.specs.Views.WindowRests.{same_held}
 use Rattle.cdb_show.specs.declared.fault.Fault.{Fault}
@@ -27,8 +27,8 @@ use Rattle.cdb_show.proofs.NextInputs.{begins_none}
 use Rattle.cdb_tool.specs.Runs.FormParsing.{BeginsSo, FailsSo, parsing}
 use Rattle.cdb_tool.specs.Runs.InputsRead.{StopsInput, stop_by}
 use Rattle.cdb_tool.specs.Runs.Make.{PutsStop}
-use Rattle.cdb_show.specs.declared.fed_inputs.SharedWindow.{SharedWindow}
-use Rattle.cdb_show.specs.declared.fed_inputs.SharedWindow.TheVariants.{InHand, Unread}
+use Rattle.cdb_show.specs.declared.inputs.SharedWindow.{SharedWindow}
+use Rattle.cdb_show.specs.declared.inputs.SharedWindow.TheVariants.{InHand, Unread}
 use Rattle.cdb_tool.proofs.InputRuns.{text_stopped}
 use Rattle.cdb_tool.proofs.InputRuns.{none_put}
 

@@ -20,11 +20,11 @@ use Rattle.cdb_show.specs.Runs.Inputs.{keys_form, keys_of, keys_of_each}
 use Rattle.cdb_show.specs.Runs.LookedUp.{looked_up}
 use Rattle.cdb_show.specs.Runs.Lookups.{HasLooked, LookupsStopAt, missing_answer}
 use Rattle.cdb_show.specs.Runs.Parsing.{IsFaultOf, StopsIn, fault_in, stop_of, stopped_parsing}
-use Rattle.cdb_show.specs.Views.FedInputs.{AreReadTo, shared_feed}
+use Rattle.cdb_show.specs.Views.Inputs.{AreReadTo, shared_feed}
 use Rattle.cdb_show.specs.declared.fault.Fault.{Fault}
 use Rattle.cdb_show.specs.declared.fault.Fault.TheVariants.{Read, Missing, Output}
-use Rattle.cdb_show.specs.declared.fed_inputs.FedInputs.{FedInputs}
-use Rattle.cdb_show.specs.declared.fed_inputs.SharedWindow.{SharedWindow}
+use Rattle.cdb_show.specs.declared.inputs.Inputs.{Inputs}
+use Rattle.cdb_show.specs.declared.inputs.SharedWindow.{SharedWindow}
 
 -- ---- the keys of an input
 
@@ -74,7 +74,7 @@ pub record StopsInNext {S : Type 0} (w : ℕ) (s : Ghosts S) (number : Option �
   pub is_fault : IsFaultOf (keys_form style) (length read + 1) fault
 
 -- the store was not opened: no input was begun, and nothing was written
-pub record IsUnopened {J I : Type 0} (inputs left : FedInputs J I) (read : List (List Change))
+pub record IsUnopened {J I : Type 0} (inputs left : Inputs J I) (read : List (List Change))
     (stop : Stop Change TextFault) (start end : Option (List ℕ)) (Why : Type 0) : Type 0 where
   pub none : read ≡ []
   pub is_stop : stop ≡ NotBegun
@@ -85,7 +85,7 @@ pub record IsUnopened {J I : Type 0} (inputs left : FedInputs J I) (read : List 
 -- what a fault leaves: if the writer failed, a prefix of the text of the keys so far, or of all and of
 -- what ends it
 abbrev pub FedLookupsFail : {J I S : Type 0} → ℕ → Ghosts S → Option ℕ → Style
-    → (inputs left : FedInputs J I) → List (List Change) → Stop Change TextFault → (old new : S)
+    → (inputs left : Inputs J I) → List (List Change) → Stop Change TextFault → (old new : S)
     → (start end : Option (List ℕ)) → Fault → Type 0
 FedLookupsFail w s number style inputs left read stop old new start end (Read read_fault.Short) =
     IsUnopened inputs left read stop start end ((s.size old < head_size w) × (new ≡ old))
@@ -101,7 +101,7 @@ FedLookupsFail w s number style inputs left read stop old new start end fault =
 
 -- what the run leaves before its writer is flushed
 pub record FedLookupsLeave {J I S : Type 0} (w greatest : ℕ) (s : Ghosts S) (number : Option ℕ)
-    (style : Style) (own : J → Feed) (shared : I → Feed) (inputs left : FedInputs J I) (old new : S)
+    (style : Style) (own : J → Feed) (shared : I → Feed) (inputs left : Inputs J I) (old new : S)
     (start end : Option (List ℕ)) (result : Result Unit Fault) : Type 0 where
   pub reads : OnlyReads s old new
   pub read : List (List Change)
@@ -115,7 +115,7 @@ pub record FedLookupsLeave {J I S : Type 0} (w greatest : ℕ) (s : Ghosts S) (n
 
 -- and then
 pub record FedLooksUp {J I S : Type 0} (w greatest : ℕ) (s : Ghosts S) (number : Option ℕ)
-    (style : Style) (own : J → Feed) (shared : I → Feed) (inputs left : FedInputs J I) (old new : S)
+    (style : Style) (own : J → Feed) (shared : I → Feed) (inputs left : Inputs J I) (old new : S)
     (start end : Option (List ℕ)) (result : Result Unit Fault) : Type 0 where
   pub mid : Option (List ℕ)
   pub answer : Result Unit Fault

@@ -11,12 +11,12 @@ use Rattle.cdb_feed.specs.declared.input_reader.InputReader.{InputReader}
 use Rattle.cdb_make.specs.Views.Maker.{WhereHonest}
 use Rattle.cdb_command.specs.declared.options.MakeOptions.{MakeOptions}
 use Rattle.cdb_show.specs.Runs.Inputs.{InputForm, InputsLeft, AreInputs, FirstHas, HasFaults, input_form}
-use Rattle.cdb_show.specs.Views.FedInputs.{ArePassed, shared_feed}
+use Rattle.cdb_show.specs.Views.Inputs.{ArePassed, shared_feed}
 use Rattle.cdb_show.specs.declared.fault.Fault.{Fault}
 use Rattle.cdb_show.specs.declared.fault.Fault.TheVariants.{Text}
-use Rattle.cdb_show.specs.declared.fed_inputs.FedInputs.{FedInputs}
-use Rattle.cdb_show.specs.declared.fed_inputs.SharedWindow.{SharedWindow}
-use Rattle.cdb_show.specs.declared.fed_inputs.SharedWindow.TheVariants.{Unread}
+use Rattle.cdb_show.specs.declared.inputs.Inputs.{Inputs}
+use Rattle.cdb_show.specs.declared.inputs.SharedWindow.{SharedWindow}
+use Rattle.cdb_show.specs.declared.inputs.SharedWindow.TheVariants.{Unread}
 use Rattle.cdb_tool.specs.Runs.FormParsing.{BeginsSo, FailsSo, parsing}
 use Rattle.cdb_tool.specs.Runs.Make.{MakeRuns, OfBase}
 
@@ -48,7 +48,7 @@ pub record StopsInput {R S : Type 0} (own : R → Feed) (shared : S → Feed) (f
 -- of those that were not reached are as they were. What the window over the shared reader held was lost when the reader was handed back.
 pub record WereRead {J I : Type 0} (own : J → Feed) (shared : I → Feed) (form : InputForm) (greatest : ℕ)
     (answer : Result Unit Fault) (read : List (List Change)) (stop : Stop Change TextFault)
-    (before after : FedInputs J I) : Type 0 where
+    (before after : Inputs J I) : Type 0 where
   pub window : SharedWindow I
   pub are : AreRead own (shared_feed shared) (parsing form greatest answer) read stop
       before.readers.items after.readers.items (Unread before.shared) window
@@ -78,7 +78,7 @@ pub record HasRead (form : InputForm) (greatest : ℕ) (answer : Result Unit Fau
 -- What a run leaves that read its inputs, by its base as it was and as it was handed back: what `MakeRuns` says of
 -- any inputs that agree with what was read.
 pub record RunsRead {B J I : Type 0} (w greatest : ℕ) (o : MakeOptions) (own : J → Feed) (shared : I → Feed)
-    (s : Ghosts B) (was base : Option B) (before after : FedInputs J I) (images : List ℕ → Type 0)
+    (s : Ghosts B) (was base : Option B) (before after : Inputs J I) (images : List ℕ → Type 0)
     (old new : Option (List ℕ)) (result : Result Unit Fault) : Type 0 where
   pub read : List (List Change)
   pub stop : Stop Change TextFault

@@ -9,7 +9,7 @@ ghost use Rattle.cdb_feed.specs.Inputs.{AreRead, NoMore, TakesOne};
 ghost use Rattle.cdb_make.specs.Views.Maker.{WhereHonest};
 ghost use Rattle.cdb_show.specs.Runs.Inputs.{IsInputOf, input_form, own_inputs};
 ghost use Rattle.cdb_show.specs.Runs.Lookups.{StopsBehind};
-ghost use Rattle.cdb_show.specs.Views.FedInputs.{ArePassed, shared_feed};
+ghost use Rattle.cdb_show.specs.Views.Inputs.{ArePassed, shared_feed};
 ghost use Rattle.cdb_show.specs.Views.Output.{OutputSays};
 ghost use Rattle.cdb_show.specs.Views.Window.{feed_of};
 ghost use Rattle.cdb_show.specs.declared.fault.Fault.TheVariants.{NoMemory, Text};
@@ -26,7 +26,7 @@ use cdb_feed::InputReader;
 use cdb_form::{Feeds, Sink, Width};
 use cdb_make::Maker;
 use cdb_show::{
-    Fault, FedInputs, InLined, InWindow, ItemReader, Lined, Lines, SharedWindow, Window, flushed,
+    Fault, InLined, InWindow, Inputs, ItemReader, Lined, Lines, SharedWindow, Window, flushed,
 };
 use cdb_store::Store;
 use std::alloc::Global;
@@ -192,15 +192,15 @@ fn put_turns<L: Width, S: Store, J: Feeds + Drop, I: Feeds + Drop, E: Sink>(
 ///
 /// The inputs are handed back whatever the answer; what their windows took past the texts is lost. The
 /// contract holds of whatever bytes agree with what the readers gave.
-pub fn put_inputs_fed<L: Width, S: Store, J: Feeds + Drop, I: Feeds + Drop, E: Sink>(
+pub fn put_inputs<L: Width, S: Store, J: Feeds + Drop, I: Feeds + Drop, E: Sink>(
     alloc: Global,
     maker: &mut Maker<S, L>,
     options: &MakeOptions<'_>,
     amends: bool,
-    inputs: FedInputs<J, I>,
+    inputs: Inputs<J, I>,
     lines: &Lines,
     errors: &mut E,
-) -> (FedInputs<J, I>, Result<(), Fault>)
+) -> (Inputs<J, I>, Result<(), Fault>)
     ensures ok { OnOk result.1 ((read : List (List Change))
         × WereRead J.feed I.feed (input_form options.now.style amends) L.GREATEST (Ok tt) read
         NoMore inputs result.0
@@ -215,7 +215,7 @@ pub fn put_inputs_fed<L: Width, S: Store, J: Feeds + Drop, I: Feeds + Drop, E: S
         maker.old maker.new fault) }
     ensures step { StepsOn maker.old maker.new ⊥ (E.failed errors.new) result.1 }
 {
-    let FedInputs {
+    let Inputs {
         mut readers,
         shared,
     } = inputs;
@@ -229,7 +229,7 @@ pub fn put_inputs_fed<L: Width, S: Store, J: Feeds + Drop, I: Feeds + Drop, E: S
         lines,
         errors,
     );
-    let inputs = FedInputs {
+    let inputs = Inputs {
         readers,
         shared: shared.into_reader(),
     };
@@ -241,7 +241,7 @@ pub fn put_inputs_fed<L: Width, S: Store, J: Feeds + Drop, I: Feeds + Drop, E: S
 struct Made<S, B, J, I> {
     store: S,
     base: Option<B>,
-    inputs: FedInputs<J, I>,
+    inputs: Inputs<J, I>,
     answer: Result<(), Fault>,
 }
 
@@ -250,7 +250,7 @@ fn make_unflushed<L: Width, S: Store, B: Store, J: Feeds + Drop, I: Feeds + Drop
     alloc: Global,
     store: S,
     base: Option<B>,
-    inputs: FedInputs<J, I>,
+    inputs: Inputs<J, I>,
     options: &MakeOptions<'_>,
     lines: &Lines,
     errors: &mut E,
@@ -290,7 +290,7 @@ fn make_unflushed<L: Width, S: Store, B: Store, J: Feeds + Drop, I: Feeds + Drop
             answer: Err(fault),
         };
     }
-    let (inputs, put) = put_inputs_fed::<L, S, J, I, E>(
+    let (inputs, put) = put_inputs::<L, S, J, I, E>(
         alloc, &mut maker, options, amends, inputs, lines, errors,
     );
     if let Err(fault) = put {
@@ -368,12 +368,12 @@ pub fn make_run<L: Width, S: Store, B: Store, R: Read + Drop, E: Sink>(
     ensures output { OutputSays (E.failed errors.new) result.2 }
 {
     let none: &[u8] = &[];
-    let Ok(inputs) = FedInputs::each_own(alloc, inputs, none) else {
+    let Ok(inputs) = Inputs::each_own(alloc, inputs, none) else {
         let answer = flushed(errors, Err(Fault::NoMemory));
         return (store, base, answer);
     };
     let lines = Lines::new(options.names.is_some());
-    let (store, base, _inputs, answer) = make_run_fed::<L, S, B, R, _, E>(
+    let (store, base, _inputs, answer) = make_run_from::<L, S, B, R, _, E>(
         alloc, store, base, inputs, options, &lines, errors,
     );
     (store, base, answer)
@@ -386,15 +386,15 @@ pub fn make_run<L: Width, S: Store, B: Store, R: Read + Drop, E: Sink>(
 /// The inputs are handed back whatever the answer; what their windows took past the texts is lost. The
 /// contract holds of whatever bytes agree with what the readers gave: for all inputs that agree with what was
 /// read, it says what `make_run` says of its own.
-pub fn make_run_fed<L: Width, S: Store, B: Store, J: Feeds + Drop, I: Feeds + Drop, E: Sink>(
+pub fn make_run_from<L: Width, S: Store, B: Store, J: Feeds + Drop, I: Feeds + Drop, E: Sink>(
     alloc: Global,
     store: S,
     base: Option<B>,
-    inputs: FedInputs<J, I>,
+    inputs: Inputs<J, I>,
     options: MakeOptions<'_>,
     lines: &Lines,
     errors: &mut E,
-) -> (S, Option<B>, FedInputs<J, I>, Result<(), Fault>)
+) -> (S, Option<B>, Inputs<J, I>, Result<(), Fault>)
     requires head { head_size L.WORD ≤ options.limit }
     requires words { options.limit ≤ L.GREATEST }
     ensures runs { RunsRead L.WORD L.GREATEST options.entry J.feed I.feed B.Store base result.1

@@ -1,9 +1,9 @@
-// put_inputs_fed: the records that are held and the lines that were written, where a put fails.
+// put_inputs: the records that are held and the lines that were written, where a put fails.
 use super::running::{Duplicates, options, texts};
 use cdb_form::Narrow;
 use cdb_make::{MakeFault, Maker, Mode};
 use cdb_store::{FuseStore, MemStore};
-use cdb_tool::{Fault, FedInputs, Lines, Style, put_inputs_fed};
+use cdb_tool::{Fault, Inputs, Lines, Style, put_inputs};
 use std::alloc::{AllocError, Global};
 use std::prelude::*;
 use std::test::Fail;
@@ -32,9 +32,9 @@ fn put(
 ) -> Result<(), Fault> {
     let options = options(Mode::Warn, Duplicates::Told, Style::Native, 4294967295);
     let none: &[u8] = &[];
-    let inputs = FedInputs::each_own(alloc, inputs, none)?;
+    let inputs = Inputs::each_own(alloc, inputs, none)?;
     let counted = Lines::new(false);
-    put_inputs_fed::<Narrow, _, &[u8], &[u8], Vec<u8>>(
+    put_inputs::<Narrow, _, &[u8], &[u8], Vec<u8>>(
         alloc, maker, &options, false, inputs, &counted, lines,
     ).1
 }

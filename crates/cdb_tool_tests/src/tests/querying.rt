@@ -1,4 +1,4 @@
-// query_run and lookups_run_fed, over worked, damaged and foreign files, and over stores and writers that fail.
+// query_run and lookups_run, over worked, damaged and foreign files, and over stores and writers that fail.
 use super::differing::made;
 use super::fakes::{FakeWriter, NotingWriter, SlowWriter};
 use super::worked::File;
@@ -6,7 +6,7 @@ use cdb_feed::InputReader;
 use cdb_form::{Narrow, TextFault, Wide, Width};
 use cdb_read::ReadFault;
 use cdb_store::{FuseStore, MemStore, Store};
-use cdb_tool::{Fault, FedInputs, Lines, Style, lookups_run_fed, query_run};
+use cdb_tool::{Fault, Inputs, Lines, Style, lookups_run, query_run};
 use std::alloc::{AllocError, Global};
 use std::io::Write;
 use std::prelude::*;
@@ -525,13 +525,13 @@ fn the_flush_comes_last(rt: HostRuntime) -> Result<(), Fail> {
 fn looked_up(alloc: Global, file: Vec<u8>, keys: &[u8]) -> Result<Answer, AllocError> {
     let mut w = FakeWriter::new(alloc, 4096);
     w.flush_fails = true;
-    let inputs = FedInputs {
+    let inputs = Inputs {
         readers: vec![in alloc; InputReader::<&[u8]>::Shared]?,
         shared: keys,
     };
     let store = MemStore::from_vec(file);
     Ok(
-        lookups_run_fed::<Narrow, MemStore, &[u8], &[u8], FakeWriter>(
+        lookups_run::<Narrow, MemStore, &[u8], &[u8], FakeWriter>(
             alloc,
             store,
             inputs,

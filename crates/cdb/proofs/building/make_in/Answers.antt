@@ -3,7 +3,7 @@ use Rattle.cdb.proofs.building.make_in.Goals as goal
 
 pub returns-clause-runs : goal.returns-clause-runs
 returns-clause-runs g c =
-    let run = c.make_run_fed-store.ensures in
+    let run = c.make_run_from-store.ensures in
     λ each bytes agree.
     record {
       hands = run.hands;
@@ -12,4 +12,4 @@ returns-clause-runs g c =
     }
 
 pub returns-clause-placed : goal.returns-clause-placed
-returns-clause-placed g c = run_placed g.L.Width.WORD g.L.Width.GREATEST _ g.J.Feeds.feed g.I.Feeds.feed g.F.Store _ _ _ _ _ _ _ _ c.make_run_fed-store.ensures.runs
+returns-clause-placed g c = run_placed g.L.Width.WORD g.L.Width.GREATEST _ g.J.Feeds.feed g.I.Feeds.feed g.F.Store _ _ _ _ _ _ _ _ c.make_run_from-store.ensures.runs

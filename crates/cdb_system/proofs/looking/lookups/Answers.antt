@@ -3,4 +3,4 @@ use Rattle.cdb_system.proofs.looking.lookups.Goals as goal
 
 pub returns-in-Ok-open_inputs-clause-performs : goal.returns-in-Ok-open_inputs-clause-performs
 returns-in-Ok-open_inputs-clause-performs g c = λ named errors.
-    keys_looked_up _ _ _ _ _ _ _ _ _ _ c.in-Ok.store c.lookups_run_fed-store.result.0 c.in-Ok-open_inputs.inputs c.lookups_run_fed-store.result.1 c.in-Ok.ensures.calls c.in-Ok.ensures.gives c.in-Ok-open_inputs.ensures.ok c.in-Ok-open_inputs.ensures.unread c.in-Ok-open_inputs.ensures.shared c.looked_left.ensures c.lookups_run_fed-store.ensures.looks
+    keys_looked_up _ _ _ _ _ _ _ _ _ _ c.in-Ok.store c.lookups_run-store.result.0 c.in-Ok-open_inputs.inputs c.lookups_run-store.result.1 c.in-Ok.ensures.calls c.in-Ok.ensures.gives c.in-Ok-open_inputs.ensures.ok c.in-Ok-open_inputs.ensures.unread c.in-Ok-open_inputs.ensures.shared c.looked_left.ensures c.lookups_run-store.ensures.looks

@@ -8,8 +8,8 @@ returns-in_default-clause-runs g c = runs_flushed g.B.Store _ _ _ _ _ _ _ _ _ _ 
 
 pub returns-clause-runs : goal.returns-clause-runs
 returns-clause-runs g c =
-    let fed = c.make_run_fed-store.ensures.runs in
+    let fed = c.make_run_from-store.ensures.runs in
     let remaining = g.R.Read.remaining in
-    let runs = fed.runs _ (known_inputs remaining _ _ _ _ fed.read fed.stop c.in-Ok.inputs c.make_run_fed-store.result.2 fed.were) in
+    let runs = fed.runs _ (known_inputs remaining _ _ _ _ fed.read fed.stop c.in-Ok.inputs c.make_run_from-store.result.2 fed.were) in
     let own = own_left remaining (λ r. Some r.now) c.in-Ok.inputs (map remaining c.args.inputs.items) c.in-Ok.ensures.each (ap (λ r. Some r.now) c.in-Ok.ensures.shared) in
     rw own at runs

@@ -22,10 +22,10 @@ returns-in-Err-put-clause-runs g c =
     let base = c.add_base-base.result.0 in
     let holds = (rw c.in_default.is at add.ok) c.in-Ok.ensures.begins.holds in
     let some = hands_some g.B.Store c.args.base base add.hands ∙ sym c.is_some-amends.ensures in
-    let put = rw c.in-Err-put.is at c.put_inputs_fed-inputs.ensures.fails in
+    let put = rw c.in-Err-put.is at c.put_inputs-inputs.ensures.fails in
     rw c.into_store-in-Err-put.ensures
-    (read_stopped {s = g.S.Store} {l = g.L.Width} g.B.Store c.args.base base g.J.Feeds.feed g.I.Feeds.feed g.L.Width.GREATEST c.args.options.now c.is_some-amends.result c.args.inputs c.put_inputs_fed-inputs.result.0 (g.E.Sink.contents c.args.errors.now) _ c.add_base-base.new.maker c.put_inputs_fed-inputs.new.maker c.is_some-amends.ensures some
-    g.met.L.Width.four_or_eight holds (add.step.follows.limit ∙ c.in-Ok.ensures.begins.limited) c.put_inputs_fed-inputs.ensures.step.follows.comes put.0 put.1 c.in-Err-put.fault put.2 put.3 put.4)
+    (read_stopped {s = g.S.Store} {l = g.L.Width} g.B.Store c.args.base base g.J.Feeds.feed g.I.Feeds.feed g.L.Width.GREATEST c.args.options.now c.is_some-amends.result c.args.inputs c.put_inputs-inputs.result.0 (g.E.Sink.contents c.args.errors.now) _ c.add_base-base.new.maker c.put_inputs-inputs.new.maker c.is_some-amends.ensures some
+    g.met.L.Width.four_or_eight holds (add.step.follows.limit ∙ c.in-Ok.ensures.begins.limited) c.put_inputs-inputs.ensures.step.follows.comes put.0 put.1 c.in-Err-put.fault put.2 put.3 put.4)
 
 pub returns-in-Ok-finish-clause-runs : goal.returns-in-Ok-finish-clause-runs
 returns-in-Ok-finish-clause-runs g c =
@@ -33,9 +33,9 @@ returns-in-Ok-finish-clause-runs g c =
     let base = c.add_base-base.result.0 in
     let holds = (rw c.in_default.is at add.ok) c.in-Ok.ensures.begins.holds in
     let some = hands_some g.B.Store c.args.base base add.hands ∙ sym c.is_some-amends.ensures in
-    let put = rw c.in_default-put.is at c.put_inputs_fed-inputs.ensures.ok in
-    read_whole {s = g.S.Store} {l = g.L.Width} g.B.Store c.args.base base g.J.Feeds.feed g.I.Feeds.feed g.L.Width.GREATEST c.args.options.now c.is_some-amends.result c.args.inputs c.put_inputs_fed-inputs.result.0 (g.E.Sink.contents c.args.errors.now) _ c.add_base-base.new.maker c.put_inputs_fed-inputs.new.maker c.is_some-amends.ensures some
-    g.met.L.Width.four_or_eight holds (add.step.follows.limit ∙ c.in-Ok.ensures.begins.limited) c.put_inputs_fed-inputs.ensures.step.follows.comes put.0 _ put.1 put.2 c.in-Ok-finish.ensures.comes c.in-Ok-finish.ensures.file
+    let put = rw c.in_default-put.is at c.put_inputs-inputs.ensures.ok in
+    read_whole {s = g.S.Store} {l = g.L.Width} g.B.Store c.args.base base g.J.Feeds.feed g.I.Feeds.feed g.L.Width.GREATEST c.args.options.now c.is_some-amends.result c.args.inputs c.put_inputs-inputs.result.0 (g.E.Sink.contents c.args.errors.now) _ c.add_base-base.new.maker c.put_inputs-inputs.new.maker c.is_some-amends.ensures some
+    g.met.L.Width.four_or_eight holds (add.step.follows.limit ∙ c.in-Ok.ensures.begins.limited) c.put_inputs-inputs.ensures.step.follows.comes put.0 _ put.1 put.2 c.in-Ok-finish.ensures.comes c.in-Ok-finish.ensures.file
 
 pub returns-in-Err-finish-clause-runs : goal.returns-in-Err-finish-clause-runs
 returns-in-Err-finish-clause-runs g c =
@@ -43,11 +43,11 @@ returns-in-Err-finish-clause-runs g c =
     let base = c.add_base-base.result.0 in
     let holds = (rw c.in_default.is at add.ok) c.in-Ok.ensures.begins.holds in
     let some = hands_some g.B.Store c.args.base base add.hands ∙ sym c.is_some-amends.ensures in
-    let put = rw c.in_default-put.is at c.put_inputs_fed-inputs.ensures.ok in
+    let put = rw c.in_default-put.is at c.put_inputs-inputs.ensures.ok in
     let e = c.in-Err-finish.ensures in
     rw (c.from-in-Err-finish.ensures, c.into_store-in-Err-finish.ensures)
-    (read_unfinished {s = g.S.Store} {l = g.L.Width} g.B.Store c.args.base base g.J.Feeds.feed g.I.Feeds.feed g.L.Width.GREATEST c.args.options.now c.is_some-amends.result c.args.inputs c.put_inputs_fed-inputs.result.0 (g.E.Sink.contents c.args.errors.now) _ c.add_base-base.new.maker c.put_inputs_fed-inputs.new.maker c.is_some-amends.ensures some
-    g.met.L.Width.four_or_eight holds (add.step.follows.limit ∙ c.in-Ok.ensures.begins.limited) c.put_inputs_fed-inputs.ensures.step.follows.comes put.0 c.in-Err-finish.unfinished.maker c.in-Err-finish.unfinished.fault put.1 put.2 e.fails_comes e.fails)
+    (read_unfinished {s = g.S.Store} {l = g.L.Width} g.B.Store c.args.base base g.J.Feeds.feed g.I.Feeds.feed g.L.Width.GREATEST c.args.options.now c.is_some-amends.result c.args.inputs c.put_inputs-inputs.result.0 (g.E.Sink.contents c.args.errors.now) _ c.add_base-base.new.maker c.put_inputs-inputs.new.maker c.is_some-amends.ensures some
+    g.met.L.Width.four_or_eight holds (add.step.follows.limit ∙ c.in-Ok.ensures.begins.limited) c.put_inputs-inputs.ensures.step.follows.comes put.0 c.in-Err-finish.unfinished.maker c.in-Err-finish.unfinished.fault put.1 put.2 e.fails_comes e.fails)
 
 pub returns-in-Err-finish-clause-base_failed : goal.returns-in-Err-finish-clause-base_failed
 returns-in-Err-finish-clause-base_failed g c = rw c.from-in-Err-finish.ensures (λ is. absurd (make_no_base c.in-Err-finish.unfinished.fault is))
@@ -70,8 +70,8 @@ returns-in-Err-finish-clause-failed g c =
     (λ is.
     let based = rw c.in_default.is at c.add_base-base.ensures.step.fine in
     let made = c.in-Ok.ensures.begins.fine in
-    let put = (rw c.in_default-put.is at c.put_inputs_fed-inputs.ensures.step.fine) in
-    let late = unfinished_store {s = g.S.Store} {l = g.L.Width} c.put_inputs_fed-inputs.new.maker c.in-Err-finish.unfinished.maker c.in-Err-finish.unfinished.fault c.in-Err-finish.ensures.fails is in
+    let put = (rw c.in_default-put.is at c.put_inputs-inputs.ensures.step.fine) in
+    let late = unfinished_store {s = g.S.Store} {l = g.L.Width} c.put_inputs-inputs.new.maker c.in-Err-finish.unfinished.maker c.in-Err-finish.unfinished.fault c.in-Err-finish.ensures.fails is in
     omega (arith, late, put, based, made))
 
 pub returns-in-Err-put-clause-failed : goal.returns-in-Err-put-clause-failed
@@ -80,11 +80,11 @@ returns-in-Err-put-clause-failed g c =
     (λ is.
     let based = rw c.in_default.is at c.add_base-base.ensures.step.fine in
     let made = c.in-Ok.ensures.begins.fine in
-    let late = (rw c.in-Err-put.is at c.put_inputs_fed-inputs.ensures.step).failed is in
+    let late = (rw c.in-Err-put.is at c.put_inputs-inputs.ensures.step).failed is in
     omega (arith, late, based, made))
 
 pub returns-in-Err-put-clause-base_failed : goal.returns-in-Err-put-clause-base_failed
-returns-in-Err-put-clause-base_failed g c = λ is. absurd ((rw c.in-Err-put.is at c.put_inputs_fed-inputs.ensures.step).base is)
+returns-in-Err-put-clause-base_failed g c = λ is. absurd ((rw c.in-Err-put.is at c.put_inputs-inputs.ensures.step).base is)
 
 pub returns-in-Err-added-clause-failed : goal.returns-in-Err-added-clause-failed
 returns-in-Err-added-clause-failed g c = grind (arith, common_steps)
@@ -114,12 +114,12 @@ returns-in-Err-finish-clause-memory g c =
     (λ is.
     let based = rw c.in_default.is at c.add_base-base.ensures.step.fine in
     let made = c.in-Ok.ensures.begins.fine in
-    let put = (rw c.in_default-put.is at c.put_inputs_fed-inputs.ensures.step.fine) in
-    let late = unfinished_memory {s = g.S.Store} {l = g.L.Width} c.put_inputs_fed-inputs.new.maker c.in-Err-finish.unfinished.maker c.in-Err-finish.unfinished.fault c.in-Err-finish.ensures.fails is in
+    let put = (rw c.in_default-put.is at c.put_inputs-inputs.ensures.step.fine) in
+    let late = unfinished_memory {s = g.S.Store} {l = g.L.Width} c.put_inputs-inputs.new.maker c.in-Err-finish.unfinished.maker c.in-Err-finish.unfinished.fault c.in-Err-finish.ensures.fails is in
     omega (arith, late, put, based, made))
 
 pub returns-in-Err-finish-clause-output : goal.returns-in-Err-finish-clause-output
-returns-in-Err-finish-clause-output g c = rw c.from-in-Err-finish.ensures (make_says Unit (g.E.Sink.failed c.put_inputs_fed-inputs.new.errors) c.in-Err-finish.unfinished.fault)
+returns-in-Err-finish-clause-output g c = rw c.from-in-Err-finish.ensures (make_says Unit (g.E.Sink.failed c.put_inputs-inputs.new.errors) c.in-Err-finish.unfinished.fault)
 
 pub returns-in-Err-added-clause-output : goal.returns-in-Err-added-clause-output
 returns-in-Err-added-clause-output g c =

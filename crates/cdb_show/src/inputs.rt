@@ -2,7 +2,7 @@
 ghost use Rattle.std.specs.Prelude.{◌≡◌, IfErr, IfOk, map};
 ghost use Rattle.cdb_form.specs.Fed.Feed.{Consumes, Keeps};
 ghost use Rattle.cdb_show.specs.Runs.Inputs.{Own};
-ghost use Rattle.cdb_show.specs.Views.FedInputs.{held_of, one_of, reader_of, shared_feed};
+ghost use Rattle.cdb_show.specs.Views.Inputs.{held_of, one_of, reader_of, shared_feed};
 ghost use Rattle.cdb_show.specs.Views.Window.{feed_of};
 
 use crate::window::{NoWindow, Window};
@@ -13,7 +13,7 @@ use std::io::Read;
 
 /// The inputs of a run, which are read in turn, each through a window of 64 KiB.
 #[derive(Drop)]
-pub struct FedInputs<J, I> {
+pub struct Inputs<J, I> {
     /// The readers of the inputs, in their order.
     pub readers: Vec<InputReader<J>>,
     /// The reader of those that have none of their own, as each `-` of a command line has standard
@@ -21,13 +21,9 @@ pub struct FedInputs<J, I> {
     pub shared: I,
 }
 
-impl<J: Read, I: Read> FedInputs<J, I> {
+impl<J: Read, I: Read> Inputs<J, I> {
     /// Inputs that each have a reader of their own. None has the shared one.
-    pub fn each_own(
-        alloc: Global,
-        readers: Vec<J>,
-        shared: I,
-    ) -> Result<FedInputs<J, I>, AllocError>
+    pub fn each_own(alloc: Global, readers: Vec<J>, shared: I) -> Result<Inputs<J, I>, AllocError>
     where
         J: Drop,
         I: Drop,
@@ -39,7 +35,7 @@ impl<J: Read, I: Read> FedInputs<J, I> {
         for reader in readers {
             own.push(InputReader::Own(reader))?;
         }
-        Ok(FedInputs {
+        Ok(Inputs {
             readers: own,
             shared,
         })

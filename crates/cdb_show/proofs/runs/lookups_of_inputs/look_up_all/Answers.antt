@@ -2,15 +2,15 @@ use Rattle.std.specs.Vec.{with_items}
 use Rattle.std.proofs.Common.{ap, rules, sym}
 use Rattle.std.proofs.lemmas.List.{places, with_items_is}
 use Rattle.cdb_show.specs.Runs.Lookups.{missing_answer}
-use Rattle.cdb_show.specs.declared.fed_inputs.FedInputs.{FedInputs}
+use Rattle.cdb_show.specs.declared.inputs.Inputs.{Inputs}
 use Rattle.cdb_show.proofs.FedLookupRuns.{fed_stopped, fed_unended, fed_whole}
 use Rattle.cdb_show.proofs.LookupRuns.{looked_none}
-use Rattle.cdb_show.proofs.runs.fed_lookups.look_up_all.Goals as goal
+use Rattle.cdb_show.proofs.runs.lookups_of_inputs.look_up_all.Goals as goal
 
 pub returns-in-Err-clause-leaves : goal.returns-in-Err-clause-leaves
 returns-in-Err-clause-leaves g c =
     let e = rw (c.in-Err.is, c.deref_mut.ensures.value) at c.look_up_readers-window.ensures.fails in
-    let left : FedInputs _ _ = record { readers = with_items c.args.inputs.readers c.look_up_readers-window.new.readers; shared = c.into_reader.result } in
+    let left : Inputs _ _ = record { readers = with_items c.args.inputs.readers c.look_up_readers-window.new.readers; shared = c.into_reader.result } in
     let same = with_items_is c.args.inputs.readers c.look_up_readers-window.new.readers (search (rules, places)) in
     fed_stopped g.L.Width.WORD g.L.Width.GREATEST g.S.Store c.args.number c.args.style g.J.Feeds.feed g.I.Feeds.feed c.args.inputs left c.look_up_readers-window.result.0 _ _ (g.W.Sink.contents c.args.w.now) _ same c.into_reader.ensures.reader c.look_up_readers-window.ensures.reads _ c.in-Err.fault
     (e.0, e.1, e.2, e.3, e.4, e.5 _ (looked_none _ g.S.Store _ _ _ _ c.args.reader.now.long))
@@ -18,7 +18,7 @@ returns-in-Err-clause-leaves g c =
 pub returns-in-Err-write_last-clause-leaves : goal.returns-in-Err-write_last-clause-leaves
 returns-in-Err-write_last-clause-leaves g c =
     let e = rw (c.in-Ok.is, c.deref_mut.ensures.value) at c.look_up_readers-window.ensures.ok in
-    let left : FedInputs _ _ = record { readers = with_items c.args.inputs.readers c.look_up_readers-window.new.readers; shared = c.into_reader.result } in
+    let left : Inputs _ _ = record { readers = with_items c.args.inputs.readers c.look_up_readers-window.new.readers; shared = c.into_reader.result } in
     let same = with_items_is c.args.inputs.readers c.look_up_readers-window.new.readers (search (rules, places)) in
     fed_unended g.L.Width.WORD g.L.Width.GREATEST g.S.Store c.args.number c.args.style g.J.Feeds.feed g.I.Feeds.feed c.args.inputs left c.look_up_readers-window.result.0 _ _ (g.W.Sink.contents c.args.w.now) _ same c.into_reader.ensures.reader c.look_up_readers-window.ensures.reads e.0 _ _ c.look_up_readers-window.new.missing
     e.1 e.2 (e.3 _ (looked_none _ g.S.Store _ _ _ _ c.args.reader.now.long)) c.in-Err-write_last.ensures.writes.err
@@ -26,7 +26,7 @@ returns-in-Err-write_last-clause-leaves g c =
 pub returns-then-missing-clause-leaves : goal.returns-then-missing-clause-leaves
 returns-then-missing-clause-leaves g c =
     let e = rw (c.in-Ok.is, c.deref_mut.ensures.value) at c.look_up_readers-window.ensures.ok in
-    let left : FedInputs _ _ = record { readers = with_items c.args.inputs.readers c.look_up_readers-window.new.readers; shared = c.into_reader.result } in
+    let left : Inputs _ _ = record { readers = with_items c.args.inputs.readers c.look_up_readers-window.new.readers; shared = c.into_reader.result } in
     let same = with_items_is c.args.inputs.readers c.look_up_readers-window.new.readers (search (rules, places)) in
     fed_whole g.L.Width.WORD g.L.Width.GREATEST g.S.Store c.args.number c.args.style g.J.Feeds.feed g.I.Feeds.feed c.args.inputs left c.look_up_readers-window.result.0 _ _ (g.W.Sink.contents c.args.w.now) _ same c.into_reader.ensures.reader c.look_up_readers-window.ensures.reads e.0 _ _ c.look_up_readers-window.new.missing
     e.1 e.2 (e.3 _ (looked_none _ g.S.Store _ _ _ _ c.args.reader.now.long)) _ (ap missing_answer (sym c.if-missing.true)) c.in-Ok-write_last.ensures.writes.ok
@@ -34,7 +34,7 @@ returns-then-missing-clause-leaves g c =
 pub returns-else-missing-clause-leaves : goal.returns-else-missing-clause-leaves
 returns-else-missing-clause-leaves g c =
     let e = rw (c.in-Ok.is, c.deref_mut.ensures.value) at c.look_up_readers-window.ensures.ok in
-    let left : FedInputs _ _ = record { readers = with_items c.args.inputs.readers c.look_up_readers-window.new.readers; shared = c.into_reader.result } in
+    let left : Inputs _ _ = record { readers = with_items c.args.inputs.readers c.look_up_readers-window.new.readers; shared = c.into_reader.result } in
     let same = with_items_is c.args.inputs.readers c.look_up_readers-window.new.readers (search (rules, places)) in
     fed_whole g.L.Width.WORD g.L.Width.GREATEST g.S.Store c.args.number c.args.style g.J.Feeds.feed g.I.Feeds.feed c.args.inputs left c.look_up_readers-window.result.0 _ _ (g.W.Sink.contents c.args.w.now) _ same c.into_reader.ensures.reader c.look_up_readers-window.ensures.reads e.0 _ _ c.look_up_readers-window.new.missing
     e.1 e.2 (e.3 _ (looked_none _ g.S.Store _ _ _ _ c.args.reader.now.long)) _ (ap missing_answer (sym c.if-missing.false)) c.in-Ok-write_last.ensures.writes.ok

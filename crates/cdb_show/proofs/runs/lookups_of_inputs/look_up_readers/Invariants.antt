@@ -1,6 +1,6 @@
 use Rattle.std.proofs.Common.{◌-◌, length}
 use Rattle.cdb_show.proofs.FedLookupRuns.{LookedFed}
-use Rattle.cdb_show.proofs.runs.fed_lookups.look_up_readers.Given as goal
+use Rattle.cdb_show.proofs.runs.lookups_of_inputs.look_up_readers.Given as goal
 
 -- the keys of the inputs so far were looked up
 abbrev pub invariant-loop-i : goal.invariant-loop-i

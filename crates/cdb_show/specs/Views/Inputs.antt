@@ -7,9 +7,9 @@ use Rattle.cdb_feed.specs.declared.input_reader.InputReader.TheVariants as reade
 use Rattle.cdb_form.specs.Fed.Feed.{Feed}
 use Rattle.cdb_show.specs.Runs.Inputs.{InputsLeft, OneInput, Own, Shared}
 use Rattle.cdb_show.specs.Views.Window as window
-use Rattle.cdb_show.specs.declared.fed_inputs.FedInputs.{FedInputs}
-use Rattle.cdb_show.specs.declared.fed_inputs.SharedWindow.{SharedWindow}
-use Rattle.cdb_show.specs.declared.fed_inputs.SharedWindow.TheVariants.{Unread, InHand}
+use Rattle.cdb_show.specs.declared.inputs.Inputs.{Inputs}
+use Rattle.cdb_show.specs.declared.inputs.SharedWindow.{SharedWindow}
+use Rattle.cdb_show.specs.declared.inputs.SharedWindow.TheVariants.{Unread, InHand}
 
 -- the reader itself, without a window or in it
 abbrev pub reader_of : {I : Type 0} → SharedWindow I → I
@@ -35,7 +35,7 @@ ArePassed read stop before after = drop (reached read stop) after ≡ drop (reac
 -- what was known of the window of the shared one is known of it, with what that held
 pub record AreReadTo {J I Item Fault : Type 0} (own : J → Feed) (shared : I → Feed)
     (p : Parsing Item Fault) (read : List (List Item)) (stop : Stop Item Fault)
-    (inputs left : FedInputs J I) : Type 0 where
+    (inputs left : Inputs J I) : Type 0 where
   pub window : SharedWindow I
   pub are : AreRead own (shared_feed shared) p read stop inputs.readers.items left.readers.items
       (Unread inputs.shared) window
@@ -56,6 +56,6 @@ one_of remaining reader.Shared = Shared
 
 -- the inputs of a run, before the first is read
 abbrev pub inputs_left : {J I : Type 0} → (own : J → Option (List ℕ))
-    → (shared : I → Option (List ℕ)) → FedInputs J I → InputsLeft
+    → (shared : I → Option (List ℕ)) → Inputs J I → InputsLeft
 inputs_left own shared inputs =
     record { each = map (one_of own) inputs.readers.items; shared = shared inputs.shared }

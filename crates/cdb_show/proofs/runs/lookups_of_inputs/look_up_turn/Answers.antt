@@ -1,12 +1,12 @@
 use Rattle.std.specs.Prelude.{⊤}
 use Rattle.std.proofs.Common.{◌∙◌, sym}
 use Rattle.cdb_show.specs.Runs.FedLookups.{StopsFurther}
-use Rattle.cdb_show.specs.Views.FedInputs.{shared_feed}
+use Rattle.cdb_show.specs.Views.Inputs.{shared_feed}
 use Rattle.cdb_show.specs.Views.Window.{feed_of}
 use Rattle.cdb_show.specs.declared.fault.Fault.TheVariants.{NoMemory}
-use Rattle.cdb_show.specs.declared.fed_inputs.SharedWindow.TheVariants.{Unread}
+use Rattle.cdb_show.specs.declared.inputs.SharedWindow.TheVariants.{Unread}
 use Rattle.cdb_show.proofs.FedLookupRuns.{own_turn_fails, own_unread, one_shared, shared_stops, shared_turn_fails, shared_turn_ok}
-use Rattle.cdb_show.proofs.runs.fed_lookups.look_up_turn.Goals as goal
+use Rattle.cdb_show.proofs.runs.lookups_of_inputs.look_up_turn.Goals as goal
 
 pub returns-in-Own-clause-fails : goal.returns-in-Own-clause-fails
 returns-in-Own-clause-fails g c =

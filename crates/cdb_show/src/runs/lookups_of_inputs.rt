@@ -11,12 +11,12 @@ ghost use Rattle.cdb_show.specs.Runs.FedLookups.{FedLookupsLeave, FedLooksUp};
 ghost use Rattle.cdb_show.specs.Runs.Inputs.{IsInputOf, keys_form, keys_of, keys_of_each};
 ghost use Rattle.cdb_show.specs.Runs.Lookups.{HasLooked, LookupsStopAt, StopsBehind};
 ghost use Rattle.cdb_show.specs.Runs.Parsing.{IsFaultOf, fault_in, stop_of, stopped_parsing};
-ghost use Rattle.cdb_show.specs.Views.FedInputs.{shared_feed};
+ghost use Rattle.cdb_show.specs.Views.Inputs.{shared_feed};
 ghost use Rattle.cdb_show.specs.Views.Output.{OutputSays};
 ghost use Rattle.cdb_show.specs.Views.Window.{feed_of};
 
 use crate::fault::Fault;
-use crate::fed_inputs::{FedInputs, SharedWindow};
+use crate::inputs::{Inputs, SharedWindow};
 use crate::lines::{InLined, Lined, Lines};
 use crate::runs::flushed::flushed_whole;
 use crate::runs::key_reader::KeyReader;
@@ -229,17 +229,17 @@ fn look_up_all<L: Width, S: Store, J: Feeds + Drop, I: Feeds, W: Sink>(
     reader: &mut Reader<S, L>,
     number: Option<u64>,
     style: Style,
-    inputs: FedInputs<J, I>,
+    inputs: Inputs<J, I>,
     lines: &Lines,
     w: &mut W,
-) -> (FedInputs<J, I>, Result<(), Fault>)
+) -> (Inputs<J, I>, Result<(), Fault>)
     requires { IfSome number (λ j. 1 ≤ j) }
     ensures leaves { FedLookupsLeave L.WORD L.GREATEST S.Store number style J.feed I.feed
         inputs result.0 reader.old.store reader.new.store
         (W.contents w.old) (W.contents w.new) result.1 }
     ensures output { OutputSays (W.failed w.new) result.1 }
 {
-    let FedInputs {
+    let Inputs {
         mut readers,
         shared,
     } = inputs;
@@ -255,7 +255,7 @@ fn look_up_all<L: Width, S: Store, J: Feeds + Drop, I: Feeds, W: Sink>(
         lines,
         w,
     );
-    let left = FedInputs {
+    let left = Inputs {
         readers,
         shared: window.into_reader(),
     };
@@ -278,12 +278,12 @@ fn look_up_all<L: Width, S: Store, J: Feeds + Drop, I: Feeds, W: Sink>(
 fn lookups_unflushed<L: Width, S: Store, J: Feeds + Drop, I: Feeds, W: Sink>(
     alloc: Global,
     store: S,
-    inputs: FedInputs<J, I>,
+    inputs: Inputs<J, I>,
     number: Option<u64>,
     style: Style,
     lines: &Lines,
     w: &mut W,
-) -> (S, FedInputs<J, I>, Result<(), Fault>)
+) -> (S, Inputs<J, I>, Result<(), Fault>)
     requires { IfSome number (λ j. 1 ≤ j) }
     ensures leaves { FedLookupsLeave L.WORD L.GREATEST S.Store number style J.feed I.feed
         inputs result.1 store result.0 (W.contents w.old) (W.contents w.new) result.2 }
@@ -329,15 +329,15 @@ fn lookups_unflushed<L: Width, S: Store, J: Feeds + Drop, I: Feeds, W: Sink>(
 /// of one behind its text, or behind the last key, is lost. The writer is flushed last, after a fault
 /// too. If that fails, `Output` takes the place of Ok and of `Missing`. `lines` may count the lines of
 /// the inputs, and then knows afterwards that of a fault.
-pub fn lookups_run_fed<L: Width, S: Store, J: Feeds + Drop, I: Feeds, W: Sink>(
+pub fn lookups_run<L: Width, S: Store, J: Feeds + Drop, I: Feeds, W: Sink>(
     alloc: Global,
     store: S,
-    inputs: FedInputs<J, I>,
+    inputs: Inputs<J, I>,
     number: Option<u64>,
     style: Style,
     lines: &Lines,
     w: &mut W,
-) -> (S, FedInputs<J, I>, Result<(), Fault>)
+) -> (S, Inputs<J, I>, Result<(), Fault>)
     requires { IfSome number (λ j. 1 ≤ j) }
     ensures looks { FedLooksUp L.WORD L.GREATEST S.Store number style J.feed I.feed
         inputs result.1 store result.0 (W.contents w.old) (W.contents w.new) result.2 }

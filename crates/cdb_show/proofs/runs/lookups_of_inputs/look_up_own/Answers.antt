@@ -5,7 +5,7 @@ use Rattle.cdb_form.specs.Fed.Feed.{Keeps}
 use Rattle.cdb_show.specs.Runs.Inputs.{keys_form}
 use Rattle.cdb_show.specs.Views.Window.{feed_of}
 use Rattle.cdb_show.proofs.FedLookupRuns.{own_fails, own_ok, own_unread}
-use Rattle.cdb_show.proofs.runs.fed_lookups.look_up_own.Goals as goal
+use Rattle.cdb_show.proofs.runs.lookups_of_inputs.look_up_own.Goals as goal
 
 pub returns-in-Err-clause-fails : goal.returns-in-Err-clause-fails
 returns-in-Err-clause-fails g c =

@@ -1,5 +1,5 @@
 use Rattle.cdb_show.proofs.FedLookupRuns.{fed_begun, fed_unopened}
-use Rattle.cdb_show.proofs.runs.fed_lookups.lookups_unflushed.Goals as goal
+use Rattle.cdb_show.proofs.runs.lookups_of_inputs.lookups_unflushed.Goals as goal
 
 pub returns-in-Err-clause-leaves : goal.returns-in-Err-clause-leaves
 returns-in-Err-clause-leaves g c = rw c.from.ensures (fed_unopened _ _ g.S.Store _ _ g.J.Feeds.feed g.I.Feeds.feed _ _ _ _ c.in-Err.unread.fault c.in-Err.ensures.fails)

@@ -2,7 +2,7 @@ use Rattle.std.proofs.Common.{◌∙◌, ap, length}
 use Rattle.cdb_tool.proofs.Courses.{err_each}
 use Rattle.cdb_tool.proofs.FedEnds.{none_passed, were_written}
 use Rattle.cdb_tool.proofs.FedTurns.{ok_each}
-use Rattle.cdb_tool.proofs.runs.make.put_inputs_fed.Goals as goal
+use Rattle.cdb_tool.proofs.runs.make.put_inputs.Goals as goal
 
 pub returns-clause-ok : goal.returns-clause-ok
 returns-clause-ok g c =

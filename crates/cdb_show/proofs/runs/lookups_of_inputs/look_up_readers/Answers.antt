@@ -1,7 +1,7 @@
 use Rattle.std.proofs.Common.{sym}
 use Rattle.cdb_store.proofs.Reading.{reads_more}
 use Rattle.cdb_show.proofs.FedLookupRuns.{fed_all, fed_more, fed_none, fed_stops}
-use Rattle.cdb_show.proofs.runs.fed_lookups.look_up_readers.Goals as goal
+use Rattle.cdb_show.proofs.runs.lookups_of_inputs.look_up_readers.Goals as goal
 
 pub loop-i-init : goal.loop-i-init
 loop-i-init g c = fed_none g.L.Width.WORD g.L.Width.GREATEST g.S.Store c.args.number c.args.style g.J.Feeds.feed g.I.Feeds.feed c.args.readers.now c.args.shared c.args.reader.now.store (g.W.Sink.contents c.args.w.now) c.args.missing.now

@@ -1,7 +1,7 @@
 use Rattle.std.proofs.Common.{◌≡◌, ◌++◌, map}
-use Rattle.cdb_show.specs.Views.FedInputs.{one_of}
+use Rattle.cdb_show.specs.Views.Inputs.{one_of}
 use Rattle.cdb_show.proofs.NextInputs.{own_of}
-use Rattle.cdb_show.proofs.fed_inputs.FedInputs.each_own.Given as goal
+use Rattle.cdb_show.proofs.inputs.Inputs.each_own.Given as goal
 
 -- the readers so far are inputs of their own
 abbrev pub invariant-loop-reader : goal.invariant-loop-reader

@@ -1,9 +1,9 @@
 use Rattle.std.proofs.Common.{◌≡◌, ◌++◌, [], map, ap, sym, ◌∙◌, rules, arith}
 use Rattle.std.proofs.lemmas.Grind.{common_steps}
 use Rattle.std.proofs.lemmas.List.{append-nil}
-use Rattle.cdb_show.specs.Views.FedInputs.{one_of}
+use Rattle.cdb_show.specs.Views.Inputs.{one_of}
 use Rattle.cdb_show.proofs.NextInputs.{own_of, own_bytes}
-use Rattle.cdb_show.proofs.fed_inputs.FedInputs.each_own.Goals as goal
+use Rattle.cdb_show.proofs.inputs.Inputs.each_own.Goals as goal
 
 pub loop-reader-init : goal.loop-reader-init
 loop-reader-init g c =
