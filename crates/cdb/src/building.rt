@@ -99,15 +99,10 @@ where
         } = self;
         match BufferedStore::new(alloc, Unsynced::over(store), PIPE) {
             Ok(buffered) => {
-                let (buffered, sources, made) = make_in::<
-                    L,
-                    BufferedStore<Unsynced<S>>,
-                    F,
-                    J,
-                    I,
-                    E,
-                >(alloc, buffered, contents, errors);
-                (buffered.discard().into_inner(), sources, made)
+                let (buffered, read, made) = make_in::<L, BufferedStore<Unsynced<S>>, F, J, I, E>(
+                    alloc, buffered, contents, errors,
+                );
+                (buffered.discard().into_inner(), read, made)
             }
             Err(failed) => {
                 let sources = contents.into_sources();
