@@ -94,16 +94,6 @@ pub record StopsBehind (form : InputForm) (greatest input : ℕ) (last : List Ch
   pub of_text : (n : ℕ) (f : TextFault) → fault ≡ Text n f
       → (n ≡ input) × FaultBehind form greatest last old new f
 
--- it stopped in an input with these bytes, of this number, behind these items
-pub record LookupsStopIn {S : Type 0} (w greatest : ℕ) (s : Ghosts S) (number : Option ℕ) (style : Style)
-    (form : InputForm) (input : ℕ) (before : List (List ℕ)) (bytes : Option (List ℕ)) (old new : S)
-    (start end : Option (List ℕ)) (fault : Fault) : Type 0 where
-  pub last : List Change
-  pub begins : IfSome bytes (BeginsWithItems form greatest last)
-  pub stops : LookupsStopAt w s number style (before ++ keys_of last) old new start end fault
-  pub of_text : (n : ℕ) (f : TextFault) → fault ≡ Text n f
-      → (n ≡ input) × FaultOf form greatest last bytes f
-
 -- the first of the inputs that are left has this fault, behind these items
 pub record HasFaultIn (form : InputForm) (greatest : ℕ) (last : List Change) (rest : InputsLeft)
     (f : TextFault) : Type 0 where
