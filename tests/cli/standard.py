@@ -4,10 +4,12 @@
     tests/cli/standard.py PROGRAM
 
 Standard input that is the file of the database in place, or that of the temporary name, is not emptied or
-removed. A link to a standard stream, as `/dev/stdout` is one, is not replaced.
+removed. A link to a standard stream, as `/dev/stdout` is one, is not replaced. Of a terminal that goes on after its
+end nothing more is read.
 """
 
 import os
+import pty
 import subprocess
 import sys
 import tempfile
@@ -60,6 +62,22 @@ def linked(program, target):
     return done.returncode, done.stderr, found, written, names
 
 
+def typed(program, keys):
+    """The status and the line of a create of two maps of a terminal on which keys are pressed, and the map that it
+    leaves."""
+    with tempfile.TemporaryDirectory() as folder:
+        terminal, stream = pty.openpty()
+        try:
+            os.write(terminal, keys)
+            how = dict(cwd=folder, stdin=stream, stderr=subprocess.PIPE, timeout=60, check=False)
+            done = subprocess.run([program, "-c", "-m", "x", "-", "-"], **how)
+        finally:
+            os.close(stream)
+            os.close(terminal)
+        dump = subprocess.run([program, "-d", "-m", "x"], cwd=folder, capture_output=True, timeout=60, check=False)
+    return done.returncode, done.stderr, dump.stdout
+
+
 def rows(program):
     """Each row: its name, what came, and what is wanted."""
     old, kept = {"x": ONE_FILE}, {"x": TWO_TEXT}
@@ -85,6 +103,7 @@ def rows(program):
         yield f"a link to {target}", linked(program, target), (111, RENAME, target, b"", ["x"])
     yield "a link to a link to standard output", linked(program, "/dev/stdout"), (111, RENAME, "/dev/stdout", b"", ["x"])
     yield "a link to nothing", linked(program, "y"), (0, b"", None, b"", ["x"])
+    yield "a terminal that goes on", typed(program, b"one 1\n\x04two 2\n\x04"), (0, b"", b"one 1\n")
 
 
 def main():
