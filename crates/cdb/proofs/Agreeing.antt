@@ -13,7 +13,7 @@ use Rattle.cdb_names.specs.declared.replace.ReplaceFault.{ReplaceFault}
 use Rattle.cdb_store.specs.declared.raw.RawFile.{Ghosts as Raw}
 use Rattle.cdb_store.specs.declared.store.Store.{Ghosts}
 use Rattle.cdb_make.specs.Views.Maker.{WhereHonest}
-use Rattle.cdb_command.specs.declared.options.MakeOptions.{MakeOptions}
+use Rattle.cdb_tool.specs.declared.runs.options.RunOptions.{RunOptions}
 use Rattle.cdb_show.specs.Runs.Inputs.{InputsLeft, input_form}
 use Rattle.cdb_show.specs.Views.Inputs.{AreInPlace, shared_feed}
 use Rattle.cdb_show.specs.Views.Output.{OutputSays}
@@ -57,15 +57,15 @@ reached_most own shared p (items ∷ read) stop (reader ∷ before) [] old new a
 
 -- ---- a run
 
-module _ {B J I : Type 0} (w g : ℕ) (o : MakeOptions) (own : J → Feed) (shared : I → Feed) (s : Ghosts B) (was base : Option B) (before after : Inputs J I) (images : List ℕ → Type 0) (old new : Option (List ℕ)) (result : Result Unit Fault) where
+module _ {B J I : Type 0} (w g : ℕ) (o : RunOptions) (own : J → Feed) (shared : I → Feed) (s : Ghosts B) (was base : Option B) (before after : Inputs J I) (images : List ℕ → Type 0) (old new : Option (List ℕ)) (result : Result Unit Fault) where
   pub runs_agreeing : RunsRead w g o own shared s was base before after images old new result → OfAgreeing own shared before after (λ inputs. WhereHonest images (OfBase s base (λ b. MakeRuns w g o b inputs images old new result)))
   runs_agreeing h = λ each bytes agree.
-      (let many = reached_most own (shared_feed shared) (parsing (input_form o.style (is_some was)) g result) h.read h.stop before.readers.items after.readers.items (Unread before.shared) h.were.window h.were.are in
+      (let many = reached_most own (shared_feed shared) (parsing (input_form o.make.style (is_some was)) g result) h.read h.stop before.readers.items after.readers.items (Unread before.shared) h.were.window h.were.are in
       h.runs _ (agreeing_inputs own shared AreBytes _ g result h.read h.stop before after each bytes h.were agree.unread agree.none_read agree.long
       (first_fewer own AreBytes (reached h.read h.stop) (length each) each after.readers.items (omega (arith, many, agree.long)) agree.agree) agree.shared_agrees))
 
   pub run_placed : RunsRead w g o own shared s was base before after images old new result → AreInPlace before.readers.items after.readers.items
-  run_placed h = in_place own (shared_feed shared) (parsing (input_form o.style (is_some was)) g result) h.read h.stop before.readers.items after.readers.items (Unread before.shared) h.were.window h.were.are h.were.passed
+  run_placed h = in_place own (shared_feed shared) (parsing (input_form o.make.style (is_some was)) g result) h.read h.stop before.readers.items after.readers.items (Unread before.shared) h.were.window h.were.are h.were.passed
 
 -- ---- what was built
 

@@ -4,7 +4,7 @@ use Rattle.std.specs.Prelude.{OnErr, OnOk}
 use Rattle.std.specs.List.{AllByRecursion}
 use Rattle.std.proofs.lemmas.Bool.{eqb-true, cond-true, cond-false, or_right, cases_Bool}
 use Rattle.std.specs.Io.KnownBytes.{Appends, Keeps}
-use Rattle.cdb_command.specs.declared.options.MakeOptions.{MakeOptions}
+use Rattle.cdb_tool.specs.declared.runs.options.RunOptions.{RunOptions}
 use Rattle.cdb_names.specs.Folder.{Has, MayHave, NameCalls}
 use Rattle.cdb_names.specs.declared.replace.ReplaceFault.{ReplaceFault}
 use Rattle.cdb_names.specs.declared.replace.ReplaceFault.TheVariants as replace
@@ -74,7 +74,7 @@ moment_all w disk t name made c was asked at apart is first a h others = λ othe
       (others other (λ same. out (ap (λ (x : List ℕ). Some x) same)) (other_name name other e) (disk other) held may)))
 ]
 
-moments_so : (w : ℕ) (disk : Disk) (temporary name : List ℕ) (o : MakeOptions) (made : Made) (c : Created) (was asked now : NameCalls) (told said : Option (List ℕ)) (result : Result Unit Fault) → temporary ≢ name → c ≡ in_temporary disk temporary name (made_lines made) (made_file w made) made.result → was ≡ [] → Asking was asked → ReplacesSo w o temporary name made asked now told said result
+moments_so : (w : ℕ) (disk : Disk) (temporary name : List ℕ) (o : RunOptions) (made : Made) (c : Created) (was asked now : NameCalls) (told said : Option (List ℕ)) (result : Result Unit Fault) → temporary ≢ name → c ≡ in_temporary disk temporary name (made_lines made) (made_file w made) made.result → was ≡ [] → Asking was asked → ReplacesSo w o temporary name made asked now told said result
     → AtEachMoment (LeavesAll disk (Some temporary) c.disk) was now
 moments_so w disk t name o made c was asked now told said result apart is first a so =
     let P : NameCalls → Type 0 = LeavesAll disk (Some t) c.disk in
@@ -124,7 +124,7 @@ gone_err t now first held (before, (file, (gone, inl e, are))) removed h =
 gone_err t now first held (before, (file, (gone, inr e, are))) removed h =
     absurd (subst (AllByRecursion IsNoFailedRemoval) (are ∙ ap (λ (g : NameCall). (g, t, [], file) ∷ before) e) removed).0
 
-replaced_holds : {M : Type 0} (m : Ghosts M) (w : ℕ) (disk : Disk) (temporary name : List ℕ) (o : MakeOptions) (made : Made) (c : Created) (asked now : NameCalls) (told said : Option (List ℕ)) (result : Result Unit Fault) → temporary ≢ name → c ≡ in_temporary disk temporary name (made_lines made) (made_file w made) made.result → LeavesAll disk (Some temporary) c.disk now → ReplacesSo w o temporary name made asked now told said result
+replaced_holds : {M : Type 0} (m : Ghosts M) (w : ℕ) (disk : Disk) (temporary name : List ℕ) (o : RunOptions) (made : Made) (c : Created) (asked now : NameCalls) (told said : Option (List ℕ)) (result : Result Unit Fault) → temporary ≢ name → c ≡ in_temporary disk temporary name (made_lines made) (made_file w made) made.result → LeavesAll disk (Some temporary) c.disk now → ReplacesSo w o temporary name made asked now told said result
     → OnOk result (HoldsAll m disk name None [] now c)
 replaced_holds m w disk t name o made c asked now told said (Err f) apart is all so = tt
 replaced_holds m w disk t name o made c asked now told said (Ok done) apart is all so =
@@ -140,7 +140,7 @@ failed_holds m w disk t name made c now f apart is fails all gone removed =
     (λ held has. elim (all name held (λ p. apart (same_some t name p)) (has_may (place_of name) (disk name) now held has)) [ inl was ↦ was ∙ sym at_its | inr new ↦ new ])
     (λ held has. gone_err t now (disk t) held gone removed has ∙ sym (ap (λ (v : Created). v.disk t) is ∙ disk_gone disk t name (made_lines made) (made_file w made) made.result))
 
-finished_so : {M : Type 0} (m : Ghosts M) (w : ℕ) (disk : Disk) (temporary name : List ℕ) (o : MakeOptions) (made : Made) (c : Created) (asked now : NameCalls) (start end told said held : Option (List ℕ)) (result : Result Unit Fault) → temporary ≢ name → c ≡ in_temporary disk temporary name (made_lines made) (made_file w made) made.result → c.lines ≡ (made_lines made) → c.result ≡ made.result → Appends start end c.output → AppendsPrefix start end c.output
+finished_so : {M : Type 0} (m : Ghosts M) (w : ℕ) (disk : Disk) (temporary name : List ℕ) (o : RunOptions) (made : Made) (c : Created) (asked now : NameCalls) (start end told said held : Option (List ℕ)) (result : Result Unit Fault) → temporary ≢ name → c ≡ in_temporary disk temporary name (made_lines made) (made_file w made) made.result → c.lines ≡ (made_lines made) → c.result ≡ made.result → Appends start end c.output → AppendsPrefix start end c.output
     → LeavesAll disk (Some temporary) c.disk now → Has (place_of name) (disk name) now held → ReplacesSo w o temporary name made asked now told said result → HadBytes temporary now → Came m disk name o c [] now None start end told said result
 finished_so m w disk t name o made c asked now start end told said held (Ok done) apart is lines ends whole part all has so had =
     let h = so.ok (disk name) held has in
@@ -153,7 +153,7 @@ finished_so m w disk t name o made c asked now start end told said held (Err f) 
   | inr r ↦ inr (record { fault = f; is = refl; refusal = r.refusal; output = part; lines = λ plain. subst (AppendsPrefix told said) (sym lines) (r.lines plain) })
 ]
 
-finished : {M : Type 0} (m : Ghosts M) (w : ℕ) (disk : Disk) (temporary name : List ℕ) (o : MakeOptions) (made : Made) (c : Created) (asked now : NameCalls) (start end told said held : Option (List ℕ)) (result : Result Unit Fault) → temporary ≢ name → c ≡ in_temporary disk temporary name (made_lines made) (made_file w made) made.result → Keeps start end → LeavesAll disk (Some temporary) c.disk now → Has (place_of name) (disk name) now held
+finished : {M : Type 0} (m : Ghosts M) (w : ℕ) (disk : Disk) (temporary name : List ℕ) (o : RunOptions) (made : Made) (c : Created) (asked now : NameCalls) (start end told said held : Option (List ℕ)) (result : Result Unit Fault) → temporary ≢ name → c ≡ in_temporary disk temporary name (made_lines made) (made_file w made) made.result → Keeps start end → LeavesAll disk (Some temporary) c.disk now → Has (place_of name) (disk name) now held
     → ReplacesSo w o temporary name made asked now told said result → HadBytes temporary now → Came m disk name o c [] now None start end told said result
 finished m w disk t name o made c asked now start end told said held result apart is kept all has so had =
     let lines : c.lines ≡ (made_lines made) = ap (λ (v : Created). v.lines) is ∙ lines_of disk t name (made_lines made) (made_file w made) made.result in
@@ -165,7 +165,7 @@ others_at : (since asked now : NameCalls) (temporary name : List ℕ) → now �
 others_at since asked now t name e h = last_moment (KeepsOthers t name asked) since asked now e h
 
 -- after a fault, with no rename done or tried, each other name has what it had
-failed_so : (w : ℕ) (disk : Disk) (temporary name : List ℕ) (o : MakeOptions) (made : Made) (was asked now : NameCalls) (told said : Option (List ℕ)) (result : Result Unit Fault) → was ≡ [] → Asking was asked → ReplacesSo w o temporary name made asked now told said result → OnErr result (AllByRecursion IsNoFailedRename now → KeepsAll disk (Some temporary) now)
+failed_so : (w : ℕ) (disk : Disk) (temporary name : List ℕ) (o : RunOptions) (made : Made) (was asked now : NameCalls) (told said : Option (List ℕ)) (result : Result Unit Fault) → was ≡ [] → Asking was asked → ReplacesSo w o temporary name made asked now told said result → OnErr result (AllByRecursion IsNoFailedRename now → KeepsAll disk (Some temporary) now)
 failed_so w disk t name o made was asked now told said (Ok done) first a so = tt
 failed_so w disk t name o made was asked now told said (Err f) first a so = λ tried other held out h.
     (let may = has_may (place_of other) (disk other) now held h in
@@ -179,17 +179,17 @@ failed_so w disk t name o made was asked now told said (Err f) first a so = λ t
 passing_temporary : (name : List ℕ) (temporary : Option (List ℕ)) → is_standard name ≡ false → is_in_place name temporary ≡ false → passing name temporary ≡ Some (temporary_of name temporary)
 passing_temporary name temporary standard in_place = cond-false (is_standard name) _ _ standard ∙ cond-false (is_in_place name temporary) _ _ in_place
 
-named_so : {F M R : Type 0} (s : Ghosts F) (m : Ghosts M) (r : Raw R) (w g : ℕ) (disk : Disk) (input name : List ℕ) (base : Option (List ℕ)) (inputs : List (List ℕ)) (temporary : Option (List ℕ)) (o : MakeOptions) (mid new : OpenCalls) (file read : Option F) (left : InputsLeft) (was asked now : NameCalls) (start end told said : Option (List ℕ)) (result : Result Unit Fault)
+named_so : {F M R : Type 0} (s : Ghosts F) (m : Ghosts M) (r : Raw R) (w g : ℕ) (disk : Disk) (input name : List ℕ) (base : Option (List ℕ)) (inputs : List (List ℕ)) (temporary : Option (List ℕ)) (o : RunOptions) (mid new : OpenCalls) (file read : Option F) (left : InputsLeft) (was asked now : NameCalls) (start end told said : Option (List ℕ)) (result : Result Unit Fault)
     → is_standard name ≡ false → is_in_place name temporary ≡ false → is_no_name name ≡ false → (file ≡ None → read ≡ None) → Knows s disk base inputs input file read left → AnsweredNames disk name was now → Keeps start end → AsksAll (temporary_of name temporary) base inputs was asked
     → Replaces s r (record { word = w; greatest = g; options = o; base = file; inputs = left }) (temporary_of name temporary) name (state_of mid asked start told) (state_of new now end said) read result
-    → CreateSo m disk name temporary o (create_of w g disk input name base inputs temporary o) [] was now None start end told said result
+    → CreateSo m disk name temporary o (create_of w g disk input name base inputs temporary o.make) [] was now None start end told said result
 named_so s m r w g disk input name base inputs temporary o mid new file read left was asked now start end told said result standard in_place named none knows honest kept asks replaces =
     let t = temporary_of name temporary in
     let known = knows none in
     let apart = apart_is name temporary in_place in
     let more = since_asked asked now replaces.moments.since replaces.moments.calls honest.alone in
     let question = asked_all t base inputs was asked asks more in
-    let made = made_of w g o known.old known.files input in
+    let made = made_of w g o.make known.old known.files input in
     let is = oracle_is s w g disk input name base inputs temporary o read left known standard in_place question.other named made refl in
     let zero : renames asked ≡ 0 = question.renamed ∙ ap renames honest.first in
     let mk : Making _ = record { word = w; greatest = g; options = o; base = file; inputs = left } in
@@ -200,7 +200,7 @@ named_so s m r w g disk input name base inputs temporary o mid new file read lef
       answer = λ had has. finished m w disk t name o made _ asked now start end told said honest.held result apart is kept all honest.has so had;
       done = replaced_holds m w disk t name o made _ asked now told said result apart is all so;
       failed = subst (λ out. OnErr result (AllByRecursion IsNoFailedRename now → KeepsAll disk out now)) (sym (passing_temporary name temporary standard in_place)) (failed_so w disk t name o made was asked now told said result honest.first (asking_all t base inputs was asked asks) so);
-      moments = subst (λ out. AtEachMoment (LeavesAll disk out (create_of w g disk input name base inputs temporary o).disk) was now) (sym (passing_temporary name temporary standard in_place)) moments;
+      moments = subst (λ out. AtEachMoment (LeavesAll disk out (create_of w g disk input name base inputs temporary o.make).disk) was now) (sym (passing_temporary name temporary standard in_place)) moments;
     }
 
 -- a text that no file can have as its name
@@ -212,10 +212,10 @@ no_name_is (c ∷ d ∷ name) e = elim (no_name_is (d ∷ name) e) [
   | inr (front, is) ↦ inr (c ∷ front, ap (λ x. c ∷ x) is)
 ]
 
-no_name_unopened : (w g : ℕ) (disk : Disk) (input name : List ℕ) (base : Option (List ℕ)) (inputs : List (List ℕ)) (temporary : Option (List ℕ)) (o : MakeOptions) → is_standard name ≡ false → is_in_place name temporary ≡ false → is_no_name name ≡ true
-    → create_of w g disk input name base inputs temporary o ≡ unopened disk
+no_name_unopened : (w g : ℕ) (disk : Disk) (input name : List ℕ) (base : Option (List ℕ)) (inputs : List (List ℕ)) (temporary : Option (List ℕ)) (o : RunOptions) → is_standard name ≡ false → is_in_place name temporary ≡ false → is_no_name name ≡ true
+    → create_of w g disk input name base inputs temporary o.make ≡ unopened disk
 no_name_unopened w g disk input name base inputs temporary o standard in_place is =
-    constant disk (λ old files. placed w disk name base inputs temporary (made_of w g o old files input)) (base_of disk base) (inputs_of disk inputs)
+    constant disk (λ old files. placed w disk name base inputs temporary (made_of w g o.make old files input)) (base_of disk base) (inputs_of disk inputs)
     (λ old files. cond-false (is_standard name) _ _ standard ∙ cond-false (is_in_place name temporary) _ _ in_place
     ∙ cond-true (is_read (temporary_of name temporary) base inputs || is_no_name name) _ _ (or_right _ _ is))
 
@@ -231,11 +231,11 @@ silent_so s r mk t name asked now back told said answer same is (inr some) =
     absurd (not_cleared t (calls_of some.sealed) asked now same (subst (λ v. OnErr v (ClearsFile t (calls_of some.sealed) asked now)) is some.cleared))
 
 -- nothing is done for it
-no_name_so : {F M R : Type 0} {mid new : OpenCalls} (s : Ghosts F) (m : Ghosts M) (r : Raw R) (w g : ℕ) (disk : Disk) (input name : List ℕ) (base : Option (List ℕ)) (inputs : List (List ℕ)) (temporary : Option (List ℕ)) (o : MakeOptions) (mk : Making F) (read : Option F) (was asked now : NameCalls) (start end told said : Option (List ℕ)) (result : Result Unit Fault)
+no_name_so : {F M R : Type 0} {mid new : OpenCalls} (s : Ghosts F) (m : Ghosts M) (r : Raw R) (w g : ℕ) (disk : Disk) (input name : List ℕ) (base : Option (List ℕ)) (inputs : List (List ℕ)) (temporary : Option (List ℕ)) (o : RunOptions) (mk : Making F) (read : Option F) (was asked now : NameCalls) (start end told said : Option (List ℕ)) (result : Result Unit Fault)
     → is_standard name ≡ false → is_in_place name temporary ≡ false → is_no_name name ≡ true → was ≡ [] → Keeps start end → AsksAll (temporary_of name temporary) base inputs was asked → Replaces s r mk (temporary_of name temporary) name (state_of mid asked start told) (state_of new now end said) read result
-    → CreateSo m disk name temporary o (create_of w g disk input name base inputs temporary o) [] was now None start end told said result
+    → CreateSo m disk name temporary o (create_of w g disk input name base inputs temporary o.make) [] was now None start end told said result
 no_name_so s m r w g disk input name base inputs temporary o mk read was asked now start end told said result standard in_place is first kept asks replaces =
-    let c = create_of w g disk input name base inputs temporary o in
+    let c = create_of w g disk input name base inputs temporary o.make in
     let a = asking_all (temporary_of name temporary) base inputs was asked asks in
     elim replaces.no_name [
       | inl named ↦ absurd (named (no_name_is name is))
@@ -245,10 +245,10 @@ no_name_so s m r w g disk input name base inputs temporary o mk read was asked n
           (open_so o c disk start end told said (no_name_unopened w g disk input name base inputs temporary o standard in_place is) (kept, silent))))
     ]
 
-pub replacing_so : {F M R : Type 0} (s : Ghosts F) (m : Ghosts M) (r : Raw R) (w g : ℕ) (disk : Disk) (input name : List ℕ) (base : Option (List ℕ)) (inputs : List (List ℕ)) (temporary : Option (List ℕ)) (o : MakeOptions) (mid new : OpenCalls) (file read : Option F) (left : InputsLeft) (was asked now : NameCalls) (start end told said : Option (List ℕ)) (result : Result Unit Fault)
+pub replacing_so : {F M R : Type 0} (s : Ghosts F) (m : Ghosts M) (r : Raw R) (w g : ℕ) (disk : Disk) (input name : List ℕ) (base : Option (List ℕ)) (inputs : List (List ℕ)) (temporary : Option (List ℕ)) (o : RunOptions) (mid new : OpenCalls) (file read : Option F) (left : InputsLeft) (was asked now : NameCalls) (start end told said : Option (List ℕ)) (result : Result Unit Fault)
     → is_standard name ≡ false → is_in_place name temporary ≡ false → (file ≡ None → read ≡ None) → Knows s disk base inputs input file read left → AnsweredNames disk name was now → Keeps start end → AsksAll (temporary_of name temporary) base inputs was asked
     → Replaces s r (record { word = w; greatest = g; options = o; base = file; inputs = left }) (temporary_of name temporary) name (state_of mid asked start told) (state_of new now end said) read result
-    → CreateSo m disk name temporary o (create_of w g disk input name base inputs temporary o) [] was now None start end told said result
+    → CreateSo m disk name temporary o (create_of w g disk input name base inputs temporary o.make) [] was now None start end told said result
 replacing_so s m r w g disk input name base inputs temporary o mid new file read left was asked now start end told said result standard in_place none knows honest kept asks replaces = elim (cases_Bool (is_no_name name)) [
   | inl is ↦ no_name_so s m r w g disk input name base inputs temporary o (record { word = w; greatest = g; options = o; base = file; inputs = left }) read was asked now start end told said result standard in_place is honest.first kept asks replaces
   | inr named ↦ named_so s m r w g disk input name base inputs temporary o mid new file read left was asked now start end told said result standard in_place named none knows honest kept asks replaces

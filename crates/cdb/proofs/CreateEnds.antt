@@ -7,7 +7,7 @@ use Rattle.std.proofs.lemmas.Bool.{cond-true, cond-false, false_from_ne_true, or
 use Rattle.std.proofs.lemmas.List.{append_cancel_right}
 use Rattle.std.proofs.lemmas.Slice.Eq.{bytes_eq-Decides}
 use Rattle.std.specs.Io.KnownBytes.{Appends, Keeps}
-use Rattle.cdb_command.specs.declared.options.MakeOptions.{MakeOptions}
+use Rattle.cdb_tool.specs.declared.runs.options.RunOptions.{RunOptions}
 use Rattle.cdb_names.specs.Folder.{Has, MayHave, NameCalls}
 use Rattle.cdb_names.specs.Replacing.{AtEach, AtEachMoment}
 use Rattle.cdb_names.specs.declared.answer.Answer.TheVariants as looks
@@ -42,11 +42,11 @@ use Rattle.cdb_system.specs.State.{State}
 -- ---- the oracle
 
 -- it is made in its temporary file of all that is read
-pub oracle_is : {F : Type 0} (s : Ghosts F) (w g : ℕ) (disk : Disk) (input name : List ℕ) (base : Option (List ℕ)) (inputs : List (List ℕ)) (temporary : Option (List ℕ)) (o : MakeOptions) (read : Option F) (left : InputsLeft) → (k : AllKnown s disk base inputs input read left) → is_standard name ≡ false → is_in_place name temporary ≡ false → is_read (temporary_of name temporary) base inputs ≡ false → is_no_name name ≡ false
-    → (made : Made) → made ≡ made_of w g o k.old k.files input → create_of w g disk input name base inputs temporary o ≡ in_temporary disk (temporary_of name temporary) name (made_lines made) (made_file w made) made.result
+pub oracle_is : {F : Type 0} (s : Ghosts F) (w g : ℕ) (disk : Disk) (input name : List ℕ) (base : Option (List ℕ)) (inputs : List (List ℕ)) (temporary : Option (List ℕ)) (o : RunOptions) (read : Option F) (left : InputsLeft) → (k : AllKnown s disk base inputs input read left) → is_standard name ≡ false → is_in_place name temporary ≡ false → is_read (temporary_of name temporary) base inputs ≡ false → is_no_name name ≡ false
+    → (made : Made) → made ≡ made_of w g o.make k.old k.files input → create_of w g disk input name base inputs temporary o.make ≡ in_temporary disk (temporary_of name temporary) name (made_lines made) (made_file w made) made.result
 oracle_is s w g disk input name base inputs temporary o read left k standard placed_in other named made is =
-    let f : Option (List ℕ) → List (Option (List ℕ)) → Created = λ old files. placed w disk name base inputs temporary (made_of w g o old files input) in
-    let m = made_of w g o k.old k.files input in
+    let f : Option (List ℕ) → List (Option (List ℕ)) → Created = λ old files. placed w disk name base inputs temporary (made_of w g o.make old files input) in
+    let m = made_of w g o.make k.old k.files input in
     ap (λ x. if_opened disk (both f x (inputs_of disk inputs))) k.base_is
     ∙ ap (λ x. if_opened disk (both f (Some k.old) x)) k.are
     ∙ cond-false (is_standard name) _ _ standard
@@ -72,12 +72,12 @@ result_of disk temporary name lines file (Err f) = refl
 -- ---- what comes of a create
 
 -- it came to what was said, or a refusal was reported
-pub record CameTrue (o : MakeOptions) (c : Created) (start end told said : Option (List ℕ)) (result : Result Unit Fault) : Type 0 where
+pub record CameTrue (o : RunOptions) (c : Created) (start end told said : Option (List ℕ)) (result : Result Unit Fault) : Type 0 where
   pub is : result ≡ c.result
   pub output : Appends start end c.output
   pub lines : IsPlain o → Appends told said c.lines
 
-pub record GaveUp (o : MakeOptions) (c : Created) (start end told said : Option (List ℕ)) (result : Result Unit Fault) : Type 0 where
+pub record GaveUp (o : RunOptions) (c : Created) (start end told said : Option (List ℕ)) (result : Result Unit Fault) : Type 0 where
   pub fault : Fault
   pub is : result ≡ Err fault
   pub refusal : MayGiveUpCreate fault
@@ -85,11 +85,11 @@ pub record GaveUp (o : MakeOptions) (c : Created) (start end told said : Option 
   pub lines : IsPlain o → AppendsPrefix told said c.lines
 
 -- and so did the disk
-abbrev pub Came : {M : Type 0} → Ghosts M → Disk → (name : List ℕ) → MakeOptions → Created → OpenCalls → NameCalls → Option M → (start end told said : Option (List ℕ)) → Result Unit Fault → Type 0
+abbrev pub Came : {M : Type 0} → Ghosts M → Disk → (name : List ℕ) → RunOptions → Created → OpenCalls → NameCalls → Option M → (start end told said : Option (List ℕ)) → Result Unit Fault → Type 0
 Came m disk name o c opened now made start end told said result =
     (CameTrue o c start end told said result × (AllByRecursion IsNoFailedRemoval now → HoldsAll m disk name made opened now c)) ⊎ GaveUp o c start end told said result
 
-pub record CreateSo {M : Type 0} (m : Ghosts M) (disk : Disk) (name : List ℕ) (temporary : Option (List ℕ)) (o : MakeOptions) (c : Created) (opened : OpenCalls) (was now : NameCalls) (made : Option M) (start end told said : Option (List ℕ)) (result : Result Unit Fault) : Type 0 where
+pub record CreateSo {M : Type 0} (m : Ghosts M) (disk : Disk) (name : List ℕ) (temporary : Option (List ℕ)) (o : RunOptions) (c : Created) (opened : OpenCalls) (was now : NameCalls) (made : Option M) (start end told said : Option (List ℕ)) (result : Result Unit Fault) : Type 0 where
   pub answer : HadBytes (temporary_of name temporary) now → HasBytes m made → Came m disk name o c opened now made start end told said result
   pub done : OnOk result (HoldsAll m disk name made opened now c)
   pub failed : OnErr result (AllByRecursion IsNoFailedRename now → KeepsAll disk (passing name temporary) now)
@@ -178,10 +178,10 @@ holds_first m disk name c was now first a same = λ other held sure h. has_first
 -- ---- nothing was made
 
 -- a file cannot be opened, as was said; or a refusal
-abbrev EndsEarly : MakeOptions → Created → Disk → (start end told said : Option (List ℕ)) → Fault → Type 0
+abbrev EndsEarly : RunOptions → Created → Disk → (start end told said : Option (List ℕ)) → Fault → Type 0
 EndsEarly o c disk start end told said fault = (CameTrue o c start end told said (Err fault) × (c ≡ unopened disk)) ⊎ GaveUp o c start end told said (Err fault)
 
-pub ends_early : {M : Type 0} (m : Ghosts M) (o : MakeOptions) (c : Created) (disk : Disk) (name : List ℕ) (temporary : Option (List ℕ)) (was now : NameCalls) (start end told said : Option (List ℕ)) (fault : Fault) → was ≡ [] → Asking was now → EndsEarly o c disk start end told said fault
+pub ends_early : {M : Type 0} (m : Ghosts M) (o : RunOptions) (c : Created) (disk : Disk) (name : List ℕ) (temporary : Option (List ℕ)) (was now : NameCalls) (start end told said : Option (List ℕ)) (fault : Fault) → was ≡ [] → Asking was now → EndsEarly o c disk start end told said fault
     → CreateSo m disk name temporary o c [] was now None start end told said (Err fault)
 ends_early m o c disk name temporary was now start end told said fault first a h = record {
   answer = λ had has. elim h [
@@ -193,7 +193,7 @@ ends_early m o c disk name temporary was now start end told said fault first a h
   moments = moments_first disk c.disk (passing name temporary) was now first a;
 }
 
-pub open_so : (o : MakeOptions) (c : Created) (disk : Disk) (start end told said : Option (List ℕ)) → c ≡ unopened disk → Keeps start end × Keeps told said → EndsEarly o c disk start end told said Open
+pub open_so : (o : RunOptions) (c : Created) (disk : Disk) (start end told said : Option (List ℕ)) → c ≡ unopened disk → Keeps start end × Keeps told said → EndsEarly o c disk start end told said Open
 open_so o c disk start end told said e k = inl (
   record {
     is = sym (ap (λ (v : Created). v.result) e);
@@ -203,24 +203,24 @@ open_so o c disk start end told said e k = inl (
   e,
 )
 
-pub refused_early : (o : MakeOptions) (c : Created) (disk : Disk) (start end told said : Option (List ℕ)) (fault : Fault) → MayGiveUpCreate fault → Keeps start end × Keeps told said → EndsEarly o c disk start end told said fault
+pub refused_early : (o : RunOptions) (c : Created) (disk : Disk) (start end told said : Option (List ℕ)) (fault : Fault) → MayGiveUpCreate fault → Keeps start end × Keeps told said → EndsEarly o c disk start end told said fault
 refused_early o c disk start end told said fault is k = inr (record { fault = fault; is = refl; refusal = is; output = said_nothing start end c.output k.0; lines = λ plain. said_nothing told said c.lines k.1 })
 
-pub memory_so : (o : MakeOptions) (c : Created) (disk : Disk) (start end told said : Option (List ℕ)) (fault : Fault) → fault ≡ NoMemory → Keeps start end × Keeps told said → EndsEarly o c disk start end told said fault
+pub memory_so : (o : RunOptions) (c : Created) (disk : Disk) (start end told said : Option (List ℕ)) (fault : Fault) → fault ≡ NoMemory → Keeps start end × Keeps told said → EndsEarly o c disk start end told said fault
 memory_so o c disk start end told said fault e k = refused_early o c disk start end told said fault (subst MayGiveUpCreate (sym e) tt) k
 
-missed_why : (o : MakeOptions) (c : Created) (disk : Disk) (start end told said : Option (List ℕ)) (fault : Fault) (cause : NameFault) → fault ≡ unopened_fault cause → (cause ≡ why.Failed → c ≡ unopened disk) → Keeps start end × Keeps told said → EndsEarly o c disk start end told said fault
+missed_why : (o : RunOptions) (c : Created) (disk : Disk) (start end told said : Option (List ℕ)) (fault : Fault) (cause : NameFault) → fault ≡ unopened_fault cause → (cause ≡ why.Failed → c ≡ unopened disk) → Keeps start end × Keeps told said → EndsEarly o c disk start end told said fault
 missed_why o c disk start end told said fault why.Failed e h k = subst (λ f. EndsEarly o c disk start end told said f) (sym e) (open_so o c disk start end told said (h refl) k)
 missed_why o c disk start end told said fault why.NoMemory e h k = memory_so o c disk start end told said fault e k
 
-no_inputs : (w g : ℕ) (disk : Disk) (input name : List ℕ) (base : Option (List ℕ)) (inputs : List (List ℕ)) (temporary : Option (List ℕ)) (o : MakeOptions) → inputs_of disk inputs ≡ None → create_of w g disk input name base inputs temporary o ≡ unopened disk
+no_inputs : (w g : ℕ) (disk : Disk) (input name : List ℕ) (base : Option (List ℕ)) (inputs : List (List ℕ)) (temporary : Option (List ℕ)) (o : RunOptions) → inputs_of disk inputs ≡ None → create_of w g disk input name base inputs temporary o.make ≡ unopened disk
 no_inputs w g disk input name base inputs temporary o e =
-    let f : Option (List ℕ) → List (Option (List ℕ)) → Created = λ old files. placed w disk name base inputs temporary (made_of w g o old files input) in
+    let f : Option (List ℕ) → List (Option (List ℕ)) → Created = λ old files. placed w disk name base inputs temporary (made_of w g o.make old files input) in
     ap (λ x. if_opened disk (both f (base_of disk base) x)) e ∙ ap (if_opened disk) (both_none f (base_of disk base))
 
-no_base : (w g : ℕ) (disk : Disk) (input name : List ℕ) (base : Option (List ℕ)) (inputs : List (List ℕ)) (temporary : Option (List ℕ)) (o : MakeOptions) → base_of disk base ≡ None → create_of w g disk input name base inputs temporary o ≡ unopened disk
+no_base : (w g : ℕ) (disk : Disk) (input name : List ℕ) (base : Option (List ℕ)) (inputs : List (List ℕ)) (temporary : Option (List ℕ)) (o : RunOptions) → base_of disk base ≡ None → create_of w g disk input name base inputs temporary o.make ≡ unopened disk
 no_base w g disk input name base inputs temporary o e =
-    let f : Option (List ℕ) → List (Option (List ℕ)) → Created = λ old files. placed w disk name base inputs temporary (made_of w g o old files input) in
+    let f : Option (List ℕ) → List (Option (List ℕ)) → Created = λ old files. placed w disk name base inputs temporary (made_of w g o.make old files input) in
     ap (λ x. if_opened disk (both f x (inputs_of disk inputs))) e
 
 -- its last call was answered as the disk is
@@ -231,17 +231,17 @@ head_answered s y disk stores old mid new calls cause found name e before is all
     let answered = (subst (λ c. AreAnswered s disk c stores) split all).0 in
     subst (λ v. IsAnswered s disk stores (Unopened v found) name) failed answered
 
-base_missed : {F I M Y : Type 0} (s : Ghosts F) (y : Systems Y F I M) (w g : ℕ) (disk : Disk) (input name : List ℕ) (base : Option (List ℕ)) (inputs : List (List ℕ)) (temporary : Option (List ℕ)) (o : MakeOptions) (old new calls : OpenCalls) (stores : List F) (read : Option F) (start end told said : Option (List ℕ)) (fault : Fault)
+base_missed : {F I M Y : Type 0} (s : Ghosts F) (y : Systems Y F I M) (w g : ℕ) (disk : Disk) (input name : List ℕ) (base : Option (List ℕ)) (inputs : List (List ℕ)) (temporary : Option (List ℕ)) (o : RunOptions) (old new calls : OpenCalls) (stores : List F) (read : Option F) (start end told said : Option (List ℕ)) (fault : Fault)
     → new ≡ calls ++ old → AreAnswered s disk calls stores → MissesBase base old new fault → Keeps start end × Keeps told said
-    → EndsEarly o (create_of w g disk input name base inputs temporary o) disk start end told said fault
+    → EndsEarly o (create_of w g disk input name base inputs temporary o.make) disk start end told said fault
 base_missed s y w g disk input name None inputs temporary o old new calls stores read start end told said fault e all h k = absurd h
 base_missed s y w g disk input name (Some base) inputs temporary o old new calls stores read start end told said fault e all h k =
     missed_why o _ disk start end told said fault h.why h.is (λ failed. no_base w g disk input name (Some base) inputs temporary o
     (ap (option_map (λ b. Some b)) (head_answered s y disk stores old old new calls h.why h.found base e ([], refl) h.calls all failed))) k
 
-pub not_opened_so : {F I M Y : Type 0} (s : Ghosts F) (y : Systems Y F I M) (w g : ℕ) (disk : Disk) (input name : List ℕ) (base : Option (List ℕ)) (inputs : List (List ℕ)) (temporary : Option (List ℕ)) (o : MakeOptions) (old new calls : OpenCalls) (stores : List F) (read : Option F) (start end told said : Option (List ℕ)) (fault : Fault)
+pub not_opened_so : {F I M Y : Type 0} (s : Ghosts F) (y : Systems Y F I M) (w g : ℕ) (disk : Disk) (input name : List ℕ) (base : Option (List ℕ)) (inputs : List (List ℕ)) (temporary : Option (List ℕ)) (o : RunOptions) (old new calls : OpenCalls) (stores : List F) (read : Option F) (start end told said : Option (List ℕ)) (fault : Fault)
     → new ≡ calls ++ old → AreAnswered s disk calls stores → NotOpened y base inputs old new read fault → Keeps start end × Keeps told said
-    → EndsEarly o (create_of w g disk input name base inputs temporary o) disk start end told said fault
+    → EndsEarly o (create_of w g disk input name base inputs temporary o.make) disk start end told said fault
 not_opened_so s y w g disk input name base inputs temporary o old new calls stores read start end told said fault e all h k = elim h.calls [
   | inl missed ↦ base_missed s y w g disk input name base inputs temporary o old new calls stores read start end told said fault e all missed.0 k
   | inr stopped ↦ elim stopped.2.last [
@@ -306,10 +306,10 @@ constant disk f (Some a) (Some b) h = h a b
 constant disk f (Some a) None h = refl
 constant disk f None y h = refl
 
-pub read_unopened : (w g : ℕ) (disk : Disk) (input name : List ℕ) (base : Option (List ℕ)) (inputs : List (List ℕ)) (temporary : Option (List ℕ)) (o : MakeOptions) → is_standard name ≡ false → is_in_place name temporary ≡ false → is_read (temporary_of name temporary) base inputs ≡ true
-    → create_of w g disk input name base inputs temporary o ≡ unopened disk
+pub read_unopened : (w g : ℕ) (disk : Disk) (input name : List ℕ) (base : Option (List ℕ)) (inputs : List (List ℕ)) (temporary : Option (List ℕ)) (o : RunOptions) → is_standard name ≡ false → is_in_place name temporary ≡ false → is_read (temporary_of name temporary) base inputs ≡ true
+    → create_of w g disk input name base inputs temporary o.make ≡ unopened disk
 read_unopened w g disk input name base inputs temporary o standard in_place is =
-    constant disk (λ old files. placed w disk name base inputs temporary (made_of w g o old files input)) (base_of disk base) (inputs_of disk inputs)
+    constant disk (λ old files. placed w disk name base inputs temporary (made_of w g o.make old files input)) (base_of disk base) (inputs_of disk inputs)
     (λ old files. cond-false (is_standard name) _ _ standard ∙ cond-false (is_in_place name temporary) _ _ in_place
     ∙ cond-true (is_read (temporary_of name temporary) base inputs || is_no_name name) _ _ (or_left _ _ is))
 

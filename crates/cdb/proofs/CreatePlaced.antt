@@ -5,7 +5,7 @@ use Rattle.std.specs.List.{AllByRecursion}
 use Rattle.std.specs.Prelude.{OnErr, OnOk, IfErr}
 use Rattle.std.proofs.lemmas.Bool.{cond-true, cond-false}
 use Rattle.std.specs.Io.KnownBytes.{Appends, Keeps}
-use Rattle.cdb_command.specs.declared.options.MakeOptions.{MakeOptions}
+use Rattle.cdb_tool.specs.declared.runs.options.RunOptions.{RunOptions}
 use Rattle.cdb_names.specs.Folder.{NameCalls}
 use Rattle.cdb_names.specs.Replacing.{IsNew}
 use Rattle.cdb_form.specs.Fed.Feed.{Feed}
@@ -39,10 +39,10 @@ use Rattle.cdb_system.specs.Files.{files_of}
 
 -- ---- in place
 
-in_place_is : {F : Type 0} (s : Ghosts F) (w g : ℕ) (disk : Disk) (input name : List ℕ) (base : Option (List ℕ)) (inputs : List (List ℕ)) (temporary : Option (List ℕ)) (o : MakeOptions) (read : Option F) (left : InputsLeft) → (k : AllKnown s disk base inputs input read left) → is_standard name ≡ false → is_in_place name temporary ≡ true → is_read name base inputs ≡ false
-    → (made : Made) → made ≡ made_of w g o k.old k.files input → create_of w g disk input name base inputs temporary o ≡ in_place disk name (made_lines made) (made_file w made) made.result
+in_place_is : {F : Type 0} (s : Ghosts F) (w g : ℕ) (disk : Disk) (input name : List ℕ) (base : Option (List ℕ)) (inputs : List (List ℕ)) (temporary : Option (List ℕ)) (o : RunOptions) (read : Option F) (left : InputsLeft) → (k : AllKnown s disk base inputs input read left) → is_standard name ≡ false → is_in_place name temporary ≡ true → is_read name base inputs ≡ false
+    → (made : Made) → made ≡ made_of w g o.make k.old k.files input → create_of w g disk input name base inputs temporary o.make ≡ in_place disk name (made_lines made) (made_file w made) made.result
 in_place_is s w g disk input name base inputs temporary o read left k standard placed_in other made is =
-    let f : Option (List ℕ) → List (Option (List ℕ)) → Created = λ old files. placed w disk name base inputs temporary (made_of w g o old files input) in
+    let f : Option (List ℕ) → List (Option (List ℕ)) → Created = λ old files. placed w disk name base inputs temporary (made_of w g o.make old files input) in
     ap (λ x. if_opened disk (both f x (inputs_of disk inputs))) k.base_is
     ∙ ap (λ x. if_opened disk (both f (Some k.old) x)) k.are
     ∙ cond-false (is_standard name) _ _ standard
@@ -50,10 +50,10 @@ in_place_is s w g disk input name base inputs temporary o read left k standard p
     ∙ cond-false (is_read name base inputs) _ _ other
     ∙ ap (λ v. in_place disk name (made_lines v) (made_file w v) v.result) (sym is)
 
-pub in_place_unopened : (w g : ℕ) (disk : Disk) (input name : List ℕ) (base : Option (List ℕ)) (inputs : List (List ℕ)) (temporary : Option (List ℕ)) (o : MakeOptions) → is_standard name ≡ false → is_in_place name temporary ≡ true → is_read name base inputs ≡ true
-    → create_of w g disk input name base inputs temporary o ≡ unopened disk
+pub in_place_unopened : (w g : ℕ) (disk : Disk) (input name : List ℕ) (base : Option (List ℕ)) (inputs : List (List ℕ)) (temporary : Option (List ℕ)) (o : RunOptions) → is_standard name ≡ false → is_in_place name temporary ≡ true → is_read name base inputs ≡ true
+    → create_of w g disk input name base inputs temporary o.make ≡ unopened disk
 in_place_unopened w g disk input name base inputs temporary o standard placed_in is =
-    constant disk (λ old files. placed w disk name base inputs temporary (made_of w g o old files input)) (base_of disk base) (inputs_of disk inputs)
+    constant disk (λ old files. placed w disk name base inputs temporary (made_of w g o.make old files input)) (base_of disk base) (inputs_of disk inputs)
     (λ old files. cond-false (is_standard name) _ _ standard ∙ cond-true (is_in_place name temporary) _ _ placed_in ∙ cond-true (is_read name base inputs) _ _ is)
 
 -- what it says
@@ -101,7 +101,7 @@ place_fails m disk name lines file result f last c opened was now first a fails 
 ]
 
 -- it came to what was said, and so did the disk, if the name was seen to have its file; or a refusal was reported
-abbrev SyncedSo : {M : Type 0} → Ghosts M → Disk → (name : List ℕ) → MakeOptions → Created → OpenCalls → NameCalls → M → (start end told said : Option (List ℕ)) → Result Unit Fault → Type 0
+abbrev SyncedSo : {M : Type 0} → Ghosts M → Disk → (name : List ℕ) → RunOptions → Created → OpenCalls → NameCalls → M → (start end told said : Option (List ℕ)) → Result Unit Fault → Type 0
 SyncedSo m disk name o c opened now last start end told said result =
     (CameTrue o c start end told said result × (OnOk result (IsNamed name opened) → HoldsAll m disk name (Some last) opened now c)) ⊎ GaveUp o c start end told said result
 
@@ -141,11 +141,11 @@ synced_so s m disk name mk x files input back built last c opened was now start 
     ]
 
 -- what came of the last look at the name
-unnamed_so : {M : Type 0} (m : Ghosts M) (disk : Disk) (name : List ℕ) (o : MakeOptions) (c : Created) (opened : OpenCalls) (now : NameCalls) (last : M) (start end told said : Option (List ℕ)) (done : Unit {0}) (result : Result Unit Fault) → Keeps start end → SyncedSo m disk name o c opened now last start end told said (Ok done) → result ≡ Err Rename → Came m disk name o c opened now (Some last) start end told said result
+unnamed_so : {M : Type 0} (m : Ghosts M) (disk : Disk) (name : List ℕ) (o : RunOptions) (c : Created) (opened : OpenCalls) (now : NameCalls) (last : M) (start end told said : Option (List ℕ)) (done : Unit {0}) (result : Result Unit Fault) → Keeps start end → SyncedSo m disk name o c opened now last start end told said (Ok done) → result ≡ Err Rename → Came m disk name o c opened now (Some last) start end told said result
 unnamed_so m disk name o c opened now last start end told said done result kept (inl h) is = inr (record { fault = Rename; is = is; refusal = tt; output = said_nothing start end c.output kept; lines = λ plain. whole_lines told said c.lines (h.0.lines plain) })
 unnamed_so m disk name o c opened now last start end told said done result kept (inr h) is = absurd (let no : ◌≡◌ {A = Result Unit Fault} (Ok done) (Err h.fault) = h.is in cc)
 
-named_so : {M : Type 0} (m : Ghosts M) (disk : Disk) (name : List ℕ) (o : MakeOptions) (c : Created) (emptied opened : OpenCalls) (now : NameCalls) (last : M) (start end told said : Option (List ℕ)) (synced result : Result Unit Fault) → Keeps start end → SyncedSo m disk name o c opened now last start end told said synced → SeesName name emptied opened synced result → Came m disk name o c opened now (Some last) start end told said result
+named_so : {M : Type 0} (m : Ghosts M) (disk : Disk) (name : List ℕ) (o : RunOptions) (c : Created) (emptied opened : OpenCalls) (now : NameCalls) (last : M) (start end told said : Option (List ℕ)) (synced result : Result Unit Fault) → Keeps start end → SyncedSo m disk name o c opened now last start end told said synced → SeesName name emptied opened synced result → Came m disk name o c opened now (Some last) start end told said result
 named_so m disk name o c emptied opened now last start end told said (Ok done) result kept (inl h) (Yes, calls, is) = subst (Came m disk name o c opened now (Some last) start end told said) (sym is) (inl (h.0, λ removed. h.1 (emptied, calls)))
 named_so m disk name o c emptied opened now last start end told said (Ok done) result kept (inr h) (Yes, calls, is) = subst (Came m disk name o c opened now (Some last) start end told said) (sym is) (inr h)
 named_so m disk name o c emptied opened now last start end told said (Ok done) result kept h (No, calls, is) = unnamed_so m disk name o c opened now last start end told said done result kept h is
@@ -187,16 +187,16 @@ if_err : (P : Type 0) (result : Result Unit Fault) → P → OnErr result P
 if_err P (Ok done) p = tt
 if_err P (Err f) p = p
 
-pub emptied_so : {F I J M Y : Type 0} (s : Ghosts F) (m : Ghosts M) (feed : I → Feed) (y : Systems Y F I M) (w g : ℕ) (disk : Disk) (input name : List ℕ) (base : Option (List ℕ)) (inputs : List (List ℕ)) (temporary : Option (List ℕ)) (o : MakeOptions) (mid emptied new : OpenCalls) (file : Option F) (items : InputsLeft) (left : Left F M I J) (was now : NameCalls) (start end told said : Option (List ℕ)) (result : Result Unit Fault)
+pub emptied_so : {F I J M Y : Type 0} (s : Ghosts F) (m : Ghosts M) (feed : I → Feed) (y : Systems Y F I M) (w g : ℕ) (disk : Disk) (input name : List ℕ) (base : Option (List ℕ)) (inputs : List (List ℕ)) (temporary : Option (List ℕ)) (o : RunOptions) (mid emptied new : OpenCalls) (file : Option F) (items : InputsLeft) (left : Left F M I J) (was now : NameCalls) (start end told said : Option (List ℕ)) (result : Result Unit Fault)
     → is_standard name ≡ false → is_in_place name temporary ≡ true → Knows s disk base inputs input file left.read items → AnsweredNames disk name was now → Keeps start end → AsksAll name base inputs was now → Empties name mid emptied
-    → MakesEmptied (files_of s m feed y) (record { word = w; greatest = g; options = o; base = file; inputs = items }) name emptied (state_of mid was start told) (state_of new now end said) left result → CreateSo m disk name temporary o (create_of w g disk input name base inputs temporary o) new was now left.made start end told said result
+    → MakesEmptied (files_of s m feed y) (record { word = w; greatest = g; options = o; base = file; inputs = items }) name emptied (state_of mid was start told) (state_of new now end said) left result → CreateSo m disk name temporary o (create_of w g disk input name base inputs temporary o.make) new was now left.made start end told said result
 emptied_so s m feed y w g disk input name base inputs temporary o mid emptied new file items left was now start end told said result standard placed_in knows honest kept asks empties h =
     let mk : Making _ = record { word = w; greatest = g; options = o; base = file; inputs = items } in
     let none : file ≡ None → left.read ≡ None = back_of s mk left.read (m.image h.built) told said h.made h.run in
     let known = knows none in
     let question = asked_all name base inputs was now asks honest.alone in
     let a = asking_all name base inputs was now asks in
-    let c = create_of w g disk input name base inputs temporary o in
+    let c = create_of w g disk input name base inputs temporary o.make in
     let is = in_place_is s w g disk input name base inputs temporary o left.read items known standard placed_in question.other (made_here mk known.old known.files input) refl in
     let so : CreateSo m disk name temporary o c new was now (Some h.last) start end told said result = record {
       answer = λ had has. named_so m disk name o c emptied new now h.last start end told said h.synced result kept (synced_so s m disk name mk known.old known.files input left.read h.built h.last c new was now start end told said h.made h.synced has.0 honest.first a known.has known.known is kept h.run h.syncs h.has has.1) h.named;
@@ -208,10 +208,10 @@ emptied_so s m feed y w g disk input name base inputs temporary o mid emptied ne
 
 -- ---- on standard output
 
-output_is : {F : Type 0} (s : Ghosts F) (w g : ℕ) (disk : Disk) (input name : List ℕ) (base : Option (List ℕ)) (inputs : List (List ℕ)) (temporary : Option (List ℕ)) (o : MakeOptions) (read : Option F) (left : InputsLeft) → (k : AllKnown s disk base inputs input read left) → is_standard name ≡ true
-    → (made : Made) → made ≡ made_of w g o k.old k.files input → create_of w g disk input name base inputs temporary o ≡ on_output disk (made_lines made) (made_file w made) made.result
+output_is : {F : Type 0} (s : Ghosts F) (w g : ℕ) (disk : Disk) (input name : List ℕ) (base : Option (List ℕ)) (inputs : List (List ℕ)) (temporary : Option (List ℕ)) (o : RunOptions) (read : Option F) (left : InputsLeft) → (k : AllKnown s disk base inputs input read left) → is_standard name ≡ true
+    → (made : Made) → made ≡ made_of w g o.make k.old k.files input → create_of w g disk input name base inputs temporary o.make ≡ on_output disk (made_lines made) (made_file w made) made.result
 output_is s w g disk input name base inputs temporary o read left k standard made is =
-    let f : Option (List ℕ) → List (Option (List ℕ)) → Created = λ old files. placed w disk name base inputs temporary (made_of w g o old files input) in
+    let f : Option (List ℕ) → List (Option (List ℕ)) → Created = λ old files. placed w disk name base inputs temporary (made_of w g o.make old files input) in
     ap (λ x. if_opened disk (both f x (inputs_of disk inputs))) k.base_is
     ∙ ap (λ x. if_opened disk (both f (Some k.old) x)) k.are
     ∙ cond-true (is_standard name) _ _ standard
@@ -236,10 +236,10 @@ output_none : (disk : Disk) (lines file : List ℕ) (result : Result Unit Fault)
 output_none disk lines file result f e = ap (λ r. (on_output disk lines file r).output) e
 
 -- what is said, without the disk
-abbrev Wrote : MakeOptions → Created → (start end told said : Option (List ℕ)) → Result Unit Fault → Type 0
+abbrev Wrote : RunOptions → Created → (start end told said : Option (List ℕ)) → Result Unit Fault → Type 0
 Wrote o c start end told said result = CameTrue o c start end told said result ⊎ GaveUp o c start end told said result
 
-written_so : (w : ℕ) (disk : Disk) (o : MakeOptions) (v : Made) (c : Created) (bytes : List ℕ) (start end told said : Option (List ℕ)) (result : Result Unit Fault) → c ≡ on_output disk (made_lines v) (made_file w v) v.result → bytes ≡ made_file w v → v.result ≡ Ok tt → (IsPlain o → Appends told said (made_lines v)) → WritesAll start end bytes result → Wrote o c start end told said result
+written_so : (w : ℕ) (disk : Disk) (o : RunOptions) (v : Made) (c : Created) (bytes : List ℕ) (start end told said : Option (List ℕ)) (result : Result Unit Fault) → c ≡ on_output disk (made_lines v) (made_file w v) v.result → bytes ≡ made_file w v → v.result ≡ Ok tt → (IsPlain o → Appends told said (made_lines v)) → WritesAll start end bytes result → Wrote o c start end told said result
 written_so w disk o v c bytes start end told said (Ok done) is file ok lines h = inl (record {
   is = sym (ap (λ (v : Created). v.result) is ∙ output_result disk (made_lines v) (made_file w v) v.result ∙ ok);
   output = subst (Appends start end) (file ∙ sym (ap (λ (v : Created). v.output) is ∙ output_file disk (made_lines v) (made_file w v) v.result ok)) h.ok;
@@ -253,7 +253,7 @@ written_so w disk o v c bytes start end told said (Err f) is file ok lines h = i
   lines = λ plain. whole_lines told said c.lines (subst (Appends told said) (sym (ap (λ (v : Created). v.lines) is ∙ output_lines disk (made_lines v) (made_file w v) v.result)) (lines plain));
 })
 
-unwritten_so : (w : ℕ) (disk : Disk) (o : MakeOptions) (v : Made) (c : Created) (start end told said : Option (List ℕ)) (f : Fault) (result : Result Unit Fault) → c ≡ on_output disk (made_lines v) (made_file w v) v.result → result ≡ Err f → Keeps start end → EndsSo o v told said (Err f) ⊎ WasRefused o v told said f → Wrote o c start end told said result
+unwritten_so : (w : ℕ) (disk : Disk) (o : RunOptions) (v : Made) (c : Created) (start end told said : Option (List ℕ)) (f : Fault) (result : Result Unit Fault) → c ≡ on_output disk (made_lines v) (made_file w v) v.result → result ≡ Err f → Keeps start end → EndsSo o v told said (Err f) ⊎ WasRefused o v told said f → Wrote o c start end told said result
 unwritten_so w disk o v c start end told said f result is same kept (inl e) = inl (record {
   is = same ∙ e.is ∙ sym (ap (λ (v : Created). v.result) is ∙ output_result disk (made_lines v) (made_file w v) v.result);
   output = subst (Appends start end) (sym (ap (λ (v : Created). v.output) is ∙ output_none disk (made_lines v) (made_file w v) v.result f (sym e.is))) (none_appended start end kept);
@@ -284,14 +284,14 @@ if_ok : (P : Type 0) (result : Result Unit Fault) → P → OnOk result P
 if_ok P (Ok done) p = p
 if_ok P (Err f) p = tt
 
-pub output_so : {F M : Type 0} (s : Ghosts F) (m : Ghosts M) (w g : ℕ) (disk : Disk) (input name : List ℕ) (base : Option (List ℕ)) (inputs : List (List ℕ)) (temporary : Option (List ℕ)) (o : MakeOptions) (file read : Option F) (items : InputsLeft) (was now : NameCalls) (start end told said : Option (List ℕ)) (result : Result Unit Fault)
+pub output_so : {F M : Type 0} (s : Ghosts F) (m : Ghosts M) (w g : ℕ) (disk : Disk) (input name : List ℕ) (base : Option (List ℕ)) (inputs : List (List ℕ)) (temporary : Option (List ℕ)) (o : RunOptions) (file read : Option F) (items : InputsLeft) (was now : NameCalls) (start end told said : Option (List ℕ)) (result : Result Unit Fault)
     → is_standard name ≡ true → Knows s disk base inputs input file read items → AnsweredNames disk name was now → now ≡ was
-    → MakesOnOutput s (record { word = w; greatest = g; options = o; base = file; inputs = items }) read start end told said result → CreateSo m disk name temporary o (create_of w g disk input name base inputs temporary o) [] was now None start end told said result
+    → MakesOnOutput s (record { word = w; greatest = g; options = o; base = file; inputs = items }) read start end told said result → CreateSo m disk name temporary o (create_of w g disk input name base inputs temporary o.make) [] was now None start end told said result
 output_so s m w g disk input name base inputs temporary o file read items was now start end told said result standard knows honest calls h =
     let mk : Making _ = record { word = w; greatest = g; options = o; base = file; inputs = items } in
     let none : file ≡ None → read ≡ None = hands_none s file read h.makes.run.hands in
     let known = knows none in
-    let c = create_of w g disk input name base inputs temporary o in
+    let c = create_of w g disk input name base inputs temporary o.make in
     let v = made_here mk known.old known.files input in
     let is = output_is s w g disk input name base inputs temporary o read items known standard v refl in
     let a = asking_none was now calls in

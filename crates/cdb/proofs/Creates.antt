@@ -2,7 +2,7 @@
 use Rattle.std.proofs.Common.{ℕ, true, false, List, [], Option, Some, None, Result, ◌≡◌, ap, inl, inr, refl, subst, sym, bytes_eq, codes}
 use Rattle.std.proofs.lemmas.Bool.{false_from_ne_true, or_from, or_left, or_right}
 use Rattle.std.proofs.lemmas.Slice.Eq.{bytes_eq-Decides}
-use Rattle.cdb_command.specs.declared.options.MakeOptions.{MakeOptions}
+use Rattle.cdb_tool.specs.declared.runs.options.RunOptions.{RunOptions}
 use Rattle.cdb_names.specs.Folder.{NameCalls}
 use Rattle.cdb_form.specs.Fed.Feed.{Feed}
 use Rattle.cdb_show.specs.Runs.Inputs.{InputsLeft}
@@ -31,7 +31,7 @@ use Rattle.cdb_system.specs.Files.{files_of}
 -- ---- each create
 
 -- nothing that was made is handed back
-with_none : {F I J M : Type 0} (m : Ghosts M) (disk : Disk) (name : List ℕ) (temporary : Option (List ℕ)) (o : MakeOptions) (c : Created) (opened : OpenCalls) (was now : NameCalls) (base : Option F) (left : Left F M I J) (start end told said : Option (List ℕ)) (result : Result Unit Fault) → HandsBase base left → CreateSo m disk name temporary o c [] was now None start end told said result
+with_none : {F I J M : Type 0} (m : Ghosts M) (disk : Disk) (name : List ℕ) (temporary : Option (List ℕ)) (o : RunOptions) (c : Created) (opened : OpenCalls) (was now : NameCalls) (base : Option F) (left : Left F M I J) (start end told said : Option (List ℕ)) (result : Result Unit Fault) → HandsBase base left → CreateSo m disk name temporary o c [] was now None start end told said result
     → CreateSo m disk name temporary o c opened was now left.made start end told said result
 with_none m disk name temporary o c opened was now base left start end told said result e h =
     let same : CreateSo m disk name temporary o c opened was now None start end told said result = record { answer = h.answer; done = h.done; failed = h.failed; moments = h.moments } in
@@ -47,7 +47,7 @@ in_place_not name None other = refl
 in_place_not name (Some t) other = or_from _ _ (false_from_ne_true (bytes_eq t (codes "-")) (λ e. other (inl ((bytes_eq-Decides t (codes "-")).0 e)))) (false_from_ne_true (bytes_eq t name) (λ e. other (inr ((bytes_eq-Decides t name).0 e))))
 
 -- no other store is handed back
-module _ {F I J M R Y : Type 0} (s : Ghosts F) (m : Ghosts M) (r : Raw R) (feed : I → Feed) (y : Systems Y F I M) (w g : ℕ) (name : List ℕ) (base : Option (List ℕ)) (inputs : List (List ℕ)) (temporary : Option (List ℕ)) (o : MakeOptions) (mid new : OpenCalls) (left : Left F M I J) (was now : NameCalls) (start end told said : Option (List ℕ)) (result : Result Unit Fault) (file : Option F) (items : InputsLeft) where
+module _ {F I J M R Y : Type 0} (s : Ghosts F) (m : Ghosts M) (r : Raw R) (feed : I → Feed) (y : Systems Y F I M) (w g : ℕ) (name : List ℕ) (base : Option (List ℕ)) (inputs : List (List ℕ)) (temporary : Option (List ℕ)) (o : RunOptions) (mid new : OpenCalls) (left : Left F M I J) (was now : NameCalls) (start end told said : Option (List ℕ)) (result : Result Unit Fault) (file : Option F) (items : InputsLeft) where
   alone_so : MakesAt (files_of s m feed y) r (record { word = w; greatest = g; options = o; base = file; inputs = items }) (record { word = w; greatest = g; options = o; name = name; base = base; inputs = inputs; temporary = temporary }) (state_of mid was start told) (state_of new now end said) left result → left.other ≡ None
   alone_so (inl (at_output, same, calls, handed, makes)) = handed.other
   alone_so (inr (other, kept, inl (here, inl (finds, same, handed, is, silent)))) = handed.other
@@ -56,23 +56,23 @@ module _ {F I J M R Y : Type 0} (s : Ghosts F) (m : Ghosts M) (r : Raw R) (feed 
   alone_so (inr (other, kept, inr (apart, same, handed, rest))) = handed.other
 
 -- the database was made
-module _ {F I J M R Y : Type 0} (s : Ghosts F) (m : Ghosts M) (r : Raw R) (feed : I → Feed) (y : Systems Y F I M) (w g : ℕ) (disk : Disk) (input name : List ℕ) (base : Option (List ℕ)) (inputs : List (List ℕ)) (temporary : Option (List ℕ)) (o : MakeOptions) (mid new : OpenCalls) (left : Left F M I J) (was now : NameCalls) (start end told said : Option (List ℕ)) (result : Result Unit Fault) (file : Option F) (items : InputsLeft)
+module _ {F I J M R Y : Type 0} (s : Ghosts F) (m : Ghosts M) (r : Raw R) (feed : I → Feed) (y : Systems Y F I M) (w g : ℕ) (disk : Disk) (input name : List ℕ) (base : Option (List ℕ)) (inputs : List (List ℕ)) (temporary : Option (List ℕ)) (o : RunOptions) (mid new : OpenCalls) (left : Left F M I J) (was now : NameCalls) (start end told said : Option (List ℕ)) (result : Result Unit Fault) (file : Option F) (items : InputsLeft)
     (knows : Knows s disk base inputs input file left.read items) (honest : AnsweredNames disk name was now) where
   makes_so : MakesAt (files_of s m feed y) r (record { word = w; greatest = g; options = o; base = file; inputs = items }) (record { word = w; greatest = g; options = o; name = name; base = base; inputs = inputs; temporary = temporary }) (state_of mid was start told) (state_of new now end said) left result
-      → CreateSo m disk name temporary o (create_of w g disk input name base inputs temporary o) new was now left.made start end told said result
+      → CreateSo m disk name temporary o (create_of w g disk input name base inputs temporary o.make) new was now left.made start end told said result
   makes_so (inl (at_output, same, calls, handed, makes)) =
-      let c = create_of w g disk input name base inputs temporary o in
+      let c = create_of w g disk input name base inputs temporary o.make in
       with_none m disk name temporary o c new was now left.read left start end told said result handed
       (output_so s m w g disk input name base inputs temporary o file left.read items was now start end told said result (standard_is name at_output) knows honest calls makes)
   makes_so (inr (other, kept, inl (here, inl (finds, same, handed, is, silent)))) =
-      let c = create_of w g disk input name base inputs temporary o in
+      let c = create_of w g disk input name base inputs temporary o.make in
       let f = found name base inputs was now finds honest.alone in
       with_none m disk name temporary o c new was now file left start end told said result handed
       (subst (CreateSo m disk name temporary o c [] was now None start end told said) (sym is)
       (ends_early m o c disk name temporary was now start end told said Open honest.first (asking_finds name base inputs was now finds)
       (open_so o c disk start end told said (in_place_unopened w g disk input name base inputs temporary o (standard_not name other) (in_place_now name temporary here) f.one) (kept, silent))))
   makes_so (inr (other, kept, inl (here, inr (asks, inl (fault, misses, handed, is, silent))))) =
-      let c = create_of w g disk input name base inputs temporary o in
+      let c = create_of w g disk input name base inputs temporary o.make in
       with_none m disk name temporary o c new was now file left start end told said result handed
       (subst (CreateSo m disk name temporary o c [] was now None start end told said) (sym is)
       (ends_early m o c disk name temporary was now start end told said fault honest.first (asking_all name base inputs was now asks)
@@ -80,29 +80,29 @@ module _ {F I J M R Y : Type 0} (s : Ghosts F) (m : Ghosts M) (r : Raw R) (feed 
   makes_so (inr (other, kept, inl (here, inr (asks, inr (emptied, empties, makes))))) =
       emptied_so s m feed y w g disk input name base inputs temporary o mid emptied new file items left was now start end told said result (standard_not name other) (in_place_now name temporary here) knows honest kept asks empties makes
   makes_so (inr (other, kept, inr (apart, same, handed, inl (no_calls, back, is, silent)))) =
-      let c = create_of w g disk input name base inputs temporary o in
+      let c = create_of w g disk input name base inputs temporary o.make in
       with_none m disk name temporary o c new was now left.read left start end told said result handed
       (subst (CreateSo m disk name temporary o c [] was now None start end told said) (sym is)
       (ends_early m o c disk name temporary was now start end told said NoMemory honest.first (asking_none was now no_calls) (memory_so o c disk start end told said NoMemory refl (kept, silent))))
   makes_so (inr (other, kept, inr (apart, same, handed, inr (inl (finds, back, is, silent))))) =
-      let c = create_of w g disk input name base inputs temporary o in
+      let c = create_of w g disk input name base inputs temporary o.make in
       let f = found (temporary_of name temporary) base inputs was now finds honest.alone in
       with_none m disk name temporary o c new was now left.read left start end told said result handed
       (subst (CreateSo m disk name temporary o c [] was now None start end told said) (sym is)
       (ends_early m o c disk name temporary was now start end told said Open honest.first (asking_finds (temporary_of name temporary) base inputs was now finds)
       (open_so o c disk start end told said (read_unopened w g disk input name base inputs temporary o (standard_not name other) (in_place_not name temporary apart) f.one) (kept, silent))))
   makes_so (inr (other, kept, inr (apart, same, handed, inr (inr (asked, asks, replaces))))) =
-      let c = create_of w g disk input name base inputs temporary o in
+      let c = create_of w g disk input name base inputs temporary o.make in
       let mk : Making _ = record { word = w; greatest = g; options = o; base = file; inputs = items } in
       let none : file ≡ None → left.read ≡ None = back_none s r mk (temporary_of name temporary) name (state_of mid asked start told) (state_of new now end said) left.read result replaces in
       with_none m disk name temporary o c new was now left.read left start end told said result handed
       (replacing_so s m r w g disk input name base inputs temporary o mid new file left.read items was asked now start end told said result (standard_not name other) (in_place_not name temporary apart) none knows honest kept asks replaces)
 
-pub creates_so : {F I J M R Y : Type 0} (s : Ghosts F) (m : Ghosts M) (r : Raw R) (feed : I → Feed) (y : Systems Y F I M) (w g : ℕ) (disk : Disk) (input name : List ℕ) (base : Option (List ℕ)) (inputs : List (List ℕ)) (temporary : Option (List ℕ)) (o : MakeOptions) (standard : Standard J) (old new : OpenCalls) (left : Left F M I J) (was now : NameCalls) (start end told said : Option (List ℕ)) (result : Result Unit Fault)
+pub creates_so : {F I J M R Y : Type 0} (s : Ghosts F) (m : Ghosts M) (r : Raw R) (feed : I → Feed) (y : Systems Y F I M) (w g : ℕ) (disk : Disk) (input name : List ℕ) (base : Option (List ℕ)) (inputs : List (List ℕ)) (temporary : Option (List ℕ)) (o : RunOptions) (standard : Standard J) (old new : OpenCalls) (left : Left F M I J) (was now : NameCalls) (start end told said : Option (List ℕ)) (result : Result Unit Fault)
     → HonestCreate (files_of s m feed y) disk input name standard (state_of old was start told) (state_of new now end said) left → Creates (files_of s m feed y) r (record { word = w; greatest = g; options = o; name = name; base = base; inputs = inputs; temporary = temporary }) standard (state_of old was start told) (state_of new now end said) left result
-    → CreateSo m disk name temporary o (create_of w g disk input name base inputs temporary o) new was now left.made start end told said result
+    → CreateSo m disk name temporary o (create_of w g disk input name base inputs temporary o.make) new was now left.made start end told said result
 creates_so s m r feed y w g disk input name base inputs temporary o standard old new left was now start end told said result honest (inl (fault, is, not_opened, same, handed, kept, silent)) =
-    let c = create_of w g disk input name base inputs temporary o in
+    let c = create_of w g disk input name base inputs temporary o.make in
     with_none m disk name temporary o c new was now left.read left start end told said result (record { read = refl; other = ap (λ (l : Left _ _ _ _). l.other) handed; made = ap (λ (l : Left _ _ _ _). l.made) handed })
     (subst (CreateSo m disk name temporary o c [] was now None start end told said) (sym is)
     (ends_early m o c disk name temporary was now start end told said fault honest.first (asking_none was now same)

@@ -9,6 +9,5 @@ mod CreateEnds
 mod CreateApart
 mod CreatePlaced
 mod Creates
-mod NamedCreates
 mod RunCreates
 mod CreateTaken

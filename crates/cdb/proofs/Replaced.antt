@@ -8,7 +8,7 @@ use Rattle.std.proofs.lemmas.List.{append_cancel_right}
 use Rattle.std.proofs.lemmas.Slice.Eq.{bytes_eq-Decides}
 use Rattle.std.specs.Io.KnownBytes.{Appends, Keeps}
 use Rattle.std.proofs.KnownBytes.{Keeps-refl}
-use Rattle.cdb_command.specs.declared.options.MakeOptions.{MakeOptions}
+use Rattle.cdb_tool.specs.declared.runs.options.RunOptions.{RunOptions}
 use Rattle.cdb_names.specs.Folder.{AreNamesApart, Has, LeavesFile, MayHave, NameCalls}
 use Rattle.cdb_names.specs.Replacing.{BuilderAnswers, AreOfReplacing, AtEach, AtEachMoment, ClearsFile, HasCleared, IsNew, IsOfReplacing, IsReady, IsRenamed, LeavesOldOrNew, NameEvent, BuilderTells, TellsOfFile, StopsUnbuilt, renames}
 use Rattle.cdb_names.specs.declared.name_trace.NameCall.{NameCall}
@@ -59,21 +59,21 @@ KeepsOthers temporary name old now = (other : List ℕ) → temporary ≢ other 
     → MayHave (place_of other) first old held
 
 -- no duplicate is explained
-abbrev pub IsPlain : MakeOptions → Type 0
+abbrev pub IsPlain : RunOptions → Type 0
 IsPlain o = o.names ≡ None
 
 -- now the name has the database, and all its lines were said
-pub record HasMade (w : ℕ) (o : MakeOptions) (made : Made) (told said : Option (List ℕ)) (held : Option (List ℕ)) : Type 0 where
+pub record HasMade (w : ℕ) (o : RunOptions) (made : Made) (told said : Option (List ℕ)) (held : Option (List ℕ)) : Type 0 where
   pub file : held ≡ Some (made_file w made)
   pub result : made.result ≡ Ok tt
   pub lines : IsPlain o → Appends told said (made_lines made)
 
 -- it ended in the fault that was said, or was refused
-pub record EndsSo (o : MakeOptions) (made : Made) (told said : Option (List ℕ)) (result : Result Unit Fault) : Type 0 where
+pub record EndsSo (o : RunOptions) (made : Made) (told said : Option (List ℕ)) (result : Result Unit Fault) : Type 0 where
   pub is : result ≡ made.result
   pub lines : IsPlain o → Appends told said (made_lines made)
 
-pub record WasRefused (o : MakeOptions) (made : Made) (told said : Option (List ℕ)) (fault : Fault) : Type 0 where
+pub record WasRefused (o : RunOptions) (made : Made) (told said : Option (List ℕ)) (fault : Fault) : Type 0 where
   pub refusal : MayGiveUpCreate fault
   pub lines : IsPlain o → AppendsPrefix told said (made_lines made)
 
@@ -86,7 +86,7 @@ abbrev pub KeepsName : (name : List ℕ) → (old now : NameCalls) → Type 0
 KeepsName name old now = AllByRecursion IsNoFailedRename now → (first held : Option (List ℕ)) → MayHave (place_of name) first now held → MayHave (place_of name) first old held
 
 -- what a replacement comes to
-pub record ReplacesSo (w : ℕ) (o : MakeOptions) (temporary name : List ℕ) (made : Made) (old new : NameCalls) (told said : Option (List ℕ)) (result : Result Unit Fault) : Type 0 where
+pub record ReplacesSo (w : ℕ) (o : RunOptions) (temporary name : List ℕ) (made : Made) (old new : NameCalls) (told said : Option (List ℕ)) (result : Result Unit Fault) : Type 0 where
   pub since : NameCalls
   pub calls : new ≡ since ++ old
   pub moments : AtEach (LeavesOldOrMade w name made old) since old
@@ -105,7 +105,7 @@ of_known f None (Some bytes) P has h = absurd has
 of_known f (Some store) None P has h = absurd has
 
 abbrev pub made_here : {F : Type 0} → Making F → Option (List ℕ) → List (Option (List ℕ)) → List ℕ → Made
-made_here m x files input = made_of m.word m.greatest m.options x files input
+made_here m x files input = made_of m.word m.greatest m.options.make x files input
 
 pub database_is : {F : Type 0} (f : Ghosts F) (m : Making F) (back : Option F) (x : Option (List ℕ)) (files : List (Option (List ℕ))) (input b : List ℕ) → BaseHas f back x → Known files input m.inputs → IsDatabase f m back b → (b ≡ made_file m.word (made_here m x files input)) × ((made_here m x files input).result ≡ Ok tt)
 database_is f m back x files input b has known d =
@@ -233,7 +233,7 @@ run_is : {F : Type 0} (f : Ghosts F) (m : Making F) (back : Option F) (x : Optio
 run_is f m back x files input images b told said built has known is h =
     run_comes m.word m.greatest m.options x files input m.inputs images told said built known (of_known f back x (λ y. run.MakeRuns m.word m.greatest m.options y m.inputs images told said built) has (h.runs.each b is))
 
-made_ok : (w : ℕ) (o : MakeOptions) (made : Made) (images : List ℕ → Type 0) (b : List ℕ) (held told said : Option (List ℕ)) → images b → held ≡ Some b → ComesOf w o made images told said (Ok tt) → HasMade w o made told said held
+made_ok : (w : ℕ) (o : RunOptions) (made : Made) (images : List ℕ → Type 0) (b : List ℕ) (held told said : Option (List ℕ)) → images b → held ≡ Some b → ComesOf w o made images told said (Ok tt) → HasMade w o made told said held
 made_ok w o made images b held told said is e (inl so) = record { file = e ∙ ap (λ (z : List ℕ). Some z) (so.file.each b is); result = sym so.is; lines = λ plain. tells_plain o.names made.told told said plain so.lines }
 made_ok w o made images b held told said is e (inr refused) = absurd (let no : ◌≡◌ {A = Result Unit Fault} (Ok tt) (Err refused.fault) = refused.is in cc)
 
@@ -309,7 +309,7 @@ whole_lines old new xs a = record { front = xs; more = []; split = sym (append-n
 pub said_nothing : (told said : Option (List ℕ)) (lines : List ℕ) → Keeps told said → AppendsPrefix told said lines
 said_nothing told said lines k = record { front = []; more = lines; split = refl; appended = none_appended told said k }
 
-ended_so : (w : ℕ) (o : MakeOptions) (made : Made) (images : List ℕ → Type 0) (told said : Option (List ℕ)) (f : Fault) → ComesOf w o made images told said (Err f) → EndsSo o made told said (Err f) ⊎ WasRefused o made told said f
+ended_so : (w : ℕ) (o : RunOptions) (made : Made) (images : List ℕ → Type 0) (told said : Option (List ℕ)) (f : Fault) → ComesOf w o made images told said (Err f) → EndsSo o made told said (Err f) ⊎ WasRefused o made told said f
 ended_so w o made images told said f (inl so) = inl (record { is = so.is; lines = λ plain. tells_plain o.names made.told told said plain so.lines })
 ended_so w o made images told said f (inr refused) =
     let same : f ≡ refused.fault = same_fault f refused.fault refused.is in

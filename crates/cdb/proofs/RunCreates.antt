@@ -11,6 +11,7 @@ use Rattle.cdb_command.specs.Asked as asked
 use Rattle.cdb_command.specs.declared.command.Command.{Command}
 use Rattle.cdb_command.specs.declared.command.Command.TheVariants as command
 use Rattle.cdb_command.specs.declared.options.MakeOptions.{MakeOptions}
+use Rattle.cdb_tool.specs.declared.runs.options.RunOptions.{RunOptions}
 use Rattle.cdb_command.specs.Refused.{Refused, usage_of}
 use Rattle.cdb_names.specs.Folder.{NameCalls}
 use Rattle.cdb_form.specs.Fed.Feed.{Feed}
@@ -32,7 +33,6 @@ use Rattle.cdb_system.specs.declared.system.System.{Ghosts as Systems}
 use Rattle.cdb_show.specs.Views.Output.{HasHandedOn, OutputFailed, held_by, output_bytes}
 use Rattle.cdb_show.specs.declared.output.Output.{Output as Writer}
 use Rattle.cdb_show.proofs.Writers.{prefix_kept}
-use Rattle.cdb.proofs.NamedCreates.{named_holds, shown_plain}
 use Rattle.cdb.proofs.Replaced.{IsPlain}
 use Rattle.cdb_system.proofs.Explained.{SaysOnly, says_only}
 use Rattle.cdb.proofs.CreateEnds.{Came, keeps_first}
@@ -102,12 +102,21 @@ if_done P (Err fault) h e = absurd (not_nothing fault e)
 
 -- ---- the command
 
+-- the names of the inputs, with which duplicates are explained, stand beside the options
+shown_make : (explained : Bool) (inputs : List (List ℕ)) (o : MakeOptions) (shown : RunOptions) → IsShown explained inputs o shown → shown.make ≡ o
+shown_make false inputs o shown h = ap (λ (q : RunOptions). q.make) h
+shown_make true inputs o shown h = h.0
+
+shown_plain : (explained : Bool) (inputs : List (List ℕ)) (o : MakeOptions) (shown : RunOptions) → IsShown explained inputs o shown → explained ≡ false → IsPlain shown
+shown_plain false inputs o shown h e = ap (λ (q : RunOptions). q.names) h
+shown_plain true inputs o shown h e = absurd (let no : true ≡ false = e in cc)
+
 same_asked : (a b : Asked) → ◌≡◌ {A = Result Asked Refused} (Ok a) (Ok b) → a ≡ b
 same_asked a b e = cc
 
 creates_in : {F I J M R Y : Type 0} (s : Ghosts F) (m : Ghosts M) (r : Raw R) (feed : I → Feed) (y : Systems Y F I M) (name : List ℕ) (base : Option (List ℕ)) (inputs : List (List ℕ)) (temporary : Option (List ℕ)) (o : MakeOptions) (wide explained : Bool) (given : Standard J) (old new : Y) (was now : NameCalls) (left : Left F M I J) (start end told said : Option (List ℕ)) (result : Result Unit Fault)
     → PerformsIn wide (files_of s m feed y) r (given_of (asked.Create name base inputs temporary o wide) explained given) (state_of old was start told) (state_of new now end said) left result
-    → (shown : MakeOptions) × IsShown explained inputs o shown × Creates (files_of s m feed y) r (record { word = word_size wide; greatest = greatest_size wide; options = shown; name = name; base = base; inputs = inputs; temporary = temporary }) given (state_of (y.calls old) was start told) (state_of (y.calls new) now end said) left result
+    → (shown : RunOptions) × IsShown explained inputs o shown × Creates (files_of s m feed y) r (record { word = word_size wide; greatest = greatest_size wide; options = shown; name = name; base = base; inputs = inputs; temporary = temporary }) given (state_of (y.calls old) was start told) (state_of (y.calls new) now end said) left result
 creates_in s m r feed y name base inputs temporary o true explained given old new was now left start end told said result h = h
 creates_in s m r feed y name base inputs temporary o false explained given old new was now left start end told said result h = h
 
@@ -115,7 +124,7 @@ if_not_done : (P : Type 0) (answer : Result Unit Fault) → OnErr answer P → (
 if_not_done P (Ok done) h some = absurd (some refl)
 if_not_done P (Err fault) h some = h
 
-comes_so : {M : Type 0} {old new : OpenCalls} {was : NameCalls} (m : Ghosts M) (disk : Disk) (shown : MakeOptions) (c : Created) (explained : Bool) (now : NameCalls) (made : Option M) (command : Command) (name : List ℕ) (base : Option (List ℕ)) (inputs : List (List ℕ)) (temporary : Option (List ℕ)) (o : MakeOptions) (wide : Bool) (start end final told before said : Option (List ℕ)) (unwritten unsaid : Type 0) (answer result : Result Unit Fault) (status : ℕ) → asked_in command ≡ asked.Create name base inputs temporary o wide → Keeps end final → result ≡ answer → (unwritten → ⊥) → OutputSays (unwritten ⊎ unsaid) result → (unsaid → ⊥)
+comes_so : {M : Type 0} {old new : OpenCalls} {was : NameCalls} (m : Ghosts M) (disk : Disk) (shown : RunOptions) (c : Created) (explained : Bool) (now : NameCalls) (made : Option M) (command : Command) (name : List ℕ) (base : Option (List ℕ)) (inputs : List (List ℕ)) (temporary : Option (List ℕ)) (o : MakeOptions) (wide : Bool) (start end final told before said : Option (List ℕ)) (unwritten unsaid : Type 0) (answer result : Result Unit Fault) (status : ℕ) → asked_in command ≡ asked.Create name base inputs temporary o wide → Keeps end final → result ≡ answer → (unwritten → ⊥) → OutputSays (unwritten ⊎ unsaid) result → (unsaid → ⊥)
     → (explained ≡ false → SaysOnly result before said unsaid) → status ≡ status_of command result → (explained ≡ false → IsPlain shown) → Came m disk name shown c new now made start end told before answer → IsCreated m (expected_of disk name temporary c) explained made (state_of old was start told) (state_of new now final said) status ⊎ IsGivenUp c explained (state_of old was start told) (state_of new now final said) status
 comes_so m disk shown c explained now made command name base inputs temporary o wide start end final told before said unwritten unsaid answer result status a kept same writes tells speaks says is unnamed (inl h) =
     let whole : result ≡ c.result = same ∙ h.0.is in
@@ -170,9 +179,9 @@ run_holds s m r feed y planned explained given old new was now left start end fi
     let creates = shows.2 in
     let so = creates_so s m r feed y (word_size wide) (greatest_size wide) disk input name base inputs temporary shown given (y.calls old) (y.calls new) left was now start does.end told some.before does.answer (honest_so does.end some.before honest) creates in
     let handed = handed_all does.end final unwritten does.answer some.result writes does.hands in
-    let c = create_of (word_size wide) (greatest_size wide) disk input name base inputs temporary shown in
+    let c = create_of (word_size wide) (greatest_size wide) disk input name base inputs temporary shown.make in
     let some_is : status ≡ plain does.answer = some.is_status ∙ status_create command name base inputs temporary o wide some.result a ∙ ap plain handed.1 in
-    named_holds m (word_size wide) (greatest_size wide) disk input name base inputs temporary o shown explained left.made (state_of (y.calls old) was start told) (state_of (y.calls new) now final said) status shows.1
+    subst (λ p. CreateHolds m (expected_of disk name temporary (create_of (word_size wide) (greatest_size wide) disk input name base inputs temporary p)) explained left.made (state_of (y.calls old) was start told) (state_of (y.calls new) now final said) status) (shown_make explained inputs o shown shows.1)
     (record {
       comes = λ had has. comes_so m disk shown c explained now left.made command name base inputs temporary o wide start does.end final told some.before said unwritten unsaid does.answer some.result status a handed.0 handed.1 writes some.output speaks (λ unexplained. says_only explained (asked_in command) some.result (y.calls new) now some.more some.before said unsaid unexplained some.explains some.says) some.is_status (λ unexplained. shown_plain explained inputs o shown shows.1 unexplained) (so.answer had has);
       done = λ zero. if_done _ does.answer so.done (sym some_is ∙ zero);

@@ -56,10 +56,10 @@ unfoldable two_text : List ℕ
 two_text = codes "+3,5:one->Hello\n+3,7:two->Goodbye\n\n"
 
 unfoldable plain : MakeOptions
-plain = record { mode = Add; warn = false; stop = false; style = Native; limit = 4294967295; names = None }
+plain = record { mode = Add; warn = false; stop = false; style = Native; limit = 4294967295 }
 
 unfoldable stopping : MakeOptions
-stopping = record { mode = Add; warn = false; stop = true; style = Native; limit = 4294967295; names = None }
+stopping = record { mode = Add; warn = false; stop = true; style = Native; limit = 4294967295 }
 
 abbrev of_file : MakeOptions → (base : Option (List ℕ)) → Disk → (input : List ℕ) → Ending
 of_file o base disk input = foretell (Ok (Create (codes "a.cdb") base [] None o false)) disk input

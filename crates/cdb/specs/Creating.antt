@@ -1,7 +1,7 @@
 -- What a create makes of what it reads, and under which names. The newest call comes first.
 use Rattle.std.specs.Prelude.{ℕ, ◌≡◌, ◌≢◌, ◌<◌, ◌+◌, ◌⊎◌, IsOk, List, [], ◌∷◌, map, Option, Some, None, Result, Ok, Err, OnOk, OnErr, IfErr}
 use Rattle.std.specs.Io.KnownBytes.{Keeps, Appends}
-use Rattle.cdb_command.specs.declared.options.MakeOptions.{MakeOptions}
+use Rattle.cdb_tool.specs.declared.runs.options.RunOptions.{RunOptions}
 use Rattle.cdb_names.specs.Folder.{AreGuarded, NameCalls}
 use Rattle.cdb_names.specs.Replacing.{AreOfReplacing, AtEachMoment, EndsIn, IsRenamed, LeavesNew, FailsToBuild, IsNoName, IsOfBuilder, LeavesOldOrNew, BuilderTells, renames}
 use Rattle.cdb_names.specs.declared.answer.Answer.{Answer}
@@ -43,7 +43,7 @@ use Rattle.cdb.specs.Agreeing.{HandsInputs, OfAgreeing, OpensNoMore}
 pub record Wanted : Type 0 where
   pub word : ℕ
   pub greatest : ℕ
-  pub options : MakeOptions
+  pub options : RunOptions
   pub name : List ℕ
   pub base : Option (List ℕ)
   pub inputs : List (List ℕ)
@@ -54,7 +54,7 @@ pub record Wanted : Type 0 where
 pub record Making (F : Type 0) : Type 0 where
   pub word : ℕ
   pub greatest : ℕ
-  pub options : MakeOptions
+  pub options : RunOptions
   pub base : Option F
   pub inputs : InputsLeft
 

@@ -8,6 +8,8 @@ use Rattle.cdb_command.specs.declared.command.Command.{Command}
 use Rattle.cdb_command.specs.Refused.{Refused, usage_of}
 use Rattle.cdb_command.specs.Refused as words
 use Rattle.cdb_command.specs.declared.options.MakeOptions.{MakeOptions}
+use Rattle.cdb_tool.specs.declared.runs.options.RunOptions.{RunOptions}
+use Rattle.cdb_tool.specs.Runs.Course.{plain}
 use Rattle.cdb_store.specs.contracts.memory.MemStoreStore.TheImpl.{ghosts as in_memory}
 use Rattle.cdb_store.specs.declared.raw.RawFile.{Ghosts as Raw}
 use Rattle.cdb_show.specs.Runs.Form.{dump_form, list_form}
@@ -26,13 +28,12 @@ use Rattle.cdb_system.specs.declared.left.Left.{Left}
 use Rattle.cdb_system.specs.Reading.{PerformsQuery, PerformsText, TellsStore, ChecksStore, PerformsOn, PerformsDifference, PerformsLookups, Tells}
 use Rattle.cdb_system.specs.Telling.{refused_lines, SaysLine, Says, usage_status}
 
--- ---- the options of a create, with the names of its inputs if duplicates are explained
-abbrev pub IsShown : (explained : Bool) → (inputs : List (List ℕ)) → (options shown : MakeOptions)
+-- ---- the options of a run that creates, with the names of the inputs if duplicates are explained
+abbrev pub IsShown : (explained : Bool) → (inputs : List (List ℕ)) → MakeOptions → (shown : RunOptions)
     → Type 0
-IsShown false inputs options shown = shown ≡ record options { names = None }
-IsShown true inputs options shown =
-    (option_map (λ names. map string_bytes names.now) shown.names ≡ Some inputs)
-    × (shown ≡ record options { names = shown.names })
+IsShown false inputs options shown = shown ≡ plain options
+IsShown true inputs options shown = (shown.make ≡ options)
+    × (option_map (λ names. map string_bytes names.now) shown.names ≡ Some inputs)
 
 -- ---- each command, in words of w bytes of files of at most so many; what is left open is handed back
 abbrev pub Performs : {F I J M R Y : Type 0} → (w most : ℕ) → Files F I M Y → Raw R
@@ -66,7 +67,7 @@ Performs w most files r explained (asked.Difference first second wide) input old
     PerformsDifference w files first second old new left result
 Performs w most files r explained (asked.Create name base inputs temporary options wide) input old
     new left result =
-    (shown : MakeOptions) × IsShown explained inputs options shown
+    (shown : RunOptions) × IsShown explained inputs options shown
     × Creates files r (record {
       word = w;
       greatest = most;

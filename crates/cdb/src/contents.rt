@@ -5,7 +5,7 @@ ghost use Rattle.cdb_form.specs.Format.Pair.{head_size};
 use cdb_form::Width;
 use cdb_show::Inputs;
 use cdb_system::Left;
-use cdb_tool::{Lines, MakeOptions};
+use cdb_tool::{Lines, RunOptions};
 use std::marker::PhantomData;
 
 /// The files and streams that a create reads, as they were opened or as they are handed back.
@@ -43,13 +43,13 @@ pub(crate) struct Contents<'a, L: Width, F, J, I> {
     /// What is read.
     pub(crate) sources: Sources<F, J, I>,
     /// How it is made.
-    pub(crate) options: MakeOptions<'a>,
+    pub(crate) options: RunOptions<'a>,
     /// The lines of the inputs.
     pub(crate) lines: &'a Lines,
     /// The width of its words.
     pub(crate) width: PhantomData<L>,
-    ghost head: { head_size L.WORD ≤ options.limit },
-    ghost words: { options.limit ≤ L.GREATEST },
+    ghost head: { head_size L.WORD ≤ options.make.limit },
+    ghost words: { options.make.limit ≤ L.GREATEST },
 }
 
 impl<'a, L: Width, F: Drop, J: Drop, I: Drop> Contents<'a, L, F, J, I> {

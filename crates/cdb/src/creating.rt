@@ -19,7 +19,7 @@ use cdb_form::{Feeds, Sink, Width, write_whole};
 use cdb_names::Names;
 use cdb_store::{MemStore, Store};
 use cdb_system::{Left, System, base_left, is_in_place, is_standard, open_base, open_inputs};
-use cdb_tool::{Fault, Lines, MakeOptions, flushed};
+use cdb_tool::{Fault, Lines, RunOptions, flushed};
 use std::alloc::{AllocError, Global};
 use std::marker::PhantomData;
 
@@ -35,7 +35,7 @@ pub(crate) struct Creation<'a> {
     /// The file in which the database is made; `None` is its name with `.tmp` after it.
     pub(crate) temporary: &'a Option<String>,
     /// How it is made.
-    pub(crate) options: MakeOptions<'a>,
+    pub(crate) options: RunOptions<'a>,
     /// The lines of its inputs.
     pub(crate) lines: &'a Lines,
 }
@@ -61,8 +61,8 @@ where
     I: Feeds + Drop,
     O: Sink,
     E: Sink,
-    requires head { head_size L.WORD ≤ creation.options.limit }
-    requires words { creation.options.limit ≤ L.GREATEST }
+    requires head { head_size L.WORD ≤ creation.options.make.limit }
+    requires words { creation.options.make.limit ≤ L.GREATEST }
     ensures creates { Creates (files_of Y.File.Store Y.Made.Store Y.Stream.feed Y.System)
         N.File.RawFile (wanted_of L.WORD L.GREATEST creation.entry) (standard_of I.feed input)
         (state_of (Y.calls system.old) (N.calls names.old) (O.contents output.old)
@@ -120,8 +120,8 @@ where
     L: Width,
     Y: System,
     I: Feeds + Drop,
-    requires head { head_size L.WORD ≤ creation.options.limit }
-    requires words { creation.options.limit ≤ L.GREATEST }
+    requires head { head_size L.WORD ≤ creation.options.make.limit }
+    requires words { creation.options.make.limit ≤ L.GREATEST }
     ensures ok { IfOk result (λ c. OpensAll
         (files_of Y.File.Store Y.Made.Store Y.Stream.feed Y.System)
         (option_map string_bytes creation.entry.base.now) (map string_bytes creation.entry.inputs.now)

@@ -177,7 +177,6 @@ options_of f = record {
   stop = f.stop;
   style = style_in f;
   limit = if f.wide then 9223372036854775807 else 4294967295;
-  names = None;
 }
 
 -- ---- the plan

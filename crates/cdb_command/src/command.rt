@@ -60,7 +60,7 @@ pub enum Command {
         base: Option<String>,
         inputs: Vec<String>,
         temporary: Option<String>,
-        options: MakeOptions<'static>,
+        options: MakeOptions,
         wide: bool,
     },
     /// The usage text is written.

@@ -4,7 +4,7 @@ use cdb_form::Mode;
 
 /// How a database is made of the records of some inputs.
 #[derive(Clone, Copy, Debug, PartialEq, Eq)]
-pub struct MakeOptions<'a> {
+pub struct MakeOptions {
     /// What is done with a record whose key is there already, unless the run is to stop there.
     pub mode: Mode,
     /// Whether such a record is reported.
@@ -16,7 +16,4 @@ pub struct MakeOptions<'a> {
     pub style: Style,
     /// How many bytes the database may have at most.
     pub limit: u64,
-    /// The names of the inputs, if such a record is to be explained: after its line one more has the name of
-    /// its input, the line at which it begins there, and its key.
-    pub names: Option<&'a [String]>,
 }

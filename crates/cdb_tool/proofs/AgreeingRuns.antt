@@ -5,7 +5,7 @@ use Rattle.cdb_form.specs.Fed.Feed.{Feed}
 use Rattle.cdb_form.specs.Format.Record.{AreBytes}
 use Rattle.cdb_feed.specs.Inputs.{AgreesWith, AreUnread, FirstAgree, IsUnread, reached}
 use Rattle.cdb_make.specs.Views.Maker.{WhereHonest}
-use Rattle.cdb_command.specs.declared.options.MakeOptions.{MakeOptions}
+use Rattle.cdb_tool.specs.declared.runs.options.RunOptions.{RunOptions}
 use Rattle.cdb_show.specs.Runs.Incoming.{EachOfBytes, Known, one_input}
 use Rattle.cdb_show.specs.Runs.Inputs.{InputsLeft, input_form}
 use Rattle.cdb_show.specs.declared.fault.Fault.{Fault}
@@ -24,18 +24,18 @@ use Rattle.cdb_tool.proofs.RunEnds.{base_weaker}
 abbrev left_of : List (Option (List ℕ)) → List ℕ → InputsLeft
 left_of inputs whole = record { each = map one_input inputs; shared = Some whole }
 
-module _ {B J I : Type 0} (t : Ghosts B) (was base : Option B) (own : J → Feed) (shared : I → Feed) (w g : ℕ) (o : MakeOptions) (before after : Inputs J I) (images : List ℕ → Type 0) (old new : Option (List ℕ)) (result : Result Unit Fault) (run : RunsRead w g o own shared t was base before after images old new result)
+module _ {B J I : Type 0} (t : Ghosts B) (was base : Option B) (own : J → Feed) (shared : I → Feed) (w g : ℕ) (o : RunOptions) (before after : Inputs J I) (images : List ℕ → Type 0) (old new : Option (List ℕ)) (result : Result Unit Fault) (run : RunsRead w g o own shared t was base before after images old new result)
     (unread : AreUnread own before.readers.items) (first : IsUnread (shared before.shared)) (inputs : List (Option (List ℕ))) (whole : List ℕ) (long : length inputs ≡ length before.readers.items) (agree : FirstAgree own AreBytes (reached run.read run.stop) inputs after.readers.items)
     (agrees : AgreesWith AreBytes (shared after.shared) whole) where
   -- what it left of such inputs
   pub agreeing_runs : WhereHonest images (OfBase t base (λ b. MakeRuns w g o b (left_of inputs whole) images old new result))
   agreeing_runs = run.runs (left_of inputs whole)
-      (agreeing_inputs own shared AreBytes (input_form o.style (is_some was)) g result run.read run.stop before after inputs whole run.were unread first long agree agrees)
+      (agreeing_inputs own shared AreBytes (input_form o.make.style (is_some was)) g result run.read run.stop before after inputs whole run.were unread first long agree agrees)
 
   known : EachOfBytes inputs → Known inputs whole (left_of inputs whole)
   known bytes = record { each = refl; known = known_all inputs whole; own = bytes; bytes = agrees.fit }
 
-  pub agreeing_comes : EachOfBytes inputs → WhereHonest images (OfBase t base (λ b. ComesOf w o (made_of w g o b inputs whole) images old new result))
+  pub agreeing_comes : EachOfBytes inputs → WhereHonest images (OfBase t base (λ b. ComesOf w o (made_of w g o.make b inputs whole) images old new result))
   agreeing_comes bytes = record {
     each = λ im is. base_weaker t base _ _ (λ x runs. run_comes w g o x inputs whole (left_of inputs whole) images old new result (known bytes) runs) (agreeing_runs.each im is);
   }

@@ -26,15 +26,15 @@ use Rattle.cdb_show.specs.Runs.Incoming.{Incoming, from_input, from_inputs}
 use Rattle.cdb_tool.specs.Runs.Make.{InCourse, PutStops, IsOfStore, MakeStandsAt, IsHalt, TakesNext}
 use Rattle.cdb_show.specs.declared.fault.Fault.{Fault}
 use Rattle.cdb_show.specs.declared.fault.Fault.TheVariants.{Text, Make, Duplicate, Missing, Read, Walk, Output, Long, Open, Rename, NoMemory, Old, New, NoOldTables, NoNewTables}
-use Rattle.cdb_command.specs.declared.options.MakeOptions.{MakeOptions}
+use Rattle.cdb_tool.specs.declared.runs.options.RunOptions.{RunOptions}
 use Rattle.cdb_tool.proofs.ToldLines.{part_then, tells_none, tells_then}
 
 -- ---- the course over one item more
 
-course_next : (w : ℕ) (t : Task) (cs : List Incoming) (c : Incoming) → (course_of w t cs).ended ≡ None → course_of w t (cs ++ c ∷ []) ≡ with_change w t.options (course_of w t cs) c.input c.number c.it
+course_next : (w : ℕ) (t : Task) (cs : List Incoming) (c : Incoming) → (course_of w t cs).ended ≡ None → course_of w t (cs ++ c ∷ []) ≡ with_change w t.options.make (course_of w t cs) c.input c.number c.it
 course_next w t cs c going =
     let s = course_of w t cs in
-    fold-append (with_next w t.options) (at_start t) cs (c ∷ []) ∙ ap (λ e. if is_going e then with_change w t.options s c.input c.number c.it else s) going
+    fold-append (with_next w t.options.make) (at_start t) cs (c ∷ []) ∙ ap (λ e. if is_going e then with_change w t.options.make s c.input c.number c.it else s) going
 
 -- a record that comes
 abbrev pub putting : ℕ → ℕ → KeyValue → Incoming
@@ -43,40 +43,40 @@ putting i n r = record { input = i; number = n; it = Putting r }
 abbrev pub course_put : ℕ → Task → List Incoming → ℕ → ℕ → KeyValue → Put → Course
 course_put w t cs i n r put =
     let s = course_of w t cs in
-    record { records = put_list (mode_of t.options) r s.records; told = s.told ++ told t.options i n r.key (Ok put); ended = ends t.options (Ok put) }
+    record { records = put_list (mode_of t.options.make) r s.records; told = s.told ++ told t.options.make i n r.key (Ok put); ended = ends t.options.make (Ok put) }
 
-put_fits : (w : ℕ) (o : MakeOptions) (s : Course) (i n : ℕ) (r : KeyValue) (put : Put) → fits w o.limit (mode_of o) r s.records ≡ true → put ≡ put_answer (mode_of o) r s.records
-    → with_put w o s i n r ≡ record { records = put_list (mode_of o) r s.records; told = s.told ++ told o i n r.key (Ok put); ended = ends o (Ok put) }
+put_fits : (w : ℕ) (o : RunOptions) (s : Course) (i n : ℕ) (r : KeyValue) (put : Put) → fits w o.make.limit (mode_of o.make) r s.records ≡ true → put ≡ put_answer (mode_of o.make) r s.records
+    → with_put w o.make s i n r ≡ record { records = put_list (mode_of o.make) r s.records; told = s.told ++ told o.make i n r.key (Ok put); ended = ends o.make (Ok put) }
 put_fits w o s i n r put fit answer =
-    let rs = put_list (mode_of o) r s.records in
-    let p = put_answer (mode_of o) r s.records in
-    ap (λ b. let a : Result Put MakeFault = (if b then Ok p else Err make.TooBig) in record { records = if b then rs else s.records; told = s.told ++ told o i n r.key a; ended = ends o a }) fit
-    ∙ ap (λ q. record { records = rs; told = s.told ++ told o i n r.key (Ok q); ended = ends o (Ok q) }) (sym answer)
+    let rs = put_list (mode_of o.make) r s.records in
+    let p = put_answer (mode_of o.make) r s.records in
+    ap (λ b. let a : Result Put MakeFault = (if b then Ok p else Err make.TooBig) in record { records = if b then rs else s.records; told = s.told ++ told o.make i n r.key a; ended = ends o.make a }) fit
+    ∙ ap (λ q. record { records = rs; told = s.told ++ told o.make i n r.key (Ok q); ended = ends o.make (Ok q) }) (sym answer)
 
-put_full : (w : ℕ) (o : MakeOptions) (s : Course) (i n : ℕ) (r : KeyValue) → fits w o.limit (mode_of o) r s.records ≡ false → with_put w o s i n r ≡ record { records = s.records; told = s.told ++ []; ended = Some (Make make.TooBig) }
+put_full : (w : ℕ) (o : RunOptions) (s : Course) (i n : ℕ) (r : KeyValue) → fits w o.make.limit (mode_of o.make) r s.records ≡ false → with_put w o.make s i n r ≡ record { records = s.records; told = s.told ++ []; ended = Some (Make make.TooBig) }
 put_full w o s i n r full =
-    let rs = put_list (mode_of o) r s.records in
-    let p = put_answer (mode_of o) r s.records in
-    ap (λ b. let a : Result Put MakeFault = (if b then Ok p else Err make.TooBig) in record { records = if b then rs else s.records; told = s.told ++ told o i n r.key a; ended = ends o a }) full
+    let rs = put_list (mode_of o.make) r s.records in
+    let p = put_answer (mode_of o.make) r s.records in
+    ap (λ b. let a : Result Put MakeFault = (if b then Ok p else Err make.TooBig) in record { records = if b then rs else s.records; told = s.told ++ told o.make i n r.key a; ended = ends o.make a }) full
 
 -- ---- a put
 
 record IsPut {S L : Type 0} {s : Ghosts S} {l : Widths L} (t : Task) (cs : List Incoming) (i n : ℕ) (r : KeyValue) (start mid : Option (List ℕ)) (m : Maker S L s l) (put : Put) (b : List ℕ) : Type 0 where
   goes : Goes l.WORD t cs start mid
   is : course_of l.WORD t (cs ++ putting i n r ∷ []) ≡ course_put l.WORD t cs i n r put
-  held : HoldsIn m (put_list (mode_of t.options) r (course_of l.WORD t cs).records) b
+  held : HoldsIn m (put_list (mode_of t.options.make) r (course_of l.WORD t cs).records) b
 
-is_put : {S L : Type 0} {s : Ghosts S} {l : Widths L} (t : Task) (cs : List Incoming) (i n : ℕ) (r : KeyValue) (start mid : Option (List ℕ)) (old new : Maker S L s l) (put : Put) → InCourse t cs start mid old → (l.WORD ≡ 4) ⊎ (l.WORD ≡ 8) → Puts old new (mode_of t.options) r put
+is_put : {S L : Type 0} {s : Ghosts S} {l : Widths L} (t : Task) (cs : List Incoming) (i n : ℕ) (r : KeyValue) (start mid : Option (List ℕ)) (old new : Maker S L s l) (put : Put) → InCourse t cs start mid old → (l.WORD ≡ 4) ⊎ (l.WORD ≡ 8) → Puts old new (mode_of t.options.make) r put
     → ComesFrom (s.image old.store) (s.image new.store) → limit_of new ≡ limit_of old → (b : List ℕ) → s.image new.store b → IsPut t cs i n r start mid new put b
 is_put {l = l} t cs i n r start mid old new put h wide puts comes limit b is =
     let rs = (course_of l.WORD t cs).records in
-    let all = put_list (mode_of t.options) r rs in
+    let all = put_list (mode_of t.options.make) r rs in
     let a = comes.each b is in
     let goes = h.goes.each a.0 a.1 in
     let holds = puts.holds rs h.holds in
     let small : file_size l.WORD all ≤ limit_of new = (holds_fits new all wide holds).each b is in
-    let same : limit_of new ≡ t.options.limit = limit ∙ h.limit in
-    let fit : fits l.WORD t.options.limit (mode_of t.options) r rs ≡ true = le-leb (file_size l.WORD all) t.options.limit (omega (arith, small, same)) in
+    let same : limit_of new ≡ t.options.make.limit = limit ∙ h.limit in
+    let fit : fits l.WORD t.options.make.limit (mode_of t.options.make) r rs ≡ true = le-leb (file_size l.WORD all) t.options.make.limit (omega (arith, small, same)) in
     record {
       goes = goes;
       is = course_next l.WORD t cs (putting i n r) goes.going ∙ put_fits l.WORD t.options (course_of l.WORD t cs) i n r put fit ((puts.answers rs h.holds).each b is);
@@ -84,8 +84,8 @@ is_put {l = l} t cs i n r start mid old new put h wide puts comes limit b is =
     }
 
 -- the run goes on
-put_goes : {S L : Type 0} {s : Ghosts S} {l : Widths L} (t : Task) (cs : List Incoming) (i n : ℕ) (r : KeyValue) (start mid end : Option (List ℕ)) (old new : Maker S L s l) (put : Put) → InCourse t cs start mid old → (l.WORD ≡ 4) ⊎ (l.WORD ≡ 8) → Puts old new (mode_of t.options) r put
-    → ComesFrom (s.image old.store) (s.image new.store) → limit_of new ≡ limit_of old → TellsEach t.options.names (told t.options i n r.key (Ok put)) mid end → ends t.options (Ok put) ≡ None → InCourse t (cs ++ putting i n r ∷ []) start end new
+put_goes : {S L : Type 0} {s : Ghosts S} {l : Widths L} (t : Task) (cs : List Incoming) (i n : ℕ) (r : KeyValue) (start mid end : Option (List ℕ)) (old new : Maker S L s l) (put : Put) → InCourse t cs start mid old → (l.WORD ≡ 4) ⊎ (l.WORD ≡ 8) → Puts old new (mode_of t.options.make) r put
+    → ComesFrom (s.image old.store) (s.image new.store) → limit_of new ≡ limit_of old → TellsEach t.options.names (told t.options.make i n r.key (Ok put)) mid end → ends t.options.make (Ok put) ≡ None → InCourse t (cs ++ putting i n r ∷ []) start end new
 put_goes {l = l} t cs i n r start mid end old new put h wide puts comes limit tells going = record {
   holds = record {
     whole = puts.whole;
@@ -129,18 +129,18 @@ told_so t cs i n r start mid end m put Duplicate b p x = record {
   lines = subst (λ s. TellsEach t.options.names s.told start end) (sym p.is) (tells_then t.options.names _ _ start mid end p.goes.lines x.0);
 }
 
-put_told : {S L : Type 0} {s : Ghosts S} {l : Widths L} (t : Task) (cs : List Incoming) (i n : ℕ) (r : KeyValue) (start mid end : Option (List ℕ)) (old new : Maker S L s l) (put : Put) (f : Fault) → InCourse t cs start mid old → (l.WORD ≡ 4) ⊎ (l.WORD ≡ 8) → Puts old new (mode_of t.options) r put
+put_told : {S L : Type 0} {s : Ghosts S} {l : Widths L} (t : Task) (cs : List Incoming) (i n : ℕ) (r : KeyValue) (start mid end : Option (List ℕ)) (old new : Maker S L s l) (put : Put) (f : Fault) → InCourse t cs start mid old → (l.WORD ≡ 4) ⊎ (l.WORD ≡ 8) → Puts old new (mode_of t.options.make) r put
     → ComesFrom (s.image old.store) (s.image new.store) → limit_of new ≡ limit_of old → TellFails t.options i n r.key put mid end f → WhereHonest (s.image new.store) (PutStops l.WORD t cs (putting i n r) start end f)
 put_told t cs i n r start mid end old new put f h wide puts comes limit x = record { each = λ b is. inr (told_so t cs i n r start mid end new put f b (is_put t cs i n r start mid old new put h wide puts comes limit b is) x) }
 
 -- ---- a put that was refused
 
-full_so : {S L : Type 0} {s : Ghosts S} {l : Widths L} (t : Task) (cs : List Incoming) (i n : ℕ) (r : KeyValue) (start mid : Option (List ℕ)) (old : Maker S L s l) → Goes l.WORD t cs start mid → limit_of old ≡ t.options.limit
-    → limit_of old < file_size l.WORD (put_list (mode_of t.options) r (course_of l.WORD t cs).records) → StopsSo l.WORD t (cs ++ putting i n r ∷ []) start mid (Make make.TooBig)
+full_so : {S L : Type 0} {s : Ghosts S} {l : Widths L} (t : Task) (cs : List Incoming) (i n : ℕ) (r : KeyValue) (start mid : Option (List ℕ)) (old : Maker S L s l) → Goes l.WORD t cs start mid → limit_of old ≡ t.options.make.limit
+    → limit_of old < file_size l.WORD (put_list (mode_of t.options.make) r (course_of l.WORD t cs).records) → StopsSo l.WORD t (cs ++ putting i n r ∷ []) start mid (Make make.TooBig)
 full_so {l = l} t cs i n r start mid old goes limit large =
     let s = course_of l.WORD t cs in
     let o = t.options in
-    let full : fits l.WORD o.limit (mode_of o) r s.records ≡ false = lt-leb (file_size l.WORD (put_list (mode_of o) r s.records)) o.limit (omega (arith, large, limit)) in
+    let full : fits l.WORD o.make.limit (mode_of o.make) r s.records ≡ false = lt-leb (file_size l.WORD (put_list (mode_of o.make) r s.records)) o.make.limit (omega (arith, large, limit)) in
     let is = course_next l.WORD t cs (putting i n r) goes.going ∙ put_full l.WORD o s i n r full in
     record {
       before = cs;
@@ -151,7 +151,7 @@ full_so {l = l} t cs i n r start mid old goes limit large =
       lines = subst (λ v. TellsEach o.names v.told start mid) (sym is) (subst (λ ds. TellsEach o.names ds start mid) (sym (append-nil s.told)) goes.lines);
     }
 
-refused_so : {S L : Type 0} {s : Ghosts S} {l : Widths L} (t : Task) (cs : List Incoming) (i n : ℕ) (r : KeyValue) (start mid : Option (List ℕ)) (old new : Maker S L s l) (f : MakeFault) → InCourse t cs start mid old → FailsPutting old new (mode_of t.options) r f
+refused_so : {S L : Type 0} {s : Ghosts S} {l : Widths L} (t : Task) (cs : List Incoming) (i n : ℕ) (r : KeyValue) (start mid : Option (List ℕ)) (old new : Maker S L s l) (f : MakeFault) → InCourse t cs start mid old → FailsPutting old new (mode_of t.options.make) r f
     → ComesFrom (s.image old.store) (s.image new.store) → (b : List ℕ) → s.image new.store b → PutStops l.WORD t cs (putting i n r) start mid (make_fault f)
 refused_so {l = l} t cs i n r start mid old new make.Broken h x comes b is = absurd (x.cause (course_of l.WORD t cs).records h.holds b is)
 refused_so t cs i n r start mid old new make.Lookup h x comes b is = let a = comes.each b is in inl (h.goes.each a.0 a.1)
@@ -161,7 +161,7 @@ refused_so {l = l} t cs i n r start mid old new make.TooBig h x comes b is =
 refused_so t cs i n r start mid old new make.NoMemory h x comes b is = let a = comes.each b is in inl (h.goes.each a.0 a.1)
 refused_so t cs i n r start mid old new make.Writing h x comes b is = let a = comes.each b is in inl (h.goes.each a.0 a.1)
 
-put_refused : {S L : Type 0} {s : Ghosts S} {l : Widths L} (t : Task) (cs : List Incoming) (i n : ℕ) (r : KeyValue) (start mid : Option (List ℕ)) (old new : Maker S L s l) (f : MakeFault) → InCourse t cs start mid old → FailsPutting old new (mode_of t.options) r f
+put_refused : {S L : Type 0} {s : Ghosts S} {l : Widths L} (t : Task) (cs : List Incoming) (i n : ℕ) (r : KeyValue) (start mid : Option (List ℕ)) (old new : Maker S L s l) (f : MakeFault) → InCourse t cs start mid old → FailsPutting old new (mode_of t.options.make) r f
     → ComesFrom (s.image old.store) (s.image new.store) → WhereHonest (s.image new.store) (PutStops l.WORD t cs (putting i n r) start mid (make_fault f))
 put_refused t cs i n r start mid old new f h x comes = record { each = λ b is. refused_so t cs i n r start mid old new f h x comes b is }
 
@@ -194,7 +194,7 @@ stands_broken t cs start mid old new h comes count broken = stands_so t cs start
 pub course_stands : {S L : Type 0} {s : Ghosts S} {l : Widths L} (t : Task) (cs : List Incoming) (start now : Option (List ℕ)) (m : Maker S L s l) → InCourse t cs start now m → MakeStandsAt t cs start now m
 course_stands t cs start now m h = stands_so t cs start now m m h (record { each = λ b is. (b, is) }) refl (λ usable. h.holds)
 
-put_halted : {S L : Type 0} {s : Ghosts S} {l : Widths L} (t : Task) (cs : List Incoming) (r : KeyValue) (start mid : Option (List ℕ)) (old new : Maker S L s l) (f : MakeFault) → InCourse t cs start mid old → FailsPutting old new (mode_of t.options) r f
+put_halted : {S L : Type 0} {s : Ghosts S} {l : Widths L} (t : Task) (cs : List Incoming) (r : KeyValue) (start mid : Option (List ℕ)) (old new : Maker S L s l) (f : MakeFault) → InCourse t cs start mid old → FailsPutting old new (mode_of t.options.make) r f
     → ComesFrom (s.image old.store) (s.image new.store) → told_count new ≡ told_count old → IsHalt (make_fault f) → MakeStandsAt t cs start mid new
 put_halted t cs r start mid old new make.Broken h x comes count is = absurd is
 put_halted t cs r start mid old new make.Lookup h x comes count is = stands_whole t cs start mid old new h comes count (rests_nothing old new x.0).stays
@@ -205,9 +205,9 @@ put_halted t cs r start mid old new make.Writing h x comes count is = elim x.0 [
   | inr torn ↦ stands_broken t cs start mid old new h comes count torn.0.broken
 ]
 
-pub put_halted_so : {S L : Type 0} {s : Ghosts S} {l : Widths L} (t : Task) (o : MakeOptions) (cs : List Incoming) (r : KeyValue) (start mid : Option (List ℕ)) (old new : Maker S L s l) (f : MakeFault) → t.options ≡ o → InCourse t cs start mid old → FailsPutting old new (mode_of o) r f
+pub put_halted_so : {S L : Type 0} {s : Ghosts S} {l : Widths L} (t : Task) (o : RunOptions) (cs : List Incoming) (r : KeyValue) (start mid : Option (List ℕ)) (old new : Maker S L s l) (f : MakeFault) → t.options ≡ o → InCourse t cs start mid old → FailsPutting old new (mode_of o.make) r f
     → ComesFrom (s.image old.store) (s.image new.store) → told_count new ≡ told_count old → IsHalt (make_fault f) → MakeStandsAt t cs start mid new
-put_halted_so t o cs r start mid old new f same h x comes count is = put_halted t cs r start mid old new f h (subst (λ v. FailsPutting old new (mode_of v) r f) (sym same) x) comes count is
+put_halted_so t o cs r start mid old new f same h x comes count is = put_halted t cs r start mid old new f h (subst (λ v. FailsPutting old new (mode_of v.make) r f) (sym same) x) comes count is
 
 pub removal_halted : {S L : Type 0} {s : Ghosts S} {l : Widths L} (t : Task) (cs : List Incoming) (key : List ℕ) (start now : Option (List ℕ)) (old new : Maker S L s l) (f : MakeFault) → InCourse t cs start now old → FailsRemoving old new key f
     → ComesFrom (s.image old.store) (s.image new.store) → told_count new ≡ told_count old → IsHalt (make_fault f) → MakeStandsAt t cs start now new
@@ -218,7 +218,7 @@ removal_halted t cs key start now old new make.NoMemory h x comes count is = abs
 removal_halted t cs key start now old new make.Writing h x comes count is = stands_broken t cs start now old new h comes count x.broken
 
 -- what a teller answers does not halt a run
-pub told_halts : (o : MakeOptions) (i j : ℕ) (key : List ℕ) (put : Put) (old new : Option (List ℕ)) (f : Fault) → TellFails o i j key put old new f → IsHalt f → ⊥
+pub told_halts : (o : RunOptions) (i j : ℕ) (key : List ℕ) (put : Put) (old new : Option (List ℕ)) (f : Fault) → TellFails o i j key put old new f → IsHalt f → ⊥
 told_halts o i j key put old new (Text n f) x is = absurd is
 told_halts o i j key put old new (Make f) x is = absurd x
 told_halts o i j key put old new (Walk f) x is = absurd is
@@ -237,13 +237,13 @@ told_halts o i j key put old new Duplicate x is = absurd is
 
 -- ---- a put that was refused memory
 
-goes_on : (o : MakeOptions) (put : Put) → (put ≡ Present → ⊥) → ends o (Ok put) ≡ None
+goes_on : (o : RunOptions) (put : Put) → (put ≡ Present → ⊥) → ends o.make (Ok put) ≡ None
 goes_on o Added h = refl
 goes_on o AddedAgain h = refl
 goes_on o Present h = absurd (h refl)
 goes_on o (Replaced n) h = refl
 
-would_take : {S L : Type 0} {s : Ghosts S} {l : Widths L} (t : Task) (cs : List Incoming) (i n : ℕ) (r : KeyValue) (start mid : Option (List ℕ)) (old new : Maker S L s l) → InCourse t cs start mid old → WouldPut old new (mode_of t.options) r
+would_take : {S L : Type 0} {s : Ghosts S} {l : Widths L} (t : Task) (cs : List Incoming) (i n : ℕ) (r : KeyValue) (start mid : Option (List ℕ)) (old new : Maker S L s l) → InCourse t cs start mid old → WouldPut old new (mode_of t.options.make) r
     → ComesFrom (s.image old.store) (s.image new.store) → WhereHonest (s.image new.store) (TakesNext l.WORD t cs (putting i n r))
 would_take {l = l} t cs i n r start mid old new h would comes = record {
   each = λ b is.
@@ -252,12 +252,12 @@ would_take {l = l} t cs i n r start mid old new h would comes = record {
       let a = comes.each b is in
       let goes = h.goes.each a.0 a.1 in
       let w = (would s.records h.holds).each b is in
-      let small : file_size l.WORD (put_list (mode_of o) r s.records) ≤ o.limit = omega (arith, w.1, h.limit) in
-      let fit : fits l.WORD o.limit (mode_of o) r s.records ≡ true = le-leb (file_size l.WORD (put_list (mode_of o) r s.records)) o.limit small in
-      ap (λ v. v.ended) (course_next l.WORD t cs (putting i n r) goes.going ∙ put_fits l.WORD o s i n r (put_answer (mode_of o) r s.records) fit refl) ∙ goes_on o (put_answer (mode_of o) r s.records) w.0;
+      let small : file_size l.WORD (put_list (mode_of o.make) r s.records) ≤ o.make.limit = omega (arith, w.1, h.limit) in
+      let fit : fits l.WORD o.make.limit (mode_of o.make) r s.records ≡ true = le-leb (file_size l.WORD (put_list (mode_of o.make) r s.records)) o.make.limit small in
+      ap (λ v. v.ended) (course_next l.WORD t cs (putting i n r) goes.going ∙ put_fits l.WORD o s i n r (put_answer (mode_of o.make) r s.records) fit refl) ∙ goes_on o (put_answer (mode_of o.make) r s.records) w.0;
 }
 
-memory_taken : {S L : Type 0} {s : Ghosts S} {l : Widths L} (t : Task) (cs : List Incoming) (i n : ℕ) (r : KeyValue) (start mid : Option (List ℕ)) (old new : Maker S L s l) (f : MakeFault) → InCourse t cs start mid old → FailsPutting old new (mode_of t.options) r f
+memory_taken : {S L : Type 0} {s : Ghosts S} {l : Widths L} (t : Task) (cs : List Incoming) (i n : ℕ) (r : KeyValue) (start mid : Option (List ℕ)) (old new : Maker S L s l) (f : MakeFault) → InCourse t cs start mid old → FailsPutting old new (mode_of t.options.make) r f
     → ComesFrom (s.image old.store) (s.image new.store) → make_fault f ≡ NoMemory → WhereHonest (s.image new.store) (TakesNext l.WORD t cs (putting i n r))
 memory_taken t cs i n r start mid old new make.NoMemory h x comes e = would_take t cs i n r start mid old new h x.2 comes
 memory_taken t cs i n r start mid old new make.Broken h x comes e = absurd (let k : Make make.Broken ≡ NoMemory = e in cc)
@@ -265,29 +265,29 @@ memory_taken t cs i n r start mid old new make.Lookup h x comes e = absurd (let 
 memory_taken t cs i n r start mid old new make.TooBig h x comes e = absurd (let k : Make make.TooBig ≡ NoMemory = e in cc)
 memory_taken t cs i n r start mid old new make.Writing h x comes e = absurd (let k : Make make.Writing ≡ NoMemory = e in cc)
 
-pub memory_taken_so : {S L : Type 0} {s : Ghosts S} {l : Widths L} (t : Task) (o : MakeOptions) (cs : List Incoming) (i n : ℕ) (r : KeyValue) (start mid : Option (List ℕ)) (old new : Maker S L s l) (f : MakeFault) → t.options ≡ o → InCourse t cs start mid old → FailsPutting old new (mode_of o) r f
+pub memory_taken_so : {S L : Type 0} {s : Ghosts S} {l : Widths L} (t : Task) (o : RunOptions) (cs : List Incoming) (i n : ℕ) (r : KeyValue) (start mid : Option (List ℕ)) (old new : Maker S L s l) (f : MakeFault) → t.options ≡ o → InCourse t cs start mid old → FailsPutting old new (mode_of o.make) r f
     → ComesFrom (s.image old.store) (s.image new.store) → make_fault f ≡ NoMemory → WhereHonest (s.image new.store) (TakesNext l.WORD t cs (putting i n r))
-memory_taken_so t o cs i n r start mid old new f same h x comes e = memory_taken t cs i n r start mid old new f h (subst (λ v. FailsPutting old new (mode_of v) r f) (sym same) x) comes e
+memory_taken_so t o cs i n r start mid old new f same h x comes e = memory_taken t cs i n r start mid old new f h (subst (λ v. FailsPutting old new (mode_of v.make) r f) (sym same) x) comes e
 
-pub told_memory : (o : MakeOptions) (i j : ℕ) (key : List ℕ) (put : Put) (old new : Option (List ℕ)) (f : Fault) → TellFails o i j key put old new f → f ≡ NoMemory → ⊥
+pub told_memory : (o : RunOptions) (i j : ℕ) (key : List ℕ) (put : Put) (old new : Option (List ℕ)) (f : Fault) → TellFails o i j key put old new f → f ≡ NoMemory → ⊥
 told_memory o i j key put old new f x e = told_halts o i j key put old new f x (subst IsHalt (sym e) tt)
 
 -- ---- the same of a run that has these options
 
-pub put_goes_so : {S L : Type 0} {s : Ghosts S} {l : Widths L} (t : Task) (o : MakeOptions) (cs : List Incoming) (i n : ℕ) (r : KeyValue) (start mid end : Option (List ℕ)) (old new : Maker S L s l) (put : Put) → t.options ≡ o → InCourse t cs start mid old → (l.WORD ≡ 4) ⊎ (l.WORD ≡ 8) → Puts old new (mode_of o) r put
-    → ComesFrom (s.image old.store) (s.image new.store) → limit_of new ≡ limit_of old → TellsEach o.names (told o i n r.key (Ok put)) mid end → ends o (Ok put) ≡ None → InCourse t (cs ++ putting i n r ∷ []) start end new
+pub put_goes_so : {S L : Type 0} {s : Ghosts S} {l : Widths L} (t : Task) (o : RunOptions) (cs : List Incoming) (i n : ℕ) (r : KeyValue) (start mid end : Option (List ℕ)) (old new : Maker S L s l) (put : Put) → t.options ≡ o → InCourse t cs start mid old → (l.WORD ≡ 4) ⊎ (l.WORD ≡ 8) → Puts old new (mode_of o.make) r put
+    → ComesFrom (s.image old.store) (s.image new.store) → limit_of new ≡ limit_of old → TellsEach o.names (told o.make i n r.key (Ok put)) mid end → ends o.make (Ok put) ≡ None → InCourse t (cs ++ putting i n r ∷ []) start end new
 put_goes_so t o cs i n r start mid end old new put same h wide puts comes limit tells going =
-    put_goes t cs i n r start mid end old new put h wide (subst (λ v. Puts old new (mode_of v) r put) (sym same) puts) comes limit
-    (subst (λ v. TellsEach v.names (told v i n r.key (Ok put)) mid end) (sym same) tells) (subst (λ v. ends v (Ok put) ≡ None) (sym same) going)
+    put_goes t cs i n r start mid end old new put h wide (subst (λ v. Puts old new (mode_of v.make) r put) (sym same) puts) comes limit
+    (subst (λ v. TellsEach v.names (told v.make i n r.key (Ok put)) mid end) (sym same) tells) (subst (λ v. ends v.make (Ok put) ≡ None) (sym same) going)
 
-pub put_told_so : {S L : Type 0} {s : Ghosts S} {l : Widths L} (t : Task) (o : MakeOptions) (cs : List Incoming) (i n : ℕ) (r : KeyValue) (start mid end : Option (List ℕ)) (old new : Maker S L s l) (put : Put) (f : Fault) → t.options ≡ o → InCourse t cs start mid old → (l.WORD ≡ 4) ⊎ (l.WORD ≡ 8) → Puts old new (mode_of o) r put
+pub put_told_so : {S L : Type 0} {s : Ghosts S} {l : Widths L} (t : Task) (o : RunOptions) (cs : List Incoming) (i n : ℕ) (r : KeyValue) (start mid end : Option (List ℕ)) (old new : Maker S L s l) (put : Put) (f : Fault) → t.options ≡ o → InCourse t cs start mid old → (l.WORD ≡ 4) ⊎ (l.WORD ≡ 8) → Puts old new (mode_of o.make) r put
     → ComesFrom (s.image old.store) (s.image new.store) → limit_of new ≡ limit_of old → TellFails o i n r.key put mid end f → WhereHonest (s.image new.store) (PutStops l.WORD t cs (putting i n r) start end f)
 put_told_so t o cs i n r start mid end old new put f same h wide puts comes limit x =
-    put_told t cs i n r start mid end old new put f h wide (subst (λ v. Puts old new (mode_of v) r put) (sym same) puts) comes limit (subst (λ v. TellFails v i n r.key put mid end f) (sym same) x)
+    put_told t cs i n r start mid end old new put f h wide (subst (λ v. Puts old new (mode_of v.make) r put) (sym same) puts) comes limit (subst (λ v. TellFails v i n r.key put mid end f) (sym same) x)
 
-pub put_refused_so : {S L : Type 0} {s : Ghosts S} {l : Widths L} (t : Task) (o : MakeOptions) (cs : List Incoming) (i n : ℕ) (r : KeyValue) (start mid : Option (List ℕ)) (old new : Maker S L s l) (f : MakeFault) → t.options ≡ o → InCourse t cs start mid old → FailsPutting old new (mode_of o) r f
+pub put_refused_so : {S L : Type 0} {s : Ghosts S} {l : Widths L} (t : Task) (o : RunOptions) (cs : List Incoming) (i n : ℕ) (r : KeyValue) (start mid : Option (List ℕ)) (old new : Maker S L s l) (f : MakeFault) → t.options ≡ o → InCourse t cs start mid old → FailsPutting old new (mode_of o.make) r f
     → ComesFrom (s.image old.store) (s.image new.store) → WhereHonest (s.image new.store) (PutStops l.WORD t cs (putting i n r) start mid (make_fault f))
-put_refused_so t o cs i n r start mid old new f same h x comes = put_refused t cs i n r start mid old new f h (subst (λ v. FailsPutting old new (mode_of v) r f) (sym same) x) comes
+put_refused_so t o cs i n r start mid old new f same h x comes = put_refused t cs i n r start mid old new f h (subst (λ v. FailsPutting old new (mode_of v.make) r f) (sym same) x) comes
 
 -- ---- a removal
 
@@ -334,7 +334,7 @@ unremoved t cs key start now old new f h x comes = record { each = λ b is. unre
 
 -- ---- the start
 
-pub course_starts : {S L : Type 0} {s : Ghosts S} {l : Widths L} (t : Task) (start : Option (List ℕ)) (m : Maker S L s l) → Holds m (at_start t).records → limit_of m ≡ t.options.limit → InCourse t [] start start m
+pub course_starts : {S L : Type 0} {s : Ghosts S} {l : Widths L} (t : Task) (start : Option (List ℕ)) (m : Maker S L s l) → Holds m (at_start t).records → limit_of m ≡ t.options.make.limit → InCourse t [] start start m
 course_starts t start m h limit = record { holds = h; limit = limit; goes = record { each = λ b is. record { going = refl; lines = tells_none t.options.names start } } }
 
 -- ---- the items of inputs, one more

@@ -19,7 +19,7 @@ use Rattle.cdb_feed.specs.declared.input_reader.InputReader.{InputReader}
 use Rattle.cdb_feed.specs.declared.input_reader.InputReader.TheVariants.{Own, Shared}
 use Rattle.cdb_make.specs.Views.Maker.{ComesFrom, FailsFinishing, Holds, IsFile, WhereHonest, limit_of}
 use Rattle.cdb_make.specs.declared.maker.Maker.{Maker}
-use Rattle.cdb_command.specs.declared.options.MakeOptions.{MakeOptions}
+use Rattle.cdb_tool.specs.declared.runs.options.RunOptions.{RunOptions}
 use Rattle.cdb_command.specs.declared.style.Style.{Style}
 use Rattle.cdb_command.specs.declared.style.Style.TheVariants as style
 use Rattle.cdb_show.specs.Runs.Flushed.{Flushed}
@@ -143,7 +143,7 @@ module _ {S L : Type 0} {s : Ghosts S} {l : Widths L} (g : ℕ) (t : Task) (read
     first = h.stops.1;
     numbered = (of_text n (text.Syntax at) refl).numbered;
     memory = (of_text n (text.Syntax at) refl).memory;
-    native = λ k. has_native t.options.style (is_some t.base) ((of_text n (text.Syntax at) refl).own k);
+    native = λ k. has_native t.options.make.style (is_some t.base) ((of_text n (text.Syntax at) refl).own k);
     has = some_weaker h.stops.0 (λ input fails. fails.has) h.stops.2;
     goes = stopped.stops.each b is;
   }
@@ -156,7 +156,7 @@ module _ {S L : Type 0} {s : Ghosts S} {l : Widths L} (g : ℕ) (t : Task) (read
     first = h.stops.1;
     numbered = (of_text n (text.Ended at) refl).numbered;
     memory = (of_text n (text.Ended at) refl).memory;
-    native = λ k. has_native t.options.style (is_some t.base) ((of_text n (text.Ended at) refl).own k);
+    native = λ k. has_native t.options.make.style (is_some t.base) ((of_text n (text.Ended at) refl).own k);
     has = some_weaker h.stops.0 (λ input fails. fails.has) h.stops.2;
     goes = stopped.stops.each b is;
   }
@@ -169,7 +169,7 @@ module _ {S L : Type 0} {s : Ghosts S} {l : Widths L} (g : ℕ) (t : Task) (read
     first = h.stops.1;
     numbered = (of_text n (text.Large at) refl).numbered;
     memory = (of_text n (text.Large at) refl).memory;
-    native = λ k. has_native t.options.style (is_some t.base) ((of_text n (text.Large at) refl).own k);
+    native = λ k. has_native t.options.make.style (is_some t.base) ((of_text n (text.Large at) refl).own k);
     has = some_weaker h.stops.0 (λ input fails. fails.has) h.stops.2;
     goes = stopped.stops.each b is;
   }
@@ -182,7 +182,7 @@ module _ {S L : Type 0} {s : Ghosts S} {l : Widths L} (g : ℕ) (t : Task) (read
     first = h.stops.1;
     numbered = (of_text n f refl).numbered;
     memory = (of_text n f refl).memory;
-    native = λ k. has_native t.options.style (is_some t.base) ((of_text n f refl).own k);
+    native = λ k. has_native t.options.make.style (is_some t.base) ((of_text n f refl).own k);
     has = some_weaker h.stops.0 (λ input begins. begins.has n f refl) h.stops.2;
     goes = stopped.stops.each b is;
   }
@@ -227,27 +227,27 @@ none_made make.NoMemory n f e = cc
 none_made made n f e = cc
 
 -- it read nothing
-pub read_none : {B J I : Type 0} (t : Ghosts B) (was base : Option B) (own : J → Feed) (shared : I → Feed) (w g : ℕ) (o : MakeOptions) (inputs : Inputs J I) (images : List ℕ → Type 0) (old new : Option (List ℕ)) (result : Result Unit Fault)
+pub read_none : {B J I : Type 0} (t : Ghosts B) (was base : Option B) (own : J → Feed) (shared : I → Feed) (w g : ℕ) (o : RunOptions) (inputs : Inputs J I) (images : List ℕ → Type 0) (old new : Option (List ℕ)) (result : Result Unit Fault)
     → ((given : InputsLeft) → WhereHonest images (OfBase t base (λ b. MakeRuns w g o b given images old new result))) → RunsRead w g o own shared t was base inputs inputs images old new result
 read_none t was base own shared w g o inputs images old new result runs = record {
   read = [];
   stop = NotBegun;
-  were = were_none own shared (input_form o.style (is_some was)) g result inputs;
+  were = were_none own shared (input_form o.make.style (is_some was)) g result inputs;
   runs = λ given h. runs given;
 }
 
-module _ {S L B J I : Type 0} {s : Ghosts S} {l : Widths L} (t : Ghosts B) (was base : Option B) (own : J → Feed) (shared : I → Feed) (g : ℕ) (o : MakeOptions) (amends : Bool) (before after : Inputs J I) (start now : Option (List ℕ)) (begun m : Maker S L s l) (of_was : amends ≡ is_some was) (of_base : is_some base ≡ amends)
-    (wide : (l.WORD ≡ 4) ⊎ (l.WORD ≡ 8)) (holds : HoldsBase l.WORD t base begun) (limit : limit_of begun ≡ o.limit) (comes : ComesFrom (s.image begun.store) (s.image m.store)) (read : List (List Change)) where
-  of_form : (answer : Result Unit Fault) (stop : Stop Change TextFault) → WereRead own shared (input_form o.style amends) g answer read stop before after → WereRead own shared (input_form o.style (is_some was)) g answer read stop before after
-  of_form answer stop were = subst (λ v. WereRead own shared (input_form o.style v) g answer read stop before after) of_was were
+module _ {S L B J I : Type 0} {s : Ghosts S} {l : Widths L} (t : Ghosts B) (was base : Option B) (own : J → Feed) (shared : I → Feed) (g : ℕ) (o : RunOptions) (amends : Bool) (before after : Inputs J I) (start now : Option (List ℕ)) (begun m : Maker S L s l) (of_was : amends ≡ is_some was) (of_base : is_some base ≡ amends)
+    (wide : (l.WORD ≡ 4) ⊎ (l.WORD ≡ 8)) (holds : HoldsBase l.WORD t base begun) (limit : limit_of begun ≡ o.make.limit) (comes : ComesFrom (s.image begun.store) (s.image m.store)) (read : List (List Change)) where
+  of_form : (answer : Result Unit Fault) (stop : Stop Change TextFault) → WereRead own shared (input_form o.make.style amends) g answer read stop before after → WereRead own shared (input_form o.make.style (is_some was)) g answer read stop before after
+  of_form answer stop were = subst (λ v. WereRead own shared (input_form o.make.style v) g answer read stop before after) of_was were
 
-  given_form : (answer : Result Unit Fault) (stop : Stop Change TextFault) (given : InputsLeft) → HasRead (input_form o.style (is_some was)) g answer read stop given → HasRead (input_form o.style amends) g answer read stop given
-  given_form answer stop given h = subst (λ v. HasRead (input_form o.style v) g answer read stop given) (sym of_was) h
+  given_form : (answer : Result Unit Fault) (stop : Stop Change TextFault) (given : InputsLeft) → HasRead (input_form o.make.style (is_some was)) g answer read stop given → HasRead (input_form o.make.style amends) g answer read stop given
+  given_form answer stop given h = subst (λ v. HasRead (input_form o.make.style v) g answer read stop given) (sym of_was) h
 
-  all_given : (answer : Result Unit Fault) (given : InputsLeft) → HasRead (input_form o.style (is_some was)) g answer read NoMore given → AreAllInputs (input_form o.style (is_some base)) g read given
-  all_given answer given h = subst (λ v. AreAllInputs (input_form o.style v) g read given) (sym (of_base ∙ of_was)) (all_inputs (input_form o.style (is_some was)) g answer read given h)
+  all_given : (answer : Result Unit Fault) (given : InputsLeft) → HasRead (input_form o.make.style (is_some was)) g answer read NoMore given → AreAllInputs (input_form o.make.style (is_some base)) g read given
+  all_given answer given h = subst (λ v. AreAllInputs (input_form o.make.style v) g read given) (sym (of_base ∙ of_was)) (all_inputs (input_form o.make.style (is_some was)) g answer read given h)
 
-  pub read_stopped : (last : List Change) (f : Fault) → WereRead own shared (input_form o.style amends) g (Err f) read (stop_by f last) before after → ((n : ℕ) (x : TextFault) → f ≡ Text n x → IsFaultAt (input_form o.style amends) (length read + 1) n x)
+  pub read_stopped : (last : List Change) (f : Fault) → WereRead own shared (input_form o.make.style amends) g (Err f) read (stop_by f last) before after → ((n : ℕ) (x : TextFault) → f ≡ Text n x → IsFaultAt (input_form o.make.style amends) (length read + 1) n x)
       → PutsInputsStop o read last start now begun m f → RunsRead l.WORD g o own shared t was base before after (s.image m.store) start now (Err f)
   read_stopped last f were of_text stops = record {
     read = read;
@@ -255,10 +255,10 @@ module _ {S L B J I : Type 0} {s : Ghosts S} {l : Widths L} (t : Ghosts B) (was 
     were = of_form (Err f) (stop_by f last) were;
     runs = λ given h.
         runs_stopped {s = s} {l = l} t base g o amends given start now begun (s.image m.store) f wide holds limit of_base comes
-        (λ k same based begins. inputs_stop {s = s} {l = l} g k read last given start now m (input_form o.style amends) f (form_is k o amends same based) (given_form (Err f) (stop_by f last) given h) of_text (stops k start same begins));
+        (λ k same based begins. inputs_stop {s = s} {l = l} g k read last given start now m (input_form o.make.style amends) f (form_is k o amends same based) (given_form (Err f) (stop_by f last) given h) of_text (stops k start same begins));
   }
 
-  pub read_whole : (images : List ℕ → Type 0) → WereRead own shared (input_form o.style amends) g (Ok tt) read NoMore before after → PutsInputs o read start now begun m → ComesFrom (s.image m.store) images → ((rs : List KeyValue) → Holds m rs → IsFile l.WORD rs images)
+  pub read_whole : (images : List ℕ → Type 0) → WereRead own shared (input_form o.make.style amends) g (Ok tt) read NoMore before after → PutsInputs o read start now begun m → ComesFrom (s.image m.store) images → ((rs : List KeyValue) → Holds m rs → IsFile l.WORD rs images)
       → RunsRead l.WORD g o own shared t was base before after images start now (Ok tt)
   read_whole images were puts finished file = record {
     read = read;
@@ -267,28 +267,28 @@ module _ {S L B J I : Type 0} {s : Ghosts S} {l : Widths L} (t : Ghosts B) (was 
     runs = λ given h. runs_whole {s = s} {l = l} t base g o given read start now begun m images wide holds limit (all_given (Ok tt) given h) (λ k same begins. puts k start same begins) comes finished file;
   }
 
-  pub read_unfinished : (new : Maker S L s l) (f : MakeFault) → WereRead own shared (input_form o.style amends) g (Ok tt) read NoMore before after → PutsInputs o read start now begun m → ComesFrom (s.image m.store) (s.image new.store) → FailsFinishing m new f
+  pub read_unfinished : (new : Maker S L s l) (f : MakeFault) → WereRead own shared (input_form o.make.style amends) g (Ok tt) read NoMore before after → PutsInputs o read start now begun m → ComesFrom (s.image m.store) (s.image new.store) → FailsFinishing m new f
       → RunsRead l.WORD g o own shared t was base before after (s.image new.store) start now (Err (make_fault f))
   read_unfinished new f were puts finished fails = record {
     read = read;
     stop = NoMore;
-    were = of_form (Err (make_fault f)) NoMore (were_as (input_form o.style amends) g (Ok tt) (Err (make_fault f)) (none_made f) own shared read NoMore before after were);
+    were = of_form (Err (make_fault f)) NoMore (were_as (input_form o.make.style amends) g (Ok tt) (Err (make_fault f)) (none_made f) own shared read NoMore before after were);
     runs = λ given h. runs_unfinished {s = s} {l = l} t base g o given read start now begun m new f wide holds limit (all_given (Err (make_fault f)) given h) (λ k same begins. puts k start same begins) comes finished fails;
   }
 
 -- ---- the flush
 
-flush_err : {B J I : Type 0} (t : Ghosts B) (was base : Option B) (own : J → Feed) (shared : I → Feed) (w g : ℕ) (o : MakeOptions) (before after : Inputs J I) (images : List ℕ → Type 0) (old mid new : Option (List ℕ)) (answer : Result Unit Fault) → IsOk answer → Flushed mid new answer (Err Output)
+flush_err : {B J I : Type 0} (t : Ghosts B) (was base : Option B) (own : J → Feed) (shared : I → Feed) (w g : ℕ) (o : RunOptions) (before after : Inputs J I) (images : List ℕ → Type 0) (old mid new : Option (List ℕ)) (answer : Result Unit Fault) → IsOk answer → Flushed mid new answer (Err Output)
     → RunsRead w g o own shared t was base before after images old mid answer → RunsRead w g o own shared t was base before after images old new (Err Output)
 flush_err t was base own shared w g o before after images old mid new (Ok u) ok f h = record {
   read = h.read;
   stop = h.stop;
-  were = were_as (input_form o.style (is_some was)) g (Ok u) (Err Output) none_output own shared h.read h.stop before after h.were;
-  runs = λ given has. runs_flushed t base w g o given images old mid new (Ok u) (Err Output) (h.runs given (has_as (input_form o.style (is_some was)) g (Err Output) (Ok u) none_ok h.read h.stop given has)) f;
+  were = were_as (input_form o.make.style (is_some was)) g (Ok u) (Err Output) none_output own shared h.read h.stop before after h.were;
+  runs = λ given has. runs_flushed t base w g o given images old mid new (Ok u) (Err Output) (h.runs given (has_as (input_form o.make.style (is_some was)) g (Err Output) (Ok u) none_ok h.read h.stop given has)) f;
 }
 flush_err t was base own shared w g o before after images old mid new (Err e) ok f h = absurd (not_ok ok)
 
-pub read_flushed : {B J I : Type 0} (t : Ghosts B) (was base : Option B) (own : J → Feed) (shared : I → Feed) (w g : ℕ) (o : MakeOptions) (before after : Inputs J I) (images : List ℕ → Type 0) (old mid new : Option (List ℕ)) (answer result : Result Unit Fault) → RunsRead w g o own shared t was base before after images old mid answer
+pub read_flushed : {B J I : Type 0} (t : Ghosts B) (was base : Option B) (own : J → Feed) (shared : I → Feed) (w g : ℕ) (o : RunOptions) (before after : Inputs J I) (images : List ℕ → Type 0) (old mid new : Option (List ℕ)) (answer result : Result Unit Fault) → RunsRead w g o own shared t was base before after images old mid answer
     → Flushed mid new answer result → RunsRead w g o own shared t was base before after images old new result
 read_flushed t was base own shared w g o before after images old mid new answer result h f = elim f.answered as (λ _. RunsRead w g o own shared t was base before after images old new result) [
   | inl e ↦

@@ -16,7 +16,7 @@ use Rattle.cdb_feed.proofs.InputsInTurn.{read_then}
 use Rattle.cdb_store.specs.declared.store.Store.{Ghosts}
 use Rattle.cdb_form.specs.declared.width.Width.{Ghosts as Widths}
 use Rattle.cdb_make.specs.declared.maker.Maker.{Maker}
-use Rattle.cdb_command.specs.declared.options.MakeOptions.{MakeOptions}
+use Rattle.cdb_tool.specs.declared.runs.options.RunOptions.{RunOptions}
 use Rattle.cdb_show.specs.Runs.Inputs.{InputForm, IsInputOf}
 use Rattle.cdb_show.specs.Views.Inputs.{ArePassed}
 use Rattle.cdb_show.specs.declared.fault.Fault.{Fault}
@@ -156,19 +156,19 @@ module _ {J S : Type 0} (own : J → Feed) (shared : S → Feed) (form : InputFo
       subst (λ k. drop k (slice_set now i left) ≡ drop k before) n (others_same own shared (parsing form g (Ok tt)) before now it left old mid i read s within e)
 
 -- the run stopped in an input
-abbrev pub StopsHere : {J R S L : Type 0} {s : Ghosts S} {l : Widths L} → (own : J → Feed) → (shared : R → Feed) → InputForm → (g : ℕ) → (before after : List (InputReader J)) → (old new : R) → MakeOptions → (was now : Option (List ℕ)) → Maker S L s l → Maker S L s l → Fault → Type 0
+abbrev pub StopsHere : {J R S L : Type 0} {s : Ghosts S} {l : Widths L} → (own : J → Feed) → (shared : R → Feed) → InputForm → (g : ℕ) → (before after : List (InputReader J)) → (old new : R) → RunOptions → (was now : Option (List ℕ)) → Maker S L s l → Maker S L s l → Fault → Type 0
 StopsHere own shared form g before after old new o was now m done fault = (read : List (List Change)) × (last : List Change)
     × AreRead own shared (parsing form g (Err fault)) read (stop_by fault last) before after old new
     × ArePassed read (stop_by fault last) before after
     × ((n : ℕ) (f : TextFault) → fault ≡ Text n f → IsFaultAt form (length read + 1) n f)
     × PutsInputsStop o read last was now m done fault
 
-abbrev pub StopsThere : {J R S L : Type 0} {s : Ghosts S} {l : Widths L} → (own : J → Feed) → (shared : R → Feed) → InputForm → (g number : ℕ) → (before after : InputReader J) → (old new : R) → MakeOptions → (was now : Option (List ℕ)) → Maker S L s l → Maker S L s l → Fault → Type 0
+abbrev pub StopsThere : {J R S L : Type 0} {s : Ghosts S} {l : Widths L} → (own : J → Feed) → (shared : R → Feed) → InputForm → (g number : ℕ) → (before after : InputReader J) → (old new : R) → RunOptions → (was now : Option (List ℕ)) → Maker S L s l → Maker S L s l → Fault → Type 0
 StopsThere own shared form g number before after old new o was now m done fault = (last : List Change)
     × StopsInput own shared form g number last fault before after old new
     × PutsStop o number last was now m done fault
 
-pub stopped_here : {J R S L : Type 0} {s : Ghosts S} {l : Widths L} (own : J → Feed) (shared : R → Feed) (form : InputForm) (g : ℕ) (before now : List (InputReader J)) (it left : InputReader J) (old mid new : R) (i : ℕ) (read : List (List Change)) (o : MakeOptions) (was were are : Option (List ℕ)) (begun m done : Maker S L s l) (fault : Fault)
+pub stopped_here : {J R S L : Type 0} {s : Ghosts S} {l : Widths L} (own : J → Feed) (shared : R → Feed) (form : InputForm) (g : ℕ) (before now : List (InputReader J)) (it left : InputReader J) (old mid new : R) (i : ℕ) (read : List (List Change)) (o : RunOptions) (was were are : Option (List ℕ)) (begun m done : Maker S L s l) (fault : Fault)
     → SoFar own shared (parsing form g (Ok tt)) read before now old mid i → i < length now → it ≡ slice_index_or now i it → PutsInputs o read was were begun m
     → StopsThere own shared form g (i + 1) (slice_index_or now i it) left mid new o were are m done fault → StopsHere own shared form g before (slice_set now i left) old new o was are begun done fault
 stopped_here own shared form g before now it left old mid new i read o was were are begun m done fault far within e course (last, stops, put) = (

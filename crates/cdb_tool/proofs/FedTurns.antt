@@ -13,7 +13,7 @@ use Rattle.cdb_feed.specs.Inputs.{StopsSo, TakesOne}
 use Rattle.cdb_feed.specs.declared.input_reader.InputReader.{InputReader}
 use Rattle.cdb_feed.specs.declared.input_reader.InputReader.TheVariants.{Own, Shared}
 use Rattle.cdb_make.specs.declared.maker.Maker.{Maker}
-use Rattle.cdb_command.specs.declared.options.MakeOptions.{MakeOptions}
+use Rattle.cdb_tool.specs.declared.runs.options.RunOptions.{RunOptions}
 use Rattle.cdb_show.specs.Runs.Incoming.{came}
 use Rattle.cdb_show.specs.Runs.Inputs.{BeginsWithItems, HasItemFault, InputForm, IsInputOf}
 use Rattle.cdb_show.specs.Runs.Lookups.{StopsBehind}
@@ -163,5 +163,5 @@ module _ {J I : Type 0} (own : J → Feed) (shared : I → Feed) (form : InputFo
       (behind_let_go form g n [] (shared_feed shared s) (shared_feed shared s) (shared_feed shared s) (shared refused) [] NoMemory (nothing_taken (shared_feed shared s)) (behind_none form g n (shared_feed shared s)) kept))
 
 -- nothing was put of it
-pub none_stops : {S L : Type 0} {s : Ghosts S} {l : Widths L} (o : MakeOptions) (n : ℕ) (now : Option (List ℕ)) (m : Maker S L s l) → PutsStop o n [] now now m m NoMemory
+pub none_stops : {S L : Type 0} {s : Ghosts S} {l : Widths L} (o : RunOptions) (n : ℕ) (now : Option (List ℕ)) (m : Maker S L s l) → PutsStop o n [] now now m m NoMemory
 none_stops o n now m = λ t read start same numbered h. text_stopped t (came read []) start now m n text.NoMemory (none_put t read start now m h)

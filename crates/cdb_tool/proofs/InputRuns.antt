@@ -10,7 +10,7 @@ use Rattle.cdb_form.specs.declared.text.fault.TextFault.TheVariants as text
 use Rattle.cdb_form.specs.declared.width.Width.{Ghosts as Widths}
 use Rattle.cdb_make.specs.Views.Maker.{ComesFrom, WhereHonest}
 use Rattle.cdb_make.specs.declared.maker.Maker.{Maker}
-use Rattle.cdb_command.specs.declared.options.MakeOptions.{MakeOptions}
+use Rattle.cdb_tool.specs.declared.runs.options.RunOptions.{RunOptions}
 use Rattle.cdb_show.specs.Message.{TellsPart}
 use Rattle.cdb_show.specs.Runs.Incoming.{Incoming, came, from_inputs}
 use Rattle.cdb_show.specs.Runs.Inputs.{BeginsWithItems, InputForm, input_form}
@@ -31,8 +31,8 @@ use Rattle.cdb_tool.proofs.MadeOf.{course_more, told_grow}
 use Rattle.cdb_tool.proofs.ToldLines.{part_more}
 
 -- the form of the inputs of a run
-pub form_is : (t : Task) (o : MakeOptions) (amends : Bool) → t.options ≡ o → is_some t.base ≡ amends → task_form t ≡ input_form o.style amends
-form_is t o amends same based = ap (λ v. input_form v.style (is_some t.base)) same ∙ ap (input_form o.style) based
+pub form_is : (t : Task) (o : RunOptions) (amends : Bool) → t.options ≡ o → is_some t.base ≡ amends → task_form t ≡ input_form o.make.style amends
+form_is t o amends same based = ap (λ v. input_form v.make.style (is_some t.base)) same ∙ ap (input_form o.make.style) based
 
 -- nothing was put of an input that begins
 pub none_put : {S L : Type 0} {s : Ghosts S} {l : Widths L} (o : Task) (read : List (List Change)) (start now : Option (List ℕ)) (m : Maker S L s l) → InCourse o (from_inputs 1 read) start now m → InCourse o (came read []) start now m

@@ -11,6 +11,5 @@ pub mod RunEnds
 pub mod RestoreLaws
 pub mod BaseDifferences
 pub mod MadeOf
-pub mod NamedInputs
 pub mod ToldLines
 mod MakerSteps

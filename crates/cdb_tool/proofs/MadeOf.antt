@@ -5,7 +5,7 @@ use Rattle.std.specs.Prelude.{option_map, fold}
 use Rattle.std.proofs.lemmas.Bool.{cond-true, cond-false, lt-ltb, le-ltb}
 use Rattle.std.proofs.lemmas.List.Sums.{fold-append}
 use Rattle.std.specs.Io.KnownBytes.{Appends}
-use Rattle.cdb_command.specs.declared.options.MakeOptions.{MakeOptions}
+use Rattle.cdb_tool.specs.declared.runs.options.RunOptions.{RunOptions}
 use Rattle.cdb_command.specs.declared.style.Style.TheVariants.{Native, Map}
 use Rattle.cdb_form.specs.Format.File.{file_size}
 use Rattle.cdb_form.specs.Format.Record.{KeyValue}
@@ -45,35 +45,35 @@ use Rattle.cdb_show.specs.declared.fault.Fault.TheVariants.{Text, Make, Duplicat
 
 -- ---- the course over more items
 
-pub course_more : (w : ℕ) (t : Task) (cs more : List Incoming) → course_of w t (cs ++ more) ≡ fold (with_next w t.options) (course_of w t cs) more
-course_more w t cs more = fold-append (with_next w t.options) (at_start t) cs more
+pub course_more : (w : ℕ) (t : Task) (cs more : List Incoming) → course_of w t (cs ++ more) ≡ fold (with_next w t.options.make) (course_of w t cs) more
+course_more w t cs more = fold-append (with_next w t.options.make) (at_start t) cs more
 
 -- one that has ended stays
-stays_ended : (w : ℕ) (o : MakeOptions) (s : Course) (more : List Incoming) (f : Fault) → s.ended ≡ Some f → fold (with_next w o) s more ≡ s
+stays_ended : (w : ℕ) (o : RunOptions) (s : Course) (more : List Incoming) (f : Fault) → s.ended ≡ Some f → fold (with_next w o.make) s more ≡ s
 stays_ended w o s [] f e = refl
 stays_ended w o s (c ∷ more) f e =
-    let one : with_next w o s c ≡ s = ap (λ x. if is_going x then with_change w o s c.input c.number c.it else s) e in
-    ap (λ v. fold (with_next w o) v more) one ∙ stays_ended w o s more f e
+    let one : with_next w o.make s c ≡ s = ap (λ x. if is_going x then with_change w o.make s c.input c.number c.it else s) e in
+    ap (λ v. fold (with_next w o.make) v more) one ∙ stays_ended w o s more f e
 
 -- what it told grows
-told_changed : (w : ℕ) (o : MakeOptions) (s : Course) (i n : ℕ) (it : Change) → (x : List Told) × ((with_change w o s i n it).told ≡ s.told ++ x)
-told_changed w o s i n (Putting r) = (told o i n r.key (put_result w o.limit (mode_of o) r s.records), refl)
+told_changed : (w : ℕ) (o : RunOptions) (s : Course) (i n : ℕ) (it : Change) → (x : List Told) × ((with_change w o.make s i n it).told ≡ s.told ++ x)
+told_changed w o s i n (Putting r) = (told o.make i n r.key (put_result w o.make.limit (mode_of o.make) r s.records), refl)
 told_changed w o s i n (Removing key) = ([], sym (append-nil s.told))
 
-told_next : (w : ℕ) (o : MakeOptions) (s : Course) (c : Incoming) (e : Option Fault) → (x : List Told) × ((if is_going e then with_change w o s c.input c.number c.it else s).told ≡ s.told ++ x)
+told_next : (w : ℕ) (o : RunOptions) (s : Course) (c : Incoming) (e : Option Fault) → (x : List Told) × ((if is_going e then with_change w o.make s c.input c.number c.it else s).told ≡ s.told ++ x)
 told_next w o s c None = told_changed w o s c.input c.number c.it
 told_next w o s c (Some fault) = ([], sym (append-nil s.told))
 
-pub told_grow : (w : ℕ) (o : MakeOptions) (s : Course) (more : List Incoming) → (x : List Told) × ((fold (with_next w o) s more).told ≡ s.told ++ x)
+pub told_grow : (w : ℕ) (o : RunOptions) (s : Course) (more : List Incoming) → (x : List Told) × ((fold (with_next w o.make) s more).told ≡ s.told ++ x)
 told_grow w o s [] = ([], sym (append-nil s.told))
 told_grow w o s (c ∷ more) =
     let one = told_next w o s c s.ended in
-    let rest = told_grow w o (with_next w o s c) more in
+    let rest = told_grow w o (with_next w o.make s c) more in
     (one.0 ++ rest.0, rest.1 ∙ ap (λ l. l ++ rest.0) one.1 ∙ append_assoc s.told one.0 rest.0)
 
 -- ---- what comes of a run
 
-refused : (w : ℕ) (o : MakeOptions) (m : Made) (images : List ℕ → Type 0) (old new : Option (List ℕ)) (f : Fault) → IsMakeRefusal f → TellsPart o.names m.told old new → ComesOf w o m images old new (Err f)
+refused : (w : ℕ) (o : RunOptions) (m : Made) (images : List ℕ → Type 0) (old new : Option (List ℕ)) (f : Fault) → IsMakeRefusal f → TellsPart o.names m.told old new → ComesOf w o m images old new (Err f)
 refused w o m images old new f is p = inr (record { fault = f; is = refl; refusal = is; lines = p })
 
 -- ---- the base
@@ -91,16 +91,16 @@ damaged_base : (w limit : ℕ) (walk : Walked) (damage : Damage) → walk.damage
 damaged_base w limit walk damage e fits =
     cond-false (nat_lt limit (file_size w walk.records)) _ _ (le-ltb limit (file_size w walk.records) fits) ∙ ap (option_map (λ d. Read (damage_fault d))) e
 
-stopped_base : (w : ℕ) (o : MakeOptions) (images : List ℕ → Type 0) (old new : Option (List ℕ)) (fault f : Fault) (why : Option Fault) (made : Made) → why ≡ Some fault → f ≡ fault → Appends old new [] → ComesOf w o (unless_stopped why made) images old new (Err f)
+stopped_base : (w : ℕ) (o : RunOptions) (images : List ℕ → Type 0) (old new : Option (List ℕ)) (fault f : Fault) (why : Option Fault) (made : Made) → why ≡ Some fault → f ≡ fault → Appends old new [] → ComesOf w o (unless_stopped why made) images old new (Err f)
 stopped_base w o images old new fault f why made e same lines =
     subst (λ y. ComesOf w o (unless_stopped y made) images old new (Err f)) (sym e) (inl (record { is = ap (λ (x : Fault). Err x) same; lines = record { text = []; are = refl; written = lines }; file = tt }))
 
-damaged_read : (w limit : ℕ) (o : MakeOptions) (images : List ℕ → Type 0) (old new : Option (List ℕ)) (walk : Walked) (made : Made) (fault : ReadFault) → (damage : Damage) × (fault ≡ damage_fault damage) × (walk.damage ≡ Some damage) × (file_size w walk.records ≤ limit) → Appends old new []
+damaged_read : (w limit : ℕ) (o : RunOptions) (images : List ℕ → Type 0) (old new : Option (List ℕ)) (walk : Walked) (made : Made) (fault : ReadFault) → (damage : Damage) × (fault ≡ damage_fault damage) × (walk.damage ≡ Some damage) × (file_size w walk.records ≤ limit) → Appends old new []
     → ComesOf w o (unless_stopped (walk_fault w limit walk) made) images old new (Err (Read fault))
 damaged_read w limit o images old new walk made fault (damage, is, has, fits) lines =
     stopped_base w o images old new (Read (damage_fault damage)) (Read fault) (walk_fault w limit walk) made (damaged_base w limit walk damage has fits) (ap (λ (x : ReadFault). Read x) is) lines
 
-base_stops : (w limit : ℕ) (o : MakeOptions) (images : List ℕ → Type 0) (old new : Option (List ℕ)) (walk : Walked) (made : Made) (f : Fault) → NotAdded w limit walk f → Appends old new [] → ComesOf w o (unless_stopped (walk_fault w limit walk) made) images old new (Err f)
+base_stops : (w limit : ℕ) (o : RunOptions) (images : List ℕ → Type 0) (old new : Option (List ℕ)) (walk : Walked) (made : Made) (f : Fault) → NotAdded w limit walk f → Appends old new [] → ComesOf w o (unless_stopped (walk_fault w limit walk) made) images old new (Err f)
 base_stops w limit o images old new walk made (Make make.TooBig) h lines = stopped_base w o images old new (Make make.TooBig) _ (walk_fault w limit walk) made (large_base w limit walk h) refl lines
 base_stops w limit o images old new walk made (Make make.Writing) h lines = refused w o _ images old new _ tt (part_none o.names _ old new lines)
 base_stops w limit o images old new walk made (Make make.Lookup) h lines = absurd h
@@ -129,14 +129,14 @@ base_stops w limit o images old new walk made (New f) h lines = absurd h
 base_stops w limit o images old new walk made NoOldTables h lines = absurd h
 base_stops w limit o images old new walk made NoNewTables h lines = absurd h
 
-some_base_stops : (w g : ℕ) (o : MakeOptions) (base : Option (List ℕ)) (images : List ℕ → Type 0) (old new : Option (List ℕ)) (made : Made) (f : Fault) → BaseStops w o.limit base old new f → ComesOf w o (unless_stopped (base_fault w o.limit base) made) images old new (Err f)
+some_base_stops : (w g : ℕ) (o : RunOptions) (base : Option (List ℕ)) (images : List ℕ → Type 0) (old new : Option (List ℕ)) (made : Made) (f : Fault) → BaseStops w o.make.limit base old new f → ComesOf w o (unless_stopped (base_fault w o.make.limit base) made) images old new (Err f)
 some_base_stops w g o None images old new made f h = absurd h.fails
-some_base_stops w g o (Some b) images old new made f h = base_stops w o.limit o images old new (walk_of w b) made f h.fails h.lines
+some_base_stops w g o (Some b) images old new made f h = base_stops w o.make.limit o images old new (walk_of w b) made f h.fails h.lines
 
 -- ---- the inputs
 
 -- an input whose text has a fault is none of map texts
-native_form : (o : MakeOptions) (amends : Bool) → o.style ≡ Native → HasFaults (input_form o.style amends)
+native_form : (o : RunOptions) (amends : Bool) → o.make.style ≡ Native → HasFaults (input_form o.make.style amends)
 native_form o true e = subst (λ s. HasFaults (input_form s true)) (sym e) tt
 native_form o false e = subst (λ s. HasFaults (input_form s false)) (sym e) tt
 
@@ -264,28 +264,28 @@ inputs_stop w g t inputs shared left images old new NoNewTables k h = stopped_in
 -- ---- the run
 
 -- behind a base
-with_base : (w g : ℕ) (o : MakeOptions) (base : Option (List ℕ)) (inputs : List (Option (List ℕ))) (shared : List ℕ) (images : List ℕ → Type 0) (old new : Option (List ℕ)) (result : Result Unit Fault) → IsSomeBase w o.limit base
-    → ComesOf w o (made_from w (task_of o (records_of w base)) (given_from (input_form o.style (is_some (records_of w base))) g 1 inputs shared)) images old new result → ComesOf w o (made_of w g o base inputs shared) images old new result
+with_base : (w g : ℕ) (o : RunOptions) (base : Option (List ℕ)) (inputs : List (Option (List ℕ))) (shared : List ℕ) (images : List ℕ → Type 0) (old new : Option (List ℕ)) (result : Result Unit Fault) → IsSomeBase w o.make.limit base
+    → ComesOf w o (made_from w (task_of o (records_of w base)) (given_from (input_form o.make.style (is_some (records_of w base))) g 1 inputs shared)) images old new result → ComesOf w o (made_of w g o.make base inputs shared) images old new result
 with_base w g o base inputs shared images old new result is h =
-    subst (λ why. ComesOf w o (unless_stopped why (made_from w (task_of o (records_of w base)) (given_from (input_form o.style (is_some (records_of w base))) g 1 inputs shared))) images old new result) (sym (some_base w o.limit base is)) h
+    subst (λ why. ComesOf w o (unless_stopped why (made_from w (task_of o (records_of w base)) (given_from (input_form o.make.style (is_some (records_of w base))) g 1 inputs shared))) images old new result) (sym (some_base w o.make.limit base is)) h
 
-pub made_so : (w g : ℕ) (o : MakeOptions) (base : Option (List ℕ)) (inputs : List (Option (List ℕ))) (shared : List ℕ) (left : InputsLeft) (images : List ℕ → Type 0) (old new : Option (List ℕ)) → Known inputs shared left → Makes w g o base left images old new
-    → MakesSo w o (made_of w g o base inputs shared) images old new (Ok tt)
+pub made_so : (w g : ℕ) (o : RunOptions) (base : Option (List ℕ)) (inputs : List (Option (List ℕ))) (shared : List ℕ) (left : InputsLeft) (images : List ℕ → Type 0) (old new : Option (List ℕ)) → Known inputs shared left → Makes w g o base left images old new
+    → MakesSo w o (made_of w g o.make base inputs shared) images old new (Ok tt)
 made_so w g o base inputs shared left images old new k h =
     let t = task_of o (records_of w base) in
     let m = h.made in
     let given = all_given (make_run.form_of t) g m.read inputs shared left k m.are in
-    subst (λ why. MakesSo w o (unless_stopped why (made_from w t (given_from (make_run.form_of t) g 1 inputs shared))) images old new (Ok tt)) (sym (some_base w o.limit base h.based))
+    subst (λ why. MakesSo w o (unless_stopped why (made_from w t (given_from (make_run.form_of t) g 1 inputs shared))) images old new (Ok tt)) (sym (some_base w o.make.limit base h.based))
     (subst (λ v. MakesSo w o (made_from w t v) images old new (Ok tt)) (sym given)
     (record { is = sym (ap (λ e. ended_by e None) m.goes.going); lines = m.goes.lines; file = m.file }))
 
-run_fails : (w g : ℕ) (o : MakeOptions) (base : Option (List ℕ)) (inputs : List (Option (List ℕ))) (shared : List ℕ) (left : InputsLeft) (images : List ℕ → Type 0) (old new : Option (List ℕ)) (f : Fault) → Known inputs shared left → RunFails w g o base left old new f
-    → ComesOf w o (made_of w g o base inputs shared) images old new (Err f)
+run_fails : (w g : ℕ) (o : RunOptions) (base : Option (List ℕ)) (inputs : List (Option (List ℕ))) (shared : List ℕ) (left : InputsLeft) (images : List ℕ → Type 0) (old new : Option (List ℕ)) (f : Fault) → Known inputs shared left → RunFails w g o base left old new f
+    → ComesOf w o (made_of w g o.make base inputs shared) images old new (Err f)
 run_fails w g o base inputs shared left images old new f k (inl stops) = some_base_stops w g o base images old new _ f stops
 run_fails w g o base inputs shared left images old new f k (inr stops) =
     with_base w g o base inputs shared images old new (Err f) stops.based (inputs_stop w g (task_of o (records_of w base)) inputs shared left images old new f k stops.fails)
 
-pub run_comes : (w g : ℕ) (o : MakeOptions) (base : Option (List ℕ)) (inputs : List (Option (List ℕ))) (shared : List ℕ) (left : InputsLeft) (images : List ℕ → Type 0) (old new : Option (List ℕ)) (result : Result Unit Fault) → Known inputs shared left → MakeRuns w g o base left images old new result
-    → ComesOf w o (made_of w g o base inputs shared) images old new result
+pub run_comes : (w g : ℕ) (o : RunOptions) (base : Option (List ℕ)) (inputs : List (Option (List ℕ))) (shared : List ℕ) (left : InputsLeft) (images : List ℕ → Type 0) (old new : Option (List ℕ)) (result : Result Unit Fault) → Known inputs shared left → MakeRuns w g o base left images old new result
+    → ComesOf w o (made_of w g o.make base inputs shared) images old new result
 run_comes w g o base inputs shared left images old new (Ok done) k h = inl (made_so w g o base inputs shared left images old new k h.ok)
 run_comes w g o base inputs shared left images old new (Err f) k h = run_fails w g o base inputs shared left images old new f k h.err

@@ -27,7 +27,7 @@ use Rattle.cdb_tool.specs.Runs.Make.{InCourse, MakeStops, InputsFail, RunFails, 
 use Rattle.cdb_show.specs.Runs.Incoming.{came}
 use Rattle.cdb_show.specs.declared.fault.Fault.{Fault}
 use Rattle.cdb_show.specs.declared.fault.Fault.TheVariants.{Text, Make, Duplicate, Missing, Read, Walk, Output, Long, Open, Rename, NoMemory, Old, New, NoOldTables, NoNewTables}
-use Rattle.cdb_command.specs.declared.options.MakeOptions.{MakeOptions}
+use Rattle.cdb_tool.specs.declared.runs.options.RunOptions.{RunOptions}
 use Rattle.cdb_tool.proofs.ToldLines.{part_kept, part_whole, tells_kept, tells_none}
 use Rattle.cdb_show.proofs.Writers.{not_ok}
 use Rattle.cdb_form.proofs.Bytes.WritingLemmas.{appends_none}
@@ -43,7 +43,7 @@ stops_none w g t inputs start f h = record { read = []; last = []; rest = inputs
 goes_none : (w : ℕ) (t : Task) (start : Option (List ℕ)) → Goes w t [] start start
 goes_none w t start = record { going = refl; lines = tells_none t.options.names start }
 
-not_made : {S : Type 0} (image : S → List ℕ → Type 0) (size written failures : S → ℕ) (w g : ℕ) (o : MakeOptions) (x : Option (List ℕ)) (inputs : InputsLeft) (start : Option (List ℕ)) (old new : S) (f : MakeFault) → MakingFault image size written failures old new f
+not_made : {S : Type 0} (image : S → List ℕ → Type 0) (size written failures : S → ℕ) (w g : ℕ) (o : RunOptions) (x : Option (List ℕ)) (inputs : InputsLeft) (start : Option (List ℕ)) (old new : S) (f : MakeFault) → MakingFault image size written failures old new f
     → RunFails w g o x inputs start start (make_fault f)
 not_made image size written failures w g o None inputs start old new make.NoMemory h = inr (record { based = tt; fails = stops_none w g (task_of o None) inputs start NoMemory (goes_none w (task_of o None) start) })
 not_made image size written failures w g o None inputs start old new make.Writing h = inr (record { based = tt; fails = stops_none w g (task_of o None) inputs start (Make make.Writing) (goes_none w (task_of o None) start) })
@@ -72,17 +72,17 @@ each_base : {B : Type 0} (s : Ghosts B) (base : Option B) (P : Option (List ℕ)
 each_base s None P f = f None
 each_base s (Some base) P f = λ b is. f (Some b)
 
-pub runs_not : {S B : Type 0} (image : S → List ℕ → Type 0) (size written failures : S → ℕ) (s : Ghosts B) (base : Option B) (w g : ℕ) (o : MakeOptions) (inputs : InputsLeft) (start : Option (List ℕ)) (old new : S) (images : List ℕ → Type 0) (f : MakeFault)
+pub runs_not : {S B : Type 0} (image : S → List ℕ → Type 0) (size written failures : S → ℕ) (s : Ghosts B) (base : Option B) (w g : ℕ) (o : RunOptions) (inputs : InputsLeft) (start : Option (List ℕ)) (old new : S) (images : List ℕ → Type 0) (f : MakeFault)
     → MakingFault image size written failures old new f → WhereHonest images (OfBase s base (λ x. MakeRuns w g o x inputs images start start (Err (make_fault f))))
 runs_not image size written failures s base w g o inputs start old new images f h =
     record { each = λ a j. each_base s base _ (λ x. record { ok = tt; err = not_made image size written failures w g o x inputs start old new f h }) }
 
 -- nothing was begun, since an allocation failed
-unbegun : (w g : ℕ) (o : MakeOptions) (x : Option (List ℕ)) (inputs : InputsLeft) (start : Option (List ℕ)) → RunFails w g o x inputs start start NoMemory
+unbegun : (w g : ℕ) (o : RunOptions) (x : Option (List ℕ)) (inputs : InputsLeft) (start : Option (List ℕ)) → RunFails w g o x inputs start start NoMemory
 unbegun w g o None inputs start = inr (record { based = tt; fails = stops_none w g (task_of o None) inputs start NoMemory (goes_none w (task_of o None) start) })
 unbegun w g o (Some b) inputs start = inl (record { fails = tt; lines = appends_none start })
 
-pub runs_unbegun : {B : Type 0} (s : Ghosts B) (base : Option B) (w g : ℕ) (o : MakeOptions) (inputs : InputsLeft) (start : Option (List ℕ)) (images : List ℕ → Type 0) → WhereHonest images (OfBase s base (λ x. MakeRuns w g o x inputs images start start (Err NoMemory)))
+pub runs_unbegun : {B : Type 0} (s : Ghosts B) (base : Option B) (w g : ℕ) (o : RunOptions) (inputs : InputsLeft) (start : Option (List ℕ)) (images : List ℕ → Type 0) → WhereHonest images (OfBase s base (λ x. MakeRuns w g o x inputs images start start (Err NoMemory)))
 runs_unbegun s base w g o inputs start images = record { each = λ a j. each_base s base _ (λ x. record { ok = tt; err = unbegun w g o x inputs start }) }
 
 -- ---- its base stopped it
@@ -97,7 +97,7 @@ pub hands_same : {B : Type 0} (s : Ghosts B) (base : Option B) → HandsBack s b
 hands_same s None = tt
 hands_same s (Some base) = record { images = λ b is. is; size = refl; written = refl; room = omega arith; failures = omega arith; unwritten = omega arith }
 
-pub runs_unbased : {B : Type 0} (s : Ghosts B) (base : Option B) (w g : ℕ) (o : MakeOptions) (limit : ℕ) (inputs : InputsLeft) (start : Option (List ℕ)) (images : List ℕ → Type 0) (f : Fault) → limit ≡ o.limit → BaseStopped w limit s base images f
+pub runs_unbased : {B : Type 0} (s : Ghosts B) (base : Option B) (w g : ℕ) (o : RunOptions) (limit : ℕ) (inputs : InputsLeft) (start : Option (List ℕ)) (images : List ℕ → Type 0) (f : Fault) → limit ≡ o.make.limit → BaseStopped w limit s base images f
     → WhereHonest images (OfBase s base (λ x. MakeRuns w g o x inputs images start start (Err f)))
 runs_unbased s None w g o limit inputs start images f same h = absurd h
 runs_unbased s (Some base) w g o limit inputs start images f same h = record {
@@ -110,26 +110,26 @@ runs_unbased s (Some base) w g o limit inputs start images f same h = record {
 -- ---- its inputs stopped it
 
 -- a base that was added can be amended
-is_base : {S L : Type 0} {s : Ghosts S} {l : Widths L} (o : MakeOptions) (b : List ℕ) (rs : List KeyValue) (m : Maker S L s l) → (l.WORD ≡ 4) ⊎ (l.WORD ≡ 8) → walk_of l.WORD b ≡ record { records = rs; damage = None } → Holds m rs → limit_of m ≡ o.limit → (a : List ℕ) → s.image m.store a → IsBase l.WORD o.limit b
+is_base : {S L : Type 0} {s : Ghosts S} {l : Widths L} (o : RunOptions) (b : List ℕ) (rs : List KeyValue) (m : Maker S L s l) → (l.WORD ≡ 4) ⊎ (l.WORD ≡ 8) → walk_of l.WORD b ≡ record { records = rs; damage = None } → Holds m rs → limit_of m ≡ o.make.limit → (a : List ℕ) → s.image m.store a → IsBase l.WORD o.make.limit b
 is_base {l = l} o b rs m wide is holds limit a j =
     let fits : file_size l.WORD rs ≤ limit_of m = (holds_fits m rs wide holds).each a j in
     let same : file_size l.WORD (walk_of l.WORD b).records ≡ file_size l.WORD rs = ap (λ v. file_size l.WORD v.records) is in
     record { whole = ap (λ v. v.damage) is; fits = omega (arith, fits, same, limit) }
 
 -- and the run begins with its records
-begins_based : {S L : Type 0} {s : Ghosts S} {l : Widths L} (o : MakeOptions) (b : List ℕ) (rs : List KeyValue) (start : Option (List ℕ)) (m : Maker S L s l) → walk_of l.WORD b ≡ record { records = rs; damage = None } → Holds m rs → limit_of m ≡ o.limit
+begins_based : {S L : Type 0} {s : Ghosts S} {l : Widths L} (o : RunOptions) (b : List ℕ) (rs : List KeyValue) (start : Option (List ℕ)) (m : Maker S L s l) → walk_of l.WORD b ≡ record { records = rs; damage = None } → Holds m rs → limit_of m ≡ o.make.limit
     → InCourse (task_of o (records_of l.WORD (Some b))) [] start start m
 begins_based {l = l} o b rs start m is holds limit =
     course_starts (task_of o (records_of l.WORD (Some b))) start m (subst (Holds m) (sym (ap (λ v. v.records) is)) holds) limit
 
 -- what is so for each run that begins with such records, is so of the base
-of_held : {S L B : Type 0} {s : Ghosts S} {l : Widths L} (t : Ghosts B) (base : Option B) (o : MakeOptions) (start : Option (List ℕ)) (m : Maker S L s l) (P : Option (List ℕ) → Type 0) → (l.WORD ≡ 4) ⊎ (l.WORD ≡ 8) → HoldsBase l.WORD t base m → limit_of m ≡ o.limit
-    → (a : List ℕ) → s.image m.store a → ((x : Option (List ℕ)) → is_some (records_of l.WORD x) ≡ is_some base → IsSomeBase l.WORD o.limit x → InCourse (task_of o (records_of l.WORD x)) [] start start m → P x) → OfBase t base P
+of_held : {S L B : Type 0} {s : Ghosts S} {l : Widths L} (t : Ghosts B) (base : Option B) (o : RunOptions) (start : Option (List ℕ)) (m : Maker S L s l) (P : Option (List ℕ) → Type 0) → (l.WORD ≡ 4) ⊎ (l.WORD ≡ 8) → HoldsBase l.WORD t base m → limit_of m ≡ o.make.limit
+    → (a : List ℕ) → s.image m.store a → ((x : Option (List ℕ)) → is_some (records_of l.WORD x) ≡ is_some base → IsSomeBase l.WORD o.make.limit x → InCourse (task_of o (records_of l.WORD x)) [] start start m → P x) → OfBase t base P
 of_held t None o start m P wide h limit a j f = f None refl tt (course_starts (task_of o None) start m h limit)
 of_held t (Some base) o start m P wide h limit a j f = λ b is. f (Some b) refl (is_base o b h.records m wide (h.each b is) h.holds limit a j) (begins_based o b h.records start m (h.each b is) h.holds limit)
 
-pub runs_stopped : {S L B : Type 0} {s : Ghosts S} {l : Widths L} (t : Ghosts B) (base : Option B) (g : ℕ) (o : MakeOptions) (amends : Bool) (inputs : InputsLeft) (start now : Option (List ℕ)) (m : Maker S L s l) (images : List ℕ → Type 0) (f : Fault)
-    → (l.WORD ≡ 4) ⊎ (l.WORD ≡ 8) → HoldsBase l.WORD t base m → limit_of m ≡ o.limit → is_some base ≡ amends → ComesFrom (s.image m.store) images
+pub runs_stopped : {S L B : Type 0} {s : Ghosts S} {l : Widths L} (t : Ghosts B) (base : Option B) (g : ℕ) (o : RunOptions) (amends : Bool) (inputs : InputsLeft) (start now : Option (List ℕ)) (m : Maker S L s l) (images : List ℕ → Type 0) (f : Fault)
+    → (l.WORD ≡ 4) ⊎ (l.WORD ≡ 8) → HoldsBase l.WORD t base m → limit_of m ≡ o.make.limit → is_some base ≡ amends → ComesFrom (s.image m.store) images
     → ((k : Task) → k.options ≡ o → is_some k.base ≡ amends → InCourse k [] start start m → WhereHonest images (InputsFail l.WORD g k inputs start now f))
     → WhereHonest images (OfBase t base (λ x. MakeRuns l.WORD g o x inputs images start now (Err f)))
 runs_stopped {l = l} t base g o amends inputs start now m images f wide h limit some comes fails = record {
@@ -141,8 +141,8 @@ runs_stopped {l = l} t base g o amends inputs start now m images f wide h limit 
 
 -- ---- all inputs were put
 
-pub runs_whole : {S L B : Type 0} {s : Ghosts S} {l : Widths L} (t : Ghosts B) (base : Option B) (g : ℕ) (o : MakeOptions) (inputs : InputsLeft) (read : List (List Change)) (start now : Option (List ℕ)) (begun m : Maker S L s l) (images : List ℕ → Type 0)
-    → (l.WORD ≡ 4) ⊎ (l.WORD ≡ 8) → HoldsBase l.WORD t base begun → limit_of begun ≡ o.limit → AreAllInputs (form.input_form o.style (is_some base)) g read inputs
+pub runs_whole : {S L B : Type 0} {s : Ghosts S} {l : Widths L} (t : Ghosts B) (base : Option B) (g : ℕ) (o : RunOptions) (inputs : InputsLeft) (read : List (List Change)) (start now : Option (List ℕ)) (begun m : Maker S L s l) (images : List ℕ → Type 0)
+    → (l.WORD ≡ 4) ⊎ (l.WORD ≡ 8) → HoldsBase l.WORD t base begun → limit_of begun ≡ o.make.limit → AreAllInputs (form.input_form o.make.style (is_some base)) g read inputs
     → ((k : Task) → k.options ≡ o → InCourse k [] start start begun → InCourse k (from_inputs 1 read) start now m)
     → ComesFrom (s.image begun.store) (s.image m.store) → ComesFrom (s.image m.store) images → ((rs : List KeyValue) → Holds m rs → IsFile l.WORD rs images)
     → WhereHonest images (OfBase t base (λ x. MakeRuns l.WORD g o x inputs images start now (Ok tt)))
@@ -157,7 +157,7 @@ runs_whole {l = l} t base g o inputs read start now begun m images wide h limit 
       record {
         ok = record {
           based = based;
-          made = record { read = read; are = subst (λ (v : Bool). AreAllInputs (form.input_form o.style v) g read inputs) (sym same) are; goes = put.goes.each a.0 a.1; file = file _ put.holds };
+          made = record { read = read; are = subst (λ (v : Bool). AreAllInputs (form.input_form o.make.style v) g read inputs) (sym same) are; goes = put.goes.each a.0 a.1; file = file _ put.holds };
         };
         err = tt;
       });
@@ -190,8 +190,8 @@ unfinished_memory old new make.Writing x e = absurd (let k : Make make.Writing �
 unfinished_memory old new make.Lookup x e = absurd x
 unfinished_memory old new make.TooBig x e = absurd x
 
-pub runs_unfinished : {S L B : Type 0} {s : Ghosts S} {l : Widths L} (t : Ghosts B) (base : Option B) (g : ℕ) (o : MakeOptions) (inputs : InputsLeft) (read : List (List Change)) (start now : Option (List ℕ)) (begun old new : Maker S L s l) (f : MakeFault)
-    → (l.WORD ≡ 4) ⊎ (l.WORD ≡ 8) → HoldsBase l.WORD t base begun → limit_of begun ≡ o.limit → AreAllInputs (form.input_form o.style (is_some base)) g read inputs
+pub runs_unfinished : {S L B : Type 0} {s : Ghosts S} {l : Widths L} (t : Ghosts B) (base : Option B) (g : ℕ) (o : RunOptions) (inputs : InputsLeft) (read : List (List Change)) (start now : Option (List ℕ)) (begun old new : Maker S L s l) (f : MakeFault)
+    → (l.WORD ≡ 4) ⊎ (l.WORD ≡ 8) → HoldsBase l.WORD t base begun → limit_of begun ≡ o.make.limit → AreAllInputs (form.input_form o.make.style (is_some base)) g read inputs
     → ((k : Task) → k.options ≡ o → InCourse k [] start start begun → InCourse k (from_inputs 1 read) start now old) → ComesFrom (s.image begun.store) (s.image old.store) → ComesFrom (s.image old.store) (s.image new.store)
     → FailsFinishing old new f → WhereHonest (s.image new.store) (OfBase t base (λ x. MakeRuns l.WORD g o x inputs (s.image new.store) start now (Err (make_fault f))))
 runs_unfinished {l = l} t base g o inputs read start now begun old new f wide h limit are course before comes fails = record {
@@ -204,7 +204,7 @@ runs_unfinished {l = l} t base g o inputs read start now begun old new f wide h 
       let put = course k refl begins in
       record {
         ok = tt;
-        err = inr (record { based = based; fails = not_finished g k inputs read start now old new _ b f (subst (λ (v : Bool). AreAllInputs (form.input_form o.style v) g read inputs) (sym same) are) put.holds is (put.goes.each a.0 a.1) fails });
+        err = inr (record { based = based; fails = not_finished g k inputs read start now old new _ b f (subst (λ (v : Bool). AreAllInputs (form.input_form o.make.style v) g read inputs) (sym same) are) put.holds is (put.goes.each a.0 a.1) fails });
       });
 }
 
@@ -258,13 +258,13 @@ fails_kept w g o inputs old mid new (Old side) h k = stop_kept w g o inputs old 
 fails_kept w g o inputs old mid new (New side) h k = stop_kept w g o inputs old mid new (New side) h k
 fails_kept w g o inputs old mid new NoMemory h k = stop_kept w g o inputs old mid new NoMemory h k
 
-run_kept : (w g : ℕ) (o : MakeOptions) (x : Option (List ℕ)) (inputs : InputsLeft) (old mid new : Option (List ℕ)) (f : Fault) → RunFails w g o x inputs old mid f → Keeps mid new → RunFails w g o x inputs old new f
+run_kept : (w g : ℕ) (o : RunOptions) (x : Option (List ℕ)) (inputs : InputsLeft) (old mid new : Option (List ℕ)) (f : Fault) → RunFails w g o x inputs old mid f → Keeps mid new → RunFails w g o x inputs old new f
 run_kept w g o x inputs old mid new f h k = elim h as (λ _. RunFails w g o x inputs old new f) [
   | inl base ↦ inl (record { fails = base.fails; lines = appends_kept old mid new [] base.lines k })
   | inr stop ↦ inr (record { based = stop.based; fails = fails_kept w g (task_of o (records_of w x)) inputs old mid new f stop.fails k })
 ]
 
-runs_kept : (w g : ℕ) (o : MakeOptions) (x : Option (List ℕ)) (inputs : InputsLeft) (images : List ℕ → Type 0) (old mid new : Option (List ℕ)) (r : Result Unit Fault) → MakeRuns w g o x inputs images old mid r → Keeps mid new → MakeRuns w g o x inputs images old new r
+runs_kept : (w g : ℕ) (o : RunOptions) (x : Option (List ℕ)) (inputs : InputsLeft) (images : List ℕ → Type 0) (old mid new : Option (List ℕ)) (r : Result Unit Fault) → MakeRuns w g o x inputs images old mid r → Keeps mid new → MakeRuns w g o x inputs images old new r
 runs_kept w g o x inputs images old mid new (Ok u) h k =
     let made = h.ok.made in
     record {
@@ -276,7 +276,7 @@ runs_kept w g o x inputs images old mid new (Ok u) h k =
     }
 runs_kept w g o x inputs images old mid new (Err f) h k = record { ok = tt; err = run_kept w g o x inputs old mid new f h.err k }
 
-flush_fails : (w g : ℕ) (o : MakeOptions) (x : Option (List ℕ)) (inputs : InputsLeft) (images : List ℕ → Type 0) (old mid new : Option (List ℕ)) (r : Result Unit Fault) → MakeRuns w g o x inputs images old mid r → Keeps mid new → IsOk r → MakeRuns w g o x inputs images old new (Err Output)
+flush_fails : (w g : ℕ) (o : RunOptions) (x : Option (List ℕ)) (inputs : InputsLeft) (images : List ℕ → Type 0) (old mid new : Option (List ℕ)) (r : Result Unit Fault) → MakeRuns w g o x inputs images old mid r → Keeps mid new → IsOk r → MakeRuns w g o x inputs images old new (Err Output)
 flush_fails w g o x inputs images old mid new (Ok u) h k is =
     let t : Task = task_of o (records_of w x) in
     let made = h.ok.made in
@@ -290,7 +290,7 @@ flush_fails w g o x inputs images old mid new (Ok u) h k is =
     }
 flush_fails w g o x inputs images old mid new (Err f) h k is = absurd (not_ok is)
 
-flush_each : (w g : ℕ) (o : MakeOptions) (x : Option (List ℕ)) (inputs : InputsLeft) (images : List ℕ → Type 0) (old mid new : Option (List ℕ)) (answer result : Result Unit Fault) → Flushed mid new answer result → MakeRuns w g o x inputs images old mid answer → MakeRuns w g o x inputs images old new result
+flush_each : (w g : ℕ) (o : RunOptions) (x : Option (List ℕ)) (inputs : InputsLeft) (images : List ℕ → Type 0) (old mid new : Option (List ℕ)) (answer result : Result Unit Fault) → Flushed mid new answer result → MakeRuns w g o x inputs images old mid answer → MakeRuns w g o x inputs images old new result
 flush_each w g o x inputs images old mid new answer result f h = elim f.answered as (λ _. MakeRuns w g o x inputs images old new result) [
   | inl e ↦ subst (MakeRuns w g o x inputs images old new) (sym e) (runs_kept w g o x inputs images old mid new answer h f.kept)
   | inr e ↦ subst (MakeRuns w g o x inputs images old new) (sym e.1) (flush_fails w g o x inputs images old mid new answer h f.kept e.0)
@@ -300,7 +300,7 @@ pub base_weaker : {B : Type 0} (s : Ghosts B) (base : Option B) (P Q : Option (L
 base_weaker s None P Q f h = f None h
 base_weaker s (Some base) P Q f h = λ b is. f (Some b) (h b is)
 
-pub runs_flushed : {B : Type 0} (s : Ghosts B) (base : Option B) (w g : ℕ) (o : MakeOptions) (inputs : InputsLeft) (images : List ℕ → Type 0) (old mid new : Option (List ℕ)) (answer result : Result Unit Fault)
+pub runs_flushed : {B : Type 0} (s : Ghosts B) (base : Option B) (w g : ℕ) (o : RunOptions) (inputs : InputsLeft) (images : List ℕ → Type 0) (old mid new : Option (List ℕ)) (answer result : Result Unit Fault)
     → WhereHonest images (OfBase s base (λ x. MakeRuns w g o x inputs images old mid answer)) → Flushed mid new answer result
     → WhereHonest images (OfBase s base (λ x. MakeRuns w g o x inputs images old new result))
 runs_flushed s base w g o inputs images old mid new answer result h f = record {

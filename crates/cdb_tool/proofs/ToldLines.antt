@@ -7,7 +7,7 @@ use Rattle.std.proofs.lemmas.List.{append-nil}
 use Rattle.std.specs.Io.KnownBytes.{Appends, Keeps}
 use Rattle.cdb_form.specs.Views.KnownBytes.{AppendsPrefix, Writes}
 use Rattle.cdb_form.proofs.Bytes.WritingLemmas.{appends_kept, appends_none, appends_then, prefix_in, prefix_last}
-use Rattle.cdb_command.specs.declared.options.MakeOptions.{MakeOptions}
+use Rattle.cdb_tool.specs.declared.runs.options.RunOptions.{RunOptions}
 use Rattle.cdb_make.specs.declared.answer.Put.{Put}
 use Rattle.cdb_tool.specs.Runs.Course.{meets_key, told}
 use Rattle.cdb_show.specs.Message.{AreLines, TellsEach, TellsPart, Told, duplicate_line, duplicate_lines, plain_lines}
@@ -92,17 +92,17 @@ part_plain names ds old new none h = subst (AppendsPrefix old new) (plain_are na
 
 -- ---- what is told of a put
 
-is_told : (o : MakeOptions) (input number : ℕ) (key : List ℕ) (put : Put) → (o.warn || o.stop) ≡ true → meets_key put ≡ true → told o input number key (Ok put) ≡ record { input = input; number = number; key = key } ∷ []
-is_told o input number key put tells meets = cond-true ((o.warn || o.stop) && meets_key put) _ _ (ap (λ x. x && meets_key put) tells ∙ meets)
+is_told : (o : RunOptions) (input number : ℕ) (key : List ℕ) (put : Put) → (o.make.warn || o.make.stop) ≡ true → meets_key put ≡ true → told o.make input number key (Ok put) ≡ record { input = input; number = number; key = key } ∷ []
+is_told o input number key put tells meets = cond-true ((o.make.warn || o.make.stop) && meets_key put) _ _ (ap (λ x. x && meets_key put) tells ∙ meets)
 
-pub put_told : {A E : Type 0} (result : Result A E) (o : MakeOptions) (input number : ℕ) (line : ℕ) (key : List ℕ) (put : Put) (old new : Option (List ℕ)) → (o.warn || o.stop) ≡ true → meets_key put ≡ true
-    → Writes result old new (duplicate_lines o.names (record { input = input; number = number; key = key }) line) → OnOk result (TellsEach o.names (told o input number key (Ok put)) old new)
+pub put_told : {A E : Type 0} (result : Result A E) (o : RunOptions) (input number : ℕ) (line : ℕ) (key : List ℕ) (put : Put) (old new : Option (List ℕ)) → (o.make.warn || o.make.stop) ≡ true → meets_key put ≡ true
+    → Writes result old new (duplicate_lines o.names (record { input = input; number = number; key = key }) line) → OnOk result (TellsEach o.names (told o.make input number key (Ok put)) old new)
 put_told (Ok done) o input number line key put old new tells meets h =
     subst (λ ds. TellsEach o.names ds old new) (sym (is_told o input number key put tells meets)) (tells_one o.names (record { input = input; number = number; key = key }) line old new h.ok)
 put_told (Err fault) o input number line key put old new tells meets h = tt
 
-pub put_part_told : {A E : Type 0} (result : Result A E) (o : MakeOptions) (input number : ℕ) (line : ℕ) (key : List ℕ) (put : Put) (old new : Option (List ℕ)) → (o.warn || o.stop) ≡ true → meets_key put ≡ true
-    → Writes result old new (duplicate_lines o.names (record { input = input; number = number; key = key }) line) → OnErr result (TellsPart o.names (told o input number key (Ok put)) old new)
+pub put_part_told : {A E : Type 0} (result : Result A E) (o : RunOptions) (input number : ℕ) (line : ℕ) (key : List ℕ) (put : Put) (old new : Option (List ℕ)) → (o.make.warn || o.make.stop) ≡ true → meets_key put ≡ true
+    → Writes result old new (duplicate_lines o.names (record { input = input; number = number; key = key }) line) → OnErr result (TellsPart o.names (told o.make input number key (Ok put)) old new)
 put_part_told (Ok done) o input number line key put old new tells meets h = tt
 put_part_told (Err fault) o input number line key put old new tells meets h =
     subst (λ ds. TellsPart o.names ds old new) (sym (is_told o input number key put tells meets)) (part_one o.names (record { input = input; number = number; key = key }) line old new h.err)

@@ -7,7 +7,7 @@ use Rattle.cdb_form.specs.Format.Walk.{walk_of}
 use Rattle.cdb_form.specs.Text.Native.{text_of}
 use Rattle.cdb_read.specs.Difference.{difference}
 use Rattle.cdb_read.specs.Laws.{brought_up}
-use Rattle.cdb_tool.specs.Runs.Course.{course_of, task_of}
+use Rattle.cdb_tool.specs.Runs.Course.{course_of, plain, task_of}
 use Rattle.cdb_show.specs.Runs.Incoming.{from_inputs}
 use Rattle.cdb_show.specs.Runs.Form.{dump_form}
 use Rattle.cdb_show.specs.Runs.WalkText.{walk_text}
@@ -23,7 +23,7 @@ pub record Restores (w greatest : ℕ) (records : List KeyValue) : Type 0 where
 -- a run whose base has the records rs, and whose one input says the difference of rs and ss, does all
 -- of it
 pub record MakerHoldsAll (w : ℕ) (options : MakeOptions) (rs ss : List KeyValue) : Type 0 where
-  pub records : (course_of w (task_of options (Some rs))
+  pub records : (course_of w (task_of (plain options) (Some rs))
       (from_inputs 1 (difference rs ss ∷ []))).records ≡ brought_up rs ss
-  pub going : (course_of w (task_of options (Some rs))
+  pub going : (course_of w (task_of (plain options) (Some rs))
       (from_inputs 1 (difference rs ss ∷ []))).ended ≡ None

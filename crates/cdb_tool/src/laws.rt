@@ -8,6 +8,7 @@ ghost use Rattle.cdb_tool.specs.Laws.{MakerHoldsAll, Restores};
 ghost use Rattle.cdb_tool.specs.Runs.Course.{mode_of};
 ghost use Rattle.cdb_tool.specs.Runs.MakesSo.{RunsComeOf};
 
+use crate::runs::options::RunOptions;
 use cdb_command::MakeOptions;
 use cdb_form::{Record, Width};
 
@@ -22,7 +23,7 @@ pub fn dump_and_make_restore<L: Width>(_records: &[Record])
 /// base and the new records to it, holds records that answer each key as the new ones do, if their
 /// file fits: `lookup_of_brought_up` of `cdb_read` says so of the file.
 pub fn difference_amends_base<L: Width>(
-    _options: MakeOptions<'_>,
+    _options: MakeOptions,
     _base: &[Record],
     _new: &[Record],
 )
@@ -34,6 +35,6 @@ pub fn difference_amends_base<L: Width>(
 /// What a run leaves that makes a database is what one function of its options, of its base and of
 /// its inputs says: the records of the file, the duplicates that are told and the answer. Or the run
 /// reports a refusal, and its lines are a prefix of those.
-pub fn made_is_the_run<L: Width>(_options: MakeOptions<'_>)
+pub fn made_is_the_run<L: Width>(_options: RunOptions<'_>)
     ensures { RunsComeOf L.WORD L.GREATEST _options.entry }
 {}

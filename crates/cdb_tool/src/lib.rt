@@ -17,3 +17,4 @@ pub use cdb_show::{
 };
 pub use runs::make::{make_run, make_run_from, put_inputs};
 pub use runs::make_bytes::make_bytes;
+pub use runs::options::RunOptions;

@@ -3,3 +3,4 @@ pub mod make;
 mod make_base;
 pub mod make_bytes;
 mod make_input;
+pub mod options;

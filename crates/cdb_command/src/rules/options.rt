@@ -38,7 +38,7 @@ fn mode_of(flags: Flags) -> Mode
 }
 
 /// How a database is to be made.
-pub(crate) fn options_of(flags: Flags) -> MakeOptions<'static>
+pub(crate) fn options_of(flags: Flags) -> MakeOptions
     ensures { result ≡ options_of flags }
 {
     MakeOptions {
@@ -47,7 +47,6 @@ pub(crate) fn options_of(flags: Flags) -> MakeOptions<'static>
         stop: flags.stop,
         style: style_of(flags),
         limit: if flags.wide { WIDE_LIMIT } else { NARROW_LIMIT },
-        names: None,
     }
 }
 

@@ -24,8 +24,7 @@ fn creates(
 ) -> Result<bool, AllocError> {
     let shown = format!(in alloc;
         "Create {{ name: \"x\", base: {base}, inputs: [{inputs}], \
-        temporary: {temporary}, options: MakeOptions {{ {options}, limit: 4294967295, \
-        names: None }}, \
+        temporary: {temporary}, options: MakeOptions {{ {options}, limit: 4294967295 }}, \
         wide: false }}"
     )?;
     asks(alloc, line, shown.as_str())
@@ -151,8 +150,7 @@ fn lines_ask_for_what_is_made(rt: HostRuntime) -> Result<(), Fail> {
 fn a_wide_line_asks_for_a_wide_file(rt: HostRuntime) -> Result<(), Fail> {
     let shown =
         "Create { name: \"x\", base: None, inputs: [], temporary: None, options: MakeOptions { \
-        mode: Add, warn: false, stop: false, style: Native, limit: 9223372036854775807, \
-        names: None }, \
+        mode: Add, warn: false, stop: false, style: Native, limit: 9223372036854775807 }, \
         wide: true }";
     assert!(rt; asks(rt.alloc(), "-cW x", shown)?, "-cW x");
     Ok(())
@@ -185,7 +183,7 @@ fn lines_ask_for_a_base(rt: HostRuntime) -> Result<(), Fail> {
 fn a_base_is_taken_on_standard_output(rt: HostRuntime) -> Result<(), Fail> {
     let shown = "Create { name: \"-\", base: Some(\"-.tmp\"), inputs: [], temporary: None, \
         options: MakeOptions { mode: Add, warn: false, stop: false, style: Native, \
-        limit: 4294967295, names: None }, wide: false }";
+        limit: 4294967295 }, wide: false }";
     assert!(rt; asks(rt.alloc(), "-c -b-.tmp -", shown)?, "-c -b-.tmp -");
     Ok(())
 }

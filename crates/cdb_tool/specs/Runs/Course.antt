@@ -15,15 +15,20 @@ use Rattle.cdb_show.specs.Message.{TellsEach, TellsPart, Told}
 use Rattle.cdb_show.specs.declared.fault.Fault.{Fault}
 use Rattle.cdb_show.specs.declared.fault.Fault.TheVariants.{Make, Duplicate, Output, NoMemory}
 use Rattle.cdb_command.specs.declared.options.MakeOptions.{MakeOptions}
+use Rattle.cdb_tool.specs.declared.runs.options.RunOptions.{RunOptions}
 use Rattle.cdb_show.specs.Runs.Incoming.{Incoming}
 
 -- what a run is to do: its options, and the records of its base, if it has one
 pub record Task : Type 0 where
-  pub options : MakeOptions
+  pub options : RunOptions
   pub base : Option (List KeyValue)
 
-abbrev pub task_of : MakeOptions → Option (List KeyValue) → Task
+abbrev pub task_of : RunOptions → Option (List KeyValue) → Task
 task_of options base = record { options = options; base = base }
+
+-- the options of a run that explains no duplicate
+abbrev pub plain : MakeOptions → RunOptions
+plain o = record { make = o; names = None }
 
 -- how each record is put
 abbrev pub mode_of : MakeOptions → Mode
@@ -85,16 +90,16 @@ with_next w o s c = if is_going s.ended then with_change w o s c.input c.number 
 
 -- the course over these items
 abbrev pub course_of : ℕ → Task → List Incoming → Course
-course_of w t cs = fold (with_next w t.options) (at_start t) cs
+course_of w t cs = fold (with_next w t.options.make) (at_start t) cs
 
 -- what is told of a put where the run stops there: its line was appended, or a prefix of it where
 -- the writer failed
-abbrev pub TellFails : MakeOptions → ℕ → ℕ → (key : List ℕ) → Put → Option (List ℕ)
+abbrev pub TellFails : RunOptions → ℕ → ℕ → (key : List ℕ) → Put → Option (List ℕ)
     → Option (List ℕ) → Fault → Type 0
 TellFails o input number key put old new Duplicate =
-    TellsEach o.names (told o input number key (Ok put)) old new × (ends o (Ok put) ≡ Some Duplicate)
+    TellsEach o.names (told o.make input number key (Ok put)) old new × (ends o.make (Ok put) ≡ Some Duplicate)
 TellFails o input number key put old new Output =
-    TellsPart o.names (told o input number key (Ok put)) old new
+    TellsPart o.names (told o.make input number key (Ok put)) old new
 TellFails o input number key put old new fault = ⊥
 
 -- the run has not ended, and its lines were appended

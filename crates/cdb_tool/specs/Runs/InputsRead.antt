@@ -9,7 +9,7 @@ use Rattle.cdb_form.specs.declared.text.fault.TextFault.TheVariants as text_faul
 use Rattle.cdb_feed.specs.Inputs.{AreRead, Stop, StopsSo, NoMore, HasFault, CutShort, NotBegun}
 use Rattle.cdb_feed.specs.declared.input_reader.InputReader.{InputReader}
 use Rattle.cdb_make.specs.Views.Maker.{WhereHonest}
-use Rattle.cdb_command.specs.declared.options.MakeOptions.{MakeOptions}
+use Rattle.cdb_tool.specs.declared.runs.options.RunOptions.{RunOptions}
 use Rattle.cdb_show.specs.Runs.Inputs.{InputForm, InputsLeft, AreInputs, FirstHas, HasFaults, input_form}
 use Rattle.cdb_show.specs.Views.Inputs.{ArePassed, shared_feed}
 use Rattle.cdb_show.specs.declared.fault.Fault.{Fault}
@@ -77,12 +77,12 @@ pub record HasRead (form : InputForm) (greatest : ℕ) (answer : Result Unit Fau
 
 -- What a run leaves that read its inputs, by its base as it was and as it was handed back: what `MakeRuns` says of
 -- any inputs that agree with what was read.
-pub record RunsRead {B J I : Type 0} (w greatest : ℕ) (o : MakeOptions) (own : J → Feed) (shared : I → Feed)
+pub record RunsRead {B J I : Type 0} (w greatest : ℕ) (o : RunOptions) (own : J → Feed) (shared : I → Feed)
     (s : Ghosts B) (was base : Option B) (before after : Inputs J I) (images : List ℕ → Type 0)
     (old new : Option (List ℕ)) (result : Result Unit Fault) : Type 0 where
   pub read : List (List Change)
   pub stop : Stop Change TextFault
-  pub were : WereRead own shared (input_form o.style (is_some was)) greatest result read stop before after
+  pub were : WereRead own shared (input_form o.make.style (is_some was)) greatest result read stop before after
   pub runs : (inputs : InputsLeft)
-      → HasRead (input_form o.style (is_some was)) greatest result read stop inputs
+      → HasRead (input_form o.make.style (is_some was)) greatest result read stop inputs
       → WhereHonest images (OfBase s base (λ b. MakeRuns w greatest o b inputs images old new result))

@@ -13,7 +13,7 @@ use Rattle.cdb_form.specs.declared.text.fault.TextFault.{TextFault}
 use Rattle.cdb_store.specs.declared.make_fault.MakeFault.TheVariants.{TooBig}
 use Rattle.cdb_read.specs.Views.ReadFault.{damage_fault}
 use Rattle.cdb_show.specs.Message.{Told, plain_lines}
-use Rattle.cdb_tool.specs.Runs.Course.{Task, task_of, course_of}
+use Rattle.cdb_tool.specs.Runs.Course.{Task, course_of, plain, task_of}
 use Rattle.cdb_show.specs.Runs.Incoming.{from_inputs}
 use Rattle.cdb_show.specs.Runs.Inputs.{InputForm, Puts, Changes, Lists, input_form}
 use Rattle.cdb_tool.specs.Runs.Make.{records_of}
@@ -65,7 +65,7 @@ unless_stopped (Some fault) made = record { records = []; told = []; result = Er
 abbrev pub made_of : (w g : ℕ) → MakeOptions → (base : Option (List ℕ))
     → (inputs : List (Option (List ℕ))) → (shared : List ℕ) → Made
 made_of w g o base inputs shared =
-    unless_stopped (base_fault w o.limit base) (made_from w (task_of o (records_of w base))
+    unless_stopped (base_fault w o.limit base) (made_from w (task_of (plain o) (records_of w base))
     (given_from (input_form o.style (is_some (records_of w base))) g 1 inputs shared))
 
 -- the lines of its duplicates, where none is explained

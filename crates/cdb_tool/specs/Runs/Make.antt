@@ -26,7 +26,7 @@ use Rattle.cdb_show.specs.Runs.Inputs.{InputsLeft, AreInputs, AreAllInputs, Firs
 use Rattle.cdb_show.specs.Views.Output.{OutputSays}
 use Rattle.cdb_show.specs.declared.fault.Fault.{Fault}
 use Rattle.cdb_show.specs.declared.fault.Fault.TheVariants.{Text, Make, Read, NoMemory}
-use Rattle.cdb_command.specs.declared.options.MakeOptions.{MakeOptions}
+use Rattle.cdb_tool.specs.declared.runs.options.RunOptions.{RunOptions}
 use Rattle.cdb_command.specs.declared.style.Style.TheVariants.{Native}
 use Rattle.cdb_show.specs.Runs.Incoming.{came}
 
@@ -75,7 +75,7 @@ BaseHasFailed s old new = ⊥
 
 -- the form of the inputs of a run
 abbrev pub form_of : Task → InputForm
-form_of t = input_form t.options.style (is_some t.base)
+form_of t = input_form t.options.make.style (is_some t.base)
 
 -- all inputs were read, and each image is the file of the records that the run came to
 pub record MakesDatabase (w greatest : ℕ) (t : Task) (inputs : InputsLeft)
@@ -96,7 +96,7 @@ pub record MeetsInput (w greatest : ℕ) (t : Task) (inputs : InputsLeft)
   pub first : FirstHas rest input
   pub numbered : number ≡ length read + 1
   pub memory : fault ≢ text_fault.NoMemory
-  pub native : IsOfText fault → t.options.style ≡ Native
+  pub native : IsOfText fault → t.options.make.style ≡ Native
   pub has : IfSome input (HasItemFault (form_of t) greatest last fault)
   pub goes : Goes w t (came read last) old new
 
@@ -120,10 +120,10 @@ InputsFail w greatest t inputs old new fault = MakeStops w greatest t inputs old
 -- ---- the run
 
 -- it made the database of its base and its inputs
-pub record Makes (w greatest : ℕ) (o : MakeOptions) (base : Option (List ℕ))
+pub record Makes (w greatest : ℕ) (o : RunOptions) (base : Option (List ℕ))
     (inputs : InputsLeft) (images : List ℕ → Type 0) (old new : Option (List ℕ))
     : Type 0 where
-  pub based : IsSomeBase w o.limit base
+  pub based : IsSomeBase w o.make.limit base
   pub made : MakesDatabase w greatest (task_of o (records_of w base)) inputs images old new
 
 -- its base failed, and no line was written; or it came to the inputs
@@ -132,18 +132,18 @@ pub record BaseStops (w limit : ℕ) (base : Option (List ℕ)) (old new : Optio
   pub fails : SomeBaseFails w limit base fault
   pub lines : Appends old new []
 
-pub record InputsStop (w greatest : ℕ) (o : MakeOptions) (base : Option (List ℕ))
+pub record InputsStop (w greatest : ℕ) (o : RunOptions) (base : Option (List ℕ))
     (inputs : InputsLeft) (old new : Option (List ℕ)) (fault : Fault) : Type 0 where
-  pub based : IsSomeBase w o.limit base
+  pub based : IsSomeBase w o.make.limit base
   pub fails : InputsFail w greatest (task_of o (records_of w base)) inputs old new fault
 
-abbrev pub RunFails : ℕ → ℕ → MakeOptions → Option (List ℕ) → InputsLeft
+abbrev pub RunFails : ℕ → ℕ → RunOptions → Option (List ℕ) → InputsLeft
     → Option (List ℕ) → Option (List ℕ) → Fault → Type 0
 RunFails w greatest o base inputs old new fault =
-    BaseStops w o.limit base old new fault ⊎ InputsStop w greatest o base inputs old new fault
+    BaseStops w o.make.limit base old new fault ⊎ InputsStop w greatest o base inputs old new fault
 
 -- what a run leaves, where its store has an image
-pub record MakeRuns (w greatest : ℕ) (o : MakeOptions) (base : Option (List ℕ))
+pub record MakeRuns (w greatest : ℕ) (o : RunOptions) (base : Option (List ℕ))
     (inputs : InputsLeft) (images : List ℕ → Type 0) (old new : Option (List ℕ))
     (result : Result Unit Fault) : Type 0 where
   pub ok : OnOk result (Makes w greatest o base inputs images old new)
@@ -161,11 +161,11 @@ IsOfStore fault = ⊥
 pub record InCourse {S L : Type 0} {s : Ghosts S} {l : Widths L} (t : Task)
     (cs : List Incoming) (old new : Option (List ℕ)) (m : Maker S L s l) : Type 0 where
   pub holds : Holds m (course_of l.WORD t cs).records
-  pub limit : limit_of m ≡ t.options.limit
+  pub limit : limit_of m ≡ t.options.make.limit
   pub goes : WhereHonest (s.image m.store) (Goes l.WORD t cs old new)
 
 -- the items of an input of this number were done, behind those of the inputs that were read
-abbrev pub PutsItems : {S L : Type 0} {s : Ghosts S} {l : Widths L} → MakeOptions → (number : ℕ)
+abbrev pub PutsItems : {S L : Type 0} {s : Ghosts S} {l : Widths L} → RunOptions → (number : ℕ)
     → List Change → (before now : Option (List ℕ)) → (old new : Maker S L s l) → Type 0
 PutsItems o number last before now old new =
     (t : Task) (read : List (List Change)) (start : Option (List ℕ)) → t.options ≡ o
@@ -226,7 +226,7 @@ pub record StoppedAt {S L : Type 0} {s : Ghosts S} {l : Widths L} (t : Task) (cs
   pub stands : IsHalt fault → MakeStandsAt t cs old new m
 
 -- it stopped behind these items of an input of this number, behind those of the inputs that were read
-abbrev pub PutsStop : {S L : Type 0} {s : Ghosts S} {l : Widths L} → MakeOptions → (number : ℕ)
+abbrev pub PutsStop : {S L : Type 0} {s : Ghosts S} {l : Widths L} → RunOptions → (number : ℕ)
     → List Change → (before now : Option (List ℕ)) → (old new : Maker S L s l) → Fault → Type 0
 PutsStop o number last before now old new fault =
     (t : Task) (read : List (List Change)) (start : Option (List ℕ)) → t.options ≡ o
@@ -234,14 +234,14 @@ PutsStop o number last before now old new fault =
     → StoppedAt t (came read last) start now new fault
 
 -- the items of the first inputs were done; and then the run stopped, behind these items of the next one
-abbrev pub PutsInputs : {S L : Type 0} {s : Ghosts S} {l : Widths L} → MakeOptions
+abbrev pub PutsInputs : {S L : Type 0} {s : Ghosts S} {l : Widths L} → RunOptions
     → (read : List (List Change)) → (before now : Option (List ℕ)) → (old new : Maker S L s l)
     → Type 0
 PutsInputs o read before now old new =
     (t : Task) (start : Option (List ℕ)) → t.options ≡ o → InCourse t [] start before old
     → InCourse t (from_inputs 1 read) start now new
 
-abbrev pub PutsInputsStop : {S L : Type 0} {s : Ghosts S} {l : Widths L} → MakeOptions
+abbrev pub PutsInputsStop : {S L : Type 0} {s : Ghosts S} {l : Widths L} → RunOptions
     → (read : List (List Change)) → (last : List Change) → (before now : Option (List ℕ))
     → (old new : Maker S L s l) → Fault → Type 0
 PutsInputsStop o read last before now old new fault =

@@ -1,7 +1,7 @@
 -- When a run that makes a database comes to what the function of its bytes says.
 use Rattle.std.specs.Prelude.{ℕ, ◌≡◌, ◌⊎◌, ⊤, map, OnOk, List, [], ◌∷◌, Option, None, Some, Result}
 use Rattle.std.specs.Prelude.{Err}
-use Rattle.cdb_command.specs.declared.options.MakeOptions.{MakeOptions}
+use Rattle.cdb_tool.specs.declared.runs.options.RunOptions.{RunOptions}
 use Rattle.cdb_form.specs.Format.Record.{AreBytes}
 use Rattle.cdb_form.specs.declared.text.fault.TextFault.TheVariants as text
 use Rattle.cdb_make.specs.Views.Maker.{IsFile}
@@ -17,7 +17,7 @@ use Rattle.cdb_show.specs.declared.fault.Fault.TheVariants.{Text, Make, Read, Ou
 use Rattle.cdb_show.specs.Runs.Incoming.{Known}
 
 -- it came to what was said, and its duplicates were told
-pub record MakesSo (w : ℕ) (o : MakeOptions) (m : Made) (images : List ℕ → Type 0) (old new : Option (List ℕ)) (result : Result Unit Fault) : Type 0 where
+pub record MakesSo (w : ℕ) (o : RunOptions) (m : Made) (images : List ℕ → Type 0) (old new : Option (List ℕ)) (result : Result Unit Fault) : Type 0 where
   pub is : result ≡ m.result
   pub lines : TellsEach o.names m.told old new
   pub file : OnOk result (IsFile w m.records images)
@@ -34,18 +34,18 @@ IsMakeRefusal NoMemory = ⊤
 IsMakeRefusal fault = ⊥
 
 -- or that was refused, and the lines are a prefix
-pub record MakeRefused (o : MakeOptions) (m : Made) (old new : Option (List ℕ)) (result : Result Unit Fault) : Type 0 where
+pub record MakeRefused (o : RunOptions) (m : Made) (old new : Option (List ℕ)) (result : Result Unit Fault) : Type 0 where
   pub fault : Fault
   pub is : result ≡ Err fault
   pub refusal : IsMakeRefusal fault
   pub lines : TellsPart o.names m.told old new
 
-abbrev pub ComesOf : ℕ → MakeOptions → Made → (images : List ℕ → Type 0) → (old new : Option (List ℕ)) → Result Unit Fault → Type 0
+abbrev pub ComesOf : ℕ → RunOptions → Made → (images : List ℕ → Type 0) → (old new : Option (List ℕ)) → Result Unit Fault → Type 0
 ComesOf w o m images old new result = MakesSo w o m images old new result ⊎ MakeRefused o m old new result
 
 -- what a run leaves whose store has this image is what the function says, or a refusal
-abbrev pub RunsComeOf : (w g : ℕ) → MakeOptions → Type 0
+abbrev pub RunsComeOf : (w g : ℕ) → RunOptions → Type 0
 RunsComeOf w g o = (base : Option (List ℕ)) (inputs : List (Option (List ℕ))) (shared : List ℕ)
     (left : InputsLeft) (image : List ℕ) (old new : Option (List ℕ)) (result : Result Unit Fault)
     → Known inputs shared left → MakeRuns w g o base left (λ b. b ≡ image) old new result
-    → ComesOf w o (made_of w g o base inputs shared) (λ b. b ≡ image) old new result
+    → ComesOf w o (made_of w g o.make base inputs shared) (λ b. b ≡ image) old new result

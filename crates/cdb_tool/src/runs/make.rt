@@ -13,6 +13,7 @@ ghost use Rattle.cdb_show.specs.Views.Inputs.{ArePassed, shared_feed};
 ghost use Rattle.cdb_show.specs.Views.Output.{OutputSays};
 ghost use Rattle.cdb_show.specs.Views.Window.{feed_of};
 ghost use Rattle.cdb_show.specs.declared.fault.Fault.TheVariants.{NoMemory, Text};
+ghost use Rattle.cdb_tool.specs.Runs.Course.{plain};
 ghost use Rattle.cdb_tool.specs.Runs.FormParsing.{parsing};
 ghost use Rattle.cdb_tool.specs.Runs.InputsRead.{IsFaultAt, RunsRead, StopsInput, WereRead, stop_by};
 ghost use Rattle.cdb_tool.specs.Runs.Make.{StepsOn, MakeRuns, IsOfStore, IsOfBase};
@@ -21,6 +22,7 @@ ghost use Rattle.cdb_tool.specs.Runs.Make.{PutsInputs, PutsInputsStop, PutsItems
 
 use crate::runs::make_base::add_base;
 use crate::runs::make_input::put_input;
+use crate::runs::options::RunOptions;
 use cdb_command::MakeOptions;
 use cdb_feed::InputReader;
 use cdb_form::{Feeds, Sink, Width};
@@ -38,7 +40,7 @@ use std::mem::replace;
 fn put_text<L: Width, S: Store, F: Feeds + Drop, E: Sink>(
     alloc: Global,
     maker: &mut Maker<S, L>,
-    options: &MakeOptions<'_>,
+    options: &RunOptions<'_>,
     amends: bool,
     number: u64,
     window: Window<F>,
@@ -47,11 +49,11 @@ fn put_text<L: Width, S: Store, F: Feeds + Drop, E: Sink>(
 ) -> (Window<F>, Result<(), Fault>)
     ensures ok { OnOk result.1 ((last : List Change)
         × FromTo (feed_of F.feed window) (feed_of F.feed result.0)
-        (IsInputOf (input_form options.now.style amends) L.GREATEST last)
+        (IsInputOf (input_form options.now.make.style amends) L.GREATEST last)
         × PutsItems options.now number last (E.contents errors.old) (E.contents errors.new)
         maker.old maker.new) }
     ensures fails { IfErr result.1 (λ fault. (last : List Change)
-        × StopsBehind (input_form options.now.style amends) L.GREATEST number last
+        × StopsBehind (input_form options.now.make.style amends) L.GREATEST number last
         (feed_of F.feed window) (feed_of F.feed result.0) fault
         × PutsStop options.now number last (E.contents errors.old) (E.contents errors.new)
         maker.old maker.new fault) }
@@ -59,13 +61,13 @@ fn put_text<L: Width, S: Store, F: Feeds + Drop, E: Sink>(
 {
     if options.names.is_some() {
         let lined = Lined::new(window, lines);
-        let mut items = ItemReader::new(alloc, options.style, amends, lined);
+        let mut items = ItemReader::new(alloc, options.make.style, amends, lined);
         let put = put_input::<L, S, _, E, InLined>(
             alloc, maker, options, number, &mut items, lines, errors,
         );
         return (items.into_reader().into_window(), put);
     }
-    let mut items = ItemReader::new(alloc, options.style, amends, window);
+    let mut items = ItemReader::new(alloc, options.make.style, amends, window);
     let put = put_input::<L, S, _, E, InWindow>(
         alloc, maker, options, number, &mut items, lines, errors,
     );
@@ -77,7 +79,7 @@ fn put_text<L: Width, S: Store, F: Feeds + Drop, E: Sink>(
 fn put_turn<L: Width, S: Store, J: Feeds + Drop, I: Feeds + Drop, E: Sink>(
     alloc: Global,
     maker: &mut Maker<S, L>,
-    options: &MakeOptions<'_>,
+    options: &RunOptions<'_>,
     amends: bool,
     number: u64,
     turn: &mut InputReader<J>,
@@ -87,12 +89,12 @@ fn put_turn<L: Width, S: Store, J: Feeds + Drop, I: Feeds + Drop, E: Sink>(
 ) -> (SharedWindow<I>, Result<(), Fault>)
     ensures ok { OnOk result.1 ((last : List Change)
         × TakesOne J.feed (shared_feed I.feed)
-        (IsInputOf (input_form options.now.style amends) L.GREATEST last)
+        (IsInputOf (input_form options.now.make.style amends) L.GREATEST last)
         turn.old turn.new shared result.0
         × PutsItems options.now number last (E.contents errors.old) (E.contents errors.new)
         maker.old maker.new) }
     ensures fails { IfErr result.1 (λ fault. (last : List Change)
-        × StopsInput J.feed (shared_feed I.feed) (input_form options.now.style amends) L.GREATEST
+        × StopsInput J.feed (shared_feed I.feed) (input_form options.now.make.style amends) L.GREATEST
         number last fault turn.old turn.new shared result.0
         × PutsStop options.now number last (E.contents errors.old) (E.contents errors.new)
         maker.old maker.new fault) }
@@ -134,7 +136,7 @@ fn put_turn<L: Width, S: Store, J: Feeds + Drop, I: Feeds + Drop, E: Sink>(
 fn put_turns<L: Width, S: Store, J: Feeds + Drop, I: Feeds + Drop, E: Sink>(
     alloc: Global,
     maker: &mut Maker<S, L>,
-    options: &MakeOptions<'_>,
+    options: &RunOptions<'_>,
     amends: bool,
     readers: &mut [InputReader<J>],
     shared: SharedWindow<I>,
@@ -143,17 +145,17 @@ fn put_turns<L: Width, S: Store, J: Feeds + Drop, I: Feeds + Drop, E: Sink>(
 ) -> (SharedWindow<I>, Result<(), Fault>)
     ensures ok { OnOk result.1 ((read : List (List Change))
         × AreRead J.feed (shared_feed I.feed)
-        (parsing (input_form options.now.style amends) L.GREATEST (Ok tt)) read NoMore
+        (parsing (input_form options.now.make.style amends) L.GREATEST (Ok tt)) read NoMore
         readers.old readers.new shared result.0
         × PutsInputs options.now read (E.contents errors.old) (E.contents errors.new)
         maker.old maker.new) }
     ensures fails { IfErr result.1 (λ fault. (read : List (List Change)) × (last : List Change)
         × AreRead J.feed (shared_feed I.feed)
-        (parsing (input_form options.now.style amends) L.GREATEST (Err fault)) read
+        (parsing (input_form options.now.make.style amends) L.GREATEST (Err fault)) read
         (stop_by fault last) readers.old readers.new shared result.0
         × ArePassed read (stop_by fault last) readers.old readers.new
         × ((n : ℕ) (f : TextFault) → fault ≡ Text n f
-        → IsFaultAt (input_form options.now.style amends) (length read + 1) n f)
+        → IsFaultAt (input_form options.now.make.style amends) (length read + 1) n f)
         × PutsInputsStop options.now read last (E.contents errors.old) (E.contents errors.new)
         maker.old maker.new fault) }
     ensures step { StepsOn maker.old maker.new ⊥ (E.failed errors.new) result.1 }
@@ -195,22 +197,22 @@ fn put_turns<L: Width, S: Store, J: Feeds + Drop, I: Feeds + Drop, E: Sink>(
 pub fn put_inputs<L: Width, S: Store, J: Feeds + Drop, I: Feeds + Drop, E: Sink>(
     alloc: Global,
     maker: &mut Maker<S, L>,
-    options: &MakeOptions<'_>,
+    options: &RunOptions<'_>,
     amends: bool,
     inputs: Inputs<J, I>,
     lines: &Lines,
     errors: &mut E,
 ) -> (Inputs<J, I>, Result<(), Fault>)
     ensures ok { OnOk result.1 ((read : List (List Change))
-        × WereRead J.feed I.feed (input_form options.now.style amends) L.GREATEST (Ok tt) read
+        × WereRead J.feed I.feed (input_form options.now.make.style amends) L.GREATEST (Ok tt) read
         NoMore inputs result.0
         × PutsInputs options.now read (E.contents errors.old) (E.contents errors.new)
         maker.old maker.new) }
     ensures fails { IfErr result.1 (λ fault. (read : List (List Change)) × (last : List Change)
-        × WereRead J.feed I.feed (input_form options.now.style amends) L.GREATEST (Err fault) read
+        × WereRead J.feed I.feed (input_form options.now.make.style amends) L.GREATEST (Err fault) read
         (stop_by fault last) inputs result.0
         × ((n : ℕ) (f : TextFault) → fault ≡ Text n f
-        → IsFaultAt (input_form options.now.style amends) (length read + 1) n f)
+        → IsFaultAt (input_form options.now.make.style amends) (length read + 1) n f)
         × PutsInputsStop options.now read last (E.contents errors.old) (E.contents errors.new)
         maker.old maker.new fault) }
     ensures step { StepsOn maker.old maker.new ⊥ (E.failed errors.new) result.1 }
@@ -251,12 +253,12 @@ fn make_unflushed<L: Width, S: Store, B: Store, J: Feeds + Drop, I: Feeds + Drop
     store: S,
     base: Option<B>,
     inputs: Inputs<J, I>,
-    options: &MakeOptions<'_>,
+    options: &RunOptions<'_>,
     lines: &Lines,
     errors: &mut E,
 ) -> Made<S, B, J, I>
-    requires head { head_size L.WORD ≤ options.now.limit }
-    requires words { options.now.limit ≤ L.GREATEST }
+    requires head { head_size L.WORD ≤ options.now.make.limit }
+    requires words { options.now.make.limit ≤ L.GREATEST }
     ensures runs { RunsRead L.WORD L.GREATEST options.now J.feed I.feed B.Store base result.base
         inputs result.inputs (S.image result.store) (E.contents errors.old)
         (E.contents errors.new) result.answer }
@@ -269,7 +271,7 @@ fn make_unflushed<L: Width, S: Store, B: Store, J: Feeds + Drop, I: Feeds + Drop
     ensures base_failed { IfErr result.answer (λ f. IsOfBase f → BaseHasFailed B.Store base result.base) }
     ensures output { OutputSays (E.failed errors.new) result.answer }
 {
-    let mut maker = match Maker::<S, L>::lazy(alloc, store, options.limit) {
+    let mut maker = match Maker::<S, L>::lazy(alloc, store, options.make.limit) {
         Ok(maker) => maker,
         Err(refused) => {
             return Made {
@@ -351,13 +353,13 @@ pub fn make_run<L: Width, S: Store, B: Store, R: Read + Drop, E: Sink>(
     store: S,
     base: Option<B>,
     inputs: Vec<R>,
-    options: MakeOptions<'_>,
+    options: MakeOptions,
     errors: &mut E,
 ) -> (S, Option<B>, Result<(), Fault>)
     requires head { head_size L.WORD ≤ options.limit }
     requires words { options.limit ≤ L.GREATEST }
     ensures runs { WhereHonest (S.image result.0) (OfBase B.Store result.1 (λ base.
-        MakeRuns L.WORD L.GREATEST options.entry base (own_inputs (map R.remaining inputs.items))
+        MakeRuns L.WORD L.GREATEST (plain options.entry) base (own_inputs (map R.remaining inputs.items))
         (S.image result.0) (E.contents errors.old) (E.contents errors.new) result.2)) }
     ensures hands { HandsBack B.Store base result.1 }
     ensures settled { OnOk result.2 (S.settled result.0) }
@@ -372,7 +374,11 @@ pub fn make_run<L: Width, S: Store, B: Store, R: Read + Drop, E: Sink>(
         let answer = flushed(errors, Err(Fault::NoMemory));
         return (store, base, answer);
     };
-    let lines = Lines::new(options.names.is_some());
+    let lines = Lines::new(false);
+    let options = RunOptions {
+        make: options,
+        names: None,
+    };
     let (store, base, _inputs, answer) = make_run_from::<L, S, B, R, _, E>(
         alloc, store, base, inputs, options, &lines, errors,
     );
@@ -391,12 +397,12 @@ pub fn make_run_from<L: Width, S: Store, B: Store, J: Feeds + Drop, I: Feeds + D
     store: S,
     base: Option<B>,
     inputs: Inputs<J, I>,
-    options: MakeOptions<'_>,
+    options: RunOptions<'_>,
     lines: &Lines,
     errors: &mut E,
 ) -> (S, Option<B>, Inputs<J, I>, Result<(), Fault>)
-    requires head { head_size L.WORD ≤ options.limit }
-    requires words { options.limit ≤ L.GREATEST }
+    requires head { head_size L.WORD ≤ options.make.limit }
+    requires words { options.make.limit ≤ L.GREATEST }
     ensures runs { RunsRead L.WORD L.GREATEST options.entry J.feed I.feed B.Store base result.1
         inputs result.2 (S.image result.0) (E.contents errors.old) (E.contents errors.new)
         result.3 }

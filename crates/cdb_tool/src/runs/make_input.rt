@@ -19,6 +19,7 @@ ghost use Rattle.cdb_tool.specs.Runs.Make.{InCourse, StepsOn, PutStops, IsOfStor
 ghost use Rattle.cdb_tool.specs.Runs.Make.{MakeStandsAt, IsHalt, IsNoText, TakesNext};
 ghost use Rattle.cdb_tool.specs.Runs.Make.{PutsItems, PutsStop};
 
+use crate::runs::options::RunOptions;
 use cdb_command::{MakeOptions, Style};
 use cdb_form::{AtHand, Feeds, ItemKind, OutFault, Record, Sink, Width};
 use cdb_make::{Maker, Mode, Put};
@@ -27,7 +28,7 @@ use cdb_store::Store;
 use std::alloc::Global;
 
 /// How each record is put.
-fn put_mode(options: &MakeOptions<'_>) -> Mode
+fn put_mode(options: &MakeOptions) -> Mode
     ensures { result ≡ mode_of options.now }
 {
     if options.stop {
@@ -38,7 +39,7 @@ fn put_mode(options: &MakeOptions<'_>) -> Mode
 }
 
 /// Whether a record is told whose key was there already.
-fn tells(options: &MakeOptions<'_>) -> bool
+fn tells(options: &MakeOptions) -> bool
     ensures { result ≡ (options.now.warn || options.now.stop) }
 {
     options.warn || options.stop
@@ -57,7 +58,7 @@ fn meets_key(put: Put) -> bool
 /// Reports a put that met its key, if the options say so. Its record begins at this line of its input.
 #[inline(always)]
 fn write_put<E: Sink>(
-    options: &MakeOptions<'_>,
+    options: &RunOptions<'_>,
     input: u64,
     number: u64,
     line: u64,
@@ -65,13 +66,13 @@ fn write_put<E: Sink>(
     put: Put,
     errors: &mut E,
 ) -> Result<(), OutFault>
-    ensures ok { OnOk result (TellsEach options.now.names (told options.now input number key.now (Ok put))
+    ensures ok { OnOk result (TellsEach options.now.names (told options.now.make input number key.now (Ok put))
         (E.contents errors.old) (E.contents errors.new)) }
-    ensures err { OnErr result (TellsPart options.now.names (told options.now input number key.now (Ok put))
+    ensures err { OnErr result (TellsPart options.now.names (told options.now.make input number key.now (Ok put))
         (E.contents errors.old) (E.contents errors.new)) }
     ensures failed { OnErr result (E.failed errors.new) }
 {
-    if tells(options) && meets_key(put) {
+    if tells(&options.make) && meets_key(put) {
         write_duplicates(options.names, input, number, line, key, errors)
     } else {
         Ok(())
@@ -81,7 +82,7 @@ fn write_put<E: Sink>(
 /// Reports such a put, and stops the run if the options say so.
 #[inline(always)]
 fn tell_put<E: Sink>(
-    options: &MakeOptions<'_>,
+    options: &RunOptions<'_>,
     input: u64,
     number: u64,
     line: u64,
@@ -89,15 +90,15 @@ fn tell_put<E: Sink>(
     put: Put,
     errors: &mut E,
 ) -> Result<(), Fault>
-    ensures ok { OnOk result (TellsEach options.now.names (told options.now input number key.now (Ok put))
+    ensures ok { OnOk result (TellsEach options.now.names (told options.now.make input number key.now (Ok put))
         (E.contents errors.old) (E.contents errors.new)) }
-    ensures goes { OnOk result (ends options.now (Ok put) ≡ None) }
+    ensures goes { OnOk result (ends options.now.make (Ok put) ≡ None) }
     ensures fails { IfErr result (TellFails options.now input number key.now put
         (E.contents errors.old) (E.contents errors.new)) }
     ensures output { OutputSays (E.failed errors.new) result }
 {
     write_put(options, input, number, line, key, put, errors)?;
-    if options.stop && put == Put::Present {
+    if options.make.stop && put == Put::Present {
         return Err(Fault::Duplicate);
     }
     Ok(())
@@ -107,7 +108,7 @@ fn tell_put<E: Sink>(
 #[inline(always)]
 fn put_record<L: Width, S: Store, E: Sink>(
     maker: &mut Maker<S, L>,
-    options: &MakeOptions<'_>,
+    options: &RunOptions<'_>,
     mode: Mode,
     input: u64,
     number: u64,
@@ -116,7 +117,7 @@ fn put_record<L: Width, S: Store, E: Sink>(
     value: &[u8],
     errors: &mut E,
 ) -> Result<(), Fault>
-    requires mode { mode ≡ mode_of options.now }
+    requires mode { mode ≡ mode_of options.now.make }
     ensures ok { (t : Task) (cs : List Incoming) (start : Option (List ℕ))
         → t.options ≡ options.now
         → InCourse t cs start (E.contents errors.old) maker.old
@@ -172,7 +173,7 @@ fn remove_key<L: Width, S: Store>(maker: &mut Maker<S, L>, key: &[u8]) -> Result
 #[inline(always)]
 fn do_item<L: Width, S: Store, E: Sink>(
     maker: &mut Maker<S, L>,
-    options: &MakeOptions<'_>,
+    options: &RunOptions<'_>,
     mode: Mode,
     input: u64,
     number: u64,
@@ -181,7 +182,7 @@ fn do_item<L: Width, S: Store, E: Sink>(
     item: &Record,
     errors: &mut E,
 ) -> Result<(), Fault>
-    requires mode { mode ≡ mode_of options.now }
+    requires mode { mode ≡ mode_of options.now.make }
     ensures ok { (t : Task) (cs : List Incoming) (start : Option (List ℕ))
         → t.options ≡ options.now
         → InCourse t cs start (E.contents errors.old) maker.old
@@ -232,7 +233,7 @@ fn line_of_last(style: Style, next: u64, lines: &Lines) -> u64 {
 pub(crate) fn put_input<L: Width, S: Store, F: Feeds, E: Sink, A: AtHand<F>>(
     alloc: Global,
     maker: &mut Maker<S, L>,
-    options: &MakeOptions<'_>,
+    options: &RunOptions<'_>,
     input: u64,
     items: &mut ItemReader<F, L>,
     lines: &Lines,
@@ -255,7 +256,7 @@ pub(crate) fn put_input<L: Width, S: Store, F: Feeds, E: Sink, A: AtHand<F>>(
         key: Vec::new(alloc),
         value: Vec::new(alloc),
     };
-    let mode = put_mode(options);
+    let mode = put_mode(&options.make);
     let mut number = 0;
     loop {
         number += 1;
@@ -281,7 +282,7 @@ pub(crate) fn put_input<L: Width, S: Store, F: Feeds, E: Sink, A: AtHand<F>>(
                 Ok(None) => return Ok(()),
                 Ok(Some(kind)) => kind,
             };
-            let line = line_of_last(options.style, next, lines);
+            let line = line_of_last(options.make.style, next, lines);
             do_item(
                 maker, options, mode, input, number, line, kind, &item, errors,
             )?;

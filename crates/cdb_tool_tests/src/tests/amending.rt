@@ -76,7 +76,7 @@ fn amend(
     alloc: Global,
     base: &[u8],
     input: &'static [u8],
-    options: MakeOptions<'_>,
+    options: MakeOptions,
 ) -> Result<Amended, AllocError>
     requires least { 2048 ≤ options.limit }
     requires most { options.limit ≤ 4294967295 }
@@ -257,20 +257,26 @@ fn a_damaged_base_is_told_behind_its_limit(rt: HostRuntime) -> Result<(), Fail> 
 fn over_fuse(
     alloc: Global,
     input: &'static [u8],
+    duplicates: Duplicates,
     many: usize,
     calls: u64,
 ) -> Result<(Result<(), Fault>, Vec<u8>, Vec<u8>), AllocError> {
     let texts = texts(alloc, &[input])?;
     let mut lines = Vec::new(alloc);
     let base = FuseStore::new(MemStore::from_vec(first_bytes(alloc, many)?), calls, 1);
-    let warned = options(Mode::Warn, Duplicates::Told, Style::Native, 4294967295);
+    let mode = if duplicates == Duplicates::Told {
+        Mode::Warn
+    } else {
+        Mode::Add
+    };
+    let put = options(mode, duplicates, Style::Native, 4294967295);
     let store = MemStore::new(alloc);
     let (store, base, answer) = make_run::<Narrow, MemStore, FuseStore<MemStore>, &[u8], Vec<u8>>(
         alloc,
         store,
         Some(base),
         texts,
-        warned,
+        put,
         &mut lines,
     );
     let base = match base {
@@ -280,27 +286,51 @@ fn over_fuse(
     Ok((answer, base, store.into_vec()))
 }
 
+/// Whether a base of which any call fails is handed back as it was, with that fault, and a run that meets
+/// none makes this file.
+fn hands_back(
+    alloc: Global,
+    input: &'static [u8],
+    duplicates: Duplicates,
+    made: &[u8],
+) -> Result<bool, AllocError> {
+    let two = File::Two.bytes(alloc)?;
+    for calls in 0..64u64 {
+        let (answer, base, file) = over_fuse(alloc, input, duplicates, two.len(), calls)?;
+        if base.as_slice() != two.as_slice() {
+            return Ok(false);
+        }
+        if answer == Ok(()) {
+            return Ok(calls > 0 && file.as_slice() == made);
+        }
+        if answer != Err(Fault::Read(ReadFault::Device)) {
+            return Ok(false);
+        }
+    }
+    Ok(false)
+}
+
 #[test]
 fn a_base_that_fails_is_handed_back(rt: HostRuntime) -> Result<(), Fail> {
-    let two = File::Two.bytes(rt.alloc())?;
-    let again = bytes_of(rt.alloc(), &ONE_AGAIN)?;
-    for calls in 0..64u64 {
-        let (answer, base, file) = over_fuse(rt.alloc(), REPLACED_BY_HAND, two.len(), calls)?;
-        assert!(rt; base.as_slice() == two.as_slice(), "{calls}");
-        if answer == Ok(()) {
-            assert!(rt; calls > 0 && file.as_slice() == again.as_slice());
-            return Ok(());
-        }
-        assert!(rt; answer == Err(Fault::Read(ReadFault::Device)), "{calls}");
-    }
-    Err(Fail::new("no run met no fault"))
+    let alloc = rt.alloc();
+    let alone = bytes_of(alloc, &LAST_ALONE)?;
+    assert!(rt;
+        hands_back(alloc, b"-3:one\n\n", Duplicates::Silent, &alone)?,
+        "a removal"
+    );
+    let again = bytes_of(alloc, &ONE_AGAIN)?;
+    assert!(rt;
+        hands_back(alloc, REPLACED_BY_HAND, Duplicates::Told, &again)?,
+        "a record that is put again"
+    );
+    Ok(())
 }
 
 #[test]
 fn a_damaged_base_that_fails_is_handed_back(rt: HostRuntime) -> Result<(), Fail> {
     let cut = first_bytes(rt.alloc(), 2070)?;
     for calls in 0..64u64 {
-        let (answer, base, _) = over_fuse(rt.alloc(), REPLACED_BY_HAND, 2070, calls)?;
+        let (answer, base, _) = over_fuse(rt.alloc(), REPLACED_BY_HAND, Duplicates::Told, 2070, calls)?;
         assert!(rt; base.as_slice() == cut.as_slice(), "{calls}");
         if answer == Err(Fault::Read(ReadFault::Record(2064))) {
             assert!(rt; calls > 0);

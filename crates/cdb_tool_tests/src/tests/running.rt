@@ -38,7 +38,7 @@ pub(super) fn options(
     duplicates: Duplicates,
     style: Style,
     limit: u64,
-) -> MakeOptions<'static>
+) -> MakeOptions
     ensures { result.limit ≡ limit }
 {
     MakeOptions {
@@ -47,7 +47,6 @@ pub(super) fn options(
         stop: duplicates == Duplicates::Last,
         style,
         limit,
-        names: None,
     }
 }
 
@@ -87,7 +86,7 @@ pub(super) fn texts(
 fn make(
     alloc: Global,
     inputs: &[&'static [u8]],
-    options: MakeOptions<'_>,
+    options: MakeOptions,
 ) -> Result<Made, AllocError>
     requires least { 2048 ≤ options.limit }
     requires most { options.limit ≤ 4294967295 }

@@ -191,7 +191,6 @@ fn made_by_run(alloc: Global) -> Result<MemStore, Fail> {
         stop: false,
         style: Style::Native,
         limit: 4294967295,
-        names: None,
     };
     let (mut inputs, mut errors) = (Vec::new(alloc), Vec::new(alloc));
     inputs.push(ONE)?;

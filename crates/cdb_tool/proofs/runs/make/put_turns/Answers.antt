@@ -11,7 +11,7 @@ use Rattle.cdb_tool.proofs.runs.make.put_turns.Goals as goal
 pub loop-i-init : goal.loop-i-init
 loop-i-init g c = record {
   read = [];
-  far = so_far_none g.J.Feeds.feed (shared_feed g.I.Feeds.feed) (parsing (input_form c.args.options.now.style c.args.amends) g.L.Width.GREATEST (Ok tt)) _ c.args.shared;
+  far = so_far_none g.J.Feeds.feed (shared_feed g.I.Feeds.feed) (parsing (input_form c.args.options.now.make.style c.args.amends) g.L.Width.GREATEST (Ok tt)) _ c.args.shared;
   course = λ t start same h. h;
   follows = follows_same {s = g.S.Store} {l = g.L.Width} c.args.maker.now;
   fine = refl;

@@ -13,7 +13,7 @@ abbrev pub invariant-loop-i : goal.invariant-loop-i
 invariant-loop-i g l =
     record {
       read : List (List Change);
-      far : SoFar g.J.Feeds.feed (shared_feed g.I.Feeds.feed) (parsing (input_form l.fn.options.style l.fn.amends) g.L.Width.GREATEST (Ok tt)) read l.fn.readers l.readers l.fn.shared l.shared l.i;
+      far : SoFar g.J.Feeds.feed (shared_feed g.I.Feeds.feed) (parsing (input_form l.fn.options.make.style l.fn.amends) g.L.Width.GREATEST (Ok tt)) read l.fn.readers l.readers l.fn.shared l.shared l.i;
       course : PutsInputs {s = g.S.Store} {l = g.L.Width} l.fn.options read (g.E.Sink.contents l.fn.errors) (g.E.Sink.contents l.errors) l.fn.maker l.maker;
       follows : Follows {s = g.S.Store} {l = g.L.Width} l.fn.maker l.maker;
       fine : g.S.Store.failures l.maker.store ≡ g.S.Store.failures l.fn.maker.store;
