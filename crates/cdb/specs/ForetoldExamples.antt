@@ -205,7 +205,7 @@ stats_are_honest = record {
 
 -- ---- what is known then
 
-module _ {R O E : Type 0} (r : Raw R) (t : Taking O E) (was now : NameCalls) (output_old output_new : Writer O) (errors_old errors_new : Writer E) (status : ℕ) where
+module _ {R O E : Type 0} {o : Sinks O} {e : Sinks E} (r : Raw R) (t : Taking O E) (was now : NameCalls) (output_old output_new : Writer O o) (errors_old errors_new : Writer E e) (status : ℕ) where
   -- these words were run, all that was written was taken, and standard input told nothing
   abbrev Ran : (words : List (List ℕ)) → OpenCalls → Back → Type 0
   Ran words calls left =

@@ -14,7 +14,6 @@ use cdb_names::Names;
 use cdb_system::{Left, System, cause_line, none_left, reason_of, refuse, tell};
 use cdb_tool::{Command, DONE, Fault, Lines, Output, explains, plan_explained, status_of};
 use std::alloc::Global;
-use std::io::Write;
 
 /// Does what the words ask for, of which the first is the program's name, hands back what it leaves
 /// open, and answers the exit status. A fault has its line on `errors`, unless that fails.
@@ -31,8 +30,8 @@ where
     Y: System,
     N: Names,
     I: Feeds + Drop,
-    O: Write,
-    E: Write,
+    O: Sink,
+    E: Sink,
     ensures { IsRun (files_of Y.File.Store Y.Made.Store Y.Stream.feed Y.System)
         N.File.RawFile (given_by (map string_bytes words.items) (standard_of I.feed input))
         (taking O.contents E.contents)
@@ -61,8 +60,8 @@ where
     Y: System,
     N: Names,
     I: Feeds + Drop,
-    O: Write,
-    E: Write,
+    O: Sink,
+    E: Sink,
     ensures { Answers (files_of Y.File.Store Y.Made.Store Y.Stream.feed Y.System)
         N.File.RawFile (given_by (map string_bytes words.items) (standard_of I.feed input))
         (taking O.contents E.contents)
@@ -135,7 +134,7 @@ where
     Y: System,
     N: Names,
     I: Feeds + Drop,
-    O: Write,
+    O: Sink,
     E: Sink,
     requires { IsInRange (asked_in command.now) }
     ensures does { Does (files_of Y.File.Store Y.Made.Store Y.Stream.feed Y.System)
@@ -165,7 +164,7 @@ where
 
 /// Hands on what the output of a command still holds, after a fault too. A flush that fails is
 /// `Output` if no other fault came than `Missing`, after which all that was found is to be written.
-fn handed_on<O: Write>(output: &mut Output<O>, answer: Result<(), Fault>) -> Result<(), Fault>
+fn handed_on<O: Sink>(output: &mut Output<O>, answer: Result<(), Fault>) -> Result<(), Fault>
     ensures hands { HandsOn (output_bytes O.contents output.old) (O.contents output.new.writer)
         (OutputFailed output.new) answer result }
     ensures handed { HasHandedOn output.new }

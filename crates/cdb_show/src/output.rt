@@ -1,12 +1,11 @@
 // Output through a buffer, from which many bytes go at once.
 ghost use Rattle.std.specs.Prelude.{◌≡◌, ℕ, ◌+◌, ◌<◌, ◌≤◌, [], ◌-◌, length, take, min, true, false};
-ghost use Rattle.std.specs.Prelude.{IfOk, OnOk, OnErr, flat_map, vec_len};
+ghost use Rattle.std.specs.Prelude.{IfOk, OnOk, OnErr, flat_map, vec_capacity, vec_len};
 ghost use Rattle.std.specs.Io.KnownBytes.{Keeps, Appends};
 ghost use Rattle.cdb_form.specs.Views.KnownBytes.{Writes};
 
 use cdb_form::{OutFault, Sink, flush_whole, write_some};
 use std::alloc::{AllocError, Global};
-use std::io::Write;
 
 /// How many bytes go straight on at once. Of more a file's cache takes memory in larger blocks,
 /// which costs the system more.
@@ -14,20 +13,22 @@ const MOST: usize = 131072;
 
 /// Takes the bytes for a writer, which is given many at once.
 #[derive(Drop)]
-pub struct Output<W> {
+pub struct Output<W: Sink> {
     writer: W,
     /// The bytes that were taken, of which the writer has those before `start`.
     buffer: Vec<u8>,
     start: usize,
     size: usize,
-    /// The writer has failed, or an allocation for it has.
+    /// The writer has failed.
     failed: bool,
     ghost some: { 0 < size },
     ghost within: { start ≤ vec_len buffer },
-    ghost room: { vec_len buffer ≤ size },
+    ghost least: { vec_len buffer ≤ size },
+    ghost room: { size ≤ vec_capacity buffer },
+    ghost marked: { failed ≡ true → W.failed writer },
 }
 
-impl<W: Write> Output<W> {
+impl<W: Sink> Output<W> {
     ghost use Rattle.cdb_show.specs.Views.Output.{output_bytes, held_by};
 
     /// An output over a writer, with a buffer for so many bytes, which is empty yet.
@@ -91,22 +92,20 @@ impl<W: Write> Output<W> {
     }
 
     /// Takes bytes into the buffer, as many as it has room for.
-    fn take(&mut self, bytes: &[u8]) -> Result<usize, AllocError>
-        ensures count { IfOk result (λ n.
-            n ≡ min (length bytes.now) (self.old.size - vec_len self.old.buffer)) }
-        ensures ok { IfOk result (λ n. Appends (output_bytes W.contents self.old)
-            (output_bytes W.contents self.new) (take n bytes.now)) }
-        ensures err { OnErr result
-            (Keeps (output_bytes W.contents self.old) (output_bytes W.contents self.new)) }
+    fn take(&mut self, bytes: &[u8]) -> usize
+        ensures count { result ≡ min (length bytes.now) (self.old.size - vec_len self.old.buffer) }
+        ensures ok { Appends (output_bytes W.contents self.old) (output_bytes W.contents self.new)
+            (take result bytes.now) }
         ensures sound { self.new.failed ≡ self.old.failed }
     {
         let n = bytes.len().min(self.size - self.buffer.len());
-        self.buffer.extend_from_slice(&bytes[..n])?;
-        Ok(n)
+        // It has room for them, so no memory is asked for.
+        let _ = self.buffer.extend_from_slice(&bytes[..n]);
+        n
     }
 }
 
-impl<W: Write> Sink for Output<W> {
+impl<W: Sink> Sink for Output<W> {
     ghost use Rattle.std.specs.Prelude.{◌≡◌, true};
     ghost use Rattle.cdb_show.specs.Views.Output.{output_bytes, held_by, HasHandedOn};
 
@@ -133,13 +132,7 @@ impl<W: Write> Sink for Output<W> {
         if self.buffer.len() == self.size {
             self.hand_on()?;
         }
-        match self.take(bytes) {
-            Ok(n) => Ok(n),
-            Err(_) => {
-                self.failed = true;
-                Err(OutFault)
-            }
-        }
+        Ok(self.take(bytes))
     }
 
     fn flush_whole(&mut self) -> Result<(), OutFault>

@@ -9,10 +9,9 @@ ghost use Rattle.cdb_system.specs.Telling.{SaysLine, refused_lines, usage_line, 
 use cdb_command::{Usage, WordFault};
 use cdb_form::{OutFault, Sink, write_pieces, write_whole};
 use cdb_show::{BAD_USAGE, FAILED, Fault, Output, write_fault, write_word_fault};
-use std::io::Write;
 
 /// Writes the line of a fault, and more after it.
-fn write_told<E: Write>(fault: &Fault, more: &[u8], errors: &mut Output<E>) -> Result<(), OutFault>
+fn write_told<E: Sink>(fault: &Fault, more: &[u8], errors: &mut Output<E>) -> Result<(), OutFault>
     ensures writes { Writes result (output_bytes E.contents errors.old)
         (output_bytes E.contents errors.new) (fault_line fault.now ++ more.now) }
     ensures failed { OnErr result (OutputFailed errors.new) }
@@ -25,7 +24,7 @@ fn write_told<E: Write>(fault: &Fault, more: &[u8], errors: &mut Output<E>) -> R
 /// Says what a fault is, and more after it, unless `errors` fails.
 #[cold]
 #[inline(never)]
-pub fn tell<E: Write>(fault: &Fault, more: &[u8], errors: &mut Output<E>)
+pub fn tell<E: Sink>(fault: &Fault, more: &[u8], errors: &mut Output<E>)
     ensures says { SaysLine (fault_line fault.now ++ more.now) (output_bytes E.contents errors.old)
         (output_bytes E.contents errors.new) (OutputFailed errors.new) }
     ensures stays { OutputFailed errors.old → OutputFailed errors.new }
@@ -44,7 +43,7 @@ fn refused_status(usage: &Usage) -> u8
 }
 
 /// Writes why the words ask for nothing, and if it is to be explained which word or letters that is of.
-fn write_refused<E: Write>(
+fn write_refused<E: Sink>(
     fault: &WordFault<'_>,
     explains: bool,
     errors: &mut Output<E>,
@@ -66,7 +65,7 @@ fn write_refused<E: Write>(
 /// Says why the words ask for nothing, unless `errors` fails, and answers the exit status.
 #[cold]
 #[inline(never)]
-pub fn refuse<E: Write>(fault: &WordFault<'_>, explains: bool, errors: &mut Output<E>) -> u8
+pub fn refuse<E: Sink>(fault: &WordFault<'_>, explains: bool, errors: &mut Output<E>) -> u8
     ensures line { SaysLine (refused_lines explains (refused_in fault.now))
         (output_bytes E.contents errors.old) (output_bytes E.contents errors.new)
         (OutputFailed errors.new) }
