@@ -1,5 +1,6 @@
 -- That a run comes to what the oracle says, from what each command does.
 use Rattle.cdb_system.proofs.OutputTaken.{MayGiveUp, taken, writes_output}
+use Rattle.std.proofs.lemmas.Grind.{not_there}
 use Rattle.std.proofs.Common.{ℕ, Bool, ◌⊎◌, true, false, List, [], ◌++◌, Option, Some, None, IfSome, Result, Ok, Err, ◌≡◌, ◌∙◌, ap, inl, inr, refl, subst, sym, arith}
 use Rattle.std.specs.Prelude.{map, IfOk, string_bytes}
 use Rattle.std.proofs.lemmas.List.{append-nil}
@@ -58,20 +59,20 @@ line_said line told said unsaid taken (inl whole) = whole
 line_said line told said unsaid taken (inr part) = absurd (taken part.1)
 
 -- the line of a fault is said first; what explains it follows
-fault_said : (explained : Bool) (command : Asked) (result : Result Unit Fault) (opened : OpenCalls) (named : NameCalls) (fault : Fault) (more : List ℕ) (told said : Option (List ℕ)) (unsaid : Type 0) → (unsaid → ⊥)
-    → Explains explained command result opened named more → SaysLine (fault_line fault ++ more) told said unsaid → SaysLines explained (fault_line fault) told said
-fault_said false command result opened named fault more told said unsaid taken explains h =
+fault_said : (explained : Bool) (command : Asked) (result : Result Unit Fault) (unwritten : Type 0) (opened : OpenCalls) (named : NameCalls) (fault : Fault) (more : List ℕ) (told said : Option (List ℕ)) (unsaid : Type 0) → (unsaid → ⊥)
+    → Explains explained command result unwritten opened named more → SaysLine (fault_line fault ++ more) told said unsaid → SaysLines explained (fault_line fault) told said
+fault_said false command result unwritten opened named fault more told said unsaid taken explains h =
     line_said (fault_line fault) told said unsaid taken (subst (λ line. SaysLine line told said unsaid) (ap (λ m. fault_line fault ++ m) explains ∙ append-nil (fault_line fault)) h)
-fault_said true command result opened named fault more told said unsaid taken explains h = (more, line_said (fault_line fault ++ more) told said unsaid taken h)
+fault_said true command result unwritten opened named fault more told said unsaid taken explains h = (more, line_said (fault_line fault ++ more) told said unsaid taken h)
 
 abbrev SaysResult : (explained : Bool) → Result Unit Fault → (told said : Option (List ℕ)) → Type 0
 SaysResult explained (Ok done) told said = Keeps told said
 SaysResult explained (Err fault) told said = SaysLines explained (fault_line fault) told said
 
-result_said : (explained : Bool) (command : Asked) (result : Result Unit Fault) (opened : OpenCalls) (named : NameCalls) (more : List ℕ) (told said : Option (List ℕ)) (unsaid : Type 0) → (unsaid → ⊥)
-    → Explains explained command result opened named more → Says result more told said unsaid → SaysResult explained result told said
-result_said explained command (Ok done) opened named more told said unsaid taken explains h = h
-result_said explained command (Err fault) opened named more told said unsaid taken explains h = fault_said explained command (Err fault) opened named fault more told said unsaid taken explains h
+result_said : (explained : Bool) (command : Asked) (result : Result Unit Fault) (unwritten : Type 0) (opened : OpenCalls) (named : NameCalls) (more : List ℕ) (told said : Option (List ℕ)) (unsaid : Type 0) → (unsaid → ⊥)
+    → Explains explained command result unwritten opened named more → Says result more told said unsaid → SaysResult explained result told said
+result_said explained command (Ok done) unwritten opened named more told said unsaid taken explains h = h
+result_said explained command (Err fault) unwritten opened named more told said unsaid taken explains h = fault_said explained command (Err fault) unwritten opened named fault more told said unsaid taken explains h
 
 lines_said : (explained : Bool) (status : Fault → ℕ) (text : List ℕ) (result : Result Unit Fault) (told said : Option (List ℕ)) → SaysResult explained result told said → SaysLines explained (ended status text result).lines told said
 lines_said false status text (Ok done) told said h = nothing_written told said h
@@ -232,7 +233,7 @@ run_foretold s m r feed y planned explained given old new was now left start end
     let handed = handed_all some.does.end final unwritten some.does.answer some.result writes some.does.hands in
     subst (λ p. IfSome (oracle p disk input) (λ o. Foretold p o explained start final told said status)) (sym some.asks)
     (some_so (command_outcome (asked_in command) disk input) (λ o. Comes (writes_output (asked_in command)) (reads_in_turn (asked_in command)) (exit_status command) o start some.does.end some.does.answer) (λ o. some.before ≡ told) (λ o. Foretold (Ok (asked_in command)) o explained start final told said status)
-    (λ o comes silent. ends_so command o explained start some.does.end final told said unwritten unsaid some.result status writes some.output speaks handed.0 (subst (λ t. SaysResult explained some.result t said) silent (result_said explained (asked_in command) some.result (y.calls new) now some.more some.before said unsaid speaks some.explains some.says)) some.is_status (subst (Comes (writes_output (asked_in command)) (reads_in_turn (asked_in command)) (exit_status command) o start some.does.end) (sym handed.1) comes))
+    (λ o comes silent. ends_so command o explained start some.does.end final told said unwritten unsaid some.result status writes some.output speaks handed.0 (subst (λ t. SaysResult explained some.result t said) silent (result_said explained (asked_in command) some.result unwritten (y.calls new) now some.more some.before said unsaid speaks some.explains some.says)) some.is_status (subst (Comes (writes_output (asked_in command)) (reads_in_turn (asked_in command)) (exit_status command) o start some.does.end) (sym handed.1) comes))
     (command_comes s m r feed y explained command disk input given (state_of old was start told) (state_of new now some.does.end some.before) left some.does.answer sized (each_answered s disk (stores_in left) (y.calls old) (y.calls new) honest.calls honest.are honest.answered) (each_agrees feed disk (streams_in left) (y.calls old) (y.calls new) honest.calls honest.are honest.in_turn) honest some.does.performs)
     (is_silent command disk input told some.before some.silent))
 
@@ -262,8 +263,8 @@ pub run_is_foretold : {F I J M R Y W V : Type 0} {w : Sinks W} {v : Sinks V} (s 
     → Runs (files_of s m feed y) r (given_of planned explained given) (state_of old was (output_bytes of_output output_old) (output_bytes of_errors errors_old)) (state_of new now (output_bytes of_output output_new) (output_bytes of_errors errors_new)) (of_output output_new.writer) left (failed_of (OutputFailed output_new) (OutputFailed errors_new)) status
     → IsForetold (files_of s m feed y) (given_of planned explained given) (state_of old was (output_bytes of_output output_old) (output_bytes of_errors errors_old)) (state_of new now (of_output output_new.writer) (of_errors errors_new.writer)) left (IsTaken output_old output_new errors_new) status
 run_is_foretold s m r feed y planned explained given old new was now left of_output of_errors output_old output_new errors_old errors_new status sized handed said runs = λ disk input taken none honest.
-    let writes : OutputFailed output_new → ⊥ = λ failed. taken.1 (output_new.marked failed) in
-    let speaks : OutputFailed errors_new → ⊥ = λ failed. taken.2 (errors_new.marked failed) in
+    let writes : OutputFailed output_new → ⊥ = λ failed. not_there (output_new.marked failed) taken.1 in
+    let speaks : OutputFailed errors_new → ⊥ = λ failed. not_there (errors_new.marked failed) taken.2 in
     total_so planned disk input (λ o. Foretold planned o explained (output_bytes of_output output_old) (of_output output_new.writer) (output_bytes of_errors errors_old) (of_errors errors_new.writer) status) none
     (let end = output_bytes of_output output_new in
     let kept = subst (Keeps end) (all_taken of_output output_new (handed taken.0) writes) (Keeps-refl end) in

@@ -1,6 +1,7 @@
 -- A run whose words ask for a create comes to what the oracle says.
 use Rattle.cdb_show.specs.Views.Output.{OutputSays}
 use Rattle.cdb.proofs.CreateTaken.{MayGiveUpCreate, taken_create}
+use Rattle.std.proofs.lemmas.Grind.{not_there}
 use Rattle.std.proofs.Common.{ℕ, Bool, true, false, ◌⊎◌, List, [], ◌++◌, Option, Result, Ok, Err, ◌≡◌, ◌∙◌, ap, inl, inr, refl, subst, sym, append-nil, option_map, arith, string_bytes}
 use Rattle.std.specs.Prelude.{OnErr, OnOk}
 use Rattle.std.specs.Io.KnownBytes.{Appends, Keeps}
@@ -184,7 +185,7 @@ run_holds s m r feed y planned explained given old new was now left start end fi
     let some_is : status ≡ plain does.answer = some.is_status ∙ status_create command name base inputs temporary o wide some.result a ∙ ap plain handed.1 in
     subst (λ p. CreateHolds m (expected_of disk name temporary (create_of (word_size wide) (greatest_size wide) disk input name base inputs temporary p)) explained left.made (state_of (y.calls old) was start told) (state_of (y.calls new) now final said) status) (shown_make explained inputs o shown shows.1)
     (record {
-      comes = λ had has. comes_so m disk shown c explained now left.made command name base inputs temporary o wide start does.end final told some.before said unwritten unsaid does.answer some.result status a handed.0 handed.1 writes some.output speaks (λ unexplained. says_only explained (asked_in command) some.result (y.calls new) now some.more some.before said unsaid unexplained some.explains some.says) some.is_status (λ unexplained. shown_plain explained inputs o shown shows.1 unexplained) (so.answer had has);
+      comes = λ had has. comes_so m disk shown c explained now left.made command name base inputs temporary o wide start does.end final told some.before said unwritten unsaid does.answer some.result status a handed.0 handed.1 writes some.output speaks (λ unexplained. says_only explained (asked_in command) some.result unwritten (y.calls new) now some.more some.before said unsaid unexplained some.explains some.says) some.is_status (λ unexplained. shown_plain explained inputs o shown shows.1 unexplained) (so.answer had has);
       done = λ zero. if_done _ does.answer so.done (sym some_is ∙ zero);
       failed = λ other. if_not_done _ does.answer so.failed (λ zero. other (some_is ∙ zero));
       moments = so.moments;
@@ -195,8 +196,8 @@ pub run_is_created : {F I J M R Y W V : Type 0} {w : Sinks W} {v : Sinks V} (s :
     → Runs (files_of s m feed y) r (given_of planned explained given) (state_of old was (output_bytes of_output output_old) (output_bytes of_errors errors_old)) (state_of new now (output_bytes of_output output_new) (output_bytes of_errors errors_new)) (of_output output_new.writer) left (failed_of (OutputFailed output_new) (OutputFailed errors_new)) status
     → IsCreateForetold (files_of s m feed y) (given_of planned explained given) (state_of old was (output_bytes of_output output_old) (output_bytes of_errors errors_old)) (state_of new now (of_output output_new.writer) (of_errors errors_new.writer)) left (IsTaken output_old output_new errors_new) status
 run_is_created s m r feed y planned explained given old new was now left of_output of_errors output_old output_new errors_old errors_new status handed said runs = λ disk input name base inputs temporary o wide plan taken honest.
-    (let writes : OutputFailed output_new → ⊥ = λ failed. taken.1 (output_new.marked failed) in
-    let speaks : OutputFailed errors_new → ⊥ = λ failed. taken.2 (errors_new.marked failed) in
+    (let writes : OutputFailed output_new → ⊥ = λ failed. not_there (output_new.marked failed) taken.1 in
+    let speaks : OutputFailed errors_new → ⊥ = λ failed. not_there (errors_new.marked failed) taken.2 in
     let end = output_bytes of_output output_new in
     let kept = subst (Keeps end) (all_taken of_output output_new (handed taken.0) writes) (Keeps-refl end) in
     subst (λ t. CreateHolds m (expected_of disk name temporary (create_of (word_size wide) (greatest_size wide) disk input name base inputs temporary o)) explained left.made (state_of (y.calls old) was (output_bytes of_output output_old) (output_bytes of_errors errors_old)) (state_of (y.calls new) now (of_output output_new.writer) t) status) (all_taken of_errors errors_new said speaks)

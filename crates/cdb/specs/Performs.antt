@@ -151,7 +151,7 @@ pub record AsksFor {F I J M R Y : Type 0} (files : Files F I M Y) (r : Raw R)
     pub silent : IsUntouched (asked_in command) old.errors before
     pub same : IsUntouched (asked_in command) old.named new.named
     pub more : List ℕ
-    pub explains : Explains given.explained (asked_in command) result
+    pub explains : Explains given.explained (asked_in command) result failed.output
         (calls_in files new) new.named more
     pub says : Says result more before new.errors failed.errors
     pub is_status : status ≡ status_of command result

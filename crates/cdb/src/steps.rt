@@ -1,7 +1,8 @@
 // What the program does: the command of its words, and its exit status.
-ghost use Rattle.std.specs.Prelude.{◌≡◌, ◌⊎◌, Err, map, string_bytes};
+ghost use Rattle.std.specs.Prelude.{◌≡◌, ◌⊎◌, Err, map, string_bytes, true};
 ghost use Rattle.cdb_show.specs.Command.{asked_in, has_wide_words, IsInRange};
 ghost use Rattle.cdb_show.specs.Views.Output.{output_bytes, HasHandedOn, OutputFailed, OutputSays};
+ghost use Rattle.cdb_system.specs.CauseLine.{more_of};
 ghost use Rattle.cdb_system.specs.Causes.{Explains};
 ghost use Rattle.cdb_system.specs.Files.{files_of};
 ghost use Rattle.cdb.specs.Performs.{Does, HandsOn, IsUntouched};
@@ -11,7 +12,7 @@ ghost use Rattle.cdb_system.specs.State.{given_of, standard_of, state_of};
 use crate::performing::perform_in;
 use cdb_form::{Feeds, Narrow, Sink, Wide};
 use cdb_names::Names;
-use cdb_system::{Left, System, cause_line, none_left, reason_of, refuse, tell};
+use cdb_system::{Left, Reason, System, none_left, reason_of, refuse, tell};
 use cdb_tool::{Command, DONE, Fault, Lines, Output, explains, plan_explained, status_of};
 use std::alloc::Global;
 
@@ -80,43 +81,38 @@ where
     match performed {
         Ok(()) => (left, DONE),
         Err(fault) => {
-            let more = cause_of::<Y, N, I>(alloc, &lines, &command, &fault, system, names, &left);
-            tell(&fault, more.as_slice(), errors);
+            let unwritten = output.has_failed();
+            let reason = cause_of::<Y, N, I>(
+                &lines, &command, &fault, system, names, &left, unwritten,
+            );
+            tell(&fault, &reason, errors);
             (left, status_of(&command, &fault))
         }
     }
 }
 
-/// What is said of a fault after its line: if causes are asked for, a line with the file and the cause, unless
-/// none is known or there is no memory for it.
+/// What a fault is of and why, if that is asked for and known. `unwritten` says that standard output failed.
 #[cold]
 #[inline(never)]
-fn cause_of<Y, N, I>(
-    alloc: Global,
+fn cause_of<'a, Y, N, I>(
     lines: &Lines,
-    command: &Command,
+    command: &'a Command,
     fault: &Fault,
-    system: &Y,
-    names: &N,
+    system: &'a Y,
+    names: &'a N,
     left: &Left<Y::File, Y::Made, Y::Stream, I>,
-) -> Vec<u8>
+    unwritten: bool,
+) -> Option<Reason<'a>>
 where
     Y: System,
     N: Names,
-    ensures { Explains lines.now.counts (asked_in command.now) (Err fault.now) (Y.calls system.now)
-        (N.calls names.now) result.items }
+    ensures { Explains lines.now.counts (asked_in command.now) (Err fault.now) (unwritten ≡ true)
+        (Y.calls system.now) (N.calls names.now) (more_of result) }
 {
-    let none = Vec::new(alloc);
     if !lines.counts {
-        return none;
+        return None;
     }
-    let Some(reason) = reason_of::<Y, N, I>(command, fault, lines, system, names, left) else {
-        return none;
-    };
-    match cause_line(alloc, &reason) {
-        Ok(line) => line,
-        Err(_) => none,
-    }
+    reason_of::<Y, N, I>(command, fault, lines, system, names, left, unwritten)
 }
 
 /// Performs a command, in its width. If lines are counted, duplicates are explained.

@@ -72,7 +72,6 @@ pub created : asks (codes "-cm" ∷ codes "x" ∷ []) ≡ Ok (Create (codes "x")
   stop = false;
   style = Map;
   limit = 4294967295;
-  names = None;
 }) false)
 unfolding cdb_rows cdb_faults walk_fault flags_fault defaults_fault bundle_met walked chars encode
 created = refl
@@ -84,7 +83,6 @@ pub base_of_the_same_name : asks (codes "-c" ∷ codes "-b" ∷ codes "x" ∷ co
       stop = false;
       style = Native;
       limit = 4294967295;
-      names = None;
     }) false)
 unfolding cdb_rows cdb_faults walk_fault flags_fault defaults_fault bundle_met walked chars encode
 base_of_the_same_name = refl

@@ -1,7 +1,9 @@
 -- Bytes through a buffer to a writer.
-use Rattle.std.proofs.Common.{◌≡◌, ℕ, ◌+◌, ◌<◌, ◌≤◌, List, [], ◌∷◌, ◌++◌, length, take, drop, sym, subst, ap, ◌∙◌, append_assoc, arith, Option, Some, None, Result, Ok, Err, IfOk}
+use Rattle.std.proofs.Common.{◌≡◌, refl, Bool, true, false, ◌||◌, is_err, ℕ, ◌+◌, ◌<◌, ◌≤◌, List, [], ◌∷◌, ◌++◌, length, take, drop, sym, subst, ap, ◌∙◌, append_assoc, arith, Option, Some, None, Result, Ok, Err, IfOk}
 use Rattle.std.proofs.lemmas.List.{append-nil, length-take, drop-append-le, drop-drop, take-append-drop, take-take}
 use Rattle.std.proofs.Math.Seq.{drop-nil}
+use mathlib.Core.Logic.{∥∥₁_map}
+use Rattle.std.specs.Prelude.{IsOk, OnErr, is_ok, if◌then◌else◌}
 use Rattle.std.specs.Io.KnownBytes.{append_known, Appends, Keeps}
 
 -- n bytes of the buffer went to the writer
@@ -33,3 +35,17 @@ pub some_passed_on : {E : Type 0} (r : Result ℕ E) (xs bytes : List ℕ) (most
     → IfOk r (λ n. Appends mid new (take n (take most bytes))) → IfOk r (λ n. Appends old (append_known new (drop start xs)) (take n bytes))
 some_passed_on (Ok n) xs bytes most start old mid new e k few a = passed_on xs (take n bytes) start old mid new e k (subst (Appends mid new) (take-take n most bytes (omega (arith, few.1, length-take most bytes))) a)
 some_passed_on (Err f) xs bytes most start old mid new e k few a = tt
+
+-- ---- the mark
+
+-- an output that was marked for its writer, and whose writer may have failed now, is marked for it
+pub marked_so : {A B T E : Type 0} (failed err : Bool) (r : Result T E) → err ≡ is_err r → (failed ≡ true → ∥ A ∥₁) → (A → B) → OnErr r B → (failed || err) ≡ true → ∥ B ∥₁
+marked_so true err r e was stays fails is = ∥∥₁_map (was refl) stays
+marked_so false true (Ok v) e was stays fails is = absurd (let no : true ≡ false = e in cc)
+marked_so false true (Err f) e was stays fails is = ∣ fails ∣₁
+marked_so false false r e was stays fails is = absurd (let no : false ≡ true = is in cc)
+
+-- bytes for which there was room were appended
+pub all_in : {T E : Type 0} (r : Result T E) (xs ys zs : List ℕ) → IsOk r → xs ≡ (if is_ok r then ys else zs) → xs ≡ ys
+all_in (Ok v) xs ys zs ok e = e
+all_in (Err f) xs ys zs ok e = absurd (let no : false ≡ true = ok in cc)

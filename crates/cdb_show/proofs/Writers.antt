@@ -1,7 +1,7 @@
 -- What a writer holds.
 use Rattle.cdb_form.proofs.Bytes.WritingLemmas.{appends_kept}
 use Rattle.cdb_form.specs.Views.KnownBytes.{AppendsPrefix}
-use Rattle.std.proofs.Common.{None, Some, ℕ, Option, refl, List, sym, false, true, Ok, ◌∙◌, [], ◌≡◌}
+use Rattle.std.proofs.Common.{None, Some, ℕ, Option, refl, List, sym, false, true, ◌∙◌, [], ◌≡◌}
 use Rattle.std.proofs.lemmas.List.{append-nil}
 use Rattle.std.specs.Io.KnownBytes.{Keeps, Appends}
 

@@ -37,6 +37,7 @@ pub use runs::query::{query_from, query_run};
 pub use runs::shown::Shown;
 pub use runs::stats::stats_run;
 pub use runs::texts::{dump_run, list_run, text_run_buffered, text_run_fed};
+pub use shown::write_line;
 pub use status::{BAD_USAGE, DONE, FAILED, status_of};
 pub use window::{InWindow, NoWindow, Window};
 pub use word_message::write_word_fault;

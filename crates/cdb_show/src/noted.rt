@@ -43,7 +43,8 @@ impl<W: Write> Sink for Noted<W> {
                 Ok(n)
             }
             Err(fault) => {
-                self.trace.note(&Call::NotWritten(0, bytes.len() as u64), &[]);
+                self.trace
+                    .note(&Call::NotWritten(0, bytes.len() as u64), &[]);
                 Err(fault)
             }
         }

@@ -25,7 +25,7 @@ pub struct Output<W: Sink> {
     ghost within: { start ≤ vec_len buffer },
     ghost least: { vec_len buffer ≤ size },
     ghost room: { size ≤ vec_capacity buffer },
-    ghost marked: { failed ≡ true → W.failed writer },
+    ghost marked: { failed ≡ true → ∥ W.failed writer ∥₁ },
 }
 
 impl<W: Sink> Output<W> {
@@ -49,6 +49,13 @@ impl<W: Sink> Output<W> {
             size,
             failed: false,
         })
+    }
+
+    /// Whether the writer has failed.
+    pub fn has_failed(&self) -> bool
+        ensures { result ≡ self.now.failed }
+    {
+        self.failed
     }
 
     /// Hands all bytes on to the writer. After a fault those that it did not take stay here.

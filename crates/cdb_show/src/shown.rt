@@ -11,6 +11,7 @@ use cdb_form::{OutFault, Sink, write_whole};
 fn write_byte<E: Sink>(byte: u8, errors: &mut E) -> Result<(), OutFault>
     ensures writes { Writes result (E.contents errors.old) (E.contents errors.new) (shown_byte byte) }
     ensures failed { OnErr result (E.failed errors.new) }
+    ensures stays { E.failed errors.old → E.failed errors.new }
 {
     match escaped(byte) {
         Some(escaped) => write_whole(errors, &escaped),
@@ -22,6 +23,7 @@ fn write_byte<E: Sink>(byte: u8, errors: &mut E) -> Result<(), OutFault>
 fn write_shown<E: Sink>(bytes: &[u8], errors: &mut E) -> Result<(), OutFault>
     ensures writes { Writes result (E.contents errors.old) (E.contents errors.new) (shown bytes.now) }
     ensures failed { OnErr result (E.failed errors.new) }
+    ensures stays { E.failed errors.old → E.failed errors.new }
 {
     for byte in bytes {
         write_byte(*byte, errors)?;
@@ -34,6 +36,7 @@ fn write_part<E: Sink>(text: &[u8], bytes: &[u8], errors: &mut E) -> Result<(), 
     ensures writes { Writes result (E.contents errors.old) (E.contents errors.new)
         (text.now ++ shown bytes.now) }
     ensures failed { OnErr result (E.failed errors.new) }
+    ensures stays { E.failed errors.old → E.failed errors.new }
 {
     write_whole(errors, text)?;
     write_shown(bytes, errors)
@@ -44,6 +47,7 @@ fn write_parts<E: Sink>(parts: &[(&[u8], &[u8])], errors: &mut E) -> Result<(), 
     ensures writes { Writes result (E.contents errors.old) (E.contents errors.new)
         (flat_map (λ p. p.0.now ++ shown p.1.now) parts.now) }
     ensures failed { OnErr result (E.failed errors.new) }
+    ensures stays { E.failed errors.old → E.failed errors.new }
 {
     for (text, bytes) in parts {
         write_part(text, bytes, errors)?;
@@ -51,11 +55,13 @@ fn write_parts<E: Sink>(parts: &[(&[u8], &[u8])], errors: &mut E) -> Result<(), 
     Ok(())
 }
 
-/// Writes a line of such parts.
-pub(crate) fn write_line<E: Sink>(parts: &[(&[u8], &[u8])], errors: &mut E) -> Result<(), OutFault>
+/// Writes a line of such parts: a text, and bytes that are shown after it. After an `OutFault` the writer
+/// holds a prefix of it.
+pub fn write_line<E: Sink>(parts: &[(&[u8], &[u8])], errors: &mut E) -> Result<(), OutFault>
     ensures writes { Writes result (E.contents errors.old) (E.contents errors.new)
         (parts_line (map (λ p. (p.0.now, p.1.now)) parts.now)) }
     ensures failed { OnErr result (E.failed errors.new) }
+    ensures stays { E.failed errors.old → E.failed errors.new }
 {
     write_whole(errors, b"cdb: ")?;
     write_parts(parts, errors)?;

@@ -1,8 +1,12 @@
 -- The lines on standard error.
-use Rattle.std.proofs.Common.{ℕ, List, Option, Result, Ok, Err, ◌++◌, inl, inr}
+use Rattle.std.proofs.Common.{◌≡◌, ◌∙◌, ℕ, List, [], ◌∷◌, Option, Result, Ok, Err, ◌++◌, ap, append_assoc, codes, inl, inr, sym}
+use Rattle.std.proofs.lemmas.List.{append-nil}
+use Rattle.std.proofs.lemmas.List.Concat.{flat_map-append}
 use Rattle.std.specs.Prelude.{OnErr}
 use Rattle.std.specs.Io.KnownBytes.{Keeps}
 use Rattle.std.proofs.KnownBytes.{Appends-kept, Keeps-trans}
+use Rattle.cdb_command.specs.Refused.{parts_line}
+use Rattle.cdb_command.specs.Shown.{shown, shown_byte}
 use Rattle.cdb_form.specs.Views.KnownBytes.{Writes}
 use Rattle.cdb_show.specs.Message.{fault_line}
 use Rattle.cdb_show.specs.declared.fault.Fault.{Fault}
@@ -21,3 +25,16 @@ line_kept line told mid said was is stays (inr part) k = inr (prefix_kept told m
 pub says_kept : (result : Result Unit Fault) (more : List ℕ) (told mid said : Option (List ℕ)) (was is : Type 0) → (was → is) → Says result more told mid was → Keeps mid said → Says result more told said is
 says_kept (Ok done) more told mid said was is stays h k = Keeps-trans told mid said h k
 says_kept (Err fault) more told mid said was is stays h k = line_kept (fault_line fault ++ more) told mid said was is stays h k
+
+-- ---- the line of a cause
+
+-- it has its name in two parts, and what is said of it too
+pub cause_parts : (name ending whole between what words said : List ℕ) → name ++ ending ≡ whole → what ++ words ≡ said
+    → parts_line (([], name) ∷ ([], ending) ∷ (between, []) ∷ (what, []) ∷ (words, []) ∷ []) ≡ parts_line (([], whole) ∷ (between, []) ∷ (said, []) ∷ [])
+cause_parts name ending whole between what words said named told =
+    let front = shown name in
+    let after : (t : List ℕ) → front ++ (shown ending ++ t) ≡ shown whole ++ t = λ t.
+        sym (append_assoc front (shown ending) t) ∙ ap (λ x. x ++ t) (sym (flat_map-append shown_byte name ending) ∙ ap shown named) in
+    let tail : (what ++ []) ++ ((words ++ []) ++ []) ≡ (said ++ []) ++ [] =
+        ap (λ t. t ++ ((words ++ []) ++ [])) (append-nil what) ∙ ap (λ t. what ++ t) (append-nil (words ++ []) ∙ append-nil words) ∙ told ∙ sym (append-nil (said ++ []) ∙ append-nil said) in
+    ap (λ t. codes "cdb: " ++ (t ++ codes "\n")) (after ((between ++ []) ++ ((what ++ []) ++ ((words ++ []) ++ []))) ∙ ap (λ t. shown whole ++ ((between ++ []) ++ t)) tail)

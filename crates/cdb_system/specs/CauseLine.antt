@@ -1,8 +1,8 @@
 -- What is said of a file, and the line that says it.
-use Rattle.std.specs.Prelude.{ℕ, ℤ, List, [], ◌++◌, Option, None, Some, codes, decimal, length, nat_lt, unwrap_or}
+use Rattle.std.specs.Prelude.{ℕ, ℤ, List, [], ◌∷◌, ◌++◌, Option, None, Some, codes, decimal, length, nat_lt, unwrap_or}
 use Rattle.std.specs.Prelude.{if◌then◌else◌}
 use Rattle.std.specs.Fmt.{signed_decimal}
-use Rattle.cdb_command.specs.Shown.{shown}
+use Rattle.cdb_command.specs.Refused.{parts_line}
 use Rattle.cdb_system.specs.SystemWords.{system_words}
 use Rattle.cdb_system.specs.declared.causes.Reason.{Reason}
 use Rattle.cdb_system.specs.declared.causes.Told.{Told}
@@ -32,5 +32,9 @@ between name None = []
 between name (Some words) = if nat_lt 0 (length name) then codes ": " else []
 
 abbrev pub cause_line : (name : List ℕ) → (said : Option (List ℕ)) → List ℕ
-cause_line name said =
-    codes "cdb: " ++ shown name ++ between name said ++ unwrap_or said [] ++ codes "\n"
+cause_line name said = parts_line (([], name) ∷ (between name said, []) ∷ (unwrap_or said [], []) ∷ [])
+
+-- of a reason, if one is given
+abbrev pub more_of : Option Reason → List ℕ
+more_of None = []
+more_of (Some reason) = cause_line (reason_name reason) (said_of reason.told)

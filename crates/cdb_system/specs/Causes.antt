@@ -1,7 +1,7 @@
 -- Which file a fault is of, what is said of it, and the line that says it.
 use Rattle.std.specs.Prelude.{ℕ, ℤ, ◌≡◌, ◌⊎◌, List, [], ◌∷◌, ◌&&◌, not, Option, None, Some, codes}
 use Rattle.std.specs.Prelude.{bytes_eq, if◌then◌else◌, length, nat_lt, option_map}
-use Rattle.std.specs.Prelude.{Bool, true, false, Result, Ok, Err}
+use Rattle.std.specs.Prelude.{Bool, true, false, Result, Ok, Err, ⊤}
 use Rattle.cdb_command.specs.Asked.{Asked}
 use Rattle.cdb_command.specs.Asked as asked
 use Rattle.cdb_form.specs.declared.text.fault.TextFault.{TextFault}
@@ -10,6 +10,7 @@ use Rattle.cdb_form.specs.declared.walk.fault.WalkFault.{WalkFault}
 use Rattle.cdb_form.specs.declared.walk.fault.WalkFault.TheVariants as walk
 use Rattle.cdb_read.specs.declared.fault.ReadFault.{ReadFault}
 use Rattle.cdb_read.specs.declared.fault.ReadFault.TheVariants as read
+use Rattle.cdb_store.specs.declared.make_fault.MakeFault.TheVariants as make
 use Rattle.cdb_show.specs.Message.{input_at}
 use Rattle.cdb_names.specs.declared.refusal.Cause.{Cause}
 use Rattle.cdb_names.specs.declared.refusal.Cause.TheVariants as cause
@@ -158,32 +159,70 @@ IsOfDatabase command NoOldTables name said = (name ≡ read_name command) × (sa
 IsOfDatabase command NoNewTables name said = (name ≡ new_name command) × (said ≡ None)
 IsOfDatabase command fault name said = ⊥
 
+-- standard output, if that failed, or else standard error
+abbrev pub IsFailedStream : (unwritten : Type 0) → (name : List ℕ) → Type 0
+IsFailedStream unwritten name = (unwritten × (name ≡ codes "standard output"))
+    ⊎ ((unwritten → ⊥) × (name ≡ codes "standard error"))
+
 -- the file of a fault, and what is said of it
-abbrev pub IsCause : Asked → Fault → (opened : OpenCalls) → (named : NameCalls) → (name : List ℕ)
-    → (said : Option (List ℕ)) → Type 0
-IsCause command Open opened named name said =
+abbrev pub IsCause : Asked → Fault → (unwritten : Type 0) → (opened : OpenCalls) → (named : NameCalls)
+    → (name : List ℕ) → (said : Option (List ℕ)) → Type 0
+IsCause command Open unwritten opened named name said =
     IsRefusedOpening command opened named name said ⊎ IsNoNameOf command name said
-IsCause command Rename opened named name said = IsRefusedOpening command opened named name said
-IsCause command NoMemory opened named name said = IsRefusedOpening command opened named name said
-IsCause command (Text input fault) opened named name said =
+IsCause command Rename unwritten opened named name said =
+    IsRefusedOpening command opened named name said
+IsCause command NoMemory unwritten opened named name said =
+    IsRefusedOpening command opened named name said
+IsCause command (Text input fault) unwritten opened named name said =
     (name ≡ input_name command input) × IsOfTextOf fault said
-IsCause command (Make fault) opened named name said = IsMadeName command name × IsOfSystem said
-IsCause command Output opened named name said =
-    ((name ≡ codes "standard output") ⊎ (name ≡ codes "standard error")) × IsOfSystem said
-IsCause command fault opened named name said = IsOfDatabase command fault name said
+IsCause command (Make fault) unwritten opened named name said = IsMadeName command name × IsOfSystem said
+IsCause command Output unwritten opened named name said = IsFailedStream unwritten name × IsOfSystem said
+IsCause command fault unwritten opened named name said = IsOfDatabase command fault name said
+
+-- ---- a fault of which no file is named
+
+-- the command makes a database
+abbrev pub IsCreate : Asked → Type 0
+IsCreate (asked.Create database base inputs temporary options wide) = ⊤
+IsCreate command = ⊥
+
+-- the fault of a database is not of its file
+abbrev pub NamesNothing : ReadFault → Type 0
+NamesNothing read.NoMemory = ⊤
+NamesNothing read.Output = ⊤
+NamesNothing fault = ⊥
+
+-- no database that is read is named
+abbrev pub HasNoDatabase : Fault → Type 0
+HasNoDatabase (Read fault) = NamesNothing fault
+HasNoDatabase (Old fault) = NamesNothing fault
+HasNoDatabase (New fault) = NamesNothing fault
+HasNoDatabase (Walk fault) = ⊥
+HasNoDatabase NoOldTables = ⊥
+HasNoDatabase NoNewTables = ⊥
+HasNoDatabase fault = ⊤
+
+-- nor any other file: the fault is one of the records or of memory, or that of a name whose refusal was not kept
+abbrev pub MayHaveNoCause : Asked → Fault → Type 0
+MayHaveNoCause command (Text input fault) = ⊥
+MayHaveNoCause command Output = ⊥
+MayHaveNoCause command (Make make.Writing) = IsCreate command → ⊥
+MayHaveNoCause command (Make make.Lookup) = IsCreate command → ⊥
+MayHaveNoCause command fault = HasNoDatabase fault
 
 -- ---- the line that says it
 
--- after the line of a fault that is to be explained comes the line of its cause, or nothing; after
--- that of another, nothing
-abbrev pub SaysCause : Asked → Result Unit Fault → (opened : OpenCalls) → (named : NameCalls)
+-- after the line of a fault that is to be explained comes the line of its cause; or nothing, if no file is
+-- named of it. After that of another comes nothing
+abbrev pub SaysCause : Asked → Fault → (unwritten : Type 0) → (opened : OpenCalls) → (named : NameCalls)
     → (more : List ℕ) → Type 0
-SaysCause command (Ok done) opened named more = ⊥
-SaysCause command (Err fault) opened named more = (name : List ℕ) × (said : Option (List ℕ))
-    × IsCause command fault opened named name said × (more ≡ cause_line name said)
+SaysCause command fault unwritten opened named more = (name : List ℕ) × (said : Option (List ℕ))
+    × IsCause command fault unwritten opened named name said × (more ≡ cause_line name said)
 
-abbrev pub Explains : (explained : Bool) → Asked → Result Unit Fault → (opened : OpenCalls)
-    → (named : NameCalls) → (more : List ℕ) → Type 0
-Explains false command result opened named more = more ≡ []
-Explains true command result opened named more =
-    (more ≡ []) ⊎ SaysCause command result opened named more
+abbrev pub Explains : (explained : Bool) → Asked → Result Unit Fault → (unwritten : Type 0)
+    → (opened : OpenCalls) → (named : NameCalls) → (more : List ℕ) → Type 0
+Explains false command result unwritten opened named more = more ≡ []
+Explains true command (Ok done) unwritten opened named more = more ≡ []
+Explains true command (Err fault) unwritten opened named more =
+    (MayHaveNoCause command fault × (more ≡ []))
+    ⊎ SaysCause command fault unwritten opened named more

@@ -1,9 +1,10 @@
 // The cause of a fault: which file, and why.
-ghost use Rattle.std.specs.Prelude.{◌≡◌, IfSome, option_map, string_bytes};
+ghost use Rattle.std.specs.Prelude.{◌≡◌, ◌⊎◌, IfSome, None, option_map, string_bytes, true};
 ghost use Rattle.cdb_show.specs.Command.{asked_in};
 ghost use Rattle.cdb_show.specs.declared.fault.Fault.TheVariants.{Open};
 ghost use Rattle.cdb_system.specs.CauseLine.{error_words, reason_name, said_of};
-ghost use Rattle.cdb_system.specs.Causes.{IsCause, IsMadeName, IsNoNameOf, IsOfDatabase, IsOfRead};
+ghost use Rattle.cdb_system.specs.Causes.{IsCause, IsCreate, IsMadeName, IsNoNameOf, IsOfDatabase, IsOfRead};
+ghost use Rattle.cdb_system.specs.Causes.{HasNoDatabase, IsFailedStream, MayHaveNoCause, NamesNothing};
 ghost use Rattle.cdb_system.specs.Causes.{IsOfSystem, IsOfTextOf, IsRefusedOpening};
 ghost use Rattle.cdb_system.specs.Causes.{cause_words, input_name, new_name, read_name, refusal_words, same_words};
 
@@ -155,8 +156,9 @@ fn of_unopened<'a, Y, N>(command: &'a Command, system: &'a Y, names: &'a N) -> O
 where
     Y: System,
     N: Names,
-    ensures { IfSome result (λ r. IsCause (asked_in command.now) Open (Y.calls system.now)
-        (N.calls names.now) (reason_name r) (said_of r.told)) }
+    ensures { IfSome result (λ r. IsRefusedOpening (asked_in command.now) (Y.calls system.now)
+        (N.calls names.now) (reason_name r) (said_of r.told)
+        ⊎ IsNoNameOf (asked_in command.now) (reason_name r) (said_of r.told)) }
 {
     if !is_of_another::<Y>(command, system)
         && let Some(reason) = of_no_name(command)
@@ -219,6 +221,7 @@ fn new_name(command: &Command) -> &str
 fn of_unread(name: &str, fault: ReadFault, number: Option<i32>) -> Option<Reason<'_>>
     ensures name { IfSome result (λ r. reason_name r ≡ name.now) }
     ensures told { IfSome result (λ r. IsOfRead fault (said_of r.told)) }
+    ensures none { result ≡ None → NamesNothing fault }
 {
     match fault {
         ReadFault::Device => Some(of_name(name, of_number(number))),
@@ -304,6 +307,7 @@ where
     N: Names,
     ensures name { IfSome result (λ r. IsMadeName (asked_in command.now) (reason_name r)) }
     ensures told { IfSome result (λ r. IsOfSystem (said_of r.told)) }
+    ensures none { result ≡ None → IsCreate (asked_in command.now) → ⊥ }
 {
     let Command::Create {
         name,
@@ -327,7 +331,22 @@ where
     }
 }
 
-/// Which file a fault is of, and why, if it is of a file.
+/// What is said of the standard stream that failed: of standard output if that is unwritten, or else of
+/// standard error.
+fn of_stream<Y>(system: &Y, unwritten: bool) -> Reason<'static>
+where
+    Y: System,
+    ensures name { IsFailedStream (unwritten ≡ true) (reason_name result) }
+    ensures told { IsOfSystem (said_of result.told) }
+{
+    if unwritten {
+        of_name(STANDARD_OUTPUT, of_number(system.output_error()))
+    } else {
+        of_name(STANDARD_ERROR, of_number(system.errors_error()))
+    }
+}
+
+/// Which file a fault is of, and why, if it is of a file. `unwritten` says that standard output failed.
 pub fn reason_of<'a, Y, N, I>(
     command: &'a Command,
     fault: &Fault,
@@ -335,12 +354,14 @@ pub fn reason_of<'a, Y, N, I>(
     system: &'a Y,
     names: &'a N,
     left: &Left<Y::File, Y::Made, Y::Stream, I>,
+    unwritten: bool,
 ) -> Option<Reason<'a>>
 where
     Y: System,
     N: Names,
-    ensures { IfSome result (λ r. IsCause (asked_in command.now) fault.now (Y.calls system.now)
-        (N.calls names.now) (reason_name r) (said_of r.told)) }
+    ensures cause { IfSome result (λ r. IsCause (asked_in command.now) fault.now (unwritten ≡ true)
+        (Y.calls system.now) (N.calls names.now) (reason_name r) (said_of r.told)) }
+    ensures none { result ≡ None → MayHaveNoCause (asked_in command.now) fault.now }
 {
     match *fault {
         Fault::Open => of_unopened::<Y, N>(command, system, names),
@@ -353,15 +374,7 @@ where
             let told = of_number(system.read_error());
             Some(of_name(read_name(command), told))
         }
-        Fault::Output => {
-            let told = of_number(system.write_error());
-            let name = if system.has_failed_on_errors() {
-                STANDARD_ERROR
-            } else {
-                STANDARD_OUTPUT
-            };
-            Some(of_name(name, told))
-        }
+        Fault::Output => Some(of_stream::<Y>(system, unwritten)),
         _ => of_database::<Y, I>(command, fault, system, left),
     }
 }
@@ -375,8 +388,9 @@ fn of_database<'a, Y, I>(
 ) -> Option<Reason<'a>>
 where
     Y: System,
-    ensures { IfSome result (λ r.
+    ensures cause { IfSome result (λ r.
         IsOfDatabase (asked_in command.now) fault.now (reason_name r) (said_of r.told)) }
+    ensures none { result ≡ None → HasNoDatabase fault.now }
 {
     match *fault {
         Fault::Read(fault) | Fault::Old(fault) => {

@@ -1,44 +1,14 @@
 // The line that says which file a fault is of, and why.
-ghost use Rattle.std.specs.Prelude.{◌≡◌, ◌++◌, [], IfOk, OnOk, length, nat_lt, unwrap_or};
-ghost use Rattle.cdb_command.specs.Shown.{shown, shown_byte};
+ghost use Rattle.std.specs.Prelude.{◌≡◌, ◌++◌, ◌∷◌, [], OnErr, length, nat_lt, unwrap_or};
+ghost use Rattle.cdb_command.specs.Refused.{parts_line};
+ghost use Rattle.cdb_form.specs.Views.KnownBytes.{Writes};
 ghost use Rattle.cdb_system.specs.CauseLine.{between, cause_line, reason_name, said_of};
 
 use crate::causes::{Reason, Told};
 use crate::system_words::system_words;
-use cdb_command::escaped;
+use cdb_form::{OutFault, Sink};
+use cdb_show::write_line;
 use itoa::Buffer;
-use std::alloc::{AllocError, Global};
-
-/// Adds a byte of a name.
-fn push_shown(line: &mut Vec<u8>, byte: u8) -> Result<(), AllocError>
-    ensures { OnOk result (line.new.items ≡ line.old.items ++ shown_byte byte) }
-{
-    match escaped(byte) {
-        Some(escaped) => line.extend_from_slice(&escaped),
-        None => Ok(line.push(byte)?),
-    }
-}
-
-/// Adds a name.
-fn push_name(line: &mut Vec<u8>, name: &[u8]) -> Result<(), AllocError>
-    ensures { OnOk result (line.new.items ≡ line.old.items ++ shown name.now) }
-{
-    for byte in name {
-        push_shown(line, *byte)?;
-    }
-    Ok(())
-}
-
-/// Adds the name of a reason's file.
-fn push_whole(line: &mut Vec<u8>, reason: &Reason<'_>) -> Result<(), AllocError>
-    ensures { OnOk result (line.new.items ≡ line.old.items ++ shown (reason_name reason.now)) }
-{
-    push_name(line, reason.name.as_bytes())?;
-    if reason.is_temporary {
-        push_name(line, b".tmp")?;
-    }
-    Ok(())
-}
 
 /// What is said of a file, in two parts.
 fn said_parts(told: Told, digits: &mut Buffer) -> (&'static str, &str)
@@ -53,16 +23,6 @@ fn said_parts(told: Told, digits: &mut Buffer) -> (&'static str, &str)
         },
         Told::Line(number) => ("line ", digits.format(number)),
     }
-}
-
-/// Adds what is said of a file.
-fn push_told(line: &mut Vec<u8>, told: Told) -> Result<(), AllocError>
-    ensures { OnOk result (line.new.items ≡ line.old.items ++ unwrap_or (said_of told) []) }
-{
-    let mut digits = Buffer::new();
-    let (what, words) = said_parts(told, &mut digits);
-    line.extend_from_slice(what.as_bytes())?;
-    line.extend_from_slice(words.as_bytes())
 }
 
 /// Whether a reason's file has a name that is not empty.
@@ -84,16 +44,55 @@ fn between(reason: &Reason<'_>) -> &'static [u8]
     }
 }
 
-/// The line of a reason, with its newline.
-pub fn cause_line(alloc: Global, reason: &Reason<'_>) -> Result<Vec<u8>, AllocError>
-    ensures { IfOk result (λ line.
-        line.items ≡ cause_line (reason_name reason.now) (said_of reason.now.told)) }
+/// What stands after the name of a reason's file.
+fn ending(reason: &Reason<'_>) -> &'static [u8]
+    ensures { reason.now.name.now ++ result.now ≡ reason_name reason.now }
 {
-    let mut line = Vec::new(alloc);
-    line.extend_from_slice(b"cdb: ")?;
-    push_whole(&mut line, reason)?;
-    line.extend_from_slice(between(reason))?;
-    push_told(&mut line, reason.told)?;
-    line.push(b'\n')?;
-    Ok(line)
+    if reason.is_temporary { b".tmp" } else { b"" }
+}
+
+/// Writes the line of a name with its ending, and of what is said of it in two parts.
+fn write_said<'x, E: Sink>(
+    name: &'x [u8],
+    ending: &'x [u8],
+    between: &'x [u8],
+    what: &'x [u8],
+    words: &'x [u8],
+    errors: &mut E,
+) -> Result<(), OutFault>
+    ensures writes { Writes result (E.contents errors.old) (E.contents errors.new)
+        (parts_line (([], name.entry.now) ∷ ([], ending.entry.now) ∷ (between.entry.now, [])
+        ∷ (what.entry.now, []) ∷ (words.entry.now, []) ∷ [])) }
+    ensures failed { OnErr result (E.failed errors.new) }
+    ensures stays { E.failed errors.old → E.failed errors.new }
+{
+    write_line(
+        &[
+            (b"", name),
+            (b"", ending),
+            (between, b""),
+            (what, b""),
+            (words, b""),
+        ],
+        errors,
+    )
+}
+
+/// Writes the line of a reason, with its newline.
+pub(crate) fn write_reason<E: Sink>(reason: &Reason<'_>, errors: &mut E) -> Result<(), OutFault>
+    ensures writes { Writes result (E.contents errors.old) (E.contents errors.new)
+        (cause_line (reason_name reason.now) (said_of reason.now.told)) }
+    ensures failed { OnErr result (E.failed errors.new) }
+    ensures stays { E.failed errors.old → E.failed errors.new }
+{
+    let mut digits = Buffer::new();
+    let (what, words) = said_parts(reason.told, &mut digits);
+    write_said(
+        reason.name.as_bytes(),
+        ending(reason),
+        between(reason),
+        what.as_bytes(),
+        words.as_bytes(),
+        errors,
+    )
 }

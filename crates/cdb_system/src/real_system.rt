@@ -112,12 +112,12 @@ impl<'a, R: Files<File = File> + AllocGlobal> System for RealSystem<'a, R> {
         self.seen.read_error()
     }
 
-    fn write_error(&self) -> Option<i32> {
-        self.seen.write_error()
+    fn output_error(&self) -> Option<i32> {
+        self.seen.output_error()
     }
 
-    fn has_failed_on_errors(&self) -> bool {
-        self.seen.has_failed_on_errors()
+    fn errors_error(&self) -> Option<i32> {
+        self.seen.errors_error()
     }
 
     // Shown by tests/cli/cases.py and tests/faults/names.py.

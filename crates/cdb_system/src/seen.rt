@@ -12,10 +12,10 @@ const NOT_OPEN: i32 = 9;
 pub struct Seen {
     /// The number of the error of the last read that failed.
     read_error: Cell<Option<i32>>,
-    /// The number of the error of the last write that failed.
-    write_error: Cell<Option<i32>>,
-    /// Whether that was one on standard error.
-    is_of_errors: Cell<bool>,
+    /// The number of the error of the last write on standard output that failed.
+    output_error: Cell<Option<i32>>,
+    /// The number of the error of the last write on standard error that failed.
+    errors_error: Cell<Option<i32>>,
 }
 
 impl Seen {
@@ -23,8 +23,8 @@ impl Seen {
     pub fn new() -> Seen {
         Seen {
             read_error: Cell::new(None),
-            write_error: Cell::new(None),
-            is_of_errors: Cell::new(false),
+            output_error: Cell::new(None),
+            errors_error: Cell::new(None),
         }
     }
 
@@ -33,20 +33,24 @@ impl Seen {
         self.read_error.get()
     }
 
-    /// The number of the error of the last write that failed, if the system gave one.
-    pub fn write_error(&self) -> Option<i32> {
-        self.write_error.get()
+    /// The number of the error of the last write on standard output that failed, if the system gave one.
+    pub fn output_error(&self) -> Option<i32> {
+        self.output_error.get()
     }
 
-    /// Whether the last write that failed was one on standard error.
-    pub fn has_failed_on_errors(&self) -> bool {
-        self.is_of_errors.get()
+    /// The number of the error of the last write on standard error that failed, if the system gave one.
+    pub fn errors_error(&self) -> Option<i32> {
+        self.errors_error.get()
     }
 
     /// A write failed, on standard error or on standard output.
     fn fail(&self, error: &io::Error, is_of_errors: bool) {
-        self.write_error.set(error.raw_os_error());
-        self.is_of_errors.set(is_of_errors);
+        let number = error.raw_os_error();
+        if is_of_errors {
+            self.errors_error.set(number);
+        } else {
+            self.output_error.set(number);
+        }
     }
 }
 

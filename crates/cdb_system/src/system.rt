@@ -47,11 +47,11 @@ pub trait System {
     /// The number of the error of the last read of an input that failed.
     fn read_error(&self) -> Option<i32>;
 
-    /// The number of the error of the last write on a standard stream that failed.
-    fn write_error(&self) -> Option<i32>;
+    /// The number of the error of the last write on standard output that failed.
+    fn output_error(&self) -> Option<i32>;
 
-    /// Whether that was one on standard error.
-    fn has_failed_on_errors(&self) -> bool;
+    /// The number of the error of the last write on standard error that failed.
+    fn errors_error(&self) -> Option<i32>;
 
     /// Opens the file of a name, to be read at places. `Open`: it cannot be opened, or it is a pipe
     /// or a device, which has no places to be read at.

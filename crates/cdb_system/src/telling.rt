@@ -4,32 +4,56 @@ ghost use Rattle.cdb_form.specs.Views.KnownBytes.{AppendsPrefix, Writes};
 ghost use Rattle.cdb_show.specs.Command.{refused_in, usage_of};
 ghost use Rattle.cdb_show.specs.Message.{fault_line};
 ghost use Rattle.cdb_show.specs.Views.Output.{output_bytes, OutputFailed};
+ghost use Rattle.cdb_system.specs.CauseLine.{more_of};
 ghost use Rattle.cdb_system.specs.Telling.{SaysLine, refused_lines, usage_line, usage_status};
 
 use cdb_command::{Usage, WordFault};
-use cdb_form::{OutFault, Sink, write_pieces, write_whole};
+use crate::causes::Reason;
+use crate::explaining::write_reason;
+use cdb_form::{OutFault, Sink, write_pieces};
 use cdb_show::{BAD_USAGE, FAILED, Fault, Output, write_fault, write_word_fault};
 
-/// Writes the line of a fault, and more after it.
-fn write_told<E: Sink>(fault: &Fault, more: &[u8], errors: &mut Output<E>) -> Result<(), OutFault>
+/// Writes the line of its reason, if it has one.
+fn write_more<E: Sink>(
+    reason: &Option<Reason<'_>>,
+    errors: &mut Output<E>,
+) -> Result<(), OutFault>
     ensures writes { Writes result (output_bytes E.contents errors.old)
-        (output_bytes E.contents errors.new) (fault_line fault.now ++ more.now) }
+        (output_bytes E.contents errors.new) (more_of reason.now) }
+    ensures failed { OnErr result (OutputFailed errors.new) }
+    ensures stays { OutputFailed errors.old → OutputFailed errors.new }
+{
+    match reason {
+        Some(reason) => write_reason(reason, errors),
+        None => Ok(()),
+    }
+}
+
+/// Writes the line of a fault, and that of its reason after it.
+fn write_told<E: Sink>(
+    fault: &Fault,
+    reason: &Option<Reason<'_>>,
+    errors: &mut Output<E>,
+) -> Result<(), OutFault>
+    ensures writes { Writes result (output_bytes E.contents errors.old)
+        (output_bytes E.contents errors.new) (fault_line fault.now ++ more_of reason.now) }
     ensures failed { OnErr result (OutputFailed errors.new) }
     ensures stays { OutputFailed errors.old → OutputFailed errors.new }
 {
     write_fault(fault, errors)?;
-    write_whole(errors, more)
+    write_more(reason, errors)
 }
 
-/// Says what a fault is, and more after it, unless `errors` fails.
+/// Says what a fault is, and what it is of if that is given, unless `errors` fails.
 #[cold]
 #[inline(never)]
-pub fn tell<E: Sink>(fault: &Fault, more: &[u8], errors: &mut Output<E>)
-    ensures says { SaysLine (fault_line fault.now ++ more.now) (output_bytes E.contents errors.old)
-        (output_bytes E.contents errors.new) (OutputFailed errors.new) }
+pub fn tell<E: Sink>(fault: &Fault, reason: &Option<Reason<'_>>, errors: &mut Output<E>)
+    ensures says { SaysLine (fault_line fault.now ++ more_of reason.now)
+        (output_bytes E.contents errors.old) (output_bytes E.contents errors.new)
+        (OutputFailed errors.new) }
     ensures stays { OutputFailed errors.old → OutputFailed errors.new }
 {
-    let _ = write_told(fault, more, errors);
+    let _ = write_told(fault, reason, errors);
 }
 
 /// The exit status of words that ask for nothing.

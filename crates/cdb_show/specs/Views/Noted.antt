@@ -1,5 +1,5 @@
 -- What a writer that notes its writes took, and whether one failed.
-use Rattle.std.specs.Prelude.{ℕ, List, [], ◌∷◌, ◌++◌, ⊤, ⊥}
+use Rattle.std.specs.Prelude.{ℕ, List, [], ◌∷◌, ◌++◌, ⊤}
 use Rattle.cdb_store.specs.Calls.{Calls}
 use Rattle.cdb_store.specs.declared.trace.Call.TheVariants.{Failed, NotWritten}
 use Rattle.cdb_show.specs.declared.noted.Noted.{Noted}

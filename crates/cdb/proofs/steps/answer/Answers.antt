@@ -3,6 +3,7 @@ use Rattle.std.proofs.KnownBytes.{Keeps-refl}
 use Rattle.cdb_command.specs.Refused.{refused_in}
 use Rattle.cdb_show.specs.Views.Output.{output_bytes}
 use Rattle.cdb_show.proofs.OutputFaults.{says_more}
+use Rattle.cdb_system.specs.CauseLine.{more_of}
 use Rattle.cdb_system.proofs.Explained.{none_said}
 use Rattle.cdb.proofs.steps.answer.Goals as goal
 
@@ -37,7 +38,7 @@ returns-in-Ok-performed g c = record {
     silent = c.perform-left.ensures.silent;
     same = c.perform-left.ensures.same;
     more = [];
-    explains = none_said _ _ _ _ _;
+    explains = none_said _ _ _ _ _ _;
     says = Keeps-refl _;
     is_status = refl;
   });
@@ -55,9 +56,9 @@ returns g c = record {
     output = says_more (Err c.in-Err-performed.fault) (λ failed. elim failed [ inl output ↦ inl output | inr errors ↦ inr (c.tell.ensures.stays errors) ]) (rw c.in-Err-performed.is at c.perform-left.ensures.output);
     silent = c.perform-left.ensures.silent;
     same = c.perform-left.ensures.same;
-    more = c.cause_of-more.result.items;
-    explains = rw c.as_slice.ensures.value at (rw c.explains-is_explained.ensures at (rw c.new-lines.ensures at c.cause_of-more.ensures));
-    says = rw c.as_slice-in-Err-performed.ensures.value at c.tell.ensures.says;
+    more = more_of c.cause_of-reason.result;
+    explains = rw c.as_slice.ensures.value at (rw c.explains-is_explained.ensures at (rw c.new-lines.ensures at (rw c.has_failed-unwritten.ensures at c.cause_of-reason.ensures)));
+    says = c.tell.ensures.says;
     is_status = c.status_of.ensures;
   });
 }

@@ -8,7 +8,7 @@ use Rattle.cdb_show.proofs.shown.write_shown.Goals as goal
 pub returns-in_err-write_byte-clause-writes : goal.returns-in_err-write_byte-clause-writes
 returns-in_err-write_byte-clause-writes g c =
     let p = err_from_is_err_and c.from_residual.result c.from_residual.ensures.1 in
-    writes_prefix _ _ _ _ _ p.1 (prefix_then _ _ _ _ _ _ _ c.loop-byte.invariant c.in_err-write_byte.ensures.writes.err (flat_map_at shown_byte c.args.bytes.now c.loop-byte.byte-index 0 (omega arith)))
+    writes_prefix _ _ _ _ _ p.1 (prefix_then _ _ _ _ _ _ _ c.loop-byte.invariant.written c.in_err-write_byte.ensures.writes.err (flat_map_at shown_byte c.args.bytes.now c.loop-byte.byte-index 0 (omega arith)))
 
 pub loop-byte-preserved : goal.loop-byte-preserved
 loop-byte-preserved g c = grind (arith, common_steps)

@@ -1,6 +1,6 @@
 use Rattle.std.proofs.lemmas.Grind.{common_steps}
 use Rattle.std.proofs.Common.{arith}
-use Rattle.cdb_show.proofs.OutputLemmas.{some_passed_on}
+use Rattle.cdb_show.proofs.OutputLemmas.{marked_so, some_passed_on}
 use Rattle.cdb_show.proofs.output.Output.pass_on.Goals as goal
 
 pub returns-clause-ok : goal.returns-clause-ok
@@ -19,3 +19,7 @@ returns-clause-failed g c = grind (arith, common_steps)
 
 pub returns-clause-sound : goal.returns-clause-sound
 returns-clause-sound g c = grind (arith, common_steps)
+
+pub invariant_of-self-clause-marked : goal.invariant_of-self-clause-marked
+invariant_of-self-clause-marked g c =
+    marked_so _ _ c.write_some-gone.result c.is_err.ensures.value c.hand_on.new.self.marked c.write_some-gone.ensures.stays c.write_some-gone.ensures.failed
