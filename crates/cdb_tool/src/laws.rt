@@ -27,9 +27,9 @@ pub fn difference_amends_base<L: Width>(
     _base: &[Record],
     _new: &[Record],
 )
-    ensures { mode_of _options.entry ≡ Add
-        → file_size L.WORD (brought_up (key_values _base.now) (key_values _new.now)) ≤ _options.entry.limit
-        → MakerHoldsAll L.WORD _options.entry (key_values _base.now) (key_values _new.now) }
+    ensures { mode_of _options ≡ Add
+        → file_size L.WORD (brought_up (key_values _base.now) (key_values _new.now)) ≤ _options.limit
+        → MakerHoldsAll L.WORD _options (key_values _base.now) (key_values _new.now) }
 {}
 
 /// What a run leaves that makes a database is what one function of its options, of its base and of

@@ -359,7 +359,7 @@ pub fn make_run<L: Width, S: Store, B: Store, R: Read + Drop, E: Sink>(
     requires head { head_size L.WORD ≤ options.limit }
     requires words { options.limit ≤ L.GREATEST }
     ensures runs { WhereHonest (S.image result.0) (OfBase B.Store result.1 (λ base.
-        MakeRuns L.WORD L.GREATEST (plain options.entry) base (own_inputs (map R.remaining inputs.items))
+        MakeRuns L.WORD L.GREATEST (plain options) base (own_inputs (map R.remaining inputs.items))
         (S.image result.0) (E.contents errors.old) (E.contents errors.new) result.2)) }
     ensures hands { HandsBack B.Store base result.1 }
     ensures settled { OnOk result.2 (S.settled result.0) }

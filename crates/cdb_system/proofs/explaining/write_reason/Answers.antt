@@ -11,7 +11,7 @@ returns-clause-writes g c =
     let whole = reason_name reason in
     let said = unwrap_or (said_of reason.told) [] in
     let named = ap (λ t. t ++ c.ending.result.now) c.as_bytes.ensures.value ∙ c.ending.ensures in
-    let told = ap (λ t. t ++ c.as_bytes-3.result.now) c.as_bytes-2.ensures.value ∙ ap (λ t. c.said_parts-what.result.0.now ++ t) c.as_bytes-3.ensures.value ∙ c.said_parts-what.ensures in
+    let told = ap (λ t. t ++ c.as_bytes-3.result.now) c.as_bytes-2.ensures.value ∙ ap (λ t. c.said_parts.result.0.now ++ t) c.as_bytes-3.ensures.value ∙ c.said_parts.ensures in
     same_writes c.write_said.result _ _ _ _
-    (cause_parts _ _ whole _ _ _ said named told ∙ ap (λ b. parts_line (([], whole) ∷ (b, []) ∷ (said, []) ∷ [])) c.between.ensures)
+    (cause_parts c.as_bytes.result.now c.ending.result.now whole c.between.result.now c.as_bytes-2.result.now c.as_bytes-3.result.now said named told ∙ ap (λ b. parts_line (([], whole) ∷ (b, []) ∷ (said, []) ∷ [])) c.between.ensures)
     c.write_said.ensures.writes
