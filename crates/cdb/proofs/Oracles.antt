@@ -6,7 +6,6 @@ use Rattle.std.specs.Prelude.{map, IfOk, string_bytes}
 use Rattle.std.proofs.lemmas.List.{append-nil}
 use Rattle.std.specs.Io.KnownBytes.{Keeps, Appends, append_known}
 use Rattle.std.proofs.KnownBytes.{Appends-kept, Keeps-refl, Keeps-trans}
-use Rattle.cdb_form.specs.declared.writing.Sink.{Ghosts as Sinks}
 use Rattle.cdb_form.specs.Fed.Feed.{Feed}
 use Rattle.cdb_form.specs.declared.text.fault.TextFault.TheVariants as text
 use Rattle.cdb_form.specs.declared.walk.fault.WalkFault.TheVariants as walk
@@ -22,7 +21,7 @@ use Rattle.cdb_store.specs.declared.raw.RawFile.{Ghosts as Raw}
 use Rattle.cdb_store.specs.declared.store.Store.{Ghosts}
 use Rattle.cdb_show.specs.Message.{fault_line}
 use Rattle.cdb_show.specs.Runs.Form.{dump_form, list_form}
-use Rattle.cdb_show.specs.Views.Output.{HasHandedOn, held_by, OutputFailed, OutputSays, output_bytes}
+use Rattle.cdb_show.specs.Views.Output.{HasHandedOn, held_by, OutputFailed, OutputSays, output_bytes, writer_bytes}
 use Rattle.cdb_show.specs.declared.output.Output.{Output as Writer}
 use Rattle.cdb_show.specs.Status.{plain_status, check_status, exit_status}
 use Rattle.cdb_show.proofs.Writers.{prefix_kept}
@@ -238,9 +237,9 @@ run_foretold s m r feed y planned explained given old new was now left start end
     (is_silent command disk input told some.before some.silent))
 
 -- an output that was flushed and did not fail holds nothing back
-pub all_taken : {W : Type 0} {s : Sinks W} (contents : W → Option (List ℕ)) (o : Writer W s) → HasHandedOn o → (OutputFailed o → ⊥) → output_bytes contents o ≡ contents o.writer
-all_taken contents o handed works = elim handed [
-  | inl none ↦ ap (append_known (contents o.writer)) none ∙ nothing_held (contents o.writer)
+pub all_taken : {W : Type 0} (o : Writer W) → HasHandedOn o → (OutputFailed o → ⊥) → output_bytes o ≡ writer_bytes o
+all_taken o handed works = elim handed [
+  | inl none ↦ ap (append_known (writer_bytes o)) none ∙ nothing_held (writer_bytes o)
   | inr failed ↦ absurd (works failed)
 ]
 
@@ -258,15 +257,15 @@ total_so (Ok asked.Help) disk input P none h = h
 total_so (Ok asked.Version) disk input P none h = h
 total_so (Err usage) disk input P none h = h
 
-pub run_is_foretold : {F I J M R Y W V : Type 0} {w : Sinks W} {v : Sinks V} (s : Ghosts F) (m : Ghosts M) (r : Raw R) (feed : I → Feed) (y : Systems Y F I M) (planned : Result Asked Refused) (explained : Bool) (given : Standard J) (old new : Y) (was now : NameCalls) (left : Left F M I J) (of_output : W → Option (List ℕ)) (of_errors : V → Option (List ℕ)) (output_old output_new : Writer W w) (errors_old errors_new : Writer V v) (status : ℕ)
+pub run_is_foretold : {F I J M R Y W V : Type 0} (s : Ghosts F) (m : Ghosts M) (r : Raw R) (feed : I → Feed) (y : Systems Y F I M) (planned : Result Asked Refused) (explained : Bool) (given : Standard J) (old new : Y) (was now : NameCalls) (left : Left F M I J) (output_old output_new : Writer W) (errors_old errors_new : Writer V) (status : ℕ)
     → IsSized s → (held_by output_old ≡ [] → HasHandedOn output_new) → HasHandedOn errors_new
-    → Runs (files_of s m feed y) r (given_of planned explained given) (state_of old was (output_bytes of_output output_old) (output_bytes of_errors errors_old)) (state_of new now (output_bytes of_output output_new) (output_bytes of_errors errors_new)) (of_output output_new.writer) left (failed_of (OutputFailed output_new) (OutputFailed errors_new)) status
-    → IsForetold (files_of s m feed y) (given_of planned explained given) (state_of old was (output_bytes of_output output_old) (output_bytes of_errors errors_old)) (state_of new now (of_output output_new.writer) (of_errors errors_new.writer)) left (IsTaken output_old output_new errors_new) status
-run_is_foretold s m r feed y planned explained given old new was now left of_output of_errors output_old output_new errors_old errors_new status sized handed said runs = λ disk input taken none honest.
+    → Runs (files_of s m feed y) r (given_of planned explained given) (state_of old was (output_bytes output_old) (output_bytes errors_old)) (state_of new now (output_bytes output_new) (output_bytes errors_new)) (writer_bytes output_new) left (failed_of (OutputFailed output_new) (OutputFailed errors_new)) status
+    → IsForetold (files_of s m feed y) (given_of planned explained given) (state_of old was (output_bytes output_old) (output_bytes errors_old)) (state_of new now (writer_bytes output_new) (writer_bytes errors_new)) left (IsTaken output_old output_new errors_new) status
+run_is_foretold s m r feed y planned explained given old new was now left output_old output_new errors_old errors_new status sized handed said runs = λ disk input taken none honest.
     let writes : OutputFailed output_new → ⊥ = λ failed. not_there (output_new.marked failed) taken.1 in
     let speaks : OutputFailed errors_new → ⊥ = λ failed. not_there (errors_new.marked failed) taken.2 in
-    total_so planned disk input (λ o. Foretold planned o explained (output_bytes of_output output_old) (of_output output_new.writer) (output_bytes of_errors errors_old) (of_errors errors_new.writer) status) none
-    (let end = output_bytes of_output output_new in
-    let kept = subst (Keeps end) (all_taken of_output output_new (handed taken.0) writes) (Keeps-refl end) in
-    subst (λ t. IfSome (oracle planned disk input) (λ o. Foretold planned o explained (output_bytes of_output output_old) (of_output output_new.writer) (output_bytes of_errors errors_old) t status)) (all_taken of_errors errors_new said speaks)
-    (run_foretold s m r feed y planned explained given old new was now left (output_bytes of_output output_old) end (of_output output_new.writer) (output_bytes of_errors errors_old) (output_bytes of_errors errors_new) (OutputFailed output_new) (OutputFailed errors_new) status disk input sized writes speaks kept runs honest))
+    total_so planned disk input (λ o. Foretold planned o explained (output_bytes output_old) (writer_bytes output_new) (output_bytes errors_old) (writer_bytes errors_new) status) none
+    (let end = output_bytes output_new in
+    let kept = subst (Keeps end) (all_taken output_new (handed taken.0) writes) (Keeps-refl end) in
+    subst (λ t. IfSome (oracle planned disk input) (λ o. Foretold planned o explained (output_bytes output_old) (writer_bytes output_new) (output_bytes errors_old) t status)) (all_taken errors_new said speaks)
+    (run_foretold s m r feed y planned explained given old new was now left (output_bytes output_old) end (writer_bytes output_new) (output_bytes errors_old) (output_bytes errors_new) (OutputFailed output_new) (OutputFailed errors_new) status disk input sized writes speaks kept runs honest))

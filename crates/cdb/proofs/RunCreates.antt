@@ -15,7 +15,6 @@ use Rattle.cdb_command.specs.declared.options.MakeOptions.{MakeOptions}
 use Rattle.cdb_tool.specs.declared.runs.options.RunOptions.{RunOptions}
 use Rattle.cdb_command.specs.Refused.{Refused, usage_of}
 use Rattle.cdb_names.specs.Folder.{NameCalls}
-use Rattle.cdb_form.specs.declared.writing.Sink.{Ghosts as Sinks}
 use Rattle.cdb_form.specs.Fed.Feed.{Feed}
 use Rattle.cdb_store.specs.declared.raw.RawFile.{Ghosts as Raw}
 use Rattle.cdb_store.specs.declared.store.Store.{Ghosts}
@@ -32,7 +31,7 @@ use Rattle.cdb.specs.Performs.{IsShown, PerformsIn, Runs, status_of}
 use Rattle.cdb_system.specs.Telling.{SaysLine, refused_lines, usage_line, usage_status}
 use Rattle.cdb_system.specs.declared.left.Left.{Left}
 use Rattle.cdb_system.specs.declared.system.System.{Ghosts as Systems}
-use Rattle.cdb_show.specs.Views.Output.{HasHandedOn, OutputFailed, held_by, output_bytes}
+use Rattle.cdb_show.specs.Views.Output.{HasHandedOn, OutputFailed, held_by, output_bytes, writer_bytes}
 use Rattle.cdb_show.specs.declared.output.Output.{Output as Writer}
 use Rattle.cdb_show.proofs.Writers.{prefix_kept}
 use Rattle.cdb.proofs.Replaced.{IsPlain}
@@ -191,14 +190,14 @@ run_holds s m r feed y planned explained given old new was now left start end fi
       moments = so.moments;
     })
 
-pub run_is_created : {F I J M R Y W V : Type 0} {w : Sinks W} {v : Sinks V} (s : Ghosts F) (m : Ghosts M) (r : Raw R) (feed : I → Feed) (y : Systems Y F I M) (planned : Result Asked Refused) (explained : Bool) (given : Standard J) (old new : Y) (was now : NameCalls) (left : Left F M I J) (of_output : W → Option (List ℕ)) (of_errors : V → Option (List ℕ)) (output_old output_new : Writer W w) (errors_old errors_new : Writer V v) (status : ℕ)
+pub run_is_created : {F I J M R Y W V : Type 0} (s : Ghosts F) (m : Ghosts M) (r : Raw R) (feed : I → Feed) (y : Systems Y F I M) (planned : Result Asked Refused) (explained : Bool) (given : Standard J) (old new : Y) (was now : NameCalls) (left : Left F M I J) (output_old output_new : Writer W) (errors_old errors_new : Writer V) (status : ℕ)
     → (held_by output_old ≡ [] → HasHandedOn output_new) → HasHandedOn errors_new
-    → Runs (files_of s m feed y) r (given_of planned explained given) (state_of old was (output_bytes of_output output_old) (output_bytes of_errors errors_old)) (state_of new now (output_bytes of_output output_new) (output_bytes of_errors errors_new)) (of_output output_new.writer) left (failed_of (OutputFailed output_new) (OutputFailed errors_new)) status
-    → IsCreateForetold (files_of s m feed y) (given_of planned explained given) (state_of old was (output_bytes of_output output_old) (output_bytes of_errors errors_old)) (state_of new now (of_output output_new.writer) (of_errors errors_new.writer)) left (IsTaken output_old output_new errors_new) status
-run_is_created s m r feed y planned explained given old new was now left of_output of_errors output_old output_new errors_old errors_new status handed said runs = λ disk input name base inputs temporary o wide plan taken honest.
+    → Runs (files_of s m feed y) r (given_of planned explained given) (state_of old was (output_bytes output_old) (output_bytes errors_old)) (state_of new now (output_bytes output_new) (output_bytes errors_new)) (writer_bytes output_new) left (failed_of (OutputFailed output_new) (OutputFailed errors_new)) status
+    → IsCreateForetold (files_of s m feed y) (given_of planned explained given) (state_of old was (output_bytes output_old) (output_bytes errors_old)) (state_of new now (writer_bytes output_new) (writer_bytes errors_new)) left (IsTaken output_old output_new errors_new) status
+run_is_created s m r feed y planned explained given old new was now left output_old output_new errors_old errors_new status handed said runs = λ disk input name base inputs temporary o wide plan taken honest.
     (let writes : OutputFailed output_new → ⊥ = λ failed. not_there (output_new.marked failed) taken.1 in
     let speaks : OutputFailed errors_new → ⊥ = λ failed. not_there (errors_new.marked failed) taken.2 in
-    let end = output_bytes of_output output_new in
-    let kept = subst (Keeps end) (all_taken of_output output_new (handed taken.0) writes) (Keeps-refl end) in
-    subst (λ t. CreateHolds m (expected_of disk name temporary (create_of (word_size wide) (greatest_size wide) disk input name base inputs temporary o)) explained left.made (state_of (y.calls old) was (output_bytes of_output output_old) (output_bytes of_errors errors_old)) (state_of (y.calls new) now (of_output output_new.writer) t) status) (all_taken of_errors errors_new said speaks)
-    (run_holds s m r feed y planned explained given old new was now left (output_bytes of_output output_old) end (of_output output_new.writer) (output_bytes of_errors errors_old) (output_bytes of_errors errors_new) (OutputFailed output_new) (OutputFailed errors_new) status disk input name base inputs temporary o wide plan writes speaks kept (honest_so (of_output output_new.writer) (output_bytes of_errors errors_new) honest) runs))
+    let end = output_bytes output_new in
+    let kept = subst (Keeps end) (all_taken output_new (handed taken.0) writes) (Keeps-refl end) in
+    subst (λ t. CreateHolds m (expected_of disk name temporary (create_of (word_size wide) (greatest_size wide) disk input name base inputs temporary o)) explained left.made (state_of (y.calls old) was (output_bytes output_old) (output_bytes errors_old)) (state_of (y.calls new) now (writer_bytes output_new) t) status) (all_taken errors_new said speaks)
+    (run_holds s m r feed y planned explained given old new was now left (output_bytes output_old) end (writer_bytes output_new) (output_bytes errors_old) (output_bytes errors_new) (OutputFailed output_new) (OutputFailed errors_new) status disk input name base inputs temporary o wide plan writes speaks kept (honest_so (writer_bytes output_new) (output_bytes errors_new) honest) runs))

@@ -6,9 +6,8 @@ use Rattle.cdb_command.specs.Asked.{Asked}
 use Rattle.cdb_command.specs.Asked as asked
 use Rattle.cdb_command.specs.Refused.{Refused}
 use Rattle.cdb_form.specs.Views.KnownBytes.{AppendsPrefix}
-use Rattle.cdb_form.specs.declared.writing.Sink.{Ghosts as Sinks}
 use Rattle.cdb_show.specs.Message.{fault_line}
-use Rattle.cdb_show.specs.Views.Output.{held_by}
+use Rattle.cdb_show.specs.Views.Output.{WriterFailed, held_by}
 use Rattle.cdb_show.specs.declared.fault.Fault.{Fault}
 use Rattle.cdb_show.specs.declared.fault.Fault.TheVariants.{NoMemory}
 use Rattle.cdb_show.specs.declared.output.Output.{Output as Writer}
@@ -49,10 +48,9 @@ pub record IsRefused (planned : Result Asked Refused) (o : Outcome) (explained :
 
 -- standard output held nothing back before the run, and no call of its writer or of that of standard error
 -- failed
-abbrev pub IsTaken : {O E : Type 0} {o : Sinks O} {e : Sinks E} → (old new : Writer O o)
-    → (errors : Writer E e) → Type 0
-IsTaken {o = o} {e = e} old new errors =
-    (held_by old ≡ []) × (o.failed new.writer → ⊥) × (e.failed errors.writer → ⊥)
+abbrev pub IsTaken : {O E : Type 0} → (old new : Writer O) → (errors : Writer E) → Type 0
+IsTaken old new errors =
+    (held_by old ≡ []) × (WriterFailed new → ⊥) × (WriterFailed errors → ⊥)
 
 -- the words ask for no create
 abbrev pub AsksNoCreate : Result Asked Refused → Type 0

@@ -19,7 +19,7 @@ use Rattle.cdb_read.specs.Lookup.{met_slots, found_at, lookup_of}
 use Rattle.cdb_read.specs.Statistics.{distances_in, statistics_of, statistics_damage}
 use Rattle.cdb_show.specs.Command.{explains_in, plan_of}
 use Rattle.cdb_show.specs.Runs.StatsText.{distance_lines, stats_text}
-use Rattle.cdb_show.specs.Views.Output.{output_bytes}
+use Rattle.cdb_show.specs.Views.Output.{output_bytes, writer_bytes}
 use Rattle.cdb_show.specs.declared.output.Output.{Output as Writer}
 use Rattle.cdb_store.specs.Contents.{contents}
 use Rattle.cdb_store.specs.contracts.memory.MemStoreStore.TheImpl.{ghosts as in_memory}
@@ -27,7 +27,7 @@ use Rattle.cdb_store.specs.declared.memory.MemStore.{MemStore}
 use Rattle.cdb_store.specs.declared.raw.RawFile.{Ghosts as Raw}
 use Rattle.cdb.specs.Created.{foretell}
 use Rattle.cdb.specs.Foretold.{AsksNoCreate, IsForetold, IsTaken}
-use Rattle.cdb.specs.Running.{IsRun, Taking, given_by, taken, world_of, written}
+use Rattle.cdb.specs.Running.{IsRun, given_by, taken, world_of, written}
 use Rattle.cdb_system.specs.Answered.{Honest}
 use Rattle.cdb_system.specs.Files.{Files, files_of}
 use Rattle.cdb_system.specs.NotedExamples.{ended, fresh, fresh_is_unread, front_agrees, noted, these_agree}
@@ -205,25 +205,25 @@ stats_are_honest = record {
 
 -- ---- what is known then
 
-module _ {R O E : Type 0} {o : Sinks O} {e : Sinks E} (r : Raw R) (t : Taking O E) (was now : NameCalls) (output_old output_new : Writer O o) (errors_old errors_new : Writer E e) (status : ℕ) where
+module _ {R O E : Type 0} (r : Raw R) (was now : NameCalls) (output_old output_new : Writer O) (errors_old errors_new : Writer E) (status : ℕ) where
   -- these words were run, all that was written was taken, and standard input told nothing
   abbrev Ran : (words : List (List ℕ)) → OpenCalls → Back → Type 0
   Ran words calls left =
       IsTaken output_old output_new errors_new
-      × IsRun files r (given_by words standard) t (world_of [] was output_old errors_old)
+      × IsRun files r (given_by words standard) (world_of [] was output_old errors_old)
       (world_of calls now output_new errors_new) left status
 
   -- it came to this, or a failure was reported, and a prefix was written
   abbrev CameTo : Outcome → Type 0
   CameTo o =
-      ((status ≡ o.status) × Appends (output_bytes t.output output_old) (t.output output_new.writer) o.output)
-      ⊎ ((status ≡ 111) × AppendsPrefix (output_bytes t.output output_old) (t.output output_new.writer) o.output)
+      ((status ≡ o.status) × Appends (output_bytes output_old) (writer_bytes output_new) o.output)
+      ⊎ ((status ≡ 111) × AppendsPrefix (output_bytes output_old) (writer_bytes output_new) o.output)
 
   came_to : (words : List (List ℕ)) (command : Asked) (input : List ℕ) (calls : OpenCalls) (left : Back) (o : Outcome) → plan_of words ≡ Ok command → AsksNoCreate (Ok command) → (foretell (Ok command) disk input).outcome ≡ o → Honest files disk input command standard [] calls left → Ran words calls left → CameTo o
   came_to words command input calls left o asked none is honest ran =
       let old = world_of [] was output_old errors_old in
       let new = world_of calls now output_new errors_new in
-      let foretold = subst (λ p. IsForetold files (given_of p (explains_in words) standard) (written t old) (taken t new) left (IsTaken output_old output_new errors_new) status) asked ran.1.foretold in
+      let foretold = subst (λ p. IsForetold files (given_of p (explains_in words) standard) (written old) (taken new) left (IsTaken output_old output_new errors_new) status) asked ran.1.foretold in
       subst CameTo is (elim (foretold disk input ran.0 none honest) [
         | inl came ↦ inl (came.is_status, came.output)
         | inr refused ↦ inr (refused.is_status, refused.output)

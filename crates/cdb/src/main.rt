@@ -13,7 +13,7 @@ use cdb_form::PIPE;
 use cdb_names::RealNames;
 use cdb_store::LAST_STANDARD;
 use cdb_system::{RealSystem, Seen, SeenReader, SeenWriter, refuse_unbuffered};
-use cdb_tool::{Noted, Output, Usage};
+use cdb_tool::{Output, Usage};
 use std::fs::File;
 use std::io::{ErrorKind, Stderr, Stdout};
 use std::os::fd::AsRawFd;
@@ -65,9 +65,9 @@ struct Beginning<'a> {
     /// The words of the command line.
     words: Vec<String>,
     /// Standard output with its buffer.
-    output: Output<Noted<SeenWriter<'a, Stdout>>>,
+    output: Output<SeenWriter<'a, Stdout>>,
     /// Standard error with its buffer, for the lines of duplicates.
-    errors: Output<Noted<SeenWriter<'a, Stderr>>>,
+    errors: Output<SeenWriter<'a, Stderr>>,
 }
 
 /// The words of the command line, and the standard streams that are written, with their buffers.
@@ -77,12 +77,12 @@ fn begun<'a>(rt: &HostRuntime, seen: &'a Seen) -> Result<Beginning<'a>, Usage> {
         words: words_of(rt)?,
         output: Output::new(
             alloc,
-            Noted::over(SeenWriter::output(rt.stdout(), seen)),
+            SeenWriter::output(rt.stdout(), seen),
             PIPE,
         )?,
         errors: Output::new(
             alloc,
-            Noted::over(SeenWriter::errors(rt.stderr(), seen)),
+            SeenWriter::errors(rt.stderr(), seen),
             LINES,
         )?,
     })

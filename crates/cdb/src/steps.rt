@@ -1,12 +1,12 @@
 // What the program does: the command of its words, and its exit status.
 ghost use Rattle.std.specs.Prelude.{◌≡◌, ◌⊎◌, Err, map, string_bytes, true};
 ghost use Rattle.cdb_show.specs.Command.{asked_in, has_wide_words, IsInRange};
-ghost use Rattle.cdb_show.specs.Views.Output.{output_bytes, HasHandedOn, OutputFailed, OutputSays};
+ghost use Rattle.cdb_show.specs.Views.Output.{output_bytes, HasHandedOn, OutputFailed, OutputSays, writer_bytes};
 ghost use Rattle.cdb_system.specs.CauseLine.{more_of};
 ghost use Rattle.cdb_system.specs.Causes.{Explains};
 ghost use Rattle.cdb_system.specs.Files.{files_of};
 ghost use Rattle.cdb.specs.Performs.{Does, HandsOn, IsUntouched};
-ghost use Rattle.cdb.specs.Running.{Answers, IsRun, given_by, taking, world_of};
+ghost use Rattle.cdb.specs.Running.{Answers, IsRun, given_by, world_of};
 ghost use Rattle.cdb_system.specs.State.{given_of, standard_of, state_of};
 
 use crate::performing::perform_in;
@@ -15,6 +15,7 @@ use cdb_names::Names;
 use cdb_system::{Left, Reason, System, none_left, reason_of, refuse, tell};
 use cdb_tool::{Command, DONE, Fault, Lines, Output, explains, plan_explained, status_of};
 use std::alloc::Global;
+use std::io::Write;
 
 /// Does what the words ask for, of which the first is the program's name, hands back what it leaves
 /// open, and answers the exit status. A fault has its line on `errors`, unless that fails.
@@ -31,11 +32,10 @@ where
     Y: System,
     N: Names,
     I: Feeds + Drop,
-    O: Sink,
-    E: Sink,
+    O: Write,
+    E: Write,
     ensures { IsRun (files_of Y.File.Store Y.Made.Store Y.Stream.feed Y.System)
         N.File.RawFile (given_by (map string_bytes words.items) (standard_of I.feed input))
-        (taking O.contents E.contents)
         (world_of system.old (N.calls names.old) output.old errors.old)
         (world_of system.new (N.calls names.new) output.new errors.new) result.0 result.1 }
 {
@@ -61,11 +61,10 @@ where
     Y: System,
     N: Names,
     I: Feeds + Drop,
-    O: Sink,
-    E: Sink,
+    O: Write,
+    E: Write,
     ensures { Answers (files_of Y.File.Store Y.Made.Store Y.Stream.feed Y.System)
         N.File.RawFile (given_by (map string_bytes words.items) (standard_of I.feed input))
-        (taking O.contents E.contents)
         (world_of system.old (N.calls names.old) output.old errors.old)
         (world_of system.new (N.calls names.new) output.new errors.new) result.0 result.1 }
 {
@@ -130,14 +129,14 @@ where
     Y: System,
     N: Names,
     I: Feeds + Drop,
-    O: Sink,
+    O: Write,
     E: Sink,
     requires { IsInRange (asked_in command.now) }
     ensures does { Does (files_of Y.File.Store Y.Made.Store Y.Stream.feed Y.System)
         N.File.RawFile (given_of (asked_in command.now) lines.now.counts (standard_of I.feed input))
-        (state_of system.old (N.calls names.old) (output_bytes O.contents output.old)
+        (state_of system.old (N.calls names.old) (output_bytes output.old)
         (E.contents errors.old))
-        (state_of system.new (N.calls names.new) (O.contents output.new.writer)
+        (state_of system.new (N.calls names.new) (writer_bytes output.new)
         (E.contents errors.new)) result.0 (OutputFailed output.new) result.1 }
     ensures silent { IsUntouched (asked_in command.now)
         (E.contents errors.old) (E.contents errors.new) }
@@ -160,8 +159,8 @@ where
 
 /// Hands on what the output of a command still holds, after a fault too. A flush that fails is
 /// `Output` if no other fault came than `Missing`, after which all that was found is to be written.
-fn handed_on<O: Sink>(output: &mut Output<O>, answer: Result<(), Fault>) -> Result<(), Fault>
-    ensures hands { HandsOn (output_bytes O.contents output.old) (O.contents output.new.writer)
+fn handed_on<O: Write>(output: &mut Output<O>, answer: Result<(), Fault>) -> Result<(), Fault>
+    ensures hands { HandsOn (output_bytes output.old) (writer_bytes output.new)
         (OutputFailed output.new) answer result }
     ensures handed { HasHandedOn output.new }
     ensures stays { OutputFailed output.old → OutputFailed output.new }

@@ -1,20 +1,23 @@
 // Output through a buffer, from which many bytes go at once.
-ghost use Rattle.std.specs.Prelude.{◌≡◌, ℕ, ◌+◌, ◌<◌, ◌≤◌, [], ◌-◌, length, take, min, true, false};
+ghost use Rattle.std.specs.Prelude.{◌≡◌, ℕ, ◌+◌, ◌<◌, ◌≤◌, [], ◌-◌, Some, length, take, min, true, false};
 ghost use Rattle.std.specs.Prelude.{IfOk, OnOk, OnErr, flat_map, vec_capacity, vec_len};
 ghost use Rattle.std.specs.Io.KnownBytes.{Keeps, Appends};
 ghost use Rattle.cdb_form.specs.Views.KnownBytes.{Writes};
+ghost use Rattle.cdb_show.specs.Views.Noted.{HasFailed};
 
+use crate::noted::Noted;
 use cdb_form::{OutFault, Sink, flush_whole, write_some};
 use std::alloc::{AllocError, Global};
+use std::io::Write;
 
 /// How many bytes go straight on at once. Of more a file's cache takes memory in larger blocks,
 /// which costs the system more.
 const MOST: usize = 131072;
 
-/// Takes the bytes for a writer, which is given many at once.
+/// Takes the bytes for a writer, which is given many at once, and notes what that took.
 #[derive(Drop)]
-pub struct Output<W: Sink> {
-    writer: W,
+pub struct Output<W> {
+    writer: Noted<W>,
     /// The bytes that were taken, of which the writer has those before `start`.
     buffer: Vec<u8>,
     start: usize,
@@ -25,25 +28,25 @@ pub struct Output<W: Sink> {
     ghost within: { start ≤ vec_len buffer },
     ghost least: { vec_len buffer ≤ size },
     ghost room: { size ≤ vec_capacity buffer },
-    ghost marked: { failed ≡ true → ∥ W.failed writer ∥₁ },
+    ghost marked: { failed ≡ true → ∥ HasFailed writer.trace.events ∥₁ },
 }
 
-impl<W: Sink> Output<W> {
+impl<W: Write> Output<W> {
     ghost use Rattle.cdb_show.specs.Views.Output.{output_bytes, held_by};
 
-    /// An output over a writer, with a buffer for so many bytes, which is empty yet.
+    /// An output over a writer, of which nothing is noted yet, with a buffer for so many bytes, which is empty.
     pub fn new(alloc: Global, writer: W, size: usize) -> Result<Output<W>, AllocError>
     where
         W: Drop,
         requires { 0 < size }
-        ensures bytes { IfOk result (λ o. output_bytes W.contents o ≡ W.contents writer) }
+        ensures bytes { IfOk result (λ o. output_bytes o ≡ Some []) }
         ensures empty { IfOk result (λ o. held_by o ≡ []) }
         ensures size { IfOk result (λ o. o.size ≡ size) }
         ensures sound { IfOk result (λ o. o.failed ≡ false) }
     {
         let buffer = Vec::with_capacity(alloc, size)?;
         Ok(Output {
-            writer,
+            writer: Noted::over(writer),
             buffer,
             start: 0,
             size,
@@ -62,8 +65,8 @@ impl<W: Sink> Output<W> {
     #[cold]
     #[inline(never)]
     fn hand_on(&mut self) -> Result<(), OutFault>
-        ensures bytes { Keeps (output_bytes W.contents self.old)
-            (output_bytes W.contents self.new) }
+        ensures bytes { Keeps (output_bytes self.old)
+            (output_bytes self.new) }
         ensures empty { OnOk result (vec_len self.new.buffer ≡ 0) }
         ensures failed { OnErr result (self.new.failed ≡ true) }
         ensures sound { OnOk result (self.new.failed ≡ self.old.failed) }
@@ -84,10 +87,10 @@ impl<W: Sink> Output<W> {
     fn pass_on(&mut self, bytes: &[u8]) -> Result<usize, OutFault>
         requires { 0 < length bytes.now }
         ensures count { IfOk result (λ n. (0 < n) × (n ≤ length bytes.now)) }
-        ensures ok { IfOk result (λ n. Appends (output_bytes W.contents self.old)
-            (output_bytes W.contents self.new) (take n bytes.now)) }
+        ensures ok { IfOk result (λ n. Appends (output_bytes self.old)
+            (output_bytes self.new) (take n bytes.now)) }
         ensures err { OnErr result
-            (Keeps (output_bytes W.contents self.old) (output_bytes W.contents self.new)) }
+            (Keeps (output_bytes self.old) (output_bytes self.new)) }
         ensures failed { OnErr result (self.new.failed ≡ true) }
         ensures sound { OnOk result (self.new.failed ≡ self.old.failed) }
     {
@@ -101,7 +104,7 @@ impl<W: Sink> Output<W> {
     /// Takes bytes into the buffer, as many as it has room for.
     fn take(&mut self, bytes: &[u8]) -> usize
         ensures count { result ≡ min (length bytes.now) (self.old.size - vec_len self.old.buffer) }
-        ensures ok { Appends (output_bytes W.contents self.old) (output_bytes W.contents self.new)
+        ensures ok { Appends (output_bytes self.old) (output_bytes self.new)
             (take result bytes.now) }
         ensures sound { self.new.failed ≡ self.old.failed }
     {
@@ -112,11 +115,11 @@ impl<W: Sink> Output<W> {
     }
 }
 
-impl<W: Sink> Sink for Output<W> {
+impl<W: Write> Sink for Output<W> {
     ghost use Rattle.std.specs.Prelude.{◌≡◌, true};
     ghost use Rattle.cdb_show.specs.Views.Output.{output_bytes, held_by, HasHandedOn};
 
-    ghost contents = { output_bytes W.contents };
+    ghost contents = { output_bytes };
 
     ghost failed = { λ output. output.failed ≡ true };
 
@@ -124,10 +127,10 @@ impl<W: Sink> Sink for Output<W> {
     fn write_some(&mut self, bytes: &[u8]) -> Result<usize, OutFault>
         requires { 0 < length bytes.now }
         ensures count { IfOk result (λ n. (0 < n) × (n ≤ length bytes.now)) }
-        ensures ok { IfOk result (λ n. Appends (output_bytes W.contents self.old)
-            (output_bytes W.contents self.new) (take n bytes.now)) }
+        ensures ok { IfOk result (λ n. Appends (output_bytes self.old)
+            (output_bytes self.new) (take n bytes.now)) }
         ensures err { OnErr result
-            (Keeps (output_bytes W.contents self.old) (output_bytes W.contents self.new)) }
+            (Keeps (output_bytes self.old) (output_bytes self.new)) }
         ensures failed { OnErr result (self.new.failed ≡ true) }
         ensures stays { self.old.failed ≡ true → self.new.failed ≡ true }
         ensures sound { OnOk result (self.new.failed ≡ self.old.failed) }
@@ -143,8 +146,8 @@ impl<W: Sink> Sink for Output<W> {
     }
 
     fn flush_whole(&mut self) -> Result<(), OutFault>
-        ensures bytes { Keeps (output_bytes W.contents self.old)
-            (output_bytes W.contents self.new) }
+        ensures bytes { Keeps (output_bytes self.old)
+            (output_bytes self.new) }
         ensures failed { OnErr result (self.new.failed ≡ true) }
         ensures stays { self.old.failed ≡ true → self.new.failed ≡ true }
         // The writer has all that was taken, or it failed.

@@ -12,14 +12,15 @@ use crate::causes::Reason;
 use crate::explaining::write_reason;
 use cdb_form::{OutFault, Sink, write_pieces};
 use cdb_show::{BAD_USAGE, FAILED, Fault, Output, write_fault, write_word_fault};
+use std::io::Write;
 
 /// Writes the line of its reason, if it has one.
-fn write_more<E: Sink>(
+fn write_more<E: Write>(
     reason: &Option<Reason<'_>>,
     errors: &mut Output<E>,
 ) -> Result<(), OutFault>
-    ensures writes { Writes result (output_bytes E.contents errors.old)
-        (output_bytes E.contents errors.new) (more_of reason.now) }
+    ensures writes { Writes result (output_bytes errors.old)
+        (output_bytes errors.new) (more_of reason.now) }
     ensures failed { OnErr result (OutputFailed errors.new) }
     ensures stays { OutputFailed errors.old → OutputFailed errors.new }
 {
@@ -30,13 +31,13 @@ fn write_more<E: Sink>(
 }
 
 /// Writes the line of a fault, and that of its reason after it.
-fn write_told<E: Sink>(
+fn write_told<E: Write>(
     fault: &Fault,
     reason: &Option<Reason<'_>>,
     errors: &mut Output<E>,
 ) -> Result<(), OutFault>
-    ensures writes { Writes result (output_bytes E.contents errors.old)
-        (output_bytes E.contents errors.new) (fault_line fault.now ++ more_of reason.now) }
+    ensures writes { Writes result (output_bytes errors.old)
+        (output_bytes errors.new) (fault_line fault.now ++ more_of reason.now) }
     ensures failed { OnErr result (OutputFailed errors.new) }
     ensures stays { OutputFailed errors.old → OutputFailed errors.new }
 {
@@ -47,9 +48,9 @@ fn write_told<E: Sink>(
 /// Says what a fault is, and what it is of if that is given, unless `errors` fails.
 #[cold]
 #[inline(never)]
-pub fn tell<E: Sink>(fault: &Fault, reason: &Option<Reason<'_>>, errors: &mut Output<E>)
+pub fn tell<E: Write>(fault: &Fault, reason: &Option<Reason<'_>>, errors: &mut Output<E>)
     ensures says { SaysLine (fault_line fault.now ++ more_of reason.now)
-        (output_bytes E.contents errors.old) (output_bytes E.contents errors.new)
+        (output_bytes errors.old) (output_bytes errors.new)
         (OutputFailed errors.new) }
     ensures stays { OutputFailed errors.old → OutputFailed errors.new }
 {
@@ -67,13 +68,13 @@ fn refused_status(usage: &Usage) -> u8
 }
 
 /// Writes why the words ask for nothing, and if it is to be explained which word or letters that is of.
-fn write_refused<E: Sink>(
+fn write_refused<E: Write>(
     fault: &WordFault<'_>,
     explains: bool,
     errors: &mut Output<E>,
 ) -> Result<(), OutFault>
-    ensures writes { Writes result (output_bytes E.contents errors.old)
-        (output_bytes E.contents errors.new) (refused_lines explains (refused_in fault.now)) }
+    ensures writes { Writes result (output_bytes errors.old)
+        (output_bytes errors.new) (refused_lines explains (refused_in fault.now)) }
     ensures failed { OnErr result (OutputFailed errors.new) }
 {
     write_pieces(
@@ -89,9 +90,9 @@ fn write_refused<E: Sink>(
 /// Says why the words ask for nothing, unless `errors` fails, and answers the exit status.
 #[cold]
 #[inline(never)]
-pub fn refuse<E: Sink>(fault: &WordFault<'_>, explains: bool, errors: &mut Output<E>) -> u8
+pub fn refuse<E: Write>(fault: &WordFault<'_>, explains: bool, errors: &mut Output<E>) -> u8
     ensures line { SaysLine (refused_lines explains (refused_in fault.now))
-        (output_bytes E.contents errors.old) (output_bytes E.contents errors.new)
+        (output_bytes errors.old) (output_bytes errors.new)
         (OutputFailed errors.new) }
     ensures status { result ≡ usage_status (usage_of (refused_in fault.now)) }
 {

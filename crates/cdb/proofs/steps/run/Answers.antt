@@ -11,6 +11,6 @@ returns g c =
     record {
       answers = record { runs = runs; handed = did.handed };
       said = flushed.handed;
-      foretold = run_is_foretold g.Y.File.Store g.Y.Made.Store g.N.File.RawFile g.Y.Stream.Feeds.feed g.Y.System _ _ _ _ _ _ _ _ g.O.Sink.contents g.E.Sink.contents c.args.output.now c.answer-left.new.output c.args.errors.now c.flush_whole.new.self _ g.met.Y.File.Store.image_size did.handed flushed.handed runs;
-      created = run_is_created g.Y.File.Store g.Y.Made.Store g.N.File.RawFile g.Y.Stream.Feeds.feed g.Y.System _ _ _ _ _ _ _ _ g.O.Sink.contents g.E.Sink.contents c.args.output.now c.answer-left.new.output c.args.errors.now c.flush_whole.new.self _ did.handed flushed.handed runs;
+      foretold = run_is_foretold g.Y.File.Store g.Y.Made.Store g.N.File.RawFile g.Y.Stream.Feeds.feed g.Y.System _ _ _ _ _ _ _ _ c.args.output.now c.answer-left.new.output c.args.errors.now c.flush_whole.new.self _ g.met.Y.File.Store.image_size did.handed flushed.handed runs;
+      created = run_is_created g.Y.File.Store g.Y.Made.Store g.N.File.RawFile g.Y.Stream.Feeds.feed g.Y.System _ _ _ _ _ _ _ _ c.args.output.now c.answer-left.new.output c.args.errors.now c.flush_whole.new.self _ did.handed flushed.handed runs;
     }

@@ -7,7 +7,7 @@ use Rattle.cdb_show.proofs.output.Output.hand_on.Given as goal
 abbrev pub invariant-loop-self : goal.invariant-loop-self
 invariant-loop-self g l =
     record {
-      kept : Keeps (output_bytes g.W.Sink.contents l.fn.self) (output_bytes g.W.Sink.contents l.self);
+      kept : Keeps (output_bytes l.fn.self) (output_bytes l.self);
       sound : l.self.failed ≡ l.fn.self.failed;
     }
 

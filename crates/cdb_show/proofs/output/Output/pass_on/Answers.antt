@@ -1,24 +1,13 @@
-use Rattle.std.proofs.lemmas.Grind.{common_steps}
-use Rattle.std.proofs.Common.{arith}
+use Rattle.std.proofs.Common.{Some, arith}
+use Rattle.cdb_show.specs.Views.Noted.{noted_by}
+use Rattle.cdb_show.specs.Views.Output.{output_bytes, writer_bytes}
 use Rattle.cdb_show.proofs.OutputLemmas.{marked_so, some_passed_on}
 use Rattle.cdb_show.proofs.output.Output.pass_on.Goals as goal
 
 pub returns-clause-ok : goal.returns-clause-ok
 returns-clause-ok g c =
     let o = c.hand_on.new.self in
-    some_passed_on c.write_some-gone.result o.buffer.items c.args.bytes.now c.min-most.result o.start _ _ _ (omega (arith, c.in_ok-hand_on.ensures.empty, o.buffer.ok.0)) c.hand_on.ensures.bytes c.write_some-gone.ensures.count c.write_some-gone.ensures.ok
-
-pub returns-clause-count : goal.returns-clause-count
-returns-clause-count g c = grind (arith, common_steps)
-
-pub returns-clause-err : goal.returns-clause-err
-returns-clause-err g c = grind (arith, common_steps)
-
-pub returns-clause-failed : goal.returns-clause-failed
-returns-clause-failed g c = grind (arith, common_steps)
-
-pub returns-clause-sound : goal.returns-clause-sound
-returns-clause-sound g c = grind (arith, common_steps)
+    some_passed_on c.write_some-gone.result o.buffer.items c.args.bytes.now c.min-most.result o.start (output_bytes c.args.self.now) (writer_bytes o) (Some (noted_by c.write_some-gone.new.w)) (omega (arith, c.in_ok-hand_on.ensures.empty, o.buffer.ok.0)) c.hand_on.ensures.bytes c.write_some-gone.ensures.count c.write_some-gone.ensures.ok
 
 pub invariant_of-self-clause-marked : goal.invariant_of-self-clause-marked
 invariant_of-self-clause-marked g c =
