@@ -1,5 +1,5 @@
 -- What a run made of inputs that agree with their readers, and that the readers are in their places.
-use Rattle.std.proofs.Common.{◌≡◌, ◌∙◌, ◌≤◌, ◌+◌, ℕ, zero, suc, List, [], ◌∷◌, length, Option, Some, None, Result, Ok, Err, is_some, ap, inl, inr, sym, arith}
+use Rattle.std.proofs.Common.{◌≡◌, ◌∙◌, ◌≤◌, ℕ, zero, suc, List, [], ◌∷◌, length, Option, Some, None, Result, Ok, Err, is_some, ap, inl, inr, sym, arith}
 use Rattle.std.specs.Prelude.{OnOk}
 use Rattle.cdb_form.specs.Fed.Feed.{Feed}
 use Rattle.cdb_form.specs.Format.Record.{AreBytes}

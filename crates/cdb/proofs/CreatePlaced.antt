@@ -1,6 +1,6 @@
 -- A create in place, and one on standard output, come to what the oracle says.
 use Rattle.cdb.proofs.CreateTaken.{MayGiveUpCreate}
-use Rattle.std.proofs.Common.{ℕ, true, false, ◌⊎◌, List, [], ◌∷◌, ◌++◌, Option, Some, None, Result, Ok, Err, ◌≡◌, ◌∙◌, ap, inl, inr, refl, subst, sym, bytes_eq}
+use Rattle.std.proofs.Common.{ℕ, true, false, ◌⊎◌, List, [], Option, Some, None, Result, Ok, Err, ◌≡◌, ◌∙◌, ap, inl, inr, refl, subst, sym, bytes_eq}
 use Rattle.std.specs.List.{AllByRecursion}
 use Rattle.std.specs.Prelude.{OnErr, OnOk, IfErr}
 use Rattle.std.proofs.lemmas.Bool.{cond-true, cond-false}

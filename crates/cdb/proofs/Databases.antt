@@ -1,5 +1,5 @@
 -- What a store has once a run over it succeeded, and what a run says whose lines were handed on.
-use Rattle.std.proofs.Common.{ℕ, Bool, true, List, Option, Some, None, Result, Ok, Err, ◌≡◌, ◌∙◌, ap, inl, inr, subst, sym}
+use Rattle.std.proofs.Common.{ℕ, Bool, true, List, Option, Some, None, Result, Ok, Err, ◌≡◌, ◌∙◌, inl, inr, subst, sym}
 use Rattle.std.specs.Prelude.{OnOk, OnErr}
 use Rattle.std.specs.Io.KnownBytes.{Keeps}
 use Rattle.cdb_command.specs.Asked.{Asked}
@@ -15,7 +15,7 @@ use Rattle.cdb_show.specs.Views.Output.{OutputSays}
 use Rattle.cdb_tool.specs.Runs.Make.{HandsBack, OfBase, Makes}
 use Rattle.cdb_tool.specs.Runs.Make as run
 use Rattle.cdb_show.specs.declared.fault.Fault.{Fault}
-use Rattle.cdb.specs.Creating.{Making, HasDatabase, IsBufferedRun, IsDatabase, IsMakeRun, SeesName, Syncs}
+use Rattle.cdb.specs.Creating.{Making, HasDatabase, IsDatabase, IsMakeRun, SeesName, Syncs}
 use Rattle.cdb_system.specs.Opening.{OpenCalls}
 use Rattle.cdb_system.specs.Telling.{refused_lines}
 use Rattle.cdb.specs.Performs.{Runs}

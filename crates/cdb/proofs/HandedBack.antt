@@ -1,6 +1,5 @@
 -- What a create hands back, and that it opened no more files to be read.
 use Rattle.std.proofs.Common.{◌≡◌, ◌∙◌, ℕ, List, [], ◌∷◌, ◌++◌, Option, None, Result, Ok, Err, ap, inl, inr, refl, sym, append_assoc}
-use Rattle.std.specs.List.{AllByRecursion}
 use Rattle.cdb_names.specs.declared.answer.Answer.{Answer}
 use Rattle.cdb_names.specs.declared.answer.Answer.TheVariants.{Yes}
 use Rattle.cdb_names.specs.declared.answer.Lock.TheVariants.{Held}
@@ -12,7 +11,7 @@ use Rattle.cdb_system.specs.Opening.{AsksToEmpty, Empties, MissesEmptying, OpenC
 use Rattle.cdb_system.specs.declared.left.Left.{Left}
 use Rattle.cdb_system.specs.declared.open_trace.OpenCall.TheVariants.{Emptied, Locked, Own, ToEmpty, Unopened}
 use Rattle.cdb_system.proofs.InputsKnown.{all_join}
-use Rattle.cdb.specs.Agreeing.{HandsInputs, OpensNone, OpensNoMore}
+use Rattle.cdb.specs.Agreeing.{HandsInputs, OpensNoMore}
 use Rattle.cdb.specs.Contents.{sources_left}
 use Rattle.cdb.specs.Creating.{HandsBase, SeesName}
 use Rattle.cdb.specs.declared.contents.Sources.{Sources}

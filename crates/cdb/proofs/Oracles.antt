@@ -16,7 +16,6 @@ use Rattle.cdb_command.specs.Refused.{Refused, refused_line, usage_of}
 use Rattle.cdb_command.specs.declared.command.Command.{Command}
 use Rattle.cdb_command.specs.declared.command.Command.TheVariants as command
 use Rattle.cdb_names.specs.Folder.{NameCalls}
-use Rattle.cdb_store.specs.Contents.{contents}
 use Rattle.cdb_store.specs.declared.raw.RawFile.{Ghosts as Raw}
 use Rattle.cdb_store.specs.declared.store.Store.{Ghosts}
 use Rattle.cdb_show.specs.Message.{fault_line}

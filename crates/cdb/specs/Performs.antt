@@ -1,5 +1,5 @@
 -- What a command does: the calls on files, in their order, and what it writes on its output.
-use Rattle.std.specs.Prelude.{ℕ, ◌≡◌, ◌⊎◌, Bool, true, false, List, [], map, option_map, string_bytes, Option, Some, None, Result, Ok, Err, ⊤}
+use Rattle.std.specs.Prelude.{ℕ, ◌≡◌, ◌⊎◌, Bool, true, false, List, [], map, option_map, string_bytes, Option, Some, Result, Ok, Err, ⊤}
 use Rattle.std.specs.Io.KnownBytes.{Keeps, append_known}
 use Rattle.cdb_command.specs.Asked.{Asked, asked_in, has_wide_words}
 use Rattle.cdb_command.specs.Asked as asked

@@ -75,16 +75,8 @@ fn begun<'a>(rt: &HostRuntime, seen: &'a Seen) -> Result<Beginning<'a>, Usage> {
     let alloc = rt.alloc();
     Ok(Beginning {
         words: words_of(rt)?,
-        output: Output::new(
-            alloc,
-            SeenWriter::output(rt.stdout(), seen),
-            PIPE,
-        )?,
-        errors: Output::new(
-            alloc,
-            SeenWriter::errors(rt.stderr(), seen),
-            LINES,
-        )?,
+        output: Output::new(alloc, SeenWriter::output(rt.stdout(), seen), PIPE)?,
+        errors: Output::new(alloc, SeenWriter::errors(rt.stderr(), seen), LINES)?,
     })
 }
 

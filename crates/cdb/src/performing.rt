@@ -13,7 +13,9 @@ use crate::creating::{Creation, create};
 use cdb_form::{Feeds, Sink, Width};
 use cdb_names::Names;
 use cdb_system::{Left, System, check, difference, lookups, none_left, query, stats, text};
-use cdb_tool::{Command, Content, Fault, Lines, MakeOptions, RunOptions, flushed, write_usage, write_version};
+use cdb_tool::{
+    Command, Content, Fault, Lines, MakeOptions, RunOptions, flushed, write_usage, write_version,
+};
 use std::alloc::Global;
 
 /// Writes how the program is called.
@@ -35,13 +37,9 @@ fn version<O: Sink>(output: &mut O) -> Result<(), Fault>
 }
 
 /// The options of a run that creates, with the names of its inputs if duplicates are to be explained.
-fn shown_options<'a>(
-    lines: &Lines,
-    inputs: &'a [String],
-    options: MakeOptions,
-) -> RunOptions<'a>
-    ensures shown { IsShown lines.now.counts (map string_bytes inputs.entry.now) options.entry result }
-    ensures limit { result.make.limit ≡ options.entry.limit }
+fn shown_options<'a>(lines: &Lines, inputs: &'a [String], options: MakeOptions) -> RunOptions<'a>
+    ensures shown { IsShown lines.now.counts (map string_bytes inputs.entry.now) options result }
+    ensures limit { result.make.limit ≡ options.limit }
 {
     RunOptions {
         make: options,

@@ -34,7 +34,7 @@ pub cause_parts : (name ending whole between what words said : List ℕ) → nam
 cause_parts name ending whole between what words said named told =
     let front = shown name in
     let after : (t : List ℕ) → front ++ (shown ending ++ t) ≡ shown whole ++ t = λ t.
-        sym (append_assoc front (shown ending) t) ∙ ap (λ x. x ++ t) (sym (flat_map-append shown_byte name ending) ∙ ap shown named) in
+    sym (append_assoc front (shown ending) t) ∙ ap (λ x. x ++ t) (sym (flat_map-append shown_byte name ending) ∙ ap shown named) in
     let tail : (what ++ []) ++ ((words ++ []) ++ []) ≡ (said ++ []) ++ [] =
-        ap (λ t. t ++ ((words ++ []) ++ [])) (append-nil what) ∙ ap (λ t. what ++ t) (append-nil (words ++ []) ∙ append-nil words) ∙ told ∙ sym (append-nil (said ++ []) ∙ append-nil said) in
+    ap (λ t. t ++ ((words ++ []) ++ [])) (append-nil what) ∙ ap (λ t. what ++ t) (append-nil (words ++ []) ∙ append-nil words) ∙ told ∙ sym (append-nil (said ++ []) ∙ append-nil said) in
     ap (λ t. codes "cdb: " ++ (t ++ codes "\n")) (after ((between ++ []) ++ ((what ++ []) ++ ((words ++ []) ++ []))) ∙ ap (λ t. shown whole ++ ((between ++ []) ++ t)) tail)

@@ -7,18 +7,15 @@ ghost use Rattle.cdb_show.specs.Views.Output.{output_bytes, OutputFailed};
 ghost use Rattle.cdb_system.specs.CauseLine.{more_of};
 ghost use Rattle.cdb_system.specs.Telling.{SaysLine, refused_lines, usage_line, usage_status};
 
-use cdb_command::{Usage, WordFault};
 use crate::causes::Reason;
 use crate::explaining::write_reason;
+use cdb_command::{Usage, WordFault};
 use cdb_form::{OutFault, Sink, write_pieces};
 use cdb_show::{BAD_USAGE, FAILED, Fault, Output, write_fault, write_word_fault};
 use std::io::Write;
 
 /// Writes the line of its reason, if it has one.
-fn write_more<E: Write>(
-    reason: &Option<Reason<'_>>,
-    errors: &mut Output<E>,
-) -> Result<(), OutFault>
+fn write_more<E: Write>(reason: &Option<Reason<'_>>, errors: &mut Output<E>) -> Result<(), OutFault>
     ensures writes { Writes result (output_bytes errors.old)
         (output_bytes errors.new) (more_of reason.now) }
     ensures failed { OnErr result (OutputFailed errors.new) }

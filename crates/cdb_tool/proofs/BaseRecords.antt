@@ -1,5 +1,5 @@
 -- A base whose records are added to a maker, one after the other.
-use Rattle.std.proofs.Common.{◌≡◌, ℕ, ◌≤◌, ◌⊎◌, List, [], ◌∷◌, ◌++◌, refl, sym, ap, subst, ◌∙◌, arith, append_assoc, length, take, Option, Some, None, Bool, true, false, true≢false, ◌<◌, Err}
+use Rattle.std.proofs.Common.{◌≡◌, ℕ, ◌≤◌, ◌⊎◌, List, [], ◌∷◌, ◌++◌, refl, sym, ap, subst, ◌∙◌, arith, append_assoc, length, take, Some, None, Bool, true, false, true≢false, ◌<◌, Err}
 use Rattle.std.proofs.Math.Seq.{take-append_seam}
 use Rattle.std.proofs.lemmas.List.{append-nil, length-take}
 use Rattle.cdb_store.specs.Reads.{OnlyReads}
@@ -10,8 +10,6 @@ use Rattle.cdb_form.specs.Format.File.{file_size}
 use Rattle.cdb_form.specs.Format.Record.{KeyValue}
 use Rattle.cdb_form.specs.Format.Walk.{Walked, walk_of, whole_records, damaged, no_walk, with_first, with_records}
 use Rattle.cdb_form.proofs.Files.WalkSteps.{walk_of-short}
-use Rattle.cdb_form.specs.declared.text.fault.TextFault.{TextFault}
-use Rattle.cdb_form.specs.declared.text.fault.TextFault.TheVariants as text
 use Rattle.cdb_form.specs.declared.damage.Damage.{Damage}
 use Rattle.cdb_form.specs.declared.damage.Damage.TheVariants as damage
 use Rattle.cdb_make.specs.Views.Appending.{AppendsAll, FailsAppending}
@@ -31,14 +29,11 @@ use Rattle.cdb_read.specs.declared.fault.ReadFault.{ReadFault}
 use Rattle.cdb_read.specs.declared.fault.ReadFault.TheVariants as read
 use Rattle.cdb_read.specs.declared.walking.records.Walk.{Walk}
 use Rattle.cdb_read.specs.declared.span.Pair.{Pair}
-use Rattle.cdb_show.specs.Views.Fault.{read_fault, make_fault, text_fault}
+use Rattle.cdb_show.specs.Views.Fault.{read_fault, make_fault}
 use Rattle.cdb_show.specs.Views.Output.{OutputSays}
-use Rattle.cdb_tool.specs.Runs.Course.{TellFails}
 use Rattle.cdb_tool.specs.Runs.Base.{AddsNext, NotAdded}
 use Rattle.cdb_tool.specs.Runs.Make.{AddsBase, BaseFails, IsOfBase}
 use Rattle.cdb_show.specs.declared.fault.Fault.{Fault}
-use Rattle.cdb_show.specs.declared.fault.Fault.TheVariants as fault
-use Rattle.cdb_tool.specs.declared.runs.options.RunOptions.{RunOptions}
 
 -- these records were given and added, and then comes what is left of the walk
 pub record AddedSoFar {S L : Type 0} {s : Ghosts S} {l : Widths L} (w : ℕ) (images : List ℕ → Type 0) (left : List ℕ → Walked) (first m : Maker S L s l) : Type 0 where

@@ -1,7 +1,7 @@
 -- A text up to its end or its fault, and then the file.
-use Rattle.std.proofs.Common.{◌≡◌, ◌≢◌, true, false, ℕ, ◌^◌, ◌<◌, ◌≤◌, inl, inr, List, [], ◌∷◌, ◌++◌, refl, Option, Some, None, IfSome, Result, Ok, Err, sym, ap, subst, ◌∙◌, length, length-append, append_assoc, take, replicate, arith}
+use Rattle.std.proofs.Common.{◌≡◌, ◌≢◌, ℕ, ◌^◌, ◌<◌, ◌≤◌, inl, inr, List, [], ◌∷◌, ◌++◌, refl, Option, Some, None, IfSome, Result, Ok, Err, sym, ap, subst, ◌∙◌, length, length-append, append_assoc, take, replicate, arith}
 use Rattle.std.specs.Prelude.{IsOk, codes}
-use Rattle.std.proofs.lemmas.List.{append-nil, length-replicate}
+use Rattle.std.proofs.lemmas.List.{length-replicate}
 use Rattle.std.specs.Io.KnownBytes.{Keeps, Consumes, Appends}
 use Rattle.cdb_form.specs.Format.Record.{KeyValue}
 use Rattle.cdb_form.specs.Format.File.{file_size, file_bytes}

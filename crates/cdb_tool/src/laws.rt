@@ -22,11 +22,7 @@ pub fn dump_and_make_restore<L: Width>(_records: &[Record])
 /// A run that makes a database from a base, whose records these are, and does the difference of the
 /// base and the new records to it, holds records that answer each key as the new ones do, if their
 /// file fits: `lookup_of_brought_up` of `cdb_read` says so of the file.
-pub fn difference_amends_base<L: Width>(
-    _options: MakeOptions,
-    _base: &[Record],
-    _new: &[Record],
-)
+pub fn difference_amends_base<L: Width>(_options: MakeOptions, _base: &[Record], _new: &[Record])
     ensures { mode_of _options ≡ Add
         → file_size L.WORD (brought_up (key_values _base.now) (key_values _new.now)) ≤ _options.limit
         → MakerHoldsAll L.WORD _options (key_values _base.now) (key_values _new.now) }

@@ -1,15 +1,13 @@
 -- When a run that makes a database comes to what the function of its bytes says.
-use Rattle.std.specs.Prelude.{ℕ, ◌≡◌, ◌⊎◌, ⊤, map, OnOk, List, [], ◌∷◌, Option, None, Some, Result}
+use Rattle.std.specs.Prelude.{ℕ, ◌≡◌, ◌⊎◌, ⊤, OnOk, List, Option, Result}
 use Rattle.std.specs.Prelude.{Err}
 use Rattle.cdb_tool.specs.declared.runs.options.RunOptions.{RunOptions}
-use Rattle.cdb_form.specs.Format.Record.{AreBytes}
 use Rattle.cdb_form.specs.declared.text.fault.TextFault.TheVariants as text
 use Rattle.cdb_make.specs.Views.Maker.{IsFile}
 use Rattle.cdb_store.specs.declared.make_fault.MakeFault.TheVariants as make
 use Rattle.cdb_read.specs.declared.fault.ReadFault.TheVariants as read
 use Rattle.cdb_show.specs.Message.{TellsEach, TellsPart}
-use Rattle.cdb_show.specs.Runs.Inputs.{OneInput, InputsLeft}
-use Rattle.cdb_show.specs.Runs.Inputs as form
+use Rattle.cdb_show.specs.Runs.Inputs.{InputsLeft}
 use Rattle.cdb_tool.specs.Runs.Made.{Made, made_of}
 use Rattle.cdb_tool.specs.Runs.Make.{MakeRuns}
 use Rattle.cdb_show.specs.declared.fault.Fault.{Fault}

@@ -330,7 +330,13 @@ fn a_base_that_fails_is_handed_back(rt: HostRuntime) -> Result<(), Fail> {
 fn a_damaged_base_that_fails_is_handed_back(rt: HostRuntime) -> Result<(), Fail> {
     let cut = first_bytes(rt.alloc(), 2070)?;
     for calls in 0..64u64 {
-        let (answer, base, _) = over_fuse(rt.alloc(), REPLACED_BY_HAND, Duplicates::Told, 2070, calls)?;
+        let (answer, base, _) = over_fuse(
+            rt.alloc(),
+            REPLACED_BY_HAND,
+            Duplicates::Told,
+            2070,
+            calls,
+        )?;
         assert!(rt; base.as_slice() == cut.as_slice(), "{calls}");
         if answer == Err(Fault::Read(ReadFault::Record(2064))) {
             assert!(rt; calls > 0);

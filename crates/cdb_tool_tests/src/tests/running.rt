@@ -33,12 +33,7 @@ pub(super) enum Duplicates {
 }
 
 /// What a run is told, that may make a file of so many bytes.
-pub(super) fn options(
-    mode: Mode,
-    duplicates: Duplicates,
-    style: Style,
-    limit: u64,
-) -> MakeOptions
+pub(super) fn options(mode: Mode, duplicates: Duplicates, style: Style, limit: u64) -> MakeOptions
     ensures { result.limit ≡ limit }
 {
     MakeOptions {
@@ -83,11 +78,7 @@ pub(super) fn texts(
 }
 
 /// A run in memory.
-fn make(
-    alloc: Global,
-    inputs: &[&'static [u8]],
-    options: MakeOptions,
-) -> Result<Made, AllocError>
+fn make(alloc: Global, inputs: &[&'static [u8]], options: MakeOptions) -> Result<Made, AllocError>
     requires least { 2048 ≤ options.limit }
     requires most { options.limit ≤ 4294967295 }
 {

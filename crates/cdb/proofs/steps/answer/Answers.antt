@@ -20,7 +20,7 @@ returns-in-Err g c = record {
     untouched = refl;
     none = c.none_left.ensures;
     same = refl;
-    kept = Keeps-refl _;
+    kept = Keeps-refl (output_bytes c.args.output.now);
     is_status = c.refuse.ensures.status;
   });
 }
@@ -39,7 +39,7 @@ returns-in-Ok-performed g c = record {
     same = c.perform-left.ensures.same;
     more = [];
     explains = none_said _ _ _ _ _ _;
-    says = Keeps-refl _;
+    says = Keeps-refl (output_bytes c.perform-left.new.errors);
     is_status = refl;
   });
 }

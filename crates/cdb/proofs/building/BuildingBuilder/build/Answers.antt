@@ -1,4 +1,4 @@
-use Rattle.std.proofs.Common.{[], ap, arith, inl, inr, refl, take, ◌∙◌, ◌≡◌, ◌<◌}
+use Rattle.std.proofs.Common.{ap, arith, inl, inr, refl, take, ◌∙◌, ◌≡◌, ◌<◌}
 use Rattle.std.proofs.KnownBytes.{Keeps-refl}
 use Rattle.std.proofs.lemmas.Result.{IfErr-weaker, on_ok_weaker}
 use Rattle.cdb_store.specs.BufferedStore.{bytes_of}
