@@ -31,7 +31,6 @@ ORACLE = "docs/audit/ORACLE.md"
 ORACLE_SOURCES = (
     "crates/cdb/specs/Created.antt",
     "crates/cdb/specs/Running.antt",
-    "crates/cdb_form/specs/Text/Parse.antt",
     "crates/cdb_system/specs/Oracle.antt",
     "crates/cdb_show/specs/Runs/Given.antt",
     "crates/cdb_show/specs/Runs/LookedUp.antt",
