@@ -32,7 +32,6 @@ ORACLE_SOURCES = (
     "crates/cdb/specs/Created.antt",
     "crates/cdb/specs/Running.antt",
     "crates/cdb_system/specs/Oracle.antt",
-    "crates/cdb_show/specs/Runs/Given.antt",
     "crates/cdb_tool/specs/Runs/Made.antt",
 )
 # What is built or kept and no file of the repository; what stands for a name of the reader's own;
