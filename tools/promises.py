@@ -2,8 +2,8 @@
 
 A table is what stands between two marks of the page, `<!-- calls of CRATE -->` and `<!-- end -->`. It has a row for
 each function that a caller of the crate sees and that a wrong body edits, and for each law: what the function does, by
-the first sentence of its `///`; the names of the clauses of its contract; and its wrong bodies, each with the clause
-that refuses it. Of private functions their wrong bodies are counted. The rest of the page is written by hand.
+the first sentence of its `///`; and its wrong bodies, each with the clause that refuses it. Wrong bodies of private
+functions are counted below. The rest of the page is written by hand.
 """
 
 import os
@@ -14,10 +14,9 @@ from trees import lines_of, read
 
 PAGE = "docs/audit/PROMISES.md"
 TABLE = re.compile(r"(<!-- calls of (\w+) -->\n).*?(<!-- end -->\n)", re.DOTALL)
-HEAD = "| function | what it does | clauses | wrong bodies |\n|---|---|---|---|\n"
+HEAD = "| function | what it does | wrong bodies |\n|---|---|---|\n"
 # A sentence ends with a full stop or a colon before a blank; neither stands within backquotes.
 SENTENCE = re.compile(r"((?:`[^`]*`|[^`])*?)[.:](?= |$)")
-CLAUSE = re.compile(r"^ *ensures (\w+)? ?\{", re.MULTILINE)
 
 
 def sources(folder):
@@ -59,12 +58,6 @@ def promise_at(text, head):
     paragraph = " ".join(lines[: lines.index("")] if "" in lines else lines)
     found = SENTENCE.match(paragraph)
     return (found[1] if found else paragraph).replace("|", "\\|")
-
-
-def clauses_at(text, head):
-    """The names of the clauses of a function's contract. One without a name is the whole contract."""
-    end = re.compile(rf"^{head[1]}\{{|;$|\{{$", re.MULTILINE).search(text, head.end())
-    return [it or "all" for it in CLAUSE.findall(text[head.end() : end.start() if end else len(text)])]
 
 
 def head_of(text, at):
@@ -111,9 +104,8 @@ def table_of(folder, of_traits):
             if not is_law(path) and not is_seen(text, head, items):
                 private += len(bodies)
             elif bodies or is_law(path):
-                clauses = ", ".join(f"`{it}`" for it in clauses_at(text, head))
                 promise = promise_at(text, head) or of_traits.get(head[2], "")
-                rows.append(f"| `{name_at(text, head)}` | {promise} | {clauses} | {', '.join(bodies)} |\n")
+                rows.append(f"| `{name_at(text, head)}` | {promise} | {', '.join(bodies)} |\n")
     private += sum(len(bodies) for bodies in wrong.values())
     count = f"\nWrong bodies of private functions: {private}.\n" if private else ""
     return (f"\n{HEAD}{''.join(rows)}" if rows else "") + f"{count}\n"
