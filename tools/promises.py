@@ -72,12 +72,12 @@ def is_law(path):
 
 
 def exported(texts):
-    """What a caller sees of a crate: the items that its library names, or the functions that a program's `main` calls."""
+    """What a caller sees of a crate: the items that its library names, or what a program's `main` calls."""
     library = texts.get("src/lib.rt")
     if library is None:
         return set(re.findall(r"(?<!:)\b[a-z]\w*::([a-z]\w*)\(", texts["src/main.rt"]))
-    return {it for names in re.findall(r"^pub use [\w:]+::(\{[^}]*\}|\w+);", library, re.MULTILINE)
-            for it in re.findall(r"\w+", names)}
+    named = re.findall(r"^pub use [\w:]+::(\{[^}]*\}|\w+);", library, re.MULTILINE)
+    return set(re.findall(r"\w+", " ".join(named)))
 
 
 def is_seen(text, head, items):

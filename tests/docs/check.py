@@ -40,8 +40,8 @@ BUILT = re.compile(r"(bin|out|dist|crates/NAME|crates/\*)/")
 FOREIGN = set(
     """
     cdbmake cdbdump freecdb tinycdb postmap tinydns Exim rsync chmod umask chgrp setfacl flock callgrind
-    valgrind sponge strace lintian apt dpkg mandoc libcdb1 posix_fallocate x NAME rattle_arg rattle_errno rattle_set_errno
-    rattle_alloc rattle_realloc rattle_dealloc __udivti3 __sysv_signal
+    valgrind sponge strace lintian apt dpkg mandoc libcdb1 posix_fallocate x NAME
+    rattle_arg rattle_errno rattle_set_errno rattle_alloc rattle_realloc rattle_dealloc __udivti3 __sysv_signal
     """.split()
 )
 SOURCES = (".rt", ".antt", ".py", ".c", ".h", ".map", ".sh", ".edit", ".test", ".1", ".3", ".5", ".rattle")
