@@ -1,9 +1,9 @@
 """The tables of docs/audit/PROMISES.md, out of the sources.
 
 A table is what stands between two marks of the page, `<!-- calls of CRATE -->` and `<!-- end -->`. It has a row for
-each function of the crate that a wrong body edits, and for each law: what the function does, by the first sentence of
-its `///`; the names of the clauses of its contract; and its wrong bodies, each with the clause that refuses it.
-The rest of the page is written by hand.
+each function that a caller of the crate sees and that a wrong body edits, and for each law: what the function does, by
+the first sentence of its `///`; and its wrong bodies, each with the clause that refuses it. Wrong bodies of private
+functions are counted below. The rest of the page is written by hand.
 """
 
 import os
@@ -14,10 +14,9 @@ from trees import lines_of, read
 
 PAGE = "docs/audit/PROMISES.md"
 TABLE = re.compile(r"(<!-- calls of (\w+) -->\n).*?(<!-- end -->\n)", re.DOTALL)
-HEAD = "| function | what it does | clauses | wrong bodies |\n|---|---|---|---|\n"
+HEAD = "| function | what it does | wrong bodies |\n|---|---|---|\n"
 # A sentence ends with a full stop or a colon before a blank; neither stands within backquotes.
 SENTENCE = re.compile(r"((?:`[^`]*`|[^`])*?)[.:](?= |$)")
-CLAUSE = re.compile(r"^ *ensures (\w+)? ?\{", re.MULTILINE)
 
 
 def sources(folder):
@@ -61,12 +60,6 @@ def promise_at(text, head):
     return (found[1] if found else paragraph).replace("|", "\\|")
 
 
-def clauses_at(text, head):
-    """The names of the clauses of a function's contract. One without a name is the whole contract."""
-    end = re.compile(rf"^{head[1]}\{{|;$|\{{$", re.MULTILINE).search(text, head.end())
-    return [it or "all" for it in CLAUSE.findall(text[head.end() : end.start() if end else len(text)])]
-
-
 def head_of(text, at):
     """The head of the function in whose text a place is."""
     heads, end = heads_at(text, at)
@@ -78,26 +71,44 @@ def is_law(path):
     return path.startswith("src/laws")
 
 
+def exported(texts):
+    """What a caller sees of a crate: the items that its library names, or what a program's `main` calls."""
+    library = texts.get("src/lib.rt")
+    if library is None:
+        return set(re.findall(r"(?<!:)\b[a-z]\w*::([a-z]\w*)\(", texts["src/main.rt"]))
+    named = re.findall(r"^pub use [\w:]+::(\{[^}]*\}|\w+);", library, re.MULTILINE)
+    return set(re.findall(r"\w+", " ".join(named)))
+
+
+def is_seen(text, head, items):
+    """Whether a caller sees a function: by its name, by its type's, or from C."""
+    owners = [it for it in OWNER.finditer(text) if it.start() < head.start()]
+    if not head[1] or not owners:
+        return head[0].startswith("pub") and (head[2] in items or 'extern "C"' in head[0])
+    return owners[-1][2] in items and (head[0].lstrip().startswith("pub ") or bool(owners[-1][1]))
+
+
 def table_of(folder, of_traits):
     """The rows of a crate. A function of a trait's instance that says nothing of itself does what the trait says."""
     texts = {path: read(folder, path) for path in sources(folder)}
-    wrong = {}
+    items, wrong = exported(texts), {}
     for edit in edits_of(folder):
         path, old, _ = edit.pairs[0]
         head = head_of(texts[path], texts[path].index(old)) if path in texts else None
         place = (path, head.start() if head else 0)
         wrong.setdefault(place, []).append(f"`{edit.name.split('.')[-1]}` ({edit.clause or 'the compiler'})")
-    rows = []
+    rows, private = [], 0
     for path, text in texts.items():
         for head in FUNCTION.finditer(text):
             bodies = wrong.pop((path, head.start()), [])
-            if bodies or is_law(path):
-                clauses = ", ".join(f"`{it}`" for it in clauses_at(text, head))
+            if not is_law(path) and not is_seen(text, head, items):
+                private += len(bodies)
+            elif bodies or is_law(path):
                 promise = promise_at(text, head) or of_traits.get(head[2], "")
-                rows.append(f"| `{name_at(text, head)}` | {promise} | {clauses} | {', '.join(bodies)} |\n")
-    for (path, _), bodies in wrong.items():
-        rows.append(f"| a constant of `{path}` | | | {', '.join(bodies)} |\n")
-    return HEAD + "".join(rows)
+                rows.append(f"| `{name_at(text, head)}` | {promise} | {', '.join(bodies)} |\n")
+    private += sum(len(bodies) for bodies in wrong.values())
+    count = f"\nWrong bodies of private functions: {private}.\n" if private else ""
+    return (f"\n{HEAD}{''.join(rows)}" if rows else "") + f"{count}\n"
 
 
 def with_tables(top, page):
