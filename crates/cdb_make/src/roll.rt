@@ -112,6 +112,7 @@ pub(crate) struct Roll<L: Width> {
 }
 
 impl<L: Width> Roll<L> {
+    ghost use Rattle.cdb_make.specs.Views.Chains.{LinksIfRoom};
     ghost use Rattle.cdb_make.specs.Views.Roll.{searched, sought_in, IsSought, HasRoom, SameRecords};
 
     /// No records.
@@ -220,6 +221,7 @@ impl<L: Width> Roll<L> {
             → (self.old.tagged ≡ true) ⊎ (vec_capacity self.old.hashes ≡ 0) }
         ensures same { SameRecords self.old self.new }
         ensures marks { self.new.marks ≡ self.old.marks }
+        ensures chains { self.new.chains ≡ self.old.chains }
         ensures gone { self.new.gone ≡ self.old.gone }
         ensures found { self.new.found ≡ self.old.found }
         ensures room { HasRoom self.old → HasRoom self.new }
@@ -394,6 +396,7 @@ impl<L: Width> Roll<L> {
         ensures gone { self.new.gone ≡ self.old.gone }
         ensures found { self.new.found ≡ self.old.found }
         ensures room { HasRoom self.old → HasRoom self.new }
+        ensures linked { LinksIfRoom (length self.old.hashes.items) self.old.chains self.new.chains }
     {
         self.tag(true);
         let searched = searched(self.tagged, &self.tags, &self.hashes);
