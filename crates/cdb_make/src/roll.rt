@@ -219,6 +219,7 @@ impl<L: Width> Roll<L> {
             → n ≡ sought_in self.new key }
         ensures tagged { self.new.tagged ≡ true
             → (self.old.tagged ≡ true) ⊎ (vec_capacity self.old.hashes ≡ 0) }
+        ensures begins { wanted ≡ true → vec_capacity self.old.hashes ≡ 0 → self.new.tagged ≡ true }
         ensures same { SameRecords self.old self.new }
         ensures marks { self.new.marks ≡ self.old.marks }
         ensures chains { self.new.chains ≡ self.old.chains }

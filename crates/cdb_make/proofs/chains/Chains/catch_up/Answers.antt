@@ -1,4 +1,4 @@
-use Rattle.std.proofs.Common.{◌≡◌, ◌∙◌, sym, subst, ap, arith, vec_capacity}
+use Rattle.std.proofs.Common.{◌∙◌, sym, subst, ap, vec_capacity}
 use Rattle.cdb_make.specs.Chains.{AreChained}
 use Rattle.cdb_make.specs.Marks.{gone_of}
 use Rattle.cdb_make.proofs.chains.Chains.catch_up.Goals.{then-most-len-2, else-most-len-2}
