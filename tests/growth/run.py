@@ -11,11 +11,8 @@ No time is compared with a fixed one, or with that of another program. The numbe
 run takes long enough to be measured, so its figure differs from machine to machine. The first time is the mean
 of several runs. If the second is past the bound, the run is tried again, and the least time counts.
 
-Left out are commands whose time does grow with the square:
-
-- `-D` and `-q -i` of keys of one hash: a look-up goes through the file's table, where they are in one run of slots;
-- `-u`, `-w`, `-r` and removals over a base whose first record is longer than 64 KiB and whose keys have one hash:
-  its records get no second hash, so each look reads all of them.
+Left out are `-D` and `-q -i` of keys of one hash, whose time does grow with the square: a look-up goes through the
+file's table, where they are in one run of slots.
 """
 
 import contextlib
@@ -94,6 +91,11 @@ def alike_again(count):
 def long_one(count):
     """One record with as many bytes as some have."""
     return [(b"long", b"v" * (100 * count))]
+
+
+def after_long(count):
+    """Records of one hash, and one before them that has no room in the window in which a base is read."""
+    return [(b"long", b"v" * 100_000), *alike(count)]
 
 
 def before_long(count):
@@ -265,6 +267,8 @@ ROWS = {
     "-b -u of one hash": amends("-cu", alike, alike_again),
     "-b -r of one hash": amends("-cr", alike, alike_again),
     "-b, removals of one hash": amends("-c", alike, lambda count: removals(alike(count))),
+    "-b -u of one hash after a long record": amends("-cu", after_long, alike_again),
+    "-b, removals of one hash after a long record": amends("-c", after_long, lambda count: removals(alike(count))),
     "-d": reads("-d", distinct),
     "-d -m": reads("-dm", distinct),
     "-d of one long record": reads("-d", long_one),

@@ -174,6 +174,21 @@ appends_all {s = s} old mid new rs n stays kept gone comes entered size written 
       failures = ap s.failures same ∙ fine;
     }
 
+-- none were
+pub appends_none : {S L : Type 0} {s : Ghosts S} {l : Widths L} (old new : Maker S L s l) (rs : List KeyValue) (n : ℕ) → StaysWhole old new → SameRecords old.roll new.roll → new.roll.gone ≡ old.roll.gone → new.store ≡ old.store → rs ≡ [] → n ≡ sum_by (record_size l.WORD) rs → AppendsAll old new rs n
+appends_none {s = s} {l = l} old new rs n stays kept gone same none size =
+    let nothing : n ≡ 0 = size ∙ ap (sum_by (record_size l.WORD)) none in
+    record {
+      was = stays.was;
+      whole = stays.whole;
+      size = size;
+      holds = λ before h. subst (λ (v : List KeyValue). Holds new (before ++ v)) (sym none) (subst (λ (v : List KeyValue). Holds new v) (sym (append-nil before)) (stays.holds before h));
+      written = λ lone. omega (arith, nothing, ap s.written same);
+      each = λ b is. (b, subst (λ (v : _). s.image v b) same is, λ all sees. inl (omega (arith, nothing, ap s.written same)));
+      count = omega (arith, ap length none, ap length kept.hashes, ap (λ q. q.count) gone);
+      failures = ap s.failures same;
+    }
+
 -- or memory for an entry was refused
 some_behind : {S L : Type 0} {s : Ghosts S} {l : Widths L} (old mid new : Maker S L s l) (rs : List KeyValue) → StaysWhole old mid → mid.limit ≡ old.limit
     → AppendsSome mid new rs (KeepsLimit mid new) → AppendsSome old new rs (KeepsLimit old new)

@@ -294,7 +294,7 @@ stays_kept j k was whole roll keeps = record {
   };
 }
 
-whole_then : {S L : Type 0} {s : Ghosts S} {l : Widths L} (i j k : Maker S L s l) → StaysWhole i j → StaysWhole j k → StaysWhole i k
+pub whole_then : {S L : Type 0} {s : Ghosts S} {l : Widths L} (i j k : Maker S L s l) → StaysWhole i j → StaysWhole j k → StaysWhole i k
 whole_then i j k f h = record { was = f.was; whole = h.whole; holds = λ rs held. h.holds rs (f.holds rs held) }
 
 closed_unchanged : {S L : Type 0} {s : Ghosts S} {l : Widths L} (i j k : Maker S L s l) → ClosesAll i j → k.broken ≡ false → k.roll ≡ j.roll → SameImages (s.image j.store) (s.image k.store) → s.written k.store ≡ s.written j.store → ClosesAll i k

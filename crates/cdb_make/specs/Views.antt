@@ -1,5 +1,6 @@
 -- What clauses read of the types of this crate.
 pub mod Appending
+pub mod Chains
 pub mod Maker
 pub mod Making
 pub mod Places

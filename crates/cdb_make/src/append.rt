@@ -8,7 +8,8 @@ ghost use Rattle.cdb_form.specs.Format.Record.{KeyValue, IsRecord, record_bytes,
 ghost use Rattle.cdb_form.specs.Format.Walk.{prefix_size, prefix_record, whole_records};
 ghost use Rattle.cdb_store.specs.declared.make_fault.MakeFault.TheVariants.{NoMemory};
 ghost use Rattle.cdb_make.specs.Views.Appending.{records_at, first_size, AreFirst};
-ghost use Rattle.cdb_make.specs.Views.Roll.{IsSought, SameRecords};
+ghost use Rattle.cdb_make.specs.Tags.{second_hash};
+ghost use Rattle.cdb_make.specs.Views.Roll.{SameRecords};
 
 use crate::maker::Maker;
 use cdb_form::{Width, hash, pair_size, read_header, record_len};
@@ -83,7 +84,7 @@ fn measure<L: Width>(bytes: &[u8], room: u64) -> Fitting
 
 impl<S: Store, L: Width> Maker<S, L> {
     ghost use Rattle.cdb_make.specs.Views.Maker.{Holds, StaysWhole, Follows, HasNotFailed, HasGone, MakerKeepsAll};
-    ghost use Rattle.cdb_make.specs.Views.Appending.{AppendsAll, AppendsSome, FailsAppending};
+    ghost use Rattle.cdb_make.specs.Views.Appending.{AppendsAll, AppendsSome, FailsAppending, BeginsTags};
     ghost use Rattle.cdb_make.specs.Views.Appending.{Enters, KeepsLimit, IsCrowded, FailsWriting, full_size};
 
     /// Notes a record whose bytes are in the store, behind the others.
@@ -94,7 +95,7 @@ impl<S: Store, L: Width> Maker<S, L> {
         requires inside { self.old.roll.end + size ≤ S.size self.old.store }
         requires within { full_size self.old + size + 4 * L.WORD ≤ self.old.limit }
         ensures enters { (r : KeyValue) → IsRecord r → hash ≡ key_hash r.key
-            → IsSought self.old.roll r.key sought
+            → (self.old.roll.tagged ≡ true → sought ≡ second_hash r.key)
             → size ≡ record_size L.WORD r
             → AreIn self.old.roll.end (record_bytes L.WORD r) (S.image self.old.store)
             → OnOk result (Enters self.old self.new (r ∷ [])) }
@@ -106,8 +107,8 @@ impl<S: Store, L: Width> Maker<S, L> {
         ensures lazy { self.new.lazy ≡ self.old.lazy }
         ensures gone { self.new.roll.gone.count ≡ self.old.roll.gone.count }
         ensures store { self.new.store ≡ self.old.store }
+        ensures tagged { self.new.roll.tagged ≡ self.old.roll.tagged }
     {
-        self.roll.tag(self.lazy);
         self.roll.reserve()?;
         self.roll.push(hash, sought, size);
         Ok(())
@@ -137,6 +138,7 @@ impl<S: Store, L: Width> Maker<S, L> {
         ensures lazy { self.new.lazy ≡ self.old.lazy }
         ensures gone { self.new.roll.gone.count ≡ self.old.roll.gone.count }
         ensures store { self.new.store ≡ self.old.store }
+        ensures tagged { self.new.roll.tagged ≡ self.old.roll.tagged }
     {
         let mut place = 0;
         for _ in 0..count {
@@ -158,6 +160,7 @@ impl<S: Store, L: Width> Maker<S, L> {
         ensures stays { StaysWhole self.old self.new }
         ensures roll { SameRecords self.old.roll self.new.roll }
         ensures gone { self.new.roll.gone ≡ self.old.roll.gone }
+        ensures tagged { self.new.roll.tagged ≡ self.old.roll.tagged }
         ensures follows { Follows self.old self.new }
         ensures inside { OnOk result
             (self.new.roll.end + length bytes.now ≤ S.size self.new.store) }
@@ -172,7 +175,8 @@ impl<S: Store, L: Width> Maker<S, L> {
         Ok(())
     }
 
-    /// Writes the first whole records of some bytes behind the others, and notes them.
+    /// Writes the first whole records of some bytes behind the others, and notes them. A lazy maker
+    /// that has noted none tags all that come from now on, also if this is none.
     ///
     /// The faults are those of `append`.
     fn append_first(&mut self, bytes: &[u8], count: usize, size: usize) -> Result<(), MakeFault>
@@ -186,8 +190,10 @@ impl<S: Store, L: Width> Maker<S, L> {
         ensures fails { IfErr result
             (FailsAppending self.old self.new (take count (records_at L.WORD bytes.now))) }
         ensures gone { self.new.roll.gone.count ≡ self.old.roll.gone.count }
+        ensures tagged { BeginsTags self.old self.new }
         ensures follows { Follows self.old self.new }
     {
+        self.roll.tag(self.lazy);
         if count == 0 {
             return Ok(());
         }
@@ -216,6 +222,7 @@ impl<S: Store, L: Width> Maker<S, L> {
         ensures fails { IfErr result
             (FailsAppending self.old self.new (whole_records L.WORD (length bytes.now) bytes.now)) }
         ensures gone { self.new.roll.gone.count ≡ self.old.roll.gone.count }
+        ensures tagged { BeginsTags self.old self.new }
         ensures follows { Follows self.old self.new }
     {
         let fitting = measure::<L>(bytes, self.limit - self.full_size());
@@ -231,7 +238,8 @@ impl<S: Store, L: Width> Maker<S, L> {
     ///
     /// They are written by one write, and no record is copied. The bytes after the last whole
     /// record are left out: pass them again, before those that follow them. Records that go are taken
-    /// out first if the file has no room beside them.
+    /// out first if the file has no room beside them. A lazy maker that has noted no record so far tags
+    /// all that come, also if these bytes have none: so keys of one hash are found as fast as others.
     ///
     /// `TooBig`: with the next record the file would pass the limit. `NoMemory`: an allocation
     /// failed at the next record. Both leave the records before that one appended. `Writing`: the
@@ -243,6 +251,7 @@ impl<S: Store, L: Width> Maker<S, L> {
         ensures fails { IfErr result
             (FailsAppending self.old self.new (whole_records L.WORD (length bytes.now) bytes.now)) }
         ensures keeps { MakerKeepsAll self.old self.new }
+        ensures tagged { self.old.broken ≡ false → BeginsTags self.old self.new }
         ensures follows { Follows self.old self.new }
     {
         if self.broken {

@@ -1,5 +1,5 @@
 // The entries of a roll, found by their hashes.
-ghost use Rattle.std.specs.Prelude.{◌≡◌, ℕ, List, [], ◌+◌, ◌-◌, ◌<◌, ◌≤◌, ◌^◌, ◌⊎◌, ◌∷◌, length, min, map, Bool};
+ghost use Rattle.std.specs.Prelude.{◌≡◌, ℕ, List, [], ◌+◌, ◌-◌, ◌/◌, ◌<◌, ◌≤◌, ◌^◌, ◌⊎◌, ◌∷◌, length, min, map, Bool};
 ghost use Rattle.std.specs.Prelude.{slice_index, slice_set, get_or, vec_capacity, true, false, OnOk, OnErr};
 ghost use Rattle.std.specs.Bool.{Decides};
 ghost use Rattle.cdb_make.specs.Marks.{gone_of, taken, HaveHash, IsTakenFrom};
@@ -49,6 +49,8 @@ pub(crate) struct Chains {
 }
 
 impl Chains {
+    ghost use Rattle.cdb_make.specs.Views.Chains.{LinksIfRoom, GrowsFor};
+
     /// Chains of no entries.
     pub(crate) fn new(alloc: Global) -> Chains
         ensures heads { result.heads.items ≡ [] }
@@ -205,6 +207,9 @@ impl Chains {
     fn reserve(&mut self, count: usize) -> Result<(), AllocError>
         ensures heads { self.new.heads.items ≡ self.old.heads.items }
         ensures before { self.new.before.items ≡ self.old.before.items }
+        ensures ok { OnOk result (min count (2 ^ 32 - 1)
+            ≤ min (vec_capacity self.new.before) (vec_capacity self.new.heads)) }
+        ensures room { GrowsFor count self.old self.new }
     {
         let wanted = count.min(MOST);
         self.before
@@ -223,6 +228,7 @@ impl Chains {
         requires most { most ≤ 2 ^ 32 - 1 }
         ensures chained { AreChained self.new.heads.items self.new.before.items hashes.now (gone_of marks.now) }
         ensures all { length self.new.before.items ≡ most }
+        ensures room { vec_capacity self.new.before ≡ vec_capacity self.old.before }
     {
         while self.before.len() < most {
             self.link(hashes, marks);
@@ -250,6 +256,8 @@ impl Chains {
         requires chained { AreChained self.old.heads.items self.old.before.items hashes.now (gone_of marks.now) }
         requires long { length marks.now ≡ length hashes.now }
         ensures chained { AreChained self.new.heads.items self.new.before.items hashes.now (gone_of marks.now) }
+        ensures linked { LinksIfRoom (length hashes.now) self.old self.new }
+        ensures room { vec_capacity self.new.before ≡ vec_capacity self.old.before }
     {
         let most = hashes.len().min(MOST).min(self.room());
         if most <= self.before.len() {
@@ -267,6 +275,8 @@ impl Chains {
         requires chained { AreChained self.old.heads.items self.old.before.items hashes.now (gone_of marks.now) }
         requires long { length marks.now ≡ length hashes.now }
         ensures chained { AreChained self.new.heads.items self.new.before.items hashes.now (gone_of marks.now) }
+        ensures linked { LinksIfRoom (length hashes.now) self.old self.new }
+        ensures spare { GrowsFor (length hashes.now + length hashes.now / 4) self.old self.new }
     {
         let count = hashes.len();
         if self.room() < count {

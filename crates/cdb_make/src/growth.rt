@@ -1,5 +1,5 @@
 // Room for one more.
-ghost use Rattle.std.specs.Prelude.{◌≡◌, ◌<◌, ◌≤◌, length, vec_capacity, OnOk, OnErr};
+ghost use Rattle.std.specs.Prelude.{◌≡◌, ◌+◌, ◌/◌, ◌<◌, ◌≤◌, ◌⊎◌, length, vec_capacity, OnOk, OnErr};
 
 use std::alloc::AllocError;
 
@@ -12,7 +12,8 @@ const LEAST: usize = 64;
 fn grow<T: Copy>(items: &mut Vec<T>) -> Result<(), AllocError>
     requires { vec_capacity items.old ≤ length items.old.items }
     ensures items { items.new.items ≡ items.old.items }
-    ensures ok { OnOk result (length items.new.items < vec_capacity items.new) }
+    ensures ok { OnOk result
+        (length items.new.items + length items.new.items / 4 < vec_capacity items.new) }
     ensures room { vec_capacity items.old ≤ vec_capacity items.new }
 {
     items.reserve_exact(items.len() / 4 + LEAST)
@@ -24,6 +25,8 @@ fn grow<T: Copy>(items: &mut Vec<T>) -> Result<(), AllocError>
 pub(crate) fn reserve_one<T: Copy>(items: &mut Vec<T>) -> Result<(), AllocError>
     ensures items { items.new.items ≡ items.old.items }
     ensures ok { OnOk result (length items.new.items < vec_capacity items.new) }
+    ensures quarter { OnOk result ((length items.old.items < vec_capacity items.old)
+        ⊎ (length items.new.items + length items.new.items / 4 < vec_capacity items.new)) }
     ensures full { OnErr result (vec_capacity items.old ≤ length items.old.items) }
     ensures room { vec_capacity items.old ≤ vec_capacity items.new }
 {

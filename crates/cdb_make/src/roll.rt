@@ -96,6 +96,8 @@ pub(crate) struct Roll<L: Width> {
     pub(crate) found: Picked,
     /// Where the records end.
     pub(crate) end: u64,
+    /// So many records there can be before memory is taken.
+    pub(crate) most: usize,
     pub(crate) width: PhantomData<L>,
     ghost paired: { length (places_in places) ≡ length hashes.items },
     ghost marked: { length marks.items ≡ length hashes.items },
@@ -108,15 +110,21 @@ pub(crate) struct Roll<L: Width> {
     ghost tag_room: { length tags.items ≤ vec_capacity tags },
     ghost place_room: { length (places_in places) ≤ places_room places },
     ghost room: { length marks.items ≤ vec_capacity marks },
+    ghost most_hashes: { most ≤ vec_capacity hashes },
+    ghost most_tags: { tagged ≡ true → most ≤ vec_capacity tags },
+    ghost most_places: { most ≤ places_room places },
+    ghost most_marks: { most ≤ vec_capacity marks },
     ghost fits: { end ≤ L.GREATEST },
 }
 
 impl<L: Width> Roll<L> {
+    ghost use Rattle.cdb_make.specs.Views.Chains.{LinksIfRoom};
     ghost use Rattle.cdb_make.specs.Views.Roll.{searched, sought_in, IsSought, HasRoom, SameRecords};
 
     /// No records.
     pub(crate) fn new(alloc: Global) -> Roll<L>
         ensures hashes { result.hashes.items ≡ [] }
+        ensures searched { searched result ≡ [] }
         ensures places { places_in result.places ≡ [] }
         ensures marks { result.marks.items ≡ [] }
         ensures gone { result.gone.size ≡ 0 }
@@ -132,6 +140,7 @@ impl<L: Width> Roll<L> {
             gone: none(),
             found: none(),
             end: head_size::<L>() as u64,
+            most: 0,
             width: PhantomData,
         }
     }
@@ -218,8 +227,10 @@ impl<L: Width> Roll<L> {
             → n ≡ sought_in self.new key }
         ensures tagged { self.new.tagged ≡ true
             → (self.old.tagged ≡ true) ⊎ (vec_capacity self.old.hashes ≡ 0) }
+        ensures begins { wanted ≡ true → vec_capacity self.old.hashes ≡ 0 → self.new.tagged ≡ true }
         ensures same { SameRecords self.old self.new }
         ensures marks { self.new.marks ≡ self.old.marks }
+        ensures chains { self.new.chains ≡ self.old.chains }
         ensures gone { self.new.gone ≡ self.old.gone }
         ensures found { self.new.found ≡ self.old.found }
         ensures room { HasRoom self.old → HasRoom self.new }
@@ -241,6 +252,44 @@ impl<L: Width> Roll<L> {
         self.chains.last(searched, &self.marks, sought, end)
     }
 
+    /// So many records there can be before a column takes memory.
+    fn room(&self) -> usize
+        ensures hashes { result ≤ vec_capacity self.now.hashes }
+        ensures tags { self.now.tagged ≡ true → result ≤ vec_capacity self.now.tags }
+        ensures places { result ≤ places_room self.now.places }
+        ensures marks { result ≤ vec_capacity self.now.marks }
+        ensures more { HasRoom self.now → length self.now.hashes.items < result }
+    {
+        let room = self.hashes.capacity().min(self.places.room());
+        let room = room.min(self.marks.capacity());
+        if self.tagged {
+            room.min(self.tags.capacity())
+        } else {
+            room
+        }
+    }
+
+    /// Makes room in each column for one more record. If memory is refused, no record has changed.
+    #[cold]
+    #[inline(never)]
+    fn grow(&mut self) -> Result<(), AllocError>
+        ensures room { OnOk result (HasRoom self.new) }
+        ensures more { OnOk result (length self.new.hashes.items < self.new.most) }
+        ensures full { OnErr result (HasRoom self.old → ⊥) }
+        ensures same { SameRecords self.old self.new }
+        ensures tagged { self.new.tagged ≡ self.old.tagged }
+        ensures marks { self.new.marks.items ≡ self.old.marks.items }
+        ensures gone { self.new.gone ≡ self.old.gone }
+        ensures found { self.new.found ≡ self.old.found }
+    {
+        reserve_one(&mut self.hashes)?;
+        reserve_tag(self.tagged, &mut self.tags)?;
+        self.places.reserve()?;
+        reserve_one(&mut self.marks)?;
+        self.most = self.room();
+        Ok(())
+    }
+
     /// Makes room for one more record. If memory is refused, nothing has changed.
     #[inline(always)]
     pub(crate) fn reserve(&mut self) -> Result<(), AllocError>
@@ -252,10 +301,10 @@ impl<L: Width> Roll<L> {
         ensures gone { self.new.gone ≡ self.old.gone }
         ensures found { self.new.found ≡ self.old.found }
     {
-        reserve_one(&mut self.hashes)?;
-        reserve_tag(self.tagged, &mut self.tags)?;
-        self.places.reserve()?;
-        reserve_one(&mut self.marks)
+        if self.hashes.len() < self.most {
+            return Ok(());
+        }
+        self.grow()
     }
 
     /// Notes one more record, of so many bytes, for which there is room. Its tag is noted if the
@@ -394,6 +443,7 @@ impl<L: Width> Roll<L> {
         ensures gone { self.new.gone ≡ self.old.gone }
         ensures found { self.new.found ≡ self.old.found }
         ensures room { HasRoom self.old → HasRoom self.new }
+        ensures linked { LinksIfRoom (length self.old.hashes.items) self.old.chains self.new.chains }
     {
         self.tag(true);
         let searched = searched(self.tagged, &self.tags, &self.hashes);

@@ -64,6 +64,7 @@ pub(crate) fn push_tag(tagged: bool, tags: &mut Vec<u32>, tag: u32)
         ≡ searched_by tagged tags.old.items hashes ++ cond tagged tag hash ∷ [] }
     ensures room { length tags.old.items ≤ vec_capacity tags.old
         → length tags.new.items ≤ vec_capacity tags.new }
+    ensures capacity { vec_capacity tags.new ≡ vec_capacity tags.old }
 {
     if tagged {
         tags.push_reserved(tag);

@@ -41,8 +41,12 @@ pub record AddedSoFar {S L : Type 0} {s : Ghosts S} {l : Widths L} (w : ℕ) (im
   pub all : (b : List ℕ) → images b → walk_of w b ≡ with_records done (left b)
   pub holds : Holds first [] → Holds m done
 
-pub added_none : {S L : Type 0} {s : Ghosts S} {l : Widths L} (w : ℕ) (images : List ℕ → Type 0) (left : List ℕ → Walked) (m : Maker S L s l) → ((b : List ℕ) → images b → left b ≡ walk_of w b) → AddedSoFar w images left m m
-added_none w images left m is = record { done = []; all = λ b i. sym (is b i); holds = λ h. h }
+no_records : (w : ℕ) → whole_records w 0 [] ≡ []
+unfolding whole_records
+no_records w = refl
+
+pub added_start : {S L : Type 0} {s : Ghosts S} {l : Widths L} (w : ℕ) (images : List ℕ → Type 0) (left : List ℕ → Walked) (m now : Maker S L s l) (n : ℕ) → AppendsAll m now (whole_records w 0 []) n → ((b : List ℕ) → images b → left b ≡ walk_of w b) → AddedSoFar w images left m now
+added_start w images left m now n x is = record { done = []; all = λ b i. sym (is b i); holds = λ h. subst (Holds now) (no_records w) (x.holds [] h) }
 
 -- some were given before others
 records_then : (done more : List KeyValue) (rest : Walked) → with_records done (with_records more rest) ≡ with_records (done ++ more) rest
@@ -186,6 +190,12 @@ pub window_stopped : {S L : Type 0} {s : Ghosts S} {l : Widths L} (images : List
     → WhereHonest (s.image now.store) (NotAdded l.WORD (limit_of m) (with_records rs (left b)) (make_fault f))
 window_stopped {l = l} images left rest m now xs bytes n f few is given x rs holds b i = record {
   each = λ a j. unappended_so rs (whole_records l.WORD (length bytes) bytes) (left b) (rest b) m now f (given b i ∙ ap (λ v. with_records v (rest b)) (sym (window_records l.WORD xs bytes n few is))) x holds a j;
+}
+
+-- an append of none that failed
+pub none_stopped : {S L : Type 0} {s : Ghosts S} {l : Widths L} (m now : Maker S L s l) (f : MakeFault) → FailsAppending m now (whole_records l.WORD 0 []) f → Holds m [] → (b : List ℕ) → WhereHonest (s.image now.store) (BaseFails l.WORD (limit_of m) b (make_fault f))
+none_stopped {l = l} m now f x holds b = record {
+  each = λ a j. unappended_so [] [] (walk_of l.WORD b) (walk_of l.WORD b) m now f refl (subst (λ rs. FailsAppending m now rs f) (no_records l.WORD) x) holds a j;
 }
 
 unadded_so : {S L : Type 0} {s : Ghosts S} {l : Widths L} (rs : List KeyValue) (r : KeyValue) (left rest : Walked) (m now : Maker S L s l) (f : MakeFault) → left ≡ with_first r rest → FailsPutting m now Add r f → Holds m rs → (a : List ℕ) → s.image now.store a

@@ -1,5 +1,5 @@
 -- Whole records that are appended at once.
-use Rattle.std.specs.Prelude.{ℕ, ◌≡◌, ◌+◌, ◌*◌, ◌<◌, ◌≤◌, ◌⊎◌, true, false, List, [], ◌∷◌, ◌++◌, length, take, drop}
+use Rattle.std.specs.Prelude.{ℕ, ◌≡◌, ◌+◌, ◌*◌, ◌<◌, ◌≤◌, ◌⊎◌, true, false, List, [], ◌∷◌, ◌++◌, length, take, drop, vec_capacity}
 use Rattle.std.specs.Prelude.{flat_map, sum_by}
 use Rattle.cdb_store.specs.declared.store.Store.{Ghosts}
 use Rattle.cdb_form.specs.declared.width.Width.{Ghosts as Widths}
@@ -91,6 +91,11 @@ FailsAppending old new rs Writing =
     (AppendsSome old new rs (KeepsLimit old new) × HasStoreFailed old new × StaysWhole old new)
     ⊎ (HasGone old × (old.broken ≡ false) × (new.broken ≡ true) × HasStoreFailed old new
     × IsCrowded old rs × SameCounts old new)
+
+-- a lazy maker that noted no record before tags those that come
+abbrev pub BeginsTags : {S L : Type 0} {s : Ghosts S} {l : Widths L} → Maker S L s l → Maker S L s l
+    → Type 0
+BeginsTags old new = old.lazy ≡ true → vec_capacity old.roll.hashes ≡ 0 → new.roll.tagged ≡ true
 
 -- bytes were not written behind the records, since memory was refused or the store failed
 abbrev pub FailsWriting : {S L : Type 0} {s : Ghosts S} {l : Widths L} → Maker S L s l

@@ -95,6 +95,8 @@ fn add_records<L: Width, S: Store, B: Store>(
         (B.failures reader.old.store < B.failures reader.new.store) ⊥ result }
 {
     let mut room = Room::new(alloc)?;
+    // So all records are tagged, also if the first has no room in the window.
+    maker.append(&[])?;
     let mut records = walk(reader);
     while add_next(maker, &mut records, &mut room)? {}
     Ok(())

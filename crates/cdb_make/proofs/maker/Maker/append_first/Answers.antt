@@ -1,4 +1,4 @@
-use Rattle.std.proofs.Common.{arith, sym, ap, subst, ◌∙◌, ◌≡◌, ◌<◌, ◌+◌, ◌-◌, ◌*◌, ◌∷◌, [], ℕ, List, length, length-take, take, drop}
+use Rattle.std.proofs.Common.{arith, refl, sym, ap, subst, ◌∙◌, ◌≡◌, ◌<◌, ◌+◌, ◌-◌, ◌*◌, ◌∷◌, [], ℕ, List, length, length-take, take, drop}
 use Rattle.std.specs.Prelude.{sum_by}
 use Rattle.std.proofs.lemmas.Result.{err_from_is_err_and, on_ok_weaker}
 use Rattle.cdb_store.specs.Images.{ImagesHold as Stored}
@@ -7,7 +7,9 @@ use Rattle.cdb_form.specs.Format.Record.{KeyValue, record_size}
 use Rattle.cdb_form.specs.Format.Walk.{prefix_record}
 use Rattle.cdb_form.proofs.Files.Sizes.{size_split}
 use Rattle.cdb_make.specs.Views.Appending.{AreFirst, FailsAppending, KeepsLimit, records_at}
-use Rattle.cdb_make.proofs.Appends.{appends_all, fails_behind, fails_writing, keeps_limit}
+use Rattle.cdb_make.proofs.Appends.{appends_all, appends_none, fails_behind, fails_writing, keeps_limit, stays_noted}
+use Rattle.cdb_make.proofs.Finishing.{whole_then}
+use Rattle.cdb_make.proofs.Looking.{same_then}
 use Rattle.cdb_make.proofs.Bytes.Fitting.{first_none, next_fits, next_of, next_splits, sum_take}
 use Rattle.std.proofs.lemmas.Grind.{common_steps}
 use Rattle.cdb_make.proofs.maker.Maker.append_first.Goals as goal
@@ -17,7 +19,7 @@ write_behind-requires-clause-fits g c =
     let w : ℕ = g.L.Width.WORD in
     let rs : List KeyValue = take c.args.count (records_at w c.args.bytes.now) in
     let split : sum_by (whole_size w) rs ≡ sum_by (record_size w) rs + 4 * w * length rs = size_split w rs in
-    omega (arith, c.requires.room, c.requires.first.sum, c.requires.first.within, length-take c.args.size c.args.bytes.now)
+    omega (arith, c.tag.ensures.same.end, c.requires.room, c.requires.first.sum, c.requires.first.within, length-take c.args.size c.args.bytes.now)
 
 pub returns-in_err-write_behind-clause-fails : goal.returns-in_err-write_behind-clause-fails
 returns-in_err-write_behind-clause-fails g c =
@@ -38,7 +40,8 @@ returns-in_err-write_behind-clause-fails g c =
     let fits : KeepsLimit m new (r ∷ []) = keeps_limit m new (r ∷ []) g.met.L.Width.four_or_eight c.write_behind.ensures.follows.comes (omega (arith, c.requires.room)) in
     rw (p.1, p.2)
     (subst (λ (v : List KeyValue). FailsAppending m new v c.in_err-write_behind.field-0.0) (sym are)
-    (fails_writing m new r later c.in_err-write_behind.field-0.0 c.write_behind.ensures.stays fits c.in_err-write_behind.ensures.fails))
+    (fails_writing m new r later c.in_err-write_behind.field-0.0
+    (whole_then m _ new (stays_noted m _ c.requires.whole c.requires.whole c.tag.ensures.same (ap (λ v. v.items) c.tag.ensures.marks) refl) c.write_behind.ensures.stays) fits c.in_err-write_behind.ensures.fails))
 
 pub returns-clause-ok : goal.returns-clause-ok
 returns-clause-ok g c =
@@ -49,7 +52,8 @@ returns-clause-ok g c =
     let long : length (take c.args.size bytes) ≡ c.args.size = omega (arith, c.requires.first.within, length-take c.args.size bytes) in
     on_ok_weaker c.enter_all.result
     (λ ok. appends_all m c.write_behind.new.self c.enter_all.new.self (take c.args.count (records_at w bytes)) c.args.size
-    c.write_behind.ensures.stays c.write_behind.ensures.roll c.write_behind.ensures.gone c.write_behind.ensures.follows.comes ok c.requires.first.sum (e.written ∙ ap (λ (n : ℕ). g.S.Store.written m.store + n) long) e.failures c.enter_all.ensures.store)
+    (whole_then m _ _ (stays_noted m _ c.requires.whole c.requires.whole c.tag.ensures.same (ap (λ v. v.items) c.tag.ensures.marks) refl) c.write_behind.ensures.stays)
+    (same_then m.roll c.tag.new.self _ c.tag.ensures.same c.write_behind.ensures.roll) (c.write_behind.ensures.gone ∙ c.tag.ensures.gone) c.write_behind.ensures.follows.comes ok c.requires.first.sum (e.written ∙ ap (λ (n : ℕ). g.S.Store.written m.store + n) long) e.failures c.enter_all.ensures.store)
     c.enter_all.ensures.ok
 
 pub returns-clause-fails : goal.returns-clause-fails
@@ -58,7 +62,7 @@ returns-clause-fails g c =
     let m = c.args.self.now in
     let e = c.in_ok-write_behind.ensures in
     fails_behind m c.write_behind.new.self c.enter_all.new.self (take c.args.count (records_at w c.args.bytes.now)) c.enter_all.result
-    c.write_behind.ensures.stays c.write_behind.ensures.follows.limit (ap g.S.Store.failures c.enter_all.ensures.store ∙ e.failures) c.enter_all.ensures.memory c.enter_all.ensures.some
+    (whole_then m _ _ (stays_noted m _ c.requires.whole c.requires.whole c.tag.ensures.same (ap (λ v. v.items) c.tag.ensures.marks) refl) c.write_behind.ensures.stays) c.write_behind.ensures.follows.limit (ap g.S.Store.failures c.enter_all.ensures.store ∙ e.failures) c.enter_all.ensures.memory c.enter_all.ensures.some
 
 pub enter_all-requires-clause-first : goal.enter_all-requires-clause-first
 enter_all-requires-clause-first g c = subst (λ (n : ℕ). AreFirst g.L.Width.WORD c.args.bytes.now c.args.count n) c.requires.first.sum c.requires.first
@@ -73,7 +77,12 @@ enter_all-requires-clause-inside g c =
     omega (arith, c.in_ok-write_behind.ensures.inside, c.requires.first.sum, c.requires.first.within, length-take c.args.size c.args.bytes.now)
 
 pub returns-then-count-eq0-clause-ok : goal.returns-then-count-eq0-clause-ok
-returns-then-count-eq0-clause-ok g c = grind (arith, common_steps)
+returns-then-count-eq0-clause-ok g c =
+    let m = c.args.self.now in
+    let all : List KeyValue = records_at g.L.Width.WORD c.args.bytes.now in
+    let zero : c.args.count ≡ 0 = omega (arith, c.if-count-eq0.true) in
+    let none : take c.args.count all ≡ [] = ap (λ (n : ℕ). take n all) zero in
+    appends_none m _ (take c.args.count all) c.args.size (stays_noted m _ c.requires.whole c.requires.whole c.tag.ensures.same (ap (λ v. v.items) c.tag.ensures.marks) refl) c.tag.ensures.same c.tag.ensures.gone refl none c.requires.first.sum
 
 pub returns-clause-gone : goal.returns-clause-gone
 returns-clause-gone g c = grind (arith, common_steps)

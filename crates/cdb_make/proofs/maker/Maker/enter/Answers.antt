@@ -1,13 +1,11 @@
-use Rattle.std.proofs.Common.{◌≡◌, ◌+◌, ◌*◌, ◌∷◌, ◌++◌, [], ℕ, false, List, length, refl, inl, inr, ap, sym, subst, ◌∙◌, arith, true}
+use Rattle.std.proofs.Common.{◌≡◌, ◌+◌, ◌*◌, ◌∷◌, ◌++◌, [], ℕ, false, List, length, refl, ap, sym, subst, ◌∙◌, arith}
 use Rattle.std.proofs.lemmas.List.{length_push}
 use Rattle.cdb_form.specs.Format.Pair.{head_size}
 use Rattle.cdb_make.specs.Marks.{gone_of, AreNone}
 use Rattle.cdb_make.specs.Spans.{AreOf}
 use Rattle.cdb_make.specs.Views.Places.{places_in}
-use Rattle.cdb_make.specs.Tags.{second_hash}
 use Rattle.cdb_make.specs.Views.Roll.{searched}
 use Rattle.cdb_make.proofs.Bytes.Written.{on_any_err}
-use Rattle.cdb_make.proofs.Looking.{same_then}
 use Rattle.cdb_make.proofs.Appends.{entered, stays_noted}
 use Rattle.cdb_make.proofs.Rolls.{number_is, more_slots, none_more}
 use Rattle.std.proofs.lemmas.Grind.{common_steps}
@@ -15,9 +13,7 @@ use Rattle.cdb_make.proofs.maker.Maker.enter.Goals as goal
 
 pub returns-in_err-reserve-clause-stays : goal.returns-in_err-reserve-clause-stays
 returns-in_err-reserve-clause-stays g c =
-    let m = c.args.self.now in
-    let all = same_then m.roll c.tag.new.self c.reserve.new.self c.tag.ensures.same c.reserve.ensures.same in
-    on_any_err c.from_residual.result (stays_noted m _ c.requires.whole c.requires.whole all (c.reserve.ensures.marks ∙ ap (λ v. v.items) c.tag.ensures.marks) refl)
+    on_any_err c.from_residual.result (stays_noted c.args.self.now _ c.requires.whole c.requires.whole c.reserve.ensures.same c.reserve.ensures.marks refl)
 
 pub returns-clause-enters : goal.returns-clause-enters
 returns-clause-enters g c = λ r is_record hashed numbered sized stored.
@@ -26,28 +22,25 @@ returns-clause-enters g c = λ r is_record hashed numbered sized stored.
     let k = c.reserve.ensures in
     let same = k.same in
     let now = c.push.new.self in
-    let tag = c.tag.ensures in
-    let all = same_then m.roll c.tag.new.self c.reserve.new.self tag.same same in
-    let tagged : c.reserve.new.self.tagged ≡ true → c.args.sought ≡ second_hash r.key = λ e. elim (tag.tagged (sym k.tagged ∙ e)) [ inl was ↦ numbered.tagged was | inr none ↦ numbered.first none ] in
-    let number = number_is c.reserve.new.self.tagged r.key c.args.hash c.args.sought hashed tagged in
-    entered m _ c.reserve.new.self r all is_record c.requires.whole c.requires.whole
+    let number = number_is c.reserve.new.self.tagged r.key c.args.hash c.args.sought hashed (λ e. numbered (sym k.tagged ∙ e)) in
+    entered m _ c.reserve.new.self r same is_record c.requires.whole c.requires.whole
     (c.push.ensures.hashes ∙ ap (λ (v : ℕ). c.reserve.new.self.hashes.items ++ v ∷ []) hashed) c.push.ensures.tagged (c.push.ensures.searched ∙ ap (λ (v : ℕ). searched c.reserve.new.self ++ v ∷ []) number)
     (λ sizes of. subst (λ (n : ℕ). AreOf (head_size w) (places_in now.places) now.end (sizes ++ n ∷ [])) sized (c.push.ensures.of sizes of))
-    (c.push.ensures.gone ∙ ap (λ v. gone_of v ++ false ∷ []) (k.marks ∙ ap (λ v. v.items) tag.marks))
-    (omega (arith, c.push.ensures.end, all.end, sized))
-    (c.push.ensures.count ∙ ap (λ q. q.count) (k.gone ∙ tag.gone))
-    (c.push.ensures.size ∙ ap (λ q. q.size) (k.gone ∙ tag.gone))
+    (c.push.ensures.gone ∙ ap (λ v. gone_of v ++ false ∷ []) k.marks)
+    (omega (arith, c.push.ensures.end, same.end, sized))
+    (c.push.ensures.count ∙ ap (λ q. q.count) k.gone)
+    (c.push.ensures.size ∙ ap (λ q. q.size) k.gone)
     refl refl stored
 
 pub invariant_of-self-2-clause-inside : goal.invariant_of-self-2-clause-inside
-invariant_of-self-2-clause-inside g c = omega (arith, c.push.ensures.end, c.reserve.ensures.same.end, c.tag.ensures.same.end, c.requires.inside)
+invariant_of-self-2-clause-inside g c = omega (arith, c.push.ensures.end, c.reserve.ensures.same.end, c.requires.inside)
 
 pub invariant_of-self-2-clause-within : goal.invariant_of-self-2-clause-within
 invariant_of-self-2-clause-within g c =
     let m = c.args.self.now in
     let w : ℕ = g.L.Width.WORD in
     let n : ℕ = length m.roll.hashes.items in
-    let same = same_then m.roll c.tag.new.self c.reserve.new.self c.tag.ensures.same c.reserve.ensures.same in
+    let same = c.reserve.ensures.same in
     let len : length c.push.new.self.hashes.items ≡ n + 1 = ap length c.push.ensures.hashes ∙ length_push c.reserve.new.self.hashes.items c.args.hash ∙ ap (λ (v : List ℕ). length v + 1) same.hashes in
     let all : 4 * w * length c.push.new.self.hashes.items ≡ 4 * w * (n + 1) = ap (λ (v : ℕ). 4 * w * v) len in
     omega (arith, all, more_slots w n g.met.L.Width.four_or_eight, c.requires.within, c.push.ensures.end, same.end)
@@ -55,7 +48,7 @@ invariant_of-self-2-clause-within g c =
 pub invariant_of-self-2-clause-eager : goal.invariant_of-self-2-clause-eager
 invariant_of-self-2-clause-eager g c = λ eager whole.
     let m = c.args.self.now in
-    none_more (gone_of m.roll.marks.items) (gone_of c.push.new.self.marks.items) (c.push.ensures.gone ∙ ap (λ v. gone_of v ++ false ∷ []) (c.reserve.ensures.marks ∙ ap (λ v. v.items) c.tag.ensures.marks)) (m.eager eager whole)
+    none_more (gone_of m.roll.marks.items) (gone_of c.push.new.self.marks.items) (c.push.ensures.gone ∙ ap (λ v. gone_of v ++ false ∷ []) c.reserve.ensures.marks) (m.eager eager whole)
 
 pub returns-clause-gone : goal.returns-clause-gone
 returns-clause-gone g c = grind (arith, common_steps)
@@ -66,13 +59,12 @@ push-requires-clause-room g c = grind (arith, common_steps)
 pub invariant_of-self : goal.invariant_of-self
 invariant_of-self g c =
     let m = c.args.self.now in
-    let t = c.tag.ensures in
     let k = c.reserve.ensures in
     record {
-      inside = omega (arith, k.same.end, t.same.end, m.inside);
-      within = omega (arith, k.same.end, t.same.end, ap (λ (v : List ℕ). 4 * g.L.Width.WORD * length v) (k.same.hashes ∙ t.same.hashes), m.within);
+      inside = omega (arith, k.same.end, m.inside);
+      within = omega (arith, k.same.end, ap (λ (v : List ℕ). 4 * g.L.Width.WORD * length v) k.same.hashes, m.within);
       limited = m.limited;
       told = m.told;
-      eager = λ eager whole. subst (λ v. AreNone (gone_of v)) (sym (k.marks ∙ ap (λ v. v.items) t.marks)) (m.eager eager whole);
-      spare = λ whole. omega (arith, m.spare whole, ap (λ q. q.size) (k.gone ∙ t.gone), k.same.end, t.same.end);
+      eager = λ eager whole. subst (λ v. AreNone (gone_of v)) (sym k.marks) (m.eager eager whole);
+      spare = λ whole. omega (arith, m.spare whole, ap (λ q. q.size) k.gone, k.same.end);
     }

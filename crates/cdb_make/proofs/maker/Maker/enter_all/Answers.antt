@@ -97,9 +97,10 @@ loop-preserved g c =
     record {
       first = first_more w bytes k place c.first_record-first.result.size some are i.first is (omega arith);
       entered = subst (λ (v : List KeyValue). Enters m c.enter.new.self v) (sym cut.1)
-          (enters_more m c.loop.self c.enter.new.self (take k all) r i.entered (e.enters r (prefix_is_record w (drop place bytes) (AreBytes-drop place bytes are)) hashed numbered sized stored));
+          (enters_more m c.loop.self c.enter.new.self (take k all) r i.entered (e.enters r (prefix_is_record w (drop place bytes) (AreBytes-drop place bytes are)) hashed numbered.tagged sized stored));
       store = c.enter.ensures.store ∙ i.store;
       lazy = c.enter.ensures.lazy ∙ i.lazy;
+      tagged = c.enter.ensures.tagged ∙ i.tagged;
     }
 
 pub returns-clause-ok : goal.returns-clause-ok

@@ -9,4 +9,5 @@ invariant-loop g l = record {
   entered : Enters l.fn.self l.self (take l.counter (records_at g.L.Width.WORD l.bytes));
   store : l.self.store ≡ l.fn.self.store;
   lazy : l.self.lazy ≡ l.fn.self.lazy;
+  tagged : l.self.roll.tagged ≡ l.fn.self.roll.tagged;
 }

@@ -2,10 +2,9 @@ use Rattle.std.proofs.lemmas.Grind.{common_steps}
 use Rattle.std.proofs.Common.{refl, ap, ◌∙◌, rules, arith}
 use Rattle.std.proofs.lemmas.Result.{err_from_is_err_and}
 use Rattle.cdb_store.proofs.Reading.{reads_more, reads_nothing}
-use Rattle.cdb_make.proofs.Callers.{follows_same}
 use Rattle.cdb_make.proofs.Rolls.{follows_then}
 use Rattle.cdb_read.specs.Views.Walk.{left_of}
-use Rattle.cdb_tool.proofs.BaseRecords.{added_none, added_next, added_all, added_not}
+use Rattle.cdb_tool.proofs.BaseRecords.{added_start, none_stopped, added_next, added_all, added_not}
 use Rattle.cdb_tool.proofs.MakerSteps.{step_failed}
 use Rattle.cdb_tool.proofs.runs.make_base.add_records.Goals as goal
 
@@ -15,10 +14,15 @@ loop-room-init g c =
     record {
       same = refl;
       reads = reads_nothing {s = g.B.Store} _ _ (ap (λ r. r.store) e.reader);
-      added = rw e.reader (added_none {s = g.S.Store} {l = g.L.Width} _ _ _ c.args.maker.now e.walks);
-      follows = follows_same {s = g.S.Store} {l = g.L.Width} c.args.maker.now;
-      fine = refl;
+      added = rw e.reader (added_start {s = g.S.Store} {l = g.L.Width} _ _ _ c.args.maker.now c.append.new.self _ c.in_ok-append.ensures.ok e.walks);
+      follows = c.append.ensures.follows;
+      fine = c.in_ok-append.ensures.ok.failures;
     }
+
+pub returns-in_err-append-clause-fails : goal.returns-in_err-append-clause-fails
+returns-in_err-append-clause-fails g c = λ none.
+    let p = err_from_is_err_and c.from_residual-in_err-append.result c.from_residual-in_err-append.ensures.1 in
+    rw (p.1, p.2) (λ b i. none_stopped {s = g.S.Store} {l = g.L.Width} c.args.maker.now c.append.new.self _ c.in_err-append.ensures.fails none b)
 
 pub loop-room-preserved : goal.loop-room-preserved
 loop-room-preserved g c =
