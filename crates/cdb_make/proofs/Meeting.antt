@@ -25,7 +25,7 @@ use Rattle.cdb_make.specs.Rolls.{Sees}
 use Rattle.cdb_make.specs.Spans.{left, picked, number, behind, or_each}
 use Rattle.cdb_make.specs.Survivors.{has_key, is_there, count_of, behind_first, put_list, put_answer}
 use Rattle.cdb_make.specs.Views.Roll.{searched, HasRoom}
-use Rattle.cdb_make.specs.Views.Maker.{gone_in, found_in, Holds, Rests, Stays, Seeks, Meets, Settles, Puts, Follows, IsOver, IsWithin, IsTooBig, WouldPut, WantsRoom, OnlyAdds, PassesRoom, DoesNothing, WritesNothing, HasFailedToWrite, HasNotFailed, HasStoreFailed, HasGone, HasGoneOr, IsTorn, IsMarked, IsHalfway, FailsSettling, FailsPutting, IsAlone, IsShort, put_bytes, lone_bytes, goes_with, is_present}
+use Rattle.cdb_make.specs.Views.Maker.{gone_in, found_in, Holds, Rests, Stays, Seeks, Meets, Settles, Puts, Follows, IsOver, IsWithin, IsTooBig, WouldPut, WantsRoom, OnlyAdds, PassesRoom, DoesNothing, WritesNothing, HasFailedToWrite, HasNotFailed, HasStoreFailed, HasGone, HasGoneOr, HasKey, IsAnswerTo, FailsLater, IsTorn, WhereHonest, IsMarked, IsHalfway, FailsSettling, FailsPutting, IsAlone, IsShort, put_bytes, lone_bytes, goes_with, is_present}
 use Rattle.cdb_make.proofs.Ends.{end_passed}
 use Rattle.cdb_make.proofs.Finishing.{gone_lazy}
 use Rattle.cdb_make.proofs.Looking.{same_back, same_self, sees_long, sees_same}
@@ -353,31 +353,36 @@ only_adds i j k hash mode r put np m follows zero = λ rs h. record {
       e.adds np ∙ ap (λ (v : List Bool). left v e.all ++ r ∷ []) (or_none (gone_in j) (found_in j) (same_marks j.roll) none) ∙ ap (λ (v : List KeyValue). v ++ r ∷ []) (sym e.held);
 }
 
-torn_put : {S L : Type 0} {s : Ghosts S} {l : Widths L} (i j k : Maker S L s l) (hash : ℕ) (mode : Mode) (r : KeyValue) (put : Put) → Meets i j hash mode r put → Follows j k → k.broken ≡ true → HasStoreFailed j k → 0 < j.roll.gone.count + j.roll.found.count → IsMarked k ⊎ (0 < j.roll.found.count) → IsTorn i k (HasGoneOr i r.key) × (HasGone i ⊎ (mode ≡ Replace)) × IsHalfway i k mode r
-torn_put {s = s} i j k hash mode r put m follows torn failed some half =
+failed_later : {S L : Type 0} {s : Ghosts S} {l : Widths L} (i j k : Maker S L s l) → Rests i j → HasFailedToWrite j k → HasFailedToWrite i k
+failed_later i j k rests h = record { failed = omega (arith, h.failed, rests.reads.failures); unwritten = omega (arith, h.unwritten, rests.reads.unwritten) }
+
+torn_put : {S L : Type 0} {s : Ghosts S} {l : Widths L} (i j k : Maker S L s l) (hash : ℕ) (mode : Mode) (r : KeyValue) (put : Put) → Meets i j hash mode r put → HasNotFailed i j → Follows j k → k.broken ≡ true → HasStoreFailed j k → 0 < j.roll.gone.count + j.roll.found.count → IsMarked k ⊎ ((0 < j.roll.found.count) × HasFailedToWrite j k)
+    → IsTorn i k (HasGoneOr i r.key) (IsAnswerTo mode r) (IsHalfway i k mode r) × (HasGone i ⊎ (mode ≡ Replace))
+torn_put {s = s} i j k hash mode r put m fine follows torn failed some half =
     let fails : HasStoreFailed i k = omega (arith, failed, m.rests.reads.failures) in
+    let later : FailsLater i k (IsAnswerTo mode r) = record { read = j.store; reads = m.rests.reads; fine = fine; answer = put; known = λ rs h. record { each = λ b is. (m.each rs h b is).answers }; later = failed } in
+    let there : 0 < j.roll.found.count → (rs : List KeyValue) → Holds i rs → WhereHonest (s.image k.store) (HasKey r.key rs) = λ found rs h. record { each = λ b is. (let a = follows.comes.each b is in (m.each rs h a.0 a.1).there found) } in
+    let begun : IsHalfway i k mode r = elim half [ inl marked ↦ inl marked | inr lost ↦ inr (m.replaces lost.0, failed_later i j k m.rests lost.1, there lost.0) ] in
     elim (cases_lt 0 j.roll.found.count) [
       | inl found ↦ (
         record {
           was = m.rests.was;
           broken = torn;
           failed = fails;
-          found = λ rs h. record { each = λ b is. inr (let a = follows.comes.each b is in (m.each rs h a.0 a.1).there found) };
+          found = λ rs h. record { each = λ b is. inr ((there found rs h).each b is) };
+          later = later;
+          begun = begun;
         },
         inr (m.replaces found),
-        inr (m.replaces found, λ rs h. record { each = λ b is. (let a = follows.comes.each b is in (m.each rs h a.0 a.1).there found) }),
       )
       | inr le ↦
           let goes : 0 < i.roll.gone.count = omega (arith, some, le, ap (λ q. q.count) m.rests.picked) in
           let gone : HasGone i = (gone_lazy i m.rests.was goes, goes) in
-          (record { was = m.rests.was; broken = torn; failed = fails; found = λ rs h. record { each = λ b is. inl gone } }, inl gone, elim half [ inl marked ↦ inl marked | inr found ↦ absurd (omega (arith, found, le)) ])
+          (record { was = m.rests.was; broken = torn; failed = fails; found = λ rs h. record { each = λ b is. inl gone }; later = later; begun = begun }, inl gone)
     ]
 
 nothing_put : {S L : Type 0} {s : Ghosts S} {l : Widths L} (i j k : Maker S L s l) (hash : ℕ) (mode : Mode) (r : KeyValue) (put : Put) → Meets i j hash mode r put → DoesNothing j k → WritesNothing i k
 nothing_put i j k hash mode r put m h = record { stays = record { was = m.rests.was; whole = h.stays.broken ∙ m.rests.whole; holds = held_still i j k m.rests h.stays }; written = h.written ∙ m.rests.reads.written }
-
-failed_later : {S L : Type 0} {s : Ghosts S} {l : Widths L} (i j k : Maker S L s l) → Rests i j → HasFailedToWrite j k → HasFailedToWrite i k
-failed_later i j k rests h = record { failed = omega (arith, h.failed, rests.reads.failures); unwritten = omega (arith, h.unwritten, rests.reads.unwritten) }
 
 pub put_fails : {S L : Type 0} {s : Ghosts S} {l : Widths L} (i j k : Maker S L s l) (hash : ℕ) (mode : Mode) (r : KeyValue) (put : Put) (fault : MakeFault) → (l.WORD ≡ 4) ⊎ (l.WORD ≡ 8) → is_present put ≡ false → Meets i j hash mode r put → HasNotFailed i j → Follows j k → FailsSettling j k r fault → FailsPutting i k mode r fault
 put_fails i j k hash mode r put Broken w np m fine follows h = absurd h
@@ -396,7 +401,7 @@ put_fails i j k hash mode r put Writing w np m fine follows h =
         would,
       )
       | inr t ↦ elim t [
-        | inl u ↦ (inr (torn_put i j k hash mode r put m follows u.0 u.1 u.2 u.3), would)
+        | inl u ↦ (inr (torn_put i j k hash mode r put m fine follows u.0 u.1 u.2 u.3), would)
         | inr u ↦ (
           inl (
             record {

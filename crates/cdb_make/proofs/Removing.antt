@@ -1,6 +1,6 @@
 -- Records of a key, found and taken out.
 use Rattle.std.proofs.Common.{◌≡◌, ℕ, suc, ◌+◌, ◌<◌, ◌≤◌, Bool, true, false, cond, List, [], ◌∷◌, length, map, refl, sym, ap, subst, ◌∙◌, arith, sum_by, inl, inr}
-use Rattle.std.specs.Prelude.{sum, Result, Ok, Err, IfErr}
+use Rattle.std.specs.Prelude.{sum, Result, Ok, Err, IfErr, OnErr}
 use Rattle.std.specs.Result.{IsErrAnd}
 use Rattle.std.proofs.lemmas.List.{length-map}
 use Rattle.std.proofs.lemmas.List.Sums.{sum_by-cons}
@@ -8,6 +8,7 @@ use Rattle.cdb_store.specs.declared.store.Store.{Ghosts}
 use Rattle.cdb_form.specs.declared.width.Width.{Ghosts as Widths}
 use Rattle.cdb_form.specs.Format.Record.{KeyValue, record_size}
 use Rattle.cdb_store.specs.declared.make_fault.MakeFault.{MakeFault}
+use Rattle.cdb_store.specs.declared.make_fault.MakeFault.TheVariants.{Writing}
 use Rattle.cdb_make.specs.declared.maker.Maker.{Maker}
 use Rattle.cdb_make.specs.Marks.{is_gone, gone_of, AreNone, found_of, taken}
 use Rattle.cdb_make.specs.declared.mark.Mark.{Mark}
@@ -15,7 +16,7 @@ use Rattle.cdb_make.specs.declared.roll.Roll.{Roll}
 use Rattle.cdb_make.specs.Rolls.{Sees, fresh}
 use Rattle.cdb_make.specs.Spans.{left, behind, or_each, number, picked}
 use Rattle.cdb_make.specs.Survivors.{has_key, count_of, without, behind_first}
-use Rattle.cdb_make.specs.Views.Maker.{gone_in, found_in, Holds, Seeks, TakesOut, Tears, Removes, FailsRemoving, Follows}
+use Rattle.cdb_make.specs.Views.Maker.{gone_in, found_in, Holds, Seeks, TakesOut, Tears, Removes, FailsRemoving, Follows, HasStoreFailed, IsMarked}
 use Rattle.cdb_make.proofs.Looking.{sees_long, sees_same, same_back}
 use Rattle.cdb_make.proofs.Picking.{left_all_stay, sum-cons, gone_taken, picked_taken}
 use Rattle.cdb_make.proofs.Rolls.{taken_out}
@@ -202,4 +203,11 @@ remove_fails i j k hash n key (Err v) f some h follows t e = subst (FailsRemovin
   broken = t.broken;
   failed = omega (arith, t.failed, h.rests.reads.failures);
   found = λ rs holds. record { each = λ b is. (let a = follows.comes.each b is in let q = sought i j hash n key rs a.0 h holds a.1 in some_there key rs (omega (arith, some, q.count))) };
+  later = record { read = j.store; reads = h.rests.reads; fine = h.fine; answer = n; known = λ rs holds. record { each = λ b is. (sought i j hash n key rs b h holds is).count }; later = t.failed };
+  begun = t.marked;
 })
+
+-- a pass that failed leaves the marks
+pub tears_by : {S L T : Type 0} {s : Ghosts S} {l : Widths L} (i j : Maker S L s l) (r : Result T MakeFault) → IfErr r (λ f. f ≡ Writing) → OnErr r (j.broken ≡ true) → OnErr r (HasStoreFailed i j) → OnErr r (IsMarked j) → IfErr r (Tears i j)
+tears_by i j (Ok v) fault torn failed marked = tt
+tears_by i j (Err f) fault torn failed marked = record { is = fault; broken = torn; failed = failed; marked = marked }

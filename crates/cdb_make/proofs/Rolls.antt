@@ -308,7 +308,11 @@ closing_fails {s = s} i j k n r Writing roll images roll₁ store failures unwri
     elim h [
       | inl t ↦ inl (torn t.0, omega (arith, t.1, failures, same), inl (omega (arith, t.2, ap (λ v. v.gone.count) roll₁)))
       | inr w ↦ elim (cases_lt 0 i.roll.found.count) [
-        | inl some ↦ inl (lost some, omega (arith, w.2.failed, failures, same), inr some)
+        | inl some ↦ inl (
+          lost some,
+          omega (arith, w.2.failed, failures, same),
+          inr (some, record { failed = omega (arith, w.2.failed, failures, same); unwritten = omega (arith, w.2.unwritten, unwritten, same₁) }),
+        )
         | inr le ↦
             let zero₁ : i.roll.found.count ≡ 0 = omega (arith, le) in
             inr (

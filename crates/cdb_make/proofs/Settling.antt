@@ -163,7 +163,13 @@ fails_after {s = s} i j k r Writing w room unwritten fits some h = (
       t.0,
       omega (arith, t.1, w.fine),
       omega (arith, some, ap (λ q. q.count) w.stays.gone, ap (λ q. q.count) w.stays.found),
-      elim t.2 [ inl marked ↦ inl marked | inr found ↦ inr (omega (arith, found, ap (λ q. q.count) w.stays.found)) ],
+      elim t.2 [
+        | inl marked ↦ inl marked
+        | inr lost ↦ inr (
+          omega (arith, lost.0, ap (λ q. q.count) w.stays.found),
+          record { failed = omega (arith, lost.1.failed, w.fine); unwritten = omega (arith, lost.1.unwritten, unwritten) },
+        )
+      ],
     )
     | inr t ↦ inr (
       t.0,

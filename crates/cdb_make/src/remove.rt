@@ -45,6 +45,7 @@ impl<S: Store, L: Width> Maker<S, L> {
     fn take_out(&mut self, sought: u32) -> Result<(), MakeFault>
         requires whole { self.old.broken ≡ false }
         requires have { HaveHash sought (searched self.old.roll) self.old.roll.marks.items }
+        requires some { 0 < self.old.roll.gone.count + self.old.roll.found.count }
         ensures takes { OnOk result (TakesOut self.old self.new) }
         ensures fails { IfErr result (Tears self.old self.new) }
         ensures fine { OnOk result (HasNotFailed self.old self.new) }

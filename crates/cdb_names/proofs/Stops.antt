@@ -1,6 +1,7 @@
 -- Why nothing was built, by the last answer.
 use Rattle.std.proofs.Common.{◌≡◌, ◌⊎◌, ◌∙◌, ℕ, inl, inr, List, [], ◌∷◌, ◌++◌, ap, append_assoc, refl, subst, sym}
 use Rattle.std.specs.Prelude.{None, Option, Some}
+use Rattle.std.specs.List.{AllByRecursion}
 use Rattle.cdb_names.specs.declared.answer.Answer.{Answer}
 use Rattle.cdb_names.specs.declared.answer.Answer.TheVariants.{Yes, Unknown}
 use Rattle.cdb_names.specs.declared.answer.Answer.TheVariants as answer
@@ -17,7 +18,7 @@ use Rattle.cdb_store.specs.Calls.{Calls}
 use Rattle.cdb_store.specs.declared.trace.Call.TheVariants.{Made as FileMade}
 use Rattle.cdb_names.specs.Folder.{NameCalls, IsCleared, WereSeen}
 use Rattle.cdb_names.specs.Wanted.{plain_bits}
-use Rattle.cdb_names.specs.Replacing.{AreSteps, FailsRename, GoesOn, IsFound, IsFree, IsNotGiven, IsStop, IsUndoing, LacksBits, LacksMemoryForLock, NameEvent, ReplacingStopsAt, StopsMaking, StopsUnbuilt, TakesLock, of_open}
+use Rattle.cdb_names.specs.Replacing.{AreSteps, FailsRename, GoesOn, IsAtHand, IsFound, IsFree, IsNotGiven, IsStop, IsUndoing, IsUnmade, MakesNone, LacksBits, LacksMemoryForLock, NameEvent, ReplacingStopsAt, StopsMaking, StopsUnbuilt, TakesLock, of_open}
 
 -- ---- calls that go on
 
@@ -34,22 +35,45 @@ further old mid new on more =
 pub steps_go_on : {t n : List ℕ} {whole : List ℕ → Type 0} {old new : NameCalls} → AreSteps t n whole old new → GoesOn old new
 steps_go_on are = (are.since, are.calls)
 
+-- the same of calls that made no file under a name
+pub none_made : (t : List ℕ) (calls : NameCalls) → IsUnmade t calls calls
+none_made t calls = ([], refl, tt)
+
+pub one_unmade : (t : List ℕ) (old mid new : NameCalls) (call : NameEvent) → MakesNone t call → IsUnmade t old mid → new ≡ call ∷ mid → IsUnmade t old new
+one_unmade t old mid new call none (since, are, each) is = (call ∷ since, is ∙ ap (λ cs. call ∷ cs) are, (none, each))
+
+unmade_goes : (t : List ℕ) (old calls : NameCalls) → IsUnmade t old calls → GoesOn old calls
+unmade_goes t old calls (since, are, each) = (since, are)
+
+neither_made : (t : List ℕ) (more since : NameCalls) → AllByRecursion (MakesNone t) more → AllByRecursion (MakesNone t) since → AllByRecursion (MakesNone t) (more ++ since)
+neither_made t [] since each before = before
+neither_made t (call ∷ more) since each before = (each.0, neither_made t more since each.1 before)
+
+unmade_further : (t : List ℕ) (old mid new : NameCalls) → IsUnmade t old mid → IsUnmade t mid new → IsUnmade t old new
+unmade_further t old mid new on more =
+    (more.0 ++ on.0, more.1 ∙ ap (λ cs. more.0 ++ cs) on.1 ∙ sym (append_assoc more.0 on.0 old), neither_made t more.0 on.0 more.2 on.2)
+
 -- what ended since some calls ended since earlier ones too
-pub found_since : (t : List ℕ) (old mid calls : NameCalls) → GoesOn old mid → IsFound t mid calls → IsFound t old calls
-found_since t old mid calls on is = (is.0, further old mid is.0 on is.1, is.2)
+found_since : (t : List ℕ) (old mid calls : NameCalls) → IsUnmade t old mid → IsFound t mid calls → IsFound t old calls
+found_since t old mid calls on is = (is.0, unmade_further t old mid is.0 on is.1, is.2)
 
 pub free_since : (t : List ℕ) (old mid calls : NameCalls) → GoesOn old mid → IsFree t mid calls → IsFree t old calls
 free_since t old mid calls on is = (is.0, further old mid is.0 on is.1, is.2)
 
-stop_since : (t n : List ℕ) (old mid before : NameCalls) (stop : NameEvent) → GoesOn old mid → IsStop t n mid stop before → IsStop t n old stop before
+hand_since : (t : List ℕ) (old mid calls : NameCalls) → IsUnmade t old mid → IsAtHand t mid calls → IsAtHand t old calls
+hand_since t old mid calls on (before, inl (unmade, is)) = (before, inl (unmade_further t old mid before on unmade, is))
+hand_since t old mid calls on (before, inr (free, made)) = (before, inr (free_since t old mid before (unmade_goes t old mid on) free, made))
+
+stop_since : (t n : List ℕ) (old mid before : NameCalls) (stop : NameEvent) → IsUnmade t old mid → IsStop t n mid stop before → IsStop t n old stop before
 stop_since t n old mid before (Same answer.Yes, one, two, file) on is = (is.0, is.1, found_since t old mid before on is.2)
 stop_since t n old mid before (Same answer.Unknown, one, two, file) on is = (is.0, is.1, found_since t old mid before on is.2)
-stop_since t n old mid before (NotMade Failed, one, two, file) on is = (is.0, free_since t old mid before on is.1)
-stop_since t n old mid before (Special answer.Unknown, one, two, file) on is = is
-stop_since t n old mid before (Looked found.Other, one, two, file) on is = is
-stop_since t n old mid before (Looked found.Unknown, one, two, file) on is = is
-stop_since t n old mid before (NotOpened Failed, one, two, file) on is = is
-stop_since t n old mid before (Locked locking.Held, one, two, file) on is = is
+stop_since t n old mid before (NotMade Failed, one, two, file) on is = (is.0, free_since t old mid before (unmade_goes t old mid on) is.1)
+stop_since t n old mid before (Special answer.Unknown, one, two, file) on is = (is.0, unmade_further t old mid before on is.1)
+stop_since t n old mid before (Bits None, one, two, file) on is = (is.0, unmade_further t old mid before on is.1)
+stop_since t n old mid before (Looked found.Other, one, two, file) on is = (is.0, unmade_further t old mid before on is.1)
+stop_since t n old mid before (Looked found.Unknown, one, two, file) on is = (is.0, unmade_further t old mid before on is.1)
+stop_since t n old mid before (NotOpened Failed, one, two, file) on is = (is.0, unmade_further t old mid before on is.1)
+stop_since t n old mid before (Locked locking.Held, one, two, file) on is = (is.0, hand_since t old mid before on is.1)
 stop_since t n old mid before (Special answer.Yes, one, two, file) on is = absurd is
 stop_since t n old mid before (Special answer.No, one, two, file) on is = absurd is
 stop_since t n old mid before (Same answer.No, one, two, file) on is = absurd is
@@ -63,7 +87,6 @@ stop_since t n old mid before (Opened, one, two, file) on is = absurd is
 stop_since t n old mid before (Made asked, one, two, file) on is = absurd is
 stop_since t n old mid before (Own said, one, two, file) on is = absurd is
 stop_since t n old mid before (Input said, one, two, file) on is = absurd is
-stop_since t n old mid before (Bits None, one, two, file) on is = is
 stop_since t n old mid before (Bits (Some wanted), one, two, file) on is = absurd is
 stop_since t n old mid before (Seen bits, one, two, file) on is = absurd is
 stop_since t n old mid before (Set bits, one, two, file) on is = absurd is
@@ -74,17 +97,17 @@ stop_since t n old mid before (NotRenamed len fault, one, two, file) on is = abs
 stop_since t n old mid before (Synced, one, two, file) on is = absurd is
 stop_since t n old mid before (NotSynced, one, two, file) on is = absurd is
 
-making_since : (t n : List ℕ) (old mid new : NameCalls) → GoesOn old mid → StopsMaking t n mid new → StopsMaking t n old new
+making_since : (t n : List ℕ) (old mid new : NameCalls) → IsUnmade t old mid → StopsMaking t n mid new → StopsMaking t n old new
 making_since t n old mid new on (stop, before, since, inl (is, are)) =
-    (stop, before, further old mid before on since, inl (stop_since t n old mid before stop on is, are))
-making_since t n old mid new on (stop, before, since, inr undone) = (stop, before, further old mid before on since, inr undone)
+    (stop, before, further old mid before (unmade_goes t old mid on) since, inl (stop_since t n old mid before stop on is, are))
+making_since t n old mid new on (stop, before, since, inr undone) = (stop, before, further old mid before (unmade_goes t old mid on) since, inr undone)
 
-memory_since : (t : List ℕ) (old mid new : NameCalls) → GoesOn old mid → LacksMemoryForLock t mid new → LacksMemoryForLock t old new
-memory_since t old mid new on (before, since, inl is) = (before, further old mid before on since, inl is)
-memory_since t old mid new on (before, since, inr (is, free)) =
-    (before, further old mid before on since, inr (is, free_since t old mid before on free))
+memory_since : (t : List ℕ) (old mid new : NameCalls) → IsUnmade t old mid → LacksMemoryForLock t mid new → LacksMemoryForLock t old new
+memory_since t old mid new on (before, inl (is, unmade)) = (before, inl (is, unmade_further t old mid before on unmade))
+memory_since t old mid new on (before, inr (is, free)) =
+    (before, inr (is, free_since t old mid before (unmade_goes t old mid on) free))
 
-pub stops_since : {E : Type 0} (t n : List ℕ) (old mid new : NameCalls) (fault : ReplaceFault E) → GoesOn old mid → ReplacingStopsAt t n mid new fault → ReplacingStopsAt t n old new fault
+pub stops_since : {E : Type 0} (t n : List ℕ) (old mid new : NameCalls) (fault : ReplaceFault E) → IsUnmade t old mid → ReplacingStopsAt t n mid new fault → ReplacingStopsAt t n old new fault
 stops_since t n old mid new replacing.Open on stops = making_since t n old mid new on stops
 stops_since t n old mid new replacing.NoMemory on stops = memory_since t old mid new on stops
 stops_since t n old mid new replacing.Rename on stops = absurd stops
@@ -123,21 +146,33 @@ rename_since t n old mid new fault on (len, file, before, since, is) = (len, fil
 
 -- ---- why it stopped
 
+-- the calls before a free name go on too
+pub free_goes_on : (t : List ℕ) (old calls : NameCalls) → IsFree t old calls → GoesOn old calls
+free_goes_on t old calls (before, on, inl is) = one_more old before calls _ on is
+free_goes_on t old calls (before, on, inr cleared) = one_more old before calls _ on cleared.1.2
+
 -- the old file was not opened
 pub not_opened : (E : Type 0) (t n : List ℕ) (old new : NameCalls) (fault : NameFault) → new ≡ (NotOpened fault, t, [], []) ∷ old
     → ReplacingStopsAt t n old new (of_open {E = E} fault)
-not_opened E t n old new Failed is = ((NotOpened Failed, t, [], []), old, no_more old, inl (refl, is))
-not_opened E t n old new NoMemory is = (old, no_more old, inl is)
+not_opened E t n old new Failed is = ((NotOpened Failed, t, [], []), old, no_more old, inl ((refl, none_made t old), is))
+not_opened E t n old new NoMemory is = (old, inl (is, none_made t old))
 
 -- no file was made
 pub not_made : (E : Type 0) (t n : List ℕ) (old mid new : NameCalls) (fault : NameFault) → GoesOn old mid → IsFree t old mid
     → new ≡ (NotMade fault, t, [], []) ∷ mid → ReplacingStopsAt t n old new (of_open {E = E} fault)
 not_made E t n old mid new Failed on free is = ((NotMade Failed, t, [], []), mid, on, inl ((refl, free), is))
-not_made E t n old mid new NoMemory on free is = (mid, on, inr (is, free))
+not_made E t n old mid new NoMemory on free is = (mid, inr (is, free))
 
--- another process holds it
-pub is_held : (t n : List ℕ) (old mid new : NameCalls) → GoesOn old mid → new ≡ (Locked Held, t, [], []) ∷ mid → StopsMaking t n old new
-is_held t n old mid new on is = ((Locked Held, t, [], []), mid, on, inl (refl, is))
+-- another process holds the old file
+pub is_held : (t n : List ℕ) (old mid new : NameCalls) → mid ≡ (Opened, t, [], []) ∷ old → new ≡ (Locked Held, t, [], []) ∷ mid → StopsMaking t n old new
+is_held t n old mid new opened is =
+    ((Locked Held, t, [], []), mid, one_more old old mid _ (no_more old) opened, inl ((refl, (old, inl (none_made t old, opened))), is))
+
+-- or the one that was made
+pub made_held : (t n : List ℕ) (old free mid new : NameCalls) (asked : ℕ) → IsFree t old free → mid ≡ (Made asked, t, [], []) ∷ free → new ≡ (Locked Held, t, [], []) ∷ mid
+    → StopsMaking t n old new
+made_held t n old free mid new asked is made held =
+    ((Locked Held, t, [], []), mid, one_more old free mid _ (free_goes_on t old free is) made, inl ((refl, (free, inr (is, (asked, made)))), held))
 
 -- the old file may be that of the name
 pub may_be_it : (t n : List ℕ) (old mid new : NameCalls) (said : Answer) → GoesOn old mid → IsFound t old mid → (said ≡ Yes) ⊎ (said ≡ Unknown)
@@ -182,11 +217,6 @@ plain_seen t n bits shown file old made locked seen new some empty is takes sees
       are = gone.2;
       how = inl (takes.lock, old, three ∙ ap (λ cs. (Seen (Some bits), t, [], (FileMade, []) ∷ []) ∷ cs) one);
     }
-
--- the calls before a free name go on too
-pub free_goes_on : (t : List ℕ) (old calls : NameCalls) → IsFree t old calls → GoesOn old calls
-free_goes_on t old calls (before, on, inl is) = one_more old before calls _ on is
-free_goes_on t old calls (before, on, inr cleared) = one_more old before calls _ on cleared.1.2
 
 pub unbuilt : {E : Type 0} (t n : List ℕ) (old new : NameCalls) (fault : ReplaceFault E) → ReplacingStopsAt t n old new fault → StopsUnbuilt t n old new fault
 unbuilt t n old new replacing.Open stops = inr stops

@@ -16,7 +16,7 @@ use Rattle.cdb_names.specs.declared.answer.Found.TheVariants as found
 use Rattle.cdb_names.specs.declared.answer.Lock.{Lock}
 use Rattle.cdb_names.specs.declared.answer.Lock.TheVariants as locking
 use Rattle.cdb_names.specs.declared.name_trace.NameCall.TheVariants.{Special, Same, Looked}
-use Rattle.cdb_names.specs.declared.name_trace.NameCall.TheVariants.{NotOpened, Made, NotMade}
+use Rattle.cdb_names.specs.declared.name_trace.NameCall.TheVariants.{Opened, NotOpened, Made, NotMade}
 use Rattle.cdb_names.specs.declared.name_trace.NameCall.TheVariants.{Locked, Own, Bits, Seen}
 use Rattle.cdb_names.specs.declared.name_trace.NameCall.TheVariants.{Removed, NotRemoved}
 use Rattle.cdb_names.specs.declared.name_trace.NameCall.TheVariants.{Renamed, NotRenamed, Synced}
@@ -126,27 +126,50 @@ abbrev pub IsFree : (name : List ℕ) (old calls : NameCalls) → Type 0
 IsFree name old calls = (before : NameCalls) × GoesOn old before
     × ((calls ≡ (Looked found.Nothing, name, [], []) ∷ before) ⊎ HasCleared name before calls)
 
--- the last call, since the old ones, was a look that found a file
+-- a call that makes no file under a name
+abbrev pub MakesNone : (name : List ℕ) → NameEvent → Type 0
+MakesNone name (Made asked, one, other, file) = one ≢ name
+MakesNone name (call, one, other, file) = Unit {0}
+
+-- the calls go on from the old ones, and since these no file was made under a name
+abbrev pub IsUnmade : (name : List ℕ) (old calls : NameCalls) → Type 0
+IsUnmade name old calls =
+    (since : NameCalls) × (calls ≡ since ++ old) × AllByRecursion (MakesNone name) since
+
+-- and the last of them was a look that found a file
 abbrev pub IsFound : (name : List ℕ) (old calls : NameCalls) → Type 0
-IsFound name old calls = (before : NameCalls) × GoesOn old before
+IsFound name old calls = (before : NameCalls) × IsUnmade name old before
     × (calls ≡ (Looked found.File, name, [], []) ∷ before)
+
+-- the last call, since the old ones, opened the file of a name before one was made there, or made one
+-- once the name was free
+abbrev pub IsAtHand : (name : List ℕ) (old calls : NameCalls) → Type 0
+IsAtHand name old calls = (before : NameCalls)
+    × ((IsUnmade name old before × (calls ≡ (Opened, name, [], []) ∷ before))
+    ⊎ (IsFree name old before × ((asked : ℕ) × (calls ≡ (Made asked, name, [], []) ∷ before))))
 
 -- an answer at which nothing was made: the system did not say what a name has, or with which
 -- permission bits; or the two names are of one file, which was just found; or the temporary name has
--- no regular file, or one that cannot be opened or that another process holds; or no file could be
--- made there, once the name was free
+-- no regular file, or one that cannot be opened. Or no file could be made there, once the name was
+-- free; or another process holds the file that was just opened or made
 abbrev pub IsStop : (temporary name : List ℕ) (old : NameCalls) → NameEvent → (before : NameCalls)
     → Type 0
-IsStop temporary name old (Special answer.Unknown, one, other, file) before = one ≡ name
-IsStop temporary name old (Bits None, one, other, file) before = one ≡ name
+IsStop temporary name old (Special answer.Unknown, one, other, file) before =
+    (one ≡ name) × IsUnmade temporary old before
+IsStop temporary name old (Bits None, one, other, file) before =
+    (one ≡ name) × IsUnmade temporary old before
 IsStop temporary name old (Same answer.Yes, one, two, file) before =
     (one ≡ temporary) × (two ≡ name) × IsFound temporary old before
 IsStop temporary name old (Same answer.Unknown, one, two, file) before =
     (one ≡ temporary) × (two ≡ name) × IsFound temporary old before
-IsStop temporary name old (Looked found.Other, one, other, file) before = one ≡ temporary
-IsStop temporary name old (Looked found.Unknown, one, other, file) before = one ≡ temporary
-IsStop temporary name old (NotOpened name_fault.Failed, one, other, file) before = one ≡ temporary
-IsStop temporary name old (Locked locking.Held, one, other, file) before = one ≡ temporary
+IsStop temporary name old (Looked found.Other, one, other, file) before =
+    (one ≡ temporary) × IsUnmade temporary old before
+IsStop temporary name old (Looked found.Unknown, one, other, file) before =
+    (one ≡ temporary) × IsUnmade temporary old before
+IsStop temporary name old (NotOpened name_fault.Failed, one, other, file) before =
+    (one ≡ temporary) × IsUnmade temporary old before
+IsStop temporary name old (Locked locking.Held, one, other, file) before =
+    (one ≡ temporary) × IsAtHand temporary old before
 IsStop temporary name old (NotMade name_fault.Failed, one, other, file) before =
     (one ≡ temporary) × IsFree temporary old before
 IsStop temporary name old (call, one, other, file) before = ⊥
@@ -171,8 +194,9 @@ StopsMaking temporary name old calls = (stop : NameEvent) × (before : NameCalls
 
 -- the system had no memory for the temporary file, since the old calls
 abbrev pub LacksMemoryForLock : (temporary : List ℕ) (old calls : NameCalls) → Type 0
-LacksMemoryForLock temporary old calls = (before : NameCalls) × GoesOn old before
-    × ((calls ≡ (NotOpened name_fault.NoMemory, temporary, [], []) ∷ before)
+LacksMemoryForLock temporary old calls = (before : NameCalls)
+    × (((calls ≡ (NotOpened name_fault.NoMemory, temporary, [], []) ∷ before)
+    × IsUnmade temporary old before)
     ⊎ ((calls ≡ (NotMade name_fault.NoMemory, temporary, [], []) ∷ before)
     × IsFree temporary old before))
 

@@ -17,7 +17,7 @@ ghost use Rattle.cdb_names.specs.declared.replace.ReplaceFault.TheVariants.{
   Rename,
   Write,
 };
-ghost use Rattle.cdb_names.specs.Replacing.{AreOfReplacing, AreSteps, AtEachMoment, ClearsFile, EndsIn, FailsRename, FailsToBuild, FailsToSeal, IsFree, IsMadeApart, IsNoName, IsOfBuilder, IsReadyToBuild, IsRenamed, IsUndoing, LeavesNew, LeavesOldOrNew, RenamesFile, ReplacingStopsAt, StopsUnbuilt, TakesLock, BuilderTells, of_name, of_open, renames};
+ghost use Rattle.cdb_names.specs.Replacing.{AreOfReplacing, AreSteps, AtEachMoment, ClearsFile, EndsIn, FailsRename, FailsToBuild, FailsToSeal, IsFree, IsMadeApart, IsNoName, IsOfBuilder, IsReadyToBuild, IsRenamed, IsUndoing, IsUnmade, LeavesNew, LeavesOldOrNew, RenamesFile, ReplacingStopsAt, StopsUnbuilt, TakesLock, BuilderTells, of_name, of_open, renames};
 
 use crate::answer::{Answer, Found, Lock};
 use crate::name_fault::NameFault;
@@ -121,6 +121,7 @@ fn see_names<N: Names, E: Drop>(
         (N.calls names.new) }
     ensures plain { OnOk result (IsPlain name.now (N.calls names.new)) }
     ensures seen { IfOk result (λ wanted. SeesBits name.now wanted (N.calls names.new)) }
+    ensures unmade { IsUnmade temporary.now (N.calls names.old) (N.calls names.new) }
     ensures renames { renames (N.calls names.new) ≡ renames (N.calls names.old) }
     ensures err { IfErr result
         (StopsUnbuilt temporary.now name.now (N.calls names.old) (N.calls names.new)) }

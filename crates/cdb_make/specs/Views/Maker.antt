@@ -294,6 +294,7 @@ pub record Tears {S L : Type 0} {s : Ghosts S} {l : Widths L} (old new : Maker S
   pub is : fault ≡ Writing
   pub broken : new.broken ≡ true
   pub failed : HasStoreFailed old new
+  pub marked : IsMarked new
 
 -- it stays whole, and holds what it held
 pub record StaysWhole {S L : Type 0} {s : Ghosts S} {l : Widths L} (old new : Maker S L s l)
@@ -311,14 +312,28 @@ abbrev pub MakerKeepsAll : {S L : Type 0} {s : Ghosts S} {l : Widths L} → Make
     → Maker S L s l → Type 0
 MakerKeepsAll old new = (HasGone old → ⊥) → HasGone new → ⊥
 
--- it is broken, since its store failed amid a pass, in such a case
-pub record IsTorn {S L : Type 0} {s : Ghosts S} {l : Widths L} (old new : Maker S L s l)
-    (some : List KeyValue → Type 0) : Type 0 where
+-- its store failed only once it was read with no failure, and the call knew by that what to answer: so
+-- no failed look is among these failures
+pub record FailsLater {S L A : Type 0} {s : Ghosts S} {l : Widths L} (old new : Maker S L s l)
+    (answers : A → List KeyValue → Type 0) : Type 0 where
+  pub read : S
+  pub reads : OnlyReads s old.store read
+  pub fine : s.failures read ≡ s.failures old.store
+  pub answer : A
+  pub known : (rs : List KeyValue) → Holds old rs → WhereHonest (s.image read) (answers answer rs)
+  pub later : s.failures read < s.failures new.store
+
+-- it is broken, since its store failed in such a case: after all looks, and once it had gone so far
+pub record IsTorn {S L A : Type 0} {s : Ghosts S} {l : Widths L} (old new : Maker S L s l)
+    (some : List KeyValue → Type 0) (answers : A → List KeyValue → Type 0) (so_far : Type 0)
+    : Type 0 where
   pub was : old.broken ≡ false
   pub broken : new.broken ≡ true
   pub failed : HasStoreFailed old new
   pub found : (rs : List KeyValue) → Holds old rs
       → WhereHonest (s.image new.store) (some rs)
+  pub later : FailsLater old new answers
+  pub begun : so_far
 
 -- some have the key, or go with a later pass
 abbrev pub HasKey : List ℕ → List KeyValue → Type 0
@@ -327,6 +342,13 @@ HasKey key rs = is_there key rs ≡ true
 abbrev pub HasGoneOr : {S L : Type 0} {s : Ghosts S} {l : Widths L} → Maker S L s l → List ℕ
     → List KeyValue → Type 0
 HasGoneOr m key rs = HasGone m ⊎ HasKey key rs
+
+-- so many have the key; and a put of a record answers so
+abbrev pub IsCountOf : List ℕ → ℕ → List KeyValue → Type 0
+IsCountOf key count rs = count ≡ count_of key rs
+
+abbrev pub IsAnswerTo : Mode → KeyValue → Put → List KeyValue → Type 0
+IsAnswerTo mode r put rs = put ≡ put_answer mode r rs
 
 -- which of these records go after a put of a key, if these go before it
 abbrev pub goes_with : Mode → List ℕ → List Bool → List KeyValue → List Bool
@@ -373,7 +395,7 @@ abbrev pub FailsRemoving : {S L : Type 0} {s : Ghosts S} {l : Widths L} → Make
     → Maker S L s l → List ℕ → MakeFault → Type 0
 FailsRemoving old new key Broken = IsBroken old new
 FailsRemoving old new key Lookup = Rests old new × HasStoreFailed old new
-FailsRemoving old new key Writing = IsTorn old new (HasKey key)
+FailsRemoving old new key Writing = IsTorn old new (HasKey key) (IsCountOf key) (IsMarked new)
 FailsRemoving old new key fault = ⊥
 
 -- one record more is noted behind the others, or none, since memory is wanted or the file with those
@@ -439,12 +461,13 @@ pub record DoesNothing {S L : Type 0} {s : Ghosts S} {l : Widths L} (old new : M
   pub fine : HasNotFailed old new
 
 -- what is left where records were to be taken out by a pass, and one was to be added. It is broken only
--- if the store failed amid the pass, or if records were found
+-- if the store failed amid the pass, or if records were found and a write failed
 abbrev pub FailsClosing : {S L : Type 0} {s : Ghosts S} {l : Widths L} → Maker S L s l
     → Maker S L s l → KeyValue → MakeFault → Type 0
 FailsClosing old new r NoMemory = DoesNothing old new × PassesRoom old r
 FailsClosing old new r Writing =
-    ((new.broken ≡ true) × HasStoreFailed old new × (IsMarked new ⊎ (0 < old.roll.found.count)))
+    ((new.broken ≡ true) × HasStoreFailed old new
+    × (IsMarked new ⊎ ((0 < old.roll.found.count) × HasFailedToWrite old new)))
     ⊎ ((new.broken ≡ false) × AreNone (gone_in new) × HasFailedToWrite old new
     × (old.roll.found.count ≡ 0)
     × Goes old new (λ all rest. rest ≡ left (or_each (gone_in old) (found_in old)) all))
@@ -462,7 +485,7 @@ FailsSettling old new r Writing = IsWithin old r
     × (old.lazy ≡ false → old.roll.found.count ≡ 0))
     ⊎ (((new.broken ≡ true) × HasStoreFailed old new
     × (0 < old.roll.gone.count + old.roll.found.count)
-    × (IsMarked new ⊎ (0 < old.roll.found.count)))
+    × (IsMarked new ⊎ ((0 < old.roll.found.count) × HasFailedToWrite old new)))
     ⊎ ((new.broken ≡ false) × AreNone (gone_in new) × HasFailedToWrite old new
     × (old.roll.found.count ≡ 0)
     × Goes old new (λ all rest. rest ≡ left (or_each (gone_in old) (found_in old)) all))))
@@ -576,10 +599,10 @@ abbrev pub OnlyAdds : {S L : Type 0} {s : Ghosts S} {l : Widths L} → Maker S L
 OnlyAdds {s = s} old new mode r = (rs : List KeyValue) → Holds old rs
     → WhereHonest (s.image new.store) (put_list mode r rs ≡ rs ++ r ∷ [])
 
--- the store failed amid a pass, or was to take records of the key out
+-- the store failed amid a pass, or a write failed that was to replace records of the key
 abbrev pub IsHalfway : {S L : Type 0} {s : Ghosts S} {l : Widths L} → Maker S L s l → Maker S L s l
     → Mode → KeyValue → Type 0
-IsHalfway {s = s} old new mode r = IsMarked new ⊎ ((mode ≡ Replace)
+IsHalfway {s = s} old new mode r = IsMarked new ⊎ ((mode ≡ Replace) × HasFailedToWrite old new
     × ((rs : List KeyValue) → Holds old rs → WhereHonest (s.image new.store) (HasKey r.key rs)))
 
 -- what a put that failed leaves
@@ -595,8 +618,8 @@ FailsPutting old new mode r NoMemory =
 FailsPutting old new mode r Writing =
     ((StaysWhole old new × HasFailedToWrite old new
     × (old.lazy ≡ false → OnlyAdds old new mode r))
-    ⊎ (IsTorn old new (HasGoneOr old r.key) × (HasGone old ⊎ (mode ≡ Replace))
-    × IsHalfway old new mode r))
+    ⊎ (IsTorn old new (HasGoneOr old r.key) (IsAnswerTo mode r) (IsHalfway old new mode r)
+    × (HasGone old ⊎ (mode ≡ Replace))))
     × WouldPut old new mode r
 
 -- a pass was made if records go: none goes then, and its store has the others alone

@@ -6,7 +6,7 @@ use Rattle.cdb_names.specs.Replacing.{TakesLock}
 use Rattle.cdb_names.specs.Wanted.{private_bits}
 use Rattle.cdb_names.proofs.Locking.{made_undoable, may_remove}
 use Rattle.cdb_names.proofs.Replacing.{no_step, step, go_on, cleared}
-use Rattle.cdb_names.proofs.Stops.{free_goes_on, is_held, not_made, one_more, was_undone}
+use Rattle.cdb_names.proofs.Stops.{free_goes_on, made_held, not_made, one_more, was_undone}
 use Rattle.cdb_names.proofs.replace.make_own.Goals as goal
 
 pub returns-in-Err-clause-steps : goal.returns-in-Err-clause-steps
@@ -22,7 +22,7 @@ returns-then-not-is_locked-clause-steps g c =
 
 pub returns-then-not-is_locked-clause-err : goal.returns-then-not-is_locked-clause-err
 returns-then-not-is_locked-clause-err g c first free =
-    is_held c.args.temporary.now c.args.name.now first _ _ (one_more _ _ _ _ (free_goes_on c.args.temporary.now first _ free) c.in-Ok.ensures.ok) (c.is_locked.ensures.held c.if-not-is_locked.true)
+    made_held c.args.temporary.now c.args.name.now first _ _ _ private_bits free c.in-Ok.ensures.ok (c.is_locked.ensures.held c.if-not-is_locked.true)
 
 pub returns-then-not-is_own_apart-clause-steps : goal.returns-then-not-is_own_apart-clause-steps
 returns-then-not-is_own_apart-clause-steps g c =

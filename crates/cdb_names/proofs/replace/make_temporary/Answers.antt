@@ -26,7 +26,7 @@ returns-in_err-clear-clause-err g c =
     let n = c.args.name.now in
     let old = g.N.Names.calls c.args.names.now in
     let p = err_from_is_err_and c.from_residual-in_err-clear.result c.from_residual-in_err-clear.ensures.1 in
-    rw (p.1, p.2) (unbuilt t n old _ _ (stops_since t n old _ _ _ (steps_go_on c.see_names.ensures.steps) c.in_err-clear.ensures.err))
+    rw (p.1, p.2) (unbuilt t n old _ _ (stops_since t n old _ _ _ c.see_names.ensures.unmade c.in_err-clear.ensures.err))
 
 pub returns-in_err-bits-clause-err : goal.returns-in_err-bits-clause-err
 returns-in_err-bits-clause-err g c =

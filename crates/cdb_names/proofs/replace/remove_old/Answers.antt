@@ -17,7 +17,7 @@ returns-then-not-is_locked-clause-steps g c =
     step _ (Locked Held, c.args.temporary.now, [], []) (step _ (Opened, c.args.temporary.now, [], []) (no_step _) c.in-Ok.ensures.ok tt tt) (c.is_locked.ensures.held c.if-not-is_locked.true) tt tt
 
 pub returns-then-not-is_locked-clause-err : goal.returns-then-not-is_locked-clause-err
-returns-then-not-is_locked-clause-err g c = is_held c.args.temporary.now c.args.name.now (g.N.Names.calls c.args.names.now) _ _ (one_more _ _ _ _ (no_more _) c.in-Ok.ensures.ok) (c.is_locked.ensures.held c.if-not-is_locked.true)
+returns-then-not-is_locked-clause-err g c = is_held c.args.temporary.now c.args.name.now (g.N.Names.calls c.args.names.now) _ _ c.in-Ok.ensures.ok (c.is_locked.ensures.held c.if-not-is_locked.true)
 
 pub returns-clause-steps : goal.returns-clause-steps
 returns-clause-steps g c =

@@ -4,7 +4,7 @@ use Rattle.cdb_names.specs.declared.name_trace.NameCall.TheVariants.{Locked, Mad
 use Rattle.cdb_names.specs.Wanted.{plain_bits}
 use Rattle.cdb_names.proofs.Locking.{made_undoable, may_look}
 use Rattle.cdb_names.proofs.Replacing.{no_step, step, cleared}
-use Rattle.cdb_names.proofs.Stops.{free_goes_on, is_held, not_made, one_more, plain_seen, unseen_undone}
+use Rattle.cdb_names.proofs.Stops.{free_goes_on, made_held, not_made, one_more, plain_seen, unseen_undone}
 use Rattle.cdb_names.proofs.replace.show_bits.Goals as goal
 
 pub returns-in-Err-clause-steps : goal.returns-in-Err-clause-steps
@@ -20,7 +20,7 @@ returns-then-not-is_locked-clause-steps g c =
 
 pub returns-then-not-is_locked-clause-err : goal.returns-then-not-is_locked-clause-err
 returns-then-not-is_locked-clause-err g c first free =
-    is_held c.args.temporary.now c.args.name.now first _ _ (one_more _ _ _ _ (free_goes_on c.args.temporary.now first _ free) c.in-Ok.ensures.ok) (c.is_locked.ensures.held c.if-not-is_locked.true)
+    made_held c.args.temporary.now c.args.name.now first _ _ _ plain_bits free c.in-Ok.ensures.ok (c.is_locked.ensures.held c.if-not-is_locked.true)
 
 pub returns-in-Some-clause-steps : goal.returns-in-Some-clause-steps
 returns-in-Some-clause-steps g c =

@@ -19,3 +19,6 @@ returns-in_err-take_out-clause-follows g c = follows_then c.args.self.now c.seek
 
 pub returns-clause-follows : goal.returns-clause-follows
 returns-clause-follows g c = follows_then c.args.self.now c.seek.new.self c.take_out.new.self c.seek.ensures.follows c.take_out.ensures.follows
+
+pub take_out-requires-clause-some : goal.take_out-requires-clause-some
+take_out-requires-clause-some g c = omega (arith, c.if-taken-eq0.false, c.in_ok-taken.ensures.seeks.count)

@@ -1,6 +1,7 @@
 use Rattle.std.proofs.Common.{◌≡◌, ℕ, Bool, true, false, List, length, map, inl, inr, refl, ap, sym, ◌∙◌, arith}
 use Rattle.std.specs.Prelude.{sum}
 use Rattle.std.proofs.lemmas.List.{length-map}
+use Rattle.std.proofs.lemmas.Result.{on_err_weaker}
 use Rattle.cdb_form.specs.Format.Pair.{head_size}
 use Rattle.cdb_form.specs.Format.Record.{record_size}
 use Rattle.cdb_make.specs.Marks.{is_gone, gone_of}
@@ -9,7 +10,7 @@ use Rattle.cdb_make.specs.Views.Maker.{gone_in, found_in}
 use Rattle.cdb_make.proofs.Looking.{sees_same, sees_long}
 use Rattle.cdb_make.proofs.Picking.{left_all_stay, left_sum, end_sum}
 use Rattle.cdb_make.proofs.Spans.{long_as}
-use Rattle.cdb_make.proofs.Removing.{behind_most}
+use Rattle.cdb_make.proofs.Removing.{behind_most, tears_by}
 use Rattle.cdb_make.proofs.maker.Maker.take_out.Goals as goal
 
 pub returns-clause-follows : goal.returns-clause-follows
@@ -71,3 +72,9 @@ returns-clause-takes g c =
       };
     })
     p.closes p.end
+
+pub returns-clause-fails : goal.returns-clause-fails
+returns-clause-fails g c =
+    let p = c.pass.ensures in
+    let t = c.take-2.ensures in
+    tears_by c.args.self.now c.pass.new.self c.pass.result p.fails p.broken p.cause (on_err_weaker c.pass.result (λ kept. omega (arith, ap (λ q. q.count) kept, t.count, c.requires.some)) p.kept_gone)
