@@ -5,8 +5,8 @@
 
 The model is a plain list of records. The bases are made here too: some as `cdb` lays a file out, some
 as other programs may, with the tables in another order and unused bytes between them. After the drawn
-cases each byte of a small base is changed in turn, and a text of changes is cut at each byte. Then
-come bases of several windows of 64 KiB, with records that end at the window's end, next to it, and
+cases each byte of a small base is changed in turn, it is cut at each byte, with and without the sizes of its
+tables, and so is a text of changes. Then come bases of several windows of 64 KiB, with records that end at the window's end, next to it, and
 that have no room in one.
 """
 
@@ -22,6 +22,8 @@ CASES = 5000
 KEYS = [b"a", b"bc", b"cB", b"", b"one"]
 ADD, WARN, INSERT, REPLACE = "", "-w", "-u", "-r"
 CHANGES = b"-3:one\n+3,5:one->Again\n\n"
+NO_TABLES = (111, b"cdb: base database: no tables before its records\n", b"old")
+SHORT = (111, b"cdb: database shorter than its head\n", b"old")
 WINDOW = 65536
 
 
@@ -132,7 +134,11 @@ def drawn_case(folder, number):
         bytes_of = words
     base = foreign_file_of(chosen, records) if number % 4 == 1 else file_of(records, bytes_of)
     told = lines if "-w" in letters else b""
-    return folder.amend(base, spelled(changes), *letters) == (0, told, file_of(after, bytes_of))
+    # Without its letter a wide base has no tables.
+    narrow = [it for it in letters if it != "-W"]
+    return folder.amend(base, spelled(changes), *letters) == (0, told, file_of(after, bytes_of)) and (
+        narrow == letters or folder.amend(base, spelled(changes), *narrow) == NO_TABLES
+    )
 
 
 def large_bases():
@@ -161,14 +167,37 @@ def large_case(folder, records):
     )
 
 
-def damaged_case(folder, place):
-    """Whether a base with one byte changed is amended if its walk is whole, and refused otherwise."""
-    base = TWO_FILE[:place] + bytes([TWO_FILE[place] ^ 0x41]) + TWO_FILE[place + 1 :]
-    records, is_damaged = walk_of(base)
+def lacks_tables(file):
+    """Whether no table has slots, though bytes follow the head."""
+    return len(file) > 2048 and not any(file[n * 8 + 4 : n * 8 + 8] != bytes(4) for n in range(256))
+
+
+def damaged_case(folder, base):
+    """Whether a base is amended if it has tables and its walk is whole, and refused otherwise."""
     left = folder.amend(base, b"\n")
+    if len(base) < 2048:
+        return left == SHORT
+    if lacks_tables(base):
+        return left == NO_TABLES
+    records, is_damaged = walk_of(base)
     if is_damaged:
         return left is not None and left[0] == 111 and left[2] == b"old"
     return left == (0, b"", file_of(records))
+
+
+def damaged_bases():
+    """Bases with one byte changed, cut ones, and ones that have tables no more, each with a name."""
+    bases = {}
+    for n, byte in enumerate(TWO_FILE):
+        bases[f"byte {n} of the base"] = TWO_FILE[:n] + bytes([byte ^ 0x41]) + TWO_FILE[n + 1 :]
+        bases[f"{n} bytes of the base"] = TWO_FILE[:n]
+    without = bytearray(TWO_FILE)
+    for n in (41, 129):
+        without[n * 8 + 4] = 0
+        bases[f"no slots in table {n}"] = bytes(without)
+    for n in range(2048, len(TWO_FILE)):
+        bases[f"{n} bytes without tables"] = bytes(without[:n])
+    return bases
 
 
 def cut_case(folder, end):
@@ -184,7 +213,7 @@ def main():
     with tempfile.TemporaryDirectory() as path:
         folder = Folder(program, path)
         answers = [(f"drawn case {n}", drawn_case(folder, n)) for n in range(CASES)]
-        answers += [(f"byte {n} of the base", damaged_case(folder, n)) for n in range(len(TWO_FILE))]
+        answers += [(name, damaged_case(folder, base)) for name, base in damaged_bases().items()]
         answers += [(f"a text of {n} bytes", cut_case(folder, n)) for n in range(len(CHANGES))]
         answers += [(f"a base {name}", large_case(folder, rs)) for name, rs in large_bases().items()]
     wrong = [name for name, is_right in answers if not is_right]

@@ -54,6 +54,7 @@ NO_FILE = "file cannot be opened"
 NO_NAME = "database cannot be renamed"
 NO_OUTPUT = "output cannot be written"
 NO_TABLES = "no tables before its records"
+NO_BASE_TABLES = f"base database: {NO_TABLES}"
 STOPPED = "stopped at a duplicate key"
 
 
@@ -169,9 +170,9 @@ def told(given, stdin, line, files=None):
     return case(given, stdin, b"", line, 111, files, space=LITTLE)
 
 
-def amends(given, file, changes, line=None):
-    """A create of the database x from the two-record base and an input, where an old one is."""
-    files = {"base": TWO_FILE, "in": changes}
+def amends(given, file, changes, line=None, base=TWO_FILE):
+    """A create of the database x from the two-record base, or another, and an input, where an old one is."""
+    files = {"base": base, "in": changes}
     return case(["-c", "-b", "base", *given], b"", b"", line, 0, {"x": ONE_FILE, **files}, {"x": file, **files})
 
 
@@ -259,6 +260,13 @@ MAP_FILE = file_of([(b"one", b"Hello"), (b"key", b""), (b"two", b"Good bye")])
 WIDE_TWO = file_of([(b"one", b"Hello"), (b"two", b"Goodbye")], wide_words)
 # No record in words of 8 bytes.
 WIDE_EMPTY = wide_words(4096, 0) * 256
+# A long record, nearly all zeros, in the one table that has a place: words of 8 bytes show no slots there.
+ZEROS = (bytes(1023) + b"\1", bytes(1024))
+ZEROS_FILE = (
+    words(0, 0) * 4 + words(4104, 1) + words(0, 0) * 251
+    + words(1024, 1024) + ZEROS[0] + ZEROS[1]
+    + words(hash_of(ZEROS[0]), 2048)
+)
 # The difference from one value of a key to two others.
 OF_A_TEXT = b"-1:a\n+1,1:a->1\n+1,1:a->2\n\n"
 # Many values of one key, of which the 78th is in another place; its slot is the 78th from the key's first.
@@ -885,6 +893,46 @@ CASES = {
     "a damaged base comes before an input": keeps(
         ["-c", "-b", "base", "x"], not_whole(2048), b"*", {"base": b"\xff" * 2048}
     ),
+    # Its head alone refuses it, before anything is made.
+    "a wide base without its letter": keeps(["-c", "-b", "base", "x"], NO_BASE_TABLES, b"\n", {"base": WIDE_TWO}),
+    "a wide base that is the database": keeps(["-c", "-b", "x", "x"], NO_BASE_TABLES, b"-3:two\n\n", {"x": WIDE_TWO}),
+    "a wide base that is the database behind a link": keeps(
+        ["-cr", "-b", "base", "x"], NO_BASE_TABLES, b"\n", {"x": WIDE_TWO, "base": Link("x")}
+    ),
+    "an empty wide base": keeps(["-c", "-b", "base", "x"], NO_BASE_TABLES, b"\n", {"base": WIDE_EMPTY}),
+    "a wide base, on standard output": keeps(["-c", "-b", "base", "-"], NO_BASE_TABLES, b"\n", {"base": WIDE_TWO}),
+    "a wide base, in place": keeps(["-c", "-t", "x", "-b", "base", "x"], NO_BASE_TABLES, b"\n", {"base": WIDE_TWO}),
+    "a wide base, of a new database": case(
+        ["-c", "-b", "base", "y"], b"\n", b"", NO_BASE_TABLES, 111, {"base": WIDE_TWO}, {"base": WIDE_TWO}
+    ),
+    "a wide base beside an old temporary file": keeps(
+        ["-c", "-b", "base", "x"], NO_BASE_TABLES, b"\n", {"base": WIDE_TWO, "x.tmp": b"old"}
+    ),
+    "a wide base that is the temporary file": keeps(
+        ["-c", "-b", "./x.tmp", "x"], NO_BASE_TABLES, b"\n", {"x.tmp": WIDE_TWO}
+    ),
+    "a wide base before a bad text": keeps(["-c", "-b", "base", "x"], NO_BASE_TABLES, b"*", {"base": WIDE_TWO}),
+    "a wide base before an input that is missing": keeps(
+        ["-c", "-b", "base", "x", "no"], NO_BASE_TABLES, files={"base": WIDE_TWO}
+    ),
+    "a base whose head one byte follows": keeps(
+        ["-c", "-b", "base", "x"], NO_BASE_TABLES, b"\n", {"base": EMPTY_FILE + b"\0"}
+    ),
+    "a wide base whose head one byte follows": keeps(
+        ["-cW", "-b", "base", "x"], NO_BASE_TABLES, b"\n", {"base": WIDE_EMPTY + b"\0"}
+    ),
+    "a narrow base of a wide create": keeps(["-cW", "-b", "base", "x"], SHORT, b"\n", {"base": TWO_FILE}),
+    "a narrow base that shows a wide create no slots": keeps(
+        ["-cW", "-b", "base", "x"], NO_BASE_TABLES, b"\n", {"base": ZEROS_FILE}
+    ),
+    "a base of zeros": amends(["x", "in"], file_of([ZEROS]), b"\n", base=ZEROS_FILE),
+    "a base that is cut in its head": keeps(["-c", "-b", "base", "x"], SHORT, b"\n", {"base": TWO_FILE[:2047]}),
+    "a base that is cut in its head, in place": keeps(
+        ["-c", "-t", "x", "-b", "base", "x"], SHORT, b"\n", {"base": TWO_FILE[:2047]}
+    ),
+    "an empty base": amends(["x", "in"], ONE_FILE, FIRST_TEXT + b"\n", base=EMPTY_FILE),
+    "an empty wide base of a wide create": amends(["-W", "x", "in"], WIDE_FILE, FIRST_TEXT + b"\n", base=WIDE_EMPTY),
+    "a base with tables of one slot": amends(["x", "in"], of_a(b"1"), b"\n", base=FOREIGN_FILE),
     "a base that is the temporary file, spelled otherwise": keeps(
         ["-c", "-b", "./x.tmp", "x"], NO_FILE, b"\n", {"x.tmp": TWO_FILE}
     ),

@@ -3,6 +3,7 @@
 from cases import (
     BAD_WORDS,
     EARLY,
+    NO_BASE_TABLES,
     NO_DATABASE,
     NO_FILE,
     NO_INPUT,
@@ -18,7 +19,7 @@ from cases import (
     of_a,
     pairs,
 )
-from files import FOUR_FILE, LARGE_TEXT, ONE_FILE, TWO_FILE, TWO_TEXT, file_of, text_of
+from files import FOUR_FILE, LARGE_TEXT, ONE_FILE, TWO_FILE, TWO_TEXT, WIDE_FILE, file_of, text_of
 from places import CLOSED, FOLDER, PIPE, UNREAD, Link
 
 MISSING = "No such file or directory"
@@ -70,6 +71,15 @@ CAUSES = {
     "the base is not there": told(["-c", "-b", "y", "x"], NO_FILE, f"y: {MISSING}", b"\n"),
     "the base has the name of standard input": told(["-c", "-b", "-", "x"], NO_FILE, f"-: {MISSING}", b"\n"),
     "a base that is damaged": told(["-c", "-b", "m", "x"], SHORT, "m", b"\n", files=INPUTS),
+    "a base that is wide": told(
+        ["-c", "-b", "y\\", "x"], NO_BASE_TABLES, "y\\x5c", b"\n", files={"x": ONE_FILE, "y\\": WIDE_FILE}
+    ),
+    "a base that is the database and wide": told(
+        ["-c", "-b", "x", "x"], NO_BASE_TABLES, "x", b"\n", files={"x": WIDE_FILE}
+    ),
+    "a base that is a folder": told(
+        ["-c", "-b", "y", "x"], NO_DATABASE, "y: Is a directory", b"\n", files={"x": ONE_FILE, "y": FOLDER}
+    ),
     "a folder that takes no name": told(
         ["-c", "x"], NO_FILE, "x.tmp: Permission denied", TWO_TEXT, files={"x": ONE_FILE}, sealed=True
     ),

@@ -20,16 +20,17 @@ use Rattle.cdb_store.specs.declared.store.Store.{Ghosts}
 use Rattle.cdb_show.specs.Runs.Inputs.{InputsLeft}
 use Rattle.cdb_show.specs.declared.fault.Fault.{Fault}
 use Rattle.cdb_show.specs.declared.fault.Fault.TheVariants.{Open}
+use Rattle.cdb_tool.specs.Runs.Make.{HandsBack}
 use Rattle.cdb_tool.specs.Runs.Made.{Made, made_file, made_lines, made_of}
-use Rattle.cdb.specs.Created.{Created, base_of, create_of, in_temporary, is_in_place, is_no_name, in_place, is_read, placed, unopened}
+use Rattle.cdb.specs.Created.{Created, create_of, in_temporary, is_in_place, is_no_name, in_place, is_read, placed, unopened}
 use Rattle.cdb.specs.Creating.{IsBufferedRun, AsksAll, Making, Replaces, answer_of}
 use Rattle.cdb_system.specs.Places.{temporary_of}
 use Rattle.cdb.specs.ForetoldCreate.{HadBytes, HoldsAll, IsNoFailedRemoval, IsNoFailedRename, KeepsAll, LeavesAll, passing, place_of}
 use Rattle.cdb_system.specs.Opening.{OpenCalls}
-use Rattle.cdb_system.specs.Oracle.{Disk, inputs_of, is_standard}
+use Rattle.cdb_system.specs.Oracle.{Disk, is_standard}
 use Rattle.cdb.proofs.Replaced.{IsGone, KeepsOthers, LeavesOldOrMade, ReplacesSo, at_name, none_appended, not_at, replaces_so, said_nothing}
-use Rattle.cdb.proofs.CreateReads.{Asking, asked_all, asked_kept, asking_all, moments_first}
-use Rattle.cdb.proofs.CreateEnds.{AnsweredNames, Knows, Came, CreateSo, apart_is, constant, ends_early, first_is, has_may, last_leaves, last_moment, lines_of, name_holds, open_so, oracle_is, other_name, result_of, same_name, same_some, since_asked}
+use Rattle.cdb.proofs.CreateReads.{AllKnown, Asking, asked_all, asked_kept, asking_all, moments_first}
+use Rattle.cdb.proofs.CreateEnds.{AnsweredNames, Knows, Came, CreateSo, apart_is, based_is, ends_early, first_is, has_may, last_leaves, last_moment, lines_of, name_holds, open_so, oracle_is, other_name, result_of, same_name, same_some, since_asked}
 use Rattle.cdb_system.specs.State.{state_of}
 
 -- ---- in a temporary file
@@ -180,12 +181,12 @@ passing_temporary : (name : List ℕ) (temporary : Option (List ℕ)) → is_sta
 passing_temporary name temporary standard in_place = cond-false (is_standard name) _ _ standard ∙ cond-false (is_in_place name temporary) _ _ in_place
 
 named_so : {F M R : Type 0} (s : Ghosts F) (m : Ghosts M) (r : Raw R) (w g : ℕ) (disk : Disk) (input name : List ℕ) (base : Option (List ℕ)) (inputs : List (List ℕ)) (temporary : Option (List ℕ)) (o : RunOptions) (mid new : OpenCalls) (file read : Option F) (left : InputsLeft) (was asked now : NameCalls) (start end told said : Option (List ℕ)) (result : Result Unit Fault)
-    → is_standard name ≡ false → is_in_place name temporary ≡ false → is_no_name name ≡ false → (file ≡ None → read ≡ None) → Knows s disk base inputs input file read left → AnsweredNames disk name was now → Keeps start end → AsksAll (temporary_of name temporary) base inputs was asked
+    → is_standard name ≡ false → is_in_place name temporary ≡ false → is_no_name name ≡ false → HandsBack s file read → Knows s w disk base inputs input file read left → AnsweredNames disk name was now → Keeps start end → AsksAll (temporary_of name temporary) base inputs was asked
     → Replaces s r (record { word = w; greatest = g; options = o; base = file; inputs = left }) (temporary_of name temporary) name (state_of mid asked start told) (state_of new now end said) read result
     → CreateSo m disk name temporary o (create_of w g disk input name base inputs temporary o.make) [] was now None start end told said result
-named_so s m r w g disk input name base inputs temporary o mid new file read left was asked now start end told said result standard in_place named none knows honest kept asks replaces =
+named_so s m r w g disk input name base inputs temporary o mid new file read left was asked now start end told said result standard in_place named hands knows honest kept asks replaces =
     let t = temporary_of name temporary in
-    let known = knows none in
+    let known = knows hands in
     let apart = apart_is name temporary in_place in
     let more = since_asked asked now replaces.moments.since replaces.moments.calls honest.alone in
     let question = asked_all t base inputs was asked asks more in
@@ -212,12 +213,12 @@ no_name_is (c ∷ d ∷ name) e = elim (no_name_is (d ∷ name) e) [
   | inr (front, is) ↦ inr (c ∷ front, ap (λ x. c ∷ x) is)
 ]
 
-no_name_unopened : (w g : ℕ) (disk : Disk) (input name : List ℕ) (base : Option (List ℕ)) (inputs : List (List ℕ)) (temporary : Option (List ℕ)) (o : RunOptions) → is_standard name ≡ false → is_in_place name temporary ≡ false → is_no_name name ≡ true
+no_name_unopened : {F : Type 0} (s : Ghosts F) (w g : ℕ) (disk : Disk) (input name : List ℕ) (base : Option (List ℕ)) (inputs : List (List ℕ)) (temporary : Option (List ℕ)) (o : RunOptions) (read : Option F) (left : InputsLeft) → AllKnown s w disk base inputs input read left → is_standard name ≡ false → is_in_place name temporary ≡ false → is_no_name name ≡ true
     → create_of w g disk input name base inputs temporary o.make ≡ unopened disk
-no_name_unopened w g disk input name base inputs temporary o standard in_place is =
-    constant disk (λ old files. placed w disk name base inputs temporary (made_of w g o.make old files input)) (base_of disk base) (inputs_of disk inputs)
-    (λ old files. cond-false (is_standard name) _ _ standard ∙ cond-false (is_in_place name temporary) _ _ in_place
-    ∙ cond-true (is_read (temporary_of name temporary) base inputs || is_no_name name) _ _ (or_right _ _ is))
+no_name_unopened s w g disk input name base inputs temporary o read left k standard in_place is =
+    based_is s w disk input base inputs read left (λ old files. placed w disk name base inputs temporary (made_of w g o.make old files input)) k
+    ∙ cond-false (is_standard name) _ _ standard ∙ cond-false (is_in_place name temporary) _ _ in_place
+    ∙ cond-true (is_read (temporary_of name temporary) base inputs || is_no_name name) _ _ (or_right _ _ is)
 
 -- a replacement that made no call did not take its temporary name from a file
 not_cleared : (t : List ℕ) (file : Calls) (asked now : NameCalls) → now ≡ asked → ClearsFile t file asked now → ⊥
@@ -231,10 +232,10 @@ silent_so s r mk t name asked now back told said answer same is (inr some) =
     absurd (not_cleared t (calls_of some.sealed) asked now same (subst (λ v. OnErr v (ClearsFile t (calls_of some.sealed) asked now)) is some.cleared))
 
 -- nothing is done for it
-no_name_so : {F M R : Type 0} {mid new : OpenCalls} (s : Ghosts F) (m : Ghosts M) (r : Raw R) (w g : ℕ) (disk : Disk) (input name : List ℕ) (base : Option (List ℕ)) (inputs : List (List ℕ)) (temporary : Option (List ℕ)) (o : RunOptions) (mk : Making F) (read : Option F) (was asked now : NameCalls) (start end told said : Option (List ℕ)) (result : Result Unit Fault)
-    → is_standard name ≡ false → is_in_place name temporary ≡ false → is_no_name name ≡ true → was ≡ [] → Keeps start end → AsksAll (temporary_of name temporary) base inputs was asked → Replaces s r mk (temporary_of name temporary) name (state_of mid asked start told) (state_of new now end said) read result
+no_name_so : {F M R : Type 0} {mid new : OpenCalls} (s : Ghosts F) (m : Ghosts M) (r : Raw R) (w g : ℕ) (disk : Disk) (input name : List ℕ) (base : Option (List ℕ)) (inputs : List (List ℕ)) (temporary : Option (List ℕ)) (o : RunOptions) (mk : Making F) (read : Option F) (left : InputsLeft) (was asked now : NameCalls) (start end told said : Option (List ℕ)) (result : Result Unit Fault)
+    → is_standard name ≡ false → is_in_place name temporary ≡ false → is_no_name name ≡ true → AllKnown s w disk base inputs input read left → was ≡ [] → Keeps start end → AsksAll (temporary_of name temporary) base inputs was asked → Replaces s r mk (temporary_of name temporary) name (state_of mid asked start told) (state_of new now end said) read result
     → CreateSo m disk name temporary o (create_of w g disk input name base inputs temporary o.make) [] was now None start end told said result
-no_name_so s m r w g disk input name base inputs temporary o mk read was asked now start end told said result standard in_place is first kept asks replaces =
+no_name_so s m r w g disk input name base inputs temporary o mk read left was asked now start end told said result standard in_place is known first kept asks replaces =
     let c = create_of w g disk input name base inputs temporary o.make in
     let a = asking_all (temporary_of name temporary) base inputs was asked asks in
     elim replaces.no_name [
@@ -242,14 +243,14 @@ no_name_so s m r w g disk input name base inputs temporary o mk read was asked n
       | inr ended ↦ (let silent = silent_so s r mk (temporary_of name temporary) name asked now read told said replaces.answer ended.1 ended.0 replaces.lines in
           subst (CreateSo m disk name temporary o c [] was now None start end told said) (sym (replaces.answered ∙ ap answer_of ended.0))
           (ends_early m o c disk name temporary was now start end told said Open first (subst (λ v. Asking was v) (sym ended.1) a)
-          (open_so o c disk start end told said (no_name_unopened w g disk input name base inputs temporary o standard in_place is) (kept, silent))))
+          (open_so o c disk start end told said (no_name_unopened s w g disk input name base inputs temporary o read left known standard in_place is) (kept, silent))))
     ]
 
 pub replacing_so : {F M R : Type 0} (s : Ghosts F) (m : Ghosts M) (r : Raw R) (w g : ℕ) (disk : Disk) (input name : List ℕ) (base : Option (List ℕ)) (inputs : List (List ℕ)) (temporary : Option (List ℕ)) (o : RunOptions) (mid new : OpenCalls) (file read : Option F) (left : InputsLeft) (was asked now : NameCalls) (start end told said : Option (List ℕ)) (result : Result Unit Fault)
-    → is_standard name ≡ false → is_in_place name temporary ≡ false → (file ≡ None → read ≡ None) → Knows s disk base inputs input file read left → AnsweredNames disk name was now → Keeps start end → AsksAll (temporary_of name temporary) base inputs was asked
+    → is_standard name ≡ false → is_in_place name temporary ≡ false → HandsBack s file read → Knows s w disk base inputs input file read left → AnsweredNames disk name was now → Keeps start end → AsksAll (temporary_of name temporary) base inputs was asked
     → Replaces s r (record { word = w; greatest = g; options = o; base = file; inputs = left }) (temporary_of name temporary) name (state_of mid asked start told) (state_of new now end said) read result
     → CreateSo m disk name temporary o (create_of w g disk input name base inputs temporary o.make) [] was now None start end told said result
-replacing_so s m r w g disk input name base inputs temporary o mid new file read left was asked now start end told said result standard in_place none knows honest kept asks replaces = elim (cases_Bool (is_no_name name)) [
-  | inl is ↦ no_name_so s m r w g disk input name base inputs temporary o (record { word = w; greatest = g; options = o; base = file; inputs = left }) read was asked now start end told said result standard in_place is honest.first kept asks replaces
-  | inr named ↦ named_so s m r w g disk input name base inputs temporary o mid new file read left was asked now start end told said result standard in_place named none knows honest kept asks replaces
+replacing_so s m r w g disk input name base inputs temporary o mid new file read left was asked now start end told said result standard in_place hands knows honest kept asks replaces = elim (cases_Bool (is_no_name name)) [
+  | inl is ↦ no_name_so s m r w g disk input name base inputs temporary o (record { word = w; greatest = g; options = o; base = file; inputs = left }) read left was asked now start end told said result standard in_place is (knows hands) honest.first kept asks replaces
+  | inr named ↦ named_so s m r w g disk input name base inputs temporary o mid new file read left was asked now start end told said result standard in_place named hands knows honest kept asks replaces
 ]

@@ -16,6 +16,7 @@ use Rattle.cdb_names.specs.declared.name_fault.NameFault.{NameFault}
 use Rattle.cdb_names.specs.declared.refusal.Cause.{Cause}
 use Rattle.cdb_names.specs.declared.name_fault.NameFault.TheVariants as why
 use Rattle.cdb_names.specs.declared.name_trace.NameCall.TheVariants as name_call
+use Rattle.cdb_read.proofs.FoundSoFar.{reads_none}
 use Rattle.cdb_form.specs.Views.KnownBytes.{AppendsPrefix}
 use Rattle.cdb_store.specs.declared.raw.RawFile.{Ghosts as Raw}
 use Rattle.cdb_store.specs.declared.store.Store.{Ghosts}
@@ -24,31 +25,38 @@ use Rattle.cdb_tool.specs.Runs.Make.{HandsBack}
 use Rattle.cdb_show.specs.declared.fault.Fault.{Fault}
 use Rattle.cdb_show.specs.declared.fault.Fault.TheVariants.{NoMemory, Open}
 use Rattle.cdb_tool.specs.Runs.Made.{Made, made_file, made_lines, made_of}
-use Rattle.cdb.specs.Created.{Created, base_of, create_of, if_opened, in_temporary, is_base, is_in_place, is_input, is_no_name, in_place, is_read, placed, unopened}
-use Rattle.cdb.specs.Creating.{AsksBase, AsksOne, FindsBase, FindsInput, FindsOne, Making, MayBeOne, NotOpened, Replaces}
+use Rattle.cdb.specs.Created.{Created, base_in, base_of, create_of, if_based, if_opened, in_temporary, is_base, is_in_place, is_input, is_no_name, in_place, is_read, placed, unmade, unopened}
+use Rattle.cdb.specs.Creating.{AsksBase, AsksOne, FindsBase, FindsInput, FindsOne, LooksAtBase, Making, MayBeOne, NotOpened, Replaces}
 use Rattle.cdb_system.specs.Places.{temporary_of}
-use Rattle.cdb_system.specs.Answered.{AreAnswered, IsAnswered}
+use Rattle.cdb_form.specs.Fed.Feed.{Feed}
+use Rattle.cdb_system.specs.Answered.{AreAnswered, IsAnswered, if_some}
 use Rattle.cdb.specs.ForetoldCreate.{HadBytes, HasBytes, HoldsAll, IsNoAlias, IsNoFailedRemoval, IsNoFailedRename, KeepsAll, LeavesAll, passing, place_of}
 use Rattle.cdb_system.specs.Inputs.{inputs_read, MissesBase}
 use Rattle.cdb_system.specs.Opening.{OpenCalls, unopened as unopened_fault}
-use Rattle.cdb_system.specs.Oracle.{Disk, both, inputs_of, is_standard}
+use Rattle.cdb_system.specs.Files.{files_of}
+use Rattle.cdb_system.specs.Inputs.{StopsOpening}
+use Rattle.cdb_system.specs.Oracle.{Disk, inputs_of, is_standard}
 use Rattle.cdb_system.specs.declared.open_trace.OpenCall.TheVariants.{Unopened}
 use Rattle.cdb_system.specs.declared.system.System.{Ghosts as Systems}
 use Rattle.cdb.proofs.Replaced.{IsPlain, none_appended, said_nothing}
-use Rattle.cdb.proofs.CreateReads.{AllKnown, Asking, asked_kept, base_since, moments_first, read_input}
-use Rattle.cdb_system.proofs.InputsKnown.{opened_since, standard_not, both_none, missing_inputs, input_missing}
+use Rattle.cdb.proofs.CreateReads.{AllKnown, Asking, asked_kept, base_known, base_refused, base_since, moments_first, read_input}
+use Rattle.cdb_system.proofs.InputsKnown.{answered_before, opened_since, standard_not, missing_inputs, input_missing}
 use Rattle.cdb_system.specs.State.{State}
 
 -- ---- the oracle
 
+-- of all that is read, if it is there and no base is refused
+pub based_is : {F : Type 0} (s : Ghosts F) (w : ℕ) (disk : Disk) (input : List ℕ) (base : Option (List ℕ)) (inputs : List (List ℕ)) (read : Option F) (left : InputsLeft) (f : Option (List ℕ) → List (Option (List ℕ)) → Created) → (k : AllKnown s w disk base inputs input read left)
+    → if_based disk (base_of w disk base) (λ old. if_opened disk (option_map (f old) (inputs_of disk inputs))) ≡ f k.old k.files
+based_is s w disk input base inputs read left f k =
+    ap (λ x. if_based disk x (λ old. if_opened disk (option_map (f old) (inputs_of disk inputs)))) k.base_is
+    ∙ ap (λ x. if_opened disk (option_map (f k.old) x)) k.are
+
 -- it is made in its temporary file of all that is read
-pub oracle_is : {F : Type 0} (s : Ghosts F) (w g : ℕ) (disk : Disk) (input name : List ℕ) (base : Option (List ℕ)) (inputs : List (List ℕ)) (temporary : Option (List ℕ)) (o : RunOptions) (read : Option F) (left : InputsLeft) → (k : AllKnown s disk base inputs input read left) → is_standard name ≡ false → is_in_place name temporary ≡ false → is_read (temporary_of name temporary) base inputs ≡ false → is_no_name name ≡ false
+pub oracle_is : {F : Type 0} (s : Ghosts F) (w g : ℕ) (disk : Disk) (input name : List ℕ) (base : Option (List ℕ)) (inputs : List (List ℕ)) (temporary : Option (List ℕ)) (o : RunOptions) (read : Option F) (left : InputsLeft) → (k : AllKnown s w disk base inputs input read left) → is_standard name ≡ false → is_in_place name temporary ≡ false → is_read (temporary_of name temporary) base inputs ≡ false → is_no_name name ≡ false
     → (made : Made) → made ≡ made_of w g o.make k.old k.files input → create_of w g disk input name base inputs temporary o.make ≡ in_temporary disk (temporary_of name temporary) name (made_lines made) (made_file w made) made.result
 oracle_is s w g disk input name base inputs temporary o read left k standard placed_in other named made is =
-    let f : Option (List ℕ) → List (Option (List ℕ)) → Created = λ old files. placed w disk name base inputs temporary (made_of w g o.make old files input) in
-    let m = made_of w g o.make k.old k.files input in
-    ap (λ x. if_opened disk (both f x (inputs_of disk inputs))) k.base_is
-    ∙ ap (λ x. if_opened disk (both f (Some k.old) x)) k.are
+    based_is s w disk input base inputs read left (λ old files. placed w disk name base inputs temporary (made_of w g o.make old files input)) k
     ∙ cond-false (is_standard name) _ _ standard
     ∙ cond-false (is_in_place name temporary) _ _ placed_in
     ∙ cond-false (is_read (temporary_of name temporary) base inputs || is_no_name name) _ _ (or_from _ _ other named)
@@ -105,8 +113,8 @@ pub record AnsweredNames (disk : Disk) (name : List ℕ) (was now : NameCalls) :
   pub has : Has (place_of name) (disk name) now held
 
 -- all that is read is known, if the base is handed back
-abbrev pub Knows : {F : Type 0} → Ghosts F → Disk → (base : Option (List ℕ)) → (inputs : List (List ℕ)) → (input : List ℕ) → (file read : Option F) → InputsLeft → Type 0
-Knows s disk base inputs input file read items = (file ≡ None → read ≡ None) → AllKnown s disk base inputs input read items
+abbrev pub Knows : {F : Type 0} → Ghosts F → (w : ℕ) → Disk → (base : Option (List ℕ)) → (inputs : List (List ℕ)) → (input : List ℕ) → (file read : Option F) → InputsLeft → Type 0
+Knows s w disk base inputs input file read items = HandsBack s file read → AllKnown s w disk base inputs input read items
 
 pub same_name : (a b : List ℕ) → bytes_eq a b ≡ true → a ≡ b
 same_name a b e = (bytes_eq-Decides a b).0 e
@@ -177,9 +185,9 @@ holds_first m disk name c was now first a same = λ other held sure h. has_first
 
 -- ---- nothing was made
 
--- a file cannot be opened, as was said; or a refusal
+-- it ends so, as was said; or a refusal
 abbrev EndsEarly : RunOptions → Created → Disk → (start end told said : Option (List ℕ)) → Fault → Type 0
-EndsEarly o c disk start end told said fault = (CameTrue o c start end told said (Err fault) × (c ≡ unopened disk)) ⊎ GaveUp o c start end told said (Err fault)
+EndsEarly o c disk start end told said fault = (CameTrue o c start end told said (Err fault) × (c ≡ unmade disk fault)) ⊎ GaveUp o c start end told said (Err fault)
 
 pub ends_early : {M : Type 0} (m : Ghosts M) (o : RunOptions) (c : Created) (disk : Disk) (name : List ℕ) (temporary : Option (List ℕ)) (was now : NameCalls) (start end told said : Option (List ℕ)) (fault : Fault) → was ≡ [] → Asking was now → EndsEarly o c disk start end told said fault
     → CreateSo m disk name temporary o c [] was now None start end told said (Err fault)
@@ -193,8 +201,8 @@ ends_early m o c disk name temporary was now start end told said fault first a h
   moments = moments_first disk c.disk (passing name temporary) was now first a;
 }
 
-pub open_so : (o : RunOptions) (c : Created) (disk : Disk) (start end told said : Option (List ℕ)) → c ≡ unopened disk → Keeps start end × Keeps told said → EndsEarly o c disk start end told said Open
-open_so o c disk start end told said e k = inl (
+unmade_so : (o : RunOptions) (c : Created) (disk : Disk) (start end told said : Option (List ℕ)) (fault : Fault) → c ≡ unmade disk fault → Keeps start end × Keeps told said → EndsEarly o c disk start end told said fault
+unmade_so o c disk start end told said fault e k = inl (
   record {
     is = sym (ap (λ (v : Created). v.result) e);
     output = subst (Appends start end) (sym (ap (λ (v : Created). v.output) e)) (none_appended start end k.0);
@@ -202,6 +210,9 @@ open_so o c disk start end told said e k = inl (
   },
   e,
 )
+
+pub open_so : (o : RunOptions) (c : Created) (disk : Disk) (start end told said : Option (List ℕ)) → c ≡ unopened disk → Keeps start end × Keeps told said → EndsEarly o c disk start end told said Open
+open_so o c disk start end told said e k = unmade_so o c disk start end told said Open e k
 
 pub refused_early : (o : RunOptions) (c : Created) (disk : Disk) (start end told said : Option (List ℕ)) (fault : Fault) → MayGiveUpCreate fault → Keeps start end × Keeps told said → EndsEarly o c disk start end told said fault
 refused_early o c disk start end told said fault is k = inr (record { fault = fault; is = refl; refusal = is; output = said_nothing start end c.output k.0; lines = λ plain. said_nothing told said c.lines k.1 })
@@ -213,15 +224,17 @@ missed_why : (o : RunOptions) (c : Created) (disk : Disk) (start end told said :
 missed_why o c disk start end told said fault why.Failed e h k = subst (λ f. EndsEarly o c disk start end told said f) (sym e) (open_so o c disk start end told said (h refl) k)
 missed_why o c disk start end told said fault why.NoMemory e h k = memory_so o c disk start end told said fault e k
 
-no_inputs : (w g : ℕ) (disk : Disk) (input name : List ℕ) (base : Option (List ℕ)) (inputs : List (List ℕ)) (temporary : Option (List ℕ)) (o : RunOptions) → inputs_of disk inputs ≡ None → create_of w g disk input name base inputs temporary o.make ≡ unopened disk
-no_inputs w g disk input name base inputs temporary o e =
-    let f : Option (List ℕ) → List (Option (List ℕ)) → Created = λ old files. placed w disk name base inputs temporary (made_of w g o.make old files input) in
-    ap (λ x. if_opened disk (both f (base_of disk base) x)) e ∙ ap (if_opened disk) (both_none f (base_of disk base))
+module _ (w g : ℕ) (disk : Disk) (input name : List ℕ) (base : Option (List ℕ)) (inputs : List (List ℕ)) (temporary : Option (List ℕ)) (o : RunOptions) where
+  abbrev of_all : Option (List ℕ) → List (Option (List ℕ)) → Created
+  of_all old files = placed w disk name base inputs temporary (made_of w g o.make old files input)
 
-no_base : (w g : ℕ) (disk : Disk) (input name : List ℕ) (base : Option (List ℕ)) (inputs : List (List ℕ)) (temporary : Option (List ℕ)) (o : RunOptions) → base_of disk base ≡ None → create_of w g disk input name base inputs temporary o.make ≡ unopened disk
-no_base w g disk input name base inputs temporary o e =
-    let f : Option (List ℕ) → List (Option (List ℕ)) → Created = λ old files. placed w disk name base inputs temporary (made_of w g o.make old files input) in
-    ap (λ x. if_opened disk (both f x (inputs_of disk inputs))) e
+  no_inputs : (old : Option (List ℕ)) → base_of w disk base ≡ Ok old → inputs_of disk inputs ≡ None → create_of w g disk input name base inputs temporary o.make ≡ unopened disk
+  no_inputs old based none =
+      ap (λ x. if_based disk x (λ old. if_opened disk (option_map (of_all old) (inputs_of disk inputs)))) based
+      ∙ ap (λ x. if_opened disk (option_map (of_all old) x)) none
+
+  no_base : (fault : Fault) → base_of w disk base ≡ Err fault → create_of w g disk input name base inputs temporary o.make ≡ unmade disk fault
+  no_base fault e = ap (λ x. if_based disk x (λ old. if_opened disk (option_map (of_all old) (inputs_of disk inputs)))) e
 
 -- its last call was answered as the disk is
 head_answered : {F I M Y : Type 0} (s : Ghosts F) (y : Systems Y F I M) (disk : Disk) (stores : List F) (old mid new calls : OpenCalls) (cause : NameFault) (found : Cause) (name : List ℕ) → new ≡ calls ++ old → ((c : OpenCalls) × (mid ≡ c ++ old)) → new ≡ (Unopened cause found, name) ∷ mid
@@ -236,26 +249,48 @@ base_missed : {F I M Y : Type 0} (s : Ghosts F) (y : Systems Y F I M) (w g : ℕ
     → EndsEarly o (create_of w g disk input name base inputs temporary o.make) disk start end told said fault
 base_missed s y w g disk input name None inputs temporary o old new calls stores read start end told said fault e all h k = absurd h
 base_missed s y w g disk input name (Some base) inputs temporary o old new calls stores read start end told said fault e all h k =
-    missed_why o _ disk start end told said fault h.why h.is (λ failed. no_base w g disk input name (Some base) inputs temporary o
-    (ap (option_map (λ b. Some b)) (head_answered s y disk stores old old new calls h.why h.found base e ([], refl) h.calls all failed))) k
+    missed_why o _ disk start end told said fault h.why h.is (λ failed. no_base w g disk input name (Some base) inputs temporary o Open
+    (ap (base_in w) (head_answered s y disk stores old old new calls h.why h.found base e ([], refl) h.calls all failed))) k
 
-pub not_opened_so : {F I M Y : Type 0} (s : Ghosts F) (y : Systems Y F I M) (w g : ℕ) (disk : Disk) (input name : List ℕ) (base : Option (List ℕ)) (inputs : List (List ℕ)) (temporary : Option (List ℕ)) (o : RunOptions) (old new calls : OpenCalls) (stores : List F) (read : Option F) (start end told said : Option (List ℕ)) (fault : Fault)
-    → new ≡ calls ++ old → AreAnswered s disk calls stores → NotOpened y base inputs old new read fault → Keeps start end × Keeps told said
-    → EndsEarly o (create_of w g disk input name base inputs temporary o.make) disk start end told said fault
-not_opened_so s y w g disk input name base inputs temporary o old new calls stores read start end told said fault e all h k = elim h.calls [
-  | inl missed ↦ base_missed s y w g disk input name base inputs temporary o old new calls stores read start end told said fault e all missed.0 k
-  | inr stopped ↦ elim stopped.2.last [
-    | inl memory ↦ memory_so o _ disk start end told said fault memory.1 k
-    | inr missed ↦ (let stops = stopped.2 in
-        let m = missed.3.1 in
-        let before = base_since y base read old stopped.0 stopped.1 in
-        let opened = opened_since y stops.opened stops.readers stopped.0 stops.mid stops.opens in
-        let since : stops.mid ≡ (opened.since ++ before.since) ++ old = opened.are ∙ ap (λ c. opened.since ++ c) before.are ∙ sym (append_assoc opened.since before.since old) in
-        missed_why o _ disk start end told said fault m.why m.is (λ failed. no_inputs w g disk input name base inputs temporary o
-        (missing_inputs disk inputs stops.opened missed.0 missed.1 (stops.are ∙ ap (λ l. stops.opened ++ l) missed.2)
-        (input_missing disk missed.0 missed.3.0 (head_answered s y disk stores old stops.mid new calls m.why m.found missed.0 e (opened.since ++ before.since, since) m.calls all failed)))) k)
+-- without its last call, which opened nothing
+tail_answered : {F : Type 0} (s : Ghosts F) (disk : Disk) (stores : List F) (old mid new calls since : OpenCalls) (cause : NameFault) (found : Cause) (name : List ℕ) → new ≡ calls ++ old → mid ≡ since ++ old → new ≡ (Unopened cause found, name) ∷ mid → AreAnswered s disk calls stores → AreAnswered s disk since stores
+tail_answered s disk stores old mid new calls since cause found name e before is all =
+    let split : calls ≡ (Unopened cause found, name) ∷ since = append_cancel_right calls ((Unopened cause found, name) ∷ since) old (sym e ∙ is ∙ ap (λ c. (Unopened cause found, name) ∷ c) before) in
+    (subst (λ c. AreAnswered s disk c stores) split all).1
+
+pub hands_self : {F : Type 0} (s : Ghosts F) (base : Option F) → HandsBack s base base
+hands_self s None = tt
+hands_self s (Some store) = reads_none s store
+
+-- a base is not there, or refused, or an input is not
+module _ {F I M Y : Type 0} (s : Ghosts F) (ms : Ghosts M) (feed : I → Feed) (y : Systems Y F I M) (w g : ℕ) (disk : Disk) (input name : List ℕ) (base : Option (List ℕ)) (inputs : List (List ℕ)) (temporary : Option (List ℕ)) (o : RunOptions) (old new calls : OpenCalls) (back : Option F) (start end told said : Option (List ℕ)) (fault : Fault)
+    (e : new ≡ calls ++ old) (all : AreAnswered s disk calls (if_some back)) (k : Keeps start end × Keeps told said) where
+  refused_so : LooksAtBase w (files_of s ms feed y) base old new back (Err fault) → EndsEarly o (create_of w g disk input name base inputs temporary o.make) disk start end told said fault
+  refused_so looks = elim (base_refused s ms feed y w disk base back old new calls fault looks e all) [
+    | inl refused ↦ unmade_so o _ disk start end told said fault (no_base w g disk input name base inputs temporary o fault refused) k
+    | inr failed ↦ refused_early o _ disk start end told said fault (subst MayGiveUpCreate (sym failed) tt) k
   ]
-]
+
+  stopped_so : (mid : OpenCalls) → LooksAtBase w (files_of s ms feed y) base old mid back (Ok tt) → StopsOpening y inputs mid new fault → EndsEarly o (create_of w g disk input name base inputs temporary o.make) disk start end told said fault
+  stopped_so mid looks stops = elim stops.last [
+    | inl memory ↦ memory_so o _ disk start end told said fault memory.1 k
+    | inr missed ↦ (let m = missed.3.1 in
+        let before = base_since y base looks.came old mid looks.opens in
+        let opened = opened_since y stops.opened stops.readers mid stops.mid stops.opens in
+        let since : stops.mid ≡ (opened.since ++ before.since) ++ old = opened.are ∙ ap (λ c. opened.since ++ c) before.are ∙ sym (append_assoc opened.since before.since old) in
+        let answered = answered_before s disk (if_some back) opened.since before.since opened.each (tail_answered s disk (if_some back) old stops.mid new calls (opened.since ++ before.since) m.why m.found missed.0 e since m.calls all) in
+        let known = base_known s ms feed y w disk base back old mid before.since back looks (hands_self s back) before.are answered in
+        missed_why o _ disk start end told said fault m.why m.is (λ failed. no_inputs w g disk input name base inputs temporary o known.0 known.1
+        (missing_inputs disk inputs stops.opened missed.0 missed.1 (stops.are ∙ ap (λ l. stops.opened ++ l) missed.2)
+        (input_missing disk missed.0 missed.3.0 (head_answered s y disk (if_some back) old stops.mid new calls m.why m.found missed.0 e (opened.since ++ before.since, since) m.calls all failed)))) k)
+  ]
+
+  pub not_opened_so : NotOpened w (files_of s ms feed y) base inputs old new back fault → EndsEarly o (create_of w g disk input name base inputs temporary o.make) disk start end told said fault
+  not_opened_so h = elim h.calls [
+    | inl missed ↦ base_missed s y w g disk input name base inputs temporary o old new calls (if_some back) back start end told said fault e all missed.0 k
+    | inr (inl looks) ↦ refused_so looks
+    | inr (inr (mid, looks, stops)) ↦ stopped_so mid looks stops
+  ]
 
 -- ---- a file that is read has the temporary name
 
@@ -301,25 +336,18 @@ found name base inputs was now (inr (mid, asks, more)) all =
     let f = found_input name (inputs_read inputs) mid now more all in
     record { one = or_right _ _ (sym (read_input name inputs) ∙ f.one); kept = λ place first held may. base_kept name base was mid asks place first held (f.kept place first held may) }
 
-pub constant : {A B : Type 0} (disk : Disk) (f : A → B → Created) (x : Option A) (y : Option B) → ((a : A) (b : B) → f a b ≡ unopened disk) → if_opened disk (both f x y) ≡ unopened disk
-constant disk f (Some a) (Some b) h = h a b
-constant disk f (Some a) None h = refl
-constant disk f None y h = refl
-
-pub read_unopened : (w g : ℕ) (disk : Disk) (input name : List ℕ) (base : Option (List ℕ)) (inputs : List (List ℕ)) (temporary : Option (List ℕ)) (o : RunOptions) → is_standard name ≡ false → is_in_place name temporary ≡ false → is_read (temporary_of name temporary) base inputs ≡ true
+pub read_unopened : {F : Type 0} (s : Ghosts F) (w g : ℕ) (disk : Disk) (input name : List ℕ) (base : Option (List ℕ)) (inputs : List (List ℕ)) (temporary : Option (List ℕ)) (o : RunOptions) (read : Option F) (left : InputsLeft) → AllKnown s w disk base inputs input read left → is_standard name ≡ false → is_in_place name temporary ≡ false → is_read (temporary_of name temporary) base inputs ≡ true
     → create_of w g disk input name base inputs temporary o.make ≡ unopened disk
-read_unopened w g disk input name base inputs temporary o standard in_place is =
-    constant disk (λ old files. placed w disk name base inputs temporary (made_of w g o.make old files input)) (base_of disk base) (inputs_of disk inputs)
-    (λ old files. cond-false (is_standard name) _ _ standard ∙ cond-false (is_in_place name temporary) _ _ in_place
-    ∙ cond-true (is_read (temporary_of name temporary) base inputs || is_no_name name) _ _ (or_left _ _ is))
+read_unopened s w g disk input name base inputs temporary o read left k standard in_place is =
+    based_is s w disk input base inputs read left (λ old files. placed w disk name base inputs temporary (made_of w g o.make old files input)) k
+    ∙ cond-false (is_standard name) _ _ standard ∙ cond-false (is_in_place name temporary) _ _ in_place
+    ∙ cond-true (is_read (temporary_of name temporary) base inputs || is_no_name name) _ _ (or_left _ _ is)
 
-pub hands_none : {F : Type 0} (s : Ghosts F) (old new : Option F) → HandsBack s old new → old ≡ None → new ≡ None
-hands_none s None None h e = refl
-hands_none s None (Some store) h e = absurd h
-hands_none s (Some store) new h e = absurd (let no : ◌≡◌ {A = Option _} (Some store) None = e in cc)
+pub hands_unread : {F : Type 0} (s : Ghosts F) (base back : Option F) → back ≡ base → HandsBack s base back
+hands_unread s base back e = subst (HandsBack s base) (sym e) (hands_self s base)
 
-pub back_none : {F R : Type 0} (s : Ghosts F) (r : Raw R) (m : Making F) (temporary name : List ℕ) (old new : State OpenCalls) (back : Option F) (result : Result Unit Fault) → Replaces s r m temporary name old new back result → m.base ≡ None → back ≡ None
-back_none s r m temporary name old new back result h e = elim h.lines [
-  | inl none ↦ none.gave_up ∙ e
-  | inr some ↦ elim some.tells_so [ inl ran ↦ hands_none s m.base back ran.hands e | inr lacks ↦ lacks.0 ∙ e ]
+pub back_hands : {F R : Type 0} (s : Ghosts F) (r : Raw R) (m : Making F) (temporary name : List ℕ) (old new : State OpenCalls) (back : Option F) (result : Result Unit Fault) → Replaces s r m temporary name old new back result → HandsBack s m.base back
+back_hands s r m temporary name old new back result h = elim h.lines [
+  | inl none ↦ hands_unread s m.base back none.gave_up
+  | inr some ↦ elim some.tells_so [ inl ran ↦ ran.hands | inr lacks ↦ hands_unread s m.base back lacks.0 ]
 ]

@@ -24,37 +24,36 @@ use Rattle.cdb_show.specs.declared.fault.Fault.{Fault}
 use Rattle.cdb_show.specs.declared.fault.Fault.TheVariants.{Make, Rename}
 use Rattle.cdb_tool.specs.Runs.Made.{Made, made_file, made_lines, made_of}
 use Rattle.cdb_show.specs.Runs.Incoming.{Known}
-use Rattle.cdb.specs.Created.{Created, base_of, create_of, if_opened, is_in_place, in_place, is_read, on_output, placed, unopened}
+use Rattle.cdb_tool.specs.Runs.Make.{HandsBack}
+use Rattle.cdb.specs.Created.{Created, create_of, is_in_place, in_place, is_read, on_output, placed, unopened}
 use Rattle.cdb.specs.Creating.{HasDatabase, IsBufferedRun, IsMakeRun, MakesEmptied, MakesOnOutput, SeesName, Syncs, WritesAll, AsksAll, Making}
 use Rattle.cdb.specs.ForetoldCreate.{HoldsAll, IsNamed, IsNoFailedRename, KeepsAll, passing}
 use Rattle.cdb_system.specs.Opening.{Empties, MissesEmptying, OpenCalls, named_as, unopened as unopened_fault}
-use Rattle.cdb_system.specs.Oracle.{Disk, both, inputs_of, is_standard}
+use Rattle.cdb_system.specs.Oracle.{Disk, is_standard}
 use Rattle.cdb_system.specs.declared.system.System.{Ghosts as Systems}
 use Rattle.cdb_system.specs.declared.left.Left.{Left}
 use Rattle.cdb.proofs.Replaced.{BaseHas, EndsSo, IsPlain, WasRefused, database_is, made_here, ran_err, ran_ok, whole_lines, none_appended, said_nothing}
 use Rattle.cdb.proofs.CreateReads.{AllKnown, Asking, asked_all, asking_all, asking_none, moments_first}
-use Rattle.cdb.proofs.CreateEnds.{AnsweredNames, Knows, Came, CameTrue, CreateSo, GaveUp, constant, hands_none, has_first, holds_first, keeps_first, same_name}
+use Rattle.cdb.proofs.CreateEnds.{AnsweredNames, Knows, Came, CameTrue, CreateSo, GaveUp, based_is, hands_unread, has_first, holds_first, keeps_first, same_name}
 use Rattle.cdb_system.specs.State.{state_of}
 use Rattle.cdb_system.specs.Files.{files_of}
 
 -- ---- in place
 
-in_place_is : {F : Type 0} (s : Ghosts F) (w g : ℕ) (disk : Disk) (input name : List ℕ) (base : Option (List ℕ)) (inputs : List (List ℕ)) (temporary : Option (List ℕ)) (o : RunOptions) (read : Option F) (left : InputsLeft) → (k : AllKnown s disk base inputs input read left) → is_standard name ≡ false → is_in_place name temporary ≡ true → is_read name base inputs ≡ false
+in_place_is : {F : Type 0} (s : Ghosts F) (w g : ℕ) (disk : Disk) (input name : List ℕ) (base : Option (List ℕ)) (inputs : List (List ℕ)) (temporary : Option (List ℕ)) (o : RunOptions) (read : Option F) (left : InputsLeft) → (k : AllKnown s w disk base inputs input read left) → is_standard name ≡ false → is_in_place name temporary ≡ true → is_read name base inputs ≡ false
     → (made : Made) → made ≡ made_of w g o.make k.old k.files input → create_of w g disk input name base inputs temporary o.make ≡ in_place disk name (made_lines made) (made_file w made) made.result
 in_place_is s w g disk input name base inputs temporary o read left k standard placed_in other made is =
-    let f : Option (List ℕ) → List (Option (List ℕ)) → Created = λ old files. placed w disk name base inputs temporary (made_of w g o.make old files input) in
-    ap (λ x. if_opened disk (both f x (inputs_of disk inputs))) k.base_is
-    ∙ ap (λ x. if_opened disk (both f (Some k.old) x)) k.are
+    based_is s w disk input base inputs read left (λ old files. placed w disk name base inputs temporary (made_of w g o.make old files input)) k
     ∙ cond-false (is_standard name) _ _ standard
     ∙ cond-true (is_in_place name temporary) _ _ placed_in
     ∙ cond-false (is_read name base inputs) _ _ other
     ∙ ap (λ v. in_place disk name (made_lines v) (made_file w v) v.result) (sym is)
 
-pub in_place_unopened : (w g : ℕ) (disk : Disk) (input name : List ℕ) (base : Option (List ℕ)) (inputs : List (List ℕ)) (temporary : Option (List ℕ)) (o : RunOptions) → is_standard name ≡ false → is_in_place name temporary ≡ true → is_read name base inputs ≡ true
+pub in_place_unopened : {F : Type 0} (s : Ghosts F) (w g : ℕ) (disk : Disk) (input name : List ℕ) (base : Option (List ℕ)) (inputs : List (List ℕ)) (temporary : Option (List ℕ)) (o : RunOptions) (read : Option F) (left : InputsLeft) → AllKnown s w disk base inputs input read left → is_standard name ≡ false → is_in_place name temporary ≡ true → is_read name base inputs ≡ true
     → create_of w g disk input name base inputs temporary o.make ≡ unopened disk
-in_place_unopened w g disk input name base inputs temporary o standard placed_in is =
-    constant disk (λ old files. placed w disk name base inputs temporary (made_of w g o.make old files input)) (base_of disk base) (inputs_of disk inputs)
-    (λ old files. cond-false (is_standard name) _ _ standard ∙ cond-true (is_in_place name temporary) _ _ placed_in ∙ cond-true (is_read name base inputs) _ _ is)
+in_place_unopened s w g disk input name base inputs temporary o read left k standard placed_in is =
+    based_is s w disk input base inputs read left (λ old files. placed w disk name base inputs temporary (made_of w g o.make old files input)) k
+    ∙ cond-false (is_standard name) _ _ standard ∙ cond-true (is_in_place name temporary) _ _ placed_in ∙ cond-true (is_read name base inputs) _ _ is
 
 -- what it says
 place_lines : (disk : Disk) (name lines file : List ℕ) (result : Result Unit Fault) → (in_place disk name lines file result).lines ≡ lines
@@ -172,9 +171,9 @@ emptying_refused name old new fault (inr (inl held)) = subst MayGiveUpCreate (sy
 emptying_refused name old new fault (inr (inr (inl (answer, asks, is)))) = unnamed_refused answer fault is
 emptying_refused name old new fault (inr (inr (inr (locked, takes, misses)))) = subst MayGiveUpCreate (sym misses.is) (opening_refused misses.why)
 
-back_of : {F : Type 0} (s : Ghosts F) (mk : Making F) (back : Option F) (images : List ℕ → Type 0) (told said : Option (List ℕ)) (made : Result Unit Fault) → IsBufferedRun s mk back images told said made → mk.base ≡ None → back ≡ None
-back_of s mk back images told said made (inl ran) e = hands_none s mk.base back ran.hands e
-back_of s mk back images told said made (inr lacks) e = lacks.0 ∙ e
+back_of : {F : Type 0} (s : Ghosts F) (mk : Making F) (back : Option F) (images : List ℕ → Type 0) (told said : Option (List ℕ)) (made : Result Unit Fault) → IsBufferedRun s mk back images told said made → HandsBack s mk.base back
+back_of s mk back images told said made (inl ran) = ran.hands
+back_of s mk back images told said made (inr lacks) = hands_unread s mk.base back lacks.0
 
 place_done : {F M : Type 0} (s : Ghosts F) (m : Ghosts M) (disk : Disk) (name : List ℕ) (mk : Making F) (x : Option (List ℕ)) (files : List (Option (List ℕ))) (input : List ℕ) (back : Option F) (last : M) (c : Created) (emptied opened : OpenCalls) (was now : NameCalls) (synced result : Result Unit Fault) → was ≡ [] → Asking was now → BaseHas s back x → Known files input mk.inputs
     → c ≡ in_place disk name (made_lines (made_here mk x files input)) (made_file mk.word (made_here mk x files input)) (made_here mk x files input).result → OnOk synced (HasDatabase s mk back (m.image last)) → SeesName name emptied opened synced result → OnOk result (HoldsAll m disk name (Some last) opened now c)
@@ -188,12 +187,11 @@ if_err P (Ok done) p = tt
 if_err P (Err f) p = p
 
 pub emptied_so : {F I J M Y : Type 0} (s : Ghosts F) (m : Ghosts M) (feed : I → Feed) (y : Systems Y F I M) (w g : ℕ) (disk : Disk) (input name : List ℕ) (base : Option (List ℕ)) (inputs : List (List ℕ)) (temporary : Option (List ℕ)) (o : RunOptions) (mid emptied new : OpenCalls) (file : Option F) (items : InputsLeft) (left : Left F M I J) (was now : NameCalls) (start end told said : Option (List ℕ)) (result : Result Unit Fault)
-    → is_standard name ≡ false → is_in_place name temporary ≡ true → Knows s disk base inputs input file left.read items → AnsweredNames disk name was now → Keeps start end → AsksAll name base inputs was now → Empties name mid emptied
+    → is_standard name ≡ false → is_in_place name temporary ≡ true → Knows s w disk base inputs input file left.read items → AnsweredNames disk name was now → Keeps start end → AsksAll name base inputs was now → Empties name mid emptied
     → MakesEmptied (files_of s m feed y) (record { word = w; greatest = g; options = o; base = file; inputs = items }) name emptied (state_of mid was start told) (state_of new now end said) left result → CreateSo m disk name temporary o (create_of w g disk input name base inputs temporary o.make) new was now left.made start end told said result
 emptied_so s m feed y w g disk input name base inputs temporary o mid emptied new file items left was now start end told said result standard placed_in knows honest kept asks empties h =
     let mk : Making _ = record { word = w; greatest = g; options = o; base = file; inputs = items } in
-    let none : file ≡ None → left.read ≡ None = back_of s mk left.read (m.image h.built) told said h.made h.run in
-    let known = knows none in
+    let known = knows (back_of s mk left.read (m.image h.built) told said h.made h.run) in
     let question = asked_all name base inputs was now asks honest.alone in
     let a = asking_all name base inputs was now asks in
     let c = create_of w g disk input name base inputs temporary o.make in
@@ -208,12 +206,10 @@ emptied_so s m feed y w g disk input name base inputs temporary o mid emptied ne
 
 -- ---- on standard output
 
-output_is : {F : Type 0} (s : Ghosts F) (w g : ℕ) (disk : Disk) (input name : List ℕ) (base : Option (List ℕ)) (inputs : List (List ℕ)) (temporary : Option (List ℕ)) (o : RunOptions) (read : Option F) (left : InputsLeft) → (k : AllKnown s disk base inputs input read left) → is_standard name ≡ true
+output_is : {F : Type 0} (s : Ghosts F) (w g : ℕ) (disk : Disk) (input name : List ℕ) (base : Option (List ℕ)) (inputs : List (List ℕ)) (temporary : Option (List ℕ)) (o : RunOptions) (read : Option F) (left : InputsLeft) → (k : AllKnown s w disk base inputs input read left) → is_standard name ≡ true
     → (made : Made) → made ≡ made_of w g o.make k.old k.files input → create_of w g disk input name base inputs temporary o.make ≡ on_output disk (made_lines made) (made_file w made) made.result
 output_is s w g disk input name base inputs temporary o read left k standard made is =
-    let f : Option (List ℕ) → List (Option (List ℕ)) → Created = λ old files. placed w disk name base inputs temporary (made_of w g o.make old files input) in
-    ap (λ x. if_opened disk (both f x (inputs_of disk inputs))) k.base_is
-    ∙ ap (λ x. if_opened disk (both f (Some k.old) x)) k.are
+    based_is s w disk input base inputs read left (λ old files. placed w disk name base inputs temporary (made_of w g o.make old files input)) k
     ∙ cond-true (is_standard name) _ _ standard
     ∙ ap (λ v. on_output disk (made_lines v) (made_file w v) v.result) (sym is)
 
@@ -285,12 +281,11 @@ if_ok P (Ok done) p = p
 if_ok P (Err f) p = tt
 
 pub output_so : {F M : Type 0} (s : Ghosts F) (m : Ghosts M) (w g : ℕ) (disk : Disk) (input name : List ℕ) (base : Option (List ℕ)) (inputs : List (List ℕ)) (temporary : Option (List ℕ)) (o : RunOptions) (file read : Option F) (items : InputsLeft) (was now : NameCalls) (start end told said : Option (List ℕ)) (result : Result Unit Fault)
-    → is_standard name ≡ true → Knows s disk base inputs input file read items → AnsweredNames disk name was now → now ≡ was
+    → is_standard name ≡ true → Knows s w disk base inputs input file read items → AnsweredNames disk name was now → now ≡ was
     → MakesOnOutput s (record { word = w; greatest = g; options = o; base = file; inputs = items }) read start end told said result → CreateSo m disk name temporary o (create_of w g disk input name base inputs temporary o.make) [] was now None start end told said result
 output_so s m w g disk input name base inputs temporary o file read items was now start end told said result standard knows honest calls h =
     let mk : Making _ = record { word = w; greatest = g; options = o; base = file; inputs = items } in
-    let none : file ≡ None → read ≡ None = hands_none s file read h.makes.run.hands in
-    let known = knows none in
+    let known = knows h.makes.run.hands in
     let c = create_of w g disk input name base inputs temporary o.make in
     let v = made_here mk known.old known.files input in
     let is = output_is s w g disk input name base inputs temporary o read items known standard v refl in

@@ -1,5 +1,5 @@
 -- What a create reads, and what is asked of its names, by the calls that were noted.
-use Rattle.std.proofs.Common.{ℕ, Bool, false, List, [], ◌∷◌, ◌++◌, length, Option, Some, None, IfSome, ◌≡◌, ◌∙◌, ap, inl, inr, refl, subst, sym, append_assoc, append-nil, bytes_eq, option_map, if◌then◌else◌}
+use Rattle.std.proofs.Common.{ℕ, Bool, false, List, [], ◌∷◌, ◌++◌, length, Option, Some, None, IfSome, Result, Ok, Err, ◌≡◌, ◌⊎◌, ◌∙◌, ap, inl, inr, refl, subst, sym, append_assoc, append-nil, bytes_eq, option_map, if◌then◌else◌}
 use Rattle.std.specs.Prelude.{⊤, unwrap_or}
 use Rattle.std.specs.List.{AllByRecursion}
 use Rattle.std.proofs.lemmas.Bool.{cond-true, cond-false, false_from_ne_true, or_from}
@@ -15,15 +15,19 @@ use Rattle.cdb_feed.specs.declared.input_reader.InputReader.TheVariants as reade
 use Rattle.cdb_form.specs.Fed.Feed.{Feed}
 use Rattle.cdb_form.specs.Format.Record.{AreBytes}
 use Rattle.cdb_store.specs.declared.store.Store.{Ghosts}
+use Rattle.cdb_read.specs.declared.fault.ReadFault.TheVariants.{Device}
+use Rattle.cdb_tool.specs.Runs.Make.{HandsBack}
 use Rattle.cdb_show.specs.Runs.Inputs.{InputsLeft}
 use Rattle.cdb_show.specs.Runs.Incoming.{EachOfBytes, Known}
 use Rattle.cdb_show.specs.Views.Inputs.{AreInPlace}
+use Rattle.cdb_show.specs.declared.fault.Fault.{Fault}
+use Rattle.cdb_show.specs.declared.fault.Fault.TheVariants.{Read}
 use Rattle.cdb_show.specs.declared.inputs.Inputs.{Inputs}
 use Rattle.cdb_show.proofs.GivenInputs.{known_all}
 use Rattle.cdb.specs.Agreeing.{HandsInputs, InputsAgree, OpensNone, OpensNoMore}
 use Rattle.cdb.specs.Agreeing.{inputs_of as bytes_of}
-use Rattle.cdb.specs.Created.{base_of, is_base, is_input, is_read}
-use Rattle.cdb.specs.Creating.{AsksAll, AsksBase, AsksEach, AsksOne, FindsBase, FindsInput, FindsOne, OpensAll}
+use Rattle.cdb.specs.Created.{base_in, base_of, head_fault, is_base, is_input, is_read, unless_refused}
+use Rattle.cdb.specs.Creating.{AsksAll, AsksBase, AsksEach, AsksOne, FindsBase, FindsInput, FindsOne, LooksAtBase, OpensAll, SeesBase}
 use Rattle.cdb_system.specs.Answered.{AreAnswered, IsThere, Shows, if_some, stores_before, stores_in, streams_in}
 use Rattle.cdb.specs.ForetoldCreate.{HonestCreate, IsNoAlias, LeavesAll, place_of}
 use Rattle.cdb_system.specs.Inputs.{inputs_read, OpensBase, OpensEach}
@@ -45,25 +49,57 @@ shown s (Some b) None h = absurd h
 shown s None read h = absurd h
 
 -- all that is read
-pub record AllKnown {F : Type 0} (s : Ghosts F) (disk : Disk) (base : Option (List ℕ)) (inputs : List (List ℕ)) (input : List ℕ) (read : Option F) (left : InputsLeft) : Type 0 where
+pub record AllKnown {F : Type 0} (s : Ghosts F) (w : ℕ) (disk : Disk) (base : Option (List ℕ)) (inputs : List (List ℕ)) (input : List ℕ) (read : Option F) (left : InputsLeft) : Type 0 where
   pub old : Option (List ℕ)
-  pub base_is : base_of disk base ≡ Some old
+  pub base_is : base_of w disk base ≡ Ok old
   pub has : BaseHas s read old
   pub files : List (Option (List ℕ))
   pub are : inputs_of disk inputs ≡ Some files
   pub known : Known files input left
 
--- the base
-base_known : {F I M Y : Type 0} (s : Ghosts F) (y : Systems Y F I M) (disk : Disk) (read file : Option F) (base : Option (List ℕ)) (old new calls : OpenCalls) → OpensBase y base file old new → (file ≡ None → read ≡ None)
-    → new ≡ calls ++ old → AreAnswered s disk calls (if_some read) → (x : Option (List ℕ)) × (base_of disk base ≡ Some x) × BaseHas s read x
-base_known s y disk read None None old new calls h none e all = (None, refl, subst (λ r. BaseHas s r None) (sym (none refl)) tt)
-base_known s y disk read (Some file) (Some name) old new calls h none e all =
-    let only : calls ≡ (AtPlaces, name) ∷ [] = append_cancel_right calls ((AtPlaces, name) ∷ []) old (sym e ∙ h.0) in
-    let answered = (subst (λ c. AreAnswered s disk c (if_some read)) only all).0 in
-    let is = shown s (disk name) read answered in
-    (Some is.0, ap (option_map (λ b. Some b)) is.1, is.2)
-base_known s y disk read None (Some name) old new calls h none e all = absurd h
-base_known s y disk read (Some file) None old new calls h none e all = absurd h
+-- the bytes of a base that was opened, whose store is handed back
+base_shown : {F I M Y : Type 0} (s : Ghosts F) (y : Systems Y F I M) (disk : Disk) (name : List ℕ) (came : F) (read : Option F) (old new calls : OpenCalls) → OpensBase y (Some name) (Some came) old new → new ≡ calls ++ old → AreAnswered s disk calls (if_some read)
+    → (b : List ℕ) × (disk name ≡ Some b) × BaseHas s read (Some b)
+base_shown s y disk name came read old new calls opens e all =
+    let only : calls ≡ (AtPlaces, name) ∷ [] = append_cancel_right calls ((AtPlaces, name) ∷ []) old (sym e ∙ opens.0) in
+    shown s (disk name) read (subst (λ c. AreAnswered s disk c (if_some read)) only all).0
+
+-- its head does not refuse it
+base_passed : {F I M Y : Type 0} (s : Ghosts F) (y : Systems Y F I M) (w : ℕ) (disk : Disk) (base : Option (List ℕ)) (came file read : Option F) (old new calls : OpenCalls) → OpensBase y base came old new → SeesBase w s came file (Ok tt) → HandsBack s file read
+    → new ≡ calls ++ old → AreAnswered s disk calls (if_some read) → (x : Option (List ℕ)) × (base_of w disk base ≡ Ok x) × BaseHas s read x
+base_passed s y w disk None None None None old new calls opens sees hands e all = (None, refl, tt)
+base_passed s y w disk (Some name) (Some came) (Some file) (Some read) old new calls opens sees hands e all =
+    let is = base_shown s y disk name came (Some read) old new calls opens e all in
+    let passes : head_fault w is.0 ≡ None = sees.ok is.0 (hands.images is.0 is.2) in
+    (Some is.0, ap (base_in w) is.1 ∙ ap (λ fault. unless_refused fault is.0) passes, is.2)
+base_passed s y w disk None None None (Some read) old new calls opens sees hands e all = absurd hands
+base_passed s y w disk None None (Some file) read old new calls opens sees hands e all = absurd sees
+base_passed s y w disk None (Some came) file read old new calls opens sees hands e all = absurd opens
+base_passed s y w disk (Some name) None file read old new calls opens sees hands e all = absurd opens
+base_passed s y w disk (Some name) (Some came) None read old new calls opens sees hands e all = absurd sees
+base_passed s y w disk (Some name) (Some came) (Some file) None old new calls opens sees hands e all = absurd hands
+
+-- or it does, or its store failed
+base_stopped : {F I M Y : Type 0} (s : Ghosts F) (y : Systems Y F I M) (w : ℕ) (disk : Disk) (base : Option (List ℕ)) (came file : Option F) (old new calls : OpenCalls) (fault : Fault) → OpensBase y base came old new → SeesBase w s came file (Err fault)
+    → new ≡ calls ++ old → AreAnswered s disk calls (if_some file) → (base_of w disk base ≡ Err fault) ⊎ (fault ≡ Read Device)
+base_stopped s y w disk (Some name) (Some came) (Some file) old new calls fault opens sees e all =
+    let is = base_shown s y disk name came (Some file) old new calls opens e all in
+    elim sees.err [
+      | inl refuses ↦ inl (ap (base_in w) is.1 ∙ ap (λ found. unless_refused found is.0) (refuses is.0 is.2))
+      | inr failed ↦ inr failed.0
+    ]
+base_stopped s y w disk None None None old new calls fault opens sees e all = absurd (let no : ◌≡◌ {A = Result Unit Fault} (Err fault) (Ok tt) = sees in cc)
+base_stopped s y w disk None None (Some file) old new calls fault opens sees e all = absurd sees
+base_stopped s y w disk None (Some came) file old new calls fault opens sees e all = absurd opens
+base_stopped s y w disk (Some name) None file old new calls fault opens sees e all = absurd opens
+base_stopped s y w disk (Some name) (Some came) None old new calls fault opens sees e all = absurd sees
+
+module _ {F I M Y : Type 0} (s : Ghosts F) (m : Ghosts M) (feed : I → Feed) (y : Systems Y F I M) (w : ℕ) (disk : Disk) (base : Option (List ℕ)) (file : Option F) (old new calls : OpenCalls) where
+  pub base_known : (read : Option F) → LooksAtBase w (files_of s m feed y) base old new file (Ok tt) → HandsBack s file read → new ≡ calls ++ old → AreAnswered s disk calls (if_some read) → (x : Option (List ℕ)) × (base_of w disk base ≡ Ok x) × BaseHas s read x
+  base_known read looks hands e all = base_passed s y w disk base looks.came file read old new calls looks.opens looks.sees hands e all
+
+  pub base_refused : (fault : Fault) → LooksAtBase w (files_of s m feed y) base old new file (Err fault) → new ≡ calls ++ old → AreAnswered s disk calls (if_some file) → (base_of w disk base ≡ Err fault) ⊎ (fault ≡ Read Device)
+  base_refused fault looks e all = base_stopped s y w disk base looks.came file old new calls fault looks.opens looks.sees e all
 
 -- the call that opened it, which opened nothing in turn
 pub record BaseSince (old new : OpenCalls) : Type 0 where
@@ -145,9 +181,9 @@ streams_are inputs handed left h =
     ∙ ap (λ v. own_readers (unwrap_or (option_map (λ readers. readers.items) v) [])) h.readers
 
 module _ {F I J M Y : Type 0} (s : Ghosts F) (m : Ghosts M) (feed : I → Feed) (y : Systems Y F I M) (disk : Disk) (input name : List ℕ) (base : Option (List ℕ)) (inputs : List (List ℕ)) (standard : Standard J) (old mid new : OpenCalls) (left : Left F M I J) (was now : NameCalls) (start end told said : Option (List ℕ)) (file : Option F) (before handed : Inputs I J)
-    (honest : HonestCreate (files_of s m feed y) disk input name standard (state_of old was start told) (state_of new now end said) left) (opens : OpensAll (files_of s m feed y) base inputs old mid file before.readers.items) (shared : before.shared ≡ standard.reader) (hands : HandsInputs before handed left) (more : OpensNoMore mid new) where
+    (w : ℕ) (honest : HonestCreate (files_of s m feed y) disk input name standard (state_of old was start told) (state_of new now end said) left) (opens : OpensAll w (files_of s m feed y) base inputs old mid file before.readers.items) (shared : before.shared ≡ standard.reader) (hands : HandsInputs before handed left) (more : OpensNoMore mid new) where
   at_base : BaseSince old opens.mid
-  at_base = base_since y base file old opens.mid opens.base_is
+  at_base = base_since y base opens.base_is.came old opens.mid opens.base_is.opens
 
   each_opens : OpensEach y (inputs_read inputs) before.readers.items opens.mid mid
   each_opens = inputs_since y inputs before.readers.items opens.mid mid opens.inputs_are
@@ -187,12 +223,12 @@ module _ {F I J M Y : Type 0} (s : Ghosts F) (m : Ghosts M) (feed : I → Feed) 
         };
       }
 
-  -- and the base, if it is handed back as it was opened or not at all
-  pub all_found : left.other ≡ None → (file ≡ None → left.read ≡ None) → AllKnown s disk base inputs input left.read (bytes_of inputs_found.files input)
-  all_found alone none =
+  -- and the base, if it is handed back
+  pub all_found : left.other ≡ None → HandsBack s file left.read → AllKnown s w disk base inputs input left.read (bytes_of inputs_found.files input)
+  all_found alone hands =
       let found = inputs_found in
       let answered = subst (λ l. AreAnswered s disk at_base.since l) (ap (λ v. if_some v ++ if_some left.read) alone) (answered_before s disk (stores_in left) at_inputs.since at_base.since at_inputs.each answered_there) in
-      let x = base_known s y disk left.read file base old opens.mid at_base.since opens.base_is none at_base.are answered in
+      let x = base_known s m feed y w disk base file old opens.mid at_base.since left.read opens.base_is hands at_base.are answered in
       record {
         old = x.0;
         base_is = x.1;

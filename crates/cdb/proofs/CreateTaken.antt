@@ -2,7 +2,7 @@
 use Rattle.std.proofs.Common.{◌≡◌, subst, Result, Err}
 use Rattle.cdb_show.specs.Views.Output.{OutputSays}
 use Rattle.cdb_show.specs.declared.fault.Fault.{Fault}
-use Rattle.cdb_show.specs.declared.fault.Fault.TheVariants.{Text, Make, Duplicate, Missing, Read, Walk, Output, Long, Open, Rename, NoMemory, Old, New, NoOldTables, NoNewTables}
+use Rattle.cdb_show.specs.declared.fault.Fault.TheVariants.{Text, Make, Duplicate, Missing, Read, Walk, Output, Long, Open, Rename, NoMemory, Old, New, NoOldTables, NoNewTables, NoBaseTables}
 use Rattle.cdb.specs.ForetoldCreate.{IsCreateRefusal}
 
 -- of a create; or an output failed
@@ -26,3 +26,4 @@ taken_create (Old g) result works says is h = h
 taken_create (New g) result works says is h = h
 taken_create NoOldTables result works says is h = h
 taken_create NoNewTables result works says is h = h
+taken_create NoBaseTables result works says is h = h

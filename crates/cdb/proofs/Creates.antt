@@ -15,14 +15,14 @@ use Rattle.cdb.specs.Agreeing.{inputs_of as bytes_of}
 use Rattle.cdb.specs.Creating.{Creates, HandsBase, Making, MakesAt}
 use Rattle.cdb_system.specs.Places.{IsInPlace, temporary_of}
 use Rattle.cdb.specs.ForetoldCreate.{HonestCreate}
-use Rattle.cdb_system.specs.Answered.{stores_in}
+use Rattle.cdb_system.specs.Answered.{AreAnswered, stores_in}
 use Rattle.cdb_system.specs.Opening.{OpenCalls}
 use Rattle.cdb_system.specs.Oracle.{Disk}
 use Rattle.cdb_system.specs.declared.system.System.{Ghosts as Systems}
 use Rattle.cdb_system.specs.declared.left.Left.{Left}
 use Rattle.cdb.proofs.CreateReads.{all_found, asking_all, asking_finds, asking_none, inputs_found}
 use Rattle.cdb_system.proofs.InputsKnown.{standard_is, standard_not}
-use Rattle.cdb.proofs.CreateEnds.{AnsweredNames, CreateSo, Knows, back_none, ends_early, found, memory_so, not_opened_so, open_so, read_unopened, refused_early}
+use Rattle.cdb.proofs.CreateEnds.{AnsweredNames, CreateSo, Knows, back_hands, ends_early, found, hands_unread, memory_so, not_opened_so, open_so, read_unopened, refused_early}
 use Rattle.cdb.proofs.CreateApart.{replacing_so}
 use Rattle.cdb.proofs.CreatePlaced.{emptied_so, emptying_refused, in_place_unopened, output_so}
 use Rattle.cdb_system.specs.State.{Standard, state_of}
@@ -57,7 +57,7 @@ module _ {F I J M R Y : Type 0} (s : Ghosts F) (m : Ghosts M) (r : Raw R) (feed 
 
 -- the database was made
 module _ {F I J M R Y : Type 0} (s : Ghosts F) (m : Ghosts M) (r : Raw R) (feed : I → Feed) (y : Systems Y F I M) (w g : ℕ) (disk : Disk) (input name : List ℕ) (base : Option (List ℕ)) (inputs : List (List ℕ)) (temporary : Option (List ℕ)) (o : RunOptions) (mid new : OpenCalls) (left : Left F M I J) (was now : NameCalls) (start end told said : Option (List ℕ)) (result : Result Unit Fault) (file : Option F) (items : InputsLeft)
-    (knows : Knows s disk base inputs input file left.read items) (honest : AnsweredNames disk name was now) where
+    (knows : Knows s w disk base inputs input file left.read items) (honest : AnsweredNames disk name was now) where
   makes_so : MakesAt (files_of s m feed y) r (record { word = w; greatest = g; options = o; base = file; inputs = items }) (record { word = w; greatest = g; options = o; name = name; base = base; inputs = inputs; temporary = temporary }) (state_of mid was start told) (state_of new now end said) left result
       → CreateSo m disk name temporary o (create_of w g disk input name base inputs temporary o.make) new was now left.made start end told said result
   makes_so (inl (at_output, same, calls, handed, makes)) =
@@ -70,7 +70,7 @@ module _ {F I J M R Y : Type 0} (s : Ghosts F) (m : Ghosts M) (r : Raw R) (feed 
       with_none m disk name temporary o c new was now file left start end told said result handed
       (subst (CreateSo m disk name temporary o c [] was now None start end told said) (sym is)
       (ends_early m o c disk name temporary was now start end told said Open honest.first (asking_finds name base inputs was now finds)
-      (open_so o c disk start end told said (in_place_unopened w g disk input name base inputs temporary o (standard_not name other) (in_place_now name temporary here) f.one) (kept, silent))))
+      (open_so o c disk start end told said (in_place_unopened s w g disk input name base inputs temporary o left.read items (knows (hands_unread s file left.read handed.read)) (standard_not name other) (in_place_now name temporary here) f.one) (kept, silent))))
   makes_so (inr (other, kept, inl (here, inr (asks, inl (fault, misses, handed, is, silent))))) =
       let c = create_of w g disk input name base inputs temporary o.make in
       with_none m disk name temporary o c new was now file left start end told said result handed
@@ -90,13 +90,13 @@ module _ {F I J M R Y : Type 0} (s : Ghosts F) (m : Ghosts M) (r : Raw R) (feed 
       with_none m disk name temporary o c new was now left.read left start end told said result handed
       (subst (CreateSo m disk name temporary o c [] was now None start end told said) (sym is)
       (ends_early m o c disk name temporary was now start end told said Open honest.first (asking_finds (temporary_of name temporary) base inputs was now finds)
-      (open_so o c disk start end told said (read_unopened w g disk input name base inputs temporary o (standard_not name other) (in_place_not name temporary apart) f.one) (kept, silent))))
+      (open_so o c disk start end told said (read_unopened s w g disk input name base inputs temporary o left.read items (knows (hands_unread s file left.read back)) (standard_not name other) (in_place_not name temporary apart) f.one) (kept, silent))))
   makes_so (inr (other, kept, inr (apart, same, handed, inr (inr (asked, asks, replaces))))) =
       let c = create_of w g disk input name base inputs temporary o.make in
       let mk : Making _ = record { word = w; greatest = g; options = o; base = file; inputs = items } in
-      let none : file ≡ None → left.read ≡ None = back_none s r mk (temporary_of name temporary) name (state_of mid asked start told) (state_of new now end said) left.read result replaces in
+      let hands = back_hands s r mk (temporary_of name temporary) name (state_of mid asked start told) (state_of new now end said) left.read result replaces in
       with_none m disk name temporary o c new was now left.read left start end told said result handed
-      (replacing_so s m r w g disk input name base inputs temporary o mid new file left.read items was asked now start end told said result (standard_not name other) (in_place_not name temporary apart) none knows honest kept asks replaces)
+      (replacing_so s m r w g disk input name base inputs temporary o mid new file left.read items was asked now start end told said result (standard_not name other) (in_place_not name temporary apart) hands knows honest kept asks replaces)
 
 pub creates_so : {F I J M R Y : Type 0} (s : Ghosts F) (m : Ghosts M) (r : Raw R) (feed : I → Feed) (y : Systems Y F I M) (w g : ℕ) (disk : Disk) (input name : List ℕ) (base : Option (List ℕ)) (inputs : List (List ℕ)) (temporary : Option (List ℕ)) (o : RunOptions) (standard : Standard J) (old new : OpenCalls) (left : Left F M I J) (was now : NameCalls) (start end told said : Option (List ℕ)) (result : Result Unit Fault)
     → HonestCreate (files_of s m feed y) disk input name standard (state_of old was start told) (state_of new now end said) left → Creates (files_of s m feed y) r (record { word = w; greatest = g; options = o; name = name; base = base; inputs = inputs; temporary = temporary }) standard (state_of old was start told) (state_of new now end said) left result
@@ -106,12 +106,12 @@ creates_so s m r feed y w g disk input name base inputs temporary o standard old
     with_none m disk name temporary o c new was now left.read left start end told said result (record { read = refl; other = ap (λ (l : Left _ _ _ _). l.other) handed; made = ap (λ (l : Left _ _ _ _). l.made) handed })
     (subst (CreateSo m disk name temporary o c [] was now None start end told said) (sym is)
     (ends_early m o c disk name temporary was now start end told said fault honest.first (asking_none was now same)
-    (not_opened_so s y w g disk input name base inputs temporary o old new honest.calls (stores_in left) left.read start end told said fault honest.are honest.answered not_opened (kept, silent))))
+    (not_opened_so s m feed y w g disk input name base inputs temporary o old new honest.calls left.read start end told said fault honest.are (subst (λ (l : Left _ _ _ _). AreAnswered s disk honest.calls (stores_in l)) handed honest.answered) (kept, silent) not_opened)))
 creates_so s m r feed y w g disk input name base inputs temporary o standard old new left was now start end told said result honest (inr (file, before, mid, opens, all)) =
-    let found_so = inputs_found s m feed y disk input name base inputs standard old mid new left was now start end told said file before all.handed honest opens all.shared all.hands all.opens in
+    let found_so = inputs_found s m feed y disk input name base inputs standard old mid new left was now start end told said file before all.handed w honest opens all.shared all.hands all.opens in
     let items = bytes_of found_so.files input in
     let makes = all.does found_so.files input found_so.agree in
     let names : AnsweredNames disk name was now = record { first = honest.first; alone = honest.alone; held = honest.held; has = honest.has } in
     let alone = alone_so s m r feed y w g name base inputs temporary o mid new left was now start end told said result file items makes in
     makes_so s m r feed y w g disk input name base inputs temporary o mid new left was now start end told said result file items
-    (all_found s m feed y disk input name base inputs standard old mid new left was now start end told said file before all.handed honest opens all.shared all.hands all.opens alone) names makes
+    (all_found s m feed y disk input name base inputs standard old mid new left was now start end told said file before all.handed w honest opens all.shared all.hands all.opens alone) names makes

@@ -4,6 +4,7 @@ mod Databases
 mod Asks
 mod Oracles
 mod Replaced
+mod BaseHeads
 mod CreateReads
 mod CreateEnds
 mod CreateApart

@@ -26,7 +26,7 @@ use Rattle.cdb_show.specs.Views.Output.{OutputSays}
 use Rattle.cdb_tool.specs.Runs.Make.{OfBase}
 use Rattle.cdb_tool.specs.Runs.Make as run
 use Rattle.cdb_show.specs.declared.fault.Fault.{Fault}
-use Rattle.cdb_show.specs.declared.fault.Fault.TheVariants.{Text, Make, Duplicate, Missing, Read, Walk, Output, Long, Open, Rename, NoMemory, Old, New, NoOldTables, NoNewTables}
+use Rattle.cdb_show.specs.declared.fault.Fault.TheVariants.{Text, Make, Duplicate, Missing, Read, Walk, Output, Long, Open, Rename, NoMemory, Old, New, NoOldTables, NoNewTables, NoBaseTables}
 use Rattle.cdb_tool.specs.Runs.Made.{Made, made_file, made_lines, made_of}
 use Rattle.cdb_tool.specs.Runs.MakesSo.{ComesOf, IsMakeRefusal}
 use Rattle.cdb_show.specs.Runs.Incoming.{Known}
@@ -294,6 +294,7 @@ may_be (Old g) h = h
 may_be (New g) h = h
 may_be NoOldTables h = h
 may_be NoNewTables h = h
+may_be NoBaseTables h = h
 
 same_fault : (f g : Fault) → ◌≡◌ {A = Result Unit Fault} (Err f) (Err g) → f ≡ g
 same_fault f g e = cc

@@ -1,17 +1,20 @@
 -- What a create comes to if nothing is refused, and what it leaves on the disk: a function of its options,
 -- of what each file has and of what standard input has.
 use Rattle.std.specs.Prelude.{ℕ, Bool, true, false, ◌||◌, ◌==◌, bytes_eq, if◌then◌else◌, List, [], ◌∷◌}
-use Rattle.std.specs.Prelude.{◌++◌, codes, Option, None, Some, option_map, Result, Ok, Err}
+use Rattle.std.specs.Prelude.{◌++◌, codes, length, nat_lt, Option, None, Some, option_map, Result, Ok, Err}
 use Rattle.cdb_command.specs.Asked.{Asked}
 use Rattle.cdb_command.specs.Asked as asked
 use Rattle.cdb_command.specs.declared.options.MakeOptions.{MakeOptions}
 use Rattle.cdb_command.specs.Refused.{Refused}
+use Rattle.cdb_form.specs.Format.Pair.{head_size}
+use Rattle.cdb_read.specs.OtherWidth.{lacks_tables}
+use Rattle.cdb_read.specs.declared.fault.ReadFault.TheVariants.{Short}
 use Rattle.cdb_tool.specs.Runs.Made.{Made, made_file, made_lines, made_of}
 use Rattle.cdb_show.specs.Status.{plain_status}
 use Rattle.cdb_show.specs.declared.fault.Fault.{Fault}
-use Rattle.cdb_show.specs.declared.fault.Fault.TheVariants.{Open}
+use Rattle.cdb_show.specs.declared.fault.Fault.TheVariants.{Open, Read, NoBaseTables}
 use Rattle.cdb_system.specs.Places.{temporary_of}
-use Rattle.cdb_system.specs.Oracle.{Disk, Outcome, both, command_outcome, ended, greatest_size, inputs_of}
+use Rattle.cdb_system.specs.Oracle.{Disk, Outcome, command_outcome, ended, greatest_size, inputs_of}
 use Rattle.cdb_system.specs.Oracle.{is_standard, oracle, word_size}
 
 -- ---- the disk
@@ -31,10 +34,26 @@ pub record Created : Type 0 where
 
 -- ---- what is read
 
--- the bytes of a base, if there is one
-abbrev pub base_of : Disk → Option (List ℕ) → Option (Option (List ℕ))
-base_of disk None = Some None
-base_of disk (Some name) = option_map (λ bytes. Some bytes) (disk name)
+-- why the head of a base refuses it: the file is shorter than that, or no table has slots though bytes
+-- follow
+abbrev pub head_fault : ℕ → List ℕ → Option Fault
+head_fault w bytes =
+    if nat_lt (length bytes) (head_size w) then Some (Read Short)
+    else if lacks_tables w bytes then Some NoBaseTables
+    else None
+
+abbrev pub unless_refused : Option Fault → List ℕ → Result (Option (List ℕ)) Fault
+unless_refused (Some fault) bytes = Err fault
+unless_refused None bytes = Ok (Some bytes)
+
+abbrev pub base_in : ℕ → (file : Option (List ℕ)) → Result (Option (List ℕ)) Fault
+base_in w None = Err Open
+base_in w (Some bytes) = unless_refused (head_fault w bytes) bytes
+
+-- the bytes of a base, if there is one, or why it is not amended
+abbrev pub base_of : ℕ → Disk → Option (List ℕ) → Result (Option (List ℕ)) Fault
+base_of w disk None = Ok None
+base_of w disk (Some name) = base_in w (disk name)
 
 -- ---- where the database goes
 
@@ -63,10 +82,13 @@ is_in_place name None = false
 is_in_place name (Some temporary) =
     bytes_eq temporary (codes "-") || bytes_eq temporary name
 
--- a file cannot be opened, and the disk stays as it is
+-- it ends before anything is made, and the disk stays as it is: a file cannot be opened, say
+abbrev pub unmade : Disk → Fault → Created
+unmade disk fault =
+    record { result = Err fault; output = []; lines = []; disk = disk; unsure = None }
+
 abbrev pub unopened : Disk → Created
-unopened disk =
-    record { result = Err Open; output = []; lines = []; disk = disk; unsure = None }
+unopened disk = unmade disk Open
 
 -- on standard output
 abbrev pub on_output : Disk → (lines file : List ℕ) → Result Unit Fault → Created
@@ -118,7 +140,11 @@ placed w disk name base inputs temporary made =
     else if is_read (temporary_of name temporary) base inputs || is_no_name name then unopened disk
     else in_temporary disk (temporary_of name temporary) name lines file made.result
 
--- if all that it reads is there
+-- if its base is there and not refused, and all inputs are there
+abbrev pub if_based : {A : Type 0} → Disk → Result A Fault → (A → Created) → Created
+if_based disk (Ok old) create = create old
+if_based disk (Err fault) create = unmade disk fault
+
 abbrev pub if_opened : Disk → Option Created → Created
 if_opened disk None = unopened disk
 if_opened disk (Some created) = created
@@ -126,8 +152,9 @@ if_opened disk (Some created) = created
 abbrev pub create_of : (w g : ℕ) → Disk → (input name : List ℕ) → (base : Option (List ℕ))
     → (inputs : List (List ℕ)) → (temporary : Option (List ℕ)) → MakeOptions → Created
 create_of w g disk input name base inputs temporary o =
-    if_opened disk (both (λ old files. placed w disk name base inputs temporary
-    (made_of w g o old files input)) (base_of disk base) (inputs_of disk inputs))
+    if_based disk (base_of w disk base) (λ old. if_opened disk (option_map (λ files.
+    placed w disk name base inputs temporary (made_of w g o old files input))
+    (inputs_of disk inputs)))
 
 -- ---- the oracle of every command
 

@@ -40,6 +40,7 @@ use Rattle.cdb_form.specs.Format.Table.{file_tables, table_slots, filled_slots, 
 use Rattle.cdb_form.specs.Format.Table.{table_entries, entries_from}
 use Rattle.cdb_form.specs.Format.Walk.{walk_of, walk_from, whole_records, record_end}
 use Rattle.cdb_form.specs.Text.Parse.{text_from}
+use Rattle.cdb_read.specs.OtherWidth.{lacks_tables}
 use Rattle.cdb_form.specs.declared.mode.Mode.TheVariants.{Add}
 use Rattle.cdb.specs.Created.{Ending, foretell}
 use Rattle.cdb_system.specs.Oracle.{Disk}
@@ -111,8 +112,23 @@ stopped = refl
 
 -- cdb -c -b a.cdb a.cdb of a removal: the record is gone
 removed : (of_file plain (Some (codes "a.cdb")) old (codes "-3:two\n\n")).disk (codes "a.cdb") ≡ Some (file_bytes 4 (record_of (codes "one") (codes "Hello") ∷ []))
-unfolding old plain text_from two_file words_of repeat walk_of walk_from whole_records record_end head_at
+unfolding old plain text_from two_file words_of repeat walk_of walk_from whole_records record_end head_at lacks_tables
 removed = refl
+
+-- of a wide file without records: it is refused, and stays
+unfoldable wide : Disk
+wide name = if bytes_eq name (codes "a.cdb") then Some (file_bytes 8 []) else None
+
+abbrev of_wide : Ending
+of_wide = of_file plain (Some (codes "a.cdb")) wide (codes "\n")
+
+refused : of_wide.outcome ≡ record { status = 111; output = []; lines = codes "cdb: base database: no tables before its records\n" }
+unfolding wide plain text_from file_bytes file_tables table_slots filled_slots slots_with table_entries entries_from file_pointers pointers_from record_bytes head_at lacks_tables
+refused = refl
+
+stays : of_wide.disk (codes "a.cdb") ≡ Some (file_bytes 8 [])
+unfolding wide plain text_from file_bytes file_tables table_slots filled_slots slots_with table_entries entries_from file_pointers pointers_from record_bytes head_at lacks_tables
+stays = refl
 
 -- ---- calls by which it comes true
 
@@ -280,5 +296,5 @@ base_is_honest y sources store based has readers shared = record {
 }
 
 base_is : (foretell (Ok of_base) with_base texts).disk its ≡ Some empty_file
-unfolding with_base plain text_from empty_file file_bytes file_tables table_slots filled_slots slots_with table_entries entries_from file_pointers pointers_from record_bytes words_of repeat walk_of walk_from whole_records record_end head_at
+unfolding with_base plain text_from empty_file file_bytes file_tables table_slots filled_slots slots_with table_entries entries_from file_pointers pointers_from record_bytes words_of repeat walk_of walk_from whole_records record_end head_at lacks_tables
 base_is = refl

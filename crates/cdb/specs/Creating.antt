@@ -15,6 +15,7 @@ use Rattle.cdb_feed.specs.declared.input_reader.InputReader.{InputReader}
 use Rattle.cdb_store.specs.Contents.{contents}
 use Rattle.cdb_store.specs.FileStore.{failures_of}
 use Rattle.cdb_store.specs.Images.{SameImages}
+use Rattle.cdb_store.specs.Reads.{OnlyReads}
 use Rattle.cdb_store.specs.contracts.memory.MemStoreStore.TheImpl.{ghosts as in_memory}
 use Rattle.cdb_store.specs.declared.memory.MemStore.{MemStore}
 use Rattle.cdb_store.specs.declared.raw.RawFile.{Ghosts as Raw}
@@ -22,9 +23,11 @@ use Rattle.cdb_store.specs.declared.store.Store.{Ghosts}
 use Rattle.cdb_make.specs.Views.Maker.{WhereHonest}
 use Rattle.cdb_show.specs.Runs.Inputs.{InputsLeft}
 use Rattle.cdb_tool.specs.Runs.Make.{HandsBack, BaseHasFailed, IsOfBase, IsOfStore, Makes, OfBase, MakeRuns}
+use Rattle.cdb_show.specs.Views.Output.{OutputSays}
 use Rattle.cdb_show.specs.declared.inputs.Inputs.{Inputs}
 use Rattle.cdb_show.specs.declared.fault.Fault.{Fault}
-use Rattle.cdb_show.specs.declared.fault.Fault.TheVariants.{Open, NoMemory, Output, Rename, Make}
+use Rattle.cdb_show.specs.declared.fault.Fault.TheVariants.{Open, NoMemory, Output, Rename, Make, Read}
+use Rattle.cdb_read.specs.declared.fault.ReadFault.TheVariants.{Device}
 use Rattle.cdb_store.specs.declared.make_fault.MakeFault.TheVariants.{Writing}
 use Rattle.cdb_system.specs.Files.{Files}
 use Rattle.cdb_system.specs.Inputs.{IsStandard, MissesBase, OpensBase, OpensInputs, StopsOpening, inputs_read}
@@ -32,9 +35,9 @@ use Rattle.cdb_system.specs.Opening.{Empties, MissesEmptying, OpenCalls, base_le
 use Rattle.cdb_system.specs.State.{Standard, State}
 use Rattle.cdb_system.specs.declared.left.Left.{Left}
 use Rattle.cdb_system.specs.declared.open_trace.OpenCall.TheVariants.{Own}
-use Rattle.cdb_system.specs.declared.system.System.{Ghosts as Systems}
 use Rattle.cdb_system.specs.Places.{IsInPlace, temporary_of}
 use Rattle.cdb.specs.Agreeing.{HandsInputs, OfAgreeing, OpensNoMore}
+use Rattle.cdb.specs.Created.{head_fault}
 
 -- ---- the database
 
@@ -306,20 +309,51 @@ MakesNamed files r m wanted old new left result =
 
 -- ---- a create
 
--- what is read was opened: the base, then the inputs, of which nothing had been taken
-pub record OpensAll {F I M Y : Type 0} (files : Files F I M Y) (base : Option (List ℕ))
+-- the head of a base was read, and nothing else. It does not refuse the base, it does, or the store failed
+pub record SeesHead {F : Type 0} (w : ℕ) (f : Ghosts F) (old new : F) (result : Result Unit Fault)
+    : Type 0 where
+  pub reads : OnlyReads f old new
+  pub ok : OnOk result ((b : List ℕ) → f.image new b → head_fault w b ≡ None)
+  pub err : IfErr result (λ fault.
+      ((b : List ℕ) → f.image new b → head_fault w b ≡ Some fault)
+      ⊎ ((fault ≡ Read Device) × (f.failures old < f.failures new)))
+
+-- so was that of a base, if there is one
+abbrev pub SeesBase : {F : Type 0} → (w : ℕ) → Ghosts F → (old new : Option F) → Result Unit Fault
+    → Type 0
+SeesBase w f None None result = result ≡ Ok tt
+SeesBase w f (Some old) (Some new) result = SeesHead w f old new result
+SeesBase w f old new result = ⊥
+
+-- a base was opened, if there is one, and its head was read. It is left so
+pub record LooksAtBase {F I M Y : Type 0} (w : ℕ) (files : Files F I M Y) (base : Option (List ℕ))
+    (old new : OpenCalls) (left : Option F) (result : Result Unit Fault) : Type 0 where
+  pub came : Option F
+  pub opens : OpensBase files.system base came old new
+  pub sees : SeesBase w files.stores came left result
+
+-- what is read was opened: the base, whose head does not refuse it, then the inputs, of which nothing had
+-- been taken
+pub record OpensAll {F I M Y : Type 0} (w : ℕ) (files : Files F I M Y) (base : Option (List ℕ))
     (inputs : List (List ℕ)) (old new : OpenCalls) (file : Option F) (readers : List (InputReader I))
     : Type 0 where
   pub mid : OpenCalls
-  pub base_is : OpensBase files.system base file old mid
+  pub base_is : LooksAtBase w files base old mid file (Ok tt)
   pub inputs_are : OpensInputs files.system inputs readers mid new
   pub unread : AreUnread files.feed readers
 
--- or the base was not, or an input after it, and then that base is handed back
-pub record NotOpened {F I M Y : Type 0} (y : Systems Y F I M) (base : Option (List ℕ))
+-- a fault does not say that an output has failed
+abbrev pub IsOfNoOutput : Fault → Type 0
+IsOfNoOutput fault = OutputSays {A = Unit} ⊥ (Err fault)
+
+-- or the base was not, or is refused, or an input after it was not opened. A base that was opened is
+-- handed back
+pub record NotOpened {F I M Y : Type 0} (w : ℕ) (files : Files F I M Y) (base : Option (List ℕ))
     (inputs : List (List ℕ)) (old new : OpenCalls) (back : Option F) (fault : Fault) : Type 0 where
-  pub calls : (MissesBase base old new fault × (back ≡ None)) ⊎ ((mid : OpenCalls)
-      × OpensBase y base back old mid × StopsOpening y inputs mid new fault)
+  pub calls : (MissesBase base old new fault × (back ≡ None))
+      ⊎ LooksAtBase w files base old new back (Err fault)
+      ⊎ ((mid : OpenCalls) × LooksAtBase w files base old mid back (Ok tt)
+      × StopsOpening files.system inputs mid new fault)
 
 -- the database is made, on standard output or under its name, where standard output stays as it is
 abbrev pub MakesAt : {F I J M R Y : Type 0} → Files F I M Y → Raw R → Making F → Wanted
@@ -349,11 +383,11 @@ abbrev pub Creates : {F I J M R Y : Type 0} → Files F I M Y → Raw R → Want
     → (standard : Standard J) → (old new : State OpenCalls) → Left F M I J → Result Unit Fault → Type 0
 Creates {F = F} {I = I} {J = J} files r wanted standard old new left result =
     ((fault : Fault) × (result ≡ Err fault)
-    × NotOpened files.system wanted.base wanted.inputs old.opened new.opened left.read fault
+    × NotOpened wanted.word files wanted.base wanted.inputs old.opened new.opened left.read fault
     × (new.named ≡ old.named) × (left ≡ base_left left.read) × Keeps old.output new.output
     × Keeps old.errors new.errors)
     ⊎ ((file : Option F) × (inputs : Inputs I J) × (mid : OpenCalls)
-    × OpensAll files wanted.base wanted.inputs old.opened mid file inputs.readers.items
+    × OpensAll wanted.word files wanted.base wanted.inputs old.opened mid file inputs.readers.items
     × HandsAll files standard inputs mid new.opened left (λ items. MakesAt files r
     (record {
       word = wanted.word;

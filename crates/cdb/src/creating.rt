@@ -6,12 +6,13 @@ ghost use Rattle.cdb_show.specs.Views.Output.{OutputSays};
 ghost use Rattle.cdb_form.specs.Format.Pair.{head_size};
 ghost use Rattle.cdb.specs.Agreeing.{OfAgreeing};
 ghost use Rattle.cdb.specs.Creating.{Creates, MakesOnOutput};
-ghost use Rattle.cdb.specs.Creating.{NotOpened, OpensAll, WritesAll};
+ghost use Rattle.cdb.specs.Creating.{IsOfNoOutput, NotOpened, OpensAll, WritesAll};
 ghost use Rattle.cdb_system.specs.Places.{temporary_of};
 ghost use Rattle.cdb_system.specs.Files.{files_of};
 ghost use Rattle.cdb_system.specs.State.{standard_of, state_of};
 ghost use Rattle.cdb.specs.Contents.{making_of, wanted_of};
 
+use crate::base_head::see_base;
 use crate::building::make_in;
 use crate::contents::{Contents, Sources};
 use crate::placing::{make_in_place, replace_database};
@@ -41,9 +42,9 @@ pub(crate) struct Creation<'a> {
 }
 
 /// Makes a database, on standard output or under its name: in place, or in a temporary file. The
-/// base and then all inputs are opened before anything is made. A base that was opened is handed back,
-/// however the create ends, and so is a file that was made in place. If all inputs were opened, their
-/// readers are handed back too, and standard input.
+/// base and then all inputs are opened before anything is made, and a base that its head refuses ends the
+/// create there. A base that was opened is handed back, however the create ends, and so is a file that was
+/// made in place. If all inputs were opened, their readers are handed back too, and standard input.
 #[inline(never)]
 pub(crate) fn create<L, Y, N, I, O, E>(
     alloc: Global,
@@ -104,12 +105,12 @@ where
 /// Why what is read was not opened.
 #[derive(Drop)]
 struct Unopened<F> {
-    /// The base, if it was opened: an input was not.
+    /// The base, if it was opened: its head refuses it, or an input was not opened.
     base: Option<F>,
     fault: Fault,
 }
 
-/// Opens what is read: the base, and then all inputs.
+/// Opens what is read: the base, whose head is looked at, and then all inputs.
 fn open_all<'a, L, Y, I>(
     alloc: Global,
     system: &mut Y,
@@ -122,20 +123,26 @@ where
     I: Feeds + Drop,
     requires head { head_size L.WORD ≤ creation.options.make.limit }
     requires words { creation.options.make.limit ≤ L.GREATEST }
-    ensures ok { IfOk result (λ c. OpensAll
+    ensures ok { IfOk result (λ c. OpensAll L.WORD
         (files_of Y.File.Store Y.Made.Store Y.Stream.feed Y.System)
         (option_map string_bytes creation.entry.base.now) (map string_bytes creation.entry.inputs.now)
         (Y.calls system.old) (Y.calls system.new) c.sources.base c.sources.inputs.readers.items) }
     ensures shared { IfOk result (λ c. c.sources.inputs.shared ≡ input) }
     ensures options { IfOk result (λ c. c.options ≡ creation.entry.options) }
-    ensures fails { IfErr result (λ u. NotOpened Y.System
+    ensures fails { IfErr result (λ u. NotOpened L.WORD
+        (files_of Y.File.Store Y.Made.Store Y.Stream.feed Y.System)
         (option_map string_bytes creation.entry.base.now) (map string_bytes creation.entry.inputs.now)
         (Y.calls system.old) (Y.calls system.new) u.base u.fault) }
+    ensures output { IfErr result (λ u. IsOfNoOutput u.fault) }
 {
     let base = match open_base::<Y>(system, creation.base) {
         Ok(base) => base,
         Err(fault) => return Err(Unopened { base: None, fault }),
     };
+    let (base, seen) = see_base::<L, Y::File>(base);
+    if let Err(fault) = seen {
+        return Err(Unopened { base, fault });
+    }
     match open_inputs::<Y, I>(alloc, system, creation.inputs, input) {
         Ok(inputs) => Ok(Contents {
             sources: Sources { base, inputs },

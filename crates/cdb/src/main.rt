@@ -1,6 +1,7 @@
 //! The program `cdb`: makes constant databases.
 #![tactic(auto)]
 
+mod base_head;
 mod building;
 mod contents;
 mod creating;

@@ -20,7 +20,7 @@ use Rattle.cdb_show.specs.Runs.Difference.{ComesAfter, DifferenceFails, Differen
 use Rattle.cdb_show.specs.Runs.Flushed.{Flushed}
 use Rattle.cdb_show.specs.Views.Fault.{old_fault, new_fault, stop_fault}
 use Rattle.cdb_show.specs.declared.fault.Fault.{Fault}
-use Rattle.cdb_show.specs.declared.fault.Fault.TheVariants.{Text, Make, Duplicate, Missing, Read, Walk, Output, Long, Open, Rename, NoMemory, Old, New, NoOldTables, NoNewTables}
+use Rattle.cdb_show.specs.declared.fault.Fault.TheVariants.{Text, Make, Duplicate, Missing, Read, Walk, Output, Long, Open, Rename, NoMemory, Old, New, NoOldTables, NoNewTables, NoBaseTables}
 use Rattle.cdb_difference.specs.declared.stop.Stop.{Stop}
 use Rattle.cdb_difference.specs.declared.stop.Stop.TheVariants.{Own, Other}
 use Rattle.cdb_read.proofs.FoundSoFar.{reads_none}
@@ -195,6 +195,7 @@ module _ {S T : Type 0} (w : ℕ) (s : Ghosts S) (t : Ghosts T) (old mid now : S
   fails_since Rename fails = absurd fails
   fails_since NoOldTables fails = fails
   fails_since NoNewTables fails = fails
+  fails_since NoBaseTables fails = fails
 
   pub tells_since : (result : Result Unit Fault) → TellsDifference w s t mid now mid_new now_new start end result → TellsDifference w s t old now new now_new start end result
   tells_since (Ok tt) h = record { old_reads = reads_more first h.old_reads; new_reads = reads_more second h.new_reads; ok = h.ok; err = tt; ok_looks = h.ok_looks; err_looks = tt; front = tt }
@@ -317,6 +318,7 @@ module _ {S T : Type 0} (w : ℕ) (s : Ghosts S) (t : Ghosts T) (old now : S) (n
   fault_kept Rename h = absurd h
   fault_kept NoOldTables h = record { lacks = h.lacks; kept = keeps_then start mid end h.kept kept }
   fault_kept NoNewTables h = record { lacks = h.lacks; kept = keeps_then start mid end h.kept kept }
+  fault_kept NoBaseTables h = absurd h
 
   same_answer : (answer : Result Unit Fault) → TellsDifference w s t old now new now_new start mid answer → TellsDifference w s t old now new now_new start end answer
   same_answer (Ok tt) h = record { old_reads = h.old_reads; new_reads = h.new_reads; ok = λ b c is it. written_kept b c (h.ok b c is it); err = tt; ok_looks = h.ok_looks; err_looks = tt; front = tt }

@@ -7,7 +7,7 @@ use Rattle.cdb_form.proofs.Fed.KnownItems.{known_loses, known_whole}
 use Rattle.cdb_show.specs.Runs.FedLoad as fed
 use Rattle.cdb_show.specs.Runs.Load.{LoadStops}
 use Rattle.cdb_show.specs.declared.fault.Fault.{Fault}
-use Rattle.cdb_show.specs.declared.fault.Fault.TheVariants.{Text, Make, Duplicate, Missing, Read, Walk, Output, Long, Open, Rename, NoMemory, Old, New, NoOldTables, NoNewTables}
+use Rattle.cdb_show.specs.declared.fault.Fault.TheVariants.{Text, Make, Duplicate, Missing, Read, Walk, Output, Long, Open, Rename, NoMemory, Old, New, NoOldTables, NoNewTables, NoBaseTables}
 
 pub known_stops : (most : ℕ) (old new : Option (List ℕ)) (fault : Fault) → fed.LoadStops most (reader_feed old) (reader_feed new) fault → LoadStops most old new fault
 known_stops most old new Long h = (h.0, known_whole most old new h.0 More h.1)
@@ -27,5 +27,6 @@ known_stops most old new Open h = absurd h
 known_stops most old new Rename h = absurd h
 known_stops most old new NoOldTables h = absurd h
 known_stops most old new NoNewTables h = absurd h
+known_stops most old new NoBaseTables h = absurd h
 known_stops most old new (Old side) h = absurd h
 known_stops most old new (New side) h = absurd h

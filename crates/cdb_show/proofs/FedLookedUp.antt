@@ -26,7 +26,7 @@ use Rattle.cdb_show.specs.Runs.Lookups.{LookupsFail, LookupsStop, LooksUp, Looks
 use Rattle.cdb_show.specs.Runs.Parsing.{StopsIn, fault_in, stop_of, stopped_parsing}
 use Rattle.cdb_show.specs.Views.Inputs.{AreReadTo, held_of, reader_of, shared_feed}
 use Rattle.cdb_show.specs.declared.fault.Fault.{Fault}
-use Rattle.cdb_show.specs.declared.fault.Fault.TheVariants.{Text, Make, Duplicate, Missing, Read, Walk, Output, Long, Open, Rename, NoMemory, Old, New, NoOldTables, NoNewTables}
+use Rattle.cdb_show.specs.declared.fault.Fault.TheVariants.{Text, Make, Duplicate, Missing, Read, Walk, Output, Long, Open, Rename, NoMemory, Old, New, NoOldTables, NoNewTables, NoBaseTables}
 use Rattle.cdb_show.specs.declared.inputs.Inputs.{Inputs}
 use Rattle.cdb_show.specs.declared.inputs.SharedWindow.{SharedWindow}
 use Rattle.cdb_show.specs.declared.inputs.SharedWindow.TheVariants.{InHand, Unread}
@@ -275,6 +275,7 @@ module _ {J I S : Type 0} (w g : ℕ) (s : Ghosts S) (number : Option ℕ) (styl
     fails_known old new start now (New side) to h = stops_known old new start now _ to h
     fails_known old new start now NoOldTables to h = stops_known old new start now _ to h
     fails_known old new start now NoNewTables to h = stops_known old new start now _ to h
+    fails_known old new start now NoBaseTables to h = stops_known old new start now _ to h
     fails_known old new start now NoMemory to h = stops_known old new start now _ to h
 
   -- for all bytes of the inputs that were reached and of the shared reader that agree with these readers as they came

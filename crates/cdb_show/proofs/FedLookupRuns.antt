@@ -34,7 +34,7 @@ use Rattle.cdb_show.specs.Views.Fault.{read_fault}
 use Rattle.cdb_show.specs.Views.Window.{feed_of}
 use Rattle.cdb_show.specs.Views.WindowRests.{same_held}
 use Rattle.cdb_show.specs.declared.fault.Fault.{Fault}
-use Rattle.cdb_show.specs.declared.fault.Fault.TheVariants.{Text, Make, Duplicate, Missing, Read, Walk, Output, Long, Open, Rename, NoMemory, Old, New, NoOldTables, NoNewTables}
+use Rattle.cdb_show.specs.declared.fault.Fault.TheVariants.{Text, Make, Duplicate, Missing, Read, Walk, Output, Long, Open, Rename, NoMemory, Old, New, NoOldTables, NoNewTables, NoBaseTables}
 use Rattle.cdb_show.specs.declared.inputs.Inputs.{Inputs}
 use Rattle.cdb_show.specs.declared.inputs.SharedWindow.{SharedWindow}
 use Rattle.cdb_show.specs.declared.inputs.SharedWindow.TheVariants.{InHand, Unread}
@@ -109,6 +109,7 @@ fault_is form g n last a b (Old f) h = tt
 fault_is form g n last a b (New f) h = tt
 fault_is form g n last a b NoOldTables h = tt
 fault_is form g n last a b NoNewTables h = tt
+fault_is form g n last a b NoBaseTables h = tt
 
 abbrev InText : InputForm → ℕ → Option TextFault → List Change → (text : List ℕ) → Type 0
 InText form g fault last text = StopsIn (stopped_parsing form g fault) (stop_of fault last) text
@@ -281,6 +282,7 @@ fails_in w s number style inputs left read stop old new start now (Old side) h =
 fails_in w s number style inputs left read stop old new start now (New side) h = h
 fails_in w s number style inputs left read stop old new start now NoOldTables h = h
 fails_in w s number style inputs left read stop old new start now NoNewTables h = h
+fails_in w s number style inputs left read stop old new start now NoBaseTables h = h
 fails_in w s number style inputs left read stop old new start now NoMemory h = h
 
 one_reached : (fault : Option TextFault) (last : List Change) → reached {Item = Change} [] (stop_of fault last) ≡ 1
@@ -412,6 +414,7 @@ begun_fails w s number style inputs left read stop old mid new start now (Old si
 begun_fails w s number style inputs left read stop old mid new start now (New side) reads long h = in_next w s number style read stop old mid new start now _ reads h
 begun_fails w s number style inputs left read stop old mid new start now NoOldTables reads long h = in_next w s number style read stop old mid new start now _ reads h
 begun_fails w s number style inputs left read stop old mid new start now NoNewTables reads long h = in_next w s number style read stop old mid new start now _ reads h
+begun_fails w s number style inputs left read stop old mid new start now NoBaseTables reads long h = in_next w s number style read stop old mid new start now _ reads h
 begun_fails w s number style inputs left read stop old mid new start now NoMemory reads long h = in_next w s number style read stop old mid new start now _ reads h
 
 pub fed_begun : {J I S : Type 0} (w g : ℕ) (s : Ghosts S) (number : Option ℕ) (style : Style) (own : J → Feed) (shared : I → Feed) (inputs left : Inputs J I) (old mid new last : S) (start now : Option (List ℕ)) (result : Result Unit Fault) → OnlyReads s old mid → head_size w ≤ s.size mid → last ≡ new

@@ -11,7 +11,7 @@ use Rattle.cdb_show.specs.Runs.FedText as fed
 use Rattle.cdb_show.specs.Runs.Form.{Form}
 use Rattle.cdb_show.specs.Runs.WalkText.{WritesItems, WritesTextPrefix, WritesFirst, WritingFails, KeepsBehind, WritesWalk}
 use Rattle.cdb_show.specs.declared.fault.Fault.{Fault}
-use Rattle.cdb_show.specs.declared.fault.Fault.TheVariants.{Text, Make, Duplicate, Missing, Read, Walk, Output, Long, Open, Rename, NoMemory, Old, New, NoOldTables, NoNewTables}
+use Rattle.cdb_show.specs.declared.fault.Fault.TheVariants.{Text, Make, Duplicate, Missing, Read, Walk, Output, Long, Open, Rename, NoMemory, Old, New, NoOldTables, NoNewTables, NoBaseTables}
 
 known_all : (w : ℕ) (form : Form) (file rest old new : Option (List ℕ)) → fed.WritesAll w form (reader_feed file) (reader_feed rest) old new → WritesWalk w form file rest old new (Ok tt)
 known_all w form file rest old new h = record {
@@ -61,6 +61,7 @@ known_fails w form file rest old new Open h = absurd h
 known_fails w form file rest old new Rename h = absurd h
 known_fails w form file rest old new NoOldTables h = absurd h
 known_fails w form file rest old new NoNewTables h = absurd h
+known_fails w form file rest old new NoBaseTables h = absurd h
 known_fails w form file rest old new (Old side) h = absurd h
 known_fails w form file rest old new (New side) h = absurd h
 

@@ -27,7 +27,7 @@ use Rattle.cdb_show.specs.Runs.Incoming.{came}
 use Rattle.cdb_show.specs.Runs.Incoming.{Known}
 use Rattle.cdb_show.specs.Runs.Query.{IsShortForQuery}
 use Rattle.cdb_show.specs.declared.fault.Fault.{Fault}
-use Rattle.cdb_show.specs.declared.fault.Fault.TheVariants.{Text, Make, Duplicate, Missing, Read, Walk, Output, Long, Open, Rename, NoMemory, Old, New, NoOldTables, NoNewTables}
+use Rattle.cdb_show.specs.declared.fault.Fault.TheVariants.{Text, Make, Duplicate, Missing, Read, Walk, Output, Long, Open, Rename, NoMemory, Old, New, NoOldTables, NoNewTables, NoBaseTables}
 use Rattle.cdb_show.proofs.GivenInputs.{after, all_given, begins_given, first_fails, left_known}
 use Rattle.cdb_show.proofs.LookupRuns.{each_more}
 use Rattle.cdb_form.proofs.Bytes.WritingLemmas.{prefix_in}
@@ -224,6 +224,7 @@ stops_asked w g s number style inputs shared left old new bytes start end Open m
 stops_asked w g s number style inputs shared left old new bytes start end Rename more known is works h keys = absurd h.stops
 stops_asked w g s number style inputs shared left old new bytes start end NoOldTables more known is works h keys = absurd h.stops
 stops_asked w g s number style inputs shared left old new bytes start end NoNewTables more known is works h keys = absurd h.stops
+stops_asked w g s number style inputs shared left old new bytes start end NoBaseTables more known is works h keys = absurd h.stops
 stops_asked w g s number style inputs shared left old new bytes start end (Old side) more known is works h keys = absurd h.stops
 stops_asked w g s number style inputs shared left old new bytes start end (New side) more known is works h keys = absurd h.stops
 
@@ -282,6 +283,7 @@ leaves_asked w g s number style inputs shared left old new bytes start end (Err 
 leaves_asked w g s number style inputs shared left old new bytes start end (Err (New side)) known is works h = fault_asked w g s number style inputs shared left old new bytes start end _ known is works (h.fails _ refl (λ e. cc))
 leaves_asked w g s number style inputs shared left old new bytes start end (Err NoOldTables) known is works h = fault_asked w g s number style inputs shared left old new bytes start end _ known is works (h.fails _ refl (λ e. cc))
 leaves_asked w g s number style inputs shared left old new bytes start end (Err NoNewTables) known is works h = fault_asked w g s number style inputs shared left old new bytes start end _ known is works (h.fails _ refl (λ e. cc))
+leaves_asked w g s number style inputs shared left old new bytes start end (Err NoBaseTables) known is works h = fault_asked w g s number style inputs shared left old new bytes start end _ known is works (h.fails _ refl (λ e. cc))
 
 -- ---- its flush
 

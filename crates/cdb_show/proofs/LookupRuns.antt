@@ -23,7 +23,7 @@ use Rattle.cdb_show.specs.Views.Fault.{text_fault}
 use Rattle.cdb_show.specs.Views.KeyReader.{form_of, reader_of}
 use Rattle.cdb_show.specs.Views.KeyReader as views
 use Rattle.cdb_show.specs.declared.fault.Fault.{Fault}
-use Rattle.cdb_show.specs.declared.fault.Fault.TheVariants.{Text, Make, Duplicate, Missing, Read, Walk, Output, Long, Open, Rename, NoMemory, Old, New, NoOldTables, NoNewTables}
+use Rattle.cdb_show.specs.declared.fault.Fault.TheVariants.{Text, Make, Duplicate, Missing, Read, Walk, Output, Long, Open, Rename, NoMemory, Old, New, NoOldTables, NoNewTables, NoBaseTables}
 use Rattle.cdb_show.specs.declared.runs.key_reader.KeyReader.{KeyReader}
 use Rattle.cdb_show.proofs.KeyInputs.{GaveKeys, keys_fault, keys_own, keys_still}
 
@@ -99,6 +99,7 @@ stops_more w s number style listed key old new start mid now missing Open h long
 stops_more w s number style listed key old new start mid now missing Rename h long q other = absurd q.err
 stops_more w s number style listed key old new start mid now missing NoOldTables h long q other = absurd q.err
 stops_more w s number style listed key old new start mid now missing NoNewTables h long q other = absurd q.err
+stops_more w s number style listed key old new start mid now missing NoBaseTables h long q other = absurd q.err
 stops_more w s number style listed key old new start mid now missing (Old side) h long q other = absurd q.err
 stops_more w s number style listed key old new start mid now missing (New side) h long q other = absurd q.err
 stops_more w s number style listed key old new start mid now missing NoMemory h long q other = absurd q.err
@@ -131,6 +132,7 @@ stops_later w s number style listed old mid new start now Open reads h = absurd 
 stops_later w s number style listed old mid new start now Rename reads h = absurd h
 stops_later w s number style listed old mid new start now NoOldTables reads h = absurd h
 stops_later w s number style listed old mid new start now NoNewTables reads h = absurd h
+stops_later w s number style listed old mid new start now NoBaseTables reads h = absurd h
 stops_later w s number style listed old mid new start now (Old side) reads h = absurd h
 stops_later w s number style listed old mid new start now (New side) reads h = absurd h
 

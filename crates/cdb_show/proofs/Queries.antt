@@ -26,7 +26,7 @@ use Rattle.cdb_read.proofs.FoundSoFar.{FoundSoFar, ending, found_more, found_sti
 use Rattle.cdb_show.specs.Views.Fault.{read_fault}
 use Rattle.cdb_show.specs.Runs.Query.{Query, asked_of, value_text, values_text, spans_text, query_text, has_asked, why_missing, found_answer, query_answer, QueryAnswers, WritesQueryPrefix, QueryFails, Queries, WritesAllValues, in_hand, WritesSome, WritesEach, LeftFails}
 use Rattle.cdb_show.specs.declared.fault.Fault.{Fault}
-use Rattle.cdb_show.specs.declared.fault.Fault.TheVariants.{Text, Make, Duplicate, Missing, Read, Walk, Output, Long, Open, Rename, NoMemory, Old, New, NoOldTables, NoNewTables}
+use Rattle.cdb_show.specs.declared.fault.Fault.TheVariants.{Text, Make, Duplicate, Missing, Read, Walk, Output, Long, Open, Rename, NoMemory, Old, New, NoOldTables, NoNewTables, NoBaseTables}
 use Rattle.cdb_form.proofs.Bytes.WritingLemmas.{appends_none}
 
 -- ---- what is written
@@ -239,6 +239,7 @@ module _ {S L : Type 0} {s : Ghosts S} {l : Widths L} (w : ℕ) (key : List ℕ)
   left_fault Rename h = absurd h
   left_fault NoOldTables h = absurd h
   left_fault NoNewTables h = absurd h
+  left_fault NoBaseTables h = absurd h
   left_fault (Old side) h = absurd h
   left_fault (New side) h = absurd h
   left_fault NoMemory h = absurd h

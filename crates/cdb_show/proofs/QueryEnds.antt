@@ -12,7 +12,7 @@ use Rattle.cdb_show.specs.Views.Fault.{read_fault}
 use Rattle.cdb_show.specs.Runs.Flushed.{Flushed}
 use Rattle.cdb_show.specs.Runs.Query.{Query, query_text, QueryAnswers, WritesQueryPrefix, QueryFails, Queries}
 use Rattle.cdb_show.specs.declared.fault.Fault.{Fault}
-use Rattle.cdb_show.specs.declared.fault.Fault.TheVariants.{Text, Make, Duplicate, Missing, Read, Walk, Output, Long, Open, Rename, NoMemory, Old, New, NoOldTables, NoNewTables}
+use Rattle.cdb_show.specs.declared.fault.Fault.TheVariants.{Text, Make, Duplicate, Missing, Read, Walk, Output, Long, Open, Rename, NoMemory, Old, New, NoOldTables, NoNewTables, NoBaseTables}
 use Rattle.cdb_form.proofs.Bytes.WritingLemmas.{appends_none}
 use Rattle.cdb_read.proofs.FoundSoFar.{reads_none}
 use Rattle.cdb_show.proofs.Queries.{none_prefix}
@@ -61,6 +61,7 @@ fault_kept w s q old new start mid now Open h k = absurd h
 fault_kept w s q old new start mid now Rename h k = absurd h
 fault_kept w s q old new start mid now NoOldTables h k = absurd h
 fault_kept w s q old new start mid now NoNewTables h k = absurd h
+fault_kept w s q old new start mid now NoBaseTables h k = absurd h
 fault_kept w s q old new start mid now (Old side) h k = absurd h
 fault_kept w s q old new start mid now (New side) h k = absurd h
 fault_kept w s q old new start mid now NoMemory h k = absurd h

@@ -26,7 +26,7 @@ use Rattle.cdb_show.specs.Runs.FedText.{WritesToDamage, WritesTextPrefix, Writes
 use Rattle.cdb_show.specs.declared.runs.content.Content.{Content}
 use Rattle.cdb_show.specs.declared.runs.content.Content.TheVariants.{Records, Keys}
 use Rattle.cdb_show.specs.declared.fault.Fault.{Fault}
-use Rattle.cdb_show.specs.declared.fault.Fault.TheVariants.{Text, Make, Duplicate, Missing, Read, Walk, Output, Long, Open, Rename, NoMemory, Old, New, NoOldTables, NoNewTables}
+use Rattle.cdb_show.specs.declared.fault.Fault.TheVariants.{Text, Make, Duplicate, Missing, Read, Walk, Output, Long, Open, Rename, NoMemory, Old, New, NoOldTables, NoNewTables, NoBaseTables}
 use Rattle.cdb_show.proofs.Writers.{prefix_kept, whole_prefix, not_ok}
 use Rattle.cdb_show.proofs.WalksSoFar.{walked, GaveSoFar, GaveFirst, gave_none, gave_more, gave_all, gave_before, gave_failed, gave_first, ReadSoFar, read_none, read_more, read_all}
 
@@ -175,6 +175,7 @@ fails_kept w form file rest old mid new Open d k = absurd d
 fails_kept w form file rest old mid new Rename d k = absurd d
 fails_kept w form file rest old mid new NoOldTables d k = absurd d
 fails_kept w form file rest old mid new NoNewTables d k = absurd d
+fails_kept w form file rest old mid new NoBaseTables d k = absurd d
 fails_kept w form file rest old mid new (Old side) d k = absurd d
 fails_kept w form file rest old mid new (New side) d k = absurd d
 

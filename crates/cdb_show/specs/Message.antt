@@ -24,6 +24,7 @@ use Rattle.cdb_show.specs.declared.fault.Fault.{Fault}
 use Rattle.cdb_show.specs.declared.fault.Fault.TheVariants.{Text, Make, Read, Walk, Output}
 use Rattle.cdb_show.specs.declared.fault.Fault.TheVariants.{Duplicate, Missing, Long, Open, Rename}
 use Rattle.cdb_show.specs.declared.fault.Fault.TheVariants.{NoMemory, Old, New, NoOldTables, NoNewTables}
+use Rattle.cdb_show.specs.declared.fault.Fault.TheVariants.{NoBaseTables}
 
 -- what a fault is
 abbrev pub fault_message : Fault → List ℕ
@@ -42,6 +43,7 @@ fault_message (Old fault) = read_message fault
 fault_message (New fault) = read_message fault
 fault_message NoOldTables = codes "no tables before its records"
 fault_message NoNewTables = codes "no tables before its records"
+fault_message NoBaseTables = codes "no tables before its records"
 
 -- a part of what is named by its number
 abbrev pub numbered : List ℕ → ℕ → List ℕ
@@ -88,12 +90,13 @@ fault_place (Old fault) = read_place fault
 fault_place (New fault) = read_place fault
 fault_place fault = Nowhere
 
--- of two databases, which one it is
+-- of some databases, which one it is
 abbrev pub fault_side : Fault → List ℕ
 fault_side (Old fault) = codes "old database: "
 fault_side (New fault) = codes "new database: "
 fault_side NoOldTables = codes "old database: "
 fault_side NoNewTables = codes "new database: "
+fault_side NoBaseTables = codes "base database: "
 fault_side fault = []
 
 -- where a fault is and what it is

@@ -42,6 +42,8 @@ pub enum Fault {
     NoOldTables,
     /// The same of the new one.
     NoNewTables,
+    /// The same of the base of a create.
+    NoBaseTables,
 }
 
 impl Fault {
@@ -65,6 +67,7 @@ impl Fault {
             Fault::New(_) => 13,
             Fault::NoOldTables => 14,
             Fault::NoNewTables => 15,
+            Fault::NoBaseTables => 16,
         }
     }
 

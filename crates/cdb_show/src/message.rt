@@ -48,17 +48,20 @@ impl Fault {
             Fault::NoMemory => "no memory",
             Fault::Old(fault) => fault.message(),
             Fault::New(fault) => fault.message(),
-            Fault::NoOldTables | Fault::NoNewTables => "no tables before its records",
+            Fault::NoOldTables | Fault::NoNewTables | Fault::NoBaseTables => {
+                "no tables before its records"
+            }
         }
     }
 
-    /// Of two databases, which one the fault is of.
+    /// Of some databases, which one the fault is of.
     fn side(&self) -> &'static str
         ensures { result.now ≡ fault_side self.now }
     {
         match *self {
             Fault::Old(_) | Fault::NoOldTables => "old database: ",
             Fault::New(_) | Fault::NoNewTables => "new database: ",
+            Fault::NoBaseTables => "base database: ",
             _ => "",
         }
     }

@@ -23,7 +23,7 @@ use Rattle.cdb_read.specs.OtherWidth.{lacks_tables}
 use Rattle.cdb_show.specs.Runs.Difference.{ComesAfter, DifferenceFails, DifferenceNotRead, DifferenceOutside, HasDamage as HasAny, HaveHeads, HaveTables, HaveTablesInside, TellsDifference, difference_of, heads_fault}
 use Rattle.cdb_show.specs.Status.{plain_status}
 use Rattle.cdb_show.specs.declared.fault.Fault.{Fault}
-use Rattle.cdb_show.specs.declared.fault.Fault.TheVariants.{Text, Make, Duplicate, Missing, Read, Walk, Output, Long, Open, Rename, NoMemory, Old, New, NoOldTables, NoNewTables}
+use Rattle.cdb_show.specs.declared.fault.Fault.TheVariants.{Text, Make, Duplicate, Missing, Read, Walk, Output, Long, Open, Rename, NoMemory, Old, New, NoOldTables, NoNewTables, NoBaseTables}
 use Rattle.cdb_system.specs.Answered.{AreComparable, IsInOrder, Nothing, Shows, stores_in}
 use Rattle.cdb_system.proofs.Coming.{Comes, EachAnswered, IsSized, comes_so, gives_up, long_is, nothing_written, of_shown, refused_so, short_is}
 use Rattle.cdb_system.specs.Oracle.{Disk, difference_outcome, of_file, unless_fault}
@@ -111,6 +111,7 @@ module _ {S : Type 0} (w : ℕ) (s : Ghosts S) (old_last new_last : S) (b c : Li
   difference_ended NoMemory looks part h = refused_later NoMemory tt looks part
   difference_ended NoOldTables looks part h = said_so NoOldTables (after_heads looks ∙ cond-true (lacks_tables w b) _ _ (h.lacks b x.is)) h.kept
   difference_ended NoNewTables looks part h = said_so NoNewTables (after_heads looks.0 ∙ cond-false (lacks_tables w b) _ _ (looks.1 b x.is) ∙ cond-true (lacks_tables w c) _ _ (h.lacks c y.is)) h.kept
+  difference_ended NoBaseTables looks part h = absurd h
   difference_ended (Text input fault) looks part h = absurd h
   difference_ended (Make fault) looks part h = absurd h
   difference_ended Duplicate looks part h = absurd h

@@ -33,7 +33,7 @@ use Rattle.cdb_show.specs.Runs.WalkText.{closing, walk_text}
 use Rattle.cdb_show.specs.Runs.Query.{QueryAnswers, Query, Queries, QueryFails, query_text, query_answer}
 use Rattle.cdb_show.specs.Status.{plain_status, check_status}
 use Rattle.cdb_show.specs.declared.fault.Fault.{Fault}
-use Rattle.cdb_show.specs.declared.fault.Fault.TheVariants.{Text, Make, Duplicate, Missing, Read, Walk, Output, Long, Open, Rename, NoMemory, Old, New, NoOldTables, NoNewTables}
+use Rattle.cdb_show.specs.declared.fault.Fault.TheVariants.{Text, Make, Duplicate, Missing, Read, Walk, Output, Long, Open, Rename, NoMemory, Old, New, NoOldTables, NoNewTables, NoBaseTables}
 use Rattle.cdb_system.specs.Answered.{Database, Nothing, Reading, stores_in, streams_in}
 use Rattle.cdb_system.proofs.Coming.{Comes, EachAgrees, EachAnswered, IsSized, comes_so, gives_none, gives_up, long_is, nothing_written, of_shown, output_of, refused_so, short_is}
 use Rattle.cdb_system.specs.Oracle.{Disk, Outcome, check_outcome, ended, met, of_file, query_outcome, short_or, stats_outcome, text_outcome, unless_damaged}
@@ -82,6 +82,7 @@ query_ended w s q file last bytes start end Open is size works h = absurd h
 query_ended w s q file last bytes start end Rename is size works h = absurd h
 query_ended w s q file last bytes start end NoOldTables is size works h = absurd h
 query_ended w s q file last bytes start end NoNewTables is size works h = absurd h
+query_ended w s q file last bytes start end NoBaseTables is size works h = absurd h
 query_ended w s q file last bytes start end NoMemory is size works h = absurd h
 query_ended w s q file last bytes start end (Old fault) is size works h = absurd h
 query_ended w s q file last bytes start end (New fault) is size works h = absurd h
@@ -159,6 +160,7 @@ module _ (w : ℕ) (form : Form) (before left : Feed) (unread : IsUnread before)
   text_ended Rename h = absurd h
   text_ended NoOldTables h = absurd h
   text_ended NoNewTables h = absurd h
+  text_ended NoBaseTables h = absurd h
   text_ended (Old fault) h = absurd h
   text_ended (New fault) h = absurd h
 
@@ -233,6 +235,7 @@ stats_ended reads w s file last bytes start end Open is size works h = absurd h
 stats_ended reads w s file last bytes start end Rename is size works h = absurd h
 stats_ended reads w s file last bytes start end NoOldTables is size works h = absurd h
 stats_ended reads w s file last bytes start end NoNewTables is size works h = absurd h
+stats_ended reads w s file last bytes start end NoBaseTables is size works h = absurd h
 stats_ended reads w s file last bytes start end NoMemory is size works h = absurd h
 stats_ended reads w s file last bytes start end (Old fault) is size works h = absurd h
 stats_ended reads w s file last bytes start end (New fault) is size works h = absurd h
@@ -270,6 +273,7 @@ check_ended reads w s file last bytes start end Open is works k h = absurd h
 check_ended reads w s file last bytes start end Rename is works k h = absurd h
 check_ended reads w s file last bytes start end NoOldTables is works k h = absurd h
 check_ended reads w s file last bytes start end NoNewTables is works k h = absurd h
+check_ended reads w s file last bytes start end NoBaseTables is works k h = absurd h
 check_ended reads w s file last bytes start end (Old fault) is works k h = absurd h
 check_ended reads w s file last bytes start end (New fault) is works k h = absurd h
 
@@ -325,6 +329,7 @@ not_taken writes status most before left input rest outcome start end Open plain
 not_taken writes status most before left input rest outcome start end Rename plain unread m h k = absurd h
 not_taken writes status most before left input rest outcome start end NoOldTables plain unread m h k = absurd h
 not_taken writes status most before left input rest outcome start end NoNewTables plain unread m h k = absurd h
+not_taken writes status most before left input rest outcome start end NoBaseTables plain unread m h k = absurd h
 not_taken writes status most before left input rest outcome start end (Old fault) plain unread m h k = absurd h
 not_taken writes status most before left input rest outcome start end (New fault) plain unread m h k = absurd h
 

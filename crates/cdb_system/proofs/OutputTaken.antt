@@ -4,7 +4,7 @@ use Rattle.cdb_command.specs.Asked.{Asked}
 use Rattle.cdb_command.specs.Asked as asked
 use Rattle.cdb_show.specs.Views.Output.{OutputSays}
 use Rattle.cdb_show.specs.declared.fault.Fault.{Fault}
-use Rattle.cdb_show.specs.declared.fault.Fault.TheVariants.{Text, Make, Duplicate, Missing, Read, Walk, Output, Long, Open, Rename, NoMemory, Old, New, NoOldTables, NoNewTables}
+use Rattle.cdb_show.specs.declared.fault.Fault.TheVariants.{Text, Make, Duplicate, Missing, Read, Walk, Output, Long, Open, Rename, NoMemory, Old, New, NoOldTables, NoNewTables, NoBaseTables}
 use Rattle.cdb_system.specs.Answered.{IsRefusal, Reading}
 
 -- whether a command writes on standard output
@@ -34,3 +34,4 @@ taken writes reads (Old g) result works says is h = h
 taken writes reads (New g) result works says is h = h
 taken writes reads NoOldTables result works says is h = h
 taken writes reads NoNewTables result works says is h = h
+taken writes reads NoBaseTables result works says is h = h

@@ -8,7 +8,7 @@ use Rattle.cdb_form.specs.declared.walk.fault.WalkFault.TheVariants as walk
 use Rattle.cdb_show.specs.Runs.FedText.{WritesFirst, WritesToDamage, WritesWalk, WritingFails}
 use Rattle.cdb_show.specs.Runs.Form.{Form}
 use Rattle.cdb_show.specs.declared.fault.Fault.{Fault}
-use Rattle.cdb_show.specs.declared.fault.Fault.TheVariants.{Text, Make, Duplicate, Missing, Read, Walk, Output, Long, Open, Rename, NoMemory, Old, New, NoOldTables, NoNewTables}
+use Rattle.cdb_show.specs.declared.fault.Fault.TheVariants.{Text, Make, Duplicate, Missing, Read, Walk, Output, Long, Open, Rename, NoMemory, Old, New, NoOldTables, NoNewTables, NoBaseTables}
 use Rattle.cdb_show.specs.Runs.FedLoad.{LoadStops}
 use Rattle.cdb_store.specs.Contents.{contents}
 use Rattle.cdb_store.specs.declared.memory.MemStore.{MemStore}
@@ -48,6 +48,7 @@ module _ (w : ℕ) (form : Form) (old mid new : Feed) (kept : Keeps old mid) (st
   fails_since Rename h = absurd h
   fails_since NoOldTables h = absurd h
   fails_since NoNewTables h = absurd h
+  fails_since NoBaseTables h = absurd h
   fails_since (Old f) h = absurd h
   fails_since (New f) h = absurd h
 
@@ -109,6 +110,7 @@ why_not most first mid new left held Open kept lost h = absurd h
 why_not most first mid new left held Rename kept lost h = absurd h
 why_not most first mid new left held NoOldTables kept lost h = absurd h
 why_not most first mid new left held NoNewTables kept lost h = absurd h
+why_not most first mid new left held NoBaseTables kept lost h = absurd h
 why_not most first mid new left held (Old f) kept lost h = absurd h
 why_not most first mid new left held (New f) kept lost h = absurd h
 

@@ -20,7 +20,7 @@ use Rattle.cdb_names.specs.Replacing.{IsNoName}
 use Rattle.cdb_show.specs.declared.fault.Fault.{Fault}
 use Rattle.cdb_show.specs.declared.fault.Fault.TheVariants.{Text, Make, Read, Walk, Output, Open}
 use Rattle.cdb_show.specs.declared.fault.Fault.TheVariants.{Rename, NoMemory, Old, New}
-use Rattle.cdb_show.specs.declared.fault.Fault.TheVariants.{NoOldTables, NoNewTables}
+use Rattle.cdb_show.specs.declared.fault.Fault.TheVariants.{NoOldTables, NoNewTables, NoBaseTables}
 use Rattle.cdb_system.specs.CauseLine.{cause_line, error_words, line_words}
 use Rattle.cdb_system.specs.Places.{IsInPlace, temporary_of}
 use Rattle.cdb_system.specs.Opening.{OpenCalls, refused_open}
@@ -157,6 +157,7 @@ IsOfDatabase command (New fault) name said = (name ≡ new_name command) × IsOf
 IsOfDatabase command (Walk fault) name said = (name ≡ read_name command) × IsOfWalk fault said
 IsOfDatabase command NoOldTables name said = (name ≡ read_name command) × (said ≡ None)
 IsOfDatabase command NoNewTables name said = (name ≡ new_name command) × (said ≡ None)
+IsOfDatabase command NoBaseTables name said = (name ≡ read_name command) × (said ≡ None)
 IsOfDatabase command fault name said = ⊥
 
 -- standard output, if that failed, or else standard error
@@ -199,6 +200,7 @@ HasNoDatabase (Old fault) = NamesNothing fault
 HasNoDatabase (New fault) = NamesNothing fault
 HasNoDatabase (Walk fault) = ⊥
 HasNoDatabase NoOldTables = ⊥
+HasNoDatabase NoBaseTables = ⊥
 HasNoDatabase NoNewTables = ⊥
 HasNoDatabase fault = ⊤
 

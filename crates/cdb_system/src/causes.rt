@@ -401,7 +401,9 @@ where
             let number = read_number::<Y>(system, &left.other);
             of_unread(new_name(command), fault, number)
         }
-        Fault::Walk(_) | Fault::NoOldTables => Some(of_name(read_name(command), Told::Name)),
+        Fault::Walk(_) | Fault::NoOldTables | Fault::NoBaseTables => {
+            Some(of_name(read_name(command), Told::Name))
+        }
         Fault::NoNewTables => Some(of_name(new_name(command), Told::Name)),
         _ => None,
     }

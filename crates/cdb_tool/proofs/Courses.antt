@@ -25,7 +25,7 @@ use Rattle.cdb_tool.specs.Runs.Course.{Task, Course, mode_of, told, ends, is_goi
 use Rattle.cdb_show.specs.Runs.Incoming.{Incoming, from_input, from_inputs}
 use Rattle.cdb_tool.specs.Runs.Make.{InCourse, PutStops, IsOfStore, MakeStandsAt, IsHalt, TakesNext}
 use Rattle.cdb_show.specs.declared.fault.Fault.{Fault}
-use Rattle.cdb_show.specs.declared.fault.Fault.TheVariants.{Text, Make, Duplicate, Missing, Read, Walk, Output, Long, Open, Rename, NoMemory, Old, New, NoOldTables, NoNewTables}
+use Rattle.cdb_show.specs.declared.fault.Fault.TheVariants.{Text, Make, Duplicate, Missing, Read, Walk, Output, Long, Open, Rename, NoMemory, Old, New, NoOldTables, NoNewTables, NoBaseTables}
 use Rattle.cdb_tool.specs.declared.runs.options.RunOptions.{RunOptions}
 use Rattle.cdb_tool.proofs.ToldLines.{part_then, tells_none, tells_then}
 
@@ -115,6 +115,7 @@ told_so t cs i n r start mid end m put Open b p x = absurd x
 told_so t cs i n r start mid end m put Rename b p x = absurd x
 told_so t cs i n r start mid end m put NoOldTables b p x = absurd x
 told_so t cs i n r start mid end m put NoNewTables b p x = absurd x
+told_so t cs i n r start mid end m put NoBaseTables b p x = absurd x
 told_so t cs i n r start mid end m put (Old side) b p x = absurd x
 told_so t cs i n r start mid end m put (New side) b p x = absurd x
 told_so t cs i n r start mid end m put NoMemory b p x = absurd x
@@ -229,6 +230,7 @@ told_halts o i j key put old new Open x is = absurd is
 told_halts o i j key put old new Rename x is = absurd is
 told_halts o i j key put old new NoOldTables x is = absurd is
 told_halts o i j key put old new NoNewTables x is = absurd is
+told_halts o i j key put old new NoBaseTables x is = absurd is
 told_halts o i j key put old new (Old side) x is = absurd is
 told_halts o i j key put old new (New side) x is = absurd is
 told_halts o i j key put old new NoMemory x is = absurd x

@@ -41,7 +41,7 @@ use Rattle.cdb_tool.specs.Runs.MakesSo.{MakesSo, IsMakeRefusal, ComesOf}
 use Rattle.cdb_show.specs.Runs.Given.{Given, given_from}
 use Rattle.cdb_tool.specs.Runs.Made.{Made, ended_by, made_from, walk_fault, base_fault, unless_stopped, made_of}
 use Rattle.cdb_show.specs.declared.fault.Fault.{Fault}
-use Rattle.cdb_show.specs.declared.fault.Fault.TheVariants.{Text, Make, Duplicate, Missing, Read, Walk, Output, Long, Open, Rename, NoMemory, Old, New, NoOldTables, NoNewTables}
+use Rattle.cdb_show.specs.declared.fault.Fault.TheVariants.{Text, Make, Duplicate, Missing, Read, Walk, Output, Long, Open, Rename, NoMemory, Old, New, NoOldTables, NoNewTables, NoBaseTables}
 
 -- ---- the course over more items
 
@@ -128,6 +128,7 @@ base_stops w limit o images old new walk made (Old f) h lines = absurd h
 base_stops w limit o images old new walk made (New f) h lines = absurd h
 base_stops w limit o images old new walk made NoOldTables h lines = absurd h
 base_stops w limit o images old new walk made NoNewTables h lines = absurd h
+base_stops w limit o images old new walk made NoBaseTables h lines = absurd h
 
 some_base_stops : (w g : ℕ) (o : RunOptions) (base : Option (List ℕ)) (images : List ℕ → Type 0) (old new : Option (List ℕ)) (made : Made) (f : Fault) → BaseStops w o.make.limit base old new f → ComesOf w o (unless_stopped (base_fault w o.make.limit base) made) images old new (Err f)
 some_base_stops w g o None images old new made f h = absurd h.fails
@@ -188,6 +189,7 @@ stops_in w g t given cs more images old new (Old f) e h = absurd h
 stops_in w g t given cs more images old new (New f) e h = absurd h
 stops_in w g t given cs more images old new NoOldTables e h = absurd h
 stops_in w g t given cs more images old new NoNewTables e h = absurd h
+stops_in w g t given cs more images old new NoBaseTables e h = absurd h
 
 stopped_in : (w g : ℕ) (t : Task) (inputs : List (Option (List ℕ))) (shared : List ℕ) (left : InputsLeft) (images : List ℕ → Type 0) (old new : Option (List ℕ)) (f : Fault) → Known inputs shared left → MakeStops w g t left old new f
     → ComesOf w t.options (made_from w t (given_from (make_run.form_of t) g 1 inputs shared)) images old new (Err f)
@@ -260,6 +262,7 @@ inputs_stop w g t inputs shared left images old new (Old f) k h = stopped_in w g
 inputs_stop w g t inputs shared left images old new (New f) k h = stopped_in w g t inputs shared left images old new _ k h
 inputs_stop w g t inputs shared left images old new NoOldTables k h = stopped_in w g t inputs shared left images old new _ k h
 inputs_stop w g t inputs shared left images old new NoNewTables k h = stopped_in w g t inputs shared left images old new _ k h
+inputs_stop w g t inputs shared left images old new NoBaseTables k h = stopped_in w g t inputs shared left images old new _ k h
 
 -- ---- the run
 

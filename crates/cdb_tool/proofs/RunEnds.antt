@@ -26,7 +26,7 @@ use Rattle.cdb_show.specs.Runs.Inputs as form
 use Rattle.cdb_tool.specs.Runs.Make.{InCourse, MakeStops, InputsFail, RunFails, MakeRuns, form_of, records_of, OfBase, HoldsBase, BaseStopped, HandsBack, IsBase, IsSomeBase, BaseFails, IsOfStore}
 use Rattle.cdb_show.specs.Runs.Incoming.{came}
 use Rattle.cdb_show.specs.declared.fault.Fault.{Fault}
-use Rattle.cdb_show.specs.declared.fault.Fault.TheVariants.{Text, Make, Duplicate, Missing, Read, Walk, Output, Long, Open, Rename, NoMemory, Old, New, NoOldTables, NoNewTables}
+use Rattle.cdb_show.specs.declared.fault.Fault.TheVariants.{Text, Make, Duplicate, Missing, Read, Walk, Output, Long, Open, Rename, NoMemory, Old, New, NoOldTables, NoNewTables, NoBaseTables}
 use Rattle.cdb_tool.specs.declared.runs.options.RunOptions.{RunOptions}
 use Rattle.cdb_tool.proofs.ToldLines.{part_kept, part_whole, tells_kept, tells_none}
 use Rattle.cdb_show.proofs.Writers.{not_ok}
@@ -234,6 +234,7 @@ stops_kept w o cs old mid new Open h k = absurd h
 stops_kept w o cs old mid new Rename h k = absurd h
 stops_kept w o cs old mid new NoOldTables h k = absurd h
 stops_kept w o cs old mid new NoNewTables h k = absurd h
+stops_kept w o cs old mid new NoBaseTables h k = absurd h
 stops_kept w o cs old mid new (Old side) h k = absurd h
 stops_kept w o cs old mid new (New side) h k = absurd h
 
@@ -254,6 +255,7 @@ fails_kept w g o inputs old mid new Open h k = stop_kept w g o inputs old mid ne
 fails_kept w g o inputs old mid new Rename h k = stop_kept w g o inputs old mid new Rename h k
 fails_kept w g o inputs old mid new NoOldTables h k = stop_kept w g o inputs old mid new NoOldTables h k
 fails_kept w g o inputs old mid new NoNewTables h k = stop_kept w g o inputs old mid new NoNewTables h k
+fails_kept w g o inputs old mid new NoBaseTables h k = stop_kept w g o inputs old mid new NoBaseTables h k
 fails_kept w g o inputs old mid new (Old side) h k = stop_kept w g o inputs old mid new (Old side) h k
 fails_kept w g o inputs old mid new (New side) h k = stop_kept w g o inputs old mid new (New side) h k
 fails_kept w g o inputs old mid new NoMemory h k = stop_kept w g o inputs old mid new NoMemory h k

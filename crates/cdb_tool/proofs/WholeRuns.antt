@@ -27,7 +27,7 @@ use Rattle.cdb_show.proofs.NativeInputs.{some_weaker, fault_of_text, fault_of_pa
 use Rattle.cdb_show.specs.Runs.Flushed.{Flushed}
 use Rattle.cdb_tool.specs.Runs.MakeBytes.{IsNewText, FailsText, FailsRead, PassesGreatest, TextNotRead, ReadsFitting, MakesFile, MakesBytes}
 use Rattle.cdb_show.specs.declared.fault.Fault.{Fault}
-use Rattle.cdb_show.specs.declared.fault.Fault.TheVariants.{Text, Make, Duplicate, Missing, Read, Walk, Output, Long, Open, Rename, NoMemory, Old, New, NoOldTables, NoNewTables}
+use Rattle.cdb_show.specs.declared.fault.Fault.TheVariants.{Text, Make, Duplicate, Missing, Read, Walk, Output, Long, Open, Rename, NoMemory, Old, New, NoOldTables, NoNewTables, NoBaseTables}
 use Rattle.cdb_show.proofs.Writers.{prefix_kept, whole_prefix, keeps_self, keeps_then, not_ok}
 
 -- ---- what a writer holds
@@ -155,6 +155,7 @@ nothing_made w g text rest o Open x = absurd x
 nothing_made w g text rest o Rename x = absurd x
 nothing_made w g text rest o NoOldTables x = absurd x
 nothing_made w g text rest o NoNewTables x = absurd x
+nothing_made w g text rest o NoBaseTables x = absurd x
 nothing_made w g text rest o (Old side) x = absurd x
 nothing_made w g text rest o (New side) x = absurd x
 nothing_made w g text rest o NoMemory x = record { ok = tt; err = (x, keeps_self o) }
@@ -183,6 +184,7 @@ makes_kept w g text rest old mid new (Err Open) m k = record { ok = tt; err = (m
 makes_kept w g text rest old mid new (Err Rename) m k = record { ok = tt; err = (m.err.0, keeps_then old mid new m.err.1 k) }
 makes_kept w g text rest old mid new (Err NoOldTables) m k = record { ok = tt; err = (m.err.0, keeps_then old mid new m.err.1 k) }
 makes_kept w g text rest old mid new (Err NoNewTables) m k = record { ok = tt; err = (m.err.0, keeps_then old mid new m.err.1 k) }
+makes_kept w g text rest old mid new (Err NoBaseTables) m k = record { ok = tt; err = (m.err.0, keeps_then old mid new m.err.1 k) }
 makes_kept w g text rest old mid new (Err (Old side)) m k = record { ok = tt; err = (m.err.0, keeps_then old mid new m.err.1 k) }
 makes_kept w g text rest old mid new (Err (New side)) m k = record { ok = tt; err = (m.err.0, keeps_then old mid new m.err.1 k) }
 makes_kept w g text rest old mid new (Err NoMemory) m k = record { ok = tt; err = (m.err.0, keeps_then old mid new m.err.1 k) }

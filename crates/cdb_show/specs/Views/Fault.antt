@@ -16,6 +16,7 @@ use Rattle.cdb_show.specs.declared.fault.Fault.{Fault}
 use Rattle.cdb_show.specs.declared.fault.Fault.TheVariants.{Text, Make, Read, Walk, Output}
 use Rattle.cdb_show.specs.declared.fault.Fault.TheVariants.{Duplicate, Missing, Long, Open, Rename}
 use Rattle.cdb_show.specs.declared.fault.Fault.TheVariants.{NoMemory, Old, New, NoOldTables, NoNewTables}
+use Rattle.cdb_show.specs.declared.fault.Fault.TheVariants.{NoBaseTables}
 
 abbrev pub fault_number : Fault → ℕ
 fault_number (Text input fault) = 1
@@ -33,6 +34,7 @@ fault_number (Old fault) = 12
 fault_number (New fault) = 13
 fault_number NoOldTables = 14
 fault_number NoNewTables = 15
+fault_number NoBaseTables = 16
 
 -- the fault of a run, from that of an input: want of memory is the run's own
 abbrev pub text_fault : ℕ → TextFault → Fault

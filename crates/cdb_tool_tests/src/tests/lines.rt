@@ -151,6 +151,11 @@ const SAID: [(Fault, u8, &str); 36] = [
         15,
         "cdb: new database: no tables before its records\n",
     ),
+    (
+        Fault::NoBaseTables,
+        16,
+        "cdb: base database: no tables before its records\n",
+    ),
 ];
 
 /// Whether a writer takes the line of a fault, which an output of four bytes hands on.

@@ -1,8 +1,12 @@
-use Rattle.std.proofs.Common.{inl, inr, refl, rules}
+use Rattle.std.proofs.Common.{Err, inl, inr, refl, rules}
 use Rattle.std.proofs.KnownBytes.{Keeps-refl}
+use Rattle.cdb_show.proofs.OutputFaults.{says_more}
 use Rattle.cdb_show.proofs.PlacedReaders.{same_places}
 use Rattle.cdb.proofs.HandedBack.{hands_left, opens_nothing}
 use Rattle.cdb.proofs.creating.create.Goals as goal
+
+pub returns-in-Err-clause-output : goal.returns-in-Err-clause-output
+returns-in-Err-clause-output g c = says_more (Err c.in-Err.unopened.fault) (λ none. absurd none) c.in-Err.ensures.output
 
 pub returns-then-is_standard-clause-creates : goal.returns-then-is_standard-clause-creates
 returns-then-is_standard-clause-creates g c =

@@ -1,0 +1,39 @@
+-- A base whose head was not read.
+use Rattle.std.proofs.Common.{ℕ, List, length, Err, ◌≡◌, ◌<◌, ◌∙◌, inl, inr, ap, refl, subst, sym}
+use Rattle.cdb_form.specs.Format.Pair.{head_size}
+use Rattle.cdb_read.specs.Views.Reads.{OpeningFails}
+use Rattle.cdb_read.specs.declared.fault.ReadFault.{ReadFault}
+use Rattle.cdb_read.specs.declared.fault.ReadFault.TheVariants.{Device, NoMemory, Output, Record, Short, Slot, Table, Twice, Unindexed}
+use Rattle.cdb_show.specs.Views.Fault.{read_fault}
+use Rattle.cdb_show.specs.Views.Output.{OutputSays}
+use Rattle.cdb_store.specs.declared.store.Store.{Ghosts}
+use Rattle.cdb_store.proofs.Reading.{reads_nothing}
+use Rattle.cdb_system.proofs.Coming.{short_is}
+use Rattle.cdb.specs.Creating.{SeesHead}
+
+module _ {S : Type 0} (w : ℕ) (s : Ghosts S) (old new : S) where
+  pub unseen : (fault : ReadFault) → ((b : List ℕ) → s.image new b → length b ≡ s.size new) → OpeningFails w s old new fault → SeesHead w s old new (Err (read_fault fault))
+  unseen Short sized fails = record {
+    reads = reads_nothing old new fails.1;
+    ok = tt;
+    err = inl (λ b is. short_is w b _ _ (subst (λ n. n < head_size w) (sym (sized b is ∙ ap s.size fails.1)) fails.0));
+  }
+  unseen Device sized fails = record { reads = fails.0; ok = tt; err = inr (refl, fails.1) }
+  unseen NoMemory sized fails = absurd fails
+  unseen Output sized fails = absurd fails
+  unseen (Table n) sized fails = absurd fails
+  unseen (Record place) sized fails = absurd fails
+  unseen (Slot n i) sized fails = absurd fails
+  unseen (Twice place) sized fails = absurd fails
+  unseen (Unindexed place) sized fails = absurd fails
+
+  pub unseen_says : (fault : ReadFault) → OpeningFails w s old new fault → OutputSays {A = Unit {0}} ⊥ (Err (read_fault fault))
+  unseen_says Short fails = tt
+  unseen_says Device fails = tt
+  unseen_says NoMemory fails = absurd fails
+  unseen_says Output fails = absurd fails
+  unseen_says (Table n) fails = absurd fails
+  unseen_says (Record place) fails = absurd fails
+  unseen_says (Slot n i) fails = absurd fails
+  unseen_says (Twice place) fails = absurd fails
+  unseen_says (Unindexed place) fails = absurd fails
