@@ -10,7 +10,7 @@ use std::prelude::*;
 use std::test::Fail;
 
 /// Faults, their numbers and their lines.
-const SAID: [(Fault, u8, &str); 36] = [
+const SAID: [(Fault, u8, &str); 37] = [
     (
         Fault::Text(1, TextFault::Syntax(7)),
         1,
