@@ -3,7 +3,7 @@ use super::running::{Duplicates, options, texts};
 use cdb_form::Narrow;
 use cdb_make::{MakeFault, Maker, Mode};
 use cdb_store::{FuseStore, MemStore};
-use cdb_tool::{Fault, Inputs, Lines, Style, put_inputs};
+use cdb_tool::{Fault, Inputs, Lines, RunOptions, Style, put_inputs};
 use std::alloc::{AllocError, Global};
 use std::prelude::*;
 use std::test::Fail;
@@ -30,7 +30,10 @@ fn put(
     inputs: Vec<&'static [u8]>,
     lines: &mut Vec<u8>,
 ) -> Result<(), Fault> {
-    let options = options(Mode::Warn, Duplicates::Told, Style::Native, 4294967295);
+    let options = RunOptions {
+        make: options(Mode::Warn, Duplicates::Told, Style::Native, 4294967295),
+        names: None,
+    };
     let none: &[u8] = &[];
     let inputs = Inputs::each_own(alloc, inputs, none)?;
     let counted = Lines::new(false);
