@@ -31,7 +31,7 @@ pub(crate) struct Creation<'a> {
     pub(crate) name: &'a str,
     /// The database whose records come first, if one is amended.
     pub(crate) base: &'a Option<String>,
-    /// The inputs. No input is standard input.
+    /// The inputs. Without any, standard input is read.
     pub(crate) inputs: &'a [String],
     /// The file in which the database is made; `None` is its name with `.tmp` after it.
     pub(crate) temporary: &'a Option<String>,

@@ -24,7 +24,7 @@ use cdb_make::MakeFault;
 use cdb_names::{Answer, Builder, Lock, Names, ReplaceFault, replace_file};
 use cdb_show::Inputs;
 use cdb_store::Store;
-use cdb_system::{Left, STANDARD_INPUT, System, is_standard};
+use cdb_system::{HYPHEN, Left, System, is_standard};
 use cdb_tool::Fault;
 use std::alloc::Global;
 use std::marker::PhantomData;
@@ -92,7 +92,7 @@ fn may_be_one_read<N: Names>(names: &mut N, name: &str, inputs: &[String]) -> bo
         (N.calls names.old) (N.calls names.new) }
 {
     if inputs.is_empty() {
-        return may_be_input(names, name, STANDARD_INPUT);
+        return may_be_input(names, name, HYPHEN);
     }
     may_be_one_of_inputs(names, name, inputs)
 }

@@ -12,14 +12,14 @@ use cdb_form::Feeds;
 use cdb_show::{Fault, Inputs};
 use std::alloc::Global;
 
-/// The name of standard input.
-pub const STANDARD_INPUT: &str = "-";
+/// The word that stands for standard input on the command line.
+pub const HYPHEN: &str = "-";
 
 /// Whether a name is that of standard input.
 pub fn is_standard(name: &str) -> bool
     ensures { IsTrue result ↔ IsStandard name.now }
 {
-    name == STANDARD_INPUT
+    name == HYPHEN
 }
 
 /// Opens the base, if there is one.

@@ -18,7 +18,7 @@ mod telling;
 
 pub use causes::{Reason, Told, reason_of};
 pub use differing::difference;
-pub use inputs::{STANDARD_INPUT, is_standard, open_base, open_inputs};
+pub use inputs::{HYPHEN, is_standard, open_base, open_inputs};
 pub use left::{
     Left, base_left, both_left, input_left, looked_left, none_left, read_left, stream_left,
 };
