@@ -190,6 +190,11 @@ CAUSES = {
         ["-c", "-t", "y", "x"], NO_DATABASE, "y: File too large", TWO_TEXT, files={"x": ONE_FILE}, most=2048
     ),
     "a name with a newline": told(["-q", "x\ncdb: y\x7f\x1b", "one"], NO_FILE, f"x\\x0acdb: y\\x7f\\x1b: {MISSING}"),
+    "a name with characters of many bytes": told(["-q", "x\u00e9\u20ac\U0001f600", "one"], NO_FILE, f"x\u00e9\u20ac\U0001f600: {MISSING}"),
+    "a name with controls of many bytes": told(
+        ["-q", "\u0085\u202ex\u2028", "one"], NO_FILE, f"\\xc2\\x85\\xe2\\x80\\xaex\\xe2\\x80\\xa8: {MISSING}"
+    ),
+    "a temporary name of many bytes": told(["-c", "no/\u00e9"], NO_FILE, f"no/\u00e9.tmp: {MISSING}", TWO_TEXT),
     "a value that is missing": case(["-v", "-q", "x", "no"], status=100, files={"x": FOUR_FILE}),
     "a query that is answered": case(["-v", "-q", "x", "one"], stdout=b"Hello", files={"x": ONE_FILE}),
 }
@@ -203,9 +208,18 @@ def worded(given, cause):
 WORDS = {
     "an unknown letter": worded(["-v", "-Z"], "-Z: unknown letter"),
     "an unknown letter beside the one that asks": worded(["-Zv"], "-Z: unknown letter"),
-    "a letter beyond ASCII": worded(["-v", "-q\u00e9", "x", "k"], "-\\xc3\\xa9: unknown letter"),
+    "a letter beyond ASCII": worded(["-v", "-q\u00e9", "x", "k"], "-\u00e9: unknown letter"),
+    "a letter that no terminal is given": worded(["-v", "-q\u009b", "x", "k"], "-\\xc2\\x9b: unknown letter"),
     "a hyphen among letters": worded(["-vq-d", "x"], "--: unknown letter"),
     "a long word": worded(["-v", "-c", "--map=1", "x"], "--map=1: unknown option"),
+    "a long word alone": worded(["-v", "--map=1", "x"], "--map=1: unknown option"),
+    "a long word for help": worded(["-v", "--help"], "no command"),
+    "the same before the letter that asks": worded(["--help", "-mv", "x"], "no command"),
+    "the same with a command": worded(["-v", "-q", "--help"], "--help: unknown option"),
+    "the same before a command": worded(["-v", "--help", "-mc", "x"], "--help: unknown option"),
+    "the same after a letter that is unknown": worded(["-v", "-Z", "--help"], "-Z: unknown letter"),
+    "a longer word than that for help": worded(["-v", "--helps"], "--helps: unknown option"),
+    "a name for help": worded(["-v", "help"], "no command"),
     "a long word with a newline": worded(["-v", "--a\ncdb: b"], "--a\\x0acdb: b: unknown option"),
     "the first of two bad words": worded(["-v", "-q", "-Y", "--map"], "-Y: unknown letter"),
     "a letter without its value": worded(["-vq", "x", "k", "-n"], "-n: no value"),
@@ -226,7 +240,7 @@ WORDS = {
     "a number of 0": worded(["-v", "-q", "-n", "0", "x", "k"], "-n 0: not from 1 to 4294967295"),
     "a number of 33 bits": worded(["-v", "-qn4294967296", "x", "k"], "-n 4294967296: not from 1 to 4294967295"),
     "a number that is empty": worded(["-v", "-q", "-n", "", "x", "k"], "-n : not from 1 to 4294967295"),
-    "a number of other bytes": worded(["-v", "-q", "-n", "1\t\u00e9", "x", "k"], "-n 1\\x09\\xc3\\xa9: not from 1 to 4294967295"),
+    "a number of other bytes": worded(["-v", "-q", "-n", "1\t\u00e9", "x", "k"], "-n 1\\x09\u00e9: not from 1 to 4294967295"),
     "no database": worded(["-v", "-q"], "no database"),
     "no database of many keys": worded(["-vqi"], "no database"),
     "no database to create": worded(["-v", "-c"], "no database"),
@@ -240,6 +254,41 @@ WORDS = {
     "a letter after the names": case(["-Z", "--", "-v"], line=BAD_WORDS, status=2),
 }
 CAUSES.update({f"bad words: {name}": row for name, row in WORDS.items()})
+
+# What is shown of keys.
+SHOWN = {
+    "two bytes": ("\u00e9".encode(), "\u00e9"),
+    "three bytes": ("\u20ac".encode(), "\u20ac"),
+    "four bytes": ("\U0001f600".encode(), "\U0001f600"),
+    "the least and the greatest of each length": (
+        "~\u00a0\u07ff\u0800\ud7ff\ue000\uffff\U00010000\U0010ffff".encode(),
+        "~\u00a0\u07ff\u0800\ud7ff\ue000\uffff\U00010000\U0010ffff",
+    ),
+    "ASCII that is hidden": (b"\0\x1b[31m\x1f\x7f\\", "\\x00\\x1b[31m\\x1f\\x7f\\x5c"),
+    "controls of two bytes": ("\u0080\u0085\u009f".encode(), "\\xc2\\x80\\xc2\\x85\\xc2\\x9f"),
+    "separators and directions": (
+        "\u2027\u2028\u202e\u202f\u2065\u2066\u2069\u206a".encode(),
+        "\u2027\\xe2\\x80\\xa8\\xe2\\x80\\xae\u202f\u2065\\xe2\\x81\\xa6\\xe2\\x81\\xa9\u206a",
+    ),
+    "a slash in two bytes": (b"\xc0\xaf", "\\xc0\\xaf"),
+    "too many bytes": (b"\xc1\xbf\xe0\x9f\xbf\xf0\x8f\xbf\xbf", "\\xc1\\xbf\\xe0\\x9f\\xbf\\xf0\\x8f\\xbf\\xbf"),
+    "surrogates": (b"\xed\xa0\x80\xed\xbf\xbf", "\\xed\\xa0\\x80\\xed\\xbf\\xbf"),
+    "more than Unicode has": (b"\xf4\x90\x80\x80\xf5\x80\x80\x80\xff", "\\xf4\\x90\\x80\\x80\\xf5\\x80\\x80\\x80\\xff"),
+    "a character that is cut at the end": (b"a\xe2\x82", "a\\xe2\\x82"),
+    "characters that are cut before others": (b"\xe2\x82a\xf0\x9f\x98\xc3\xa9\xc3", "\\xe2\\x82a\\xf0\\x9f\\x98\u00e9\\xc3"),
+    "a byte that continues nothing": (b"\xa9\xc3\xa9\xa9", "\\xa9\u00e9\\xa9"),
+    "a character that is not shown whole": (b"k" * 255 + b"\xc3\xa9", "k" * 255 + "\\xc3..."),
+    "a character that just is": (b"k" * 254 + b"\xc3\xa9\xa9", "k" * 254 + "\u00e9..."),
+}
+
+
+def doubled(key, seen):
+    """A create that warns of a key which comes twice, and shows it so."""
+    records = [(key, b"1"), (key, b"2")]
+    return creates(["-vcw", "x"], file_of(records), text_of(records), [again(2), f"standard input: line 2: key {seen}"])
+
+
+CAUSES.update({f"a key of {name}": doubled(*row) for name, row in SHOWN.items()})
 
 # Duplicates, each explained by the name of its input, the line at which it begins, and its key.
 LONG = b"k" * 256
@@ -264,7 +313,7 @@ EXPLAINED = {
         ["-vcw", "x", "a\n\u00e9"],
         file_of([(b"\\\n\xff ~", b"1"), (b"\\\n\xff ~", b"2")]),
         b"",
-        [again(2), "a\\x0a\\xc3\\xa9: line 3: key \\x5c\\x0a\\xff ~"],
+        [again(2), "a\\x0a\u00e9: line 3: key \\x5c\\x0a\\xff ~"],
         {"a\n\u00e9": text_of([(b"\\\n\xff ~", b"1"), (b"\\\n\xff ~", b"2")])},
     ),
     "a key that is empty": creates(

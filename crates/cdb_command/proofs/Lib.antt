@@ -1,3 +1,4 @@
 -- Lemmas that answers name.
 pub mod Characters
 pub mod Plans
+pub mod ShownText

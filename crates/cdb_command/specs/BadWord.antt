@@ -1,14 +1,15 @@
 -- The first letter or word that is no part of a command line: the words are taken one after the other, and
 -- the letters of each.
 use Prim.Native.Char.{code}
-use Rattle.std.specs.Prelude.{ℕ, ◌==◌, Bool, not, true, false, if◌then◌else◌, List, [], ◌∷◌, drop}
+use Rattle.std.specs.Prelude.{ℕ, ◌==◌, Bool, not, ◌&&◌, true, false, if◌then◌else◌, List, [], ◌∷◌, drop}
 use Rattle.std.specs.Prelude.{codes, bytes_eq, Option, None, Some, is_some, Result, Ok, Err}
 use Rattle.std.specs.List.{list_any}
 use Rattle.std.specs.Str.{chars}
 use Rattle.cdb_command.specs.Letters.{flag_letters}
 use Rattle.cdb_command.specs.Line.{Text}
 use Rattle.cdb_command.specs.Asked.{◌>>=◌}
-use Rattle.cdb_command.specs.Refused.{Refused, Unknown, Long, NoValue, Twice, Words}
+use Rattle.cdb_command.specs.Explained.{asks_in}
+use Rattle.cdb_command.specs.Refused.{Refused, Unknown, Long, NoValue, Twice, Words, NoCommand}
 use Rattle.cdb_command.specs.declared.bad_word.Values.{Values}
 
 abbrev pub no_values : Values
@@ -92,6 +93,14 @@ first_bad v (word ∷ words) =
     if bytes_eq word (codes "--") then end_met v.waiting
     else refused_or (word_met v word) (λ after. first_bad after words)
 
--- the first of the words is the program's name
+-- the word by which other programs are asked for help
+abbrev pub is_help : Refused → Bool
+is_help (Long word) = bytes_eq word (codes "--help")
+is_help refused = false
+
+-- on a line without the letter of a command that is what lacks then. The first of the words is the program's
+-- name
 abbrev pub bad_word : List Text → Refused
-bad_word words = first_bad no_values (drop 1 words)
+bad_word words =
+    let refused = first_bad no_values (drop 1 words) in
+    if is_help refused && not (asks_in words) then NoCommand else refused

@@ -1,8 +1,8 @@
 -- Command lines worked out by hand, equal to what the definitions compute.
 use Prim.Native.Char.{code}
-use Rattle.std.specs.Prelude.{◌≡◌, true, false, List, [], ◌∷◌, Some, None, Result, Ok, Err}
+use Rattle.std.specs.Prelude.{◌≡◌, true, false, List, [], ◌∷◌, ◌++◌, Some, None, Result, Ok, Err}
 use Rattle.std.specs.Prelude.{codes, refl}
-use Rattle.std.specs.Str.{chars}
+use Rattle.std.specs.Str.{chars, is_utf8}
 use lib.Utf8.{encode}
 use Rattle.clap.specs.Faults.{walk_fault, flags_fault, defaults_fault}
 use Rattle.clap.specs.Walk.{bundle_met, walked}
@@ -14,6 +14,7 @@ use Rattle.cdb_command.specs.Words.{plan_of, cdb_rows, cdb_faults}
 use Rattle.cdb_command.specs.declared.style.Style.TheVariants.{Native, Map}
 use Rattle.cdb_command.specs.Refused.{Refused, Unknown, Long, NoValue, Twice, NoCommand, TwoCommands}
 use Rattle.cdb_command.specs.Refused.{Option, BaseBuiltIn, Lacks, Surplus, Both, refused_line}
+use Rattle.cdb_command.specs.Shown.{shown}
 use Rattle.cdb_command.specs.declared.word_fault.Lacking.TheVariants.{Database, Key, New}
 
 -- what the words behind the program's name ask for
@@ -148,6 +149,18 @@ pub long_word : asks (codes "-c" ∷ codes "--map" ∷ codes "x" ∷ []) ≡ Err
 unfolding cdb_rows cdb_faults walk_fault flags_fault defaults_fault bundle_met walked chars encode
 long_word = refl
 
+pub word_for_help : asks (codes "-v" ∷ codes "--help" ∷ []) ≡ Err NoCommand
+unfolding cdb_rows cdb_faults walk_fault flags_fault defaults_fault bundle_met walked chars encode
+word_for_help = refl
+
+pub word_for_help_before_a_command : asks (codes "--help" ∷ codes "-mq" ∷ []) ≡ Err (Long (codes "--help"))
+unfolding cdb_rows cdb_faults walk_fault flags_fault defaults_fault bundle_met walked chars encode
+word_for_help_before_a_command = refl
+
+pub long_word_alone : asks (codes "--map" ∷ []) ≡ Err (Long (codes "--map"))
+unfolding cdb_rows cdb_faults walk_fault flags_fault defaults_fault bundle_met walked chars encode
+long_word_alone = refl
+
 pub first_of_two_bad_words : asks (codes "-qY" ∷ codes "--map" ∷ []) ≡ Err (Unknown (code "Y"))
 unfolding cdb_rows cdb_faults walk_fault flags_fault defaults_fault bundle_met walked chars encode
 first_of_two_bad_words = refl
@@ -162,9 +175,50 @@ pub said_of_two : refused_line (TwoCommands (code "q") (code "d"))
 unfolding encode
 said_of_two = refl
 
-pub said_of_a_letter : refused_line (Unknown 233) ≡ codes "cdb: -\\xc3\\xa9: unknown letter\n"
-unfolding encode
+pub said_of_a_letter : refused_line (Unknown 0xE9)
+    ≡ codes "cdb: -" ++ (0xC3 ∷ 0xA9 ∷ codes ": unknown letter\n")
+unfolding encode chars is_utf8
 said_of_a_letter = refl
+
+-- how bytes are shown: characters of two, three and four
+abbrev pub characters : Text
+characters = 0xC3 ∷ 0xA9 ∷ 0xE2 ∷ 0x82 ∷ 0xAC ∷ 0xF0 ∷ 0x9F ∷ 0x98 ∷ 0x80 ∷ []
+
+pub characters_are_shown : shown characters ≡ characters
+unfolding encode chars is_utf8
+characters_are_shown = refl
+
+pub controls_are_not : shown (0x1B ∷ 0x7F ∷ 0xC2 ∷ 0x85 ∷ []) ≡ codes "\\x1b\\x7f\\xc2\\x85"
+unfolding encode chars is_utf8
+controls_are_not = refl
+
+pub direction_is_not : shown (codes "a" ++ (0xE2 ∷ 0x80 ∷ 0xAE ∷ codes "b")) ≡ codes "a\\xe2\\x80\\xaeb"
+unfolding encode chars is_utf8
+direction_is_not = refl
+
+pub backslash_is_not : shown (codes "\\") ≡ codes "\\x5c"
+unfolding encode chars is_utf8
+backslash_is_not = refl
+
+pub longer_form_is_not : shown (0xC0 ∷ 0xAF ∷ []) ≡ codes "\\xc0\\xaf"
+unfolding encode chars is_utf8
+longer_form_is_not = refl
+
+pub surrogate_is_not : shown (0xED ∷ 0xA0 ∷ 0x80 ∷ []) ≡ codes "\\xed\\xa0\\x80"
+unfolding encode chars is_utf8
+surrogate_is_not = refl
+
+pub number_above_all_is_not : shown (0xF4 ∷ 0x90 ∷ 0x80 ∷ 0x80 ∷ []) ≡ codes "\\xf4\\x90\\x80\\x80"
+unfolding encode chars is_utf8
+number_above_all_is_not = refl
+
+pub character_that_is_cut : shown (codes "a" ++ (0xE2 ∷ 0x82 ∷ [])) ≡ codes "a\\xe2\\x82"
+unfolding encode chars is_utf8
+character_that_is_cut = refl
+
+pub byte_that_continues_nothing : shown (0xC3 ∷ 0xA9 ∷ 0xA9 ∷ []) ≡ 0xC3 ∷ 0xA9 ∷ codes "\\xa9"
+unfolding encode chars is_utf8
+byte_that_continues_nothing = refl
 
 -- whether faults are explained
 pub explained_among_letters : explains_in (codes "cdb" ∷ codes "-c" ∷ codes "x" ∷ codes "-wv" ∷ []) ≡ true

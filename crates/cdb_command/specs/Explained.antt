@@ -1,29 +1,35 @@
--- Whether a command line wants its faults explained, as its letters say: also one that `clap` does not
--- take.
+-- Which letters a command line has, as its words say: also one that `clap` does not take.
 use Prim.Native.Char.{code}
 use Rattle.std.specs.Prelude.{ℕ, ◌==◌, Bool, not, ◌&&◌, ◌||◌, false, if◌then◌else◌}
 use Rattle.std.specs.Prelude.{List, [], ◌∷◌, drop, codes, bytes_eq}
+use Rattle.std.specs.List.{list_any}
 use Rattle.cdb_command.specs.Line.{Text}
 
 -- what follows one of these in a word is its value, or makes it no letters
 abbrev pub ends_letters : ℕ → Bool
 ends_letters c = (c == code "n") || ((c == code "t") || ((c == code "b") || (c == code "-")))
 
-abbrev pub have_v : Text → Bool
-have_v [] = false
-have_v (c ∷ letters) = (c == code "v") || (not (ends_letters c) && have_v letters)
+-- one of the letters that are sought is among these
+abbrev pub have : (sought letters : Text) → Bool
+have sought [] = false
+have sought (c ∷ letters) =
+    list_any (λ letter. letter == c) sought || (not (ends_letters c) && have sought letters)
 
 -- letters follow a hyphen
-abbrev pub has_v : Text → Bool
-has_v [] = false
-has_v (c ∷ letters) = (c == code "-") && have_v letters
+abbrev pub has : (sought word : Text) → Bool
+has sought [] = false
+has sought (c ∷ letters) = (c == code "-") && have sought letters
 
 -- the words after `--` are names
-abbrev pub some_has_v : List Text → Bool
-some_has_v [] = false
-some_has_v (word ∷ words) =
-    if bytes_eq word (codes "--") then false else (has_v word || some_has_v words)
+abbrev pub some_has : (sought : Text) → List Text → Bool
+some_has sought [] = false
+some_has sought (word ∷ words) =
+    if bytes_eq word (codes "--") then false else (has sought word || some_has sought words)
 
--- the first of the words is the program's name
+-- whether it wants its faults explained. The first of the words is the program's name
 abbrev pub explains_in : List Text → Bool
-explains_in words = some_has_v (drop 1 words)
+explains_in words = some_has (codes "v") (drop 1 words)
+
+-- whether it asks for a command
+abbrev pub asks_in : List Text → Bool
+asks_in words = some_has (codes "qdlsckDhV") (drop 1 words)

@@ -4,9 +4,9 @@ pub mod Letters
 pub mod Shown
 pub mod Refused
 pub mod Asked
+pub mod Explained
 pub mod BadWord
 pub mod Rules
 pub mod Words
-pub mod Explained
 pub mod Usage
 pub mod Examples

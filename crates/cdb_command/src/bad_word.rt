@@ -2,9 +2,11 @@
 ghost use Rattle.std.specs.Prelude.{◌≡◌, drop, map, string_bytes};
 ghost use Rattle.std.specs.Str.{chars};
 ghost use Rattle.cdb_command.specs.Refused.{refused_in, told};
-ghost use Rattle.cdb_command.specs.BadWord.{bad_word, end_met, hyphen_met, is_long, is_plain};
+ghost use Rattle.cdb_command.specs.BadWord.{bad_word, end_met, first_bad, hyphen_met, is_help, is_long};
+ghost use Rattle.cdb_command.specs.BadWord.{is_plain};
 ghost use Rattle.cdb_command.specs.BadWord.{letter_met, letters_met, no_values, none_waits, word_met};
 
+use crate::explained::asks;
 use crate::letters::is_flag;
 use crate::word_fault::WordFault;
 
@@ -134,13 +136,10 @@ fn end_met<'a>(waiting: Option<char>) -> WordFault<'a>
     }
 }
 
-/// The first letter or word that is no part of a command line, whose first word is the program's name.
-pub(crate) fn bad_word(words: &[String]) -> WordFault<'_>
-    ensures { refused_in result ≡ bad_word (map string_bytes words.entry.now) }
+/// The first letter or word that is no part of a command line.
+fn first_bad(words: &[String]) -> WordFault<'_>
+    ensures { refused_in result ≡ first_bad no_values (map string_bytes words.entry.now) }
 {
-    let Some((_, words)) = words.split_first() else {
-        return WordFault::Words;
-    };
     let mut values = no_values();
     for word in words {
         if word.as_str() == "--" {
@@ -152,4 +151,30 @@ pub(crate) fn bad_word(words: &[String]) -> WordFault<'_>
         };
     }
     end_met(values.waiting)
+}
+
+/// Whether it is the word by which other programs are asked for help.
+fn is_help(fault: &WordFault<'_>) -> bool
+    ensures { result ≡ is_help (refused_in fault.now) }
+{
+    match fault {
+        WordFault::Long(word) => *word == "--help",
+        _ => false,
+    }
+}
+
+/// The first letter or word that is no part of a command line, whose first word is the program's name. If
+/// it is `--help`, and no letter of a command is on the line, that is what lacks.
+pub(crate) fn bad_word(words: &[String]) -> WordFault<'_>
+    ensures { refused_in result ≡ bad_word (map string_bytes words.entry.now) }
+{
+    let Some((_, following)) = words.split_first() else {
+        return WordFault::Words;
+    };
+    let fault = first_bad(following);
+    if is_help(&fault) && !asks(words) {
+        WordFault::NoCommand
+    } else {
+        fault
+    }
 }

@@ -1,14 +1,14 @@
-// Whether faults are to be explained.
+// Which letters a command line has, also one without a meaning.
 ghost use Rattle.std.specs.Prelude.{◌≡◌, map, string_bytes};
-ghost use Rattle.cdb_command.specs.Explained.{have_v, has_v, some_has_v, explains_in};
+ghost use Rattle.cdb_command.specs.Explained.{asks_in, explains_in, has, have, some_has};
 
-/// Whether the letters of a word have `v`.
-fn have_v(letters: &[u8]) -> bool
-    ensures { result ≡ have_v letters.now }
+/// Whether one of the letters that are sought is among those of a word.
+fn have(sought: &[u8], letters: &[u8]) -> bool
+    ensures { result ≡ have sought.now letters.now }
 {
     for &letter in letters {
         match letter {
-            b'v' => return true,
+            _ if sought.contains(&letter) => return true,
             b'n' | b't' | b'b' | b'-' => return false,
             _ => {}
         }
@@ -16,25 +16,25 @@ fn have_v(letters: &[u8]) -> bool
     false
 }
 
-/// Whether a word has the letter `v`.
-fn has_v(word: &str) -> bool
-    ensures { result ≡ has_v word.now }
+/// Whether a word has one of them.
+fn has(sought: &[u8], word: &str) -> bool
+    ensures { result ≡ has sought.now word.now }
 {
     match word.as_bytes().split_first() {
-        Some((b'-', letters)) => have_v(letters),
+        Some((b'-', letters)) => have(sought, letters),
         _ => false,
     }
 }
 
-/// Whether one of some words has the letter `v`, up to the word `--`.
-fn some_has_v(words: &[String]) -> bool
-    ensures { result ≡ some_has_v (map string_bytes words.now) }
+/// Whether one of some words has one of them, up to the word `--`.
+fn some_has(sought: &[u8], words: &[String]) -> bool
+    ensures { result ≡ some_has sought.now (map string_bytes words.now) }
 {
     for word in words {
         if word.as_str() == "--" {
             return false;
         }
-        if has_v(word.as_str()) {
+        if has(sought, word.as_str()) {
             return true;
         }
     }
@@ -47,7 +47,17 @@ pub fn explains(words: &[String]) -> bool
     ensures { result ≡ explains_in (map string_bytes words.now) }
 {
     match words.split_first() {
-        Some((_, words)) => some_has_v(words),
+        Some((_, words)) => some_has(b"v", words),
+        None => false,
+    }
+}
+
+/// Whether the letter of a command is among them.
+pub(crate) fn asks(words: &[String]) -> bool
+    ensures { result ≡ asks_in (map string_bytes words.now) }
+{
+    match words.split_first() {
+        Some((_, words)) => some_has(b"qdlsckDhV", words),
         None => false,
     }
 }

@@ -22,7 +22,7 @@ pub use command::Command;
 pub use explained::explains;
 pub use options::MakeOptions;
 pub use planning::{plan, plan_explained};
-pub use shown::escaped;
+pub use shown::{escaped, printable_len};
 pub use style::Style;
 pub use usage::Usage;
 pub use usage_text::{write_usage, write_version};

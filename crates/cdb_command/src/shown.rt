@@ -1,6 +1,78 @@
 // How bytes are shown in a line.
-ghost use Rattle.std.specs.Prelude.{◌≡◌, ◌<◌};
-ghost use Rattle.cdb_command.specs.Shown.{digit, is_hidden, shown_byte, shown_or};
+ghost use Rattle.std.specs.Prelude.{◌≡◌, ◌<◌, ◌≤◌, ◌+◌, length};
+ghost use Rattle.std.specs.Str.{continuation_len};
+ghost use Rattle.cdb_command.specs.Shown.{digit, escaped, first_piece, has_hidden, is_hidden};
+ghost use Rattle.cdb_command.specs.Shown.{is_printable, printable_len};
+
+/// Whether a character could end a line, command a terminal, turn the order of what is read, or be taken for
+/// the number of a byte.
+fn is_hidden(character: char) -> bool
+    ensures { result ≡ is_hidden character }
+{
+    character.is_control()
+        || matches!(character, '\u{2028}'..='\u{202E}' | '\u{2066}'..='\u{2069}' | '\\')
+}
+
+/// Whether a text has such a character.
+fn has_hidden(text: &str) -> bool
+    ensures { result ≡ has_hidden text.now }
+{
+    for character in text.chars() {
+        if is_hidden(character) {
+            return true;
+        }
+    }
+    false
+}
+
+/// Whether bytes are a text that has none.
+fn is_printable(bytes: &[u8]) -> bool
+    ensures { result ≡ is_printable bytes.now }
+{
+    match str::from_utf8(bytes) {
+        Ok(text) => !has_hidden(text),
+        Err(_) => false,
+    }
+}
+
+/// How many bytes follow the first one of a character, as that says.
+fn continuation_len(first: u8) -> usize
+    ensures { result ≡ continuation_len first }
+{
+    match first {
+        ..0x80 => 0,
+        0x80..0xE0 => 1,
+        0xE0..0xF0 => 2,
+        0xF0.. => 3,
+    }
+}
+
+/// As many of some bytes as the first of them says that its character has.
+fn first_piece(bytes: &[u8]) -> &[u8]
+    ensures { result.now ≡ first_piece bytes.now }
+{
+    let Some(first) = bytes.first() else {
+        return bytes;
+    };
+    let len = continuation_len(*first);
+    if len < bytes.len() {
+        &bytes[..len + 1]
+    } else {
+        bytes
+    }
+}
+
+/// How many bytes the character has that some bytes begin with, if a line shows it as it is: or else 0.
+/// All of UTF-8 is shown so but control characters, the separators of lines and paragraphs, characters
+/// that embed, override or isolate a direction of writing, and the backslash. Of 0 the first byte is
+/// shown `escaped`.
+pub fn printable_len(bytes: &[u8]) -> usize
+    ensures exact { result ≡ printable_len bytes.now }
+    ensures bound { result ≤ length bytes.now }
+{
+    let piece = first_piece(bytes);
+    if is_printable(piece) { piece.len() } else { 0 }
+}
 
 /// The digit of a number below 16.
 fn digit(n: u8) -> u8
@@ -10,21 +82,10 @@ fn digit(n: u8) -> u8
     if n < 10 { n + 48 } else { n + 87 }
 }
 
-/// Whether a byte could end a line, command a terminal or be taken for the number of another.
-fn is_hidden(byte: u8) -> bool
-    ensures { result ≡ is_hidden byte }
+/// What a byte of a name, a word or a key is shown as in a line if it begins no character that is shown as
+/// it is: a backslash, `x` and its number.
+pub fn escaped(byte: u8) -> [u8; 4]
+    ensures { result ≡ escaped byte }
 {
-    byte < 32 || 126 < byte || byte == b'\\'
-}
-
-/// What a byte of a name, a word or a key is shown as in a line, if it is not shown as it is: a backslash,
-/// `x` and its number. All but printable ASCII is, and the backslash.
-pub fn escaped(byte: u8) -> Option<[u8; 4]>
-    ensures { shown_or byte result ≡ shown_byte byte }
-{
-    if is_hidden(byte) {
-        Some([b'\\', b'x', digit(byte / 16), digit(byte % 16)])
-    } else {
-        None
-    }
+    [b'\\', b'x', digit(byte / 16), digit(byte % 16)]
 }
