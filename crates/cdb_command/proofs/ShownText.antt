@@ -102,3 +102,15 @@ past : (n : ℕ) (bytes : List ℕ) → n ≤ length bytes → shown_after n byt
 past zero bytes few = refl
 past (suc n) [] few = absurd (omega arith)
 past (suc n) (b ∷ bytes) few = ap (λ t. b ∷ t) (past n bytes (omega arith))
+
+-- a character that is shown as it is
+pub shown_character : (n : ℕ) (bytes : List ℕ) → printable_len bytes ≡ n → 0 < n → shown bytes ≡ take n bytes ++ shown (drop n bytes)
+shown_character zero bytes is some = absurd (omega arith)
+shown_character (suc n) [] is some = absurd (omega (arith, printable_len_le []))
+shown_character (suc n) (b ∷ bytes) is some =
+    ap (λ m. shown_first m b (λ k. shown_after k bytes)) is ∙ ap (λ t. b ∷ t) (past n bytes (omega (arith, printable_len_le (b ∷ bytes))))
+
+-- and a byte that begins none
+pub shown_byte : (bytes : List ℕ) → printable_len bytes ≡ 0 → 0 < length bytes → shown bytes ≡ escaped (get_or bytes 0 0) ++ shown (drop 1 bytes)
+shown_byte [] is some = absurd (omega arith)
+shown_byte (b ∷ bytes) is some = ap (λ m. shown_first m b (λ k. shown_after k bytes)) is

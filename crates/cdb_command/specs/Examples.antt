@@ -172,7 +172,7 @@ one_name_too_many = refl
 -- what is said of them
 pub said_of_two : refused_line (TwoCommands (code "q") (code "d"))
     ≡ codes "cdb: two commands: -q and -d\n"
-unfolding encode
+unfolding encode chars is_utf8
 said_of_two = refl
 
 pub said_of_a_letter : refused_line (Unknown 0xE9)

@@ -5,4 +5,5 @@ mod faults;
 mod lines;
 mod refusals;
 mod refused;
+mod shown;
 mod usage_texts;

@@ -1,21 +1,34 @@
 // A line of texts, and of bytes as they are shown.
-ghost use Rattle.std.specs.Prelude.{◌++◌, OnErr, flat_map, map};
+ghost use Rattle.std.specs.Prelude.{◌<◌, ◌≤◌, ◌++◌, IfOk, OnErr, flat_map, length, map};
 ghost use Rattle.cdb_command.specs.Refused.{parts_line};
-ghost use Rattle.cdb_command.specs.Shown.{shown, shown_byte};
-ghost use Rattle.cdb_form.specs.Views.KnownBytes.{Writes};
+ghost use Rattle.cdb_command.specs.Shown.{shown};
+ghost use Rattle.cdb_form.specs.Views.KnownBytes.{AppendsPrefix, Writes};
+ghost use Rattle.cdb_show.specs.Showing.{ShowsFirst};
 
-use cdb_command::escaped;
+use cdb_command::{escaped, printable_len};
 use cdb_form::{OutFault, Sink, write_whole};
 
-/// Writes a byte as it is shown in a line.
-fn write_byte<E: Sink>(byte: u8, errors: &mut E) -> Result<(), OutFault>
-    ensures writes { Writes result (E.contents errors.old) (E.contents errors.new) (shown_byte byte) }
+/// Writes what some bytes begin with as a line shows it, a character or a byte, and answers how many of them
+/// that is. After an `OutFault` the writer holds a prefix of it.
+fn write_first<E: Sink>(bytes: &[u8], errors: &mut E) -> Result<usize, OutFault>
+    requires { 0 < length bytes.now }
+    ensures count { IfOk result (λ n. (0 < n) × (n ≤ length bytes.now)) }
+    ensures ok { IfOk result
+        (λ n. ShowsFirst n bytes.now (E.contents errors.old) (E.contents errors.new)) }
+    ensures err { OnErr result
+        (AppendsPrefix (E.contents errors.old) (E.contents errors.new) (shown bytes.now)) }
     ensures failed { OnErr result (E.failed errors.new) }
     ensures stays { E.failed errors.old → E.failed errors.new }
 {
-    match escaped(byte) {
-        Some(escaped) => write_whole(errors, &escaped),
-        None => write_whole(errors, &[byte]),
+    match printable_len(bytes) {
+        0 => {
+            write_whole(errors, &escaped(bytes[0]))?;
+            Ok(1)
+        }
+        len => {
+            write_whole(errors, &bytes[..len])?;
+            Ok(len)
+        }
     }
 }
 
@@ -25,8 +38,9 @@ fn write_shown<E: Sink>(bytes: &[u8], errors: &mut E) -> Result<(), OutFault>
     ensures failed { OnErr result (E.failed errors.new) }
     ensures stays { E.failed errors.old → E.failed errors.new }
 {
-    for byte in bytes {
-        write_byte(*byte, errors)?;
+    let mut done = 0;
+    while done < bytes.len() {
+        done += write_first(&bytes[done..], errors)?;
     }
     Ok(())
 }

@@ -1,17 +1,19 @@
 -- The lines on standard error.
-use Rattle.std.proofs.Common.{◌≡◌, ◌∙◌, ℕ, List, [], ◌∷◌, Option, Result, Ok, Err, ◌++◌, ap, append_assoc, codes, inl, inr, sym}
+use Rattle.std.proofs.Common.{◌≡◌, ◌∙◌, ℕ, List, [], ◌∷◌, Option, Result, Ok, Err, ◌++◌, ap, append_assoc, arith, codes, inl, inr, sym, Bool, true, false, if◌then◌else◌}
 use Rattle.std.proofs.lemmas.List.{append-nil}
-use Rattle.std.proofs.lemmas.List.Concat.{flat_map-append}
 use Rattle.std.specs.Prelude.{OnErr}
 use Rattle.std.specs.Io.KnownBytes.{Keeps}
 use Rattle.std.proofs.KnownBytes.{Appends-kept, Keeps-trans}
 use Rattle.cdb_command.specs.Refused.{parts_line}
-use Rattle.cdb_command.specs.Shown.{shown, shown_byte}
+use Rattle.cdb_command.specs.Shown.{shown}
+use Rattle.cdb_command.proofs.ShownText.{shown-append}
 use Rattle.cdb_form.specs.Views.KnownBytes.{Writes}
 use Rattle.cdb_show.specs.Message.{fault_line}
 use Rattle.cdb_show.specs.declared.fault.Fault.{Fault}
 use Rattle.cdb_show.proofs.Writers.{prefix_kept}
+use Rattle.cdb_system.specs.CauseLine.{name_ending, reason_name}
 use Rattle.cdb_system.specs.Telling.{Says, SaysLine}
+use Rattle.cdb_system.specs.declared.causes.Reason.{Reason}
 
 -- a line was written, or its writer failed
 pub says_line : {T E : Type 0} (r : Result T E) (told said : Option (List ℕ)) (line : List ℕ) (unsaid : Type 0) → Writes r told said line → OnErr r unsaid → SaysLine line told said unsaid
@@ -28,13 +30,21 @@ says_kept (Err fault) more told mid said was is stays h k = line_kept (fault_lin
 
 -- ---- the line of a cause
 
+-- a name is shown as it is without its ending, and then that
+pub named_so : (reason : Reason) → shown (reason_name reason) ≡ shown reason.name.now ++ shown (name_ending reason)
+named_so reason = named reason.is_temporary reason.name.now
+  where
+    named : (is_temporary : Bool) (name : List ℕ)
+        → shown (if is_temporary then (name ++ codes ".tmp") else name) ≡ shown name ++ shown (if is_temporary then codes ".tmp" else [])
+    named true name = shown-append name (codes "tmp") 46 (omega arith)
+    named false name = sym (append-nil (shown name))
+
 -- it has its name in two parts, and what is said of it too
-pub cause_parts : (name ending whole between what words said : List ℕ) → name ++ ending ≡ whole → what ++ words ≡ said
+pub cause_parts : (name ending whole between what words said : List ℕ) → shown whole ≡ shown name ++ shown ending → what ++ words ≡ said
     → parts_line (([], name) ∷ ([], ending) ∷ (between, []) ∷ (what, []) ∷ (words, []) ∷ []) ≡ parts_line (([], whole) ∷ (between, []) ∷ (said, []) ∷ [])
 cause_parts name ending whole between what words said named told =
-    let front = shown name in
-    let after : (t : List ℕ) → front ++ (shown ending ++ t) ≡ shown whole ++ t = λ t.
-    sym (append_assoc front (shown ending) t) ∙ ap (λ x. x ++ t) (sym (flat_map-append shown_byte name ending) ∙ ap shown named) in
+    let after : (t : List ℕ) → shown name ++ (shown ending ++ t) ≡ shown whole ++ t = λ t.
+    sym (append_assoc (shown name) (shown ending) t) ∙ ap (λ x. x ++ t) (sym named) in
     let tail : (what ++ []) ++ ((words ++ []) ++ []) ≡ (said ++ []) ++ [] =
     ap (λ t. t ++ ((words ++ []) ++ [])) (append-nil what) ∙ ap (λ t. what ++ t) (append-nil (words ++ []) ∙ append-nil words) ∙ told ∙ sym (append-nil (said ++ []) ∙ append-nil said) in
     ap (λ t. codes "cdb: " ++ (t ++ codes "\n")) (after ((between ++ []) ++ ((what ++ []) ++ ((words ++ []) ++ []))) ∙ ap (λ t. shown whole ++ ((between ++ []) ++ t)) tail)

@@ -8,6 +8,10 @@ use Rattle.cdb_system.specs.declared.causes.Reason.{Reason}
 use Rattle.cdb_system.specs.declared.causes.Told.{Told}
 use Rattle.cdb_system.specs.declared.causes.Told.TheVariants as told
 
+-- what stands after the name of a file
+abbrev pub name_ending : Reason → List ℕ
+name_ending reason = if reason.is_temporary then codes ".tmp" else []
+
 abbrev pub reason_name : Reason → List ℕ
 reason_name reason = if reason.is_temporary then (reason.name.now ++ codes ".tmp") else reason.name.now
 

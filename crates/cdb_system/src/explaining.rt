@@ -2,7 +2,7 @@
 ghost use Rattle.std.specs.Prelude.{◌≡◌, ◌++◌, ◌∷◌, [], OnErr, length, nat_lt, unwrap_or};
 ghost use Rattle.cdb_command.specs.Refused.{parts_line};
 ghost use Rattle.cdb_form.specs.Views.KnownBytes.{Writes};
-ghost use Rattle.cdb_system.specs.CauseLine.{between, cause_line, reason_name, said_of};
+ghost use Rattle.cdb_system.specs.CauseLine.{between, cause_line, name_ending, reason_name, said_of};
 
 use crate::causes::{Reason, Told};
 use crate::system_words::system_words;
@@ -46,7 +46,7 @@ fn between(reason: &Reason<'_>) -> &'static [u8]
 
 /// What stands after the name of a reason's file.
 fn ending(reason: &Reason<'_>) -> &'static [u8]
-    ensures { reason.now.name.now ++ result.now ≡ reason_name reason.now }
+    ensures { result.now ≡ name_ending reason.now }
 {
     if reason.is_temporary { b".tmp" } else { b"" }
 }

@@ -7,7 +7,7 @@ mod runs;
 
 pub use cdb_command::{
     Command, Lacking, MakeOptions, Style, Usage, WordFault, escaped, explains, plan,
-    plan_explained, write_usage, write_version,
+    plan_explained, printable_len, write_usage, write_version,
 };
 pub use cdb_show::{
     BAD_USAGE, Content, DONE, FAILED, Fault, InWindow, Inputs, Lines, NoWindow, Noted, Output,

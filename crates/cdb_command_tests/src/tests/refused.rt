@@ -19,7 +19,7 @@ fn is_refused(alloc: Global, line: &str, fault: WordFault<'_>) -> Result<bool, A
 }
 
 /// Lines, and their faults.
-const REFUSED: [(&str, WordFault<'static>); 70] = [
+const REFUSED: [(&str, WordFault<'static>); 78] = [
     ("", WordFault::NoCommand),
     ("x", WordFault::NoCommand),
     ("-q -d x", WordFault::TwoCommands('q', 'd')),
@@ -89,6 +89,14 @@ const REFUSED: [(&str, WordFault<'static>); 70] = [
     ("-q -n 1 -n 2 x k", WordFault::Twice('n')),
     ("-qn1 -n2 x k", WordFault::Twice('n')),
     ("-c --map x -Z", WordFault::Long("--map")),
+    ("--map", WordFault::Long("--map")),
+    ("--help", WordFault::NoCommand),
+    ("-mv --help x --map", WordFault::NoCommand),
+    ("--help -- -q", WordFault::NoCommand),
+    ("-Z --help", WordFault::Unknown('Z')),
+    ("-q --help x k", WordFault::Long("--help")),
+    ("--help -mc x", WordFault::Long("--help")),
+    ("-h --help", WordFault::Long("--help")),
     ("-c -t a -t b x", WordFault::Twice('t')),
 ];
 

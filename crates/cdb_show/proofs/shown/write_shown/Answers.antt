@@ -1,17 +1,34 @@
-use Rattle.std.proofs.lemmas.Grind.{common_steps}
-use Rattle.std.proofs.Common.{arith}
+use Rattle.std.proofs.Common.{◌∙◌, ◌++◌, ap, append_assoc, arith, drop, refl, sym}
+use Rattle.std.proofs.lemmas.List.{drop-drop}
 use Rattle.std.proofs.lemmas.Result.{err_from_is_err_and}
-use Rattle.cdb_form.proofs.Bytes.WritingLemmas.{prefix_then, flat_map_at, writes_prefix}
-use Rattle.cdb_command.specs.Shown.{shown_byte}
+use Rattle.cdb_command.specs.Shown.{shown}
+use Rattle.cdb_form.proofs.Bytes.HeadLemmas.{rest_of}
+use Rattle.cdb_form.proofs.Bytes.WritingLemmas.{appends_then, prefix_last, same_prefix, writes_prefix}
 use Rattle.cdb_show.proofs.shown.write_shown.Goals as goal
 
-pub returns-in_err-write_byte-clause-writes : goal.returns-in_err-write_byte-clause-writes
-returns-in_err-write_byte-clause-writes g c =
+pub returns-in_err-done-clause-writes : goal.returns-in_err-done-clause-writes
+returns-in_err-done-clause-writes g c =
     let p = err_from_is_err_and c.from_residual.result c.from_residual.ensures.1 in
-    writes_prefix _ _ _ _ _ p.1 (prefix_then _ _ _ _ _ _ _ c.loop-byte.invariant.written c.in_err-write_byte.ensures.writes.err (flat_map_at shown_byte c.args.bytes.now c.loop-byte.byte-index 0 (omega arith)))
+    let so_far = c.loop-done.invariant.shows in
+    let rest = rest_of c.loop-done.done _ c.args.bytes.now refl in
+    writes_prefix _ _ _ _ _ p.1
+    (prefix_last _ _ _ _ _ _ so_far.written (same_prefix _ _ _ _ (ap shown rest) c.in_err-done.ensures.err) so_far.before)
 
-pub loop-byte-preserved : goal.loop-byte-preserved
-loop-byte-preserved g c = grind (arith, common_steps)
-
-pub returns-clause-writes : goal.returns-clause-writes
-returns-clause-writes g c = grind (arith, common_steps)
+pub loop-done-preserved : goal.loop-done-preserved
+loop-done-preserved g c =
+    let so_far = c.loop-done.invariant.shows in
+    let more = c.in_ok-done.ensures.ok in
+    let count = c.in_ok-done.field-0 in
+    let rest = rest_of c.loop-done.done _ c.args.bytes.now refl in
+    let after = ap (drop count) rest ∙ drop-drop count c.loop-done.done c.args.bytes.now in
+    record {
+      inside = omega (arith, c.in_ok-done.ensures.count.1);
+      shows = record {
+        text = so_far.text ++ more.text;
+        before = so_far.before
+            ∙ ap (λ t. so_far.text ++ t) (ap shown (sym rest) ∙ more.before ∙ ap (λ t. more.text ++ shown t) after)
+            ∙ sym (append_assoc so_far.text more.text _);
+        written = appends_then _ _ _ _ _ so_far.written more.written;
+      };
+      stays = λ failed. c.in_ok-done.ensures.stays (c.loop-done.invariant.stays failed);
+    }

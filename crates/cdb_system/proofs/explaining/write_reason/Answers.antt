@@ -1,8 +1,9 @@
-use Rattle.std.proofs.Common.{◌∙◌, ◌++◌, ◌∷◌, [], ap, unwrap_or}
+use Rattle.std.proofs.Common.{◌∙◌, ◌++◌, ◌∷◌, [], ap, sym, unwrap_or}
 use Rattle.cdb_command.specs.Refused.{parts_line}
 use Rattle.cdb_form.proofs.Bytes.WritingLemmas.{same_writes}
-use Rattle.cdb_system.specs.CauseLine.{reason_name, said_of}
-use Rattle.cdb_system.proofs.Said.{cause_parts}
+use Rattle.cdb_command.specs.Shown.{shown}
+use Rattle.cdb_system.specs.CauseLine.{name_ending, reason_name, said_of}
+use Rattle.cdb_system.proofs.Said.{cause_parts, named_so}
 use Rattle.cdb_system.proofs.explaining.write_reason.Goals as goal
 
 pub returns-clause-writes : goal.returns-clause-writes
@@ -10,7 +11,7 @@ returns-clause-writes g c =
     let reason = c.args.reason.now in
     let whole = reason_name reason in
     let said = unwrap_or (said_of reason.told) [] in
-    let named = ap (λ t. t ++ c.ending.result.now) c.as_bytes.ensures.value ∙ c.ending.ensures in
+    let named = named_so reason ∙ ap (λ t. shown t ++ shown (name_ending reason)) (sym c.as_bytes.ensures.value) ∙ ap (λ t. shown c.as_bytes.result.now ++ shown t) (sym c.ending.ensures) in
     let told = ap (λ t. t ++ c.as_bytes-3.result.now) c.as_bytes-2.ensures.value ∙ ap (λ t. c.said_parts.result.0.now ++ t) c.as_bytes-3.ensures.value ∙ c.said_parts.ensures in
     same_writes c.write_said.result _ _ _ _
     (cause_parts c.as_bytes.result.now c.ending.result.now whole c.between.result.now c.as_bytes-2.result.now c.as_bytes-3.result.now said named told ∙ ap (λ b. parts_line (([], whole) ∷ (b, []) ∷ (said, []) ∷ [])) c.between.ensures)
