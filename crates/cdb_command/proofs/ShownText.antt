@@ -1,6 +1,6 @@
 -- Bytes that are shown in a line, piece by piece.
 use Rattle.std.proofs.Common.{◌≡◌, ◌∙◌, ◌+◌, ◌-◌, ◌++◌, ◌∷◌, ◌&&◌, ◌≤◌, ◌<◌, [], ap, sym, ℕ, zero, suc, List, Bool, true, false}
-use Rattle.std.proofs.Common.{refl, length, take, drop, get_or, arith, append_assoc, not, if◌then◌else◌, inl, inr, IsUtf8}
+use Rattle.std.proofs.Common.{refl, length, take, drop, get_or, arith, append_assoc, not, if◌then◌else◌, inl, inr}
 use Rattle.std.proofs.lemmas.Bool.{cases_lt, false_from_ne_true}
 use Rattle.std.proofs.lemmas.List.{length-append, length-take, get_or-take, get_or_append_left, get_or-append_right, take_all, take-append-le}
 use Rattle.std.proofs.lemmas.Str.{IsUtf8-from_is_utf8, inside_one, length-encode, len_utf8_ascii}

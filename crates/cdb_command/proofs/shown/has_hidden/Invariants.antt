@@ -1,4 +1,4 @@
-use Rattle.std.proofs.Common.{◌≡◌, IsUtf8, chars}
+use Rattle.std.proofs.Common.{◌≡◌, IsUtf8}
 use Rattle.cdb_command.specs.Shown.{has_hidden}
 use Rattle.cdb_command.proofs.shown.has_hidden.Given as goal
 
