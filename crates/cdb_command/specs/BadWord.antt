@@ -9,7 +9,7 @@ use Rattle.cdb_command.specs.Letters.{flag_letters}
 use Rattle.cdb_command.specs.Line.{Text}
 use Rattle.cdb_command.specs.Asked.{◌>>=◌}
 use Rattle.cdb_command.specs.Explained.{asks_in}
-use Rattle.cdb_command.specs.Refused.{Refused, Unknown, Long, NoValue, Twice, Words, NoCommand}
+use Rattle.cdb_command.specs.Refused.{Refused, Unknown, Long, NoValue, Twice, Words, Help}
 use Rattle.cdb_command.specs.declared.bad_word.Values.{Values}
 
 abbrev pub no_values : Values
@@ -103,4 +103,4 @@ is_help refused = false
 abbrev pub bad_word : List Text → Refused
 bad_word words =
     let refused = first_bad no_values (drop 1 words) in
-    if is_help refused && not (asks_in words) then NoCommand else refused
+    if is_help refused && not (asks_in words) then Help else refused

@@ -12,7 +12,7 @@ use Rattle.cdb_command.specs.Asked.{Asked, Query, Lookups, Dump, Difference, Cre
 use Rattle.cdb_command.specs.Explained.{explains_in}
 use Rattle.cdb_command.specs.Words.{plan_of, cdb_rows, cdb_faults}
 use Rattle.cdb_command.specs.declared.style.Style.TheVariants.{Native, Map}
-use Rattle.cdb_command.specs.Refused.{Refused, Unknown, Long, NoValue, Twice, NoCommand, TwoCommands}
+use Rattle.cdb_command.specs.Refused.{Refused, Unknown, Long, NoValue, Twice, Help, NoCommand, TwoCommands}
 use Rattle.cdb_command.specs.Refused.{Option, BaseBuiltIn, Lacks, Surplus, Both, refused_line}
 use Rattle.cdb_command.specs.Shown.{shown}
 use Rattle.cdb_command.specs.declared.word_fault.Lacking.TheVariants.{Database, Key, New}
@@ -149,7 +149,7 @@ pub long_word : asks (codes "-c" ∷ codes "--map" ∷ codes "x" ∷ []) ≡ Err
 unfolding cdb_rows cdb_faults walk_fault flags_fault defaults_fault bundle_met walked chars encode
 long_word = refl
 
-pub word_for_help : asks (codes "-v" ∷ codes "--help" ∷ []) ≡ Err NoCommand
+pub word_for_help : asks (codes "-v" ∷ codes "--help" ∷ []) ≡ Err Help
 unfolding cdb_rows cdb_faults walk_fault flags_fault defaults_fault bundle_met walked chars encode
 word_for_help = refl
 

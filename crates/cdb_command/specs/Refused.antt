@@ -17,6 +17,7 @@ pub data Refused : Type 0 where
   NoValue : (letter : ℕ) → Refused
   Twice : (letter : ℕ) → Refused
   Words : Refused
+  Help : Refused
   NoCommand : Refused
   TwoCommands : (first second : ℕ) → Refused
   Option : (option command : ℕ) → Refused
@@ -34,6 +35,7 @@ refused_in (fault.Long word) = Long word.now
 refused_in (fault.NoValue letter) = NoValue letter
 refused_in (fault.Twice letter) = Twice letter
 refused_in fault.Words = Words
+refused_in fault.Help = Help
 refused_in fault.NoCommand = NoCommand
 refused_in (fault.TwoCommands first second) = TwoCommands first second
 refused_in (fault.Option option command) = Option option command
@@ -57,6 +59,7 @@ usage_of (Long word) = usage.Words
 usage_of (NoValue letter) = usage.Words
 usage_of (Twice letter) = usage.Words
 usage_of Words = usage.Words
+usage_of Help = usage.Words
 usage_of NoCommand = usage.NoCommand
 usage_of (TwoCommands first second) = usage.TwoCommands
 usage_of (Option option command) = usage.Option option
@@ -84,6 +87,7 @@ refused_parts (Long word) = ([], word) ∷ (codes ": unknown option", []) ∷ []
 refused_parts (NoValue letter) = (codes "-", encode_utf8 letter) ∷ (codes ": no value", []) ∷ []
 refused_parts (Twice letter) = (codes "-", encode_utf8 letter) ∷ (codes ": given twice", []) ∷ []
 refused_parts Words = (codes "a word has no meaning", []) ∷ []
+refused_parts Help = (codes "no command", []) ∷ []
 refused_parts NoCommand = (codes "no command", []) ∷ []
 refused_parts (TwoCommands first second) =
     (codes "two commands: -", encode_utf8 first) ∷ (codes " and -", encode_utf8 second) ∷ []

@@ -173,7 +173,7 @@ pub(crate) fn bad_word(words: &[String]) -> WordFault<'_>
     };
     let fault = first_bad(following);
     if is_help(&fault) && !asks(words) {
-        WordFault::NoCommand
+        WordFault::Help
     } else {
         fault
     }

@@ -18,8 +18,7 @@ use std::alloc::Global;
 /// after them; a letter without a value that comes often is as one. After `--` all words are
 /// names. The answer is the first that holds of these:
 /// - `Words`: a word has an unknown letter or is long as `--map`, or `-n`, `-t` or `-b` has no value or
-///   stands twice. The next word is no value if it begins with a hyphen and is longer than that. If the first
-///   such word is `--help`, and no letter of a command is on the line, it is `NoCommand` instead;
+///   stands twice. The next word is no value if it begins with a hyphen and is longer than that;
 /// - `Ok(Help)`: `-h` is there; `Ok(Version)`: `-V` is there;
 /// - `NoCommand`, `TwoCommands`: none of `-q`, `-d`, `-l`, `-s`, `-c`, `-k` and `-D`, or several;
 /// - `Option`: the command doesn't take this option, the first such of `m n i t w e r u b`.

@@ -31,6 +31,8 @@ pub enum WordFault<'a> {
     Twice(char),
     /// The words are refused, and none of these is the reason.
     Words,
+    /// The word `--help`, on a line without the letter of a command.
+    Help,
     /// No letter of a command.
     NoCommand,
     /// The letters of two commands.
@@ -63,7 +65,8 @@ impl<'a> WordFault<'a> {
             | WordFault::Long(_)
             | WordFault::NoValue(_)
             | WordFault::Twice(_)
-            | WordFault::Words => Usage::Words,
+            | WordFault::Words
+            | WordFault::Help => Usage::Words,
             WordFault::NoCommand => Usage::NoCommand,
             WordFault::TwoCommands(_, _) => Usage::TwoCommands,
             WordFault::Option(option, _) => Usage::Option(option),

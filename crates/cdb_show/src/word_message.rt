@@ -108,6 +108,7 @@ pub fn write_word_fault<E: Sink>(fault: &WordFault<'_>, errors: &mut E) -> Resul
         WordFault::NoValue(letter) => write_letter(letter, ": no value", errors),
         WordFault::Twice(letter) => write_letter(letter, ": given twice", errors),
         WordFault::Words => write_text("a word has no meaning", errors),
+        WordFault::Help => write_text("no command", errors),
         WordFault::NoCommand => write_text("no command", errors),
         WordFault::TwoCommands(one, other) => {
             write_letters("two commands: -", one, " and -", other, errors)
