@@ -3,6 +3,7 @@ pub mod ComparedFiles
 pub mod Explained
 pub mod FilesRead
 pub mod InputsKnown
+pub mod LoadedLemmas
 pub mod ManyKeys
 pub mod Opens
 pub mod OutputTaken

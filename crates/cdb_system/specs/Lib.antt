@@ -3,6 +3,7 @@ pub mod CauseLine
 pub mod Causes
 pub mod Files
 pub mod Inputs
+pub mod LoadedStore
 pub mod NotedExamples
 pub mod Opening
 pub mod Oracle

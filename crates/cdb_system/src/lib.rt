@@ -6,6 +6,7 @@ mod differing;
 mod explaining;
 mod inputs;
 mod left;
+mod loaded;
 mod looking;
 mod open_trace;
 mod places;
@@ -22,6 +23,7 @@ pub use inputs::{HYPHEN, is_standard, open_base, open_inputs};
 pub use left::{
     Left, base_left, both_left, input_left, looked_left, none_left, read_left, stream_left,
 };
+pub use loaded::LoadedStore;
 pub use looking::lookups;
 pub use open_trace::{OpenCall, OpenTrace};
 pub use places::is_in_place;

@@ -5,6 +5,7 @@ ghost use Rattle.cdb_names.specs.Refusals.{is_of_system};
 ghost use Rattle.cdb_system.specs.Opening.{refused_by, refused_open, unopened};
 ghost use Rattle.cdb_system.specs.declared.open_trace.OpenCall.TheVariants.{Unopened};
 
+use crate::loaded::LoadedStore;
 use crate::open_trace::{OpenCall, OpenTrace};
 use crate::seen::{Seen, SeenReader};
 use crate::system::System;
@@ -82,7 +83,7 @@ impl<'a, R: Files<File = File> + AllocGlobal> RealSystem<'a, R> {
 }
 
 impl<'a, R: Files<File = File> + AllocGlobal> System for RealSystem<'a, R> {
-    type File = FileStore;
+    type File = LoadedStore<FileStore>;
 
     type Stream = NotedReader<SeenReader<'a, File>>;
 
@@ -100,8 +101,8 @@ impl<'a, R: Files<File = File> + AllocGlobal> System for RealSystem<'a, R> {
         self.last.as_ref()
     }
 
-    fn store_error(&self, file: &FileStore) -> Option<i32> {
-        file.file().last_error()
+    fn store_error(&self, file: &LoadedStore<FileStore>) -> Option<i32> {
+        file.inner().file().last_error()
     }
 
     fn made_error(&self, file: &FileStore) -> Option<i32> {
@@ -121,11 +122,11 @@ impl<'a, R: Files<File = File> + AllocGlobal> System for RealSystem<'a, R> {
     }
 
     // Shown by tests/cli/cases.py and tests/faults/names.py.
-    fn open_store(&mut self, name: &str) -> Result<FileStore, Fault> {
+    fn open_store(&mut self, name: &str) -> Result<LoadedStore<FileStore>, Fault> {
         match opened_at_places(self.rt, name) {
             Ok(store) => {
                 self.note(&OpenCall::AtPlaces, name);
-                Ok(store)
+                Ok(LoadedStore::new(self.rt.alloc(), store))
             }
             Err(why) => Err(self.refused(why, name)),
         }
