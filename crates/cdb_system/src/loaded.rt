@@ -6,6 +6,7 @@ ghost use Rattle.cdb_store.specs.declared.store.StoreFault.TheVariants.{Device, 
 ghost use Rattle.cdb_store.specs.declared.trace.Call.TheVariants.{Refused};
 ghost use Rattle.cdb_store.specs.Images.{part, SameImages, AfterRead, HasCause, ImagesHold};
 ghost use Rattle.cdb_store.specs.Reads.{OnlyReads};
+ghost use Rattle.cdb_system.specs.Given.{AgreeAll};
 
 use cdb_store::{Call, Store, StoreFault, Trace};
 use std::alloc::Global;
@@ -45,6 +46,7 @@ pub struct LoadedStore<S: Store> {
     trace: Trace,
     ghost whole: { ForSome copy (λ bytes. length bytes.items ≡ S.size inner) },
     ghost held: { ForSome copy (λ bytes. ImagesHold 0 bytes.items (S.image inner)) },
+    ghost agrees: { ∥ AgreeAll (S.image inner) trace.events ∥₁ },
 }
 
 impl<S: Store> LoadedStore<S> {
@@ -72,9 +74,10 @@ impl<S: Store> LoadedStore<S> {
         }
     }
 
-    /// The inner store, to ask about it.
+    /// The inner store, to ask about it. Each of its images is one of this store too.
     pub fn inner(&self) -> &S
-        ensures { result.now ≡ inner_of self.now }
+        ensures inner { result.now ≡ inner_of self.now }
+        ensures images { ∥ ((b : List ℕ) → S.image result.now b → images_of self.now b) ∥₁ }
     {
         &self.inner
     }
@@ -120,6 +123,26 @@ impl<S: Store> LoadedStore<S> {
                 Ok(())
             }
             None => Ok(()),
+        }
+    }
+
+    /// Fills `into` with the bytes from `pos` on: those of the copy, or else of the inner store.
+    fn fill(&mut self, pos: u64, into: &mut [u8]) -> Result<(), StoreFault>
+        requires { pos + length into.old ≤ S.size self.old.inner }
+        ensures held { OnOk result (ImagesHold pos into.new (S.image self.new.inner)) }
+        ensures whole { IsSome self.old.copy → IsOk result × (self.new.inner ≡ self.old.inner) }
+        ensures reads { OnlyReads S.Store self.old.inner self.new.inner }
+        ensures trace { self.new.trace ≡ self.old.trace }
+        ensures cause { HasCause (S.failures self.old.inner) (S.failures self.new.inner) result }
+        ensures ok_failures { OnOk result (S.failures self.new.inner ≡ S.failures self.old.inner) }
+        ensures memory { IsErrOf result NoMemory → ⊥ }
+    {
+        match &self.copy {
+            Some(bytes) => {
+                fill_from(bytes, pos as usize, into);
+                Ok(())
+            }
+            None => self.inner.read_at(pos, into),
         }
     }
 
@@ -187,10 +210,7 @@ impl<S: Store> Store for LoadedStore<S> {
         if self.copy.is_none() {
             self.count(pos)?;
         }
-        match &self.copy {
-            Some(bytes) => fill_from(bytes, pos as usize, into),
-            None => self.inner.read_at(pos, into)?,
-        }
+        self.fill(pos, into)?;
         self.trace.note(&Call::Gave(pos), into);
         Ok(())
     }
