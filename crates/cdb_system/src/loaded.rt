@@ -190,6 +190,8 @@ impl<S: Store> Store for LoadedStore<S> {
         self.inner.len()
     }
 
+    // In line it is too long for the compiler to take what calls it in line, which then moves a whole reader.
+    #[inline(never)]
     fn read_at(&mut self, pos: u64, into: &mut [u8]) -> Result<(), StoreFault>
         requires { pos + length into.old ≤ S.size self.old.inner }
         ensures ok { OnOk result
