@@ -71,6 +71,7 @@ COMMANDS = {
     "query": Command(["-q", "x", "key7"], b"", {"x": DATABASE}),
     "query of a line": Command(["-qm", "-n", "1", "x", "key9"], b"", {"x": DATABASE}),
     "query of many keys": Command(["-q", "-i", "x", "in", "-"], KEYS, {"x": DATABASE, "in": KEYS}),
+    "query of so many keys that the file is read whole": Command(["-q", "-i", "x", "in", "in"], b"", {"x": file_of(SOME), "in": KEYS}),
     "query of many keys of a map": Command(["-qim", "-n", "1", "x"], b"key7\nkey9 more\nnone\n", {"x": DATABASE}),
     "dump": Command(["-d"], DATABASE),
     "dump of a file": Command(["-d", "x"], b"", {"x": DATABASE}),

@@ -8,7 +8,8 @@ runs in a row of ALIKE make as many asks, of as many bytes. Each run of BOUNDED 
 asks for no more bytes than its row says. A vector that grows asks for twice as much each time, so
 all its asks together are for less than four times what it holds in the end. Of the two runs in a row
 of FURTHER the second goes on where the first ends, and asks for no more bytes than the row says for
-what it does there. Each run of LIMITED succeeds with no more memory at once than its row says.
+what it does there. Each run of LIMITED succeeds with no more memory at once than its row says, and
+writes what it writes with more.
 """
 
 import os
@@ -48,6 +49,11 @@ def of_file(given, file):
     return Command(given, b"", {"x": file})
 
 
+def of_keys(count, file):
+    """A query of the keys of the first records of the file x."""
+    return Command(["-q", "-i", "x"], b"".join(b"+%d:%s\n" % (len(key), key) for key, _ in records(count)) + b"\n", {"x": file})
+
+
 def of_two(file):
     """A difference of a file and an equal one."""
     return Command(["-D", "x", "y"], b"", {"x": file, "y": file})
@@ -57,7 +63,7 @@ def of_two(file):
 WINDOW = 65536
 INPUTS = [f"input{n}" for n in range(200)]
 SHORT_VALUE, LONG_VALUE = with_value(1), with_value(LONG)
-FEW, MANY = file_of(records(2_000)), file_of(records(20_000))
+FEW, MANY, MORE = file_of(records(2_000)), file_of(records(20_000)), file_of(records(100_000))
 # What does not depend on the length of a value, or on how many records there are.
 ALIKE = {
     "a list reads no value": [of_file(words("-l"), it) for it in (SHORT_VALUE, LONG_VALUE)],
@@ -70,6 +76,7 @@ ALIKE = {
     "a difference keeps no value": [of_two(it) for it in (SHORT_VALUE, LONG_VALUE)],
     "a difference of many records": [of_two(it) for it in (FEW, MANY)],
     "statistics of many records": [of_file(words("-s"), it) for it in (FEW, MANY)],
+    "a few keys of a file": [of_keys(10, it) for it in (FEW, MORE)],
 }
 # A roll grows by a quarter, so that all that it asks for is so many times as much as it has in the end.
 GROWN = 7
@@ -78,6 +85,7 @@ BOUNDED = {
     "a list": (of_file(words("-l"), LONG_VALUE), 200, SMALL),
     "a dump of a long value": (of_file(words("-d"), LONG_VALUE), 200, 4 * LONG + SMALL),
     "a check of many records": (of_file(words("-k"), MANY), 10_000, 4 * 13 * 20_000 + SMALL),
+    "many keys of a file": (of_keys(2_000, FEW), 200, len(FEW) + SMALL),
     "a load of a short database": (Command(["-s"], SHORT_VALUE), 200, SMALL),
     "a load of a long database": (Command(["-s"], LONG_VALUE), 200, 4 * LONG + SMALL),
     "a create of many records": (Command(["-c", "x"], text_of(records(300_000))), 10_000, GROWN * 9 * 300_000 + SMALL),
@@ -97,6 +105,8 @@ FURTHER = {
 # A run, and the most memory that it may have at once, the program and its library too.
 LIMITED = {
     "a create of many inputs": (Command(["-c", "x", *INPUTS], b"", dict.fromkeys(INPUTS, b"\n")), 8 * MILLION),
+    # The file, of 13 million bytes, has no room in it.
+    "many keys of a file": (of_keys(20_000, MORE), 8 * MILLION),
 }
 
 
@@ -143,20 +153,23 @@ def further(program, name):
 
 
 def within(path, name):
-    """Says whether a run succeeds with no more memory at once than its row says."""
+    """Says whether a run succeeds with no more memory at once than its row says, and writes the same."""
     command, most_bytes = LIMITED[name]
-    with tempfile.TemporaryDirectory() as folder:
-        fill(folder, command)
-        done = subprocess.run(
-            [path, *command.words],
-            cwd=folder,
-            input=command.stdin,
-            capture_output=True,
-            preexec_fn=lambda: resource.setrlimit(resource.RLIMIT_AS, (most_bytes, most_bytes)),
-            timeout=60,
-        )
+    written = set()
+    for limit in (resource.RLIM_INFINITY, most_bytes):
+        with tempfile.TemporaryDirectory() as folder:
+            fill(folder, command)
+            done = subprocess.run(
+                [path, *command.words],
+                cwd=folder,
+                input=command.stdin,
+                capture_output=True,
+                preexec_fn=lambda: resource.setrlimit(resource.RLIMIT_AS, (limit, limit)),
+                timeout=60,
+            )
+        written.add(done.stdout)
     print(f"{name}: status {done.returncode} in {most_bytes} bytes at once")
-    return done.returncode == 0
+    return done.returncode == 0 and len(written) == 1
 
 
 def main():

@@ -190,7 +190,7 @@ impl<S: Store> Store for LoadedStore<S> {
         self.inner.len()
     }
 
-    // In line it is too long for the compiler to take what calls it in line, which then moves a whole reader.
+    // In line it is so long that the compiler leaves its callers out of line, which then move whole readers.
     #[inline(never)]
     fn read_at(&mut self, pos: u64, into: &mut [u8]) -> Result<(), StoreFault>
         requires { pos + length into.old ≤ S.size self.old.inner }
