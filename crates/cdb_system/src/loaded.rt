@@ -22,12 +22,12 @@ const LEAST_READS: u64 = 16;
 /// A longer store is never read whole: the memory of the machine is not the program's alone.
 const GREATEST_COPY: u64 = 1 << 30;
 
-/// A store over another that is only read. Once it was read here and there often enough, it reads the
-/// inner store whole into memory, and answers all later reads from there.
+/// A store over another that is only read. Once enough of its reads went back, it reads the inner store
+/// whole into memory, and answers all later reads from there.
 ///
-/// A read that begins before the last one goes back, as each look-up of a key does. It passes on as many of
-/// these as the inner store has blocks of 4096 bytes, and 16 at least; the next one takes memory for all
-/// bytes and reads them. So a store that is read from its start to its end is never taken into memory.
+/// A read goes back if it begins before the last one; most look-ups of a key make one. The store passes on
+/// as many of these as the inner store has blocks of 4096 bytes, and 16 at least. The next one takes memory
+/// for all bytes and reads them. A store that is read from its start to its end is never taken into memory.
 ///
 /// If memory is refused, or the inner store has more than 2^30 bytes, every read is passed on. If the inner
 /// store fails while it is read whole, the read answers `Device`, and later ones are passed on. Every write
