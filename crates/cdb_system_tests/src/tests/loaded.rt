@@ -29,15 +29,27 @@ fn read<S: Store>(store: &mut S, pos: u64, n: usize) -> Option<(Result<(), Store
     Some((answer, into))
 }
 
+/// The byte at a position, if it lies inside.
+fn byte_at<S: Store>(store: &mut S, pos: u64) -> Option<Result<u8, StoreFault>> {
+    let mut into = [0; 1];
+    if pos >= store.len() {
+        return None;
+    }
+    match store.read_at(pos, &mut into) {
+        Ok(()) => Some(Ok(into[0])),
+        Err(fault) => Some(Err(fault)),
+    }
+}
+
 /// How many of so many reads fail, at 100 and at 0 in turns, and how many give other bytes.
 fn read_by_turns<S: Store>(store: &mut S, times: u64) -> (u64, u64) {
     let (mut failed, mut wrong) = (0u64, 0u64);
     for n in 0..times {
         let pos = if n % 2 == 0 { 100 } else { 0 };
-        match read(store, pos, 1) {
-            Some((Ok(()), bytes)) if bytes[0] as u64 == pos => {}
-            Some((Ok(()), _)) | None => wrong = wrong.saturating_add(1),
-            Some((Err(_), _)) => failed = failed.saturating_add(1),
+        match byte_at(store, pos) {
+            Some(Ok(byte)) if byte as u64 == pos => {}
+            Some(Err(_)) => failed = failed.saturating_add(1),
+            _ => wrong = wrong.saturating_add(1),
         }
     }
     (failed, wrong)
