@@ -59,6 +59,7 @@ ALIKE = {
         ["asks_before_a_replacement_of_four", "asks_with_a_replacement_of_four"],
         ["asks_before_a_removal", "asks_with_a_removal", "asks_with_a_removal_and_a_look"],
         ["asks_before_a_first_look", "asks_with_a_first_look"],
+        ["asks_before_an_insertion_that_finds_its_key", "asks_with_an_insertion_that_finds_its_key"],
         ["asks_before_a_longer_replacement", "asks_with_a_longer_replacement"],
         ["asks_before_a_long_record", "asks_with_a_long_record"],
     ],

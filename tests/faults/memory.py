@@ -88,7 +88,7 @@ BOUNDED = {
     "many keys of a file": (of_keys(2_000, FEW), 200, len(FEW) + SMALL),
     "a load of a short database": (Command(["-s"], SHORT_VALUE), 200, SMALL),
     "a load of a long database": (Command(["-s"], LONG_VALUE), 200, 4 * LONG + SMALL),
-    "a create of many records": (Command(["-c", "x"], text_of(records(300_000))), 10_000, GROWN * 9 * 300_000 + SMALL),
+    "a create of many records": (Command(["-c", "x"], text_of(records(300_000))), 10_000, GROWN * 17 * 300_000 + SMALL),
     "a create that looks for keys": (Command(["-cu", "x"], text_of(records(20_000))), 10_000, 4 * 20 * 20_000 + 2 * SMALL),
     "a create of many inputs": (Command(["-c", "x", *INPUTS], b"", dict.fromkeys(INPUTS, b"\n")), 10_000, WINDOW * len(INPUTS) + SMALL),
 }

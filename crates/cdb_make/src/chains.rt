@@ -49,7 +49,7 @@ pub(crate) struct Chains {
 }
 
 impl Chains {
-    ghost use Rattle.cdb_make.specs.Views.Chains.{LinksIfRoom, GrowsFor};
+    ghost use Rattle.cdb_make.specs.Views.Chains.{LinksIfRoom, HasRoomFor};
 
     /// Chains of no entries.
     pub(crate) fn new(alloc: Global) -> Chains
@@ -204,17 +204,20 @@ impl Chains {
     }
 
     /// Makes room for so many entries, or for as many as it can have. The chains stay.
-    fn reserve(&mut self, count: usize) -> Result<(), AllocError>
+    pub(crate) fn reserve(&mut self, count: usize) -> Result<(), AllocError>
         ensures heads { self.new.heads.items ≡ self.old.heads.items }
         ensures before { self.new.before.items ≡ self.old.before.items }
-        ensures ok { OnOk result (min count (2 ^ 32 - 1)
-            ≤ min (vec_capacity self.new.before) (vec_capacity self.new.heads)) }
-        ensures room { GrowsFor count self.old self.new }
+        ensures room { OnOk result (HasRoomFor count self.new) }
     {
         let wanted = count.min(MOST);
         self.before
             .reserve_exact(wanted.saturating_sub(self.before.len()))?;
-        self.heads.reserve(wanted.saturating_sub(self.heads.len()))
+        let buckets = wanted.saturating_sub(self.heads.len());
+        if self.heads.is_empty() {
+            return self.heads.reserve_exact(buckets);
+        }
+        // For twice as many, since all entries are put into chains anew then.
+        self.heads.reserve(buckets)
     }
 
     /// Puts entries into the chains of their buckets until so many are in one.
@@ -251,8 +254,8 @@ impl Chains {
     }
 
     /// Puts the entries that are in no chain into those of their buckets, as many as there is room
-    /// for. It takes no memory.
-    fn catch_up(&mut self, hashes: &[u32], marks: &[Mark])
+    /// for. It takes no memory. A look compares the others one by one.
+    pub(crate) fn link_all(&mut self, hashes: &[u32], marks: &[Mark])
         requires chained { AreChained self.old.heads.items self.old.before.items hashes.now (gone_of marks.now) }
         requires long { length marks.now ≡ length hashes.now }
         ensures chained { AreChained self.new.heads.items self.new.before.items hashes.now (gone_of marks.now) }
@@ -267,22 +270,6 @@ impl Chains {
             self.widen();
         }
         self.link_up_to(hashes, marks, most);
-    }
-
-    /// Puts the entries into chains before a look, and asks for memory for those that have no room
-    /// and for some more. Without it they are in none, and a look compares them one by one.
-    pub(crate) fn link_all(&mut self, hashes: &[u32], marks: &[Mark])
-        requires chained { AreChained self.old.heads.items self.old.before.items hashes.now (gone_of marks.now) }
-        requires long { length marks.now ≡ length hashes.now }
-        ensures chained { AreChained self.new.heads.items self.new.before.items hashes.now (gone_of marks.now) }
-        ensures linked { LinksIfRoom (length hashes.now) self.old self.new }
-        ensures spare { GrowsFor (length hashes.now + length hashes.now / 4) self.old self.new }
-    {
-        let count = hashes.len();
-        if self.room() < count {
-            let _ = self.reserve(count + count / 4);
-        }
-        self.catch_up(hashes, marks);
     }
 
     /// Takes the entries from `from` on out of their chains.

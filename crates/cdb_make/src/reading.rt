@@ -10,7 +10,7 @@ ghost use Rattle.cdb_make.specs.Views.Roll.{IsSought, HasRoom};
 use crate::key_at::LookFault;
 use crate::look::{find, last_with_key};
 use crate::maker::{Counts, Maker};
-use cdb_form::{Width, pair_size};
+use cdb_form::{Width, hash, pair_size};
 use cdb_store::{MakeFault, Store};
 
 impl<S: Store, L: Width> Maker<S, L> {
@@ -98,8 +98,7 @@ impl<S: Store, L: Width> Maker<S, L> {
 
     /// Whether some record has a key.
     ///
-    /// It writes nothing and takes no memory: records for which there was no look since they were
-    /// added are compared one by one. `Lookup`: the store failed while it was read. `Broken`: an
+    /// It writes nothing and takes no memory. `Lookup`: the store failed while it was read. `Broken`: an
     /// earlier call broke the maker, or the store gave back other bytes than were written.
     pub fn exists(&mut self, key: &[u8]) -> Result<bool, MakeFault>
         ensures there { (rs : List KeyValue) → Holds self.old rs
@@ -112,14 +111,8 @@ impl<S: Store, L: Width> Maker<S, L> {
         ensures images { NoNewImage (S.image self.old.store) (S.image self.new.store) }
         ensures counts { SameCounts self.old self.new }
     {
-        if self.broken {
-            return Err(MakeFault::Broken);
-        }
-        let number = self.roll.sought(key);
-        match last_with_key::<S, L>(&mut self.store, &self.roll, number, key, self.roll.len()) {
-            Ok(last) => Ok(last > 0),
-            Err(fault) => Err(self.failed_look(fault)),
-        }
+        let sought = self.roll.sought_by_look(hash(key), key);
+        self.look(sought, key)
     }
 
     /// Notes the records of a key that do not go as found, and answers how many they are.
@@ -145,8 +138,8 @@ impl<S: Store, L: Width> Maker<S, L> {
         }
     }
 
-    /// Whether some record has a key of this number, as `exists` says it. It makes room in the chains
-    /// before, if memory is given, and leaves no record noted as found.
+    /// Whether some record has a key of this number, as `exists` says it. It leaves no record noted as
+    /// found.
     #[inline(always)]
     pub(crate) fn look(&mut self, sought: u32, key: &[u8]) -> Result<bool, MakeFault>
         requires { IsSought self.old.roll key.now sought }
@@ -155,6 +148,7 @@ impl<S: Store, L: Width> Maker<S, L> {
         ensures fine { OnOk result (HasNotFailed self.old self.new) }
         ensures fails { IfErr result (FailsLooking self.old self.new) }
         ensures follows { Follows self.old self.new }
+        ensures images { NoNewImage (S.image self.old.store) (S.image self.new.store) }
         ensures room { OnOk result (HasRoom self.old.roll → HasRoom self.new.roll) }
         ensures counts { SameCounts self.old self.new }
     {

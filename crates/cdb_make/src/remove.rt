@@ -64,8 +64,7 @@ impl<S: Store, L: Width> Maker<S, L> {
 
     /// Removes every record of a key, and answers how many they were.
     ///
-    /// It wants no memory: if some is given, the look makes room in the chains. `Lookup`: the store
-    /// failed while it was read, and no record has gone.
+    /// It takes no memory. `Lookup`: the store failed while it was read, and no record has gone.
     /// `Writing`: it failed amid a pass, and the maker is broken. `Broken`: an earlier call broke it,
     /// or the store gave back other bytes than were written.
     pub fn remove(&mut self, key: &[u8]) -> Result<u64, MakeFault>

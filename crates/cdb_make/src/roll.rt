@@ -118,7 +118,7 @@ pub(crate) struct Roll<L: Width> {
 }
 
 impl<L: Width> Roll<L> {
-    ghost use Rattle.cdb_make.specs.Views.Chains.{LinksIfRoom};
+    ghost use Rattle.cdb_make.specs.Views.Chains.{LinksIfRoom, HasRoomFor};
     ghost use Rattle.cdb_make.specs.Views.Roll.{searched, sought_in, IsSought, HasRoom, SameRecords};
 
     /// No records.
@@ -196,18 +196,8 @@ impl<L: Width> Roll<L> {
         self.gone.first.min(self.marks.len())
     }
 
-    /// The number by which the records of a key are found.
-    pub(crate) fn sought(&self, key: &[u8]) -> u32
-        ensures { result ≡ sought_in self.now key.now }
-    {
-        if self.tagged {
-            second_hash(key)
-        } else {
-            hash(key)
-        }
-    }
-
-    /// The same once a look has begun the tags if no record was noted before. This is the key's hash.
+    /// The number by which a look finds the records of a key. If none was noted before, the look begins
+    /// the tags. `hash` is the key's hash.
     #[inline(always)]
     pub(crate) fn sought_by_look(&self, hash: u32, key: &[u8]) -> u32
         requires { hash ≡ key_hash key.now }
@@ -269,13 +259,16 @@ impl<L: Width> Roll<L> {
         }
     }
 
-    /// Makes room in each column for one more record. If memory is refused, no record has changed.
+    /// Makes room in each column for one more record, and in the chains for as many as the columns
+    /// have room for. If memory is refused, no record has changed, and `most` says for how many the
+    /// columns have room.
     #[cold]
     #[inline(never)]
     fn grow(&mut self) -> Result<(), AllocError>
-        ensures room { OnOk result (HasRoom self.new) }
         ensures more { OnOk result (length self.new.hashes.items < self.new.most) }
-        ensures full { OnErr result (HasRoom self.old → ⊥) }
+        ensures chains { OnOk result (HasRoomFor self.new.most self.new.chains) }
+        ensures full { OnErr result
+            ((HasRoom self.old → ⊥) ⊎ (length self.new.hashes.items < self.new.most)) }
         ensures same { SameRecords self.old self.new }
         ensures tagged { self.new.tagged ≡ self.old.tagged }
         ensures marks { self.new.marks.items ≡ self.old.marks.items }
@@ -287,10 +280,11 @@ impl<L: Width> Roll<L> {
         self.places.reserve()?;
         reserve_one(&mut self.marks)?;
         self.most = self.room();
-        Ok(())
+        self.chains.reserve(self.most)
     }
 
-    /// Makes room for one more record. If memory is refused, nothing has changed.
+    /// Makes room for one more record, and in the chains too if memory is given for them. If memory is
+    /// refused, nothing has changed.
     #[inline(always)]
     pub(crate) fn reserve(&mut self) -> Result<(), AllocError>
         ensures room { OnOk result (HasRoom self.new) }
@@ -304,7 +298,12 @@ impl<L: Width> Roll<L> {
         if self.hashes.len() < self.most {
             return Ok(());
         }
-        self.grow()
+        let grown = self.grow();
+        // The chains are a help alone.
+        if self.hashes.len() < self.most {
+            return Ok(());
+        }
+        grown
     }
 
     /// Notes one more record, of so many bytes, for which there is room. Its tag is noted if the
@@ -434,8 +433,8 @@ impl<L: Width> Roll<L> {
         self.found = none();
     }
 
-    /// Puts the entries into chains before a look, if memory is given for it. If no record was noted so
-    /// far, all that come are tagged.
+    /// Puts the records into chains before a look, as many as there is room for. It takes no memory. If
+    /// no record was noted so far, all that come are tagged.
     pub(crate) fn link(&mut self)
         ensures sought { (key : List ℕ) (n : ℕ) → IsSought self.old key n → n ≡ sought_in self.new key }
         ensures same { SameRecords self.old self.new }
@@ -450,7 +449,8 @@ impl<L: Width> Roll<L> {
         self.chains.link_all(searched, &self.marks);
     }
 
-    /// Lets the chains go, and their memory. A later look makes them again.
+    /// Lets the chains go, and their memory. The next growth makes room for them anew; until then looks
+    /// compare the records one by one.
     pub(crate) fn unchain(&mut self, alloc: Global)
         ensures same { SameRecords self.old self.new }
         ensures marks { self.new.marks ≡ self.old.marks }

@@ -1,5 +1,5 @@
 -- Which entries are in chains after a call, and how much room the chains have.
-use Rattle.std.specs.Prelude.{ℕ, ◌≡◌, ◌-◌, ◌^◌, ◌≤◌, ◌⊎◌, min, length, vec_capacity}
+use Rattle.std.specs.Prelude.{ℕ, ◌≡◌, ◌-◌, ◌^◌, ◌≤◌, min, length, vec_capacity}
 use Rattle.cdb_make.specs.declared.chains.Chains.{Chains}
 
 -- if there was room for so many entries, all these are in chains
@@ -7,6 +7,6 @@ abbrev pub LinksIfRoom : ℕ → Chains → Chains → Type 0
 LinksIfRoom count old new = count ≤ 2 ^ 32 - 1 → count ≤ vec_capacity old.before → count ≤ vec_capacity old.heads
     → length new.before.items ≡ count
 
--- there is as much room as before, or room for so many entries, or for as many as can be in chains
-abbrev pub GrowsFor : ℕ → Chains → Chains → Type 0
-GrowsFor count old new = (vec_capacity new.before ≡ vec_capacity old.before) ⊎ (min count (2 ^ 32 - 1) ≤ vec_capacity new.before)
+-- there is room for so many entries, or for as many as can be in chains
+abbrev pub HasRoomFor : ℕ → Chains → Type 0
+HasRoomFor count c = min count (2 ^ 32 - 1) ≤ min (vec_capacity c.before) (vec_capacity c.heads)

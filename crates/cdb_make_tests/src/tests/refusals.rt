@@ -5,9 +5,9 @@ use super::again::{Cause, play};
 use super::appends::run_of;
 use super::makers::{EAGER, LAZY, Way, finished, maker_in};
 use super::model::expected;
-use super::scripts::{ADDED, Answer, Call, Step, act, add, exists, remove, replace, replaced};
+use super::scripts::{ADDED, Answer, Call, act, add, exists, put, remove, replace, replaced};
 use cdb_form::Narrow;
-use cdb_make::{MakeFault, Maker, Mode};
+use cdb_make::{MakeFault, Maker, Mode, Put};
 use cdb_store::{FuseStore, MemStore, Store};
 use std::alloc::Global;
 use std::prelude::*;
@@ -69,37 +69,24 @@ fn many_adds_tell_refused_memory(rt: HostRuntime) -> Result<(), Fail> {
     tell(&rt, came_of(rt.alloc(), EAGER, &script, 3088)?)
 }
 
-/// A removal of no record. Its look asks for memory to find keys by, and goes on without it.
-const LOOK: Row<'static> = (
-    Call {
-        step: Step::Remove,
-        key: b"zzz",
-        value: b"",
-    },
-    Answer::Removed(0),
-    0,
-);
-
 /// Three records, of which the first is replaced.
-fn order() -> [Row<'static>; 5] {
+fn order() -> [Row<'static>; 4] {
     [
         (add(b"a", b"1"), ADDED, 10),
         (add(b"one", b"Hello"), ADDED, 16),
         (add(b"two", b"Goodbye"), ADDED, 18),
-        LOOK,
         (replace(b"a", b"2"), replaced(1), 44),
     ]
 }
 
 /// Five records, of which three are removed.
-fn gaps() -> [Row<'static>; 8] {
+fn gaps() -> [Row<'static>; 7] {
     [
         (add(b"a", b"1"), ADDED, 10),
         (add(b"one", b"Hello"), ADDED, 16),
         (add(b"a", b"2"), ADDED, 10),
         (add(b"two", b"Goodbye"), ADDED, 18),
         (add(b"a", b"3"), ADDED, 10),
-        LOOK,
         (remove(b"a"), Answer::Removed(3), 34),
         (exists(b"one"), Answer::There(true), 0),
     ]
@@ -251,7 +238,7 @@ fn make(alloc: Global, room: u32, rows: &[Row]) -> Result<Came, Fail> {
 
 #[test]
 fn asks_before_a_replacement(rt: HostRuntime) -> Result<(), Fail> {
-    tell(&rt, make(rt.alloc(), 0, &order()[..4])?)
+    tell(&rt, make(rt.alloc(), 0, &order()[..3])?)
 }
 
 #[test]
@@ -260,20 +247,19 @@ fn asks_with_a_replacement(rt: HostRuntime) -> Result<(), Fail> {
 }
 
 /// Four values of a key, which are replaced by one.
-fn four() -> [Row<'static>; 6] {
+fn four() -> [Row<'static>; 5] {
     [
         (add(b"a", b"1"), ADDED, 10),
         (add(b"a", b"2"), ADDED, 10),
         (add(b"a", b"3"), ADDED, 10),
         (add(b"a", b"4"), ADDED, 10),
-        LOOK,
         (replace(b"a", b"5"), replaced(4), 10),
     ]
 }
 
 #[test]
 fn asks_before_a_replacement_of_four(rt: HostRuntime) -> Result<(), Fail> {
-    tell(&rt, make(rt.alloc(), 0, &four()[..5])?)
+    tell(&rt, make(rt.alloc(), 0, &four()[..4])?)
 }
 
 #[test]
@@ -283,12 +269,12 @@ fn asks_with_a_replacement_of_four(rt: HostRuntime) -> Result<(), Fail> {
 
 #[test]
 fn asks_before_a_removal(rt: HostRuntime) -> Result<(), Fail> {
-    tell(&rt, make(rt.alloc(), 0, &gaps()[..6])?)
+    tell(&rt, make(rt.alloc(), 0, &gaps()[..5])?)
 }
 
 #[test]
 fn asks_with_a_removal(rt: HostRuntime) -> Result<(), Fail> {
-    tell(&rt, make(rt.alloc(), 0, &gaps()[..7])?)
+    tell(&rt, make(rt.alloc(), 0, &gaps()[..6])?)
 }
 
 #[test]
@@ -314,9 +300,31 @@ fn asks_with_a_first_look(rt: HostRuntime) -> Result<(), Fail> {
     tell(&rt, make(rt.alloc(), 0, &many())?)
 }
 
+/// A record is added, and its key found by an insertion.
+fn found() -> [Row<'static>; 2] {
+    [
+        (add(b"a", b"1"), ADDED, 10),
+        (
+            put(Mode::Insert, b"a", b"2"),
+            Answer::Put(Put::Present),
+            0,
+        ),
+    ]
+}
+
+#[test]
+fn asks_before_an_insertion_that_finds_its_key(rt: HostRuntime) -> Result<(), Fail> {
+    tell(&rt, make(rt.alloc(), 0, &found()[..1])?)
+}
+
+#[test]
+fn asks_with_an_insertion_that_finds_its_key(rt: HostRuntime) -> Result<(), Fail> {
+    tell(&rt, make(rt.alloc(), 0, &found())?)
+}
+
 #[test]
 fn asks_before_a_longer_replacement(rt: HostRuntime) -> Result<(), Fail> {
-    let rows = [(add(b"a", b"1"), ADDED, 10), LOOK];
+    let rows = [(add(b"a", b"1"), ADDED, 10)];
     tell(&rt, make(rt.alloc(), 4096, &rows)?)
 }
 
@@ -325,7 +333,6 @@ fn asks_with_a_longer_replacement(rt: HostRuntime) -> Result<(), Fail> {
     let value = [b'x'; 1000];
     let rows = [
         (add(b"a", b"1"), ADDED, 10),
-        LOOK,
         (replace(b"a", &value), replaced(1), 1009),
     ];
     tell(&rt, make(rt.alloc(), 4096, &rows)?)

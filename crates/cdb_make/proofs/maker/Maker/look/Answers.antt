@@ -93,3 +93,8 @@ returns-in-Ok-clause-tagged g c = λ tagged.
 pub last_with_key-requires-clause-hash : goal.last_with_key-requires-clause-hash
 last_with_key-requires-clause-hash g c =
     c.link.ensures.sought c.args.key.now c.args.sought c.requires ∙ ap (λ v. sought_by v c.args.key.now) (sym c.put_back.ensures.tagged)
+
+pub returns-in-Err-clause-images : goal.returns-in-Err-clause-images
+returns-in-Err-clause-images g c = record {
+  no_other = λ b is. c.last_with_key.ensures.reads.images b (subst (λ v. g.S.Store.image v b) c.failed_look.ensures.store is);
+}

@@ -1,8 +1,8 @@
 use Rattle.std.proofs.Common.{◌∙◌, sym, subst, ap, vec_capacity}
 use Rattle.cdb_make.specs.Chains.{AreChained}
 use Rattle.cdb_make.specs.Marks.{gone_of}
-use Rattle.cdb_make.proofs.chains.Chains.catch_up.Goals.{then-most-len-2, else-most-len-2}
-use Rattle.cdb_make.proofs.chains.Chains.catch_up.Goals as goal
+use Rattle.cdb_make.proofs.chains.Chains.link_all.Goals.{then-most-len-2, else-most-len-2}
+use Rattle.cdb_make.proofs.chains.Chains.link_all.Goals as goal
 
 pub link_up_to-requires-clause-chained : goal.link_up_to-requires-clause-chained
 link_up_to-requires-clause-chained c = elim c.if-most-len-2.branch [
