@@ -203,21 +203,22 @@ impl Chains {
         self.before.capacity().min(self.heads.capacity())
     }
 
-    /// Makes room for so many entries, or for as many as it can have. The chains stay.
+    /// Makes room for so many entries, or for as many as it can have. The chains stay. If memory is
+    /// refused while there are no chains, there may be no room any more.
     pub(crate) fn reserve(&mut self, count: usize) -> Result<(), AllocError>
         ensures heads { self.new.heads.items ≡ self.old.heads.items }
         ensures before { self.new.before.items ≡ self.old.before.items }
         ensures room { OnOk result (HasRoomFor count self.new) }
     {
         let wanted = count.min(MOST);
+        if self.heads.is_empty() {
+            // So no room is copied that was never used.
+            self.before.shrink_to_fit();
+            self.heads.shrink_to_fit();
+        }
         self.before
             .reserve_exact(wanted.saturating_sub(self.before.len()))?;
-        let buckets = wanted.saturating_sub(self.heads.len());
-        if self.heads.is_empty() {
-            return self.heads.reserve_exact(buckets);
-        }
-        // For twice as many, since all entries are put into chains anew then.
-        self.heads.reserve(buckets)
+        self.heads.reserve(wanted.saturating_sub(self.heads.len()))
     }
 
     /// Puts entries into the chains of their buckets until so many are in one.
