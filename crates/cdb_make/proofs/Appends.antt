@@ -22,7 +22,7 @@ use Rattle.cdb_make.specs.Marks.{is_gone, gone_of}
 use Rattle.cdb_make.specs.Spans.{left, AreOf}
 use Rattle.cdb_make.specs.Views.Places.{places_in}
 use Rattle.cdb_make.specs.Views.Roll.{searched, sought_in, SameRecords}
-use Rattle.cdb_make.specs.Views.Maker.{gone_in, count_in, made_size, ComesFrom, Holds, HasGone, HasNotFailed, ClosesAll, SameCounts, StaysWhole}
+use Rattle.cdb_make.specs.Views.Maker.{gone_in, count_in, made_size, ComesFrom, Holds, HasGone, HasNotFailed, CompactsAll, SameCounts, StaysWhole}
 use Rattle.cdb_make.proofs.Finishing.{left_same}
 use Rattle.cdb_make.proofs.Looking.{sees_long, sees_same}
 use Rattle.cdb_make.proofs.Picking.{both_few, both_within}
@@ -295,36 +295,36 @@ keeps_after {l = l} old mid new stays limit v k = λ before h. record { each = �
 passes_after : {S L : Type 0} {s : Ghosts S} {l : Widths L} (old mid new : Maker S L s l) → StaysWhole old mid → mid.limit ≡ old.limit → (v : List KeyValue) → PassesLimit mid new v → PassesLimit old new v
 passes_after {l = l} old mid new stays limit v k = λ before h. record { each = λ b is. (let le : mid.limit < file_size l.WORD (before ++ v) = (k before (stays.holds before h)).each b is in omega arith) }
 
-pub appends_after : {S L : Type 0} {s : Ghosts S} {l : Widths L} (old mid new : Maker S L s l) (rs : List KeyValue) (n : ℕ) → IsCrowded old rs → ClosesAll old mid → SameCounts old mid → HasNotFailed old mid → ComesFrom (s.image mid.store) (s.image new.store) → AppendsAll mid new rs n → AppendsAll old new rs n
-appends_after {s = s} old mid new rs n crowded closes counts fine comes appends =
-    let none : HasGone mid → ⊥ = λ some. omega (arith, some.1, closes.none) in
+pub appends_after : {S L : Type 0} {s : Ghosts S} {l : Widths L} (old mid new : Maker S L s l) (rs : List KeyValue) (n : ℕ) → IsCrowded old rs → CompactsAll old mid → SameCounts old mid → HasNotFailed old mid → ComesFrom (s.image mid.store) (s.image new.store) → AppendsAll mid new rs n → AppendsAll old new rs n
+appends_after {s = s} old mid new rs n crowded compacts counts fine comes appends =
+    let none : HasGone mid → ⊥ = λ some. omega (arith, some.1, compacts.none) in
     let wrote : s.written new.store ≡ s.written mid.store + n = appends.written none in
     record {
-      was = closes.stays.was;
+      was = compacts.stays.was;
       whole = appends.whole;
       size = appends.size;
-      holds = λ before h. appends.holds before (closes.stays.holds before h);
-      written = λ lone. omega (arith, wrote, closes.lone lone);
+      holds = λ before h. appends.holds before (compacts.stays.holds before h);
+      written = λ lone. omega (arith, wrote, compacts.lone lone);
       each = λ b is.
           let c = comes.each b is in
-          let g = closes.goes.each c.0 c.1 in
+          let g = compacts.goes.each c.0 c.1 in
           (g.0, g.1, λ all sees. (let q = g.2 all sees in inr (omega (arith, wrote, q.2.1), crowded)));
-      count = appends.count ∙ ap (λ (k : ℕ). k + length rs) (left_same old mid closes.stays.was closes.stays.whole counts).0;
+      count = appends.count ∙ ap (λ (k : ℕ). k + length rs) (left_same old mid compacts.stays.was compacts.stays.whole counts).0;
       failures = appends.failures ∙ fine;
     }
 
-pub fails_after : {S L : Type 0} {s : Ghosts S} {l : Widths L} (old mid new : Maker S L s l) (rs : List KeyValue) (fault : MakeFault) → ClosesAll old mid → SameCounts old mid → HasNotFailed old mid → FailsAppending mid new rs fault → FailsAppending old new rs fault
-fails_after old mid new rs Broken closes counts fine fails = absurd (let t : true ≡ false = sym fails.0 ∙ closes.stays.whole in cc)
-fails_after old mid new rs Lookup closes counts fine fails = fails
-fails_after old mid new rs TooBig closes counts fine fails = (some_after old mid new rs (PassesLimit mid new) (PassesLimit old new) closes.stays (passes_after old mid new closes.stays counts.limit) fails.0, fails.1 ∙ fine)
-fails_after old mid new rs NoMemory closes counts fine fails = (some_after old mid new rs (KeepsLimit mid new) (KeepsLimit old new) closes.stays (keeps_after old mid new closes.stays counts.limit) fails.0, fails.1 ∙ fine)
-fails_after old mid new rs Writing closes counts fine fails = elim fails [
+pub fails_after : {S L : Type 0} {s : Ghosts S} {l : Widths L} (old mid new : Maker S L s l) (rs : List KeyValue) (fault : MakeFault) → CompactsAll old mid → SameCounts old mid → HasNotFailed old mid → FailsAppending mid new rs fault → FailsAppending old new rs fault
+fails_after old mid new rs Broken compacts counts fine fails = absurd (let t : true ≡ false = sym fails.0 ∙ compacts.stays.whole in cc)
+fails_after old mid new rs Lookup compacts counts fine fails = fails
+fails_after old mid new rs TooBig compacts counts fine fails = (some_after old mid new rs (PassesLimit mid new) (PassesLimit old new) compacts.stays (passes_after old mid new compacts.stays counts.limit) fails.0, fails.1 ∙ fine)
+fails_after old mid new rs NoMemory compacts counts fine fails = (some_after old mid new rs (KeepsLimit mid new) (KeepsLimit old new) compacts.stays (keeps_after old mid new compacts.stays counts.limit) fails.0, fails.1 ∙ fine)
+fails_after old mid new rs Writing compacts counts fine fails = elim fails [
   | inl f ↦ inl (
-    some_after old mid new rs (KeepsLimit mid new) (KeepsLimit old new) closes.stays (keeps_after old mid new closes.stays counts.limit) f.0,
+    some_after old mid new rs (KeepsLimit mid new) (KeepsLimit old new) compacts.stays (keeps_after old mid new compacts.stays counts.limit) f.0,
     omega (arith, f.1, fine),
-    record { was = closes.stays.was; whole = f.2.whole; holds = λ before h. f.2.holds before (closes.stays.holds before h) },
+    record { was = compacts.stays.was; whole = f.2.whole; holds = λ before h. f.2.holds before (compacts.stays.holds before h) },
   )
-  | inr t ↦ absurd (omega (arith, t.0.1, closes.none))
+  | inr t ↦ absurd (omega (arith, t.0.1, compacts.none))
 ]
 
 pub if_ok_weaker : {T E : Type 0} {P Q : T → Type 0} (r : Result T E) → ((x : T) → P x → Q x) → IfOk r P → IfOk r Q

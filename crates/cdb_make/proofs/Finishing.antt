@@ -21,13 +21,13 @@ use Rattle.cdb_make.specs.Spans.{left, behind, joined}
 use Rattle.cdb_make.specs.Tables.{roll_tables}
 use Rattle.cdb_make.specs.Views.Places.{places_in}
 use Rattle.cdb_make.specs.Views.Roll.{SameRecords}
-use Rattle.cdb_make.specs.Views.Maker.{gone_in, count_in, made_size, Holds, Goes, Passes, HasNotFailed, Closes, ClosesAll, FailsClosingAll, FailsFinishing, FinishWrites, IsFile, SameCounts, StaysWhole, told_count, told_size, HasStoreFailed, Rests, Stays, TellsCounts, WritesNothing}
+use Rattle.cdb_make.specs.Views.Maker.{gone_in, count_in, made_size, Holds, Goes, Passes, HasNotFailed, Compacts, CompactsAll, FailsCompactingAll, FailsFinishing, FinishWrites, IsFile, SameCounts, StaysWhole, told_count, told_size, HasStoreFailed, Rests, Stays, TellsCounts, WritesNothing}
 use Rattle.cdb_make.proofs.Bytes.Written.{flat_map-map}
 use Rattle.cdb_make.proofs.FinishedFile.{file_of_parts}
 use Rattle.cdb_make.proofs.Looking.{sees_long, sees_same}
 use Rattle.cdb_make.proofs.Picking.{left_all_stay, end_sum, picked_most, picked_none, number_none}
 use Rattle.cdb_make.proofs.Rolls.{end_joined}
-use Rattle.cdb_make.proofs.Settling.{behind_nothing}
+use Rattle.cdb_make.proofs.Admitting.{behind_nothing}
 use Rattle.cdb_make.proofs.Spans.{spans_of, place_low, place_high}
 use Rattle.cdb_make.proofs.Survive.{number_zero}
 use Rattle.cdb_make.proofs.Tables.{roll_tables_are}
@@ -71,8 +71,8 @@ left_behind {l = l} m =
 pub all_in : {S L : Type 0} {s : Ghosts S} {l : Widths L} (m : Maker S L s l) (all : List KeyValue) (b : List ℕ) → m.roll.gone.count ≡ 0 → Sees m.roll all b → left (gone_in m) all ≡ all
 all_in m all b e sees = left_all_stay (gone_in m) all (omega (arith, length-map m.roll.marks.items is_gone, m.roll.marked, sees_long m.roll all b sees)) (none_in m e)
 
-closed_holds : {S L : Type 0} {s : Ghosts S} {l : Widths L} (i j : Maker S L s l) {P : List KeyValue → List KeyValue → Type 0} (rs : List KeyValue) → j.broken ≡ false → j.roll.gone.count ≡ 0 → Goes i j (λ all rest. (rest ≡ left (gone_in i) all) × P all rest) → Holds i rs → Holds j rs
-closed_holds i j rs whole none goes h = record {
+compacted_holds : {S L : Type 0} {s : Ghosts S} {l : Widths L} (i j : Maker S L s l) {P : List KeyValue → List KeyValue → Type 0} (rs : List KeyValue) → j.broken ≡ false → j.roll.gone.count ≡ 0 → Goes i j (λ all rest. (rest ≡ left (gone_in i) all) × P all rest) → Holds i rs → Holds j rs
+compacted_holds i j rs whole none goes h = record {
   whole = whole;
   each = λ b is.
       let g = goes.each b is in
@@ -91,9 +91,9 @@ gone_lazy m whole some =
     f m.lazy refl
 
 -- a pass was made
-pub closes_all_by : {S L : Type 0} {s : Ghosts S} {l : Widths L} (i j : Maker S L s l) → i.broken ≡ false → 0 < i.roll.gone.count → Closes i j → j.roll.gone.count ≡ 0 → j.roll.end + i.roll.gone.size ≡ i.roll.end → ClosesAll i j
-closes_all_by i j was some h none end = record {
-  stays = record { was = was; whole = h.whole; holds = λ rs held. closed_holds i j rs h.whole none h.goes held };
+pub compacts_all_by : {S L : Type 0} {s : Ghosts S} {l : Widths L} (i j : Maker S L s l) → i.broken ≡ false → 0 < i.roll.gone.count → Compacts i j → j.roll.gone.count ≡ 0 → j.roll.end + i.roll.gone.size ≡ i.roll.end → CompactsAll i j
+compacts_all_by i j was some h none end = record {
+  stays = record { was = was; whole = h.whole; holds = λ rs held. compacted_holds i j rs h.whole none h.goes held };
   none = none;
   end = omega arith;
   goes = h.goes;
@@ -101,8 +101,8 @@ closes_all_by i j was some h none end = record {
 }
 
 -- the records that stand are the same
-pub closes_all_then : {S L : Type 0} {s : Ghosts S} {l : Widths L} (i j k : Maker S L s l) → ClosesAll i j → k.store ≡ j.store → k.broken ≡ j.broken → SameRecords j.roll k.roll → k.roll.marks ≡ j.roll.marks → k.roll.gone ≡ j.roll.gone → ClosesAll i k
-closes_all_then {s = s} i j k h store broken same marks gone =
+pub compacts_all_then : {S L : Type 0} {s : Ghosts S} {l : Widths L} (i j k : Maker S L s l) → CompactsAll i j → k.store ≡ j.store → k.broken ≡ j.broken → SameRecords j.roll k.roll → k.roll.marks ≡ j.roll.marks → k.roll.gone ≡ j.roll.gone → CompactsAll i k
+compacts_all_then {s = s} i j k h store broken same marks gone =
     let goes = h.goes in
     record {
       stays = record {
@@ -126,8 +126,8 @@ closes_all_then {s = s} i j k h store broken same marks gone =
     }
 
 -- or none
-pub closes_all_none : {S L : Type 0} {s : Ghosts S} {l : Widths L} (i : Maker S L s l) → i.broken ≡ false → i.roll.gone.count ≡ 0 → ClosesAll i i
-closes_all_none {l = l} i was none = record {
+pub compacts_all_none : {S L : Type 0} {s : Ghosts S} {l : Widths L} (i : Maker S L s l) → i.broken ≡ false → i.roll.gone.count ≡ 0 → CompactsAll i i
+compacts_all_none {l = l} i was none = record {
   stays = record { was = was; whole = was; holds = λ rs held. held };
   none = none;
   end = omega (arith, none_size i.roll none);
@@ -149,9 +149,9 @@ closes_all_none {l = l} i was none = record {
 }
 
 -- or failed
-pub closing_torn : {S L T : Type 0} {s : Ghosts S} {l : Widths L} (i j : Maker S L s l) (r : Result T MakeFault) → i.broken ≡ false → 0 < i.roll.gone.count → IfErr r (λ f. f ≡ Writing) → OnErr r (j.broken ≡ true) → OnErr r (HasStoreFailed i j) → IfErr r (FailsClosingAll i j)
-closing_torn i j (Ok x) was some fault torn failed = tt
-closing_torn i j (Err f) was some fault torn failed = subst (FailsClosingAll i j) (sym fault) ((gone_lazy i was some, some), was, torn, failed)
+pub compacting_torn : {S L T : Type 0} {s : Ghosts S} {l : Widths L} (i j : Maker S L s l) (r : Result T MakeFault) → i.broken ≡ false → 0 < i.roll.gone.count → IfErr r (λ f. f ≡ Writing) → OnErr r (j.broken ≡ true) → OnErr r (HasStoreFailed i j) → IfErr r (FailsCompactingAll i j)
+compacting_torn i j (Ok x) was some fault torn failed = tt
+compacting_torn i j (Err f) was some fault torn failed = subst (FailsCompactingAll i j) (sym fault) ((gone_lazy i was some, some), was, torn, failed)
 
 -- ---- what it counts
 
@@ -182,10 +182,10 @@ pub counts_then : {S L : Type 0} {s : Ghosts S} {l : Widths L} (i j k : Maker S 
 counts_then i j k f h = record { count = h.count ∙ f.count; size = h.size ∙ f.size; limit = h.limit ∙ f.limit }
 
 -- after a pass
-pub closed_counts : {S L T E : Type 0} {s : Ghosts S} {l : Widths L} (i j : Maker S L s l) (r : Result T E) → i.broken ≡ false → OnOk r (Closes i j) → OnOk r (j.roll.gone.count ≡ 0) → OnOk r (j.roll.gone.size ≡ 0) → OnOk r (j.roll.end + i.roll.gone.size ≡ i.roll.end)
+pub compacted_counts : {S L T E : Type 0} {s : Ghosts S} {l : Widths L} (i j : Maker S L s l) (r : Result T E) → i.broken ≡ false → OnOk r (Compacts i j) → OnOk r (j.roll.gone.count ≡ 0) → OnOk r (j.roll.gone.size ≡ 0) → OnOk r (j.roll.end + i.roll.gone.size ≡ i.roll.end)
     → OnOk r (length j.roll.hashes.items + i.roll.gone.count ≡ length i.roll.hashes.items) → j.limit ≡ i.limit → OnErr r (SameCounts i j) → SameCounts i j
-closed_counts i j (Ok x) was closes none size end count limit torn = whole_counts i j was closes.whole (left_counts i j none size end count) limit
-closed_counts i j (Err e) was closes none size end count limit torn = torn
+compacted_counts i j (Ok x) was compacts none size end count limit torn = whole_counts i j was compacts.whole (left_counts i j none size end count) limit
+compacted_counts i j (Err e) was compacts none size end count limit torn = torn
 
 -- where a look was made
 pub rests_nothing : {S L : Type 0} {s : Ghosts S} {l : Widths L} (i j : Maker S L s l) → Rests i j → WritesNothing i j
@@ -239,7 +239,7 @@ finished_file {l = l} m all a b sees e =
     let bytes : part (head_size w) (m.end - head_size w) a ≡ flat_map (record_bytes w) all = ap (λ (k : ℕ). part (head_size w) k a) n ∙ sees.stand ∙ flat_map-map (λ p. p) (record_bytes w) all in
     e ∙ file_of_parts w m.end (part (head_size w) (m.end - head_size w) a) (roll_tables m) all (ends_at m all a sees) bytes (roll_tables_are m all a sees)
 
-pub is_file : {S L : Type 0} {s : Ghosts S} {l : Widths L} (i j : Maker S L s l) (rs : List KeyValue) {new : List ℕ → Type 0} → ClosesAll i j → Holds i rs → IsFinished l.WORD j.roll.end (roll_tables j.roll) (s.image j.store) new → IsFile l.WORD rs new
+pub is_file : {S L : Type 0} {s : Ghosts S} {l : Widths L} (i j : Maker S L s l) (rs : List KeyValue) {new : List ℕ → Type 0} → CompactsAll i j → Holds i rs → IsFinished l.WORD j.roll.end (roll_tables j.roll) (s.image j.store) new → IsFile l.WORD rs new
 is_file {l = l} i j rs c h finished = record {
   each = λ b is.
       let f = finished.each b is in
@@ -248,7 +248,7 @@ is_file {l = l} i j rs c h finished = record {
       finished_file j.roll held.all f.0 b held.sees f.2 ∙ ap (file_bytes l.WORD) (sym same);
 }
 
-pub finish_writes : {S L : Type 0} {s : Ghosts S} {l : Widths L} (i j : Maker S L s l) (store : S) → ClosesAll i j → SameCounts i j → IsFinished l.WORD j.roll.end (roll_tables j.roll) (s.image j.store) (s.image store)
+pub finish_writes : {S L : Type 0} {s : Ghosts S} {l : Widths L} (i j : Maker S L s l) (store : S) → CompactsAll i j → SameCounts i j → IsFinished l.WORD j.roll.end (roll_tables j.roll) (s.image j.store) (s.image store)
     → s.written store + j.roll.end ≡ s.written j.store + (head_size l.WORD + (j.roll.end + 4 * l.WORD * length j.roll.hashes.items)) → FinishWrites i store
 finish_writes i j store c counts finished written =
     let size : made_size j ≡ made_size i = (left_same i j c.stays.was c.stays.whole counts).1 in
@@ -297,8 +297,8 @@ stays_kept j k was whole roll keeps = record {
 pub whole_then : {S L : Type 0} {s : Ghosts S} {l : Widths L} (i j k : Maker S L s l) → StaysWhole i j → StaysWhole j k → StaysWhole i k
 whole_then i j k f h = record { was = f.was; whole = h.whole; holds = λ rs held. h.holds rs (f.holds rs held) }
 
-closed_unchanged : {S L : Type 0} {s : Ghosts S} {l : Widths L} (i j k : Maker S L s l) → ClosesAll i j → k.broken ≡ false → k.roll ≡ j.roll → SameImages (s.image j.store) (s.image k.store) → s.written k.store ≡ s.written j.store → ClosesAll i k
-closed_unchanged {s = s} {l = l} i j k c whole roll images written =
+compacted_unchanged : {S L : Type 0} {s : Ghosts S} {l : Widths L} (i j k : Maker S L s l) → CompactsAll i j → k.broken ≡ false → k.roll ≡ j.roll → SameImages (s.image j.store) (s.image k.store) → s.written k.store ≡ s.written j.store → CompactsAll i k
+compacted_unchanged {s = s} {l = l} i j k c whole roll images written =
     let goes : Goes i k (λ all rest. (rest ≡ left (gone_in i) all) × Passes i k (gone_in i) 0 all) = record {
       each = λ b is.
           let g = c.goes.each b (images.no_other b is) in
@@ -306,29 +306,29 @@ closed_unchanged {s = s} {l = l} i j k c whole roll images written =
     } in
     let none : k.roll.gone.count ≡ 0 = ap (λ m. m.gone.count) roll ∙ c.none in
     record {
-      stays = record { was = c.stays.was; whole = whole; holds = λ rs held. closed_holds i k rs whole none goes held };
+      stays = record { was = c.stays.was; whole = whole; holds = λ rs held. compacted_holds i k rs whole none goes held };
       none = none;
       end = ap (λ m. m.end) roll ∙ c.end;
       goes = goes;
       lone = λ lone. written ∙ c.lone lone;
     }
 
-pub finishing_fails : {S L : Type 0} {s : Ghosts S} {l : Widths L} (i j k : Maker S L s l) (fault : MakeFault) → ClosesAll i j → HasNotFailed i j → k.broken ≡ false → k.roll ≡ j.roll → KeepsPart (head_size l.WORD) (j.roll.end - head_size l.WORD) (s.image j.store) (s.image k.store)
+pub finishing_fails : {S L : Type 0} {s : Ghosts S} {l : Widths L} (i j k : Maker S L s l) (fault : MakeFault) → CompactsAll i j → HasNotFailed i j → k.broken ≡ false → k.roll ≡ j.roll → KeepsPart (head_size l.WORD) (j.roll.end - head_size l.WORD) (s.image j.store) (s.image k.store)
     → (fault ≡ NoMemory → SameImages (s.image j.store) (s.image k.store) × (s.written k.store ≡ s.written j.store) × (s.failures k.store ≡ s.failures j.store)) → (fault ≡ Writing → s.failures j.store < s.failures k.store) → (fault ≡ NoMemory) ⊎ (fault ≡ Writing) → FailsFinishing i k fault
 finishing_fails i j k fault c fine whole roll keeps memory failed which =
     elim which [
       | inl e ↦
           let m = memory e in
-          subst (λ (f : MakeFault). FailsFinishing i k f) (sym e) (closed_unchanged i j k c whole roll m.0 m.1, m.2 ∙ fine)
+          subst (λ (f : MakeFault). FailsFinishing i k f) (sym e) (compacted_unchanged i j k c whole roll m.0 m.1, m.2 ∙ fine)
       | inr e ↦ subst (λ (f : MakeFault). FailsFinishing i k f) (sym e) (inl (whole_then i j k c.stays (stays_kept j k c.stays.whole whole roll keeps), omega (arith, failed e, fine)))
     ]
 
-pub closing_fails : {S L : Type 0} {s : Ghosts S} {l : Widths L} (i j : Maker S L s l) (fault : MakeFault) → FailsClosingAll i j fault → FailsFinishing i j fault
-closing_fails i j Broken h = h
-closing_fails i j Lookup h = h
-closing_fails i j TooBig h = h
-closing_fails i j NoMemory h = absurd h
-closing_fails i j Writing h = inr h
+pub compacting_fails : {S L : Type 0} {s : Ghosts S} {l : Widths L} (i j : Maker S L s l) (fault : MakeFault) → FailsCompactingAll i j fault → FailsFinishing i j fault
+compacting_fails i j Broken h = h
+compacting_fails i j Lookup h = h
+compacting_fails i j TooBig h = h
+compacting_fails i j NoMemory h = absurd h
+compacting_fails i j Writing h = inr h
 
 -- what holds of a fault that a result is
 pub on_fault_is : {T E : Type 0} {P Q : E → Type 0} (r : Result T E) → ((e : E) → r ≡ Err e → P e → Q e) → IfErr r P → IfErr r Q

@@ -15,7 +15,7 @@ pub mod Looking
 pub mod Rolls
 pub mod Survive
 pub mod Removing
-pub mod Settling
+pub mod Admitting
 pub mod Meeting
 pub mod BegunHeads
 pub mod Lowering

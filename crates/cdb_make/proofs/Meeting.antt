@@ -25,14 +25,14 @@ use Rattle.cdb_make.specs.Rolls.{Sees}
 use Rattle.cdb_make.specs.Spans.{left, picked, number, behind, or_each}
 use Rattle.cdb_make.specs.Survivors.{has_key, is_there, count_of, behind_first, put_list, put_answer}
 use Rattle.cdb_make.specs.Views.Roll.{searched, HasRoom}
-use Rattle.cdb_make.specs.Views.Maker.{gone_in, found_in, Holds, Rests, Stays, Seeks, Meets, Settles, Puts, Follows, IsOver, IsWithin, IsTooBig, WouldPut, WantsRoom, OnlyAdds, PassesRoom, DoesNothing, WritesNothing, HasFailedToWrite, HasNotFailed, HasStoreFailed, HasGone, HasGoneOr, HasKey, IsAnswerTo, FailsLater, IsTorn, WhereHonest, IsMarked, IsHalfway, FailsSettling, FailsPutting, IsAlone, IsShort, put_bytes, lone_bytes, goes_with, is_present}
+use Rattle.cdb_make.specs.Views.Maker.{gone_in, found_in, Holds, Rests, Stays, Seeks, Meets, Admits, Puts, Follows, IsOver, IsWithin, IsTooBig, WouldPut, WantsRoom, OnlyAdds, PassesRoom, DoesNothing, WritesNothing, HasFailedToWrite, HasNotFailed, HasStoreFailed, HasGone, HasGoneOr, HasKey, IsAnswerTo, FailsLater, IsTorn, WhereHonest, IsMarked, IsHalfway, FailsAdmitting, FailsPutting, IsAlone, IsShort, put_bytes, lone_bytes, goes_with, is_present}
 use Rattle.cdb_make.proofs.Ends.{end_passed}
 use Rattle.cdb_make.proofs.Finishing.{gone_lazy}
 use Rattle.cdb_make.proofs.Looking.{same_back, same_self, sees_long, sees_same}
 use Rattle.cdb_make.proofs.Picking.{left_all_stay, left_sum, end_sum, number_none, gone_taken, number_taken, both_within, both_few}
 use Rattle.cdb_make.proofs.Rolls.{left_file, slots_add, whole_push}
 use Rattle.cdb_make.proofs.Removing.{one_of, rest_of, sought, kept_picked, left-sum_by, behind-sum_by, moved_first}
-use Rattle.cdb_make.proofs.Settling.{same_marks, or_clear, behind_nothing, length-or}
+use Rattle.cdb_make.proofs.Admitting.{same_marks, or_clear, behind_nothing, length-or}
 use Rattle.cdb_make.proofs.Survive.{or_none, number_zero, some_there}
 
 pub have_none : (hash : ℕ) (hs : List ℕ) (ms : List Mark) → AreNone (found_of ms) → HaveHash hash hs ms
@@ -174,7 +174,7 @@ short_before {l = l} i j r rests room short =
       | inr full ↦ inr (elim full [ inl none ↦ inl (λ has. none (room has)) | inr past ↦ inr (omega (arith, past, rests.reads.room, rests.same.end)) ])
     ]
 
-pub puts_by : {S L : Type 0} {s : Ghosts S} {l : Widths L} (i j k : Maker S L s l) (hash : ℕ) (mode : Mode) (r : KeyValue) (put : Put) → is_present put ≡ false → Meets i j hash mode r put → Settles j k r → IsAlone j k r → (HasRoom i.roll → HasRoom j.roll) → Puts i k mode r put
+pub puts_by : {S L : Type 0} {s : Ghosts S} {l : Widths L} (i j k : Maker S L s l) (hash : ℕ) (mode : Mode) (r : KeyValue) (put : Put) → is_present put ≡ false → Meets i j hash mode r put → Admits j k r → IsAlone j k r → (HasRoom i.roll → HasRoom j.roll) → Puts i k mode r put
 puts_by {s = s} {l = l} i j k hash mode r put np m t alone room = record {
   was = m.rests.was;
   whole = t.whole;
@@ -384,7 +384,7 @@ torn_put {s = s} i j k hash mode r put m fine follows torn failed some half =
 nothing_put : {S L : Type 0} {s : Ghosts S} {l : Widths L} (i j k : Maker S L s l) (hash : ℕ) (mode : Mode) (r : KeyValue) (put : Put) → Meets i j hash mode r put → DoesNothing j k → WritesNothing i k
 nothing_put i j k hash mode r put m h = record { stays = record { was = m.rests.was; whole = h.stays.broken ∙ m.rests.whole; holds = held_still i j k m.rests h.stays }; written = h.written ∙ m.rests.reads.written }
 
-pub put_fails : {S L : Type 0} {s : Ghosts S} {l : Widths L} (i j k : Maker S L s l) (hash : ℕ) (mode : Mode) (r : KeyValue) (put : Put) (fault : MakeFault) → (l.WORD ≡ 4) ⊎ (l.WORD ≡ 8) → is_present put ≡ false → Meets i j hash mode r put → HasNotFailed i j → Follows j k → FailsSettling j k r fault → FailsPutting i k mode r fault
+pub put_fails : {S L : Type 0} {s : Ghosts S} {l : Widths L} (i j k : Maker S L s l) (hash : ℕ) (mode : Mode) (r : KeyValue) (put : Put) (fault : MakeFault) → (l.WORD ≡ 4) ⊎ (l.WORD ≡ 8) → is_present put ≡ false → Meets i j hash mode r put → HasNotFailed i j → Follows j k → FailsAdmitting j k r fault → FailsPutting i k mode r fault
 put_fails i j k hash mode r put Broken w np m fine follows h = absurd h
 put_fails i j k hash mode r put Lookup w np m fine follows h = absurd h
 put_fails i j k hash mode r put TooBig w np m fine follows h = (nothing_put i j k hash mode r put m h.0, too_big i j k hash mode r put w np m follows h.1, h.0.fine ∙ fine)
@@ -430,7 +430,7 @@ put_fails i j k hash mode r put Writing w np m fine follows h =
       ]
     ]
 
-pub put_failed : {S L : Type 0} {s : Ghosts S} {l : Widths L} (i j k : Maker S L s l) (hash : ℕ) (mode : Mode) (r : KeyValue) (put : Put) (result : Result Put MakeFault) (f : MakeFault) → (l.WORD ≡ 4) ⊎ (l.WORD ≡ 8) → is_present put ≡ false → Meets i j hash mode r put → HasNotFailed i j → Follows j k → FailsSettling j k r f → IsErrAnd result (λ v. v ≡ f) → IfErr result (FailsPutting i k mode r)
+pub put_failed : {S L : Type 0} {s : Ghosts S} {l : Widths L} (i j k : Maker S L s l) (hash : ℕ) (mode : Mode) (r : KeyValue) (put : Put) (result : Result Put MakeFault) (f : MakeFault) → (l.WORD ≡ 4) ⊎ (l.WORD ≡ 8) → is_present put ≡ false → Meets i j hash mode r put → HasNotFailed i j → Follows j k → FailsAdmitting j k r f → IsErrAnd result (λ v. v ≡ f) → IfErr result (FailsPutting i k mode r)
 put_failed i j k hash mode r put (Ok x) f w np m fine follows h e = tt
 put_failed i j k hash mode r put (Err v) f w np m fine follows h e = subst (FailsPutting i k mode r) (sym e) (put_fails i j k hash mode r put f w np m fine follows h)
 

@@ -31,7 +31,7 @@ use Rattle.cdb_store.specs.declared.store.StoreFault.TheVariants.{NoMemory as Re
 use Rattle.cdb_store.specs.declared.make_fault.MakeFault.{MakeFault}
 use Rattle.cdb_store.specs.declared.make_fault.MakeFault.TheVariants.{Broken, Lookup, TooBig, NoMemory, Writing}
 use Rattle.cdb_store.specs.MakeFault.{fault_of}
-use Rattle.cdb_make.specs.Views.Maker.{Goes, ComesFrom, AddFails, Follows, Stays, IsMarked, FailsExchanging, FailsClosing, FailsLooking, HasStoreFailed, gone_in, found_in, is_foreign, look_fault}
+use Rattle.cdb_make.specs.Views.Maker.{Goes, ComesFrom, AddFails, Follows, Stays, IsMarked, FailsExchanging, FailsCompacting, FailsLooking, HasStoreFailed, gone_in, found_in, is_foreign, look_fault}
 use Rattle.cdb_make.specs.Views.Places.{places_in}
 use Rattle.cdb_make.proofs.Spans.{left-map, joined_more, joined_end, kept_then}
 use Rattle.cdb_make.proofs.Looking.{sizes_of, sees_long, sees_same, same_self}
@@ -99,10 +99,10 @@ sees_added {l = l} old new r all a b is_record inside hashes tagged numbers of w
     sees_entered old new r all b is_record hashes tagged numbers of (ap (part old.end (length x)) written ∙ part-overwrite old.end a x inside) (sees_kept old old all a b (same_self old) same h)
 
 -- those without a mark
-pub sees_closed : {L : Type 0} {l : Widths L} (old new : Roll L l) (all : List KeyValue) (a b : List ℕ) → new.hashes.items ≡ left (gone_of old.marks.items) old.hashes.items → new.tagged ≡ old.tagged → searched new ≡ left (gone_of old.marks.items) (searched old)
+pub sees_compacted : {L : Type 0} {l : Widths L} (old new : Roll L l) (all : List KeyValue) (a b : List ℕ) → new.hashes.items ≡ left (gone_of old.marks.items) old.hashes.items → new.tagged ≡ old.tagged → searched new ≡ left (gone_of old.marks.items) (searched old)
     → ((sizes : List ℕ) → AreOf (head_size l.WORD) (places_in old.places) old.end sizes → AreOf (head_size l.WORD) (places_in new.places) new.end (left (gone_of old.marks.items) sizes))
     → ((ps : List (List ℕ)) → AreOf (head_size l.WORD) (places_in old.places) old.end (map length ps) → Stand (head_size l.WORD) ps a → Stand (head_size l.WORD) (left (gone_of old.marks.items) ps) b) → Sees old all a → Sees new (left (gone_of old.marks.items) all) b
-sees_closed {l = l} old new all a b hashes tagged numbers of stands h =
+sees_compacted {l = l} old new all a b hashes tagged numbers of stands h =
     let w : ℕ = l.WORD in
     let ms : List Bool = gone_of old.marks.items in
     let sized : AreOf (head_size w) (places_in old.places) old.end (map length (map (record_bytes w) all)) = subst (AreOf (head_size w) (places_in old.places) old.end) (sym (sizes_of w all)) h.of in
@@ -296,13 +296,13 @@ goes_moved {s = s} i j k n roll images roll₁ store f g = record {
       );
 }
 
-pub closing_fails : {S L : Type 0} {s : Ghosts S} {l : Widths L} (i j k n : Maker S L s l) (r : KeyValue) (fault : MakeFault) → j.roll ≡ i.roll → ((a : List ℕ) → s.image j.store a → s.image i.store a) → n.roll ≡ k.roll → n.store ≡ k.store → s.failures j.store ≡ s.failures i.store → s.unwritten i.store ≤ s.unwritten j.store
-    → (k.broken ≡ true → n.broken ≡ true) → (0 < i.roll.found.count → n.broken ≡ true) → (k.broken ≡ false → i.roll.found.count ≡ 0 → n.broken ≡ false) → FailsExchanging j k fault → FailsClosing i n r fault
-closing_fails i j k n r Broken roll images roll₁ store failures unwritten torn lost none h = h
-closing_fails i j k n r Lookup roll images roll₁ store failures unwritten torn lost none h = h
-closing_fails i j k n r TooBig roll images roll₁ store failures unwritten torn lost none h = h
-closing_fails i j k n r NoMemory roll images roll₁ store failures unwritten torn lost none h = absurd h
-closing_fails {s = s} i j k n r Writing roll images roll₁ store failures unwritten torn lost none h =
+pub compacting_fails : {S L : Type 0} {s : Ghosts S} {l : Widths L} (i j k n : Maker S L s l) (r : KeyValue) (fault : MakeFault) → j.roll ≡ i.roll → ((a : List ℕ) → s.image j.store a → s.image i.store a) → n.roll ≡ k.roll → n.store ≡ k.store → s.failures j.store ≡ s.failures i.store → s.unwritten i.store ≤ s.unwritten j.store
+    → (k.broken ≡ true → n.broken ≡ true) → (0 < i.roll.found.count → n.broken ≡ true) → (k.broken ≡ false → i.roll.found.count ≡ 0 → n.broken ≡ false) → FailsExchanging j k fault → FailsCompacting i n r fault
+compacting_fails i j k n r Broken roll images roll₁ store failures unwritten torn lost none h = h
+compacting_fails i j k n r Lookup roll images roll₁ store failures unwritten torn lost none h = h
+compacting_fails i j k n r TooBig roll images roll₁ store failures unwritten torn lost none h = h
+compacting_fails i j k n r NoMemory roll images roll₁ store failures unwritten torn lost none h = absurd h
+compacting_fails {s = s} i j k n r Writing roll images roll₁ store failures unwritten torn lost none h =
     let same : s.failures n.store ≡ s.failures k.store = ap s.failures store in
     let same₁ : s.unwritten n.store ≡ s.unwritten k.store = ap s.unwritten store in
     elim h [

@@ -260,7 +260,7 @@ impl<S: Store, L: Width> Maker<S, L> {
         if !self.crowds(bytes) {
             return self.append_beside(bytes);
         }
-        self.close_all()?;
+        self.compact_all()?;
         self.append_beside(bytes)
     }
 }

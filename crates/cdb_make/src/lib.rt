@@ -5,7 +5,7 @@
 mod answer;
 mod append;
 mod chains;
-mod close;
+mod compact;
 mod finish;
 mod growth;
 mod key_at;

@@ -74,7 +74,7 @@ fn emptied<S: Store, L: Width>(store: &mut S) -> Result<(), MakeFault>
 impl<S: Store, L: Width> Maker<S, L> {
     ghost use Rattle.cdb_make.specs.Views.Maker.{Holds, Begins, is_lazy, IsUsable, IsFile, made_size, FinishWrites};
     ghost use Rattle.cdb_make.specs.Views.Maker.{PutsHeadLast, ComesFrom, SameCounts, FailsFinishing};
-    ghost use Rattle.cdb_make.specs.Views.Maker.{ClosesAll, FailsClosingAll, Follows, HasNotFailed};
+    ghost use Rattle.cdb_make.specs.Views.Maker.{CompactsAll, FailsCompactingAll, Follows, HasNotFailed};
 
     /// A maker that takes records out at once, or later, as `new` and `lazy` make one.
     fn begun(alloc: Global, store: S, limit: u64, lazy: bool) -> Result<Maker<S, L>, Refused<S>>
@@ -153,14 +153,14 @@ impl<S: Store, L: Width> Maker<S, L> {
     }
 
     /// Takes the records that go out, and frees the chains, whose memory the tables can have then.
-    fn close_for_finish(&mut self) -> Result<(), MakeFault>
-        ensures closes_all { OnOk result (ClosesAll self.old self.new) }
-        ensures fails { IfErr result (FailsClosingAll self.old self.new) }
+    fn compact_for_finish(&mut self) -> Result<(), MakeFault>
+        ensures compacts_all { OnOk result (CompactsAll self.old self.new) }
+        ensures fails { IfErr result (FailsCompactingAll self.old self.new) }
         ensures follows { Follows self.old self.new }
         ensures counts { SameCounts self.old self.new }
         ensures fine { OnOk result (HasNotFailed self.old self.new) }
     {
-        self.close_all()?;
+        self.compact_all()?;
         self.roll.unchain(self.alloc);
         Ok(())
     }
@@ -181,7 +181,7 @@ impl<S: Store, L: Width> Maker<S, L> {
         ensures lazy { is_lazy self.new ≡ is_lazy self.old }
         ensures fails { IfErr result (FailsFinishing self.old self.new) }
     {
-        self.close_for_finish()?;
+        self.compact_for_finish()?;
         finish::<S, L>(self.alloc, &mut self.store, &self.roll)
     }
 

@@ -7,7 +7,7 @@ ghost use Rattle.cdb_make.specs.Marks.{gone_of, HaveHash};
 ghost use Rattle.cdb_make.specs.Rolls.{LooksLast, LooksAll, SeesNone};
 ghost use Rattle.cdb_make.specs.Views.Roll.{searched, sought_in, HasRoom, SameRecords};
 
-use crate::close::place_at;
+use crate::compact::place_at;
 use crate::key_at::{LookFault, look_at};
 use crate::roll::Roll;
 use cdb_form::Width;

@@ -8,7 +8,7 @@ ghost use Rattle.cdb_make.specs.Tags.{second_hash};
 ghost use Rattle.cdb_make.specs.Views.Roll.{searched, HasRoom, SameRecords};
 ghost use Rattle.cdb_store.specs.declared.make_fault.MakeFault.TheVariants.{Writing};
 
-use crate::close::close_bytes;
+use crate::compact::compact_bytes;
 use crate::roll::Roll;
 use crate::write::append_record;
 use cdb_form::{Width, head_size, pair_size};
@@ -53,7 +53,7 @@ pub struct Maker<S: Store, L: Width> {
 }
 
 impl<S: Store, L: Width> Maker<S, L> {
-    ghost use Rattle.cdb_make.specs.Views.Maker.{Adds, AddFails, Stays, Closes, Exchanges, Follows, HasNotFailed};
+    ghost use Rattle.cdb_make.specs.Views.Maker.{Adds, AddFails, Stays, Compacts, Exchanges, Follows, HasNotFailed};
     ghost use Rattle.cdb_make.specs.Views.Maker.{FailsExchanging, HasStoreFailed, SameCounts, TellsCounts, told_count, told_size};
 
     /// One more record, behind the others.
@@ -97,7 +97,7 @@ impl<S: Store, L: Width> Maker<S, L> {
     /// `Writing`: the store failed, and the maker is broken.
     #[inline(never)]
     pub(crate) fn pass(&mut self) -> Result<(), MakeFault>
-        ensures closes { OnOk result (Closes self.old self.new) }
+        ensures compacts { OnOk result (Compacts self.old self.new) }
         ensures found { OnOk result (AreNone (found_of self.new.roll.marks.items)) }
         ensures end { OnOk result
             (self.new.roll.end + self.old.roll.gone.size ≡ self.old.roll.end) }
@@ -121,8 +121,8 @@ impl<S: Store, L: Width> Maker<S, L> {
         self.broken = true;
         let (start, first) = (head_size::<L>() as u64, self.roll.first_gone());
         let (places, marks) = (&self.roll.places, &self.roll.marks);
-        close_bytes(&mut self.store, start, places, marks, first, self.roll.end)?;
-        self.roll.close();
+        compact_bytes(&mut self.store, start, places, marks, first, self.roll.end)?;
+        self.roll.compact();
         self.broken = false;
         Ok(())
     }

@@ -94,7 +94,7 @@ impl<S: Store, L: Width> Maker<S, L> {
         let sought = self.roll.sought_by_look(hash, key);
         let put = self.meet(mode, sought, key)?;
         if !put.is_present() {
-            self.settle(hash, sought, key, value)?;
+            self.admit(hash, sought, key, value)?;
         }
         Ok(put)
     }

@@ -12,7 +12,7 @@ const LEAST: u64 = 4_194_304;
 
 impl<S: Store, L: Width> Maker<S, L> {
     ghost use Rattle.cdb_make.specs.Views.Maker.{Removes, FailsRemoving, Follows, TakesOut, Tears};
-    ghost use Rattle.cdb_make.specs.Views.Maker.{ClosesAll, FailsClosingAll, HasNotFailed, SameCounts};
+    ghost use Rattle.cdb_make.specs.Views.Maker.{CompactsAll, FailsCompactingAll, HasNotFailed, SameCounts};
 
     /// Whether a pass frees more bytes than it moves: those of the records that go and that were
     /// found are more than the others, and 4 MiB.
@@ -88,9 +88,9 @@ impl<S: Store, L: Width> Maker<S, L> {
     /// Each byte behind the first gap moves once, however many records go, and no memory is taken.
     /// `Writing`: the store failed amid the pass, and the maker is broken. `Broken`: an earlier call
     /// broke it.
-    pub fn close_all(&mut self) -> Result<(), MakeFault>
-        ensures closes_all { OnOk result (ClosesAll self.old self.new) }
-        ensures fails { IfErr result (FailsClosingAll self.old self.new) }
+    pub fn compact_all(&mut self) -> Result<(), MakeFault>
+        ensures compacts_all { OnOk result (CompactsAll self.old self.new) }
+        ensures fails { IfErr result (FailsCompactingAll self.old self.new) }
         ensures follows { Follows self.old self.new }
         ensures counts { SameCounts self.old self.new }
         ensures fine { OnOk result (HasNotFailed self.old self.new) }

@@ -10,11 +10,11 @@ ghost use Rattle.cdb_make.specs.Spans.{AreRising, AreOf, IsPicked, left, or_each
 ghost use Rattle.cdb_make.specs.Views.Places.{places_in, places_room};
 
 use crate::chains::Chains;
-use crate::close::{close_entries, place_at};
+use crate::compact::{compact_entries, place_at};
 use crate::growth::reserve_one;
 use crate::mark::{Mark, is_found_at};
 use crate::places::Places;
-use crate::tags::{close_tags, push_tag, reserve_tag, searched, second_hash};
+use crate::tags::{compact_tags, push_tag, reserve_tag, searched, second_hash};
 use cdb_form::{Width, hash, head_size};
 use std::alloc::{AllocError, Global};
 use std::marker::PhantomData;
@@ -59,7 +59,7 @@ fn put_each_back(marks: &mut [Mark], from: usize)
 
 /// Leaves the marks of so many records that stay. Those before `first` stayed, and no look has found
 /// them.
-fn close_marks(marks: &mut Vec<Mark>, first: usize, count: usize)
+fn compact_marks(marks: &mut Vec<Mark>, first: usize, count: usize)
     requires first { first ≤ count }
     requires within { count ≤ vec_capacity marks.old }
     requires stayed { (k : ℕ) → k < first → get_or marks.old.items k Gone ≡ Stays }
@@ -334,7 +334,7 @@ impl<L: Width> Roll<L> {
     }
 
     /// Takes the records that go out.
-    pub(crate) fn close(&mut self)
+    pub(crate) fn compact(&mut self)
         ensures hashes { self.new.hashes.items ≡ left (gone_of self.old.marks.items) self.old.hashes.items }
         ensures searched { searched self.new ≡ left (gone_of self.old.marks.items) (searched self.old) }
         ensures tagged { self.new.tagged ≡ self.old.tagged }
@@ -356,12 +356,12 @@ impl<L: Width> Roll<L> {
         let first = self.first_gone();
         let searched = searched(self.tagged, &self.tags, &self.hashes);
         self.chains.cut(searched, &self.marks, first);
-        close_tags(self.tagged, &mut self.tags, &self.marks, first);
+        compact_tags(self.tagged, &mut self.tags, &self.marks, first);
         let (hashes, places) = (&mut self.hashes, &mut self.places);
-        let kept = close_entries(start, hashes, places, &self.marks, first, self.end);
+        let kept = compact_entries(start, hashes, places, &self.marks, first, self.end);
         self.hashes.truncate(kept.count);
         self.places.truncate(kept.count);
-        close_marks(&mut self.marks, first, kept.count);
+        compact_marks(&mut self.marks, first, kept.count);
         self.gone = none();
         self.found = none();
         self.end = kept.end;

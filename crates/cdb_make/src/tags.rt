@@ -73,7 +73,7 @@ pub(crate) fn push_tag(tagged: bool, tags: &mut Vec<u32>, tag: u32)
 
 /// Leaves before all others the tag of each record that stays, and answers how many they are. `first`
 /// is the number of the first that goes, or of all.
-fn close_each(tags: &mut [u32], marks: &[Mark], first: usize) -> usize
+fn compact_each(tags: &mut [u32], marks: &[Mark], first: usize) -> usize
     requires long { length marks.now ≡ length tags.old }
     requires first { IsFirstMarked (gone_of marks.now) first }
     ensures within { result ≤ length tags.old }
@@ -92,7 +92,7 @@ fn close_each(tags: &mut [u32], marks: &[Mark], first: usize) -> usize
 }
 
 /// Takes out the tags of the records that go, if there are tags.
-pub(crate) fn close_tags(tagged: bool, tags: &mut Vec<u32>, marks: &[Mark], first: usize)
+pub(crate) fn compact_tags(tagged: bool, tags: &mut Vec<u32>, marks: &[Mark], first: usize)
     requires long { tagged ≡ true → length marks.now ≡ length tags.old.items }
     requires first { IsFirstMarked (gone_of marks.now) first }
     ensures left { (hashes : List ℕ) → searched_by tagged tags.new.items (left (gone_of marks.now) hashes)
@@ -101,7 +101,7 @@ pub(crate) fn close_tags(tagged: bool, tags: &mut Vec<u32>, marks: &[Mark], firs
     ensures room { vec_capacity tags.old ≤ vec_capacity tags.new }
 {
     if tagged {
-        let count = close_each(tags, marks, first);
+        let count = compact_each(tags, marks, first);
         tags.truncate(count);
     }
 }

@@ -124,7 +124,7 @@ Passes {s = s} {l = l} old new marks more all = s.written new.store
     ≡ s.written old.store + (sum (behind marks (map (record_size l.WORD) all)) + more)
 
 -- those that go were taken out
-pub record Closes {S L : Type 0} {s : Ghosts S} {l : Widths L} (old new : Maker S L s l)
+pub record Compacts {S L : Type 0} {s : Ghosts S} {l : Widths L} (old new : Maker S L s l)
     : Type 0 where
   pub whole : new.broken ≡ false
   pub none : AreNone (gone_in new)
@@ -416,7 +416,7 @@ pub record FailsToWrite {S L : Type 0} {s : Ghosts S} {l : Widths L} (old new : 
 
 -- the records that go and those that were found are gone, now or with a later pass, and one was added:
 -- alone behind the others, or after a pass
-pub record Settles {S L : Type 0} {s : Ghosts S} {l : Widths L} (old new : Maker S L s l)
+pub record Admits {S L : Type 0} {s : Ghosts S} {l : Widths L} (old new : Maker S L s l)
     (r : KeyValue) : Type 0 where
   pub whole : new.broken ≡ false
   pub goes : Goes old new (λ all rest.
@@ -462,25 +462,25 @@ pub record DoesNothing {S L : Type 0} {s : Ghosts S} {l : Widths L} (old new : M
 
 -- what is left where records were to be taken out by a pass, and one was to be added. It is broken only
 -- if the store failed amid the pass, or if records were found and a write failed
-abbrev pub FailsClosing : {S L : Type 0} {s : Ghosts S} {l : Widths L} → Maker S L s l
+abbrev pub FailsCompacting : {S L : Type 0} {s : Ghosts S} {l : Widths L} → Maker S L s l
     → Maker S L s l → KeyValue → MakeFault → Type 0
-FailsClosing old new r NoMemory = DoesNothing old new × PassesRoom old r
-FailsClosing old new r Writing =
+FailsCompacting old new r NoMemory = DoesNothing old new × PassesRoom old r
+FailsCompacting old new r Writing =
     ((new.broken ≡ true) × HasStoreFailed old new
     × (IsMarked new ⊎ ((0 < old.roll.found.count) × HasFailedToWrite old new)))
     ⊎ ((new.broken ≡ false) × AreNone (gone_in new) × HasFailedToWrite old new
     × (old.roll.found.count ≡ 0)
     × Goes old new (λ all rest. rest ≡ left (or_each (gone_in old) (found_in old)) all))
-FailsClosing old new r fault = ⊥
+FailsCompacting old new r fault = ⊥
 
 -- why no record was added, and what is left then: it would be too big, memory is wanted, or a write
 -- failed. Where no record was to be replaced, the same ones stand
-abbrev pub FailsSettling : {S L : Type 0} {s : Ghosts S} {l : Widths L} → Maker S L s l
+abbrev pub FailsAdmitting : {S L : Type 0} {s : Ghosts S} {l : Widths L} → Maker S L s l
     → Maker S L s l → KeyValue → MakeFault → Type 0
-FailsSettling old new r TooBig = DoesNothing old new × IsOver old r
-FailsSettling old new r NoMemory =
+FailsAdmitting old new r TooBig = DoesNothing old new × IsOver old r
+FailsAdmitting old new r NoMemory =
     DoesNothing old new × IsWithin old r × (0 < old.roll.found.count → PassesRoom old r)
-FailsSettling old new r Writing = IsWithin old r
+FailsAdmitting old new r Writing = IsWithin old r
     × ((Stays old new × HasFailedToWrite old new
     × (old.lazy ≡ false → old.roll.found.count ≡ 0))
     ⊎ (((new.broken ≡ true) × HasStoreFailed old new
@@ -489,7 +489,7 @@ FailsSettling old new r Writing = IsWithin old r
     ⊎ ((new.broken ≡ false) × AreNone (gone_in new) × HasFailedToWrite old new
     × (old.roll.found.count ≡ 0)
     × Goes old new (λ all rest. rest ≡ left (or_each (gone_in old) (found_in old)) all))))
-FailsSettling old new r fault = ⊥
+FailsAdmitting old new r fault = ⊥
 
 -- no record is found any more, and whether one has the key is known
 pub record Looks {S L : Type 0} {s : Ghosts S} {l : Widths L} (old new : Maker S L s l)
@@ -623,7 +623,7 @@ FailsPutting old new mode r Writing =
     × WouldPut old new mode r
 
 -- a pass was made if records go: none goes then, and its store has the others alone
-pub record ClosesAll {S L : Type 0} {s : Ghosts S} {l : Widths L} (old new : Maker S L s l)
+pub record CompactsAll {S L : Type 0} {s : Ghosts S} {l : Widths L} (old new : Maker S L s l)
     : Type 0 where
   pub stays : StaysWhole old new
   pub none : new.roll.gone.count ≡ 0
@@ -633,12 +633,12 @@ pub record ClosesAll {S L : Type 0} {s : Ghosts S} {l : Widths L} (old new : Mak
   pub lone : (HasGone old → ⊥) → s.written new.store ≡ s.written old.store
 
 -- why no pass was made to its end: where one was made, the store failed amid it
-abbrev pub FailsClosingAll : {S L : Type 0} {s : Ghosts S} {l : Widths L} → Maker S L s l
+abbrev pub FailsCompactingAll : {S L : Type 0} {s : Ghosts S} {l : Widths L} → Maker S L s l
     → Maker S L s l → MakeFault → Type 0
-FailsClosingAll old new Broken = (old.broken ≡ true) × (new ≡ old)
-FailsClosingAll old new Writing =
+FailsCompactingAll old new Broken = (old.broken ≡ true) × (new ≡ old)
+FailsCompactingAll old new Writing =
     HasGone old × (old.broken ≡ false) × (new.broken ≡ true) × HasStoreFailed old new
-FailsClosingAll old new fault = ⊥
+FailsCompactingAll old new fault = ⊥
 
 -- it takes calls, and where its records would end without those that go
 abbrev pub IsUsable : {S L : Type 0} {s : Ghosts S} {l : Widths L} → Maker S L s l → Type 0
@@ -670,7 +670,7 @@ pub record FinishWrites {S L : Type 0} {s : Ghosts S} {l : Widths L} (m : Maker 
 abbrev pub FailsFinishing : {S L : Type 0} {s : Ghosts S} {l : Widths L} → Maker S L s l
     → Maker S L s l → MakeFault → Type 0
 FailsFinishing old new Broken = (old.broken ≡ true) × (new ≡ old)
-FailsFinishing old new NoMemory = ClosesAll old new × HasNotFailed old new
+FailsFinishing old new NoMemory = CompactsAll old new × HasNotFailed old new
 FailsFinishing old new Writing =
     (StaysWhole old new × HasStoreFailed old new)
     ⊎ (HasGone old × (old.broken ≡ false) × (new.broken ≡ true) × HasStoreFailed old new)

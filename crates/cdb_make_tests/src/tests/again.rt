@@ -194,7 +194,7 @@ fn refuses_all<S: Store, L: Width>(maker: &mut Maker<S, L>) -> bool {
     let mut same = maker.remove(b"a") == Err(MakeFault::Broken);
     same = same && maker.exists(b"a") == Err(MakeFault::Broken);
     same = same && maker.append(b"") == Err(MakeFault::Broken);
-    same = same && maker.close_all() == Err(MakeFault::Broken);
+    same = same && maker.compact_all() == Err(MakeFault::Broken);
     for mode in [Mode::Add, Mode::Warn, Mode::Insert, Mode::Replace] {
         same = same && maker.put(mode, b"a", b"1") == Err(MakeFault::Broken);
     }

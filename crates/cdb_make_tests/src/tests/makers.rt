@@ -15,7 +15,7 @@ pub(super) struct Way {
     /// It is a lazy one.
     pub(super) lazy: bool,
     /// It makes a pass after each seventh call.
-    pub(super) closes: bool,
+    pub(super) compacts: bool,
     /// How many bytes its file may have more than those of a head. None: as many as the width has them.
     pub(super) most: Option<u16>,
 }
@@ -23,21 +23,21 @@ pub(super) struct Way {
 /// An eager maker.
 pub(super) const EAGER: Way = Way {
     lazy: false,
-    closes: false,
+    compacts: false,
     most: None,
 };
 
 /// A lazy maker.
 pub(super) const LAZY: Way = Way {
     lazy: true,
-    closes: false,
+    compacts: false,
     most: None,
 };
 
 /// A lazy maker, with passes that nothing makes due.
-pub(super) const CLOSING: Way = Way {
+pub(super) const COMPACTING: Way = Way {
     lazy: true,
-    closes: true,
+    compacts: true,
     most: None,
 };
 

@@ -166,7 +166,7 @@ fn a_pass_may_leave_nothing(rt: HostRuntime) -> Result<(), Fail> {
     for key in [b"b", b"c", b"a"] {
         assert!(rt; maker.remove(key) == Ok(2));
     }
-    maker.close_all()?;
+    maker.compact_all()?;
     assert!(rt; maker.store().written() == before && maker.count() == 0);
     assert!(rt; maker.exists(b"a") == Ok(false) && maker.size() == 2048);
     maker.put(Mode::Replace, b"a", b"3")?;

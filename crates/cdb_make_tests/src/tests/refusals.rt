@@ -304,11 +304,7 @@ fn asks_with_a_first_look(rt: HostRuntime) -> Result<(), Fail> {
 fn found() -> [Row<'static>; 2] {
     [
         (add(b"a", b"1"), ADDED, 10),
-        (
-            put(Mode::Insert, b"a", b"2"),
-            Answer::Put(Put::Present),
-            0,
-        ),
+        (put(Mode::Insert, b"a", b"2"), Answer::Put(Put::Present), 0),
     ]
 }
 

@@ -1,5 +1,5 @@
 //! Scripts of calls to a maker, which come to what a plain list of records does.
-use super::makers::{CLOSING, EAGER, LAZY, Way, finished, made_in};
+use super::makers::{COMPACTING, EAGER, LAZY, Way, finished, made_in};
 use super::model::{Wanted, expected, expected_within};
 use cdb_form::Width;
 use cdb_make::{MakeFault, Maker, Mode, Put};
@@ -144,8 +144,8 @@ fn run<L: Width>(alloc: Global, calls: &[Call], way: Way) -> Result<Made, Fail> 
         let before = maker.store().written();
         answers.push(answer_of(&mut maker, call))?;
         wrote.push(maker.store().written().saturating_sub(before))?;
-        if way.closes && number % 7 == 6 {
-            maker.close_all()?;
+        if way.compacts && number % 7 == 6 {
+            maker.compact_all()?;
         }
     }
     let (count, size) = (maker.count(), maker.size());
@@ -212,7 +212,7 @@ pub(super) fn all_come_to<L: Width>(
     most: Option<u16>,
 ) -> Result<u64, Fail> {
     let wanted = expected_within::<L>(alloc, calls, most)?;
-    for way in [EAGER, LAZY, CLOSING] {
+    for way in [EAGER, LAZY, COMPACTING] {
         run_to::<L>(alloc, calls, Way { most, ..way }, &wanted)?;
     }
     let too_big = Answer::Refused(MakeFault::TooBig);

@@ -1,6 +1,6 @@
 use Rattle.std.proofs.Common.{arith, refl, inl}
 use Rattle.std.proofs.lemmas.Grind.{common_steps}
-use Rattle.cdb_make.proofs.Settling.{stays_self}
+use Rattle.cdb_make.proofs.Admitting.{stays_self}
 use Rattle.cdb_make.proofs.maker.Maker.add_before.Goals as goal
 
 pub returns-in-Err-NoMemory-clause-done : goal.returns-in-Err-NoMemory-clause-done

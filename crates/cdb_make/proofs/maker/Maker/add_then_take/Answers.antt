@@ -5,7 +5,7 @@ use Rattle.cdb_make.specs.Marks.{AreNone}
 use Rattle.cdb_make.specs.Views.Roll.{searched}
 use Rattle.cdb_make.proofs.Bytes.Written.{on_any_ok}
 use Rattle.cdb_make.proofs.Rolls.{follows_then, if_err_weaker}
-use Rattle.cdb_make.proofs.Settling.{have_more, taken_clear, settles_later, settles_after, fails_after}
+use Rattle.cdb_make.proofs.Admitting.{have_more, taken_clear, admits_later, admits_after, fails_after}
 use Rattle.std.proofs.lemmas.Grind.{common_steps}
 use Rattle.cdb_make.proofs.maker.Maker.add_then_take.Goals as goal
 
@@ -21,23 +21,23 @@ invariant_of-self-clause-eager g c = λ eager whole.
     let a = c.in_ok-add_before.ensures.done c.if-branch.true in
     subst AreNone (sym c.take.ensures.gone) (taken_clear c.args.self.now c.add_before.new.self c.args.hash r (inl c.requires.lazy) c.requires.whole a (sym c.add_before.ensures.follows.lazy ∙ eager))
 
-pub returns-then-branch-clause-settles : goal.returns-then-branch-clause-settles
-returns-then-branch-clause-settles g c =
+pub returns-then-branch-clause-admits : goal.returns-then-branch-clause-admits
+returns-then-branch-clause-admits g c =
     let r : KeyValue = record { key = c.args.key.now; value = c.args.value.now } in
-    settles_later c.args.self.now c.add_before.new.self _ c.args.hash r (inl c.requires.lazy) c.requires.whole (c.in_ok-add_before.ensures.done c.if-branch.true) refl refl c.take.ensures.same c.take.ensures.gone
+    admits_later c.args.self.now c.add_before.new.self _ c.args.hash r (inl c.requires.lazy) c.requires.whole (c.in_ok-add_before.ensures.done c.if-branch.true) refl refl c.take.ensures.same c.take.ensures.gone
 
-pub returns-clause-settles : goal.returns-clause-settles
-returns-clause-settles g c =
+pub returns-clause-admits : goal.returns-clause-admits
+returns-clause-admits g c =
     let r : KeyValue = record { key = c.args.key.now; value = c.args.value.now } in
-    on_ok_weaker c.close_and_add.result (settles_after c.args.self.now c.add_before.new.self c.close_and_add.new.self r (c.in_ok-add_before.ensures.waits c.if-branch.false) c.add_before.ensures.follows.lazy) c.close_and_add.ensures.settles
+    on_ok_weaker c.compact_and_add.result (admits_after c.args.self.now c.add_before.new.self c.compact_and_add.new.self r (c.in_ok-add_before.ensures.waits c.if-branch.false) c.add_before.ensures.follows.lazy) c.compact_and_add.ensures.admits
 
 pub returns-clause-fails : goal.returns-clause-fails
 returns-clause-fails g c =
     let r : KeyValue = record { key = c.args.key.now; value = c.args.value.now } in
-    if_err_weaker c.close_and_add.result (λ fault. fails_after c.args.self.now c.add_before.new.self c.close_and_add.new.self r fault (c.in_ok-add_before.ensures.waits c.if-branch.false) c.add_before.ensures.follows.room c.add_before.ensures.follows.unwritten c.requires.fits (let w = c.in_ok-add_before.ensures.waits c.if-branch.false in omega (arith, c.requires.some, ap (λ q. q.count) w.stays.gone, ap (λ q. q.count) w.stays.found))) c.close_and_add.ensures.fails
+    if_err_weaker c.compact_and_add.result (λ fault. fails_after c.args.self.now c.add_before.new.self c.compact_and_add.new.self r fault (c.in_ok-add_before.ensures.waits c.if-branch.false) c.add_before.ensures.follows.room c.add_before.ensures.follows.unwritten c.requires.fits (let w = c.in_ok-add_before.ensures.waits c.if-branch.false in omega (arith, c.requires.some, ap (λ q. q.count) w.stays.gone, ap (λ q. q.count) w.stays.found))) c.compact_and_add.ensures.fails
 
 pub returns-clause-follows : goal.returns-clause-follows
-returns-clause-follows g c = follows_then c.args.self.now c.add_before.new.self c.close_and_add.new.self c.add_before.ensures.follows c.close_and_add.ensures.follows
+returns-clause-follows g c = follows_then c.args.self.now c.add_before.new.self c.compact_and_add.new.self c.add_before.ensures.follows c.compact_and_add.ensures.follows
 
 pub invariant_of-self-clause-spare : goal.invariant_of-self-clause-spare
 invariant_of-self-clause-spare g c = λ whole. (let a = c.in_ok-add_before.ensures.done c.if-branch.true in omega (arith, c.requires.spare, a.gone_size, a.found_size, a.end, c.take.ensures.size, c.take.ensures.same.end))
@@ -46,7 +46,7 @@ pub returns-then-branch-clause-alone : goal.returns-then-branch-clause-alone
 returns-then-branch-clause-alone g c = inl (c.in_ok-add_before.ensures.done c.if-branch.true).written
 
 pub returns-clause-alone : goal.returns-clause-alone
-returns-clause-alone g c = on_any_ok c.close_and_add.result (inr (λ lazy. inr (c.in_ok-add_before.ensures.waits c.if-branch.false).short))
+returns-clause-alone g c = on_any_ok c.compact_and_add.result (inr (λ lazy. inr (c.in_ok-add_before.ensures.waits c.if-branch.false).short))
 
 pub invariant_of-self-clause-within : goal.invariant_of-self-clause-within
 invariant_of-self-clause-within g c = grind (arith, common_steps)
@@ -54,5 +54,5 @@ invariant_of-self-clause-within g c = grind (arith, common_steps)
 pub returns-clause-fine : goal.returns-clause-fine
 returns-clause-fine g c = grind (arith, common_steps)
 
-pub close_and_add-requires-clause-have : goal.close_and_add-requires-clause-have
-close_and_add-requires-clause-have g c = grind (arith, common_steps)
+pub compact_and_add-requires-clause-have : goal.compact_and_add-requires-clause-have
+compact_and_add-requires-clause-have g c = grind (arith, common_steps)

@@ -25,15 +25,15 @@ returns-clause-exchanges g c =
     let w : ℕ = g.L.Width.WORD in
     let r : KeyValue = record { key = c.args.key.now; value = c.args.value.now } in
     let ms : List Bool = or_each (gone_in old) (found_in old) in
-    let closes = c.in_ok-pass.ensures.closes in
+    let compacts = c.in_ok-pass.ensures.compacts in
     on_ok_weaker c.add.result
     (λ added. record {
-      whole = added.broken ∙ closes.whole;
-      none = none_more (gone_in c.pass.new.self) (gone_in c.add.new.self) added.gone closes.none;
+      whole = added.broken ∙ compacts.whole;
+      none = none_more (gone_in c.pass.new.self) (gone_in c.add.new.self) added.gone compacts.none;
       goes = record {
         each = λ b is.
             let h = added.goes.each b is in
-            let q = closes.goes.each h.0 h.1 in (
+            let q = compacts.goes.each h.0 h.1 in (
               q.0,
               q.1,
               λ all sees.
@@ -54,17 +54,17 @@ pub returns-clause-fails : goal.returns-clause-fails
 returns-clause-fails g c =
     let old = c.args.self.now in
     let p = c.in_ok-pass.ensures in
-    let closes = p.closes in
+    let compacts = p.compacts in
     let t = c.take.ensures in
     exchange_fails old c.pass.new.self c.add.new.self c.add.result _
     (λ wants. elim wants [
       | inl full ↦ full (p.room (omega (arith, c.requires.some, t.count)))
       | inr past ↦ omega (arith, past, c.requires.room, p.end, t.size, t.same.end, c.pass.ensures.follows.room)
     ])
-    closes.whole closes.none (let f = c.pass.ensures.follows in record { comes = f.comes; head = f.head; limit = f.limit; lazy = f.lazy; room = f.room; failures = f.failures; unwritten = f.unwritten })
+    compacts.whole compacts.none (let f = c.pass.ensures.follows in record { comes = f.comes; head = f.head; limit = f.limit; lazy = f.lazy; room = f.room; failures = f.failures; unwritten = f.unwritten })
     (record {
       each = λ b is.
-          let q = closes.goes.each b is in (
+          let q = compacts.goes.each b is in (
             q.0,
             q.1,
             λ all sees.

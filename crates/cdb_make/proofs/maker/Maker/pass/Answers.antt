@@ -7,41 +7,41 @@ use Rattle.cdb_make.specs.Marks.{gone_of}
 use Rattle.cdb_make.specs.Spans.{AreSpans, AreOf, Turns, left, behind}
 use Rattle.cdb_make.specs.Views.Places.{places_in}
 use Rattle.cdb_make.proofs.Spans.{spans_of}
-use Rattle.cdb_make.proofs.Rolls.{sees_closed, fewer_slots, comes_part}
+use Rattle.cdb_make.proofs.Rolls.{sees_compacted, fewer_slots, comes_part}
 use Rattle.std.proofs.lemmas.Grind.{common_steps}
 use Rattle.cdb_make.proofs.maker.Maker.pass.Goals as goal
 
-pub close_bytes-requires-clause-spans : goal.close_bytes-requires-clause-spans
-close_bytes-requires-clause-spans g c =
+pub compact_bytes-requires-clause-spans : goal.compact_bytes-requires-clause-spans
+compact_bytes-requires-clause-spans g c =
     let m = c.args.self.now.roll in
     subst (λ (v : ℕ). AreSpans v (places_in m.places) m.end) (sym c.head_size.ensures) (spans_of (head_size g.L.Width.WORD) m.end (places_in m.places) m.spans)
 
-pub returns-in_err-close_bytes-clause-follows : goal.returns-in_err-close_bytes-clause-follows
-returns-in_err-close_bytes-clause-follows g c =
-    let h = c.close_bytes.ensures in
-    let head = subst (λ (v : ℕ). Rattle.cdb_store.specs.Images.KeepsPart 0 v (g.S.Store.image c.args.self.now.store) (g.S.Store.image c.close_bytes.new.store)) c.head_size.ensures h.head in
+pub returns-in_err-compact_bytes-clause-follows : goal.returns-in_err-compact_bytes-clause-follows
+returns-in_err-compact_bytes-clause-follows g c =
+    let h = c.compact_bytes.ensures in
+    let head = subst (λ (v : ℕ). Rattle.cdb_store.specs.Images.KeepsPart 0 v (g.S.Store.image c.args.self.now.store) (g.S.Store.image c.compact_bytes.new.store)) c.head_size.ensures h.head in
     record { comes = comes_part h.head; head = head; limit = refl; lazy = refl; room = h.room; failures = h.cause.later; unwritten = h.unwritten }
 
 pub returns-clause-follows : goal.returns-clause-follows
 returns-clause-follows g c =
-    let h = c.close_bytes.ensures in
-    let head = subst (λ (v : ℕ). Rattle.cdb_store.specs.Images.KeepsPart 0 v (g.S.Store.image c.args.self.now.store) (g.S.Store.image c.close_bytes.new.store)) c.head_size.ensures h.head in
+    let h = c.compact_bytes.ensures in
+    let head = subst (λ (v : ℕ). Rattle.cdb_store.specs.Images.KeepsPart 0 v (g.S.Store.image c.args.self.now.store) (g.S.Store.image c.compact_bytes.new.store)) c.head_size.ensures h.head in
     record { comes = comes_part h.head; head = head; limit = refl; lazy = refl; room = h.room; failures = h.cause.later; unwritten = h.unwritten }
 
-pub returns-clause-closes : goal.returns-clause-closes
-returns-clause-closes g c =
+pub returns-clause-compacts : goal.returns-clause-compacts
+returns-clause-compacts g c =
     let m = c.args.self.now.roll in
     let w : ℕ = g.L.Width.WORD in
     let old : List ℕ → Type 0 = g.S.Store.image c.args.self.now.store in
-    let new : List ℕ → Type 0 = g.S.Store.image c.close_bytes.new.store in
+    let new : List ℕ → Type 0 = g.S.Store.image c.compact_bytes.new.store in
     let ms : List Bool = gone_of m.marks.items in
-    let k = c.in_ok-close_bytes.ensures in
+    let k = c.in_ok-compact_bytes.ensures in
     let turns : Turns (head_size w) (places_in m.places) m.end ms old new =
     subst (λ (v : ℕ). Turns v (places_in m.places) m.end ms old new) c.head_size.ensures
     (subst (λ (v : List Mark). Turns c.head_size.result (places_in m.places) m.end (gone_of v) old new) c.deref.ensures.value k.turns) in
     record {
       whole = refl;
-      none = c.close.ensures.gone;
+      none = c.compact.ensures.gone;
       goes = record {
         each = λ b is.
             let h = turns.each b is in (
@@ -52,7 +52,7 @@ returns-clause-closes g c =
                   let of : AreOf c.head_size.result (places_in m.places) m.end ns = subst (λ (v : ℕ). AreOf v (places_in m.places) m.end ns) (sym c.head_size.ensures) sees.of in
                   let written = k.written ns of ∙ ap (λ (v : List Mark). g.S.Store.written c.args.self.now.store + sum (behind (gone_of v) ns)) c.deref.ensures.value in (
                     left ms all,
-                    sees_closed m c.close.new.self all h.0 b c.close.ensures.hashes c.close.ensures.tagged c.close.ensures.searched c.close.ensures.of h.3 sees,
+                    sees_compacted m c.compact.new.self all h.0 b c.compact.ensures.hashes c.compact.ensures.tagged c.compact.ensures.searched c.compact.ensures.of h.3 sees,
                     (refl, omega (arith, written)),
                   ),
             );
@@ -63,7 +63,7 @@ returns-clause-closes g c =
 pub invariant_of-self-2-clause-within : goal.invariant_of-self-2-clause-within
 invariant_of-self-2-clause-within g c =
     let m = c.args.self.now in
-    omega (arith, c.close.ensures.end, c.close.ensures.count, m.within, fewer_slots g.L.Width.WORD (length c.close.new.self.hashes.items) (length m.roll.hashes.items) g.met.L.Width.four_or_eight (omega (arith, c.close.ensures.count)))
+    omega (arith, c.compact.ensures.end, c.compact.ensures.count, m.within, fewer_slots g.L.Width.WORD (length c.compact.new.self.hashes.items) (length m.roll.hashes.items) g.met.L.Width.four_or_eight (omega (arith, c.compact.ensures.count)))
 
 pub returns-clause-room : goal.returns-clause-room
 returns-clause-room g c = grind (arith, common_steps)

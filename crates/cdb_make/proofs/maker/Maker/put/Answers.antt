@@ -18,4 +18,4 @@ returns-then-only_adds-clause-puts g c =
     let r : KeyValue = record { key = c.args.key.now; value = c.args.value.now } in
     let f = c.if-only_adds.ensures in
     let ok = c.in_ok-add_alone.ensures in
-    puts_by i i c.add_alone.new.self c.hash-hash.result c.args.mode r Added refl (meets_alone i c.hash-hash.result c.args.mode r (f.add refl) (f.whole refl) (f.none refl)) ok.settles ok.alone (λ has. has)
+    puts_by i i c.add_alone.new.self c.hash-hash.result c.args.mode r Added refl (meets_alone i c.hash-hash.result c.args.mode r (f.add refl) (f.whole refl) (f.none refl)) ok.admits ok.alone (λ has. has)

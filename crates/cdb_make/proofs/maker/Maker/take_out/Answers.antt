@@ -43,11 +43,11 @@ returns-clause-takes g c =
     let ms : List Bool = or_each (gone_in old) (found_in old) in
     let p = c.pass.ensures in
     Rattle.cdb_make.proofs.Rolls.on_ok_both c.pass.result
-    (λ closes last. record {
-      whole = closes.whole;
+    (λ compacts last. record {
+      whole = compacts.whole;
       goes = record {
         each = λ b is.
-            let q = closes.goes.each b is in (
+            let q = compacts.goes.each b is in (
               q.0,
               q.1,
               λ all sees.
@@ -62,7 +62,7 @@ returns-clause-takes g c =
                     mid.0,
                     mid.1,
                     (
-                      left_all_stay (gone_in c.pass.new.self) mid.0 many closes.none ∙ mid.2.0 ∙ ap (λ (v : List Bool). left v all) t.gone,
+                      left_all_stay (gone_in c.pass.new.self) mid.0 many compacts.none ∙ mid.2.0 ∙ ap (λ (v : List Bool). left v all) t.gone,
                       λ eager. omega (arith, mid.2.1, moved),
                       λ lazy. omega (arith, mid.2.1, last, t.size, t.same.end, c.waits.ensures.due c.if-waits.false lazy, behind_most (gone_of tm.marks.items) ns, sums, tm.picked.size ns now.of, now.of.ends, end_sum (head_size w) ns),
                       inr (omega (arith, mid.2.1, moved), c.waits.ensures.due c.if-waits.false),
@@ -71,7 +71,7 @@ returns-clause-takes g c =
             );
       };
     })
-    p.closes p.end
+    p.compacts p.end
 
 pub returns-clause-fails : goal.returns-clause-fails
 returns-clause-fails g c =

@@ -14,22 +14,22 @@ use Rattle.cdb_make.proofs.Spans.{rising_of, spans_of}
 use Rattle.cdb_make.proofs.Linking.{chained_same}
 use Rattle.cdb_make.proofs.Picking.{picks_none, left_front, stays_at, none_gone, none_found, left_number, end_left}
 use Rattle.std.proofs.lemmas.Grind.{common_steps}
-use Rattle.cdb_make.proofs.roll.Roll.close.Goals as goal
+use Rattle.cdb_make.proofs.roll.Roll.compact.Goals as goal
 
-pub close_entries-kept-requires-clause-spans : goal.close_entries-kept-requires-clause-spans
-close_entries-kept-requires-clause-spans g c =
+pub compact_entries-kept-requires-clause-spans : goal.compact_entries-kept-requires-clause-spans
+compact_entries-kept-requires-clause-spans g c =
     let m = c.put_back.new.self in
     subst (λ (v : ℕ). AreSpans v (places_in m.places) m.end) (sym c.head_size-start.ensures) (spans_of (head_size g.L.Width.WORD) m.end (places_in m.places) m.spans)
 
-pub close_marks-requires-clause-stayed : goal.close_marks-requires-clause-stayed
-close_marks-requires-clause-stayed g c = λ k lt. stays_at c.put_back.new.self.marks.items c.first_gone-first.result k c.first_gone-first.ensures c.put_back.ensures.found lt
+pub compact_marks-requires-clause-stayed : goal.compact_marks-requires-clause-stayed
+compact_marks-requires-clause-stayed g c = λ k lt. stays_at c.put_back.new.self.marks.items c.first_gone-first.result k c.first_gone-first.ensures c.put_back.ensures.found lt
 
 pub returns-clause-of : goal.returns-clause-of
 returns-clause-of g c = λ sizes of.
     let w : ℕ = g.L.Width.WORD in
     let m = c.put_back.new.self in
     let same = c.put_back.ensures.same in
-    let kept = c.close_entries-kept in
+    let kept = c.compact_entries-kept in
     let moved : AreOf (head_size w) (places_in m.places) m.end sizes = record { are = same.places ∙ of.are; ends = same.end ∙ of.ends } in
     let at : AreOf c.head_size-start.result (places_in m.places) m.end sizes = subst (λ (v : ℕ). AreOf v (places_in m.places) m.end sizes) (sym c.head_size-start.ensures) moved in
     let marks : left (gone_of c.deref-5.result.now) sizes ≡ left (gone_of c.args.self.now.marks.items) sizes =
@@ -39,21 +39,21 @@ returns-clause-of g c = λ sizes of.
     (subst (λ (v : ℕ). AreOf v (take kept.result.count (places_in kept.new.places)) kept.result.end (left (gone_of c.deref-5.result.now) sizes)) c.head_size-start.ensures (kept.ensures.of sizes at)))
 
 pub returns-clause-gone : goal.returns-clause-gone
-returns-clause-gone g c = none_gone c.close_marks.new.marks.items c.close_entries-kept.result.count c.close_marks.ensures.long c.close_marks.ensures.stay
+returns-clause-gone g c = none_gone c.compact_marks.new.marks.items c.compact_entries-kept.result.count c.compact_marks.ensures.long c.compact_marks.ensures.stay
 
 pub returns-clause-found : goal.returns-clause-found
-returns-clause-found g c = none_found c.close_marks.new.marks.items c.close_entries-kept.result.count c.close_marks.ensures.long c.close_marks.ensures.stay
+returns-clause-found g c = none_found c.compact_marks.new.marks.items c.compact_entries-kept.result.count c.compact_marks.ensures.long c.compact_marks.ensures.stay
 
 pub invariant_of-self-clause-picked : goal.invariant_of-self-clause-picked
 invariant_of-self-clause-picked g c =
-    let ms : List Mark = c.close_marks.new.marks.items in
-    let n : ℕ = c.close_entries-kept.result.count in
-    picks_none _ _ _ (gone_of ms) _ (none_gone ms n c.close_marks.ensures.long c.close_marks.ensures.stay) c.none-self.ensures.first c.none-self.ensures.count c.none-self.ensures.size
+    let ms : List Mark = c.compact_marks.new.marks.items in
+    let n : ℕ = c.compact_entries-kept.result.count in
+    picks_none _ _ _ (gone_of ms) _ (none_gone ms n c.compact_marks.ensures.long c.compact_marks.ensures.stay) c.none-self.ensures.first c.none-self.ensures.count c.none-self.ensures.size
 
 pub invariant_of-self-clause-spans : goal.invariant_of-self-clause-spans
 invariant_of-self-clause-spans g c =
     let m = c.put_back.new.self in
-    let kept = c.close_entries-kept in
+    let kept = c.compact_entries-kept in
     let spans = spans_of (head_size g.L.Width.WORD) m.end (places_in m.places) m.spans in
     let of : AreOf c.head_size-start.result (places_in m.places) m.end spans.sizes = subst (λ (v : ℕ). AreOf v (places_in m.places) m.end spans.sizes) (sym c.head_size-start.ensures) spans.of in
     subst (λ (v : List ℕ). AreRising (head_size g.L.Width.WORD) v kept.result.end) (sym c.truncate-2.ensures.places)
@@ -62,71 +62,71 @@ invariant_of-self-clause-spans g c =
 pub returns-clause-searched : goal.returns-clause-searched
 returns-clause-searched g c =
     let m = c.put_back.new.self in
-    let kept = c.close_entries-kept in
+    let kept = c.compact_entries-kept in
     let ms : List Bool = gone_of m.marks.items in
     let long : length kept.new.hashes ≡ m.hashes.len = omega (arith, kept.ensures.long, ap length c.deref_mut.ensures.value, m.hashes.ok.0) in
     let hashes : c.truncate.new.self.items ≡ left ms m.hashes.items =
     c.truncate.ensures.items ∙ ap (take kept.result.count) (take_at kept.new.hashes _ m.hashes.len long) ∙ kept.ensures.hashes
     ∙ ap (λ (v : List Mark). left (gone_of v) c.deref_mut.result.now) c.deref-5.ensures.value ∙ ap (left ms) c.deref_mut.ensures.value in
-    let tags : searched_by m.tagged c.close_tags.new.tags.items (left ms m.hashes.items) ≡ left ms (searched m) =
-    subst (λ (v : List Mark). searched_by m.tagged c.close_tags.new.tags.items (left (gone_of v) m.hashes.items) ≡ left (gone_of v) (searched m)) c.deref-4.ensures.value (c.close_tags.ensures.left m.hashes.items) in
-    ap (searched_by m.tagged c.close_tags.new.tags.items) hashes ∙ tags ∙ ap (λ (v : List Bool). left v (searched m)) c.put_back.ensures.gone ∙ ap (left (gone_of c.args.self.now.marks.items)) c.put_back.ensures.same.searched
+    let tags : searched_by m.tagged c.compact_tags.new.tags.items (left ms m.hashes.items) ≡ left ms (searched m) =
+    subst (λ (v : List Mark). searched_by m.tagged c.compact_tags.new.tags.items (left (gone_of v) m.hashes.items) ≡ left (gone_of v) (searched m)) c.deref-4.ensures.value (c.compact_tags.ensures.left m.hashes.items) in
+    ap (searched_by m.tagged c.compact_tags.new.tags.items) hashes ∙ tags ∙ ap (λ (v : List Bool). left v (searched m)) c.put_back.ensures.gone ∙ ap (left (gone_of c.args.self.now.marks.items)) c.put_back.ensures.same.searched
 
 pub invariant_of-self-clause-numbered : goal.invariant_of-self-clause-numbered
 invariant_of-self-clause-numbered g c =
     let m = c.put_back.new.self in
-    let kept = c.close_entries-kept in
+    let kept = c.compact_entries-kept in
     let ms : List Bool = gone_of m.marks.items in
     let long : length kept.new.hashes ≡ m.hashes.len = omega (arith, kept.ensures.long, ap length c.deref_mut.ensures.value, m.hashes.ok.0) in
     let hashes : c.truncate.new.self.items ≡ left ms m.hashes.items =
     c.truncate.ensures.items ∙ ap (take kept.result.count) (take_at kept.new.hashes _ m.hashes.len long) ∙ kept.ensures.hashes
     ∙ ap (λ (v : List Mark). left (gone_of v) c.deref_mut.result.now) c.deref-5.ensures.value ∙ ap (left ms) c.deref_mut.ensures.value in
-    let tags : searched_by m.tagged c.close_tags.new.tags.items (left ms m.hashes.items) ≡ left ms (searched m) =
-    subst (λ (v : List Mark). searched_by m.tagged c.close_tags.new.tags.items (left (gone_of v) m.hashes.items) ≡ left (gone_of v) (searched m)) c.deref-4.ensures.value (c.close_tags.ensures.left m.hashes.items) in
+    let tags : searched_by m.tagged c.compact_tags.new.tags.items (left ms m.hashes.items) ≡ left ms (searched m) =
+    subst (λ (v : List Mark). searched_by m.tagged c.compact_tags.new.tags.items (left (gone_of v) m.hashes.items) ≡ left (gone_of v) (searched m)) c.deref-4.ensures.value (c.compact_tags.ensures.left m.hashes.items) in
     let many : length ms ≡ length m.hashes.items = length-map m.marks.items is_gone ∙ m.marked in
-    let all = ap (searched_by m.tagged c.close_tags.new.tags.items) hashes ∙ tags in
+    let all = ap (searched_by m.tagged c.compact_tags.new.tags.items) hashes ∙ tags in
     omega (arith, ap length all, left_number ms (searched m) (many ∙ sym m.numbered), left_number ms m.hashes.items many, m.numbered, ap length hashes)
 
 pub invariant_of-self-clause-chained : goal.invariant_of-self-clause-chained
 invariant_of-self-clause-chained g c =
     let m = c.put_back.new.self in
     let s = c.cut.new.self in
-    let kept = c.close_entries-kept in
+    let kept = c.compact_entries-kept in
     let ms : List Bool = gone_of m.marks.items in
     let long : length kept.new.hashes ≡ m.hashes.len = omega (arith, kept.ensures.long, ap length c.deref_mut.ensures.value, m.hashes.ok.0) in
     let hashes : c.truncate.new.self.items ≡ left ms m.hashes.items =
     c.truncate.ensures.items ∙ ap (take kept.result.count) (take_at kept.new.hashes _ m.hashes.len long) ∙ kept.ensures.hashes
     ∙ ap (λ (v : List Mark). left (gone_of v) c.deref_mut.result.now) c.deref-5.ensures.value ∙ ap (left ms) c.deref_mut.ensures.value in
-    let tags : searched_by m.tagged c.close_tags.new.tags.items (left ms m.hashes.items) ≡ left ms (searched m) =
-    subst (λ (v : List Mark). searched_by m.tagged c.close_tags.new.tags.items (left (gone_of v) m.hashes.items) ≡ left (gone_of v) (searched m)) c.deref-4.ensures.value (c.close_tags.ensures.left m.hashes.items) in
-    let news : List ℕ = searched_by m.tagged c.close_tags.new.tags.items c.truncate.new.self.items in
-    let all : news ≡ left ms (searched m) = ap (searched_by m.tagged c.close_tags.new.tags.items) hashes ∙ tags in
+    let tags : searched_by m.tagged c.compact_tags.new.tags.items (left ms m.hashes.items) ≡ left ms (searched m) =
+    subst (λ (v : List Mark). searched_by m.tagged c.compact_tags.new.tags.items (left (gone_of v) m.hashes.items) ≡ left (gone_of v) (searched m)) c.deref-4.ensures.value (c.compact_tags.ensures.left m.hashes.items) in
+    let news : List ℕ = searched_by m.tagged c.compact_tags.new.tags.items c.truncate.new.self.items in
+    let all : news ≡ left ms (searched m) = ap (searched_by m.tagged c.compact_tags.new.tags.items) hashes ∙ tags in
     let first : ℕ = c.first_gone-first.result in
     let many : length ms ≡ length m.hashes.items = length-map m.marks.items is_gone ∙ m.marked in
     let same : length ms ≡ length (searched m) = many ∙ sym m.numbered in
     let numbers : c.searched-searched.result.now ≡ searched m = c.searched-searched.ensures ∙ ap (λ (v : List ℕ). searched_by m.tagged v c.deref-2.result.now) c.deref.ensures.value ∙ ap (searched_by m.tagged m.tags.items) c.deref-2.ensures.value in
     let chained : AreChained s.heads.items s.before.items (searched m) ms =
     subst (λ (v : List Mark). AreChained s.heads.items s.before.items (searched m) (gone_of v)) c.deref-3.ensures.value (subst (λ (v : List ℕ). AreChained s.heads.items s.before.items v (gone_of c.deref-3.result.now)) numbers c.cut.ensures.chained) in
-    let none = none_gone c.close_marks.new.marks.items kept.result.count c.close_marks.ensures.long c.close_marks.ensures.stay in
-    chained_same s.heads.items s.before.items (searched m) news ms (gone_of c.close_marks.new.marks.items)
+    let none = none_gone c.compact_marks.new.marks.items kept.result.count c.compact_marks.ensures.long c.compact_marks.ensures.stay in
+    chained_same s.heads.items s.before.items (searched m) news ms (gone_of c.compact_marks.new.marks.items)
     (omega (arith, ap length all, left_number ms (searched m) same, left_number ms m.hashes.items many, m.numbered, ap length hashes, c.truncate.ensures.len, c.truncate.new.self.ok.0, kept.ensures.past, kept.ensures.within, c.cut.ensures.left, m.paired, m.hashes.ok.0, long))
     (λ k lt. ap (λ (v : List ℕ). slice_index v k) all ∙ left_front ms (searched m) first k 0 c.first_gone-first.ensures.before (omega (arith, lt, c.cut.ensures.left)) same)
     (λ k lt.
     let low : k < first = omega (arith, lt, c.cut.ensures.left) in
-    get_or_default (gone_of c.close_marks.new.marks.items) k true false (omega (arith, low, kept.ensures.past, length-map c.close_marks.new.marks.items is_gone, c.close_marks.ensures.long)) ∙ none k ∙ sym (c.first_gone-first.ensures.before k low))
+    get_or_default (gone_of c.compact_marks.new.marks.items) k true false (omega (arith, low, kept.ensures.past, length-map c.compact_marks.new.marks.items is_gone, c.compact_marks.ensures.long)) ∙ none k ∙ sym (c.first_gone-first.ensures.before k low))
     chained
 
 pub invariant_of-self-clause-sought : goal.invariant_of-self-clause-sought
 invariant_of-self-clause-sought g c =
-    let ms : List Mark = c.close_marks.new.marks.items in
-    let n : ℕ = c.close_entries-kept.result.count in
-    picks_none _ _ _ (found_of ms) _ (none_found ms n c.close_marks.ensures.long c.close_marks.ensures.stay) c.none-self-2.ensures.first c.none-self-2.ensures.count c.none-self-2.ensures.size
+    let ms : List Mark = c.compact_marks.new.marks.items in
+    let n : ℕ = c.compact_entries-kept.result.count in
+    picks_none _ _ _ (found_of ms) _ (none_found ms n c.compact_marks.ensures.long c.compact_marks.ensures.stay) c.none-self-2.ensures.first c.none-self-2.ensures.count c.none-self-2.ensures.size
 
 pub returns-clause-end : goal.returns-clause-end
 returns-clause-end g c =
     let m = c.put_back.new.self in
     let ms : List Bool = gone_of m.marks.items in
-    let kept = c.close_entries-kept in
+    let kept = c.compact_entries-kept in
     let spans = spans_of (head_size g.L.Width.WORD) m.end (places_in m.places) m.spans in
     let of : AreOf c.head_size-start.result (places_in m.places) m.end spans.sizes = subst (λ (v : ℕ). AreOf v (places_in m.places) m.end spans.sizes) (sym c.head_size-start.ensures) spans.of in
     let after : AreOf (head_size g.L.Width.WORD) (take kept.result.count (places_in kept.new.places)) kept.result.end (left ms spans.sizes) =
@@ -143,7 +143,7 @@ kept_count ms hs news count gone long within is many =
 pub returns-clause-count : goal.returns-clause-count
 returns-clause-count g c =
     let m = c.put_back.new.self in
-    let kept = c.close_entries-kept in
+    let kept = c.compact_entries-kept in
     let n : ℕ = kept.result.count in
     let long : length kept.new.hashes ≡ length m.hashes.items = omega (arith, kept.ensures.long, ap length c.deref_mut.ensures.value) in
     let is : take n kept.new.hashes ≡ left (gone_of m.marks.items) m.hashes.items =
@@ -154,7 +154,7 @@ returns-clause-count g c =
 pub returns-clause-room : goal.returns-clause-room
 returns-clause-room g c = λ some.
     let m = c.put_back.new.self in
-    let kept = c.close_entries-kept in
+    let kept = c.compact_entries-kept in
     let n : ℕ = kept.result.count in
     let long : length kept.new.hashes ≡ length m.hashes.items = omega (arith, kept.ensures.long, ap length c.deref_mut.ensures.value) in
     let is : take n kept.new.hashes ≡ left (gone_of m.marks.items) m.hashes.items =
@@ -165,24 +165,24 @@ returns-clause-room g c = λ some.
     record {
       tags = λ tagged.
           let ms : List Bool = gone_of m.marks.items in
-          let tags : searched_by m.tagged c.close_tags.new.tags.items (left ms m.hashes.items) ≡ left ms (searched m) =
-          subst (λ (v : List Mark). searched_by m.tagged c.close_tags.new.tags.items (left (gone_of v) m.hashes.items) ≡ left (gone_of v) (searched m)) c.deref-4.ensures.value (c.close_tags.ensures.left m.hashes.items) in
-          let now : length c.close_tags.new.tags.items ≡ length (left ms (searched m)) = ap length (ap (λ (v : Bool). searched_by v c.close_tags.new.tags.items (left ms m.hashes.items)) (sym tagged) ∙ tags) in
+          let tags : searched_by m.tagged c.compact_tags.new.tags.items (left ms m.hashes.items) ≡ left ms (searched m) =
+          subst (λ (v : List Mark). searched_by m.tagged c.compact_tags.new.tags.items (left (gone_of v) m.hashes.items) ≡ left (gone_of v) (searched m)) c.deref-4.ensures.value (c.compact_tags.ensures.left m.hashes.items) in
+          let now : length c.compact_tags.new.tags.items ≡ length (left ms (searched m)) = ap length (ap (λ (v : Bool). searched_by v c.compact_tags.new.tags.items (left ms m.hashes.items)) (sym tagged) ∙ tags) in
           let was : length m.tags.items ≡ length (searched m) = ap (λ (v : Bool). length (searched_by v m.tags.items m.hashes.items)) (sym tagged) in
-          omega (arith, now, was, left_number ms (searched m) (length-map m.marks.items is_gone ∙ m.marked ∙ sym m.numbered), m.picked.count, some, ap (λ (p : Picked). p.count) c.put_back.ensures.picked, m.tag_room, c.close_tags.ensures.room);
+          omega (arith, now, was, left_number ms (searched m) (length-map m.marks.items is_gone ∙ m.marked ∙ sym m.numbered), m.picked.count, some, ap (λ (p : Picked). p.count) c.put_back.ensures.picked, m.tag_room, c.compact_tags.ensures.room);
       hashes = omega (arith, fewer, long, c.truncate.ensures.len, c.truncate.new.self.ok.0, m.hashes.ok.0, c.truncate.ensures.capacity, m.hash_room);
       places = omega (arith, fewer, places, c.truncate-2.ensures.room, kept.ensures.room, m.place_room, m.paired);
-      marks = omega (arith, fewer, c.close_marks.ensures.long, c.close_marks.ensures.room, m.room, m.marked);
+      marks = omega (arith, fewer, c.compact_marks.ensures.long, c.compact_marks.ensures.room, m.room, m.marked);
     }
 
 pub returns-clause-tagged : goal.returns-clause-tagged
 returns-clause-tagged g c = grind (arith, common_steps)
 
-pub close_entries-kept-requires-clause-long : goal.close_entries-kept-requires-clause-long
-close_entries-kept-requires-clause-long g c = grind (arith, common_steps)
+pub compact_entries-kept-requires-clause-long : goal.compact_entries-kept-requires-clause-long
+compact_entries-kept-requires-clause-long g c = grind (arith, common_steps)
 
-pub close_entries-kept-requires-clause-paired : goal.close_entries-kept-requires-clause-paired
-close_entries-kept-requires-clause-paired g c = grind (arith, common_steps)
+pub compact_entries-kept-requires-clause-paired : goal.compact_entries-kept-requires-clause-paired
+compact_entries-kept-requires-clause-paired g c = grind (arith, common_steps)
 
 pub returns-clause-clear_size : goal.returns-clause-clear_size
 returns-clause-clear_size g c = grind (arith, common_steps)
@@ -199,8 +199,8 @@ invariant_of-self-clause-paired g c = grind (arith, common_steps)
 pub returns-clause-clear : goal.returns-clause-clear
 returns-clause-clear g c = grind (arith, common_steps)
 
-pub close_tags-requires-clause-long : goal.close_tags-requires-clause-long
-close_tags-requires-clause-long g c = grind (arith, common_steps)
+pub compact_tags-requires-clause-long : goal.compact_tags-requires-clause-long
+compact_tags-requires-clause-long g c = grind (arith, common_steps)
 
 pub invariant_of-self-clause-marked : goal.invariant_of-self-clause-marked
 invariant_of-self-clause-marked g c = grind (arith, common_steps)

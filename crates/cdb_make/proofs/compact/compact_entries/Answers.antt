@@ -5,7 +5,7 @@ use Rattle.cdb_make.specs.Views.Places.{places_in}
 use Rattle.cdb_make.specs.Spans.{left, places_from, end_from}
 use Rattle.cdb_make.proofs.Spans.{place_next, place_size, long_as, left_live, left_gone, left_all, left_none, place_is, places_take, places_more, end_more}
 use Rattle.std.proofs.lemmas.Grind.{common_steps}
-use Rattle.cdb_make.proofs.close.close_entries.Goals as goal
+use Rattle.cdb_make.proofs.compact.compact_entries.Goals as goal
 
 pub loop-n-init : goal.loop-n-init
 loop-n-init g c =

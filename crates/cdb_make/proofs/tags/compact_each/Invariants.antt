@@ -1,7 +1,7 @@
 use Rattle.std.proofs.Common.{◌≡◌, ℕ, ◌≤◌, get_or, take, length}
 use Rattle.cdb_make.specs.Marks.{gone_of}
 use Rattle.cdb_make.specs.Spans.{left}
-use Rattle.cdb_make.proofs.tags.close_each.Given as goal
+use Rattle.cdb_make.proofs.tags.compact_each.Given as goal
 
 abbrev pub invariant-loop-n : goal.invariant-loop-n
 invariant-loop-n l = record {

@@ -2,7 +2,7 @@ use Rattle.std.proofs.Common.{◌≡◌, ℕ, ◌≤◌, List, get_or, take, len
 use Rattle.cdb_make.specs.Marks.{gone_of}
 use Rattle.cdb_make.specs.Views.Places.{places_in, places_room}
 use Rattle.cdb_make.specs.Spans.{left, AreOf}
-use Rattle.cdb_make.proofs.close.close_entries.Given as goal
+use Rattle.cdb_make.proofs.compact.compact_entries.Given as goal
 
 abbrev pub invariant-loop-n : goal.invariant-loop-n
 invariant-loop-n g l = record {

@@ -3,7 +3,7 @@ use Rattle.std.proofs.lemmas.List.{get_or_default, length-map, get_or-set_other,
 use Rattle.cdb_make.specs.Marks.{is_gone, gone_of}
 use Rattle.cdb_make.specs.Spans.{left}
 use Rattle.cdb_make.proofs.Spans.{left_live, left_gone, left_none}
-use Rattle.cdb_make.proofs.tags.close_each.Goals as goal
+use Rattle.cdb_make.proofs.tags.compact_each.Goals as goal
 
 pub loop-n-init : goal.loop-n-init
 loop-n-init c =

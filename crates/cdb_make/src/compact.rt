@@ -25,7 +25,7 @@ pub(crate) fn place_at<L: Width>(places: &Places<L>, n: usize, end: u64) -> u64
 ///
 /// `first` is the number of the first record that goes, or of all. It takes no memory. `Device`: the
 /// bytes before the records stay.
-pub(crate) fn close_bytes<S: Store, L: Width>(
+pub(crate) fn compact_bytes<S: Store, L: Width>(
     store: &mut S,
     start: u64,
     places: &Places<L>,
@@ -76,7 +76,7 @@ pub(crate) struct Left {
 
 /// Leaves before all others the hash and the place of each record that stays. `first` is the number
 /// of the first that goes, or of all.
-pub(crate) fn close_entries<L: Width>(
+pub(crate) fn compact_entries<L: Width>(
     start: u64,
     hashes: &mut [u32],
     places: &mut Places<L>,

@@ -6,9 +6,9 @@ use Rattle.cdb_make.specs.Marks.{is_gone}
 use Rattle.cdb_make.specs.Views.Maker.{gone_in}
 use Rattle.cdb_make.proofs.Looking.{sees_long}
 use Rattle.cdb_make.proofs.Picking.{left_all_stay, both_few, both_within}
-use Rattle.cdb_make.proofs.Rolls.{follows_then, follows_room, closing_fails, fewer_slots}
+use Rattle.cdb_make.proofs.Rolls.{follows_then, follows_room, compacting_fails, fewer_slots}
 use Rattle.std.proofs.lemmas.Grind.{common_steps}
-use Rattle.cdb_make.proofs.maker.Maker.close_and_add.Goals as goal
+use Rattle.cdb_make.proofs.maker.Maker.compact_and_add.Goals as goal
 
 -- the record is within the limit by itself
 pub overflow_add-size-2 : goal.overflow_add-size-2
@@ -41,10 +41,10 @@ pub returns-in-Err-clause-fails : goal.returns-in-Err-clause-fails
 returns-in-Err-clause-fails g c =
     let r : KeyValue = record { key = c.args.key.now; value = c.args.value.now } in
     let h = c.is_lost-self.ensures in
-    closing_fails c.args.self.now _ c.exchange.new.self _ r c.in-Err.fault refl c.reserve.ensures.images.no_other refl refl c.in_ok-reserve.ensures.ok_failures c.reserve.ensures.unwritten h.torn h.found h.none c.in-Err.ensures.fails
+    compacting_fails c.args.self.now _ c.exchange.new.self _ r c.in-Err.fault refl c.reserve.ensures.images.no_other refl refl c.in_ok-reserve.ensures.ok_failures c.reserve.ensures.unwritten h.torn h.found h.none c.in-Err.ensures.fails
 
-pub returns-in-Ok-clause-settles : goal.returns-in-Ok-clause-settles
-returns-in-Ok-clause-settles g c =
+pub returns-in-Ok-clause-admits : goal.returns-in-Ok-clause-admits
+returns-in-Ok-clause-admits g c =
     let old = c.args.self.now in
     let k = c.exchange.new.self in
     let x = c.in-Ok.ensures.exchanges in

@@ -11,7 +11,7 @@ use Rattle.cdb_make.specs.Spans.{behind}
 use Rattle.cdb_make.specs.Views.Places.{places_in}
 use Rattle.cdb_make.proofs.Spans.{place_low, place_high, place_next, place_size, long_as, behind_none, behind_live, behind_gone, behind_all, amid_begun, amid_live, amid_more, amid_ended, kept_then}
 use Rattle.std.proofs.lemmas.Grind.{common_steps}
-use Rattle.cdb_make.proofs.close.close_bytes.Goals as goal
+use Rattle.cdb_make.proofs.compact.compact_bytes.Goals as goal
 
 pub loop-n-init : goal.loop-n-init
 loop-n-init g c =

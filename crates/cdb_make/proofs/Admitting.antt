@@ -14,7 +14,7 @@ use Rattle.cdb_make.specs.declared.roll.Roll.{Roll}
 use Rattle.cdb_make.specs.Marks.{is_gone, is_found, gone_of, found_of, AreNone, HaveHash}
 use Rattle.cdb_make.specs.Spans.{left, behind, or_each}
 use Rattle.cdb_make.specs.Views.Roll.{SameRecords}
-use Rattle.cdb_make.specs.Views.Maker.{gone_in, found_in, Stays, Adds, Waits, Settles, FailsClosing, FailsSettling, IsWithin}
+use Rattle.cdb_make.specs.Views.Maker.{gone_in, found_in, Stays, Adds, Waits, Admits, FailsCompacting, FailsAdmitting, IsWithin}
 use Rattle.cdb_make.proofs.Looking.{sees_same, sees_long, same_self, same_then}
 use Rattle.cdb_make.proofs.Spans.{left-append, or_append}
 use Rattle.cdb_make.proofs.Survive.{or_none, number_zero}
@@ -63,8 +63,8 @@ length-or (m ∷ ms) [] e = refl
 length-or (m ∷ ms) (n ∷ ns) e = ap suc (length-or ms ns (omega arith))
 
 -- one was added, and those that were found go with a later pass
-pub settles_later : {S L : Type 0} {s : Ghosts S} {l : Widths L} (i j k : Maker S L s l) (hash : ℕ) (r : KeyValue) → (i.lazy ≡ true) ⊎ (i.roll.gone.count + i.roll.found.count ≡ 0) → i.broken ≡ false → Adds i j hash r → k.store ≡ j.store → k.broken ≡ j.broken → SameRecords j.roll k.roll → gone_in k ≡ or_each (gone_in j) (found_in j) → Settles i k r
-settles_later {s = s} {l = l} i j k hash r first whole a store broken same gone = record {
+pub admits_later : {S L : Type 0} {s : Ghosts S} {l : Widths L} (i j k : Maker S L s l) (hash : ℕ) (r : KeyValue) → (i.lazy ≡ true) ⊎ (i.roll.gone.count + i.roll.found.count ≡ 0) → i.broken ≡ false → Adds i j hash r → k.store ≡ j.store → k.broken ≡ j.broken → SameRecords j.roll k.roll → gone_in k ≡ or_each (gone_in j) (found_in j) → Admits i k r
+admits_later {s = s} {l = l} i j k hash r first whole a store broken same gone = record {
   whole = broken ∙ a.broken ∙ whole;
   goes = record {
     each = λ b is.
@@ -94,14 +94,14 @@ settles_later {s = s} {l = l} i j k hash r first whole a store broken same gone 
 }
 
 -- no other goes
-pub settles_alone : {S L : Type 0} {s : Ghosts S} {l : Widths L} (i j : Maker S L s l) (hash : ℕ) (r : KeyValue) → i.roll.gone.count + i.roll.found.count ≡ 0 → i.broken ≡ false → Adds i j hash r → Settles i j r
-settles_alone i j hash r none whole a =
+pub admits_alone : {S L : Type 0} {s : Ghosts S} {l : Widths L} (i j : Maker S L s l) (hash : ℕ) (r : KeyValue) → i.roll.gone.count + i.roll.found.count ≡ 0 → i.broken ≡ false → Adds i j hash r → Admits i j r
+admits_alone i j hash r none whole a =
     let found : AreNone (found_in i) = number_zero (found_in i) (omega (arith, i.roll.sought.count, none)) in
-    settles_later i j j hash r (inr none) whole a refl refl (same_self j.roll) (sym (or_none (gone_in j) (found_in j) (same_marks j.roll) (none_more (found_in i) (found_in j) a.found found)))
+    admits_later i j j hash r (inr none) whole a refl refl (same_self j.roll) (sym (or_none (gone_in j) (found_in j) (same_marks j.roll) (none_more (found_in i) (found_in j) a.found found)))
 
 -- nothing was done first
-pub settles_after : {S L : Type 0} {s : Ghosts S} {l : Widths L} (i j k : Maker S L s l) (r : KeyValue) → Waits i j r → j.lazy ≡ i.lazy → Settles j k r → Settles i k r
-settles_after {s = s} {l = l} i j k r w lazy t = record {
+pub admits_after : {S L : Type 0} {s : Ghosts S} {l : Widths L} (i j k : Maker S L s l) (r : KeyValue) → Waits i j r → j.lazy ≡ i.lazy → Admits j k r → Admits i k r
+admits_after {s = s} {l = l} i j k r w lazy t = record {
   whole = t.whole;
   goes = record {
     each = λ b is.
@@ -147,7 +147,7 @@ stays_then i j k f h = record {
   goes = goes_then i j k (λ all mid rest p q. q ∙ p) f.goes h.goes;
 }
 
-pub fails_after : {S L : Type 0} {s : Ghosts S} {l : Widths L} (i j k : Maker S L s l) (r : KeyValue) (fault : MakeFault) → Waits i j r → s.room i.store ≤ s.room j.store → s.unwritten i.store ≤ s.unwritten j.store → IsWithin i r → 0 < j.roll.gone.count + j.roll.found.count → FailsClosing j k r fault → FailsSettling i k r fault
+pub fails_after : {S L : Type 0} {s : Ghosts S} {l : Widths L} (i j k : Maker S L s l) (r : KeyValue) (fault : MakeFault) → Waits i j r → s.room i.store ≤ s.room j.store → s.unwritten i.store ≤ s.unwritten j.store → IsWithin i r → 0 < j.roll.gone.count + j.roll.found.count → FailsCompacting j k r fault → FailsAdmitting i k r fault
 fails_after i j k r Broken w room unwritten fits some h = h
 fails_after i j k r Lookup w room unwritten fits some h = h
 fails_after i j k r TooBig w room unwritten fits some h = absurd h

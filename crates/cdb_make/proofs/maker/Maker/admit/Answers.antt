@@ -1,9 +1,9 @@
 use Rattle.std.proofs.Common.{arith}
 use Rattle.std.proofs.lemmas.Grind.{common_steps}
-use Rattle.cdb_make.proofs.maker.Maker.settle.Goals as goal
+use Rattle.cdb_make.proofs.maker.Maker.admit.Goals as goal
 
-pub close_and_add-requires-clause-tag : goal.close_and_add-requires-clause-tag
-close_and_add-requires-clause-tag g c = grind (arith, common_steps)
+pub compact_and_add-requires-clause-tag : goal.compact_and_add-requires-clause-tag
+compact_and_add-requires-clause-tag g c = grind (arith, common_steps)
 
 pub add_alone-requires-clause-none : goal.add_alone-requires-clause-none
 add_alone-requires-clause-none g c = grind (arith, common_steps)
@@ -17,17 +17,17 @@ add_then_take-requires-clause-tag g c = grind (arith, common_steps)
 pub add_then_take-requires-clause-fits : goal.add_then_take-requires-clause-fits
 add_then_take-requires-clause-fits g c = grind (arith, common_steps)
 
-pub close_and_add-requires-clause-some : goal.close_and_add-requires-clause-some
-close_and_add-requires-clause-some g c = grind (arith, common_steps)
+pub compact_and_add-requires-clause-some : goal.compact_and_add-requires-clause-some
+compact_and_add-requires-clause-some g c = grind (arith, common_steps)
 
 pub add_then_take-requires-clause-some : goal.add_then_take-requires-clause-some
 add_then_take-requires-clause-some g c = grind (arith, common_steps)
 
-pub close_and_add-requires-clause-fits : goal.close_and_add-requires-clause-fits
-close_and_add-requires-clause-fits g c = grind (arith, common_steps)
+pub compact_and_add-requires-clause-fits : goal.compact_and_add-requires-clause-fits
+compact_and_add-requires-clause-fits g c = grind (arith, common_steps)
 
-pub close_and_add-requires-clause-have : goal.close_and_add-requires-clause-have
-close_and_add-requires-clause-have g c = grind (arith, common_steps)
+pub compact_and_add-requires-clause-have : goal.compact_and_add-requires-clause-have
+compact_and_add-requires-clause-have g c = grind (arith, common_steps)
 
 pub add_then_take-requires-clause-have : goal.add_then_take-requires-clause-have
 add_then_take-requires-clause-have g c = grind (arith, common_steps)

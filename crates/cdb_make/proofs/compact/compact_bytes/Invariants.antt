@@ -5,7 +5,7 @@ use Rattle.cdb_make.specs.Marks.{gone_of}
 use Rattle.cdb_make.specs.Views.Places.{places_in}
 use Rattle.cdb_make.specs.Spans.{behind, AreOf}
 use Rattle.cdb_make.proofs.Spans.{Amid}
-use Rattle.cdb_make.proofs.close.close_bytes.Given as goal
+use Rattle.cdb_make.proofs.compact.compact_bytes.Given as goal
 
 abbrev pub invariant-loop-n : goal.invariant-loop-n
 invariant-loop-n g l = record {
