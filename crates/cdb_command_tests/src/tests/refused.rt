@@ -19,7 +19,7 @@ fn is_refused(alloc: Global, line: &str, fault: WordFault<'_>) -> Result<bool, A
 }
 
 /// Lines, and their faults.
-const REFUSED: [(&str, WordFault<'static>); 78] = [
+const REFUSED: [(&str, WordFault<'static>); 70] = [
     ("", WordFault::NoCommand),
     ("x", WordFault::NoCommand),
     ("-q -d x", WordFault::TwoCommands('q', 'd')),
@@ -89,6 +89,19 @@ const REFUSED: [(&str, WordFault<'static>); 78] = [
     ("-q -n 1 -n 2 x k", WordFault::Twice('n')),
     ("-qn1 -n2 x k", WordFault::Twice('n')),
     ("-c --map x -Z", WordFault::Long("--map")),
+    ("-c -t a -t b x", WordFault::Twice('t')),
+];
+
+#[test]
+fn lines_are_refused_for_their_first_fault(rt: HostRuntime) -> Result<(), Fail> {
+    for (line, fault) in &REFUSED {
+        assert!(rt; is_refused(rt.alloc(), line, *fault)?, "at {line}");
+    }
+    Ok(())
+}
+
+/// Lines with a long word, the one for help among them, and their faults.
+const LONG_WORDS: [(&str, WordFault<'static>); 8] = [
     ("--map", WordFault::Long("--map")),
     ("--help", WordFault::Help),
     ("-mv --help x --map", WordFault::Help),
@@ -97,12 +110,11 @@ const REFUSED: [(&str, WordFault<'static>); 78] = [
     ("-q --help x k", WordFault::Long("--help")),
     ("--help -mc x", WordFault::Long("--help")),
     ("-h --help", WordFault::Long("--help")),
-    ("-c -t a -t b x", WordFault::Twice('t')),
 ];
 
 #[test]
-fn lines_are_refused_for_their_first_fault(rt: HostRuntime) -> Result<(), Fail> {
-    for (line, fault) in &REFUSED {
+fn lines_with_long_words_are_refused(rt: HostRuntime) -> Result<(), Fail> {
+    for (line, fault) in &LONG_WORDS {
         assert!(rt; is_refused(rt.alloc(), line, *fault)?, "at {line}");
     }
     Ok(())
