@@ -1,24 +1,12 @@
 -- What a run made of inputs that agree with their readers, and that the readers are in their places.
 use Rattle.std.proofs.Common.{◌≡◌, ◌∙◌, ◌≤◌, ℕ, zero, suc, List, [], ◌∷◌, length, Option, Some, None, Result, Ok, Err, is_some, ap, inl, inr, sym, arith}
-use Rattle.std.specs.Prelude.{OnOk}
-use Rattle.cdb_form.specs.Fed.Feed.{Feed}
-use Rattle.cdb_form.specs.Format.Record.{AreBytes}
+use Rattle.cdb.proofs.Words.{AreBytes, BuilderTells, Fault, Feed, Ghosts, InputReader, Inputs, IsBufferedRun, Making, NameCalls, OnOk, OutputSays, ReplaceFault, RunOptions, Sources, WhereHonest}
 use Rattle.cdb_feed.specs.Inputs.{AreRead, CutShort, FirstAgree, HasFault, NoMore, NotBegun, Stop, reached}
 use Rattle.cdb_feed.specs.Parsing.{Parsing}
-use Rattle.cdb_feed.specs.declared.input_reader.InputReader.{InputReader}
 use Rattle.cdb_feed.specs.declared.input_reader.InputReader.TheVariants.{Own, Shared}
-use Rattle.cdb_names.specs.Folder.{NameCalls}
-use Rattle.cdb_names.specs.Replacing.{BuilderTells}
-use Rattle.cdb_names.specs.declared.replace.ReplaceFault.{ReplaceFault}
 use Rattle.cdb_store.specs.declared.raw.RawFile.{Ghosts as Raw}
-use Rattle.cdb_store.specs.declared.store.Store.{Ghosts}
-use Rattle.cdb_make.specs.Views.Maker.{WhereHonest}
-use Rattle.cdb_tool.specs.declared.runs.options.RunOptions.{RunOptions}
 use Rattle.cdb_show.specs.Runs.Inputs.{InputsLeft, input_form}
 use Rattle.cdb_show.specs.Views.Inputs.{AreInPlace, shared_feed}
-use Rattle.cdb_show.specs.Views.Output.{OutputSays}
-use Rattle.cdb_show.specs.declared.fault.Fault.{Fault}
-use Rattle.cdb_show.specs.declared.inputs.Inputs.{Inputs}
 use Rattle.cdb_show.specs.declared.inputs.SharedWindow.TheVariants.{Unread}
 use Rattle.cdb_show.proofs.PlacedReaders.{all_passed, in_place}
 use Rattle.cdb_tool.specs.Runs.FormParsing.{parsing}
@@ -26,8 +14,6 @@ use Rattle.cdb_tool.specs.Runs.InputsRead.{RunsRead}
 use Rattle.cdb_tool.specs.Runs.Make.{MakeRuns, OfBase}
 use Rattle.cdb_tool.proofs.AgreeingInputs.{agreeing_inputs}
 use Rattle.cdb.specs.Agreeing.{InputsAgree, OfAgreeing, inputs_of}
-use Rattle.cdb.specs.Creating.{IsBufferedRun, Making}
-use Rattle.cdb.specs.declared.contents.Sources.{Sources}
 
 -- ---- the inputs that were reached are some of all
 

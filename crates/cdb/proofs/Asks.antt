@@ -1,9 +1,7 @@
 -- What is asked of the files that are read, input by input.
-use Rattle.std.proofs.Common.{ℕ, List, [], ◌∷◌, ◌++◌, ◌≡◌, inl, inr, refl, sym, subst, map, Result, Ok, Err}
+use Rattle.cdb.proofs.Words.{Err, List, NameCalls, Ok, Result, [], inl, inputs_read, inr, map, refl, subst, sym, ℕ, ◌++◌, ◌∷◌, ◌≡◌}
 use Rattle.std.specs.Prelude.{OnOk, codes}
-use Rattle.cdb_names.specs.Folder.{NameCalls}
 use Rattle.cdb.specs.Creating.{AsksEach, AsksOne, FindsInput, MayBeInput}
-use Rattle.cdb_system.specs.Inputs.{inputs_read}
 
 pub ok_and : {T E : Type 0} (A B : Type 0) (r : Result T E) → OnOk r A → OnOk r B → OnOk r (A × B)
 ok_and A B (Ok x) a b = (a, b)

@@ -1,12 +1,10 @@
 -- A base whose head was not read.
-use Rattle.std.proofs.Common.{ℕ, List, length, Err, ◌≡◌, ◌<◌, ◌∙◌, inl, inr, ap, refl, subst, sym}
+use Rattle.cdb.proofs.Words.{Err, Ghosts, List, OutputSays, ap, inl, inr, length, refl, subst, sym, ℕ, ◌<◌, ◌∙◌, ◌≡◌}
 use Rattle.cdb_form.specs.Format.Pair.{head_size}
 use Rattle.cdb_read.specs.Views.Reads.{OpeningFails}
 use Rattle.cdb_read.specs.declared.fault.ReadFault.{ReadFault}
 use Rattle.cdb_read.specs.declared.fault.ReadFault.TheVariants.{Device, NoMemory, Output, Record, Short, Slot, Table, Twice, Unindexed}
 use Rattle.cdb_show.specs.Views.Fault.{read_fault}
-use Rattle.cdb_show.specs.Views.Output.{OutputSays}
-use Rattle.cdb_store.specs.declared.store.Store.{Ghosts}
 use Rattle.cdb_store.proofs.Reading.{reads_nothing}
 use Rattle.cdb_system.proofs.Coming.{short_is}
 use Rattle.cdb.specs.Creating.{SeesHead}

@@ -1,37 +1,14 @@
 -- A create in a temporary file comes to what the oracle says.
-use Rattle.std.proofs.Common.{ℕ, true, false, ◌||◌, ◌≢◌, ◌⊎◌, List, [], ◌∷◌, ◌++◌, Option, Some, None, Result, Ok, Err, ◌≡◌, ◌∙◌, ap, inl, inr, refl, subst, sym, append_assoc, arith, bytes_eq, length, length-append}
-use Rattle.std.specs.Prelude.{OnErr, OnOk}
-use Rattle.std.specs.List.{AllByRecursion}
+use Rattle.cdb.proofs.Words.{AllByRecursion, Appends, AppendsPrefix, AsksAll, Calls, Created, Disk, Err, Fault, Ghosts, HadBytes, HandsBack, Has, HoldsAll, InputsLeft, IsBufferedRun, IsNoFailedRemoval, IsNoFailedRename, Keeps, Keeps-refl, KeepsAll, LeavesAll, List, Made, Making, MayHave, NameCall, NameCalls, None, Ok, OnErr, OnOk, OpenCalls, Option, ReplaceFault, Replaces, Result, RunOptions, Some, [], answer_of, ap, append_assoc, arith, bytes_eq, calls_of, create_of, false, in_place, in_temporary, inl, inr, is_in_place, is_no_name, is_read, is_standard, length, length-append, made_file, made_lines, made_of, passing, place_of, placed, refl, state_of, subst, sym, temporary_of, true, unopened, ℕ, ◌++◌, ◌||◌, ◌∙◌, ◌∷◌, ◌≡◌, ◌≢◌, ◌⊎◌}
 use Rattle.std.proofs.lemmas.Bool.{eqb-true, cond-true, cond-false, or_right, cases_Bool}
-use Rattle.std.specs.Io.KnownBytes.{Appends, Keeps}
-use Rattle.cdb_tool.specs.declared.runs.options.RunOptions.{RunOptions}
-use Rattle.cdb_names.specs.Folder.{Has, MayHave, NameCalls}
-use Rattle.cdb_names.specs.declared.replace.ReplaceFault.{ReplaceFault}
 use Rattle.cdb_names.specs.declared.replace.ReplaceFault.TheVariants as replace
-use Rattle.cdb_store.specs.FileStore.{calls_of}
-use Rattle.std.proofs.KnownBytes.{Keeps-refl}
 use Rattle.cdb_names.specs.Replacing.{AtEach, AtEachMoment, ClearsFile, IsNoName, BuilderTells, IsRenamed, renames}
-use Rattle.cdb_names.specs.declared.name_trace.NameCall.{NameCall}
-use Rattle.cdb_store.specs.Calls.{Calls}
 use Rattle.cdb_names.specs.declared.name_trace.NameCall.TheVariants as name_call
-use Rattle.cdb_form.specs.Views.KnownBytes.{AppendsPrefix}
 use Rattle.cdb_store.specs.declared.raw.RawFile.{Ghosts as Raw}
-use Rattle.cdb_store.specs.declared.store.Store.{Ghosts}
-use Rattle.cdb_show.specs.Runs.Inputs.{InputsLeft}
-use Rattle.cdb_show.specs.declared.fault.Fault.{Fault}
 use Rattle.cdb_show.specs.declared.fault.Fault.TheVariants.{Open}
-use Rattle.cdb_tool.specs.Runs.Make.{HandsBack}
-use Rattle.cdb_tool.specs.Runs.Made.{Made, made_file, made_lines, made_of}
-use Rattle.cdb.specs.Created.{Created, create_of, in_temporary, is_in_place, is_no_name, in_place, is_read, placed, unopened}
-use Rattle.cdb.specs.Creating.{IsBufferedRun, AsksAll, Making, Replaces, answer_of}
-use Rattle.cdb_system.specs.Places.{temporary_of}
-use Rattle.cdb.specs.ForetoldCreate.{HadBytes, HoldsAll, IsNoFailedRemoval, IsNoFailedRename, KeepsAll, LeavesAll, passing, place_of}
-use Rattle.cdb_system.specs.Opening.{OpenCalls}
-use Rattle.cdb_system.specs.Oracle.{Disk, is_standard}
 use Rattle.cdb.proofs.Replaced.{IsGone, KeepsOthers, LeavesOldOrMade, ReplacesSo, at_name, none_appended, not_at, replaces_so, said_nothing}
 use Rattle.cdb.proofs.CreateReads.{AllKnown, Asking, asked_all, asked_kept, asking_all, moments_first}
 use Rattle.cdb.proofs.CreateEnds.{AnsweredNames, Knows, Came, CreateSo, apart_is, based_is, ends_early, first_is, has_may, last_leaves, last_moment, lines_of, name_holds, open_so, oracle_is, other_name, result_of, same_name, same_some, since_asked}
-use Rattle.cdb_system.specs.State.{state_of}
 
 -- ---- in a temporary file
 

@@ -1,39 +1,20 @@
 -- What a create comes to that makes nothing, and what each name has then.
 use Rattle.cdb.proofs.CreateTaken.{MayGiveUpCreate}
-use Rattle.std.proofs.Common.{ℕ, Bool, true, false, ◌||◌, ◌≢◌, ◌⊎◌, List, [], ◌∷◌, ◌++◌, Option, Some, None, Result, Ok, Err, ◌≡◌, ◌∙◌, ap, inl, inr, refl, subst, sym, append_assoc, length, length-append, arith, bytes_eq, option_map, codes}
-use Rattle.std.specs.Prelude.{OnErr, OnOk}
-use Rattle.std.specs.List.{AllByRecursion}
+use Rattle.cdb.proofs.Words.{AllByRecursion, Answer, Appends, AppendsPrefix, AtEach, AtEachMoment, Bool, Err, Fault, Feed, Ghosts, HandsBack, Has, InputsLeft, Keeps, List, Made, MayHave, NameCalls, NameFault, None, Ok, OnErr, OnOk, OpenCalls, Option, Result, RunOptions, Some, State, [], ap, append_assoc, append_cancel_right, arith, bytes_eq, bytes_eq-Decides, codes, false, files_of, inl, inr, length, length-append, made_file, made_lines, made_of, option_map, refl, subst, sym, temporary_of, true, ℕ, ◌++◌, ◌||◌, ◌∙◌, ◌∷◌, ◌≡◌, ◌≢◌, ◌⊎◌}
+use Rattle.cdb_system.specs.Opening.{unopened as unopened_fault}
 use Rattle.std.proofs.lemmas.Bool.{cond-true, cond-false, false_from_ne_true, or_from, or_left, or_parts, or_right}
-use Rattle.std.proofs.lemmas.List.{append_cancel_right}
-use Rattle.std.proofs.lemmas.Slice.Eq.{bytes_eq-Decides}
-use Rattle.std.specs.Io.KnownBytes.{Appends, Keeps}
-use Rattle.cdb_tool.specs.declared.runs.options.RunOptions.{RunOptions}
-use Rattle.cdb_names.specs.Folder.{Has, MayHave, NameCalls}
-use Rattle.cdb_names.specs.Replacing.{AtEach, AtEachMoment}
 use Rattle.cdb_names.specs.declared.answer.Answer.TheVariants as looks
-use Rattle.cdb_names.specs.declared.answer.Answer.{Answer}
-use Rattle.cdb_names.specs.declared.name_fault.NameFault.{NameFault}
 use Rattle.cdb_names.specs.declared.refusal.Cause.{Cause}
 use Rattle.cdb_names.specs.declared.name_fault.NameFault.TheVariants as why
 use Rattle.cdb_names.specs.declared.name_trace.NameCall.TheVariants as name_call
 use Rattle.cdb_read.proofs.FoundSoFar.{reads_none}
-use Rattle.cdb_form.specs.Views.KnownBytes.{AppendsPrefix}
 use Rattle.cdb_store.specs.declared.raw.RawFile.{Ghosts as Raw}
-use Rattle.cdb_store.specs.declared.store.Store.{Ghosts}
-use Rattle.cdb_show.specs.Runs.Inputs.{InputsLeft}
-use Rattle.cdb_tool.specs.Runs.Make.{HandsBack}
-use Rattle.cdb_show.specs.declared.fault.Fault.{Fault}
 use Rattle.cdb_show.specs.declared.fault.Fault.TheVariants.{NoMemory, Open}
-use Rattle.cdb_tool.specs.Runs.Made.{Made, made_file, made_lines, made_of}
 use Rattle.cdb.specs.Created.{Created, base_in, base_of, create_of, if_based, if_opened, in_temporary, is_base, is_in_place, is_input, is_no_name, in_place, is_read, placed, unmade, unopened}
 use Rattle.cdb.specs.Creating.{AsksBase, AsksOne, FindsBase, FindsInput, FindsOne, LooksAtBase, Making, MayBeOne, NotOpened, Replaces}
-use Rattle.cdb_system.specs.Places.{temporary_of}
-use Rattle.cdb_form.specs.Fed.Feed.{Feed}
 use Rattle.cdb_system.specs.Answered.{AreAnswered, IsAnswered, if_some}
 use Rattle.cdb.specs.ForetoldCreate.{HadBytes, HasBytes, HoldsAll, IsNoAlias, IsNoFailedRemoval, IsNoFailedRename, KeepsAll, LeavesAll, passing, place_of}
 use Rattle.cdb_system.specs.Inputs.{inputs_read, MissesBase}
-use Rattle.cdb_system.specs.Opening.{OpenCalls, unopened as unopened_fault}
-use Rattle.cdb_system.specs.Files.{files_of}
 use Rattle.cdb_system.specs.Inputs.{StopsOpening}
 use Rattle.cdb_system.specs.Oracle.{Disk, inputs_of, is_standard}
 use Rattle.cdb_system.specs.declared.open_trace.OpenCall.TheVariants.{Unopened}
@@ -41,7 +22,6 @@ use Rattle.cdb_system.specs.declared.system.System.{Ghosts as Systems}
 use Rattle.cdb.proofs.Replaced.{IsPlain, none_appended, said_nothing}
 use Rattle.cdb.proofs.CreateReads.{AllKnown, Asking, asked_kept, base_known, base_refused, base_since, moments_first, read_input}
 use Rattle.cdb_system.proofs.InputsKnown.{answered_before, opened_since, standard_not, missing_inputs, input_missing}
-use Rattle.cdb_system.specs.State.{State}
 
 -- ---- the oracle
 

@@ -1,42 +1,21 @@
 -- A create in place, and one on standard output, come to what the oracle says.
 use Rattle.cdb.proofs.CreateTaken.{MayGiveUpCreate}
-use Rattle.std.proofs.Common.{ℕ, true, false, ◌⊎◌, List, [], Option, Some, None, Result, Ok, Err, ◌≡◌, ◌∙◌, ap, inl, inr, refl, subst, sym, bytes_eq}
-use Rattle.std.specs.List.{AllByRecursion}
-use Rattle.std.specs.Prelude.{OnErr, OnOk, IfErr}
-use Rattle.std.proofs.lemmas.Bool.{cond-true, cond-false}
-use Rattle.std.specs.Io.KnownBytes.{Appends, Keeps}
-use Rattle.cdb_tool.specs.declared.runs.options.RunOptions.{RunOptions}
-use Rattle.cdb_names.specs.Folder.{NameCalls}
-use Rattle.cdb_names.specs.Replacing.{IsNew}
-use Rattle.cdb_form.specs.Fed.Feed.{Feed}
+use Rattle.cdb.proofs.Words.{AllByRecursion, Answer, Appends, AppendsPrefix, Disk, Err, Fault, Feed, Ghosts, HandsBack, IfErr, InputsLeft, IsNew, Keeps, Known, Left, List, Made, NameCalls, NameFault, None, Ok, OnErr, OnOk, Option, Result, RunOptions, Some, [], ap, bytes_eq, cond-false, cond-true, false, files_of, inl, inr, is_standard, made_file, made_lines, made_of, refl, state_of, subst, sym, true, ℕ, ◌∙◌, ◌≡◌, ◌⊎◌}
 use Rattle.cdb_store.specs.Contents.{contents}
 use Rattle.cdb_store.specs.contracts.memory.MemStoreStore.TheImpl.{ghosts as in_memory}
 use Rattle.cdb_store.specs.declared.memory.MemStore.{MemStore}
 use Rattle.cdb_store.specs.declared.make_fault.MakeFault.TheVariants.{Writing}
-use Rattle.cdb_names.specs.declared.answer.Answer.{Answer}
 use Rattle.cdb_names.specs.declared.answer.Answer.TheVariants.{No, Unknown, Yes}
-use Rattle.cdb_names.specs.declared.name_fault.NameFault.{NameFault}
 use Rattle.cdb_names.specs.declared.name_fault.NameFault.TheVariants as why
-use Rattle.cdb_form.specs.Views.KnownBytes.{AppendsPrefix}
-use Rattle.cdb_store.specs.declared.store.Store.{Ghosts}
-use Rattle.cdb_show.specs.Runs.Inputs.{InputsLeft}
-use Rattle.cdb_show.specs.declared.fault.Fault.{Fault}
 use Rattle.cdb_show.specs.declared.fault.Fault.TheVariants.{Make, Rename}
-use Rattle.cdb_tool.specs.Runs.Made.{Made, made_file, made_lines, made_of}
-use Rattle.cdb_show.specs.Runs.Incoming.{Known}
-use Rattle.cdb_tool.specs.Runs.Make.{HandsBack}
 use Rattle.cdb.specs.Created.{Created, create_of, is_in_place, in_place, is_read, on_output, placed, unopened}
 use Rattle.cdb.specs.Creating.{HasDatabase, IsBufferedRun, IsMakeRun, MakesEmptied, MakesOnOutput, SeesName, Syncs, WritesAll, AsksAll, Making}
 use Rattle.cdb.specs.ForetoldCreate.{HoldsAll, IsNamed, IsNoFailedRename, KeepsAll, passing}
 use Rattle.cdb_system.specs.Opening.{Empties, MissesEmptying, OpenCalls, named_as, unopened as unopened_fault}
-use Rattle.cdb_system.specs.Oracle.{Disk, is_standard}
 use Rattle.cdb_system.specs.declared.system.System.{Ghosts as Systems}
-use Rattle.cdb_system.specs.declared.left.Left.{Left}
 use Rattle.cdb.proofs.Replaced.{BaseHas, EndsSo, IsPlain, WasRefused, database_is, made_here, ran_err, ran_ok, whole_lines, none_appended, said_nothing}
 use Rattle.cdb.proofs.CreateReads.{AllKnown, Asking, asked_all, asking_all, asking_none, moments_first}
 use Rattle.cdb.proofs.CreateEnds.{AnsweredNames, Knows, Came, CameTrue, CreateSo, GaveUp, based_is, hands_unread, has_first, holds_first, keeps_first, same_name}
-use Rattle.cdb_system.specs.State.{state_of}
-use Rattle.cdb_system.specs.Files.{files_of}
 
 -- ---- in place
 

@@ -1,46 +1,27 @@
 -- What a create reads, and what is asked of its names, by the calls that were noted.
 use Rattle.std.proofs.Common.{ℕ, Bool, false, List, [], ◌∷◌, ◌++◌, length, Option, Some, None, IfSome, Result, Ok, Err, ◌≡◌, ◌⊎◌, ◌∙◌, ap, inl, inr, refl, subst, sym, append_assoc, append-nil, bytes_eq, option_map, if◌then◌else◌}
 use Rattle.std.specs.Prelude.{⊤, unwrap_or}
-use Rattle.std.specs.List.{AllByRecursion}
-use Rattle.std.proofs.lemmas.Bool.{cond-true, cond-false, false_from_ne_true, or_from}
-use Rattle.std.proofs.lemmas.List.{append_cancel_right}
-use Rattle.std.proofs.lemmas.Slice.Eq.{bytes_eq-Decides}
-use Rattle.cdb_names.specs.Folder.{MayHave, NameCalls}
-use Rattle.cdb_names.specs.Replacing.{AtEach, AtEachMoment, NameEvent, renames}
+use Rattle.cdb.proofs.Words.{AllByRecursion, AreBytes, AreInPlace, AtEach, AtEachMoment, Fault, Feed, Ghosts, HandsBack, HonestCreate, InputReader, Inputs, InputsLeft, IsNoAlias, LeavesAll, Left, MayHave, NameCalls, NameEvent, OpenCalls, Standard, append_cancel_right, bytes_eq-Decides, cond-false, cond-true, false_from_ne_true, files_of, or_from, place_of, renames, state_of}
 use Rattle.cdb_names.specs.declared.answer.Answer.TheVariants as looks
 use Rattle.cdb_names.specs.declared.name_trace.NameCall.TheVariants as name_call
 use Rattle.cdb_feed.specs.Inputs.{AgreesWith, FirstAgree, IsUnread}
-use Rattle.cdb_feed.specs.declared.input_reader.InputReader.{InputReader}
 use Rattle.cdb_feed.specs.declared.input_reader.InputReader.TheVariants as reader
-use Rattle.cdb_form.specs.Fed.Feed.{Feed}
-use Rattle.cdb_form.specs.Format.Record.{AreBytes}
-use Rattle.cdb_store.specs.declared.store.Store.{Ghosts}
 use Rattle.cdb_read.specs.declared.fault.ReadFault.TheVariants.{Device}
-use Rattle.cdb_tool.specs.Runs.Make.{HandsBack}
-use Rattle.cdb_show.specs.Runs.Inputs.{InputsLeft}
 use Rattle.cdb_show.specs.Runs.Incoming.{EachOfBytes, Known}
-use Rattle.cdb_show.specs.Views.Inputs.{AreInPlace}
-use Rattle.cdb_show.specs.declared.fault.Fault.{Fault}
 use Rattle.cdb_show.specs.declared.fault.Fault.TheVariants.{Read}
-use Rattle.cdb_show.specs.declared.inputs.Inputs.{Inputs}
 use Rattle.cdb_show.proofs.GivenInputs.{known_all}
 use Rattle.cdb.specs.Agreeing.{HandsInputs, InputsAgree, OpensNone, OpensNoMore}
 use Rattle.cdb.specs.Agreeing.{inputs_of as bytes_of}
 use Rattle.cdb.specs.Created.{base_in, base_of, head_fault, is_base, is_input, is_read, unless_refused}
 use Rattle.cdb.specs.Creating.{AsksAll, AsksBase, AsksEach, AsksOne, FindsBase, FindsInput, FindsOne, LooksAtBase, OpensAll, SeesBase}
 use Rattle.cdb_system.specs.Answered.{AreAnswered, IsThere, Shows, if_some, stores_before, stores_in, streams_in}
-use Rattle.cdb.specs.ForetoldCreate.{HonestCreate, IsNoAlias, LeavesAll, place_of}
 use Rattle.cdb_system.specs.Inputs.{inputs_read, OpensBase, OpensEach}
-use Rattle.cdb_system.specs.Opening.{OpenCalls}
 use Rattle.cdb_system.specs.Oracle.{Disk, inputs_of, is_standard}
-use Rattle.cdb_system.specs.State.{Standard, state_of}
 use Rattle.cdb_system.specs.Streams.{AgreeInTurn, Agrees, name_in_turn, names_in_turn, own_readers}
-use Rattle.cdb_system.specs.declared.left.Left.{Left}
 use Rattle.cdb_system.specs.declared.open_trace.OpenCall.{OpenCall}
 use Rattle.cdb_system.specs.declared.open_trace.OpenCall.TheVariants.{AtPlaces, Emptied, InTurn, Locked, Own, Stream, ToEmpty, Unopened}
 use Rattle.cdb_system.specs.declared.system.System.{Ghosts as Systems}
 use Rattle.cdb.proofs.Replaced.{BaseHas}
-use Rattle.cdb_system.specs.Files.{files_of}
 use Rattle.cdb_system.proofs.InputsKnown.{AreOf, OpenedSince, answered_before, files_of_each, in_turn_then, inputs_are, inputs_since, opened_since, opened_there, own_names, standard_is, standard_not}
 
 shown : {F : Type 0} (s : Ghosts F) (file : Option (List ℕ)) (read : Option F) → Shows s file (if_some read) → (b : List ℕ) × (file ≡ Some b) × BaseHas s read (Some b)

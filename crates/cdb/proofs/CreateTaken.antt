@@ -1,7 +1,5 @@
 -- What may be refused of a create, an output too; and an output that was taken was not.
-use Rattle.std.proofs.Common.{◌≡◌, subst, Result, Err}
-use Rattle.cdb_show.specs.Views.Output.{OutputSays}
-use Rattle.cdb_show.specs.declared.fault.Fault.{Fault}
+use Rattle.cdb.proofs.Words.{Err, Fault, OutputSays, Result, subst, ◌≡◌}
 use Rattle.cdb_show.specs.declared.fault.Fault.TheVariants.{Text, Make, Duplicate, Missing, Read, Walk, Output, Long, Open, Rename, NoMemory, Old, New, NoOldTables, NoNewTables, NoBaseTables}
 use Rattle.cdb.specs.ForetoldCreate.{IsCreateRefusal}
 

@@ -1,32 +1,15 @@
 -- Each create comes to what the oracle says.
-use Rattle.std.proofs.Common.{ℕ, true, false, List, [], Option, Some, None, Result, ◌≡◌, ap, inl, inr, refl, subst, sym, bytes_eq, codes}
-use Rattle.std.proofs.lemmas.Bool.{false_from_ne_true, or_from, or_left, or_right}
-use Rattle.std.proofs.lemmas.Slice.Eq.{bytes_eq-Decides}
-use Rattle.cdb_tool.specs.declared.runs.options.RunOptions.{RunOptions}
-use Rattle.cdb_names.specs.Folder.{NameCalls}
-use Rattle.cdb_form.specs.Fed.Feed.{Feed}
-use Rattle.cdb_show.specs.Runs.Inputs.{InputsLeft}
+use Rattle.cdb.proofs.Words.{AreAnswered, Created, Disk, Fault, Feed, Ghosts, HonestCreate, InputsLeft, Left, List, NameCalls, None, OpenCalls, Option, Result, RunOptions, Some, Standard, [], ap, bytes_eq, bytes_eq-Decides, codes, create_of, false, false_from_ne_true, files_of, inl, inr, is_in_place, or_from, or_left, or_right, refl, standard_is, standard_not, state_of, stores_in, subst, sym, true, ℕ, ◌≡◌}
 use Rattle.cdb_store.specs.declared.raw.RawFile.{Ghosts as Raw}
-use Rattle.cdb_store.specs.declared.store.Store.{Ghosts}
-use Rattle.cdb_show.specs.declared.fault.Fault.{Fault}
 use Rattle.cdb_show.specs.declared.fault.Fault.TheVariants.{NoMemory, Open}
-use Rattle.cdb.specs.Created.{Created, create_of, is_in_place}
 use Rattle.cdb.specs.Agreeing.{inputs_of as bytes_of}
 use Rattle.cdb.specs.Creating.{Creates, HandsBase, Making, MakesAt}
 use Rattle.cdb_system.specs.Places.{IsInPlace, temporary_of}
-use Rattle.cdb.specs.ForetoldCreate.{HonestCreate}
-use Rattle.cdb_system.specs.Answered.{AreAnswered, stores_in}
-use Rattle.cdb_system.specs.Opening.{OpenCalls}
-use Rattle.cdb_system.specs.Oracle.{Disk}
 use Rattle.cdb_system.specs.declared.system.System.{Ghosts as Systems}
-use Rattle.cdb_system.specs.declared.left.Left.{Left}
 use Rattle.cdb.proofs.CreateReads.{all_found, asking_all, asking_finds, asking_none, inputs_found}
-use Rattle.cdb_system.proofs.InputsKnown.{standard_is, standard_not}
 use Rattle.cdb.proofs.CreateEnds.{AnsweredNames, CreateSo, Knows, back_hands, ends_early, found, hands_unread, memory_so, not_opened_so, open_so, read_unopened, refused_early}
 use Rattle.cdb.proofs.CreateApart.{replacing_so}
 use Rattle.cdb.proofs.CreatePlaced.{emptied_so, emptying_refused, in_place_unopened, output_so}
-use Rattle.cdb_system.specs.State.{Standard, state_of}
-use Rattle.cdb_system.specs.Files.{files_of}
 
 -- ---- each create
 

@@ -1,28 +1,10 @@
 -- What a store has once a run over it succeeded, and what a run says whose lines were handed on.
-use Rattle.std.proofs.Common.{ℕ, Bool, true, List, Option, Some, None, Result, Ok, Err, ◌≡◌, ◌∙◌, inl, inr, subst, sym}
-use Rattle.std.specs.Prelude.{OnOk, OnErr}
-use Rattle.std.specs.Io.KnownBytes.{Keeps}
-use Rattle.cdb_command.specs.Asked.{Asked}
-use Rattle.cdb_command.specs.Refused.{Refused}
-use Rattle.cdb_names.specs.Folder.{NameCalls}
+use Rattle.cdb.proofs.Words.{Asked, Bool, Err, Fault, Feed, Ghosts, HasDatabase, IsDatabase, IsMakeRun, Keeps, Left, List, Making, NameCalls, None, Ok, OnErr, OnOk, OpenCalls, Option, OutputSays, Refused, Result, Runs, SeesName, Some, Standard, Syncs, WhereHonest, failed_of, files_of, given_of, inl, inr, refused_lines, says_more, state_of, subst, sym, true, ℕ, ◌∙◌, ◌≡◌}
 use Rattle.cdb_names.specs.declared.answer.Answer.TheVariants.{No, Unknown, Yes}
-use Rattle.cdb_form.specs.Fed.Feed.{Feed}
 use Rattle.cdb_store.specs.declared.raw.RawFile.{Ghosts as Raw}
-use Rattle.cdb_store.specs.declared.store.Store.{Ghosts}
-use Rattle.cdb_make.specs.Views.Maker.{WhereHonest}
-use Rattle.cdb_show.proofs.OutputFaults.{says_more}
-use Rattle.cdb_show.specs.Views.Output.{OutputSays}
 use Rattle.cdb_tool.specs.Runs.Make.{HandsBack, OfBase, Makes}
 use Rattle.cdb_tool.specs.Runs.Make as run
-use Rattle.cdb_show.specs.declared.fault.Fault.{Fault}
-use Rattle.cdb.specs.Creating.{Making, HasDatabase, IsDatabase, IsMakeRun, SeesName, Syncs}
-use Rattle.cdb_system.specs.Opening.{OpenCalls}
-use Rattle.cdb_system.specs.Telling.{refused_lines}
-use Rattle.cdb.specs.Performs.{Runs}
-use Rattle.cdb_system.specs.declared.left.Left.{Left}
 use Rattle.cdb_system.specs.declared.system.System.{Ghosts as Systems}
-use Rattle.cdb_system.specs.State.{Standard, failed_of, given_of, state_of}
-use Rattle.cdb_system.specs.Files.{files_of}
 use Rattle.cdb_system.proofs.Said.{line_kept, says_kept}
 
 of_weaker : {F : Type 0} (f : Ghosts F) (base : Option F) (P Q : Option (List ℕ) → Type 0) → ((x : Option (List ℕ)) → P x → Q x) → OfBase f base P → OfBase f base Q

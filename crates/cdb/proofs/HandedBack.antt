@@ -1,20 +1,11 @@
 -- What a create hands back, and that it opened no more files to be read.
-use Rattle.std.proofs.Common.{◌≡◌, ◌∙◌, ℕ, List, [], ◌∷◌, ◌++◌, Option, None, Result, Ok, Err, ap, inl, inr, refl, sym, append_assoc}
-use Rattle.cdb_names.specs.declared.answer.Answer.{Answer}
+use Rattle.cdb.proofs.Words.{Answer, AreInPlace, Err, Fault, HandsBase, HandsInputs, Inputs, Left, List, None, Ok, OpensNoMore, Option, Result, SeesName, Sources, [], all_passed, ap, append_assoc, inl, inr, refl, sym, ℕ, ◌++◌, ◌∙◌, ◌∷◌, ◌≡◌}
 use Rattle.cdb_names.specs.declared.answer.Answer.TheVariants.{Yes}
 use Rattle.cdb_names.specs.declared.answer.Lock.TheVariants.{Held}
-use Rattle.cdb_show.specs.Views.Inputs.{AreInPlace}
-use Rattle.cdb_show.specs.declared.fault.Fault.{Fault}
-use Rattle.cdb_show.specs.declared.inputs.Inputs.{Inputs}
-use Rattle.cdb_show.proofs.PlacedReaders.{all_passed}
 use Rattle.cdb_system.specs.Opening.{AsksToEmpty, Empties, MissesEmptying, OpenCalls}
-use Rattle.cdb_system.specs.declared.left.Left.{Left}
 use Rattle.cdb_system.specs.declared.open_trace.OpenCall.TheVariants.{Emptied, Locked, Own, ToEmpty, Unopened}
 use Rattle.cdb_system.proofs.InputsKnown.{all_join}
-use Rattle.cdb.specs.Agreeing.{HandsInputs, OpensNoMore}
 use Rattle.cdb.specs.Contents.{sources_left}
-use Rattle.cdb.specs.Creating.{HandsBase, SeesName}
-use Rattle.cdb.specs.declared.contents.Sources.{Sources}
 
 -- ---- what is handed back
 

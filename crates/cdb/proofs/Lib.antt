@@ -12,3 +12,4 @@ mod CreatePlaced
 mod Creates
 mod RunCreates
 mod CreateTaken
+mod Words

@@ -1,30 +1,19 @@
 -- That a run comes to what the oracle says, from what each command does.
 use Rattle.cdb_system.proofs.OutputTaken.{MayGiveUp, taken, writes_output}
-use Rattle.std.proofs.lemmas.Grind.{not_there}
-use Rattle.std.proofs.Common.{ℕ, Bool, ◌⊎◌, true, false, List, [], ◌++◌, Option, Some, None, IfSome, Result, Ok, Err, ◌≡◌, ◌∙◌, ap, inl, inr, refl, subst, sym, arith}
+use Rattle.cdb.proofs.Words.{Appends-kept, Asked, Bool, Command, Err, Fault, Feed, Ghosts, HasHandedOn, IfSome, Keeps-refl, Keeps-trans, Left, List, NameCalls, None, Ok, OpenCalls, Option, OutputFailed, OutputSays, Result, Some, Standard, State, [], ap, arith, asked_in, failed_of, false, fault_line, files_of, given_of, has_wide_words, held_by, inl, inr, not_there, output_bytes, prefix_kept, refl, state_of, subst, sym, true, writer_bytes, ℕ, ◌++◌, ◌∙◌, ◌≡◌, ◌⊎◌}
 use Rattle.std.specs.Prelude.{map, IfOk, string_bytes}
 use Rattle.std.proofs.lemmas.List.{append-nil}
 use Rattle.std.specs.Io.KnownBytes.{Keeps, Appends, append_known}
-use Rattle.std.proofs.KnownBytes.{Appends-kept, Keeps-refl, Keeps-trans}
-use Rattle.cdb_form.specs.Fed.Feed.{Feed}
 use Rattle.cdb_form.specs.declared.text.fault.TextFault.TheVariants as text
 use Rattle.cdb_form.specs.declared.walk.fault.WalkFault.TheVariants as walk
-use Rattle.cdb_command.specs.Asked.{Asked, asked_in, has_wide_words}
 use Rattle.cdb_command.specs.Asked as asked
 use Rattle.cdb_command.specs.Usage.{usage_text, version_text}
 use Rattle.cdb_command.specs.Refused.{Refused, refused_line, usage_of}
-use Rattle.cdb_command.specs.declared.command.Command.{Command}
 use Rattle.cdb_command.specs.declared.command.Command.TheVariants as command
-use Rattle.cdb_names.specs.Folder.{NameCalls}
 use Rattle.cdb_store.specs.declared.raw.RawFile.{Ghosts as Raw}
-use Rattle.cdb_store.specs.declared.store.Store.{Ghosts}
-use Rattle.cdb_show.specs.Message.{fault_line}
 use Rattle.cdb_show.specs.Runs.Form.{dump_form, list_form}
-use Rattle.cdb_show.specs.Views.Output.{HasHandedOn, held_by, OutputFailed, OutputSays, output_bytes, writer_bytes}
 use Rattle.cdb_show.specs.declared.output.Output.{Output as Writer}
 use Rattle.cdb_show.specs.Status.{plain_status, check_status, exit_status}
-use Rattle.cdb_show.proofs.Writers.{prefix_kept}
-use Rattle.cdb_show.specs.declared.fault.Fault.{Fault}
 use Rattle.cdb_show.specs.declared.fault.Fault.TheVariants.{Text, Walk, Output, NoMemory}
 use Rattle.cdb.specs.Created.{foretell}
 use Rattle.cdb.specs.Foretold.{AsksNoCreate, ComesTrue, IsForetold, IsRefused, IsTaken, MayFail, SaysLines}
@@ -36,11 +25,7 @@ use Rattle.cdb_system.specs.Oracle.{Disk, Outcome, check_outcome, command_outcom
 use Rattle.cdb.specs.Performs.{HandsOn, IsUntouched, PerformsIn, Runs, status_of}
 use Rattle.cdb_system.specs.Telling.{Says, SaysLine, refused_lines, usage_line, usage_status}
 use Rattle.cdb_system.specs.Causes.{Explains}
-use Rattle.cdb_system.specs.Opening.{OpenCalls}
-use Rattle.cdb_system.specs.declared.left.Left.{Left}
 use Rattle.cdb_system.specs.declared.system.System.{Ghosts as Systems}
-use Rattle.cdb_system.specs.State.{Standard, State, failed_of, given_of, state_of}
-use Rattle.cdb_system.specs.Files.{files_of}
 use Rattle.cdb_system.proofs.FilesRead.{query_foretold, text_named, text_input, stats_comes, check_comes, on_named, on_input, stats_taken, check_taken, told_comes}
 
 -- ---- the end of a command

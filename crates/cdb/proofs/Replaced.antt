@@ -1,41 +1,21 @@
 -- A create in a temporary file comes to what the function of its bytes says.
 use Rattle.cdb.proofs.CreateTaken.{MayGiveUpCreate}
-use Rattle.std.proofs.Common.{ℕ, true, false, ◌+◌, ◌≢◌, ◌⊎◌, List, [], ◌∷◌, ◌++◌, take, Option, Some, None, Result, Ok, Err, ◌≡◌, ◌∙◌, ap, inl, inr, refl, subst, sym, arith, append-nil, bytes_eq}
-use Rattle.std.specs.Prelude.{OnErr, OnOk, IfErr, ⊤}
-use Rattle.std.specs.List.{AllByRecursion}
-use Rattle.std.proofs.lemmas.Bool.{false_from_ne_true}
-use Rattle.std.proofs.lemmas.List.{append_cancel_right}
-use Rattle.std.proofs.lemmas.Slice.Eq.{bytes_eq-Decides}
-use Rattle.std.specs.Io.KnownBytes.{Appends, Keeps}
-use Rattle.std.proofs.KnownBytes.{Keeps-refl}
-use Rattle.cdb_tool.specs.declared.runs.options.RunOptions.{RunOptions}
+use Rattle.cdb.proofs.Words.{AllByRecursion, Appends, AppendsPrefix, Err, Fault, Ghosts, HadBytes, IfErr, IsNoFailedRename, Keeps, Keeps-refl, Known, List, Made, NameCall, None, OfBase, Ok, OnErr, OnOk, OpenCalls, Option, OutputSays, ReplaceFault, Result, RunOptions, Some, [], ap, append-nil, append_cancel_right, arith, bytes_eq, bytes_eq-Decides, false, false_from_ne_true, inl, inr, made_file, made_lines, made_of, place_of, refl, state_of, subst, sym, take, true, ℕ, ⊤, ◌++◌, ◌+◌, ◌∙◌, ◌∷◌, ◌≡◌, ◌≢◌, ◌⊎◌}
 use Rattle.cdb_names.specs.Folder.{AreNamesApart, Has, LeavesFile, MayHave, NameCalls}
 use Rattle.cdb_names.specs.Replacing.{BuilderAnswers, AreOfReplacing, AtEach, AtEachMoment, ClearsFile, HasCleared, IsNew, IsOfReplacing, IsReady, IsRenamed, LeavesOldOrNew, NameEvent, BuilderTells, TellsOfFile, StopsUnbuilt, renames}
-use Rattle.cdb_names.specs.declared.name_trace.NameCall.{NameCall}
 use Rattle.cdb_names.specs.declared.name_trace.NameCall.TheVariants.{NotRemoved, NotRenamed, NotSynced, Removed, Renamed, Synced}
 use Rattle.cdb_names.specs.declared.name_trace.NameCall.TheVariants as name_call
-use Rattle.cdb_names.specs.declared.replace.ReplaceFault.{ReplaceFault}
 use Rattle.cdb_names.specs.declared.replace.ReplaceFault.TheVariants as replace
-use Rattle.cdb_form.specs.Views.KnownBytes.{AppendsPrefix}
 use Rattle.cdb_store.specs.Calls.{Calls, FileImage, IsSynced}
 use Rattle.cdb_store.specs.FileStore.{calls_of, images_of}
 use Rattle.cdb_store.specs.declared.file.FileStore.{FileStore}
 use Rattle.cdb_store.specs.declared.raw.RawFile.{Ghosts as Raw}
-use Rattle.cdb_store.specs.declared.store.Store.{Ghosts}
-use Rattle.cdb_show.specs.Views.Output.{OutputSays}
-use Rattle.cdb_tool.specs.Runs.Make.{OfBase}
 use Rattle.cdb_tool.specs.Runs.Make as run
-use Rattle.cdb_show.specs.declared.fault.Fault.{Fault}
 use Rattle.cdb_show.specs.declared.fault.Fault.TheVariants.{Text, Make, Duplicate, Missing, Read, Walk, Output, Long, Open, Rename, NoMemory, Old, New, NoOldTables, NoNewTables, NoBaseTables}
-use Rattle.cdb_tool.specs.Runs.Made.{Made, made_file, made_lines, made_of}
 use Rattle.cdb_tool.specs.Runs.MakesSo.{ComesOf, IsMakeRefusal}
-use Rattle.cdb_show.specs.Runs.Incoming.{Known}
 use Rattle.cdb_tool.proofs.MadeOf.{made_so, run_comes}
 use Rattle.cdb_tool.proofs.ToldLines.{part_plain, tells_plain}
 use Rattle.cdb.specs.Creating.{IsBufferedRun, IsDatabase, IsMakeRun, Making, Replaces, answer_of, fault_of}
-use Rattle.cdb.specs.ForetoldCreate.{HadBytes, IsNoFailedRename, place_of}
-use Rattle.cdb_system.specs.State.{state_of}
-use Rattle.cdb_system.specs.Opening.{OpenCalls}
 
 -- ---- what it comes to
 

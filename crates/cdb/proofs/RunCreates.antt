@@ -1,39 +1,17 @@
 -- A run whose words ask for a create comes to what the oracle says.
-use Rattle.cdb_show.specs.Views.Output.{OutputSays}
+use Rattle.cdb.proofs.Words.{Appends, Appends-kept, Asked, Bool, Command, Created, Creates, Err, Fault, Feed, Ghosts, HasHandedOn, IsTaken, Keeps, Keeps-refl, Keeps-trans, Left, List, NameCalls, Ok, OnErr, OnOk, OpenCalls, Option, OutputFailed, OutputSays, Refused, Result, RunOptions, SaysLine, Standard, [], ap, append-nil, arith, asked_in, create_of, failed_of, false, fault_line, given_of, has_wide_words, held_by, inl, inr, not_there, option_map, output_bytes, plain_status, prefix_kept, refl, refused_lines, state_of, string_bytes, subst, sym, true, usage_line, usage_of, usage_status, writer_bytes, ℕ, ◌++◌, ◌∙◌, ◌≡◌, ◌⊎◌}
 use Rattle.cdb.proofs.CreateTaken.{MayGiveUpCreate, taken_create}
-use Rattle.std.proofs.lemmas.Grind.{not_there}
-use Rattle.std.proofs.Common.{ℕ, Bool, true, false, ◌⊎◌, List, [], ◌++◌, Option, Result, Ok, Err, ◌≡◌, ◌∙◌, ap, inl, inr, refl, subst, sym, append-nil, option_map, arith, string_bytes}
-use Rattle.std.specs.Prelude.{OnErr, OnOk}
-use Rattle.std.specs.Io.KnownBytes.{Appends, Keeps}
-use Rattle.std.proofs.KnownBytes.{Appends-kept, Keeps-refl, Keeps-trans}
 use Rattle.cdb_form.proofs.Bytes.WritingLemmas.{appends_then}
-use Rattle.cdb_command.specs.Asked.{Asked, asked_in, has_wide_words}
 use Rattle.cdb_command.specs.Asked as asked
-use Rattle.cdb_command.specs.declared.command.Command.{Command}
 use Rattle.cdb_command.specs.declared.command.Command.TheVariants as command
 use Rattle.cdb_command.specs.declared.options.MakeOptions.{MakeOptions}
-use Rattle.cdb_tool.specs.declared.runs.options.RunOptions.{RunOptions}
-use Rattle.cdb_command.specs.Refused.{Refused, usage_of}
-use Rattle.cdb_names.specs.Folder.{NameCalls}
-use Rattle.cdb_form.specs.Fed.Feed.{Feed}
 use Rattle.cdb_store.specs.declared.raw.RawFile.{Ghosts as Raw}
-use Rattle.cdb_store.specs.declared.store.Store.{Ghosts}
-use Rattle.cdb_show.specs.Message.{fault_line}
-use Rattle.cdb_show.specs.Status.{plain_status}
-use Rattle.cdb_show.specs.declared.fault.Fault.{Fault}
 use Rattle.cdb_show.specs.declared.fault.Fault.TheVariants.{Missing, NoMemory}
-use Rattle.cdb.specs.Created.{Created, create_of}
-use Rattle.cdb.specs.Creating.{Creates}
-use Rattle.cdb.specs.Foretold.{IsTaken}
 use Rattle.cdb.specs.ForetoldCreate.{CreateHolds, HonestCreate, IsCreateForetold, IsCreated, IsGivenUp, expected_of, passing}
 use Rattle.cdb_system.specs.Oracle.{Disk, ended, greatest_size, word_size}
 use Rattle.cdb.specs.Performs.{IsShown, PerformsIn, Runs, status_of}
-use Rattle.cdb_system.specs.Telling.{SaysLine, refused_lines, usage_line, usage_status}
-use Rattle.cdb_system.specs.declared.left.Left.{Left}
 use Rattle.cdb_system.specs.declared.system.System.{Ghosts as Systems}
-use Rattle.cdb_show.specs.Views.Output.{HasHandedOn, OutputFailed, held_by, output_bytes, writer_bytes}
 use Rattle.cdb_show.specs.declared.output.Output.{Output as Writer}
-use Rattle.cdb_show.proofs.Writers.{prefix_kept}
 use Rattle.cdb.proofs.Replaced.{IsPlain}
 use Rattle.cdb_system.proofs.Explained.{SaysOnly, says_only}
 use Rattle.cdb.proofs.CreateEnds.{Came, keeps_first}
@@ -41,9 +19,7 @@ use Rattle.cdb.proofs.CreateReads.{asking_none, moments_first}
 use Rattle.cdb.proofs.Creates.{creates_so}
 use Rattle.cdb.proofs.Oracles.{all_taken, handed_all}
 use Rattle.cdb.proofs.Replaced.{said_nothing}
-use Rattle.cdb_system.specs.State.{Standard, failed_of, given_of, state_of}
 use Rattle.cdb_system.specs.Files.{Files, files_of}
-use Rattle.cdb_system.specs.Opening.{OpenCalls}
 
 -- ---- the end
 

@@ -1,19 +1,10 @@
 -- Values of two files that are compared, one by one.
-use Rattle.std.proofs.Common.{◌≡◌, ◌≢◌, ℕ, ◌+◌, ◌≤◌, Bool, true, false, List, [], ◌∷◌, ◌++◌, map, refl, sym, ap, ◌∙◌}
-use Rattle.std.specs.Prelude.{◌&&◌, bytes_eq}
-use Rattle.std.proofs.lemmas.Slice.Eq.{bytes_eq-Decides}
+use Rattle.cdb_difference.proofs.Words.{Bool, Finder, Found, Ghosts, List, OnlyReads, Span, [], ap, bytes_eq, bytes_eq-Decides, bytes_of, false, map, nothing_found, part, refl, sym, true, values_eq, with_span, ℕ, ◌&&◌, ◌++◌, ◌+◌, ◌∙◌, ◌∷◌, ◌≡◌, ◌≢◌, ◌≤◌}
 use Rattle.std.proofs.lemmas.Bool.{and_left}
 use Rattle.cdb_store.proofs.Parts.{part_add, part_part}
-use Rattle.cdb_store.specs.Images.{part}
-use Rattle.cdb_store.specs.Reads.{OnlyReads}
-use Rattle.cdb_store.specs.declared.store.Store.{Ghosts}
 use Rattle.cdb_form.specs.declared.width.Width.{Ghosts as Widths}
-use Rattle.cdb_read.specs.Difference.{values_eq}
-use Rattle.cdb_read.specs.Lookup.{Found, bytes_of, nothing_found, with_span}
 use Rattle.cdb_read.specs.Views.Finder.{left_in, GivesSpan}
 use Rattle.cdb_read.specs.Views.Search.{found_ahead}
-use Rattle.cdb_read.specs.declared.lookup.finder.Finder.{Finder}
-use Rattle.cdb_read.specs.declared.span.Span.{Span}
 
 -- ---- the bytes of two values
 

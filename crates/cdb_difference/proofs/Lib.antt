@@ -8,3 +8,4 @@ pub mod MarkBits
 pub mod Marked
 pub mod Steps
 mod Looked
+mod Words

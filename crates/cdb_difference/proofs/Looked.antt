@@ -1,11 +1,7 @@
 -- Readers and finders that are used one call after another.
-use Rattle.std.proofs.Common.{◌∙◌, refl}
-use Rattle.cdb_store.proofs.Reading.{reads_more, reads_nothing}
-use Rattle.cdb_store.specs.declared.store.Store.{Ghosts}
+use Rattle.cdb_difference.proofs.Words.{Finder, Ghosts, LooksOn, ReadBoth, StaysAt, reads_more, reads_nothing, refl, ◌∙◌}
 use Rattle.cdb_form.specs.declared.width.Width.{Ghosts as Widths}
-use Rattle.cdb_read.specs.declared.lookup.finder.Finder.{Finder}
 use Rattle.cdb_read.specs.declared.reader.Reader.{Reader}
-use Rattle.cdb_difference.specs.Views.Looking.{LooksOn, ReadBoth, StaysAt}
 
 pub looks_more : {S L : Type 0} {s : Ghosts S} {l : Widths L} {a b c : Finder S L s l} → LooksOn a b → LooksOn b c → LooksOn a c
 looks_more p q = record { reader = q.reader ∙ p.reader; key = q.key ∙ p.key; reads = reads_more p.reads q.reads }

@@ -1,15 +1,6 @@
 -- Keys that are marked, and those that agree.
-use Rattle.std.proofs.Common.{◌≡◌, ℕ, true, false, cond, List, [], ◌∷◌, ◌++◌, map, refl, sym, ap, ◌∙◌, append_assoc, inl, inr}
-use Rattle.std.specs.Prelude.{bytes_eq}
-use Rattle.std.proofs.lemmas.Slice.Eq.{bytes_eq-Decides}
-use Rattle.std.proofs.lemmas.Bool.{cases_Bool}
-use Rattle.std.proofs.lemmas.List.{append-nil}
-use Rattle.cdb_form.specs.Format.Record.{KeyValue}
-use Rattle.cdb_form.specs.Format.Walk.{Walked, walk_of, with_first, with_records}
-use Rattle.cdb_read.specs.Values.{values_of}
-use Rattle.cdb_read.proofs.Differences.{values_of-append}
+use Rattle.cdb_difference.proofs.Words.{Grows, KeyValue, List, Walked, [], ap, append-nil, append_assoc, bytes_eq, bytes_eq-Decides, cases_Bool, cond, false, inl, inr, is_marked, map, mark_hash, refl, sym, true, values_of, values_of-append, walk_of, with_first, with_records, ℕ, ◌++◌, ◌∙◌, ◌∷◌, ◌≡◌}
 use Rattle.cdb_difference.specs.Views.InStep.{AgreeUnmarked, AllMarked, InStep}
-use Rattle.cdb_difference.specs.Views.Marks.{Grows, is_marked, mark_hash}
 
 -- ---- marks
 

@@ -1,20 +1,5 @@
 -- What a pass over a file, beside another, has written so far.
-use Rattle.std.specs.Prelude.{◌&&◌}
-use Rattle.std.proofs.Common.{◌≡◌, ℕ, ◌<◌, ◌≤◌, Bool, true, false, List, [], ◌++◌, length, refl, sym, Option}
-use Rattle.std.proofs.lemmas.List.{append-nil}
-use Rattle.std.specs.Io.KnownBytes.{Appends}
-use Rattle.cdb_form.specs.Format.Pair.{head_size}
-use Rattle.cdb_form.specs.Format.Walk.{Walked, no_walk, walk_of, with_first}
-use Rattle.cdb_form.specs.Text.Amending.{Change}
-use Rattle.cdb_form.specs.Views.KnownBytes.{AppendsPrefix}
-use Rattle.cdb_form.specs.declared.item.ItemKind.{ItemKind}
-use Rattle.cdb_form.proofs.Bytes.WritingLemmas.{appends_then, same_appends}
-use Rattle.cdb_read.specs.Lookup.{bytes_of}
-use Rattle.cdb_read.specs.Values.{values_of}
-use Rattle.cdb_read.specs.Views.Walking.{LiesAt, behind, record_in}
-use Rattle.cdb_read.specs.declared.span.Pair.{Pair}
-use Rattle.cdb_difference.specs.Difference.{changes_at, changes_text, is_first_changed, WritesPass, WritesPassPrefix}
-use Rattle.cdb_form.proofs.Bytes.WritingLemmas.{appends_none}
+use Rattle.cdb_difference.proofs.Words.{Appends, AppendsPrefix, Bool, Change, ItemKind, LiesAt, List, Option, Pair, Walked, WritesPass, WritesPassPrefix, [], append-nil, appends_none, appends_then, behind, bytes_of, changes_at, changes_text, false, head_size, is_first_changed, length, no_walk, record_in, refl, same_appends, sym, true, values_of, walk_of, with_first, ℕ, ◌&&◌, ◌++◌, ◌<◌, ◌≡◌, ◌≤◌}
 use Rattle.cdb_difference.proofs.Passes.{PassList, pass_all, pass_more, pass_none, pass_prefix, pass_so_far, text_append}
 
 pub record PassSoFar (w : ℕ) (kind : ItemKind) (b c : List ℕ) (left : Walked) (place : ℕ) (start now : Option (List ℕ)) : Type 0 where

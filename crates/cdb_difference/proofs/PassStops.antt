@@ -1,19 +1,10 @@
 -- Why a pass over a file, beside another, stopped.
-use Rattle.std.proofs.Common.{◌≡◌, ℕ, ◌≤◌, cond, List, [], ◌∷◌, ◌++◌, length, length-append, map, refl, sym, ap, ◌∙◌, arith}
-use Rattle.std.specs.Prelude.{bytes_eq, filter}
-use Rattle.std.proofs.lemmas.Slice.Eq.{bytes_eq-Decides}
-use Rattle.cdb_store.specs.Reads.{OnlyReads}
-use Rattle.cdb_store.specs.declared.store.Store.{Ghosts}
-use Rattle.cdb_form.specs.Format.Record.{KeyValue}
-use Rattle.cdb_form.specs.Format.Walk.{Walked, walk_of, with_first, with_records}
+use Rattle.cdb_difference.proofs.Words.{Ghosts, KeyValue, List, OnlyReads, Walked, [], ap, arith, bytes_eq, bytes_eq-Decides, cond, filter, flipped, length, length-append, map, refl, sym, values_of, values_of-append, walk_of, with_first, with_records, ℕ, ◌++◌, ◌∙◌, ◌∷◌, ◌≡◌, ◌≤◌}
 use Rattle.cdb_form.specs.declared.damage.Damage.{Damage}
 use Rattle.cdb_form.specs.declared.damage.Damage.TheVariants as damage
-use Rattle.cdb_read.specs.Values.{values_of}
 use Rattle.cdb_read.specs.declared.fault.ReadFault.{ReadFault}
 use Rattle.cdb_read.specs.declared.fault.ReadFault.TheVariants.{Short, Table, Record, Slot, Twice, Unindexed, Device, NoMemory, Output}
-use Rattle.cdb_read.proofs.Differences.{values_of-append}
 use Rattle.cdb_difference.specs.Difference.{WalkHasKey, IsOneDamaged, ReadingStops, DifferenceStops, StopsBy}
-use Rattle.cdb_difference.specs.Views.Stop.{flipped}
 use Rattle.cdb_difference.specs.declared.stop.Stop.{Stop}
 use Rattle.cdb_difference.specs.declared.stop.Stop.TheVariants.{Own, Other}
 

@@ -1,31 +1,17 @@
 -- What a pass over a file, beside another, has said so far.
-use Rattle.std.proofs.Common.{◌≡◌, ℕ, ◌+◌, ◌<◌, ◌≤◌, Bool, true, false, cond, List, [], ◌∷◌, ◌++◌, length, map, flat_map, refl, sym, ap, ◌∙◌, append_assoc, arith, inl, inr, Option}
+use Rattle.cdb_difference.proofs.Words.{Appends, AppendsPrefix, Bool, Change, ItemKind, LiesAt, List, Option, Pair, Putting, Walked, [], ap, append-nil, append_assoc, arith, behind, bytes_eq-Decides, bytes_of, change_line, cond, false, flat_map, flat_map-append, inl, inr, length, length_of, lookup_of, map, no_walk, prefix_in, prefix_last, record_in, refl, sym, true, values_of, walk_of, with_first, with_records, ℕ, ◌++◌, ◌+◌, ◌<◌, ◌∙◌, ◌∷◌, ◌≡◌, ◌≤◌}
 use Rattle.std.specs.Prelude.{◌&&◌, not, bytes_eq, filter, sum_by}
-use Rattle.std.specs.Io.KnownBytes.{Appends}
-use Rattle.std.proofs.lemmas.Slice.Eq.{bytes_eq-Decides}
 use Rattle.std.proofs.lemmas.Bool.{and_right, cases_Bool, eq-eqb, ne_eqb}
-use Rattle.std.proofs.lemmas.List.{append-nil}
-use Rattle.std.proofs.lemmas.List.Concat.{flat_map-append}
 use Rattle.std.proofs.lemmas.List.Elements.{filter-append}
 use Rattle.std.proofs.lemmas.List.Sums.{sum_by-append, sum_by-cons}
 use Rattle.cdb_form.specs.Format.Pair.{head_size, pair_size}
 use Rattle.cdb_form.specs.Format.Record.{KeyValue, record_size}
-use Rattle.cdb_form.specs.Format.Walk.{Walked, no_walk, walk_of, with_first, with_records}
-use Rattle.cdb_form.specs.Text.Amending.{Change, Putting, change_line}
-use Rattle.cdb_form.specs.Views.KnownBytes.{AppendsPrefix}
-use Rattle.cdb_form.specs.declared.item.ItemKind.{ItemKind}
 use Rattle.cdb_form.specs.declared.item.ItemKind.TheVariants as kind
-use Rattle.cdb_form.proofs.Bytes.WritingLemmas.{prefix_in, prefix_last}
 use Rattle.cdb_read.specs.Difference.{first_keys, is_changed, values_eq}
 use Rattle.cdb_read.specs.InOrder.{FindsInOrder, spans_from}
-use Rattle.cdb_read.specs.Lookup.{bytes_of, lookup_of}
-use Rattle.cdb_read.specs.Values.{values_of}
-use Rattle.cdb_read.specs.Views.Walking.{LiesAt, behind, record_in}
-use Rattle.cdb_read.specs.declared.span.Pair.{Pair}
 use Rattle.cdb_read.proofs.Differences.{same_unchanged, there}
 use Rattle.cdb_read.proofs.FirstKeys.{chosen_push, first_keys_more}
 use Rattle.cdb_read.proofs.InOrderFiles.{spans_has, spans_other}
-use Rattle.cdb_read.proofs.Walked.WalkedLengths.{length_of}
 use Rattle.cdb_difference.specs.Difference.{changes_at, changes_text, first_at, is_first_changed, key_changes, pass_of, values_at, WritesPass, WritesPassPrefix}
 
 -- ---- the first record of a key

@@ -1,23 +1,11 @@
 -- The puts of the values of a key that were written so far.
-use Rattle.std.proofs.Common.{◌≡◌, ℕ, List, [], ◌∷◌, ◌++◌, length, map, sym, ap, ◌∙◌, subst, append_assoc, Option, codes}
+use Rattle.cdb_difference.proofs.Words.{Appends, AppendsPrefix, Change, Finder, Found, Ghosts, List, Option, Putting, Span, [], ap, append_assoc, appends_none, appends_then, bytes_of, change_line, changes_at, changes_text, codes, flat_map-append, left_in, length, lookup_of, map, nothing_found, prefix_then, subst, sym, ℕ, ◌++◌, ◌∙◌, ◌∷◌, ◌≡◌}
 use Rattle.std.specs.Prelude.{decimal}
-use Rattle.std.specs.Io.KnownBytes.{Appends}
 use Rattle.std.proofs.lemmas.List.{append-nil, map-append}
-use Rattle.std.proofs.lemmas.List.Concat.{flat_map-append}
-use Rattle.cdb_store.specs.declared.store.Store.{Ghosts}
 use Rattle.cdb_form.specs.Format.Record.{record_of}
-use Rattle.cdb_form.specs.Text.Amending.{Change, Putting, change_line}
 use Rattle.cdb_form.specs.Text.Native.{spelling_of}
-use Rattle.cdb_form.specs.Views.KnownBytes.{AppendsPrefix}
 use Rattle.cdb_form.specs.declared.item.ItemKind.TheVariants.{Put}
 use Rattle.cdb_form.specs.declared.width.Width.{Ghosts as Widths}
-use Rattle.cdb_form.proofs.Bytes.WritingLemmas.{appends_then, prefix_then}
-use Rattle.cdb_read.specs.Lookup.{Found, bytes_of, lookup_of, nothing_found}
-use Rattle.cdb_read.specs.Views.Finder.{left_in}
-use Rattle.cdb_read.specs.declared.lookup.finder.Finder.{Finder}
-use Rattle.cdb_read.specs.declared.span.Span.{Span}
-use Rattle.cdb_difference.specs.Difference.{changes_at, changes_text}
-use Rattle.cdb_form.proofs.Bytes.WritingLemmas.{appends_none}
 use Rattle.cdb_read.proofs.FoundSoFar.{FoundSoFar}
 
 -- the text of the puts of a key with the values at some spans

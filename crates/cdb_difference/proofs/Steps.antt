@@ -1,15 +1,6 @@
 -- A step of two walks.
-use Rattle.std.proofs.Common.{◌≡◌, ℕ, true, List, [], ◌∷◌, ◌++◌, refl, sym, ap, ◌∙◌, append_assoc}
-use Rattle.cdb_store.specs.Reads.{OnlyReads}
-use Rattle.cdb_store.specs.declared.store.Store.{Ghosts}
-use Rattle.cdb_form.specs.Format.Record.{KeyValue}
-use Rattle.cdb_form.specs.Format.Walk.{Walked, with_first, with_records}
-use Rattle.cdb_read.specs.Views.Walking.{record_in}
-use Rattle.cdb_read.specs.declared.span.Pair.{Pair}
+use Rattle.cdb_difference.proofs.Words.{AllMarked, AreInStep, Ghosts, Grows, KeyValue, List, OnlyReads, Pair, Walked, [], ap, append_assoc, is_marked, left_from, record_in, refl, sym, true, with_first, with_records, ℕ, ◌++◌, ◌∙◌, ◌∷◌, ◌≡◌}
 use Rattle.cdb_read.specs.declared.walking.bookmark.Bookmark.{Bookmark}
-use Rattle.cdb_difference.specs.Views.InStep.{AllMarked, AreInStep}
-use Rattle.cdb_difference.specs.Views.Marks.{Grows, is_marked}
-use Rattle.cdb_difference.specs.Views.NextRecord.{left_from}
 use Rattle.cdb_difference.specs.declared.in_step.Places.{Places}
 use Rattle.cdb_difference.proofs.Marked.{in_step_other, in_step_own, in_step_same, marked_more}
 

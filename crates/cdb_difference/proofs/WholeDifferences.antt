@@ -1,12 +1,7 @@
 -- The text of a difference is that of its two passes.
-use Rattle.std.proofs.Common.{◌≡◌, ℕ, List, [], ◌∷◌, ◌++◌, map, flat_map, refl, sym, ap, ◌∙◌, append_assoc, Option, codes}
-use Rattle.std.specs.Io.KnownBytes.{Appends}
-use Rattle.cdb_form.specs.Format.Record.{KeyValue}
-use Rattle.cdb_form.specs.Format.Walk.{walk_of}
+use Rattle.cdb_difference.proofs.Words.{Appends, AppendsPrefix, KeyValue, List, Option, [], ap, append_assoc, appends_none, appends_then, codes, flat_map, map, prefix_in, prefix_last, prefix_then, refl, same_appends, sym, walk_of, ℕ, ◌++◌, ◌∙◌, ◌∷◌, ◌≡◌}
 use Rattle.cdb_form.specs.Text.Amending.{Change, Removing, amending_text}
-use Rattle.cdb_form.specs.Views.KnownBytes.{AppendsPrefix}
 use Rattle.cdb_form.specs.declared.item.ItemKind.TheVariants.{Put, Remove}
-use Rattle.cdb_form.proofs.Bytes.WritingLemmas.{appends_none, appends_then, prefix_in, prefix_last, prefix_then, same_appends}
 use Rattle.cdb_read.specs.Difference.{changed_keys, difference, puts_of}
 use Rattle.cdb_difference.specs.Difference.{changes_text, difference_of, key_changes, pass_changes, pass_of, WritesDifference, WritesPass, WritesPassPrefix, WritesDifferencePrefix}
 use Rattle.cdb_difference.proofs.Passes.{text_append}

@@ -6,3 +6,4 @@ pub mod NativeTexts
 pub mod MapTexts
 pub mod Slots
 pub mod Fed
+mod Words

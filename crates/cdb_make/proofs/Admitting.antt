@@ -1,19 +1,7 @@
 -- A record added, and those that it replaces taken out.
-use Rattle.std.proofs.Common.{◌≡◌, ℕ, suc, ◌+◌, ◌<◌, ◌≤◌, ◌⊎◌, Bool, true, false, List, [], ◌∷◌, ◌++◌, length, map, get_or, refl, sym, ap, subst, ◌∙◌, arith, inl, inr}
-use Rattle.std.specs.Prelude.{sum, slice_index}
-use Rattle.std.proofs.lemmas.Bool.{cases_eq, cases_lt}
-use Rattle.std.proofs.lemmas.List.{length-map, length_push, get_or_append_left, get_or_push, get_or_past}
-use Rattle.cdb_store.specs.declared.store.Store.{Ghosts}
+use Rattle.cdb_make.proofs.Words.{AreNone, Bool, Ghosts, HaveHash, KeyValue, List, MakeFault, Maker, Mark, Roll, SameRecords, [], ap, arith, behind, cases_eq, cases_lt, false, found_of, get_or, get_or_append_left, get_or_past, get_or_push, gone_of, inl, inr, is_found, is_gone, left, length, length-map, length_push, map, or_each, record_size, refl, slice_index, subst, suc, sum, sym, true, ℕ, ◌++◌, ◌+◌, ◌<◌, ◌∙◌, ◌∷◌, ◌≡◌, ◌≤◌, ◌⊎◌}
 use Rattle.cdb_form.specs.declared.width.Width.{Ghosts as Widths}
-use Rattle.cdb_form.specs.Format.Record.{KeyValue, record_size}
-use Rattle.cdb_store.specs.declared.make_fault.MakeFault.{MakeFault}
 use Rattle.cdb_store.specs.declared.make_fault.MakeFault.TheVariants.{Broken, Lookup, TooBig, NoMemory, Writing}
-use Rattle.cdb_make.specs.declared.mark.Mark.{Mark}
-use Rattle.cdb_make.specs.declared.maker.Maker.{Maker}
-use Rattle.cdb_make.specs.declared.roll.Roll.{Roll}
-use Rattle.cdb_make.specs.Marks.{is_gone, is_found, gone_of, found_of, AreNone, HaveHash}
-use Rattle.cdb_make.specs.Spans.{left, behind, or_each}
-use Rattle.cdb_make.specs.Views.Roll.{SameRecords}
 use Rattle.cdb_make.specs.Views.Maker.{gone_in, found_in, Stays, Adds, Waits, Admits, FailsCompacting, FailsAdmitting, IsWithin}
 use Rattle.cdb_make.proofs.Looking.{sees_same, sees_long, same_self, same_then}
 use Rattle.cdb_make.proofs.Spans.{left-append, or_append}

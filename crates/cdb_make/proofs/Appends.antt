@@ -2,27 +2,11 @@
 use Rattle.std.proofs.Common.{◌≡◌, ℕ, ◌+◌, ◌-◌, ◌*◌, ◌<◌, ◌≤◌, ◌⊎◌, inl, inr, Bool, true, false, List, [], ◌∷◌, ◌++◌, length, refl, sym, ap, subst, ◌∙◌, arith, append_assoc, length-append, Result, Ok, Err, IfOk, IfErr, OnErr}
 use Rattle.std.specs.Prelude.{All, sum_by}
 use Rattle.std.proofs.Math.Nat.{mul-add, mul-le-mul_left}
-use Rattle.std.proofs.lemmas.List.{append-nil, length-map}
-use Rattle.std.proofs.lemmas.List.Sums.{sum_by_push, sum_by-append}
-use Rattle.cdb_store.specs.Images.{part, AreSized, AfterWrite, ImagesHold as Stored}
-use Rattle.cdb_store.proofs.Parts.{part-overwrite}
-use Rattle.cdb_store.specs.declared.store.Store.{Ghosts}
+use Rattle.cdb_make.proofs.Words.{AfterWrite, AreOf, AreSized, ComesFrom, CompactsAll, Ghosts, HasGone, HasNotFailed, Holds, IsRecord, KeyValue, MakeFault, Maker, Roll, SameCounts, SameRecords, StaysWhole, append-nil, count_in, file_size, gone_in, gone_of, head_size, is_gone, key_hash, left, length-map, made_size, part, part-overwrite, places_in, record_bytes, record_size, searched, size_split, sought_in, sum_by-append, sum_by_push, whole_size}
+use Rattle.cdb_store.specs.Images.{ImagesHold as Stored}
 use Rattle.cdb_form.specs.declared.width.Width.{Ghosts as Widths}
-use Rattle.cdb_form.specs.Format.File.{file_size, whole_size}
-use Rattle.cdb_form.specs.Format.Hash.{key_hash}
-use Rattle.cdb_form.specs.Format.Pair.{head_size}
-use Rattle.cdb_form.specs.Format.Record.{IsRecord, KeyValue, record_bytes, record_size}
-use Rattle.cdb_form.proofs.Files.Sizes.{size_split}
-use Rattle.cdb_store.specs.declared.make_fault.MakeFault.{MakeFault}
 use Rattle.cdb_store.specs.declared.make_fault.MakeFault.TheVariants.{Broken, Lookup, TooBig, NoMemory, Writing}
-use Rattle.cdb_make.specs.declared.maker.Maker.{Maker}
-use Rattle.cdb_make.specs.declared.roll.Roll.{Roll}
 use Rattle.cdb_make.specs.Views.Appending.{full_size, AppendsAll, AppendsSome, Enters, FailsAppending, FailsWriting, IsCrowded, KeepsLimit, PassesLimit}
-use Rattle.cdb_make.specs.Marks.{is_gone, gone_of}
-use Rattle.cdb_make.specs.Spans.{left, AreOf}
-use Rattle.cdb_make.specs.Views.Places.{places_in}
-use Rattle.cdb_make.specs.Views.Roll.{searched, sought_in, SameRecords}
-use Rattle.cdb_make.specs.Views.Maker.{gone_in, count_in, made_size, ComesFrom, Holds, HasGone, HasNotFailed, CompactsAll, SameCounts, StaysWhole}
 use Rattle.cdb_make.proofs.Finishing.{left_same}
 use Rattle.cdb_make.proofs.Looking.{sees_long, sees_same}
 use Rattle.cdb_make.proofs.Picking.{both_few, both_within}

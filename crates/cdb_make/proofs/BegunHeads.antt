@@ -1,9 +1,6 @@
 -- The head of a store that is not finished.
-use Rattle.std.proofs.Common.{◌≡◌, ◌≤◌, ℕ, List, replicate, length, take, arith, ap, sym, ◌∙◌}
+use Rattle.cdb_make.proofs.Words.{AfterWrite, AreSized, List, ap, arith, head_size, held_first, length, part, replicate, sym, take, ℕ, ◌∙◌, ◌≡◌, ◌≤◌}
 use Rattle.std.proofs.lemmas.List.{take-replicate, length-replicate}
-use Rattle.cdb_store.specs.Images.{AfterWrite, AreSized, part}
-use Rattle.cdb_store.proofs.Moves.{held_first}
-use Rattle.cdb_form.specs.Format.Pair.{head_size}
 use Rattle.cdb_make.specs.Unfinished.{unfinished_head, IsUnfinished}
 
 -- the first bytes of a store that was emptied

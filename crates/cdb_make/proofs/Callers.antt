@@ -1,14 +1,6 @@
 -- What a caller of a maker concludes from what its calls leave.
-use Rattle.std.proofs.Common.{◌≡◌, ◌*◌, ◌≤◌, ◌⊎◌, List, length, refl, ap, ◌∙◌, arith}
-use Rattle.std.proofs.Math.Nat.{mul-le-mul_left}
-use Rattle.std.proofs.lemmas.List.{length-map}
-use Rattle.cdb_store.specs.declared.store.Store.{Ghosts}
-use Rattle.cdb_store.proofs.Reading.{reads_nothing}
+use Rattle.cdb_make.proofs.Words.{Ghosts, KeyValue, List, Maker, ap, arith, file_size, is_gone, length, length-map, mul-le-mul_left, reads_nothing, refl, ◌*◌, ◌∙◌, ◌≡◌, ◌≤◌, ◌⊎◌}
 use Rattle.cdb_form.specs.declared.width.Width.{Ghosts as Widths}
-use Rattle.cdb_form.specs.Format.File.{file_size}
-use Rattle.cdb_form.specs.Format.Record.{KeyValue}
-use Rattle.cdb_make.specs.declared.maker.Maker.{Maker}
-use Rattle.cdb_make.specs.Marks.{is_gone}
 use Rattle.cdb_make.specs.Views.Maker.{Follows, Holds, WhereHonest, count_in, gone_in, limit_of, told_count}
 use Rattle.cdb_make.proofs.Appends.{held_size}
 use Rattle.cdb_make.proofs.Finishing.{told_whole}

@@ -1,14 +1,6 @@
 -- Where the records of a roll end, before a step and after it.
-use Rattle.std.proofs.Common.{◌≡◌, ℕ, ◌+◌, ◌≤◌, Bool, List, [], ◌∷◌, ◌++◌, length, map, sym, ap, ◌∙◌, arith}
-use Rattle.std.specs.Prelude.{sum}
-use Rattle.std.proofs.lemmas.List.{map-append, length-map}
-use Rattle.std.proofs.lemmas.List.Sums.{sum_by_push}
+use Rattle.cdb_make.proofs.Words.{Bool, KeyValue, List, Roll, Sees, [], ap, arith, behind, head_size, left, length, length-map, map, map-append, picked, record_size, sum, sum_by_push, sym, ℕ, ◌++◌, ◌+◌, ◌∙◌, ◌∷◌, ◌≡◌, ◌≤◌}
 use Rattle.cdb_form.specs.declared.width.Width.{Ghosts as Widths}
-use Rattle.cdb_form.specs.Format.Pair.{head_size}
-use Rattle.cdb_form.specs.Format.Record.{KeyValue, record_size}
-use Rattle.cdb_make.specs.declared.roll.Roll.{Roll}
-use Rattle.cdb_make.specs.Rolls.{Sees}
-use Rattle.cdb_make.specs.Spans.{left, picked, behind}
 use Rattle.cdb_make.proofs.Picking.{end_sum, left_sum}
 use Rattle.cdb_make.proofs.Removing.{behind_most}
 use Rattle.cdb_make.proofs.Spans.{left-map}

@@ -1,17 +1,11 @@
 -- What a store holds once the tables and the head are written and the rest is cut: the whole file.
-use Rattle.std.proofs.Common.{inl, inr, ◌≡◌, ℕ, ◌+◌, ◌-◌, ◌*◌, ◌≤◌, List, ◌++◌, length, take, drop, map, flat_map, sym, ap, ◌∙◌, arith, append_assoc, length-append}
-use Rattle.std.specs.List.{range_with_len}
+use Rattle.cdb_make.proofs.Words.{ImagesHold, KeyValue, List, SameImages, WordPair, ap, append_assoc, arith, drop, flat_map, head_bytes, head_size, inl, inr, length, length-append, length-flat_map_words, map, pair_bytes, range_with_len, record_bytes, records_end, sym, table_bytes, take, ℕ, ◌*◌, ◌++◌, ◌+◌, ◌-◌, ◌∙◌, ◌≡◌, ◌≤◌}
 use Rattle.std.proofs.lemmas.List.{drop-append-le, length-take-le, take_at, drop-take, length-map}
 use Rattle.cdb_store.specs.Images.{overwrite, part, AfterWrite, AfterCut, AreSized, KeepsPart}
-use Rattle.cdb_form.specs.Format.Pair.{WordPair, head_size, pair_bytes}
 use Rattle.cdb_form.specs.Format.File.{file_bytes, file_pointers, pointers_from}
-use Rattle.cdb_form.specs.Format.Record.{KeyValue, record_bytes, records_end}
 use Rattle.cdb_form.specs.Format.Table.{file_tables, slots_of, table_entries}
-use Rattle.cdb_form.proofs.Bytes.HeadLemmas.{length-flat_map_words}
 use Rattle.cdb_form.proofs.Files.Sizes.{length-pointers_from, tables_are}
-use Rattle.cdb_store.specs.Images.{ImagesHold, SameImages}
 use Rattle.cdb_make.specs.Finished.{EndsWith, IsFinished, HeadIsLast}
-use Rattle.cdb_make.specs.Parts.{head_bytes, table_bytes}
 use Rattle.cdb_make.proofs.Bytes.Written.{flat_map-map}
 
 pub length-head_bytes : (w end : ℕ) (ls : List (List WordPair)) → length ls ≡ 256 → length (head_bytes w end ls) ≡ head_size w

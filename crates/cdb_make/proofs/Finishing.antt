@@ -1,26 +1,9 @@
 -- A file finished: its records without those that go, and what is left where that failed.
-use Rattle.std.proofs.Common.{◌≡◌, ℕ, ◌+◌, ◌-◌, ◌*◌, ◌<◌, ◌≤◌, ◌⊎◌, inl, inr, false, List, ◌++◌, length, map, flat_map, refl, sym, ap, subst, ◌∙◌, arith, Bool, true, cond}
+use Rattle.cdb_make.proofs.Words.{AreNone, Bool, Ghosts, HeadIsLast, IsFinished, KeepsPart, KeyValue, List, MakeFault, Maker, Roll, SameImages, SameRecords, Sees, WordPair, ap, arith, behind, cond, false, file_bytes, flat_map, found_of, gone_of, head_bytes, head_size, inl, inr, is_gone, joined, left, length, length-map, map, part, places_in, record_bytes, record_size, records_end, refl, roll_tables, subst, sym, table_bytes, true, ℕ, ◌*◌, ◌++◌, ◌+◌, ◌-◌, ◌<◌, ◌∙◌, ◌≡◌, ◌≤◌, ◌⊎◌}
 use Rattle.std.specs.Prelude.{sum, Result, Ok, Err, IfErr, OnOk, OnErr}
-use Rattle.std.proofs.lemmas.List.{length-map}
 use Rattle.std.proofs.lemmas.List.Sums.{sum-map}
-use Rattle.cdb_store.specs.declared.store.Store.{Ghosts}
-use Rattle.cdb_store.specs.Images.{part, KeepsPart, SameImages}
 use Rattle.cdb_form.specs.declared.width.Width.{Ghosts as Widths}
-use Rattle.cdb_form.specs.Format.File.{file_bytes}
-use Rattle.cdb_form.specs.Format.Pair.{WordPair, head_size}
-use Rattle.cdb_form.specs.Format.Record.{KeyValue, record_bytes, record_size, records_end}
-use Rattle.cdb_store.specs.declared.make_fault.MakeFault.{MakeFault}
 use Rattle.cdb_store.specs.declared.make_fault.MakeFault.TheVariants.{Broken, Lookup, TooBig, NoMemory, Writing}
-use Rattle.cdb_make.specs.declared.maker.Maker.{Maker}
-use Rattle.cdb_make.specs.declared.roll.Roll.{Roll}
-use Rattle.cdb_make.specs.Finished.{IsFinished, HeadIsLast}
-use Rattle.cdb_make.specs.Marks.{is_gone, gone_of, found_of, AreNone}
-use Rattle.cdb_make.specs.Parts.{head_bytes, table_bytes}
-use Rattle.cdb_make.specs.Rolls.{Sees}
-use Rattle.cdb_make.specs.Spans.{left, behind, joined}
-use Rattle.cdb_make.specs.Tables.{roll_tables}
-use Rattle.cdb_make.specs.Views.Places.{places_in}
-use Rattle.cdb_make.specs.Views.Roll.{SameRecords}
 use Rattle.cdb_make.specs.Views.Maker.{gone_in, count_in, made_size, Holds, Goes, Passes, HasNotFailed, Compacts, CompactsAll, FailsCompactingAll, FailsFinishing, FinishWrites, IsFile, SameCounts, StaysWhole, told_count, told_size, HasStoreFailed, Rests, Stays, TellsCounts, WritesNothing}
 use Rattle.cdb_make.proofs.Bytes.Written.{flat_map-map}
 use Rattle.cdb_make.proofs.FinishedFile.{file_of_parts}

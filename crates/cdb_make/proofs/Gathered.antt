@@ -1,6 +1,5 @@
 -- One element among some, as it is told of.
-use Rattle.std.proofs.Common.{◌≡◌, ℕ, ◌<◌, List, map, get_or, slice_set, length, ap, ◌∙◌, arith, length-set}
-use Rattle.std.proofs.lemmas.List.{map-set, get_or-map, get_or-set_same, get_or-set_other}
+use Rattle.cdb_make.proofs.Words.{List, ap, arith, get_or, get_or-map, get_or-set_other, get_or-set_same, length, length-set, map, map-set, slice_set, ℕ, ◌<◌, ◌∙◌, ◌≡◌}
 
 -- of one that took another's place, and of the others
 pub told_here : {A B : Type 0} (f : A → B) (ls : List A) (n : ℕ) (x : A) (d : B) → n < length ls → get_or (map f (slice_set ls n x)) n d ≡ f x

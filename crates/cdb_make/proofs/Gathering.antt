@@ -1,21 +1,13 @@
 -- Entries that are gathered by their tables, 16 records at once.
 use Rattle.std.proofs.Common.{◌≡◌, ◌<◌, ◌≤◌, ◌+◌, ◌-◌, ◌*◌, ◌/◌, ◌%◌, ◌^◌, ◌∙◌, ℕ, zero, suc, Bool, false, cond, not, List, [], ◌∷◌, ◌++◌, length, take, drop, map, get_or, replicate, drop-drop, ap, sym, refl, inl, inr, arith}
-use Rattle.std.specs.Int.Count.{count_trailing_zeros}
+use Rattle.cdb_make.proofs.Words.{Roll, WordPair, count_trailing_zeros, drop-take, get_or_default, length-map, mask_l, nat_tests, places_in, roll_entries, rooms_of, table_number, tables_of, take_more, zip2}
 use Rattle.std.specs.List.{prefix_len}
-use Rattle.std.specs.Simd.Lanes.{mask_l, zip2}
 use Rattle.std.proofs.lemmas.Bool.{cases_Bool}
 use Rattle.std.proofs.Math.Nat.{div-div-eq-div-mul, pow-suc, zero-div}
-use Rattle.std.proofs.lemmas.Bool.Decides.{nat_tests}
 use Rattle.std.proofs.lemmas.Simd.{length-chunk, map-map, none_from_empty_mask, run_in_chunk_fails, trailing_mask_l, zip2_splat}
-use Rattle.std.proofs.lemmas.List.{drop-take, length-map, get_or_default, take_more}
-use Rattle.cdb_form.specs.Format.Hash.{table_number}
-use Rattle.cdb_form.specs.Format.Pair.{WordPair}
 use Rattle.cdb_form.specs.declared.width.Width.{Ghosts as Widths}
 use Rattle.cdb_make.specs.declared.finish.gathered.Gathered.{Gathered}
-use Rattle.cdb_make.specs.declared.roll.Roll.{Roll}
 use Rattle.cdb_make.specs.Gathering.{HaveRoomFor, is_among}
-use Rattle.cdb_make.specs.Tables.{rooms_of, tables_of, roll_entries}
-use Rattle.cdb_make.specs.Views.Places.{places_in}
 use Rattle.cdb_make.proofs.Tables.{get_or-entries_of, roll_long, tables_same}
 
 -- two operations with one number each, and one between them, lane by lane

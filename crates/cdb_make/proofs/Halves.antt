@@ -1,7 +1,6 @@
 -- Places by their lower and upper halves.
-use Rattle.std.proofs.Common.{◌≡◌, ℕ, zero, suc, ◌+◌, ◌*◌, ◌^◌, ◌<◌, List, [], ◌∷◌, cond, min, ◌++◌, length, get_or, set, take, refl, sym, ap, ◌∙◌, arith}
+use Rattle.cdb_make.proofs.Words.{List, [], ap, arith, cond, get_or, length, min, of_halves, refl, set, suc, sym, take, zero, ℕ, ◌*◌, ◌++◌, ◌+◌, ◌<◌, ◌^◌, ◌∙◌, ◌∷◌, ◌≡◌}
 use Rattle.std.specs.Prelude.{◌==◌}
-use Rattle.cdb_make.specs.Views.Places.{of_halves}
 
 pub length-halves : (ls hs : List ℕ) → length (of_halves ls hs) ≡ length ls
 length-halves [] hs = refl

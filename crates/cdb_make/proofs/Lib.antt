@@ -21,3 +21,4 @@ pub mod BegunHeads
 pub mod Lowering
 pub mod Ends
 pub mod Callers
+mod Words

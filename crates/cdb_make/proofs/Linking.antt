@@ -1,9 +1,7 @@
 -- Chains of entries: one entry more, one less, and a search.
-use Rattle.std.proofs.Common.{◌≡◌, ℕ, ◌+◌, ◌-◌, ◌<◌, ◌≤◌, Bool, true, false, List, [], ◌∷◌, ◌++◌, length, take, set, get_or, ap, sym, subst, ◌∙◌, arith, inl, inr}
+use Rattle.cdb_make.proofs.Words.{AreChained, Bool, Has, IsIn, IsLast, List, Reaches, [], ap, arith, bucket_of, cases_eq, cases_lt, false, get_or, inl, inr, length, set, subst, sym, take, true, ℕ, ◌++◌, ◌+◌, ◌-◌, ◌<◌, ◌∙◌, ◌∷◌, ◌≡◌, ◌≤◌}
 use Rattle.std.specs.Prelude.{slice_index, ◌≢◌}
 use Rattle.std.proofs.lemmas.List.{get_or-set_same, get_or-set_other, get_or_append_left, get_or_push, get_or-take, get_or_past, length-set, length_push, length-take-le}
-use Rattle.std.proofs.lemmas.Bool.{cases_eq, cases_lt}
-use Rattle.cdb_make.specs.Chains.{bucket_of, IsIn, Has, IsLast, AreChained, Reaches}
 
 last_grown : (P : ℕ → Type 0) (end n : ℕ) → (P end → ⊥) → IsLast P end n → IsLast P (end + 1) n
 last_grown P end n other h = record {

@@ -1,27 +1,10 @@
 -- Records that a roll notes, as a look at their places sees them.
 use Rattle.std.proofs.Common.{◌≡◌, ℕ, zero, suc, ◌+◌, ◌<◌, ◌≤◌, ◌^◌, Bool, true, false, cond, List, [], ◌∷◌, ◌++◌, length, map, drop, take, get_or, refl, sym, ap, subst, ◌∙◌, arith, Ok, Option, Some, None, is_some}
-use Rattle.std.specs.Prelude.{bytes_eq, slice_index}
-use Rattle.std.proofs.lemmas.List.{take-append-drop, get_or-map, length-map, get_or_default}
-use Rattle.std.proofs.lemmas.Slice.Eq.{bytes_eq-Decides}
-use Rattle.cdb_store.specs.Images.{part}
+use Rattle.cdb_make.proofs.Words.{Has, IsFreshRecord, KeyValue, PairFits, Roll, SameRecords, Sees, Stand, bytes_eq, bytes_eq-Decides, fresh, get_or-map, get_or_default, gone_of, has_key, head_size, key_hash, length-map, length-record_bytes, part, places_in, record_bytes, record_size, searched, slice_index, sought_by, sought_in, take-append-drop}
 use Rattle.cdb_form.specs.declared.width.Width.{Ghosts as Widths}
-use Rattle.cdb_form.specs.Format.Hash.{key_hash}
-use Rattle.cdb_make.specs.Tags.{sought_by}
-use Rattle.cdb_form.specs.Format.Pair.{head_size}
-use Rattle.cdb_form.specs.Format.Record.{KeyValue, record_bytes, record_size}
-use Rattle.cdb_form.specs.Views.Pairs.{PairFits}
 use Rattle.cdb_form.proofs.Files.Prefixes.{lengths_of, Begins, Reads, prefix_reads}
 use Rattle.cdb_form.proofs.Files.Standing.{Begins-record_bytes}
-use Rattle.cdb_form.proofs.Files.Sizes.{length-record_bytes}
-use Rattle.cdb_make.specs.declared.roll.Roll.{Roll}
-use Rattle.cdb_make.specs.Chains.{Has}
 use Rattle.cdb_make.specs.Looks.{key_at, size_at, has_key_at, LooksAtImages}
-use Rattle.cdb_make.specs.Marks.{gone_of}
-use Rattle.cdb_make.specs.Rolls.{Sees, fresh, IsFreshRecord}
-use Rattle.cdb_make.specs.Spans.{Stand}
-use Rattle.cdb_make.specs.Survivors.{has_key}
-use Rattle.cdb_make.specs.Views.Places.{places_in}
-use Rattle.cdb_make.specs.Views.Roll.{searched, sought_in, SameRecords}
 use Rattle.cdb_make.proofs.Spans.{piece_at, place_is, place_high, place_size}
 
 -- what a record that stands somewhere says

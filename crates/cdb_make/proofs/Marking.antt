@@ -1,13 +1,7 @@
 -- Marks of records, one by one.
-use Rattle.std.proofs.Common.{◌≡◌, ◌≢◌, ℕ, ◌+◌, ◌-◌, ◌<◌, ◌≤◌, Bool, true, false, List, length, map, get_or, refl, sym, ap, subst, ◌∙◌, arith, inl, inr}
-use Rattle.std.specs.Prelude.{slice_index}
-use Rattle.std.proofs.lemmas.Bool.{cases_eq, cases_lt}
-use Rattle.std.proofs.lemmas.List.{ext_get_or, length-map}
+use Rattle.cdb_make.proofs.Words.{AreChained, Bool, HaveHash, IsIn, IsLast, IsTakenFrom, List, Mark, ap, arith, bucket_of, cases_eq, cases_lt, ext_get_or, false, found_of, get_or, gone_of, inl, inr, is_found, is_gone, length, length-map, map, refl, slice_index, subst, sym, taken, true, ℕ, ◌+◌, ◌-◌, ◌<◌, ◌∙◌, ◌≡◌, ◌≢◌, ◌≤◌}
 use Rattle.std.proofs.Math.ListN.{get_or-map}
-use Rattle.cdb_make.specs.declared.mark.Mark.{Mark}
 use Rattle.cdb_make.specs.declared.mark.Mark.TheVariants.{Stays, Found, Gone}
-use Rattle.cdb_make.specs.Chains.{bucket_of, IsIn, IsLast, AreChained}
-use Rattle.cdb_make.specs.Marks.{is_gone, is_found, gone_of, found_of, taken, HaveHash, IsTakenFrom}
 
 pub gone_or : (ms : List Mark) (k : ℕ) → get_or (gone_of ms) k true ≡ is_gone (get_or ms k Gone)
 gone_or ms k = get_or-map is_gone ms k Gone

@@ -1,20 +1,9 @@
 -- Marked records: how many they are, how many bytes they have, and which is the first.
-use Rattle.std.proofs.Common.{◌≡◌, ℕ, zero, suc, ◌+◌, ◌-◌, ◌^◌, ◌⊎◌, ◌<◌, ◌≤◌, Bool, true, false, cond, List, [], ◌∷◌, ◌++◌, length, map, take, drop, min, get_or, set, refl, sym, ap, subst, ◌∙◌, arith, inl, inr}
-use Rattle.std.specs.Prelude.{sum, slice_index}
-use Rattle.std.proofs.lemmas.Bool.{cases_eq, cases_lt, false_from_ne_true}
-use Rattle.std.proofs.lemmas.List.{ext_get_or, get_or_default, get_or_past, length-map, take_at, get_or-set_same, get_or-set_other}
-use Rattle.std.proofs.lemmas.List.Sums.{sum_by-cons}
-use Rattle.std.proofs.Math.Seq.{map-set_same}
+use Rattle.cdb_make.proofs.Words.{AreOf, Bool, IsPicked, List, Mark, Picked, Roll, [], ap, arith, cases_eq, cases_lt, cond, drop, end_from, ext_get_or, false, false_from_ne_true, get_or, get_or-set_other, get_or-set_same, get_or_default, get_or_past, head_size, inl, inr, left, length, length-map, map, map-set_same, min, number, or_each, picked, places_from, places_in, refl, set, slice_index, subst, suc, sum, sum_by-cons, sym, take, take_at, true, zero, ℕ, ◌++◌, ◌+◌, ◌-◌, ◌<◌, ◌^◌, ◌∙◌, ◌∷◌, ◌≡◌, ◌≤◌, ◌⊎◌}
 use Rattle.std.proofs.Math.ListN.{get_or-map}
-use Rattle.cdb_make.specs.declared.mark.Mark.{Mark}
 use Rattle.cdb_make.specs.declared.mark.Mark.TheVariants.{Stays, Found, Gone}
 use Rattle.cdb_form.specs.declared.width.Width.{Ghosts as Widths}
-use Rattle.cdb_form.specs.Format.Pair.{head_size}
-use Rattle.cdb_make.specs.Views.Places.{places_in}
-use Rattle.cdb_make.specs.declared.roll.Roll.{Roll}
-use Rattle.cdb_make.specs.declared.roll.Picked.{Picked}
 use Rattle.cdb_make.specs.Marks.{is_gone, is_found, gone_of, found_of, taken, put_back, IsFirstMarked, IsFirstOrPast, AreNone, HaveHash, IsPutBackFrom}
-use Rattle.cdb_make.specs.Spans.{left, picked, number, or_each, AreOf, IsPicked, places_from, end_from}
 use Rattle.cdb_make.proofs.Spans.{long_as, place_size, spans_of}
 use Rattle.cdb_make.proofs.Marking.{gone_or, found_or}
 

@@ -1,21 +1,8 @@
 -- Records of a key, found and taken out.
-use Rattle.std.proofs.Common.{◌≡◌, ℕ, suc, ◌+◌, ◌<◌, ◌≤◌, Bool, true, false, cond, List, [], ◌∷◌, length, map, refl, sym, ap, subst, ◌∙◌, arith, sum_by, inl, inr}
+use Rattle.cdb_make.proofs.Words.{AreNone, Bool, Ghosts, IsErrAnd, KeyValue, List, MakeFault, Maker, Mark, Roll, Sees, [], ap, arith, behind, behind_first, cond, count_of, false, found_of, fresh, gone_of, has_key, inl, inr, is_gone, left, length, length-map, map, number, or_each, picked, record_size, refl, subst, suc, sum_by, sum_by-cons, sym, taken, true, without, ℕ, ◌+◌, ◌<◌, ◌∙◌, ◌∷◌, ◌≡◌, ◌≤◌}
 use Rattle.std.specs.Prelude.{sum, Result, Ok, Err, IfErr, OnErr}
-use Rattle.std.specs.Result.{IsErrAnd}
-use Rattle.std.proofs.lemmas.List.{length-map}
-use Rattle.std.proofs.lemmas.List.Sums.{sum_by-cons}
-use Rattle.cdb_store.specs.declared.store.Store.{Ghosts}
 use Rattle.cdb_form.specs.declared.width.Width.{Ghosts as Widths}
-use Rattle.cdb_form.specs.Format.Record.{KeyValue, record_size}
-use Rattle.cdb_store.specs.declared.make_fault.MakeFault.{MakeFault}
 use Rattle.cdb_store.specs.declared.make_fault.MakeFault.TheVariants.{Writing}
-use Rattle.cdb_make.specs.declared.maker.Maker.{Maker}
-use Rattle.cdb_make.specs.Marks.{is_gone, gone_of, AreNone, found_of, taken}
-use Rattle.cdb_make.specs.declared.mark.Mark.{Mark}
-use Rattle.cdb_make.specs.declared.roll.Roll.{Roll}
-use Rattle.cdb_make.specs.Rolls.{Sees, fresh}
-use Rattle.cdb_make.specs.Spans.{left, behind, or_each, number, picked}
-use Rattle.cdb_make.specs.Survivors.{has_key, count_of, without, behind_first}
 use Rattle.cdb_make.specs.Views.Maker.{gone_in, found_in, Holds, Seeks, TakesOut, Tears, Removes, FailsRemoving, Follows, HasStoreFailed, IsMarked}
 use Rattle.cdb_make.proofs.Looking.{sees_long, sees_same, same_back}
 use Rattle.cdb_make.proofs.Picking.{left_all_stay, sum-cons, gone_taken, picked_taken}

@@ -1,38 +1,16 @@
 -- What a roll says of an image, step by step.
-use Rattle.std.proofs.Common.{◌≡◌, ℕ, ◌+◌, ◌*◌, ◌≤◌, ◌<◌, ◌⊎◌, inl, inr, Bool, true, false, cond, not, List, [], ◌∷◌, ◌++◌, length, map, take, refl, sym, ap, subst, ◌∙◌, arith, get_or, length-append, sum_by}
+use Rattle.cdb_make.proofs.Words.{AfterTornWrite, AreNone, AreOf, Bool, Ghosts, IsErrAnd, IsRecord, KeepsPart, KeyValue, List, LookFault, MakeFault, Maker, OnlyReads, Roll, SameImages, SameRecords, Sees, SeesNone, Stand, [], ap, arith, cases_eq, cases_lt, cond, end_from, false, file_size, found_of, fresh, get_or, get_or_append_left, get_or_past, get_or_push, gone_of, has_key, head_size, inl, inr, joined, key_hash, left, length, length-append, length-map, length_push, map, map-append, not, number, or_each, overwrite, part, part-overwrite, part_add, part_from_take, picked, places_in, record_bytes, record_size, refl, searched, sought_in, subst, sum_by, sum_by-cons, sum_by_push, sym, take, take-overwrite, true, whole_size, without, ℕ, ◌*◌, ◌++◌, ◌+◌, ◌<◌, ◌∙◌, ◌∷◌, ◌≡◌, ◌≤◌, ◌⊎◌}
 use Rattle.std.specs.Prelude.{All, sum, Result, Ok, Err, IfErr, OnOk, OnErr}
-use Rattle.std.specs.Result.{IsErrAnd}
-use Rattle.std.proofs.lemmas.Bool.{cases_eq, cases_lt}
-use Rattle.std.proofs.lemmas.List.{map-append, length-map, length_push, get_or_append_left, get_or_push, get_or_past}
-use Rattle.std.proofs.lemmas.List.Sums.{sum_by-cons, sum_by_push}
 use Rattle.std.proofs.lemmas.List.Elements.{All-append, All-cons, All-nil, All-head, All-tail}
-use Rattle.cdb_store.specs.declared.store.Store.{Ghosts}
-use Rattle.cdb_store.specs.Images.{part, overwrite, AfterTornWrite, KeepsPart, SameImages}
-use Rattle.cdb_store.proofs.Parts.{part_add, part_from_take, part-overwrite, take-overwrite}
 use Rattle.cdb_form.specs.declared.width.Width.{Ghosts as Widths}
-use Rattle.cdb_form.specs.Format.Hash.{key_hash}
 use Rattle.cdb_make.specs.Tags.{second_hash, sought_by}
-use Rattle.cdb_form.specs.Format.File.{file_size, whole_size}
-use Rattle.cdb_form.specs.Format.Pair.{head_size}
-use Rattle.cdb_form.specs.Format.Record.{KeyValue, IsRecord, record_bytes, record_size}
-use Rattle.cdb_store.specs.Reads.{OnlyReads}
-use Rattle.cdb_make.specs.declared.key_at.LookFault.{LookFault}
 use Rattle.cdb_make.specs.declared.key_at.LookFault.TheVariants.{Failed, Foreign}
-use Rattle.cdb_make.specs.Views.Roll.{searched, sought_in, SameRecords}
-use Rattle.cdb_make.specs.declared.roll.Roll.{Roll}
-use Rattle.cdb_make.specs.declared.maker.Maker.{Maker}
-use Rattle.cdb_make.specs.Marks.{gone_of, found_of, AreNone}
-use Rattle.cdb_make.specs.Spans.{left, picked, number, or_each, end_from, AreOf, joined, Stand}
-use Rattle.cdb_make.specs.Survivors.{has_key, without}
-use Rattle.cdb_make.specs.Rolls.{Sees, SeesNone, fresh}
 use Rattle.cdb_store.specs.declared.store.StoreFault.{StoreFault}
 use Rattle.cdb_store.specs.declared.store.StoreFault.TheVariants.{Device}
 use Rattle.cdb_store.specs.declared.store.StoreFault.TheVariants.{NoMemory as Refused}
-use Rattle.cdb_store.specs.declared.make_fault.MakeFault.{MakeFault}
 use Rattle.cdb_store.specs.declared.make_fault.MakeFault.TheVariants.{Broken, Lookup, TooBig, NoMemory, Writing}
 use Rattle.cdb_store.specs.MakeFault.{fault_of}
 use Rattle.cdb_make.specs.Views.Maker.{Goes, ComesFrom, AddFails, Follows, Stays, IsMarked, FailsExchanging, FailsCompacting, FailsLooking, HasStoreFailed, gone_in, found_in, is_foreign, look_fault}
-use Rattle.cdb_make.specs.Views.Places.{places_in}
 use Rattle.cdb_make.proofs.Spans.{left-map, joined_more, joined_end, kept_then}
 use Rattle.cdb_make.proofs.Looking.{sizes_of, sees_long, sees_same, same_self}
 use Rattle.cdb_make.proofs.Picking.{left_sum, left_number, end_sum}

@@ -1,15 +1,6 @@
 -- The records of a key, among those that do not go.
-use Rattle.std.proofs.Common.{◌≡◌, ℕ, zero, suc, ◌+◌, ◌-◌, ◌<◌, ◌≤◌, Bool, true, false, cond, List, [], ◌∷◌, length, refl, sym, ap, ◌∙◌, arith, inl, inr}
+use Rattle.cdb_make.proofs.Words.{AreNone, Bool, IsFreshRecord, IsLast, KeyValue, List, [], ap, arith, cases_lt, cond, count_of, false, false_from_ne_true, fresh, has_key, inl, inr, is_there, left, length, nat_tests, number, or_each, refl, suc, sum_by-cons, sym, true, zero, ℕ, ◌+◌, ◌-◌, ◌<◌, ◌∙◌, ◌∷◌, ◌≡◌, ◌≤◌}
 use Rattle.std.specs.Prelude.{nat_lt, ◌||◌}
-use Rattle.std.proofs.lemmas.Bool.{cases_lt, false_from_ne_true}
-use Rattle.std.proofs.lemmas.Bool.Decides.{nat_tests}
-use Rattle.std.proofs.lemmas.List.Sums.{sum_by-cons}
-use Rattle.cdb_form.specs.Format.Record.{KeyValue}
-use Rattle.cdb_make.specs.Chains.{IsLast}
-use Rattle.cdb_make.specs.Marks.{AreNone}
-use Rattle.cdb_make.specs.Rolls.{fresh, IsFreshRecord}
-use Rattle.cdb_make.specs.Spans.{left, number, or_each}
-use Rattle.cdb_make.specs.Survivors.{has_key, is_there, count_of}
 
 there_at : (key : List ℕ) (ms : List Bool) (rs : List KeyValue) (k : ℕ) → IsFreshRecord key ms rs k → is_there key (left ms rs) ≡ true
 there_at key [] rs k is = absurd (let t : false ≡ true = is in cc)

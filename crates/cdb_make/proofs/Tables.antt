@@ -1,24 +1,10 @@
 -- The entries of a roll, by their tables.
-use Rattle.std.proofs.Common.{◌≡◌, ℕ, zero, suc, ◌+◌, ◌*◌, ◌<◌, ◌≤◌, ◌⊎◌, inl, inr, List, [], ◌∷◌, ◌++◌, length, map, take, get_or, slice_set, replicate, refl, sym, ap, subst, ◌∙◌, arith, sum_by, length-append, length-set, ◌-◌}
-use Rattle.std.specs.Prelude.{All}
+use Rattle.cdb_make.proofs.Words.{All, KeyValue, List, Roll, Sees, WordPair, [], ap, arith, cases_eq, entries_from, entries_in, entries_of, get_or, head_size, in_table, inl, inr, key_hash, length, length-append, length-set, map, mul-le-mul_left, nat_tests, places_from, places_in, record_size, refl, replicate, roll_entries, roll_tables, slice_set, subst, suc, sum_by, sum_by-append, sym, table_entries, table_number, tables_of, take, zero, ℕ, ◌*◌, ◌++◌, ◌+◌, ◌-◌, ◌<◌, ◌∙◌, ◌∷◌, ◌≡◌, ◌≤◌, ◌⊎◌}
 use Rattle.std.specs.List.{range_with_len, filter}
-use Rattle.std.proofs.lemmas.Bool.{cases_eq}
-use Rattle.std.proofs.lemmas.Bool.Decides.{nat_tests}
 use Rattle.std.proofs.lemmas.List.{ext_get_or, get_or-set_same, get_or-set_other, append-nil, length-map, get_or-map, map-set, length-replicate, get_or-replicate, get_or_default}
-use Rattle.std.proofs.lemmas.List.Sums.{sum_by-append}
 use Rattle.std.proofs.lemmas.List.Elements.{filter-append}
 use Rattle.std.proofs.lemmas.List.FromFn.{get_or-map-range_with_len, length-map-range_with_len, map-range_with_len_more, sum_by-map-range_with_len_more}
-use Rattle.std.proofs.Math.Nat.{mul-le-mul_left}
-use Rattle.cdb_form.specs.Format.Hash.{key_hash, table_number}
-use Rattle.cdb_form.specs.Format.Pair.{WordPair, head_size}
-use Rattle.cdb_form.specs.Format.Record.{KeyValue, record_size}
-use Rattle.cdb_form.specs.Format.Table.{entries_from, table_entries, in_table}
 use Rattle.cdb_form.specs.declared.width.Width.{Ghosts as Widths}
-use Rattle.cdb_make.specs.declared.roll.Roll.{Roll}
-use Rattle.cdb_make.specs.Rolls.{Sees}
-use Rattle.cdb_make.specs.Spans.{places_from}
-use Rattle.cdb_make.specs.Tables.{entries_of, entries_in, tables_of, roll_entries, roll_tables}
-use Rattle.cdb_make.specs.Views.Places.{places_in}
 
 -- ---- hashes and places side by side
 

@@ -1,13 +1,6 @@
 -- The records that stand after a difference was done are lists of bytes, and so is what it says.
-use Rattle.std.proofs.Common.{ℕ, Bool, List, [], ◌∷◌, ◌++◌, map, flat_map, sym, subst, inl, inr}
-use Rattle.std.specs.Prelude.{bytes_eq, filter, not, ⊤}
-use Rattle.std.specs.List.{AllByRecursion}
-use Rattle.std.proofs.lemmas.Bool.{cases_Bool, cond-true, cond-false}
-use Rattle.cdb_form.specs.Format.Record.{AreBytes, IsRecord, KeyValue, record_of}
+use Rattle.cdb_read.proofs.Words.{AllByRecursion, AreBytes, Bool, IsRecord, KeyValue, List, [], after_change, amended, brought_up, bytes_eq, cases_Bool, changed_keys, cond-false, cond-true, difference, filter, first_keys, flat_map, inl, inr, is_changed, map, not, puts_of, record_of, subst, sym, values_of, ℕ, ⊤, ◌++◌, ◌∷◌}
 use Rattle.cdb_form.specs.Text.Amending.{Change, Putting, Removing}
-use Rattle.cdb_read.specs.Difference.{after_change, amended, changed_keys, difference, first_keys, is_changed, puts_of}
-use Rattle.cdb_read.specs.Laws.{brought_up}
-use Rattle.cdb_read.specs.Values.{values_of}
 
 all_filtered : {X : Type 0} (P : X → Type 0) (q : X → Bool) (xs : List X) → AllByRecursion P xs → AllByRecursion P (filter q xs)
 all_filtered P q [] all = tt

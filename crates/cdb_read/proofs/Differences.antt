@@ -1,16 +1,7 @@
 -- The difference of two lists of records, done to the first, gives each key what it has in the second.
-use Rattle.std.proofs.Common.{◌≡◌, ℕ, Bool, true, false, cond, List, [], ◌∷◌, ◌++◌, map, flat_map, refl, sym, ap, ◌∙◌, append_assoc, inl, inr}
-use Rattle.std.specs.Prelude.{not, ◌&&◌, bytes_eq, filter}
-use Rattle.std.proofs.lemmas.Slice.Eq.{bytes_eq-Decides}
-use Rattle.std.proofs.lemmas.List.{append-nil, map-append}
-use Rattle.std.proofs.lemmas.List.Sums.{fold-append}
-use Rattle.std.proofs.lemmas.List.Elements.{filter-append}
-use Rattle.std.proofs.lemmas.Bool.{cases_Bool, cond-true, cond-false, both_ways, and_from, and_parts, and_right, not_from_true, not_from_false}
-use Rattle.cdb_form.specs.Format.Record.{KeyValue, record_of}
-use Rattle.cdb_form.specs.Text.Amending.{Putting, Removing}
+use Rattle.cdb_read.proofs.Words.{Bool, KeyValue, List, Putting, Removing, [], and_from, and_parts, and_right, ap, append-nil, append_assoc, both_ways, bytes_eq, bytes_eq-Decides, cases_Bool, cond, cond-false, cond-true, false, filter, filter-append, flat_map, fold-append, inl, inr, map, map-append, not, not_from_false, not_from_true, record_of, refl, sym, true, values_of, ℕ, ◌&&◌, ◌++◌, ◌∙◌, ◌∷◌, ◌≡◌}
 use Rattle.cdb_read.specs.Difference.{after_change, amended, changed_keys, difference, first_keys, is_changed, puts_of, values_eq}
 use Rattle.cdb_read.specs.Laws.{brought_up, EmptyIsSame}
-use Rattle.cdb_read.specs.Values.{values_of}
 
 -- ---- tests
 

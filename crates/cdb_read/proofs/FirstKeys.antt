@@ -1,11 +1,5 @@
 -- The keys of a list of records that grows behind.
-use Rattle.std.proofs.Common.{◌≡◌, ℕ, Bool, true, false, cond, List, [], ◌∷◌, ◌++◌, refl, sym, ap, ◌∙◌, inl, inr}
-use Rattle.std.specs.Prelude.{not, ◌&&◌, bytes_eq, filter}
-use Rattle.std.proofs.lemmas.Slice.Eq.{bytes_eq-Decides}
-use Rattle.std.proofs.lemmas.List.Elements.{filter-append}
-use Rattle.std.proofs.lemmas.Bool.{cases_Bool, not_from_true, not_from_false}
-use Rattle.cdb_form.specs.Format.Record.{KeyValue}
-use Rattle.cdb_read.specs.Difference.{first_keys}
+use Rattle.cdb_read.proofs.Words.{Bool, KeyValue, List, [], ap, bytes_eq, bytes_eq-Decides, cases_Bool, cond, false, filter, filter-append, first_keys, inl, inr, not, not_from_false, not_from_true, refl, sym, true, ℕ, ◌&&◌, ◌++◌, ◌∙◌, ◌∷◌, ◌≡◌}
 use Rattle.cdb_read.proofs.Differences.{cond_nothing, eq_other_way, there}
 
 one_left : {X : Type 0} (p : X → Bool) (x : X) (b : Bool) → filter p (cond b [] (x ∷ [])) ≡ cond b [] (cond (p x) (x ∷ []) [])

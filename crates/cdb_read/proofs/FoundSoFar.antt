@@ -1,15 +1,11 @@
 -- The values of a key that a finder gave so far.
 use Rattle.std.proofs.Common.{◌≡◌, ◌∙◌, ℕ, List, [], ◌∷◌, ◌++◌, refl, sym, ap, subst, arith, append_assoc, Option}
-use Rattle.cdb_store.specs.Reads.{OnlyReads}
-use Rattle.cdb_store.specs.declared.store.Store.{Ghosts}
+use Rattle.cdb_read.proofs.Words.{Damage, Ghosts, OnlyReads, Span, found_ahead}
 use Rattle.cdb_store.proofs.Reading.{reads_more}
-use Rattle.cdb_form.specs.declared.damage.Damage.{Damage}
 use Rattle.cdb_form.specs.declared.width.Width.{Ghosts as Widths}
 use Rattle.cdb_read.specs.Lookup.{Found, with_spans}
 use Rattle.cdb_read.specs.Views.Finder.{left_in, GivesSpan}
-use Rattle.cdb_read.specs.Views.Search.{found_ahead}
 use Rattle.cdb_read.specs.declared.lookup.finder.Finder.{Finder}
-use Rattle.cdb_read.specs.declared.span.Span.{Span}
 
 pub reads_none : {S : Type 0} (s : Ghosts S) (store : S) → OnlyReads s store store
 reads_none s store = record { images = λ b is. is; size = refl; written = refl; room = omega arith; failures = omega arith; unwritten = omega arith }

@@ -1,25 +1,8 @@
 -- The look-ups of the file of some records give each key its records in the order of the walk.
-use Rattle.std.proofs.Common.{◌≡◌, ℕ, ◌+◌, ◌*◌, ◌≤◌, true, false, cond, List, [], ◌∷◌, length, take, drop, sym, ap, ◌∙◌, arith, inl, inr, length-drop}
-use Rattle.std.specs.Prelude.{bytes_eq, filter, nat_le}
-use Rattle.std.proofs.lemmas.Slice.Eq.{bytes_eq-Decides}
-use Rattle.std.proofs.lemmas.List.{length-take-le}
-use Rattle.std.proofs.lemmas.Bool.{cases_Bool, cond-true, cond-false, both_ways, eq-eqb, and_parts, leb-true}
-use Rattle.cdb_form.specs.Format.Hash.{key_hash}
-use Rattle.cdb_form.specs.Format.Pair.{WordPair, head_size, pair_size}
-use Rattle.cdb_form.specs.Format.Reading.{pair_at}
-use Rattle.cdb_form.specs.Format.Record.{KeyValue, record_size}
-use Rattle.cdb_form.specs.Format.Table.{entries_from}
-use Rattle.cdb_form.specs.Format.File.{file_bytes}
-use Rattle.cdb_form.specs.Format.Walk.{Walked, prefix_size}
+use Rattle.cdb_read.proofs.Words.{Found, KeyValue, List, Span, Walked, WordPair, [], and_parts, ap, arith, both_ways, bytes_eq, bytes_eq-Decides, cases_Bool, cond, cond-false, cond-true, drop, drop-head, entries_from, eq-eqb, false, file_bytes, filter, found_at, has_hash, head_size, inl, inr, key_hash, leb-true, length, length-drop, length-file_bytes, length-take-le, nat_le, pair_at, pair_size, prefix_size, record_size, sym, tables_bytes, take, true, value_span, values_of, walk_of-file_bytes, ℕ, ◌*◌, ◌+◌, ◌∙◌, ◌∷◌, ◌≡◌, ◌≤◌}
 use Rattle.cdb_read.specs.InOrder.{FindsInOrder, span_of, spans_from}
-use Rattle.cdb_read.specs.Lookup.{Found, found_at, has_hash, value_span}
-use Rattle.cdb_read.specs.declared.span.Span.{Span}
 use Rattle.cdb_read.proofs.WholeFiles.LookupLaws.{found_at-has, found_at-none, found_at-other, places_of}
 use Rattle.cdb_read.proofs.Bytes.RecordsAt.{AllRead, ReadsAt}
-use Rattle.cdb_form.proofs.Files.Places.{tables_bytes, drop-head}
-use Rattle.cdb_form.proofs.Files.Sizes.{length-file_bytes}
-use Rattle.cdb_form.proofs.Files.WalkLaws.{walk_of-file_bytes}
-use Rattle.cdb_read.specs.Values.{values_of}
 use Rattle.cdb_read.proofs.FilledTables.Fits.{Fit, size_is}
 use Rattle.cdb_read.proofs.WholeFiles.LookupLaws.{finds_values, lookup_of-file_bytes}
 use Rattle.cdb_read.proofs.Bytes.RecordsAt.{all_read}

@@ -1,13 +1,5 @@
 -- A file none of whose tables has slots, by its pointers.
-use Rattle.std.proofs.Common.{◌≡◌, ◌≤◌, ℕ, Bool, false, List, [], ◌∷◌, length, map, refl, sym, ap, ◌∙◌}
-use Rattle.std.specs.Prelude.{◌==◌, ◌&&◌, ◌||◌, not, nat_lt}
-use Rattle.std.specs.List.{list_any}
-use Rattle.std.proofs.lemmas.Bool.{le-ltb}
-use Rattle.cdb_form.specs.Format.Pair.{head_size}
-use Rattle.cdb_form.specs.Format.Reading.{head_at}
-use Rattle.cdb_form.specs.Format.Walk.{has_slots}
-use Rattle.cdb_form.specs.Views.Pairs.{pointer_pair}
-use Rattle.cdb_form.specs.declared.head.Pointer.{Pointer}
+use Rattle.cdb_read.proofs.Words.{Bool, List, Pointer, [], ap, false, has_slots, head_at, head_size, le-ltb, length, list_any, map, nat_lt, not, pointer_pair, refl, sym, ℕ, ◌&&◌, ◌==◌, ◌||◌, ◌∙◌, ◌∷◌, ◌≡◌, ◌≤◌}
 use Rattle.cdb_read.specs.OtherWidth.{lacks_tables}
 
 slots_in : (ps : List Pointer) → list_any (λ (p : Pointer). not (p.slots == 0)) ps ≡ list_any has_slots (map pointer_pair ps)

@@ -13,3 +13,4 @@ pub mod FirstKeys
 pub mod FoundSoFar
 pub mod Lacking
 pub mod TablesInside
+mod Words

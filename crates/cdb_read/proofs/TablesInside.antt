@@ -1,18 +1,10 @@
 -- A file whose tables lie inside it: neither its walk nor a look-up has the damage of a table.
-use Rattle.std.proofs.Common.{◌≡◌, ℕ, ◌+◌, ◌<◌, ◌≤◌, Bool, true, false, List, [], ◌∷◌, length, map, get_or, refl, sym, ap, ◌∙◌, subst, arith, inl, inr}
+use Rattle.cdb_read.proofs.Words.{All-from_get_or, Bool, Found, List, Walked, WordPair, [], ap, arith, false, found_at, get_or, get_or-map-range_with_len, has_slots, head_at, head_size, inl, inr, is_inside, is_whole, key_hash, length, length-map-range_with_len, lookup_of, map, nth_pair, record_end, recursion_from_All, refl, subst, sym, table_number, true, walk_from, walk_of, walk_of-records, walk_of-short, ℕ, ◌+◌, ◌<◌, ◌∙◌, ◌∷◌, ◌≡◌, ◌≤◌}
 use Rattle.std.specs.Prelude.{Option, Some, None, cond, filter, find, min, nat_lt, not, option_map, position, unwrap_or, fold}
 use Rattle.std.specs.List.{AllByRecursion, position_or_len, reduce}
 use Rattle.std.proofs.lemmas.Bool.{and_from, both_ways, cases_Bool, cases_lt, cond-true, cond_both, lt-ltb, not_from_false}
-use Rattle.std.proofs.lemmas.List.Elements.{All-from_get_or, recursion_from_All}
-use Rattle.std.proofs.lemmas.List.FromFn.{length-map-range_with_len, get_or-map-range_with_len}
 use Rattle.std.proofs.lemmas.List.Sums.{fails_before_first}
-use Rattle.cdb_form.specs.Format.Hash.{key_hash, table_number}
-use Rattle.cdb_form.specs.Format.Pair.{WordPair, head_size}
-use Rattle.cdb_form.specs.Format.Reading.{head_at, nth_pair}
-use Rattle.cdb_form.specs.Format.Walk.{Walked, has_slots, record_end, walk_from, walk_of}
 use Rattle.cdb_form.specs.declared.damage.Damage.TheVariants.{Record, Table}
-use Rattle.cdb_form.proofs.Files.WalkSteps.{walk_of-short, walk_of-records}
-use Rattle.cdb_read.specs.Lookup.{Found, found_at, is_inside, is_whole, lookup_of}
 use Rattle.cdb_read.specs.Statistics.{is_outside, outside_table}
 use Rattle.cdb_read.proofs.Probing.Beginnings.{is_inside-lies}
 use Rattle.cdb_read.proofs.Walked.Walks.{record_end-is}

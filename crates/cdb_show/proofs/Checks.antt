@@ -1,16 +1,11 @@
 -- A check of a store in which no database was opened.
-use Rattle.std.proofs.Common.{◌≡◌, ◌∙◌, ℕ, ◌<◌, List, length, sym, subst, ap, Some}
+use Rattle.cdb_show.proofs.Words.{Ghosts, List, OpeningFails, ReadFault, Some, ap, head_size, length, read_fault, subst, sym, ℕ, ◌<◌, ◌∙◌, ◌≡◌}
 use Rattle.std.specs.Prelude.{nat_lt}
 use Rattle.std.proofs.lemmas.Bool.{cond-true, lt-ltb}
-use Rattle.cdb_store.specs.declared.store.Store.{Ghosts}
-use Rattle.cdb_form.specs.Format.Pair.{head_size}
 use Rattle.cdb_form.specs.declared.damage.Damage.TheVariants as damage
 use Rattle.cdb_read.specs.Faults.{first_fault}
-use Rattle.cdb_read.specs.Views.Reads.{OpeningFails}
-use Rattle.cdb_read.specs.declared.fault.ReadFault.{ReadFault}
 use Rattle.cdb_read.specs.declared.fault.ReadFault.TheVariants.{Short, Table, Record, Slot, Twice, Unindexed, Device, NoMemory, Output}
 use Rattle.cdb_show.specs.Runs.Check.{CheckingFails}
-use Rattle.cdb_show.specs.Views.Fault.{read_fault}
 
 -- the first fault of a file that is shorter than a head
 short_first : (w : ℕ) (b : List ℕ) → length b < head_size w → first_fault w b ≡ Some damage.Short

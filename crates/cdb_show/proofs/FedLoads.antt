@@ -1,12 +1,9 @@
 -- A load from a reader that tells its bytes: what is said by feed, in the standard library's words.
-use Rattle.std.proofs.Common.{ℕ, List, Option}
-use Rattle.cdb_form.specs.Fed.Feed.{reader_feed}
+use Rattle.cdb_show.proofs.Words.{Fault, List, Option, known_loses, known_whole, reader_feed, ℕ}
 use Rattle.cdb_form.specs.declared.reading_whole.Extent.TheVariants.{More}
 use Rattle.cdb_form.specs.declared.walk.fault.WalkFault.TheVariants as walk
-use Rattle.cdb_form.proofs.Fed.KnownItems.{known_loses, known_whole}
 use Rattle.cdb_show.specs.Runs.FedLoad as fed
 use Rattle.cdb_show.specs.Runs.Load.{LoadStops}
-use Rattle.cdb_show.specs.declared.fault.Fault.{Fault}
 use Rattle.cdb_show.specs.declared.fault.Fault.TheVariants.{Text, Make, Duplicate, Missing, Read, Walk, Output, Long, Open, Rename, NoMemory, Old, New, NoOldTables, NoNewTables, NoBaseTables}
 
 pub known_stops : (most : ℕ) (old new : Option (List ℕ)) (fault : Fault) → fed.LoadStops most (reader_feed old) (reader_feed new) fault → LoadStops most old new fault

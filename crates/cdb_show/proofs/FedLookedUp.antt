@@ -2,33 +2,17 @@
 -- back: as of inputs that told these bytes before.
 use Rattle.std.proofs.Common.{◌≡◌, ℕ, zero, suc, Bool, List, [], ◌∷◌, ◌++◌, length, map, refl, sym, ap, subst, ◌∙◌, arith, Option, None, Some, Result, Err, IfSome, inl, inr}
 use Rattle.std.specs.Prelude.{⊤, ◌<◌}
-use Rattle.std.proofs.lemmas.List.{append-nil}
-use Rattle.std.specs.Io.KnownBytes.{Appends, Keeps}
-use Rattle.cdb_store.specs.declared.store.Store.{Ghosts}
+use Rattle.cdb_show.proofs.Words.{Appends, AppendsPrefix, AreAllInputs, AreInputs, BeginsWithItems, Change, Fault, Feed, FirstHas, Ghosts, HasFaults, HasItemFault, InputForm, InputReader, Inputs, InputsLeft, IsInputOf, IsOfText, Keeps, LooksUp, LooksUpAll, LookupsFail, LookupsStop, ReadsOne, SharedWindow, StopsIn, Style, TextFault, append-nil, bytes_of, fault_in, keys_form, keys_of, one_input, stop_of, stopped_parsing}
 use Rattle.cdb_feed.specs.Inputs.{AgreesWith, AreRead, AreUnread, FirstAgree, IsUnread, Stop, NoMore, HasFault, CutShort, NotBegun, TakesOne, reached}
-use Rattle.cdb_feed.specs.declared.input_reader.InputReader.{InputReader}
 use Rattle.cdb_feed.specs.declared.input_reader.InputReader.TheVariants as reader
-use Rattle.cdb_form.specs.Fed.Feed.{Feed}
 use Rattle.cdb_form.specs.Format.Record.{AreBytes}
-use Rattle.cdb_form.specs.Text.Amending.{Change}
-use Rattle.cdb_form.specs.Views.KnownBytes.{AppendsPrefix}
-use Rattle.cdb_form.specs.Views.TextFault.{IsOfText}
-use Rattle.cdb_form.specs.declared.text.fault.TextFault.{TextFault}
 use Rattle.cdb_form.specs.declared.text.fault.TextFault.TheVariants as kind
 use Rattle.cdb_read.specs.declared.fault.ReadFault.TheVariants as damage
-use Rattle.cdb_command.specs.declared.style.Style.{Style}
 use Rattle.cdb_command.specs.declared.style.Style.TheVariants as style_of
 use Rattle.cdb_show.specs.Runs.FedLookups.{FedLookupsFail, FedLooksUp, LooksUpRead, StopsInNext}
-use Rattle.cdb_show.specs.Runs.Incoming.{one_input}
-use Rattle.cdb_show.specs.Runs.Inputs.{InputForm, InputsLeft, AreAllInputs, AreInputs, BeginsWithItems, FirstHas, HasFaults, HasItemFault, IsInputOf, ReadsOne, bytes_of, keys_form, keys_of}
 use Rattle.cdb_show.specs.Runs.Inputs as form_of
-use Rattle.cdb_show.specs.Runs.Lookups.{LookupsFail, LookupsStop, LooksUp, LooksUpAll}
-use Rattle.cdb_show.specs.Runs.Parsing.{StopsIn, fault_in, stop_of, stopped_parsing}
 use Rattle.cdb_show.specs.Views.Inputs.{AreReadTo, held_of, reader_of, shared_feed}
-use Rattle.cdb_show.specs.declared.fault.Fault.{Fault}
 use Rattle.cdb_show.specs.declared.fault.Fault.TheVariants.{Text, Make, Duplicate, Missing, Read, Walk, Output, Long, Open, Rename, NoMemory, Old, New, NoOldTables, NoNewTables, NoBaseTables}
-use Rattle.cdb_show.specs.declared.inputs.Inputs.{Inputs}
-use Rattle.cdb_show.specs.declared.inputs.SharedWindow.{SharedWindow}
 use Rattle.cdb_show.specs.declared.inputs.SharedWindow.TheVariants.{InHand, Unread}
 use Rattle.cdb_show.proofs.NextInputs.{first_begins, first_none}
 use Rattle.cdb_show.proofs.Queries.{none_prefix}

@@ -1,42 +1,15 @@
 -- What a query of the keys of some inputs came to, by the readers of the inputs as they come back.
-use Rattle.std.proofs.Common.{◌≡◌, ℕ, ◌+◌, ◌<◌, ◌≤◌, Bool, List, [], ◌∷◌, ◌++◌, length, drop, refl, sym, ap, subst, ◌∙◌, arith, slice_set, slice_index_or, Option, None, Some, Result, Ok, Err, OnOk, IfErr, inl, inr, true, false}
-use Rattle.std.specs.Prelude.{⊤}
-use Rattle.std.proofs.lemmas.List.{append-nil}
-use Rattle.cdb_store.specs.declared.store.Store.{Ghosts}
-use Rattle.std.specs.Io.KnownBytes.{Appends}
-use Rattle.cdb_store.specs.Reads.{OnlyReads}
-use Rattle.cdb_store.proofs.Reading.{reads_more}
-use Rattle.cdb_read.specs.Views.Reads.{OpeningFails}
-use Rattle.cdb_read.specs.declared.fault.ReadFault.{ReadFault}
+use Rattle.cdb_show.proofs.Words.{Appends, AppendsPrefix, AreRead, BeginsWithItems, Bool, Change, Err, Fault, FaultBehind, Ghosts, HasItemFault, HasLooked, IfErr, InputForm, InputReader, Inputs, IsInputOf, List, LookupsStopAt, NoMore, None, NotBegun, Ok, OnOk, OnlyReads, OpeningFails, Option, Parsing, ReadFault, Result, SharedWindow, Some, Stop, StopsBehind, StopsSo, Style, TakesOne, TextFault, [], ap, append-nil, appends_then, arith, drop, end_of, false, feed_of, head_size, inl, inr, keys_form, keys_of, keys_of_each, length, looked_up, missing_answer, prefix_last, reached, read_fault, reads_more, reads_none, refl, slice_index_or, slice_set, subst, sym, true, ℕ, ⊤, ◌++◌, ◌+◌, ◌<◌, ◌∙◌, ◌∷◌, ◌≡◌, ◌≤◌}
 use Rattle.cdb_read.specs.declared.fault.ReadFault.TheVariants as damage
-use Rattle.cdb_read.proofs.FoundSoFar.{reads_none}
-use Rattle.cdb_feed.specs.Inputs.{AreRead, NoMore, NotBegun, Stop, StopsSo, TakesOne, reached}
-use Rattle.cdb_feed.specs.Parsing.{Parsing}
-use Rattle.cdb_feed.specs.declared.input_reader.InputReader.{InputReader}
 use Rattle.cdb_feed.specs.declared.input_reader.InputReader.TheVariants.{Own, Shared}
 use Rattle.cdb_form.specs.Fed.Feed.{Feed, Consumes, FromTo, Keeps}
-use Rattle.cdb_form.specs.Format.Pair.{head_size}
-use Rattle.cdb_form.specs.Text.Amending.{Change}
-use Rattle.cdb_form.specs.Views.KnownBytes.{AppendsPrefix}
-use Rattle.cdb_form.specs.declared.text.fault.TextFault.{TextFault}
 use Rattle.cdb_form.specs.declared.text.fault.TextFault.TheVariants as kind
-use Rattle.cdb_form.proofs.Bytes.WritingLemmas.{appends_then, prefix_last}
 use Rattle.cdb_form.proofs.Fed.FeedLemmas.{from_behind, from_both, from_kept, from_weaker, nothing_taken}
-use Rattle.cdb_command.specs.declared.style.Style.{Style}
 use Rattle.cdb_show.specs.Runs.FedLookups.{FedLookupsFail, FedLookupsLeave, LooksFurther, StopsFurther, StopsInNext, StopsTurn}
-use Rattle.cdb_show.specs.Runs.Form.{end_of}
-use Rattle.cdb_show.specs.Runs.LookedUp.{looked_up}
-use Rattle.cdb_show.specs.Runs.Inputs.{InputForm, BeginsWithItems, HasItemFault, IsInputOf, keys_form, keys_of, keys_of_each}
-use Rattle.cdb_show.specs.Runs.Lookups.{FaultBehind, HasLooked, LookupsStopAt, StopsBehind, missing_answer}
 use Rattle.cdb_show.specs.Runs.Parsing.{IsFaultOf, StopsIn, fault_in, stop_of, stopped_parsing}
 use Rattle.cdb_show.specs.Views.Inputs.{AreReadTo, reader_of, shared_feed}
-use Rattle.cdb_show.specs.Views.Fault.{read_fault}
-use Rattle.cdb_show.specs.Views.Window.{feed_of}
 use Rattle.cdb_show.specs.Views.WindowRests.{same_held}
-use Rattle.cdb_show.specs.declared.fault.Fault.{Fault}
 use Rattle.cdb_show.specs.declared.fault.Fault.TheVariants.{Text, Make, Duplicate, Missing, Read, Walk, Output, Long, Open, Rename, NoMemory, Old, New, NoOldTables, NoNewTables, NoBaseTables}
-use Rattle.cdb_show.specs.declared.inputs.Inputs.{Inputs}
-use Rattle.cdb_show.specs.declared.inputs.SharedWindow.{SharedWindow}
 use Rattle.cdb_show.specs.declared.inputs.SharedWindow.TheVariants.{InHand, Unread}
 use Rattle.cdb_show.specs.declared.window.Window.{Window}
 use Rattle.cdb_show.proofs.FedTurns.{SoFar, one_more, one_stops, all_read, others_same, reached_all, reached_more}

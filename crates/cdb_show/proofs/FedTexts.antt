@@ -1,16 +1,10 @@
 -- The text of a file whose reader tells its bytes: what is said by feed, in the standard library's words.
-use Rattle.std.proofs.Common.{ℕ, List, [], refl, Option, Some, None, Result, Ok, Err}
-use Rattle.cdb_form.specs.Fed.Feed.{reader_feed}
-use Rattle.cdb_form.specs.Format.Walk.{walk_of}
-use Rattle.cdb_form.specs.declared.damage.Damage.{Damage}
+use Rattle.cdb_show.proofs.Words.{Damage, Err, Fault, Form, List, None, Ok, Option, Result, Some, [], from_weaker, reader_feed, refl, walk_of, ℕ}
 use Rattle.cdb_form.specs.declared.damage.Damage.TheVariants as file_damage
 use Rattle.cdb_form.specs.declared.walk.fault.WalkFault.TheVariants as walk
-use Rattle.cdb_form.proofs.Fed.FeedLemmas.{from_weaker}
 use Rattle.cdb_form.proofs.Fed.KnownReaders.{known_consumes, known_from, known_text}
 use Rattle.cdb_show.specs.Runs.FedText as fed
-use Rattle.cdb_show.specs.Runs.Form.{Form}
 use Rattle.cdb_show.specs.Runs.WalkText.{WritesItems, WritesTextPrefix, WritesFirst, WritingFails, KeepsBehind, WritesWalk}
-use Rattle.cdb_show.specs.declared.fault.Fault.{Fault}
 use Rattle.cdb_show.specs.declared.fault.Fault.TheVariants.{Text, Make, Duplicate, Missing, Read, Walk, Output, Long, Open, Rename, NoMemory, Old, New, NoOldTables, NoNewTables, NoBaseTables}
 
 known_all : (w : ℕ) (form : Form) (file rest old new : Option (List ℕ)) → fed.WritesAll w form (reader_feed file) (reader_feed rest) old new → WritesWalk w form file rest old new (Ok tt)

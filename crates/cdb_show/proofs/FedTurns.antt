@@ -1,13 +1,8 @@
 -- The inputs that a loop has read so far, one after the other, and how it ends.
-use Rattle.std.proofs.Common.{◌≡◌, ℕ, suc, ◌+◌, ◌<◌, ◌≤◌, List, [], ◌∷◌, ◌++◌, length, take, drop, refl, sym, ap, subst, ◌∙◌, arith, slice_set, slice_index_or, length-append}
+use Rattle.cdb_show.proofs.Words.{AreRead, Feed, InputReader, List, NoMore, NotBegun, Parsing, Stop, StopsSo, TakesOne, [], ap, arith, drop, length, length-append, nothing_taken, reached, refl, slice_index_or, slice_set, subst, suc, sym, take, ℕ, ◌++◌, ◌+◌, ◌<◌, ◌∙◌, ◌∷◌, ◌≡◌, ◌≤◌}
 use Rattle.std.proofs.lemmas.List.{append-nil, drop-set, take-set, drop_more, drop-set-lt}
 use Rattle.std.proofs.Math.ListN.{length-set}
 use Rattle.std.proofs.Math.Seq.{drop-length}
-use Rattle.cdb_form.specs.Fed.Feed.{Feed}
-use Rattle.cdb_form.proofs.Fed.FeedLemmas.{nothing_taken}
-use Rattle.cdb_feed.specs.Inputs.{AreRead, NotBegun, NoMore, Stop, StopsSo, TakesOne, reached}
-use Rattle.cdb_feed.specs.Parsing.{Parsing}
-use Rattle.cdb_feed.specs.declared.input_reader.InputReader.{InputReader}
 use Rattle.cdb_feed.proofs.InputsInTurn.{read_then}
 
 -- however the run will stop, which the parsing may say

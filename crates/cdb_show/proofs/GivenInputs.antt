@@ -1,14 +1,10 @@
 -- What the inputs say that a run read, whole or in part: the function of their bytes says the same.
 use Rattle.std.proofs.Common.{◌≡◌, ◌+◌, ℕ, List, [], ◌∷◌, ◌++◌, length, map, refl, sym, ap, subst, ◌∙◌, arith, append_assoc, append-nil, Option, Some, None, Result, Ok, Err, IfSome}
-use Rattle.cdb_form.specs.Text.Amending.{Change}
+use Rattle.cdb_show.proofs.Words.{Change, Incoming, IsOfText, TextFault, came, from_input, from_inputs}
 use Rattle.cdb_form.specs.Text.Parse.{Parsed}
 use Rattle.cdb_form.specs.Views.KnownBytes.{FromTo}
-use Rattle.cdb_form.specs.Views.TextFault.{IsOfText}
-use Rattle.cdb_form.specs.declared.text.fault.TextFault.{TextFault}
-use Rattle.cdb_show.specs.Runs.Incoming.{Incoming, from_input, from_inputs}
 use Rattle.cdb_show.specs.Runs.Inputs.{InputForm, HasFaults, Puts, Changes, Lists, input_form, keys_of, OneInput, InputsLeft, IsInputOf, BeginsWithItems, HasItemFault, ReadsOne, ReadsFirstInputs, AreInputs, AreAllInputs, OneBegins, FirstBegins, FirstHas, bytes_of}
 use Rattle.cdb_show.specs.Runs.Inputs as form
-use Rattle.cdb_show.specs.Runs.Incoming.{came}
 use Rattle.cdb_show.specs.Runs.Incoming.{one_input, KnownFor, Known}
 use Rattle.cdb_show.specs.Runs.Given.{input_parsed, Given, with_input, given_from}
 use Rattle.cdb_show.specs.Runs.InputLaws.{text_input, text_begins, text_fails}

@@ -1,21 +1,15 @@
 -- What a reader of a map text gave of an input.
 use Rattle.std.proofs.Common.{◌≡◌, ◌≢◌, ℕ, ◌+◌, ◌*◌, ◌^◌, ◌≤◌, inl, inr, List, [], ◌∷◌, ◌++◌, refl, append_assoc, Option, Some, None, IfSome, sym, ap, subst, ◌∙◌, length, length-append, arith}
-use Rattle.std.proofs.lemmas.List.{append-nil}
+use Rattle.cdb_show.proofs.Words.{HasInputFault, InputsBeginWith, IsInput, KeyValue, MapReader, Source, TextFault, append-nil, map_lines, with_newlines}
 use Rattle.std.specs.Io.KnownBytes.{Consumes, IsAtEnd}
-use Rattle.cdb_form.specs.Format.Record.{KeyValue}
-use Rattle.cdb_form.specs.Text.Map.{map_lines, with_newlines}
 use Rattle.cdb_form.specs.Views.KnownBytes.{FromTo}
 use Rattle.cdb_form.specs.Views.MapReader as maps
 use Rattle.cdb_form.specs.Views.MapReader.{ReadAmid, ReadsLinesOf, IsAmidLines}
 use Rattle.cdb_form.specs.Views.Source.{LeavesAmid, Takes, budget}
-use Rattle.cdb_form.specs.declared.text.map_reader.MapReader.{MapReader}
-use Rattle.cdb_form.specs.declared.text.fault.TextFault.{TextFault}
 use Rattle.cdb_form.specs.declared.text.fault.TextFault.TheVariants.{Syntax, Ended, Large, Endless}
 use Rattle.cdb_form.specs.declared.text.fault.TextFault.TheVariants as fault
-use Rattle.cdb_form.specs.declared.text.source.Source.{Source}
 use Rattle.cdb_form.proofs.MapTexts.WholeMap.{GaveAll, GaveSoFar, gave_so_far_amid, gave_so_far_none, gave_so_far_rest, going_on}
 use Rattle.cdb_form.proofs.MapTexts.WholeMap.{Gave as GaveLines, gave_more as gave_lines_more, gave_all as gave_lines_all}
-use Rattle.cdb_show.specs.Runs.Inputs.{IsInput, InputsBeginWith, HasInputFault}
 use Rattle.cdb_command.specs.declared.style.Style.TheVariants as style
 
 -- ---- the asks of a map text

@@ -1,19 +1,12 @@
 -- What a reader took of the items of an input, whatever its form and whatever bytes agree with it.
-use Rattle.std.proofs.Common.{Bool, List, [], false, map, refl, true, ◌++◌, ◌<◌, ◌∷◌, ◌≡◌, ◌≢◌, ℕ}
-use Rattle.cdb_form.specs.Fed.Feed.{Feed, FromTo}
+use Rattle.cdb_show.proofs.Words.{BeginsWithItems, Bool, Feed, FromTo, HasFaults, HasInputFault, HasItemFault, InputsBeginWith, IsInput, IsInputOf, IsOfText, KeyValue, List, Puts, Spells, TextFault, [], false, from_weaker, map, refl, true, ℕ, ◌++◌, ◌<◌, ◌∷◌, ◌≡◌, ◌≢◌}
 use Rattle.cdb_form.specs.Fed.FormReader as fed
-use Rattle.cdb_form.specs.Format.Record.{KeyValue}
 use Rattle.cdb_form.specs.Text.Amending.{Change, Putting, SpellsChange}
-use Rattle.cdb_form.specs.Text.Native.{Spells}
 use Rattle.cdb_form.specs.Views.FormReader as text
-use Rattle.cdb_form.specs.Views.TextFault.{IsOfText}
-use Rattle.cdb_form.specs.declared.text.fault.TextFault.{TextFault}
 use Rattle.cdb_form.specs.declared.text.fault.TextFault.TheVariants.{NoMemory}
 use Rattle.cdb_form.specs.declared.text.form_reader.FormReader.{FormReader}
-use Rattle.cdb_form.proofs.Fed.FeedLemmas.{from_weaker}
 use Rattle.cdb_form.proofs.NativeTexts.Spelling.{changes, records}
 use Rattle.cdb_command.specs.declared.style.Style.TheVariants as style
-use Rattle.cdb_show.specs.Runs.Inputs.{BeginsWithItems, HasFaults, HasInputFault, HasItemFault, InputsBeginWith, IsInput, IsInputOf, Puts}
 use Rattle.cdb_show.specs.Views.ItemReader.{Fails, GivesEnd, GivesItem, HasPeeked, IsNew, asks_left, form_of, reader_of}
 use Rattle.cdb_show.specs.declared.runs.item_reader.ItemReader.{ItemReader}
 use Rattle.cdb_show.specs.declared.runs.item_reader.ItemReader.TheVariants.{Form, Map}

@@ -1,21 +1,13 @@
 -- What a reader took of the keys of an input, whatever its form and whatever bytes agree with it.
-use Rattle.std.proofs.Common.{List, [], ap, append_assoc, map, refl, sym, ◌++◌, ◌∙◌, ◌∷◌, ◌≡◌, ◌≢◌, ℕ}
-use Rattle.std.proofs.lemmas.List.{map-append}
-use Rattle.cdb_form.specs.Fed.Feed.{Feed, FromTo}
-use Rattle.cdb_form.specs.Format.Record.{KeyValue}
-use Rattle.cdb_form.specs.Text.Amending.{Change, Putting}
+use Rattle.cdb_show.proofs.Words.{Change, Feed, FromTo, IsOfText, KeyReader, KeyValue, List, Putting, TextFault, [], ap, append_assoc, from_weaker, map, map-append, refl, sym, ℕ, ◌++◌, ◌∙◌, ◌∷◌, ◌≡◌, ◌≢◌}
 use Rattle.cdb_form.specs.Text.List.{ReadsKeys, SpelledKeys, SpellsKey}
 use Rattle.cdb_form.specs.Text.Parse.{listed}
 use Rattle.cdb_form.specs.Views.ListReader as lists
-use Rattle.cdb_form.specs.Views.TextFault.{IsOfText}
-use Rattle.cdb_form.specs.declared.text.fault.TextFault.{TextFault}
 use Rattle.cdb_form.specs.declared.text.fault.TextFault.TheVariants.{NoMemory}
-use Rattle.cdb_form.proofs.Fed.FeedLemmas.{from_weaker}
 use Rattle.cdb_form.proofs.NativeTexts.KeyTexts.{keys}
 use Rattle.cdb_command.specs.declared.style.Style.TheVariants as style
 use Rattle.cdb_show.specs.Runs.Inputs.{BeginsWithItems, HasFaults, HasInputFault, HasItemFault, HasKeyFault, InputsBeginWith, IsInput, IsInputOf, Lists, Puts, key_of, keys_of}
 use Rattle.cdb_show.specs.Views.KeyReader.{Fails, GivesEnd, GivesKey, IsNew, form_of, reader_of}
-use Rattle.cdb_show.specs.declared.runs.key_reader.KeyReader.{KeyReader}
 use Rattle.cdb_show.specs.declared.runs.key_reader.KeyReader.TheVariants as reader
 use Rattle.cdb_show.proofs.MapInputs.{GaveLines, lines_all, lines_begin, lines_behind, lines_fault, lines_more, lines_none, lines_own}
 use Rattle.cdb_show.proofs.SpelledInputs.{GaveSpelled, spelled_all, spelled_begins, spelled_behind, spelled_fault, spelled_more, spelled_none}

@@ -27,3 +27,4 @@ pub mod PlacedReaders
 pub mod LookedUp
 pub mod ShownParts
 pub mod LineCounts
+mod Words

@@ -1,36 +1,19 @@
 -- A query of the keys that some inputs give comes to what the function of their bytes says, or to a
 -- refusal.
 use Rattle.std.proofs.Common.{◌≡◌, ◌⊎◌, ◌+◌, ◌≤◌, true, false, Bool, ℕ, inl, inr, List, [], ◌∷◌, ◌++◌, length, map, fold, refl, sym, ap, subst, ◌∙◌, arith, append_assoc, append-nil, Option, Some, None, Result, Ok, Err, if◌then◌else◌}
-use Rattle.std.specs.Prelude.{⊤}
+use Rattle.cdb_show.proofs.Words.{Appends, AppendsPrefix, Change, Fault, Ghosts, Given, Incoming, InputsLeft, IsOfText, Keeps, Known, Style, TextFault, came, end_of, from_input, from_inputs, given_from, head_size, key_of, keys_form, keys_of, keys_of_each, map-append, prefix_in, ⊤}
 use Rattle.std.proofs.lemmas.Bool.{cond-true, cond-false}
-use Rattle.std.proofs.lemmas.List.{map-append}
 use Rattle.std.proofs.lemmas.List.Sums.{fold-append}
-use Rattle.std.specs.Io.KnownBytes.{Appends, Keeps}
 use Rattle.std.proofs.KnownBytes.{Appends-kept, Keeps-trans}
-use Rattle.cdb_command.specs.declared.style.Style.{Style}
-use Rattle.cdb_form.specs.Format.Pair.{head_size}
-use Rattle.cdb_form.specs.Text.Amending.{Change}
-use Rattle.cdb_form.specs.Views.KnownBytes.{AppendsPrefix}
-use Rattle.cdb_form.specs.Views.TextFault.{IsOfText}
-use Rattle.cdb_form.specs.declared.text.fault.TextFault.{TextFault}
 use Rattle.cdb_form.specs.declared.text.fault.TextFault.TheVariants as text
 use Rattle.cdb_read.specs.declared.fault.ReadFault.TheVariants as read
-use Rattle.cdb_store.specs.declared.store.Store.{Ghosts}
-use Rattle.cdb_show.specs.Runs.Incoming.{Incoming, from_input, from_inputs}
 use Rattle.cdb_show.specs.Runs.Flushed.{FlushedWhole, IsWhole}
-use Rattle.cdb_show.specs.Runs.Form.{end_of}
-use Rattle.cdb_show.specs.Runs.Inputs.{InputsLeft, key_of, keys_form, keys_of, keys_of_each}
 use Rattle.cdb_show.specs.Runs.LookedUp.{Looked, has_ended, looked_up, records_asked, with_end, with_given, with_key}
 use Rattle.cdb_show.specs.Runs.Lookups.{LookupsFail, LookupsLeave, LooksUp, LooksUpAll, HasLooked, LookupsStop, missing_answer}
-use Rattle.cdb_show.specs.Runs.Given.{Given, given_from}
-use Rattle.cdb_show.specs.Runs.Incoming.{came}
-use Rattle.cdb_show.specs.Runs.Incoming.{Known}
 use Rattle.cdb_show.specs.Runs.Query.{IsShortForQuery}
-use Rattle.cdb_show.specs.declared.fault.Fault.{Fault}
 use Rattle.cdb_show.specs.declared.fault.Fault.TheVariants.{Text, Make, Duplicate, Missing, Read, Walk, Output, Long, Open, Rename, NoMemory, Old, New, NoOldTables, NoNewTables, NoBaseTables}
 use Rattle.cdb_show.proofs.GivenInputs.{after, all_given, begins_given, first_fails, left_known}
 use Rattle.cdb_show.proofs.LookupRuns.{each_more}
-use Rattle.cdb_form.proofs.Bytes.WritingLemmas.{prefix_in}
 use Rattle.cdb_show.proofs.Writers.{prefix_kept, whole_prefix}
 
 -- ---- what comes of it

@@ -1,30 +1,13 @@
 -- The keys that were looked up so far, and how their query ends.
-use Rattle.std.proofs.Common.{◌≡◌, ◌≢◌, ◌∙◌, ℕ, ◌≤◌, Bool, true, false, List, [], ◌∷◌, ◌++◌, fold, refl, sym, ap, subst, arith, Option, Result, Ok, Err}
-use Rattle.std.proofs.lemmas.List.{append-nil}
-use Rattle.std.proofs.lemmas.List.Concat.{flat_map-append}
-use Rattle.std.specs.Io.KnownBytes.{Appends}
-use Rattle.cdb_store.specs.Reads.{OnlyReads}
-use Rattle.cdb_store.specs.declared.store.Store.{Ghosts}
-use Rattle.cdb_form.specs.Fed.Feed.{Feed}
+use Rattle.cdb_show.proofs.Words.{Appends, AppendsPrefix, BeginsWithItems, Bool, Change, Err, Fault, Feed, Ghosts, InputForm, KeyReader, List, Ok, OnlyReads, Option, Queries, Result, Style, TextFault, [], ap, append-nil, appends_none, appends_then, arith, false, flat_map-append, fold, form_of, head_size, keys_of, keys_of_each, prefix_last, query_answer, query_text, reader_of, refl, subst, sym, true, ℕ, ◌++◌, ◌∙◌, ◌∷◌, ◌≡◌, ◌≢◌, ◌≤◌}
 use Rattle.cdb_form.specs.Fed.Feed as fed
-use Rattle.cdb_form.specs.Format.Pair.{head_size}
-use Rattle.cdb_form.specs.Text.Amending.{Change}
-use Rattle.cdb_form.specs.Views.KnownBytes.{AppendsPrefix}
-use Rattle.cdb_form.specs.declared.text.fault.TextFault.{TextFault}
 use Rattle.cdb_form.specs.declared.text.fault.TextFault.TheVariants as text
-use Rattle.cdb_form.proofs.Bytes.WritingLemmas.{appends_none, appends_then, prefix_last}
 use Rattle.cdb_read.specs.declared.fault.ReadFault.TheVariants as read
-use Rattle.cdb_command.specs.declared.style.Style.{Style}
-use Rattle.cdb_show.specs.Runs.Inputs.{InputForm, BeginsWithItems, keys_of, keys_of_each}
 use Rattle.cdb_show.specs.Runs.LookedUp.{key_query, Looked, joined, looked_up, with_key, with_one}
 use Rattle.cdb_show.specs.Runs.Lookups.{FaultBehind, StopsBehind, ComesTo, missing_answer, HasLooked, LookupsStopAt}
-use Rattle.cdb_show.specs.Runs.Query.{Queries, query_text, query_answer}
 use Rattle.cdb_show.specs.Views.Fault.{text_fault}
-use Rattle.cdb_show.specs.Views.KeyReader.{form_of, reader_of}
 use Rattle.cdb_show.specs.Views.KeyReader as views
-use Rattle.cdb_show.specs.declared.fault.Fault.{Fault}
 use Rattle.cdb_show.specs.declared.fault.Fault.TheVariants.{Text, Make, Duplicate, Missing, Read, Walk, Output, Long, Open, Rename, NoMemory, Old, New, NoOldTables, NoNewTables, NoBaseTables}
-use Rattle.cdb_show.specs.declared.runs.key_reader.KeyReader.{KeyReader}
 use Rattle.cdb_show.proofs.KeyInputs.{GaveKeys, keys_fault, keys_own, keys_still}
 
 -- ---- one key more

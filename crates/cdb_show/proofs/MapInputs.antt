@@ -1,21 +1,12 @@
 -- What a reader of a map text took of an input, whatever bytes agree with it.
-use Rattle.std.proofs.Common.{List, Option, Some, [], inl, inr, refl, subst, sym, ◌++◌, ◌^◌, ◌∷◌, ◌≡◌, ◌≢◌, ◌⊎◌, ℕ}
-use Rattle.cdb_form.specs.Fed.Feed.{Consumes, Feed, FromTo}
+use Rattle.cdb_show.proofs.Words.{Consumes, Feed, FromTo, HasInputFault, InputsBeginWith, IsInput, IsOfText, KeyValue, List, MapReader, Option, Some, TextFault, [], from_kept, from_taken, from_then, from_weaker, going_on, inl, inr, nothing_taken, refl, subst, sym, with_newlines, ℕ, ◌++◌, ◌^◌, ◌∷◌, ◌≡◌, ◌≢◌, ◌⊎◌}
 use Rattle.cdb_form.specs.Fed.MapParser as parser
 use Rattle.cdb_form.specs.Fed.MapReader.{Fails, GivesEnd, GivesRecord}
-use Rattle.cdb_form.specs.Format.Record.{KeyValue}
-use Rattle.cdb_form.specs.Text.Map.{with_newlines}
 use Rattle.cdb_form.specs.Views.MapParser.{EndsLine}
 use Rattle.cdb_form.specs.Views.MapReader as known
 use Rattle.cdb_form.specs.Views.MapReader.{GoesOn, HasEnded, IsGoing, asks_left, taken_of}
-use Rattle.cdb_form.specs.Views.TextFault.{IsOfText}
-use Rattle.cdb_form.specs.declared.text.fault.TextFault.{TextFault}
 use Rattle.cdb_form.specs.declared.text.fault.TextFault.TheVariants.{NoMemory}
-use Rattle.cdb_form.specs.declared.text.map_reader.MapReader.{MapReader}
-use Rattle.cdb_form.proofs.Fed.FeedLemmas.{from_kept, from_taken, from_then, from_weaker, nothing_taken}
-use Rattle.cdb_form.proofs.MapTexts.WholeMap.{going_on}
 use Rattle.cdb_command.specs.declared.style.Style.TheVariants as style
-use Rattle.cdb_show.specs.Runs.Inputs.{HasInputFault, InputsBeginWith, IsInput}
 use Rattle.cdb_show.proofs.InputTexts.{GaveMap, map_all, map_fault, map_first, map_more, map_none}
 use Rattle.cdb_show.proofs.SpelledInputs.{from_lost}
 

@@ -1,16 +1,12 @@
 -- The fault of a native text, behind the records that were read.
-use Rattle.std.proofs.Common.{◌≡◌, ℕ, ◌+◌, ◌-◌, ◌≤◌, List, [], ◌∷◌, ◌++◌, refl, Option, Some, None, IfSome, sym, ap, subst, ◌∙◌, length, length-append, append_assoc, take, arith}
-use Rattle.std.proofs.lemmas.List.{length-take-le}
+use Rattle.cdb_show.proofs.Words.{HasFaultBehind, IfSome, KeyValue, List, None, Option, Some, TextFault, [], ap, append_assoc, arith, length, length-append, length-take-le, refl, subst, sym, take, ℕ, ◌++◌, ◌+◌, ◌-◌, ◌∙◌, ◌∷◌, ◌≡◌, ◌≤◌}
 use Rattle.std.proofs.Math.Seq.{take-append-add}
-use Rattle.cdb_form.specs.Format.Record.{KeyValue}
-use Rattle.cdb_form.specs.declared.text.fault.TextFault.{TextFault}
 use Rattle.cdb_form.specs.declared.text.fault.TextFault.TheVariants.{Ended}
 use Rattle.cdb_form.specs.Views.TextReader.{StopsAmid}
 use Rattle.cdb_form.specs.Views.TextFault.{IsOfText, IsReadFault}
 use Rattle.cdb_form.specs.Views.KnownBytes.{Took}
 use Rattle.cdb_form.specs.Text.Native.{Spells, Spelled, HasFault, HasNoRecord}
 use Rattle.cdb_form.proofs.NativeTexts.WholeText.{SoFar, so_far_fault, fault_behind}
-use Rattle.cdb_show.specs.Runs.Inputs.{HasFaultBehind}
 
 pub some_weaker : {A : Type 0} {P Q : A → Type 0} (o : Option A) → ((a : A) → P a → Q a) → IfSome o P → IfSome o Q
 some_weaker None f p = tt

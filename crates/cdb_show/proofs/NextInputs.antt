@@ -1,8 +1,5 @@
 -- The inputs that are left, and the one that comes next.
-use Rattle.cdb_form.specs.Text.Amending.{Change}
-use Rattle.cdb_form.specs.Text.Map.{map_lines}
-use Rattle.cdb_show.specs.Runs.Inputs.{InputForm, InputsLeft, bytes_of, OneInput, OneBegins, BeginsWithItems, FirstHas, FirstBegins}
-use Rattle.std.proofs.Common.{List, sym, ℕ, subst, refl, IfSome, Option, ap, map, None, Some, [], ◌∷◌, ◌≡◌}
+use Rattle.cdb_show.proofs.Words.{BeginsWithItems, Change, FirstBegins, FirstHas, IfSome, InputForm, InputsLeft, List, None, OneBegins, OneInput, Option, Some, [], ap, bytes_of, map, map_lines, refl, subst, sym, ℕ, ◌∷◌, ◌≡◌}
 use Rattle.cdb_show.specs.Runs.Inputs as form
 use Rattle.cdb_command.specs.declared.style.Style.TheVariants as style
 

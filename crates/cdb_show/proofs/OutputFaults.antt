@@ -1,7 +1,6 @@
 -- A fault that says that an output has failed.
-use Rattle.std.proofs.Common.{Result, Ok, Err}
+use Rattle.cdb_show.proofs.Words.{Err, Fault, Ok, Result}
 use Rattle.cdb_show.specs.Views.Output.{OutputSays}
-use Rattle.cdb_show.specs.declared.fault.Fault.{Fault}
 use Rattle.cdb_show.specs.declared.fault.Fault.TheVariants.{Output}
 
 -- it says so whatever has failed

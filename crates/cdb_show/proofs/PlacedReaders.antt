@@ -1,9 +1,5 @@
 -- Readers that a run hands back are in their places.
-use Rattle.std.proofs.Common.{◌≡◌, ℕ, List, [], ◌∷◌, subst, sym}
-use Rattle.cdb_form.specs.Fed.Feed.{Feed}
-use Rattle.cdb_feed.specs.Inputs.{AreRead, CutShort, HasFault, NoMore, NotBegun, Stop, TakesOne}
-use Rattle.cdb_feed.specs.Parsing.{Parsing}
-use Rattle.cdb_feed.specs.declared.input_reader.InputReader.{InputReader}
+use Rattle.cdb_show.proofs.Words.{AreRead, CutShort, Feed, HasFault, InputReader, List, NoMore, NotBegun, Parsing, Stop, TakesOne, [], subst, sym, ℕ, ◌∷◌, ◌≡◌}
 use Rattle.cdb_feed.specs.declared.input_reader.InputReader.TheVariants.{Own, Shared}
 use Rattle.cdb_show.specs.Views.Inputs.{AreInPlace, ArePassed}
 

@@ -1,33 +1,19 @@
 -- The values of a key that were found so far, and how a query ends.
-use Rattle.std.proofs.Common.{◌≡◌, ◌∙◌, ℕ, ◌+◌, ◌-◌, ◌≤◌, true, false, Bool, List, [], ◌∷◌, ◌++◌, length, take, drop, map, flat_map, refl, sym, ap, subst, arith, append_assoc, codes, Option, None, Some, Result, Ok, Err, OnOk, IfErr, ◌≢◌, ◌<◌}
+use Rattle.cdb_show.proofs.Words.{Appends, AppendsPrefix, Bool, Damage, Err, Fault, Ghosts, IfErr, List, None, Ok, OnOk, OnlyReads, Option, ReadFault, Result, Some, [], ap, append_assoc, appends_none, appends_then, arith, codes, drop, false, flat_map, flat_map-append, head_size, length, map, prefix_last, prefix_then, read_fault, reads_more, refl, subst, sym, take, true, ℕ, ◌++◌, ◌+◌, ◌-◌, ◌<◌, ◌∙◌, ◌∷◌, ◌≡◌, ◌≢◌, ◌≤◌}
 use Rattle.std.proofs.lemmas.Bool.{le-leb, cond-true}
 use Rattle.std.proofs.lemmas.List.{append-nil, length-map, map-append, length-append}
-use Rattle.std.proofs.lemmas.List.Concat.{flat_map-append}
 use Rattle.std.proofs.Math.Seq.{drop-append_seam}
-use Rattle.std.specs.Io.KnownBytes.{Appends}
-use Rattle.cdb_store.specs.declared.store.Store.{Ghosts}
 use Rattle.cdb_form.specs.declared.width.Width.{Ghosts as Widths}
-use Rattle.cdb_form.specs.declared.damage.Damage.{Damage}
 use Rattle.cdb_form.specs.declared.damage.Damage.TheVariants as damage
-use Rattle.cdb_form.specs.Format.Pair.{head_size}
-use Rattle.cdb_form.specs.Views.KnownBytes.{AppendsPrefix}
-use Rattle.cdb_form.proofs.Bytes.WritingLemmas.{appends_then, prefix_then}
-use Rattle.cdb_form.proofs.Bytes.WritingLemmas.{prefix_last}
 use Rattle.cdb_read.specs.Lookup.{Found, bytes_of, lookup_of, with_spans}
 use Rattle.cdb_read.specs.Views.Finder.{left_in, GivesSpan, FindingFails}
-use Rattle.cdb_store.specs.Reads.{OnlyReads}
 use Rattle.cdb_read.specs.Views.Reads.{CopyingFails}
-use Rattle.cdb_read.specs.declared.fault.ReadFault.{ReadFault}
 use Rattle.cdb_read.specs.declared.fault.ReadFault.TheVariants as read
 use Rattle.cdb_read.specs.declared.lookup.finder.Finder.{Finder}
 use Rattle.cdb_read.specs.declared.span.Span.{Span}
-use Rattle.cdb_store.proofs.Reading.{reads_more}
 use Rattle.cdb_read.proofs.FoundSoFar.{FoundSoFar, ending, found_more, found_still}
-use Rattle.cdb_show.specs.Views.Fault.{read_fault}
 use Rattle.cdb_show.specs.Runs.Query.{Query, asked_of, value_text, values_text, spans_text, query_text, has_asked, why_missing, found_answer, query_answer, QueryAnswers, WritesQueryPrefix, QueryFails, Queries, WritesAllValues, in_hand, WritesSome, WritesEach, LeftFails}
-use Rattle.cdb_show.specs.declared.fault.Fault.{Fault}
 use Rattle.cdb_show.specs.declared.fault.Fault.TheVariants.{Text, Make, Duplicate, Missing, Read, Walk, Output, Long, Open, Rename, NoMemory, Old, New, NoOldTables, NoNewTables, NoBaseTables}
-use Rattle.cdb_form.proofs.Bytes.WritingLemmas.{appends_none}
 
 -- ---- what is written
 

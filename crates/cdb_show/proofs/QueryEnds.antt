@@ -1,20 +1,7 @@
 -- How a query ends: with a store that was not opened, or with the flush.
-use Rattle.std.proofs.Common.{ℕ, inl, inr, List, sym, subst, Option, Result, Ok, Err}
-use Rattle.std.specs.Prelude.{IsOk}
-use Rattle.std.specs.Io.KnownBytes.{Keeps}
-use Rattle.cdb_store.specs.declared.store.Store.{Ghosts}
-use Rattle.cdb_form.proofs.Bytes.WritingLemmas.{appends_kept}
-use Rattle.cdb_store.specs.Reads.{OnlyReads}
-use Rattle.cdb_read.specs.Views.Reads.{OpeningFails}
-use Rattle.cdb_read.specs.declared.fault.ReadFault.{ReadFault}
+use Rattle.cdb_show.proofs.Words.{Err, Fault, Flushed, Ghosts, IsOk, Keeps, List, Ok, OnlyReads, OpeningFails, Option, Queries, Query, QueryAnswers, QueryFails, ReadFault, Result, WritesQueryPrefix, appends_kept, appends_none, inl, inr, query_text, read_fault, reads_none, subst, sym, ℕ}
 use Rattle.cdb_read.specs.declared.fault.ReadFault.TheVariants as read
-use Rattle.cdb_show.specs.Views.Fault.{read_fault}
-use Rattle.cdb_show.specs.Runs.Flushed.{Flushed}
-use Rattle.cdb_show.specs.Runs.Query.{Query, query_text, QueryAnswers, WritesQueryPrefix, QueryFails, Queries}
-use Rattle.cdb_show.specs.declared.fault.Fault.{Fault}
 use Rattle.cdb_show.specs.declared.fault.Fault.TheVariants.{Text, Make, Duplicate, Missing, Read, Walk, Output, Long, Open, Rename, NoMemory, Old, New, NoOldTables, NoNewTables, NoBaseTables}
-use Rattle.cdb_form.proofs.Bytes.WritingLemmas.{appends_none}
-use Rattle.cdb_read.proofs.FoundSoFar.{reads_none}
 use Rattle.cdb_show.proofs.Queries.{none_prefix}
 use Rattle.cdb_show.proofs.Writers.{keeps_self, keeps_then, prefix_kept, whole_prefix, not_ok}
 

@@ -1,15 +1,9 @@
 -- What a reader of spelled items took of an input, whatever bytes agree with it.
-use Rattle.std.proofs.Common.{Some, [], arith, codes, drop, length, refl, subst, sym, take, ◌+◌, ◌++◌, ◌^◌, ◌∷◌, ◌≡◌, ◌≤◌, List, ℕ}
-use Rattle.std.proofs.lemmas.List.{length-take-le, take-append-drop}
-use Rattle.cdb_form.specs.Fed.Feed.{Consumes, Feed, FromTo}
+use Rattle.cdb_show.proofs.Words.{Consumes, Feed, FromTo, List, Some, Source, TextFault, [], arith, budget, codes, drop, from_both, from_kept, from_taken, from_then, from_weaker, length, length-take-le, nothing_taken, refl, subst, sym, take, take-append-drop, ℕ, ◌++◌, ◌+◌, ◌^◌, ◌∷◌, ◌≡◌, ◌≤◌}
 use Rattle.cdb_form.specs.Fed.FormReader.{IsFaultOf, MeetsFault, ReadsItem}
 use Rattle.cdb_form.specs.Text.Form.{Reads, Spelled}
-use Rattle.cdb_form.specs.Views.Source.{budget}
 use Rattle.cdb_form.specs.Views.TextFault.{IsSpent}
-use Rattle.cdb_form.specs.declared.text.fault.TextFault.{TextFault}
 use Rattle.cdb_form.specs.declared.text.fault.TextFault.TheVariants.{Ended}
-use Rattle.cdb_form.specs.declared.text.source.Source.{Source}
-use Rattle.cdb_form.proofs.Fed.FeedLemmas.{from_both, from_kept, from_taken, from_then, from_weaker, nothing_taken}
 use Rattle.cdb_form.proofs.NativeTexts.Spelling.{IsSpelling}
 use Rattle.cdb_form.proofs.NativeTexts.WholeForm.{SoFar, so_far_fault, so_far_more, so_far_none, so_far_part}
 use Rattle.cdb_show.specs.Runs.Inputs.{HasFaultBehind, HasFaultOf}

@@ -1,12 +1,9 @@
 -- A text that is written line after line, and the lines of distances.
-use Rattle.std.proofs.Common.{◌≡◌, ◌∙◌, ℕ, ◌+◌, ◌-◌, ◌<◌, suc, List, [], ◌++◌, flat_map, get_or, refl, sym, ap, arith, append_assoc, codes, Option, Result}
+use Rattle.cdb_show.proofs.Words.{Appends, List, Option, Result, [], ap, append_assoc, appends_none, appends_then, arith, codes, flat_map, get_or, prefix_then, refl, suc, sym, writes_last, ℕ, ◌++◌, ◌+◌, ◌-◌, ◌<◌, ◌∙◌, ◌≡◌}
 use Rattle.std.specs.List.{range_with_len}
-use Rattle.std.specs.Io.KnownBytes.{Appends}
 use Rattle.cdb_form.specs.Views.KnownBytes.{AppendsPrefix, Writes}
-use Rattle.cdb_form.proofs.Bytes.WritingLemmas.{appends_then, prefix_then, writes_last}
 use Rattle.cdb_show.specs.Runs.StatsText.{count_line, distance_line, distance_lines, records_line, keys_line, values_line, tables_line, sizes_line, stats_text}
 use Rattle.cdb_read.specs.declared.statistics.stats.Stats.{Stats}
-use Rattle.cdb_form.proofs.Bytes.WritingLemmas.{appends_none}
 
 -- ---- line after line
 

@@ -1,31 +1,15 @@
 -- The text of a file, up to its record end or its damage.
-use Rattle.std.proofs.Common.{◌≡◌, ℕ, inl, inr, List, [], ◌∷◌, ◌++◌, flat_map, refl, sym, ap, subst, ◌∙◌, Option, Some, None, Result, Ok, Err, append_assoc}
-use Rattle.std.specs.Prelude.{IsOk}
-use Rattle.std.proofs.lemmas.List.{append-nil}
-use Rattle.std.proofs.lemmas.List.Concat.{flat_map-append}
-use Rattle.std.specs.Io.KnownBytes.{Appends, Keeps}
-use Rattle.cdb_form.specs.Fed.Feed.{Feed}
-use Rattle.cdb_form.specs.Fed.RecordReader.{GivesRecord, GivesEnd, Fails}
+use Rattle.cdb_show.proofs.Words.{Appends, AppendsPrefix, Damage, Err, Fails, Fault, Feed, Flushed, GivesEnd, GivesRecord, IsDamage, IsOk, Keeps, List, None, Ok, Option, RecordReader, Result, Some, WalkFault, Walked, [], ap, append-nil, append_assoc, appends_kept, appends_none, appends_then, damage_of, flat_map, flat_map-append, from_weaker, inl, inr, prefix_last, prefix_then, refl, subst, sym, walk_of, ℕ, ◌++◌, ◌∙◌, ◌∷◌, ◌≡◌}
 use Rattle.cdb_form.specs.Format.Record.{KeyValue, record_of}
-use Rattle.cdb_form.specs.Format.Walk.{Walked, walk_of}
-use Rattle.cdb_form.specs.Views.KnownBytes.{AppendsPrefix}
 use Rattle.cdb_form.specs.Views.RecordReader.{reader_of, behind_records, IsFresh}
-use Rattle.cdb_form.specs.Views.WalkFault.{IsDamage, damage_of}
-use Rattle.cdb_form.specs.declared.damage.Damage.{Damage}
 use Rattle.cdb_form.specs.declared.damage.Damage.TheVariants as file_damage
-use Rattle.cdb_form.specs.declared.walk.fault.WalkFault.{WalkFault}
 use Rattle.cdb_form.specs.declared.walk.fault.WalkFault.TheVariants as walk
-use Rattle.cdb_form.specs.declared.walk.record_reader.RecordReader.{RecordReader}
-use Rattle.cdb_form.proofs.Bytes.WritingLemmas.{appends_none, appends_then, appends_kept, prefix_then, prefix_last}
-use Rattle.cdb_form.proofs.Fed.FeedLemmas.{from_weaker}
 use Rattle.cdb_show.specs.Views.Fault.{walk_fault}
-use Rattle.cdb_show.specs.Runs.Flushed.{Flushed}
 use Rattle.cdb_show.specs.Runs.Form.{Form, IsHeld}
 use Rattle.cdb_show.specs.Runs.WalkText.{closing, walk_text}
 use Rattle.cdb_show.specs.Runs.FedText.{WritesToDamage, WritesTextPrefix, WritesFirst, WritingFails, WritesWalk, KeepsBehind}
 use Rattle.cdb_show.specs.declared.runs.content.Content.{Content}
 use Rattle.cdb_show.specs.declared.runs.content.Content.TheVariants.{Records, Keys}
-use Rattle.cdb_show.specs.declared.fault.Fault.{Fault}
 use Rattle.cdb_show.specs.declared.fault.Fault.TheVariants.{Text, Make, Duplicate, Missing, Read, Walk, Output, Long, Open, Rename, NoMemory, Old, New, NoOldTables, NoNewTables, NoBaseTables}
 use Rattle.cdb_show.proofs.Writers.{prefix_kept, whole_prefix, not_ok}
 use Rattle.cdb_show.proofs.WalksSoFar.{walked, GaveSoFar, GaveFirst, gave_none, gave_more, gave_all, gave_before, gave_failed, gave_first, ReadSoFar, read_none, read_more, read_all}

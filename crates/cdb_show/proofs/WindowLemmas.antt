@@ -1,8 +1,6 @@
 -- Bytes through a window, by feed.
-use Rattle.std.proofs.Common.{◌≡◌, ℕ, ◌+◌, ◌-◌, ◌≤◌, List, ◌++◌, take, drop, sym, ap, ◌∙◌, arith, append_assoc}
-use Rattle.std.proofs.lemmas.List.{drop-drop, take-take}
+use Rattle.cdb_show.proofs.Words.{Consumes, Feed, List, ap, append_assoc, arith, drop, drop-drop, sym, take, take-take, ℕ, ◌++◌, ◌+◌, ◌-◌, ◌∙◌, ◌≡◌, ◌≤◌}
 use Rattle.std.proofs.Math.Seq.{take-add}
-use Rattle.cdb_form.specs.Fed.Feed.{Feed, Consumes}
 use Rattle.cdb_show.specs.Views.Window.{window_feed}
 
 -- the first bytes of those that are held are taken

@@ -1,9 +1,5 @@
 -- What a writer holds.
-use Rattle.cdb_form.proofs.Bytes.WritingLemmas.{appends_kept}
-use Rattle.cdb_form.specs.Views.KnownBytes.{AppendsPrefix}
-use Rattle.std.proofs.Common.{None, Some, ℕ, Option, refl, List, sym, false, true, ◌∙◌, [], ◌≡◌}
-use Rattle.std.proofs.lemmas.List.{append-nil}
-use Rattle.std.specs.Io.KnownBytes.{Keeps, Appends}
+use Rattle.cdb_show.proofs.Words.{Appends, AppendsPrefix, Keeps, List, None, Option, Some, [], append-nil, appends_kept, false, refl, sym, true, ℕ, ◌∙◌, ◌≡◌}
 
 pub keeps_self : (o : Option (List ℕ)) → Keeps o o
 keeps_self None = tt

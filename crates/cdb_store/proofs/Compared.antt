@@ -1,8 +1,5 @@
 -- Bytes that stand in each image, as they are compared piece by piece.
-use Rattle.std.proofs.Common.{◌≡◌, ℕ, ◌+◌, ◌-◌, ◌≤◌, List, ◌++◌, length, take, drop, sym, ap, ◌∙◌, arith}
-use Rattle.std.proofs.lemmas.List.{take-take, drop-take, drop-drop, length-take-le}
-use Rattle.std.proofs.Math.Seq.{take-add}
-use Rattle.cdb_store.specs.Images.{part, ImagesHold}
+use Rattle.cdb_store.proofs.Words.{ImagesHold, List, ap, arith, drop, drop-drop, drop-take, length, length-take-le, part, sym, take, take-add, take-take, ℕ, ◌++◌, ◌+◌, ◌-◌, ◌∙◌, ◌≡◌, ◌≤◌}
 use Rattle.cdb_store.proofs.Parts.{part_add}
 
 -- each image has these bytes from `at` on

@@ -1,9 +1,6 @@
 -- What a write or a cut that failed leaves of a file's images, once the file was asked for its length.
-use Rattle.std.proofs.Common.{◌≡◌, ℕ, ◌+◌, ◌≤◌, max, [], ◌∷◌, arith}
+use Rattle.cdb_store.proofs.Words.{AfterCut, AfterTornPut, AfterTornWrite, AreAtLeast, Calls, FileImage, IsLost, [], arith, file_size, max, ℕ, ◌+◌, ◌∷◌, ◌≡◌, ◌≤◌}
 use Rattle.cdb_store.specs.declared.trace.Call.TheVariants.{Length, NotCut, Refused}
-use Rattle.cdb_store.specs.Images.{AfterTornWrite, AfterCut}
-use Rattle.cdb_store.specs.Calls.{Calls, FileImage, AreAtLeast, AfterTornPut, IsLost}
-use Rattle.cdb_store.specs.Lengths.{file_size}
 use Rattle.cdb_store.proofs.Moves.{same_refl, torn_same, cut_nothing, torn_between, cut_between}
 use Rattle.cdb_store.proofs.FileLemmas.{file_same, refused, file_torn, file_not_cut, file_told, file_lost}
 

@@ -1,12 +1,7 @@
 -- What calls on a file do to its images.
-use Rattle.std.proofs.Common.{◌≡◌, ℕ, ◌+◌, ◌-◌, ◌≤◌, max, List, [], ◌∷◌, ◌++◌, inl, inr, length, take, drop, refl, sym, ap, subst, ◌∙◌, arith}
+use Rattle.cdb_store.proofs.Words.{AfterCut, AfterPut, AfterRead, AfterTornPut, AfterTornWrite, AfterWrite, AreAtLeast, Calls, FileImage, IsLost, List, SameImages, Torn, Untouched, [], ap, arith, cases_lt, drop, inl, inr, length, length-overwrite, max, overwrite, part, refl, subst, sym, take, take-append-add, ℕ, ◌++◌, ◌+◌, ◌-◌, ◌∙◌, ◌∷◌, ◌≡◌, ◌≤◌}
 use Rattle.std.proofs.lemmas.List.{take-take, drop_all, drop-take, length-take-le, length-take}
-use Rattle.std.proofs.lemmas.Bool.{cases_lt}
-use Rattle.std.proofs.Math.Seq.{take-append-add}
 use Rattle.cdb_store.specs.declared.trace.Call.TheVariants.{Gave, Length, Cut, NotCut, Refused}
-use Rattle.cdb_store.specs.Images.{overwrite, part, SameImages, AfterRead, AfterWrite, AfterTornWrite, AfterCut, Torn}
-use Rattle.cdb_store.specs.Calls.{Calls, FileImage, AreAtLeast, AfterPut, AfterTornPut, IsLost, Untouched}
-use Rattle.cdb_store.specs.Lengths.{length-overwrite}
 use Rattle.cdb_store.proofs.Parts.{part_from_take}
 
 pub file_same : (len : ℕ) {c d : Calls} → Untouched c d → SameImages (FileImage len c) (FileImage len d)

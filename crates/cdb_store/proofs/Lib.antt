@@ -10,3 +10,4 @@ pub mod Answered
 pub mod FileLemmas
 pub mod FileFaults
 pub mod Reading
+mod Words

@@ -1,7 +1,5 @@
 -- Images with some bytes written over each of them.
-use Rattle.std.proofs.Common.{◌≡◌, ℕ, ◌+◌, ◌≤◌, List, [], ◌++◌, length, take, max, inl, inr, refl, sym, ap, subst, ◌∙◌, arith, append_assoc, length-append}
-use Rattle.std.proofs.lemmas.List.{length-take-le, take-take, take_at}
-use Rattle.cdb_store.specs.Images.{overwrite, part, Over, AreApart, SameImages, AfterRead, AfterWrite, AreSized}
+use Rattle.cdb_store.proofs.Words.{AfterRead, AfterWrite, AreApart, AreSized, List, Over, SameImages, [], ap, append_assoc, arith, inl, inr, length, length-append, length-take-le, max, overwrite, part, refl, subst, sym, take, take-take, take_at, ℕ, ◌++◌, ◌+◌, ◌∙◌, ◌≡◌, ◌≤◌}
 use Rattle.cdb_store.specs.Lengths.{over_taken}
 use Rattle.cdb_store.proofs.Parts.{take-overwrite, drop-overwrite, part_from_take, overwrite-overwrite, overwrite_nothing, part_inside}
 use Rattle.cdb_store.proofs.Moves.{same_refl, same_sym, same_trans, write_between}

@@ -1,12 +1,9 @@
 -- Raw writes, one behind another.
 use Rattle.std.proofs.Common.{◌≡◌, ℕ, ◌+◌, ◌≤◌, ◌<◌, inl, inr, max, List, [], ◌∷◌, ◌++◌, length, take, drop, refl, sym, ap, subst, ◌∙◌, arith, replicate}
 use Rattle.std.proofs.lemmas.List.{take-take, length-replicate, take-append-le, length-take-le}
-use Rattle.std.proofs.Math.Seq.{take-add, take-append-add}
+use Rattle.cdb_store.proofs.Words.{AfterPut, AfterTornPut, Agrees, AreAtLeast, Asked, AskedInVain, Calls, Torn, failed_syncs, failure_count, interrupted, length-overwrite, lost, overwrite, take-add, take-append-add, written_count}
 use borrow.Rule.Slice.PartMut.{put_mid, mid_of, post_of}
 use Rattle.cdb_store.specs.declared.trace.Call.TheVariants.{Wrote, NotWritten}
-use Rattle.cdb_store.specs.Images.{overwrite, Torn}
-use Rattle.cdb_store.specs.Calls.{Calls, Agrees, failed_syncs, failure_count, written_count, lost, interrupted, Asked, AskedInVain, AfterPut, AfterTornPut, AreAtLeast}
-use Rattle.cdb_store.specs.Lengths.{length-overwrite}
 use Rattle.cdb_store.proofs.Parts.{take-overwrite, drop-overwrite, overwrite-overwrite, overwrite_nothing}
 use Rattle.cdb_store.proofs.RawCalls.{untouched_interrupted, failures_interrupted}
 

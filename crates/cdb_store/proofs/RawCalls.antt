@@ -1,8 +1,7 @@
 -- What raw calls that were interrupted, that failed or that did a part leave.
 use Rattle.std.proofs.Common.{◌≡◌, ℕ, ◌+◌, ◌<◌, ◌≤◌, inl, inr, suc, zero, List, [], ◌∷◌, ◌++◌, length, refl, sym, ap, ◌∙◌, arith, add-one}
-use Rattle.cdb_store.specs.declared.trace.Call.{Call}
+use Rattle.cdb_store.proofs.Words.{Agrees, Asked, AskedInVain, Call, Calls, Came, Untouched, failed_syncs, failure_count, interrupted, lost, written_count}
 use Rattle.cdb_store.specs.declared.trace.Call.TheVariants.{Made, Read, Gave, Wrote, NotWritten, Length, Cut, NotCut, Synced, NotSynced, Interrupted, Failed, Refused, Lost}
-use Rattle.cdb_store.specs.Calls.{Calls, Agrees, failure_count, written_count, failed_syncs, lost, interrupted, Asked, AskedInVain, Came, Untouched}
 
 pub interrupted_none : (calls : Calls) → calls ≡ interrupted 0 calls
 unfolding interrupted

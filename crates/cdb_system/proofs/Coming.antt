@@ -1,26 +1,11 @@
 -- A command came to what was said of it, or was refused something.
 use Rattle.cdb_system.proofs.OutputTaken.{MayGiveUp}
 use Rattle.std.proofs.Common.{ℕ, Bool, ◌⊎◌, ◌<◌, ◌≤◌, List, [], ◌∷◌, ◌++◌, length, Option, Some, None, Result, Ok, Err, ◌≡◌, ◌∙◌, ap, inl, inr, refl, subst, sym}
-use Rattle.std.specs.Prelude.{nat_lt, if◌then◌else◌}
-use Rattle.std.proofs.lemmas.Bool.{cond-true, cond-false, lt-ltb, le-ltb}
+use Rattle.cdb_system.proofs.Words.{AgreeInTurn, Appends, AppendsPrefix, AreAnswered, Cause, Disk, Fault, Feed, Ghosts, IsAnswered, Keeps, NameFault, OpenCalls, Outcome, Reading, Shows, cond-false, cond-true, ended, fault_line, head_size, if◌then◌else◌, le-ltb, lt-ltb, names_in_turn, nat_lt, of_file, same_appends, unopened}
 use Rattle.std.proofs.lemmas.List.{append-nil, append_cancel_right}
-use Rattle.std.specs.Io.KnownBytes.{Keeps, Appends}
-use Rattle.cdb_form.proofs.Bytes.WritingLemmas.{same_appends}
-use Rattle.cdb_form.specs.Fed.Feed.{Feed}
-use Rattle.cdb_form.specs.Views.KnownBytes.{AppendsPrefix}
-use Rattle.cdb_form.specs.Format.Pair.{head_size}
-use Rattle.cdb_names.specs.declared.name_fault.NameFault.{NameFault}
-use Rattle.cdb_names.specs.declared.refusal.Cause.{Cause}
 use Rattle.cdb_names.specs.declared.name_fault.NameFault.TheVariants as why
-use Rattle.cdb_store.specs.declared.store.Store.{Ghosts}
-use Rattle.cdb_show.specs.Message.{fault_line}
-use Rattle.cdb_show.specs.declared.fault.Fault.{Fault}
 use Rattle.cdb_show.specs.declared.fault.Fault.TheVariants.{Open, NoMemory}
-use Rattle.cdb_system.specs.Answered.{AreAnswered, IsAnswered, Reading, Shows}
-use Rattle.cdb_system.specs.Opening.{OpenCalls, unopened}
-use Rattle.cdb_system.specs.Oracle.{Disk, Outcome, ended, of_file}
 use Rattle.cdb_system.specs.Reading.{Refuses}
-use Rattle.cdb_system.specs.Streams.{AgreeInTurn, names_in_turn}
 use Rattle.cdb_system.specs.declared.open_trace.OpenCall.TheVariants.{Unopened}
 
 -- ---- a command whose faults have these statuses, before its output is handed on

@@ -1,38 +1,24 @@
 -- That a difference of two files comes to what the oracle says.
 use Rattle.cdb_system.proofs.OutputTaken.{MayGiveUp}
-use Rattle.std.proofs.Common.{ℕ, true, ◌<◌, ◌≤◌, List, [], ◌∷◌, length, Option, Some, None, Result, Ok, Err, ◌≡◌, ◌∙◌, ap, inl, inr, refl, subst, sym, arith}
+use Rattle.cdb_system.proofs.Words.{AppendsPrefix, Damage, Err, Fault, Feed, Ghosts, Keeps, Left, List, None, Ok, Option, Result, Some, State, [], ap, arith, cond-false, cond-true, files_of, head_size, inl, inr, length, plain_status, refl, same_appends, subst, sym, true, walk_of, ℕ, ◌<◌, ◌∙◌, ◌∷◌, ◌≡◌, ◌≤◌}
 use Rattle.std.specs.Prelude.{if◌then◌else◌, option_map}
 use Rattle.std.specs.Option.{option_or}
-use Rattle.std.proofs.lemmas.Bool.{cond-true, cond-false}
-use Rattle.std.specs.Io.KnownBytes.{Keeps}
-use Rattle.cdb_form.proofs.Bytes.WritingLemmas.{same_appends}
-use Rattle.cdb_form.specs.Fed.Feed.{Feed}
-use Rattle.cdb_form.specs.Views.KnownBytes.{AppendsPrefix}
-use Rattle.cdb_form.specs.Format.Pair.{head_size}
-use Rattle.cdb_form.specs.Format.Walk.{walk_of}
 use Rattle.cdb_form.specs.Text.Amending.{amending_text}
-use Rattle.cdb_form.specs.declared.damage.Damage.{Damage}
 use Rattle.cdb_form.specs.declared.damage.Damage.TheVariants as damage
 use Rattle.cdb_form.specs.declared.damage.Damage.TheVariants.{Short}
 use Rattle.cdb_read.specs.InOrder.{FindsInOrder}
 use Rattle.cdb_read.specs.Statistics.{outside_table}
 use Rattle.cdb_read.specs.declared.fault.ReadFault.{ReadFault}
 use Rattle.cdb_read.specs.declared.fault.ReadFault.TheVariants as read
-use Rattle.cdb_store.specs.declared.store.Store.{Ghosts}
 use Rattle.cdb_read.specs.OtherWidth.{lacks_tables}
 use Rattle.cdb_show.specs.Runs.Difference.{ComesAfter, DifferenceFails, DifferenceNotRead, DifferenceOutside, HasDamage as HasAny, HaveHeads, HaveTables, HaveTablesInside, TellsDifference, difference_of, heads_fault}
-use Rattle.cdb_show.specs.Status.{plain_status}
-use Rattle.cdb_show.specs.declared.fault.Fault.{Fault}
 use Rattle.cdb_show.specs.declared.fault.Fault.TheVariants.{Text, Make, Duplicate, Missing, Read, Walk, Output, Long, Open, Rename, NoMemory, Old, New, NoOldTables, NoNewTables, NoBaseTables}
 use Rattle.cdb_system.specs.Answered.{AreComparable, IsInOrder, Nothing, Shows, stores_in}
 use Rattle.cdb_system.proofs.Coming.{Comes, EachAnswered, IsSized, comes_so, gives_up, long_is, nothing_written, of_shown, refused_so, short_is}
 use Rattle.cdb_system.specs.Oracle.{Disk, difference_outcome, of_file, unless_fault}
 use Rattle.cdb_system.specs.Reading.{PerformsDifference}
-use Rattle.cdb_system.specs.declared.left.Left.{Left}
 use Rattle.cdb_system.specs.declared.open_trace.OpenCall.TheVariants.{AtPlaces, Unopened}
 use Rattle.cdb_system.specs.declared.system.System.{Ghosts as Systems}
-use Rattle.cdb_system.specs.State.{State}
-use Rattle.cdb_system.specs.Files.{files_of}
 
 -- a fault of a file in order is one that no file can have
 not_met : (w : ℕ) (bytes beside : List ℕ) (damage : Damage) → (walk_of w bytes).damage ≡ None → FindsInOrder w bytes → HasAny w bytes beside damage → ⊥

@@ -1,15 +1,8 @@
 -- What is said of a fault after its line.
-use Rattle.std.proofs.Common.{ℕ, Bool, true, false, List, [], ◌++◌, Result, Ok, Err, ◌≡◌, ◌∙◌, ap, refl, subst}
-use Rattle.std.proofs.lemmas.List.{append-nil}
+use Rattle.cdb_system.proofs.Words.{Asked, Bool, Err, Fault, Keeps, List, Ok, OpenCalls, Result, Says, SaysLine, [], ap, append-nil, false, fault_line, refl, subst, true, ℕ, ◌++◌, ◌∙◌, ◌≡◌}
 use Rattle.std.specs.Prelude.{Option}
-use Rattle.std.specs.Io.KnownBytes.{Keeps}
-use Rattle.cdb_command.specs.Asked.{Asked}
 use Rattle.cdb_names.specs.Folder.{NameCalls}
-use Rattle.cdb_show.specs.Message.{fault_line}
-use Rattle.cdb_show.specs.declared.fault.Fault.{Fault}
 use Rattle.cdb_system.specs.Causes.{Explains}
-use Rattle.cdb_system.specs.Opening.{OpenCalls}
-use Rattle.cdb_system.specs.Telling.{Says, SaysLine}
 
 -- of a success nothing is said
 pub none_said : (explained : Bool) (command : Asked) (done : Unit {0}) (unwritten : Type 0) (opened : OpenCalls) (named : NameCalls) → Explains explained command (Ok done) unwritten opened named []

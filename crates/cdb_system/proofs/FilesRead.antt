@@ -1,17 +1,10 @@
 -- What comes of each command that reads one file: what the oracle says of it, or a refusal.
 use Rattle.cdb_system.proofs.OutputTaken.{taken}
 use Rattle.std.proofs.Common.{ℕ, Bool, true, false, ◌<◌, ◌≤◌, List, [], ◌∷◌, ◌++◌, length, flat_map, Option, Some, None, IfSome, Result, Ok, Err, ◌≡◌, ◌∙◌, ap, inl, inr, refl, subst, sym, arith, append_assoc}
-use Rattle.std.specs.Prelude.{nat_lt, if◌then◌else◌}
-use Rattle.std.proofs.lemmas.Bool.{cond-true, cond-false, lt-ltb, le-ltb}
+use Rattle.cdb_system.proofs.Words.{Agrees, Appends, AppendsPrefix, Damage, Fault, Feed, Form, FromTo, Ghosts, IsUnread, Keeps, Left, MemStore, Standard, State, cond-false, cond-true, contents, fault_line, files_of, head_size, if◌then◌else◌, le-ltb, lt-ltb, nat_lt, window_feed}
 use Rattle.std.proofs.lemmas.Grind.{flat_map-append}
-use Rattle.std.specs.Io.KnownBytes.{Appends, Keeps}
-use Rattle.cdb_feed.specs.Inputs.{IsUnread}
-use Rattle.cdb_form.specs.Fed.Feed.{Feed, FromTo}
-use Rattle.cdb_form.specs.Views.KnownBytes.{AppendsPrefix}
-use Rattle.cdb_form.specs.Format.Pair.{head_size}
 use Rattle.cdb_form.specs.Format.Record.{KeyValue}
 use Rattle.cdb_form.specs.Format.Walk.{Walked, walk_of}
-use Rattle.cdb_form.specs.declared.damage.Damage.{Damage}
 use Rattle.cdb_form.specs.declared.damage.Damage.TheVariants as damage
 use Rattle.cdb_form.specs.declared.damage.Damage.TheVariants.{Short}
 use Rattle.cdb_form.specs.declared.walk.fault.WalkFault.TheVariants as walk
@@ -20,31 +13,20 @@ use Rattle.cdb_read.proofs.WholeFiles.FaultLaws.{sound_is_no_damage}
 use Rattle.cdb_read.specs.Faults.{first_fault}
 use Rattle.cdb_read.specs.Statistics.{statistics_damage}
 use Rattle.cdb_read.specs.declared.fault.ReadFault.TheVariants as read
-use Rattle.cdb_store.specs.Contents.{contents}
 use Rattle.cdb_store.specs.contracts.memory.MemStoreStore.TheImpl.{ghosts as in_memory}
-use Rattle.cdb_store.specs.declared.memory.MemStore.{MemStore}
-use Rattle.cdb_store.specs.declared.store.Store.{Ghosts}
-use Rattle.cdb_show.specs.Message.{fault_line}
 use Rattle.cdb_show.specs.Runs.Check.{CheckingFails}
-use Rattle.cdb_show.specs.Runs.Form.{Form}
 use Rattle.cdb_show.specs.Runs.Stats.{StatsMeetDamage, TellingFails, TellsStats, statistics_text}
 use Rattle.cdb_show.specs.Runs.FedText.{WritesFirst, WritesTextPrefix, WritesToDamage, WritesWalk, WritingFails}
 use Rattle.cdb_show.specs.Runs.WalkText.{closing, walk_text}
 use Rattle.cdb_show.specs.Runs.Query.{QueryAnswers, Query, Queries, QueryFails, query_text, query_answer}
 use Rattle.cdb_show.specs.Status.{plain_status, check_status}
-use Rattle.cdb_show.specs.declared.fault.Fault.{Fault}
 use Rattle.cdb_show.specs.declared.fault.Fault.TheVariants.{Text, Make, Duplicate, Missing, Read, Walk, Output, Long, Open, Rename, NoMemory, Old, New, NoOldTables, NoNewTables, NoBaseTables}
 use Rattle.cdb_system.specs.Answered.{Database, Nothing, Reading, stores_in, streams_in}
 use Rattle.cdb_system.proofs.Coming.{Comes, EachAgrees, EachAnswered, IsSized, comes_so, gives_none, gives_up, long_is, nothing_written, of_shown, output_of, refused_so, short_is}
 use Rattle.cdb_system.specs.Oracle.{Disk, Outcome, check_outcome, ended, met, of_file, query_outcome, short_or, stats_outcome, text_outcome, unless_damaged}
 use Rattle.cdb_system.specs.Reading.{ChecksStore, IsNotLoaded, LacksMemory, OfInput, PerformsOn, PerformsQuery, PerformsText, ReadsText, Tells}
-use Rattle.cdb_show.specs.Views.Window.{window_feed}
-use Rattle.cdb_system.specs.Streams.{Agrees}
-use Rattle.cdb_system.specs.declared.left.Left.{Left}
 use Rattle.cdb_system.specs.declared.open_trace.OpenCall.TheVariants.{AtPlaces, InTurn, Stream, Unopened}
 use Rattle.cdb_system.specs.declared.system.System.{Ghosts as Systems}
-use Rattle.cdb_system.specs.State.{Standard, State}
-use Rattle.cdb_system.specs.Files.{files_of}
 
 -- ---- query
 

@@ -10,3 +10,4 @@ pub mod OutputTaken
 pub mod Said
 pub mod Streams
 pub mod StreamsRead
+mod Words

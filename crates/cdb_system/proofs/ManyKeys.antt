@@ -1,24 +1,13 @@
 -- A query of the keys that inputs give comes to what the oracle says.
 use Rattle.cdb_system.proofs.OutputTaken.{MayGiveUp}
-use Rattle.std.proofs.Common.{ℕ, true, ◌<◌, ◌≤◌, List, [], ◌∷◌, ◌++◌, length, Option, Some, None, IfSome, Result, Err, ◌≡◌, ◌∙◌, ap, inl, inr, refl, subst, sym, append_assoc}
-use Rattle.std.specs.List.{AllByRecursion}
-use Rattle.cdb_feed.specs.Inputs.{IsUnread}
-use Rattle.std.specs.Io.KnownBytes.{Keeps}
+use Rattle.cdb_system.proofs.Words.{AgreeInTurn, Agrees, AllByRecursion, AppendsPrefix, Cause, Err, Fault, Feed, Ghosts, IfSome, IsUnread, Keeps, Left, List, NameFault, None, Option, Result, Some, Standard, State, [], ap, append_assoc, files_of, head_size, inl, inputs_read, inr, length, names_in_turn, own_readers, plain_status, refl, subst, sym, true, unopened, ℕ, ◌++◌, ◌<◌, ◌∙◌, ◌∷◌, ◌≡◌, ◌≤◌}
 use Rattle.cdb_command.specs.declared.style.Style.{Style}
-use Rattle.cdb_names.specs.declared.name_fault.NameFault.{NameFault}
-use Rattle.cdb_names.specs.declared.refusal.Cause.{Cause}
 use Rattle.cdb_names.specs.declared.name_fault.NameFault.TheVariants as why
-use Rattle.cdb_form.specs.Fed.Feed.{Feed}
-use Rattle.cdb_form.specs.Format.Pair.{head_size}
-use Rattle.cdb_form.specs.Views.KnownBytes.{AppendsPrefix}
 use Rattle.cdb_form.specs.declared.text.fault.TextFault.TheVariants as text
 use Rattle.cdb_read.specs.declared.fault.ReadFault.TheVariants as read
-use Rattle.cdb_store.specs.declared.store.Store.{Ghosts}
 use Rattle.cdb_show.specs.Runs.Inputs.{keys_form}
 use Rattle.cdb_show.specs.Runs.Parsing.{fault_in, stopped_parsing}
 use Rattle.cdb_show.specs.Runs.LookedUp.{Looked, records_asked}
-use Rattle.cdb_show.specs.Status.{plain_status}
-use Rattle.cdb_show.specs.declared.fault.Fault.{Fault}
 use Rattle.cdb_show.specs.declared.fault.Fault.TheVariants.{Text, Read, Output, Open, NoMemory}
 use Rattle.cdb_show.specs.Views.Inputs.{shared_feed}
 use Rattle.cdb_show.specs.declared.inputs.SharedWindow.TheVariants.{Unread}
@@ -26,19 +15,13 @@ use Rattle.cdb_show.proofs.FedLookedUp.{fed_looks_up, inputs_of as known_inputs}
 use Rattle.cdb_show.proofs.GivenInputs.{known_all}
 use Rattle.cdb_show.proofs.LookedUp.{IsLookupRefusal, LooksOrShort, lookups_asked}
 use Rattle.cdb_system.specs.Answered.{IsAnswered, IsOfBytes, IsThere, Texts, stores_in, streams_in}
-use Rattle.cdb_system.specs.Inputs.{inputs_read}
-use Rattle.cdb_system.specs.Opening.{unopened}
 use Rattle.cdb_system.specs.Oracle.{Disk, Outcome, ended, inputs_of, lookups_outcome, of_file, of_inputs}
 use Rattle.cdb_system.specs.Reading.{Lookups, LooksUpFile, PerformsLookups, RefusesInputs}
-use Rattle.cdb_system.specs.declared.left.Left.{Left}
 use Rattle.cdb_system.specs.declared.open_trace.OpenCall.TheVariants.{AtPlaces, Unopened}
 use Rattle.cdb_system.specs.declared.system.System.{Ghosts as Systems}
 use Rattle.cdb_system.proofs.Coming.{Comes, EachAgrees, EachAnswered, IsSized, comes_so, gives_none, gives_up, long_is, nothing_written, of_shown, output_of, refused_so, short_is}
 use Rattle.cdb_system.proofs.InputsKnown.{input_missing, missing_inputs}
 use Rattle.cdb_system.proofs.InputsKnown.{answered_before, files_of_each, in_turn_then, inputs_are, inputs_since, opened_since, opened_there, own_names, reached_agree}
-use Rattle.cdb_system.specs.State.{Standard, State}
-use Rattle.cdb_system.specs.Streams.{AgreeInTurn, Agrees, names_in_turn, own_readers}
-use Rattle.cdb_system.specs.Files.{files_of}
 
 -- ---- one was not
 

@@ -1,9 +1,7 @@
 -- What may be refused, standard output too; and an output that was taken was not.
-use Rattle.std.proofs.Common.{◌≡◌, Bool, true, false, subst, Result, Err}
-use Rattle.cdb_command.specs.Asked.{Asked}
+use Rattle.cdb_system.proofs.Words.{Asked, Bool, Err, Fault, Result, false, subst, true, ◌≡◌}
 use Rattle.cdb_command.specs.Asked as asked
 use Rattle.cdb_show.specs.Views.Output.{OutputSays}
-use Rattle.cdb_show.specs.declared.fault.Fault.{Fault}
 use Rattle.cdb_show.specs.declared.fault.Fault.TheVariants.{Text, Make, Duplicate, Missing, Read, Walk, Output, Long, Open, Rename, NoMemory, Old, New, NoOldTables, NoNewTables, NoBaseTables}
 use Rattle.cdb_system.specs.Answered.{IsRefusal, Reading}
 

@@ -1,18 +1,11 @@
 -- The lines on standard error.
 use Rattle.std.proofs.Common.{◌≡◌, ◌∙◌, ℕ, List, [], ◌∷◌, Option, Result, Ok, Err, ◌++◌, ap, append_assoc, arith, codes, inl, inr, sym, Bool, true, false, if◌then◌else◌}
-use Rattle.std.proofs.lemmas.List.{append-nil}
+use Rattle.cdb_system.proofs.Words.{Fault, Keeps, Says, SaysLine, append-nil, fault_line, name_ending, parts_line, reason_name, shown}
 use Rattle.std.specs.Prelude.{OnErr}
-use Rattle.std.specs.Io.KnownBytes.{Keeps}
 use Rattle.std.proofs.KnownBytes.{Appends-kept, Keeps-trans}
-use Rattle.cdb_command.specs.Refused.{parts_line}
-use Rattle.cdb_command.specs.Shown.{shown}
 use Rattle.cdb_command.proofs.ShownText.{shown-append}
 use Rattle.cdb_form.specs.Views.KnownBytes.{Writes}
-use Rattle.cdb_show.specs.Message.{fault_line}
-use Rattle.cdb_show.specs.declared.fault.Fault.{Fault}
 use Rattle.cdb_show.proofs.Writers.{prefix_kept}
-use Rattle.cdb_system.specs.CauseLine.{name_ending, reason_name}
-use Rattle.cdb_system.specs.Telling.{Says, SaysLine}
 use Rattle.cdb_system.specs.declared.causes.Reason.{Reason}
 
 -- a line was written, or its writer failed

@@ -5,13 +5,9 @@ use Rattle.cdb_form.proofs.Fed.FeedLemmas.{consumes_then, from_behind}
 use Rattle.cdb_form.specs.Fed.Feed.{Consumes, Feed, FromTo, Keeps}
 use Rattle.cdb_form.specs.Fed.Taking.{GivesAll, GivesMore}
 use Rattle.cdb_form.specs.declared.walk.fault.WalkFault.TheVariants as walk
-use Rattle.cdb_show.specs.Runs.FedText.{WritesFirst, WritesToDamage, WritesWalk, WritingFails}
-use Rattle.cdb_show.specs.Runs.Form.{Form}
-use Rattle.cdb_show.specs.declared.fault.Fault.{Fault}
+use Rattle.cdb_system.proofs.Words.{Fault, Form, MemStore, WritesFirst, WritesToDamage, WritesWalk, WritingFails, contents}
 use Rattle.cdb_show.specs.declared.fault.Fault.TheVariants.{Text, Make, Duplicate, Missing, Read, Walk, Output, Long, Open, Rename, NoMemory, Old, New, NoOldTables, NoNewTables, NoBaseTables}
 use Rattle.cdb_show.specs.Runs.FedLoad.{LoadStops}
-use Rattle.cdb_store.specs.Contents.{contents}
-use Rattle.cdb_store.specs.declared.memory.MemStore.{MemStore}
 use Rattle.cdb_show.specs.Views.Window.{feed_of, held_in, reader_of, window_feed}
 use Rattle.cdb_show.specs.declared.window.Window.{Window}
 use Rattle.cdb_system.specs.Reading.{IsNotLoaded, IsWhole, WritesText}

@@ -1,18 +1,12 @@
 -- That a command which reads a stream performs what it promises, from the steps that it takes.
-use Rattle.std.proofs.Common.{ℕ, List, ◌∷◌, Option, None, Some, Result, ◌≡◌, ◌∙◌, ap, inl, inr, subst, sym}
-use Rattle.cdb_feed.specs.Inputs.{AreUnread, IsUnread}
+use Rattle.cdb_system.proofs.Words.{AreUnread, Fault, Form, IsUnread, Left, List, MemStore, None, OpensInputs, Option, Result, Some, ap, inl, inr, subst, sym, ℕ, ◌∙◌, ◌∷◌, ◌≡◌}
 use Rattle.cdb_names.specs.declared.answer.Answer.TheVariants.{Yes}
 use Rattle.cdb_show.specs.Runs.FedLookups.{FedLooksUp}
-use Rattle.cdb_show.specs.Runs.Form.{Form}
-use Rattle.cdb_show.specs.declared.fault.Fault.{Fault}
 use Rattle.cdb_show.specs.declared.inputs.Inputs.{Inputs}
-use Rattle.cdb_store.specs.declared.memory.MemStore.{MemStore}
 use Rattle.cdb_system.specs.Files.{Files}
-use Rattle.cdb_system.specs.Inputs.{OpensInputs}
 use Rattle.cdb_system.specs.Opening.{OpenCalls, input_left, looked_left, stream_left}
 use Rattle.cdb_system.specs.Reading.{Lookups, PerformsLookups, PerformsOn, PerformsText, ReadsText, Takes}
 use Rattle.cdb_system.specs.State.{Standard, State, calls_in}
-use Rattle.cdb_system.specs.declared.left.Left.{Left}
 use Rattle.cdb_system.specs.declared.open_trace.OpenCall.TheVariants.{AtPlaces, InTurn, Stream}
 
 module _ {F I J M Y : Type 0} (files : Files F I M Y) (old new : State Y) (left : Left F M I J) (result : Result Unit Fault) (name : Option (List ℕ)) (input : Standard J) where

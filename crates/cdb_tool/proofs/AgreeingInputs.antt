@@ -1,25 +1,15 @@
 -- Which inputs agree with what a run read: those of readers that tell their bytes, and any bytes that agree with
 -- what is known of the readers afterwards.
 use Rattle.std.proofs.Common.{◌≡◌, ◌++◌, ◌∙◌, ℕ, zero, suc, List, [], ◌∷◌, length, map, refl, sym, ap, subst, arith, Option, None, Some, IfSome, Result}
-use Rattle.std.specs.Prelude.{⊤}
+use Rattle.cdb_tool.proofs.Words.{AgreesWith, AreRead, AreUnread, BeginsSo, Change, CutShort, FailsSo, Fault, FirstAgree, HasFault, HasRead, InputReader, Inputs, IsUnread, NoMore, NotBegun, SharedWindow, Stop, StopsSo, TakesOne, TextFault, WereRead, one_input, parsing, reached, ⊤}
 use Rattle.std.proofs.lemmas.List.{length-map}
 use Rattle.cdb_form.specs.Fed.Feed.{Feed, FromTo, IsSome, Keeps, reader_feed}
 use Rattle.cdb_form.specs.Fed.Rests.{same_remaining}
-use Rattle.cdb_form.specs.Text.Amending.{Change}
 use Rattle.cdb_form.specs.Views.KnownBytes.{FromTo as KnownFromTo}
-use Rattle.cdb_form.specs.declared.text.fault.TextFault.{TextFault}
-use Rattle.cdb_feed.specs.Inputs.{AgreesWith, AreRead, AreUnread, CutShort, FirstAgree, HasFault, IsUnread, NoMore, NotBegun, Stop, StopsSo, TakesOne, reached}
-use Rattle.cdb_feed.specs.declared.input_reader.InputReader.{InputReader}
 use Rattle.cdb_feed.specs.declared.input_reader.InputReader.TheVariants.{Own, Shared}
-use Rattle.cdb_show.specs.Runs.Incoming.{one_input}
 use Rattle.cdb_show.specs.Runs.Inputs.{InputForm, InputsLeft, IsInputOf, OneInput, Own, bytes_of, own_inputs}
 use Rattle.cdb_show.specs.Runs.Inputs as form
 use Rattle.cdb_show.specs.Views.Inputs.{inputs_left, one_of, shared_feed}
-use Rattle.cdb_show.specs.declared.fault.Fault.{Fault}
-use Rattle.cdb_show.specs.declared.inputs.Inputs.{Inputs}
-use Rattle.cdb_tool.specs.Runs.FormParsing.{BeginsSo, FailsSo, parsing}
-use Rattle.cdb_tool.specs.Runs.InputsRead.{HasRead, WereRead}
-use Rattle.cdb_show.specs.declared.inputs.SharedWindow.{SharedWindow}
 use Rattle.cdb_show.specs.declared.inputs.SharedWindow.TheVariants.{Unread}
 
 -- ---- the bytes of a reader

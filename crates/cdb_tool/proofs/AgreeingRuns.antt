@@ -1,20 +1,8 @@
 -- What a run makes that hands its readers back: what the function says of any bytes that agree with these.
-use Rattle.std.proofs.Common.{◌≡◌, ℕ, List, length, map, refl, Option, Some, Result}
-use Rattle.cdb_store.specs.declared.store.Store.{Ghosts}
-use Rattle.cdb_form.specs.Fed.Feed.{Feed}
+use Rattle.cdb_tool.proofs.Words.{AgreesWith, AreUnread, ComesOf, Fault, Feed, FirstAgree, Ghosts, Inputs, InputsLeft, IsUnread, List, MakeRuns, OfBase, Option, Result, RunOptions, RunsRead, Some, WhereHonest, input_form, length, made_of, map, reached, refl, ℕ, ◌≡◌}
 use Rattle.cdb_form.specs.Format.Record.{AreBytes}
-use Rattle.cdb_feed.specs.Inputs.{AgreesWith, AreUnread, FirstAgree, IsUnread, reached}
-use Rattle.cdb_make.specs.Views.Maker.{WhereHonest}
-use Rattle.cdb_tool.specs.declared.runs.options.RunOptions.{RunOptions}
 use Rattle.cdb_show.specs.Runs.Incoming.{EachOfBytes, Known, one_input}
-use Rattle.cdb_show.specs.Runs.Inputs.{InputsLeft, input_form}
-use Rattle.cdb_show.specs.declared.fault.Fault.{Fault}
-use Rattle.cdb_show.specs.declared.inputs.Inputs.{Inputs}
 use Rattle.cdb_show.proofs.GivenInputs.{known_all}
-use Rattle.cdb_tool.specs.Runs.InputsRead.{RunsRead}
-use Rattle.cdb_tool.specs.Runs.Made.{made_of}
-use Rattle.cdb_tool.specs.Runs.Make.{MakeRuns, OfBase}
-use Rattle.cdb_tool.specs.Runs.MakesSo.{ComesOf}
 use Rattle.std.specs.Prelude.{is_some}
 use Rattle.cdb_tool.proofs.AgreeingInputs.{agreeing_inputs}
 use Rattle.cdb_tool.proofs.MadeOf.{run_comes}

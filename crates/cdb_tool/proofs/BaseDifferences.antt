@@ -1,12 +1,10 @@
 -- A run that does a difference to its base holds the records that answer as the new ones do.
 use Rattle.std.proofs.Common.{◌≡◌, ℕ, ◌+◌, ◌≤◌, true, cond, List, [], ◌∷◌, ◌++◌, map, flat_map, fold, refl, ap, ◌∙◌, subst, arith, None, Ok, Err}
 use Rattle.std.specs.Prelude.{⊤, bytes_eq, not, filter}
-use Rattle.std.proofs.lemmas.Bool.{cond-true, le-leb}
-use Rattle.std.proofs.lemmas.List.{append-nil}
+use Rattle.cdb_tool.proofs.Words.{Change, Course, Incoming, Putting, Removing, append-nil, cond-true, ends, from_input, is_going, le-leb, mode_of, with_change, with_next}
 use Rattle.std.proofs.lemmas.List.Sums.{fold-append, sum_by-append}
 use Rattle.cdb_form.specs.Format.File.{file_size, whole_size}
 use Rattle.cdb_form.specs.Format.Record.{KeyValue, record_of}
-use Rattle.cdb_form.specs.Text.Amending.{Change, Putting, Removing}
 use Rattle.cdb_form.specs.declared.mode.Mode.TheVariants.{Add}
 use Rattle.cdb_make.specs.Survivors.{fits, put_answer, put_list, put_result, put_step}
 use Rattle.cdb_store.specs.declared.make_fault.MakeFault.TheVariants.{TooBig}
@@ -15,8 +13,6 @@ use Rattle.cdb_read.specs.Laws.{brought_up}
 use Rattle.cdb_read.specs.Values.{values_of}
 use Rattle.cdb_command.specs.declared.options.MakeOptions.{MakeOptions}
 use Rattle.cdb_tool.specs.Laws.{MakerHoldsAll}
-use Rattle.cdb_tool.specs.Runs.Course.{Course, ends, is_going, mode_of, with_change, with_next}
-use Rattle.cdb_show.specs.Runs.Incoming.{Incoming, from_input}
 
 -- the run goes on, and holds these records
 record Holds (s : Course) (rs : List KeyValue) : Type 0 where

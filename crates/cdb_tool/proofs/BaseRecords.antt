@@ -1,39 +1,24 @@
 -- A base whose records are added to a maker, one after the other.
-use Rattle.std.proofs.Common.{◌≡◌, ℕ, ◌≤◌, ◌⊎◌, List, [], ◌∷◌, ◌++◌, refl, sym, ap, subst, ◌∙◌, arith, append_assoc, length, take, Some, None, Bool, true, false, true≢false, ◌<◌, Err}
+use Rattle.cdb_tool.proofs.Words.{Bool, Damage, Err, FailsPutting, Fault, Ghosts, Holds, KeyValue, List, MakeFault, Maker, None, OnlyReads, OutputSays, Put, Puts, ReadFault, Some, WhereHonest, [], ap, append_assoc, arith, false, file_size, holds_fits, length, limit_of, reads_nothing, record_in, refl, subst, sym, take, true, true≢false, ℕ, ◌++◌, ◌<◌, ◌∙◌, ◌∷◌, ◌≡◌, ◌≤◌, ◌⊎◌}
 use Rattle.std.proofs.Math.Seq.{take-append_seam}
 use Rattle.std.proofs.lemmas.List.{append-nil, length-take}
-use Rattle.cdb_store.specs.Reads.{OnlyReads}
-use Rattle.cdb_store.specs.declared.store.Store.{Ghosts}
-use Rattle.cdb_store.proofs.Reading.{reads_nothing}
 use Rattle.cdb_form.specs.declared.width.Width.{Ghosts as Widths}
-use Rattle.cdb_form.specs.Format.File.{file_size}
-use Rattle.cdb_form.specs.Format.Record.{KeyValue}
 use Rattle.cdb_form.specs.Format.Walk.{Walked, walk_of, whole_records, damaged, no_walk, with_first, with_records}
 use Rattle.cdb_form.proofs.Files.WalkSteps.{walk_of-short}
-use Rattle.cdb_form.specs.declared.damage.Damage.{Damage}
 use Rattle.cdb_form.specs.declared.damage.Damage.TheVariants as damage
 use Rattle.cdb_make.specs.Views.Appending.{AppendsAll, FailsAppending}
-use Rattle.cdb_make.specs.Views.Maker.{Holds, WhereHonest, Puts, FailsPutting, limit_of}
-use Rattle.cdb_store.specs.declared.make_fault.MakeFault.{MakeFault}
 use Rattle.cdb_store.specs.declared.make_fault.MakeFault.TheVariants as make
-use Rattle.cdb_make.specs.declared.maker.Maker.{Maker}
 use Rattle.cdb_form.specs.declared.mode.Mode.TheVariants.{Add}
-use Rattle.cdb_make.specs.declared.answer.Put.{Put}
 use Rattle.cdb_make.proofs.Rolls.{whole_push}
-use Rattle.cdb_make.proofs.Callers.{holds_fits}
 use Rattle.cdb_read.specs.Lookup.{bytes_of}
 use Rattle.cdb_read.specs.Views.Reads.{OpeningFails}
 use Rattle.cdb_read.specs.Views.Walk.{left_of, WalkingFails}
-use Rattle.cdb_read.specs.Views.Walking.{record_in}
-use Rattle.cdb_read.specs.declared.fault.ReadFault.{ReadFault}
 use Rattle.cdb_read.specs.declared.fault.ReadFault.TheVariants as read
 use Rattle.cdb_read.specs.declared.walking.records.Walk.{Walk}
 use Rattle.cdb_read.specs.declared.span.Pair.{Pair}
 use Rattle.cdb_show.specs.Views.Fault.{read_fault, make_fault}
-use Rattle.cdb_show.specs.Views.Output.{OutputSays}
 use Rattle.cdb_tool.specs.Runs.Base.{AddsNext, NotAdded}
 use Rattle.cdb_tool.specs.Runs.Make.{AddsBase, BaseFails, IsOfBase}
-use Rattle.cdb_show.specs.declared.fault.Fault.{Fault}
 
 -- these records were given and added, and then comes what is left of the walk
 pub record AddedSoFar {S L : Type 0} {s : Ghosts S} {l : Widths L} (w : ℕ) (images : List ℕ → Type 0) (left : List ℕ → Walked) (first m : Maker S L s l) : Type 0 where

@@ -1,32 +1,17 @@
 -- A run, item after item.
-use Rattle.std.proofs.Common.{◌≡◌, ◌+◌, ◌<◌, ◌≤◌, ◌⊎◌, true, false, ℕ, inl, inr, List, [], ◌∷◌, ◌++◌, length, refl, sym, ap, subst, ◌∙◌, arith, append_assoc, Option, Some, None, Result, Ok, Err, if◌then◌else◌}
+use Rattle.cdb_tool.proofs.Words.{Change, Err, Fault, Ghosts, Incoming, KeyValue, List, MakeFault, Maker, None, Ok, Option, Put, Putting, Removing, Result, RunOptions, Some, TellsEach, TellsPart, [], ap, append-nil, append_assoc, arith, false, file_size, fits, fold-append, from_input, from_inputs, if◌then◌else◌, inl, inr, length, make_fault, put_answer, put_list, refl, subst, sym, true, ℕ, ◌++◌, ◌+◌, ◌<◌, ◌∙◌, ◌∷◌, ◌≡◌, ◌≤◌, ◌⊎◌}
 use Rattle.std.specs.Prelude.{OnOk, IfErr}
 use Rattle.std.proofs.lemmas.Bool.{le-leb, lt-leb}
-use Rattle.std.proofs.lemmas.List.{append-nil}
-use Rattle.std.proofs.lemmas.List.Sums.{fold-append}
-use Rattle.cdb_store.specs.declared.store.Store.{Ghosts}
 use Rattle.cdb_form.specs.declared.width.Width.{Ghosts as Widths}
-use Rattle.cdb_form.specs.Format.Record.{KeyValue}
-use Rattle.cdb_form.specs.Format.File.{file_size}
-use Rattle.cdb_form.specs.Text.Amending.{Change, Putting, Removing}
-use Rattle.cdb_make.specs.Survivors.{put_list, put_answer, fits}
 use Rattle.cdb_make.specs.Views.Maker.{Holds, HoldsIn, StaysWhole, Puts, WouldPut, FailsPutting, Removes, FailsRemoving, limit_of, told_count, IsUsable, WhereHonest, ComesFrom}
-use Rattle.cdb_store.specs.declared.make_fault.MakeFault.{MakeFault}
 use Rattle.cdb_store.specs.declared.make_fault.MakeFault.TheVariants as make
-use Rattle.cdb_make.specs.declared.maker.Maker.{Maker}
 use Rattle.cdb_form.specs.declared.mode.Mode.{Mode}
-use Rattle.cdb_make.specs.declared.answer.Put.{Put}
 use Rattle.cdb_make.specs.declared.answer.Put.TheVariants.{Added, AddedAgain, Present, Replaced}
 use Rattle.cdb_make.proofs.Callers.{holds_count, holds_fits}
 use Rattle.cdb_make.proofs.Finishing.{rests_nothing}
-use Rattle.cdb_show.specs.Message.{TellsEach, TellsPart}
-use Rattle.cdb_show.specs.Views.Fault.{make_fault}
 use Rattle.cdb_tool.specs.Runs.Course.{Task, Course, mode_of, told, ends, is_going, with_put, with_change, with_next, at_start, course_of, TellFails, Goes, StopsSo}
-use Rattle.cdb_show.specs.Runs.Incoming.{Incoming, from_input, from_inputs}
 use Rattle.cdb_tool.specs.Runs.Make.{InCourse, PutStops, IsOfStore, MakeStandsAt, IsHalt, TakesNext}
-use Rattle.cdb_show.specs.declared.fault.Fault.{Fault}
 use Rattle.cdb_show.specs.declared.fault.Fault.TheVariants.{Text, Make, Duplicate, Missing, Read, Walk, Output, Long, Open, Rename, NoMemory, Old, New, NoOldTables, NoNewTables, NoBaseTables}
-use Rattle.cdb_tool.specs.declared.runs.options.RunOptions.{RunOptions}
 use Rattle.cdb_tool.proofs.ToldLines.{part_then, tells_none, tells_then}
 
 -- ---- the course over one item more

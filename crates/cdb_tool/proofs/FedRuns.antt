@@ -3,27 +3,12 @@ use Rattle.std.proofs.Common.{◌≡◌, ℕ, ◌+◌, ◌*◌, ◌<◌, ◌≤�
 use Rattle.std.proofs.lemmas.List.{drop-set, take-set, drop_more, drop-set-lt}
 use Rattle.std.proofs.Math.Nat.{mul-le-mul_right}
 use Rattle.std.proofs.Math.ListN.{length-set}
-use Rattle.std.proofs.Math.Seq.{drop-length}
-use Rattle.cdb_form.specs.Fed.Feed.{Feed}
-use Rattle.cdb_form.specs.Text.Amending.{Change}
-use Rattle.cdb_form.specs.declared.text.fault.TextFault.{TextFault}
+use Rattle.cdb_tool.proofs.Words.{ArePassed, AreRead, Change, CutShort, Fault, Feed, Ghosts, HasFault, InputForm, InputReader, IsFaultAt, IsInputOf, Maker, NoMore, NotBegun, PutsInputs, PutsInputsStop, PutsStop, RunOptions, Stop, StopsInput, StopsSo, TakesOne, TextFault, drop-length, nothing_taken, parsing, reached, stop_by}
 use Rattle.cdb_form.specs.declared.text.fault.TextFault.TheVariants as text
-use Rattle.cdb_form.proofs.Fed.FeedLemmas.{nothing_taken}
-use Rattle.cdb_feed.specs.Inputs.{AreRead, NotBegun, NoMore, Stop, StopsSo, HasFault, CutShort, TakesOne, reached}
 use Rattle.cdb_feed.specs.Parsing.{Parsing}
-use Rattle.cdb_feed.specs.declared.input_reader.InputReader.{InputReader}
 use Rattle.cdb_feed.proofs.InputsInTurn.{read_then}
-use Rattle.cdb_store.specs.declared.store.Store.{Ghosts}
 use Rattle.cdb_form.specs.declared.width.Width.{Ghosts as Widths}
-use Rattle.cdb_make.specs.declared.maker.Maker.{Maker}
-use Rattle.cdb_tool.specs.declared.runs.options.RunOptions.{RunOptions}
-use Rattle.cdb_show.specs.Runs.Inputs.{InputForm, IsInputOf}
-use Rattle.cdb_show.specs.Views.Inputs.{ArePassed}
-use Rattle.cdb_show.specs.declared.fault.Fault.{Fault}
 use Rattle.cdb_show.specs.declared.fault.Fault.TheVariants.{Text}
-use Rattle.cdb_tool.specs.Runs.FormParsing.{parsing}
-use Rattle.cdb_tool.specs.Runs.InputsRead.{IsFaultAt, StopsInput, stop_by}
-use Rattle.cdb_tool.specs.Runs.Make.{PutsInputs, PutsInputsStop, PutsStop}
 
 -- the offset of an element of a slice
 pub offset_fits : (i n m s : ℕ) → i < n → n ≡ m → m * s < 9223372036854775808 → Fits w64 (i * s)

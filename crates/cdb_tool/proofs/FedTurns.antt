@@ -1,33 +1,15 @@
 -- What a run read of an input through a window, whatever bytes agree with it.
-use Rattle.std.proofs.Common.{◌≡◌, ◌++◌, ℕ, List, [], ◌∷◌, refl, sym, subst, Option, Some, Result, Ok, Err}
-use Rattle.std.specs.Prelude.{OnOk}
-use Rattle.cdb_store.specs.declared.store.Store.{Ghosts}
+use Rattle.cdb_tool.proofs.Words.{BeginsSo, BeginsWithItems, Change, Err, FailsSo, Fault, Ghosts, HasItemFault, InputForm, InputReader, IsInputOf, IsOfText, List, Maker, Ok, OnOk, Option, PutsStop, Result, RunOptions, SharedWindow, Some, StopsBehind, StopsInput, StopsSo, TakesOne, TextFault, [], came, parsing, refl, shared_feed, stop_by, subst, sym, ℕ, ◌++◌, ◌∷◌, ◌≡◌}
 use Rattle.cdb_form.specs.Fed.Feed.{Consumes, Feed, FromTo, Keeps}
-use Rattle.cdb_form.specs.Text.Amending.{Change}
-use Rattle.cdb_form.specs.Views.TextFault.{IsOfText}
-use Rattle.cdb_form.specs.declared.text.fault.TextFault.{TextFault}
 use Rattle.cdb_form.specs.declared.text.fault.TextFault.TheVariants as text
 use Rattle.cdb_form.specs.declared.width.Width.{Ghosts as Widths}
 use Rattle.cdb_form.proofs.Fed.FeedLemmas.{from_behind, from_both, from_kept, from_taken, from_then, from_weaker, nothing_taken}
-use Rattle.cdb_feed.specs.Inputs.{StopsSo, TakesOne}
-use Rattle.cdb_feed.specs.declared.input_reader.InputReader.{InputReader}
 use Rattle.cdb_feed.specs.declared.input_reader.InputReader.TheVariants.{Own, Shared}
-use Rattle.cdb_make.specs.declared.maker.Maker.{Maker}
-use Rattle.cdb_tool.specs.declared.runs.options.RunOptions.{RunOptions}
-use Rattle.cdb_show.specs.Runs.Incoming.{came}
-use Rattle.cdb_show.specs.Runs.Inputs.{BeginsWithItems, HasItemFault, InputForm, IsInputOf}
-use Rattle.cdb_show.specs.Runs.Lookups.{StopsBehind}
-use Rattle.cdb_show.specs.Views.Inputs.{shared_feed}
 use Rattle.cdb_show.specs.Views.Window.{feed_of, held_in, reader_of}
 use Rattle.cdb_show.specs.Views.WindowRests.{same_held}
-use Rattle.cdb_show.specs.declared.fault.Fault.{Fault}
 use Rattle.cdb_show.specs.declared.fault.Fault.TheVariants.{NoMemory, Text}
 use Rattle.cdb_show.specs.declared.window.Window.{Window}
 use Rattle.cdb_show.proofs.NextInputs.{begins_none}
-use Rattle.cdb_tool.specs.Runs.FormParsing.{BeginsSo, FailsSo, parsing}
-use Rattle.cdb_tool.specs.Runs.InputsRead.{StopsInput, stop_by}
-use Rattle.cdb_tool.specs.Runs.Make.{PutsStop}
-use Rattle.cdb_show.specs.declared.inputs.SharedWindow.{SharedWindow}
 use Rattle.cdb_show.specs.declared.inputs.SharedWindow.TheVariants.{InHand, Unread}
 use Rattle.cdb_tool.proofs.InputRuns.{text_stopped}
 use Rattle.cdb_tool.proofs.InputRuns.{none_put}

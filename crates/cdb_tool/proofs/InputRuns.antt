@@ -1,29 +1,16 @@
 -- A run over the items of an input, whatever bytes agree with it.
-use Rattle.std.proofs.Common.{◌≡◌, ◌≢◌, ◌+◌, ◌∙◌, ◌⊎◌, true, false, ℕ, inl, inr, List, [], ◌∷◌, ◌++◌, length, sym, ap, subst, Bool, Option, Some, None, is_some}
-use Rattle.cdb_store.specs.declared.store.Store.{Ghosts}
+use Rattle.cdb_tool.proofs.Words.{BeginsWithItems, Bool, Change, ComesFrom, Consumes, EndsSo, Fault, Feed, FromTo, Ghosts, Incoming, InputForm, List, Maker, None, Option, Putting, RunOptions, Some, Task, TellsPart, TextFault, WhereHonest, [], ap, came, course_of, false, from_inputs, inl, input_form, inr, is_some, length, subst, sym, true, with_newlines, ℕ, ◌++◌, ◌+◌, ◌∙◌, ◌∷◌, ◌≡◌, ◌≢◌, ◌⊎◌}
 use Rattle.cdb_store.specs.declared.make_fault.MakeFault.TheVariants as make
-use Rattle.cdb_form.specs.Fed.Feed.{Consumes, Feed, FromTo}
-use Rattle.cdb_form.specs.Text.Amending.{Change, Putting}
-use Rattle.cdb_form.specs.Text.Map.{with_newlines}
-use Rattle.cdb_form.specs.declared.text.fault.TextFault.{TextFault}
 use Rattle.cdb_form.specs.declared.text.fault.TextFault.TheVariants as text
 use Rattle.cdb_form.specs.declared.width.Width.{Ghosts as Widths}
-use Rattle.cdb_make.specs.Views.Maker.{ComesFrom, WhereHonest}
-use Rattle.cdb_make.specs.declared.maker.Maker.{Maker}
-use Rattle.cdb_tool.specs.declared.runs.options.RunOptions.{RunOptions}
-use Rattle.cdb_show.specs.Message.{TellsPart}
-use Rattle.cdb_show.specs.Runs.Incoming.{Incoming, came, from_inputs}
-use Rattle.cdb_show.specs.Runs.Inputs.{BeginsWithItems, InputForm, input_form}
 use Rattle.cdb_show.specs.Runs.Lookups.{FaultBehind, StopsBehind}
 use Rattle.cdb_show.specs.Views.Fault.{text_fault}
 use Rattle.cdb_show.specs.Views.ItemReader.{Fails, GivesItem, form_of, reader_of}
-use Rattle.cdb_show.specs.declared.fault.Fault.{Fault}
 use Rattle.cdb_show.specs.declared.fault.Fault.TheVariants.{Text, Make, Duplicate, Output, NoMemory}
 use Rattle.cdb_show.specs.declared.runs.item_reader.ItemReader.{ItemReader}
 use Rattle.cdb_show.specs.declared.runs.item_reader.ItemReader.TheVariants.{Form, Map}
 use Rattle.cdb_show.proofs.ItemInputs.{GaveItems, items_begin, items_fault, items_form, items_more, items_own, items_still}
 use Rattle.cdb_show.proofs.SpelledInputs.{from_lost}
-use Rattle.cdb_tool.specs.Runs.Course.{EndsSo, Task, course_of}
 use Rattle.cdb_tool.specs.Runs.Make.{InCourse, IsHalt, IsNoText, MakeStandsAt, PutStops, StoppedAt}
 use Rattle.cdb_tool.specs.Runs.Make.{form_of as task_form}
 use Rattle.cdb_tool.proofs.Courses.{came_more, came_none, course_stands}

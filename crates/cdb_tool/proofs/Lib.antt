@@ -13,3 +13,4 @@ pub mod BaseDifferences
 pub mod MadeOf
 pub mod ToldLines
 mod MakerSteps
+mod Words

@@ -1,13 +1,7 @@
 -- Steps of a run, one after another.
-use Rattle.std.proofs.Common.{◌≡◌, ◌∙◌, ◌<◌, ℕ, subst, Err}
-use Rattle.cdb_store.specs.declared.store.Store.{Ghosts}
+use Rattle.cdb_tool.proofs.Words.{Err, Fault, Follows, Ghosts, Maker, OutputSays, follows_then, subst, ℕ, ◌<◌, ◌∙◌, ◌≡◌}
 use Rattle.cdb_form.specs.declared.width.Width.{Ghosts as Widths}
-use Rattle.cdb_make.specs.Views.Maker.{Follows}
-use Rattle.cdb_make.specs.declared.maker.Maker.{Maker}
-use Rattle.cdb_make.proofs.Rolls.{follows_then}
 use Rattle.cdb_tool.specs.Runs.Make.{StepsOn}
-use Rattle.cdb_show.specs.Views.Output.{OutputSays}
-use Rattle.cdb_show.specs.declared.fault.Fault.{Fault}
 use Rattle.cdb_show.specs.declared.fault.Fault.TheVariants.{Output}
 
 output_err : (A B : Type 0) (said : Type 0) (f : Fault) → OutputSays {A = A} said (Err f) → OutputSays {A = B} said (Err f)

@@ -1,11 +1,10 @@
 -- A dump of a made file is made into the same file.
-use Rattle.std.proofs.Common.{◌≡◌, ℕ, ◌+◌, ◌*◌, ◌^◌, ◌<◌, ◌≤◌, ◌⊎◌, List, [], ◌∷◌, ap, arith}
+use Rattle.cdb_tool.proofs.Words.{List, [], ap, arith, file_size, ℕ, ◌*◌, ◌+◌, ◌<◌, ◌^◌, ◌∷◌, ◌≡◌, ◌≤◌, ◌⊎◌}
 use Rattle.std.proofs.lemmas.List.Sums.{sum_by-cons}
 use Rattle.std.specs.List.{AllByRecursion}
 use Rattle.std.specs.Prelude.{sum_by}
 use Rattle.cdb_form.specs.Laws.Text.{LengthsFit}
 use Rattle.cdb_form.specs.Format.Record.{KeyValue, IsRecord, record_size}
-use Rattle.cdb_form.specs.Format.File.{file_size}
 use Rattle.cdb_form.proofs.NativeTexts.TextLaws.{text_reads_back}
 use Rattle.cdb_form.proofs.Files.WalkLaws.{walk_of-file_bytes}
 use Rattle.cdb_show.specs.Runs.Form.{dump_form}

@@ -1,36 +1,14 @@
 -- How a run ends: without a record, with a fault of its inputs or its store, or with its file; and
 -- then the flush.
-use Rattle.std.proofs.Common.{◌≡◌, ◌<◌, ◌≤◌, ◌⊎◌, true≢false, Bool, ℕ, inl, inr, List, [], refl, sym, ap, subst, ◌∙◌, Option, Some, None, is_some, Result, Ok, Err, arith}
-use Rattle.std.specs.Prelude.{IsOk}
-use Rattle.std.specs.Io.KnownBytes.{Keeps}
-use Rattle.cdb_store.specs.declared.store.Store.{Ghosts}
+use Rattle.cdb_tool.proofs.Words.{AreAllInputs, Bool, Change, ComesFrom, Err, FailsFinishing, Fault, FirstBegins, Flushed, Ghosts, Holds, Incoming, InputForm, InputsLeft, IsFile, IsOk, Keeps, KeyValue, List, MakeFault, Maker, None, Ok, OneBegins, OneInput, Option, Result, RunOptions, Some, TellsPart, WhereHonest, [], ap, appends_kept, appends_none, arith, bytes_of, came, file_size, from_inputs, holds_fits, inl, inr, is_some, limit_of, make_fault, not_ok, refl, subst, sym, true≢false, walk_of, ℕ, ◌<◌, ◌∙◌, ◌≡◌, ◌≤◌, ◌⊎◌}
 use Rattle.cdb_form.specs.declared.width.Width.{Ghosts as Widths}
-use Rattle.cdb_form.specs.Format.Record.{KeyValue}
-use Rattle.cdb_form.specs.Format.File.{file_size}
-use Rattle.cdb_form.specs.Format.Walk.{walk_of}
-use Rattle.cdb_form.specs.Text.Amending.{Change}
-use Rattle.cdb_form.proofs.Bytes.WritingLemmas.{appends_kept}
-use Rattle.cdb_make.specs.Views.Maker.{Holds, WhereHonest, ComesFrom, IsFile, FailsFinishing, limit_of}
 use Rattle.cdb_make.specs.Views.Making.{MakingFault}
-use Rattle.cdb_store.specs.declared.make_fault.MakeFault.{MakeFault}
 use Rattle.cdb_store.specs.declared.make_fault.MakeFault.TheVariants as make
-use Rattle.cdb_make.specs.declared.maker.Maker.{Maker}
-use Rattle.cdb_make.proofs.Callers.{holds_fits}
-use Rattle.cdb_show.specs.Message.{TellsPart}
-use Rattle.cdb_show.specs.Views.Fault.{make_fault}
-use Rattle.cdb_show.specs.Runs.Flushed.{Flushed}
 use Rattle.cdb_tool.specs.Runs.Course.{Task, task_of, course_of, Goes, EndsSo, StopsSo}
-use Rattle.cdb_show.specs.Runs.Incoming.{Incoming, from_inputs}
-use Rattle.cdb_show.specs.Runs.Inputs.{InputForm, InputsLeft, OneInput, AreAllInputs, OneBegins, FirstBegins, bytes_of}
 use Rattle.cdb_show.specs.Runs.Inputs as form
 use Rattle.cdb_tool.specs.Runs.Make.{InCourse, MakeStops, InputsFail, RunFails, MakeRuns, form_of, records_of, OfBase, HoldsBase, BaseStopped, HandsBack, IsBase, IsSomeBase, BaseFails, IsOfStore}
-use Rattle.cdb_show.specs.Runs.Incoming.{came}
-use Rattle.cdb_show.specs.declared.fault.Fault.{Fault}
 use Rattle.cdb_show.specs.declared.fault.Fault.TheVariants.{Text, Make, Duplicate, Missing, Read, Walk, Output, Long, Open, Rename, NoMemory, Old, New, NoOldTables, NoNewTables, NoBaseTables}
-use Rattle.cdb_tool.specs.declared.runs.options.RunOptions.{RunOptions}
 use Rattle.cdb_tool.proofs.ToldLines.{part_kept, part_whole, tells_kept, tells_none}
-use Rattle.cdb_show.proofs.Writers.{not_ok}
-use Rattle.cdb_form.proofs.Bytes.WritingLemmas.{appends_none}
 use Rattle.cdb_tool.proofs.Courses.{came_none, course_starts}
 use Rattle.cdb_show.proofs.NextInputs.{first_none}
 

@@ -1,17 +1,12 @@
 -- The lines of duplicates that were told.
 use Rattle.std.proofs.Common.{ℕ, true, ◌&&◌, ◌||◌, List, [], ◌∷◌, ◌++◌, Option, None, Result, Ok, Err, ◌≡◌, ◌∙◌, ap, append_assoc, refl, subst, sym}
 use Rattle.std.specs.Prelude.{OnErr, OnOk, String}
-use Rattle.std.proofs.lemmas.Bool.{cond-true}
+use Rattle.cdb_tool.proofs.Words.{Appends, Keeps, Put, RunOptions, append-nil, cond-true, prefix_kept, whole_prefix}
 use denote.Bor.{Bor}
-use Rattle.std.proofs.lemmas.List.{append-nil}
-use Rattle.std.specs.Io.KnownBytes.{Appends, Keeps}
 use Rattle.cdb_form.specs.Views.KnownBytes.{AppendsPrefix, Writes}
 use Rattle.cdb_form.proofs.Bytes.WritingLemmas.{appends_kept, appends_none, appends_then, prefix_in, prefix_last}
-use Rattle.cdb_tool.specs.declared.runs.options.RunOptions.{RunOptions}
-use Rattle.cdb_make.specs.declared.answer.Put.{Put}
 use Rattle.cdb_tool.specs.Runs.Course.{meets_key, told}
 use Rattle.cdb_show.specs.Message.{AreLines, TellsEach, TellsPart, Told, duplicate_line, duplicate_lines, plain_lines}
-use Rattle.cdb_show.proofs.Writers.{prefix_kept, whole_prefix}
 
 -- the lines of some, and of some more
 lines_both : {Z : Type 0} (names : Option (Bor (List (String Z)))) (ds es : List Told) (text more : List ℕ) → AreLines names ds text → AreLines names es more → AreLines names (ds ++ es) (text ++ more)

@@ -3,30 +3,21 @@ use Rattle.std.proofs.Common.{◌≡◌, ◌≢◌, ℕ, ◌^◌, ◌<◌, ◌�
 use Rattle.std.specs.Prelude.{IsOk, codes}
 use Rattle.std.proofs.lemmas.List.{length-replicate}
 use Rattle.std.specs.Io.KnownBytes.{Keeps, Consumes, Appends}
-use Rattle.cdb_form.specs.Format.Record.{KeyValue}
+use Rattle.cdb_tool.proofs.Words.{FailsPutting, Fault, Flushed, Ghosts, Holds, IsOfText, IsReadFault, KeyValue, MakeFault, Maker, TextFault, appends_kept, limit_of}
 use Rattle.cdb_form.specs.Format.File.{file_size, file_bytes}
-use Rattle.cdb_form.specs.declared.text.fault.TextFault.{TextFault}
 use Rattle.cdb_form.specs.declared.text.fault.TextFault.TheVariants as text_fault
 use Rattle.cdb_form.specs.declared.text.fault.TextFault.TheVariants.{Syntax, Ended, Large, Input, Endless}
 use Rattle.cdb_form.specs.Views.TextReader.{unread, taken_of, budget, ReadsRecord, StopsAmid, MeetsFault}
 use Rattle.cdb_form.specs.Views.KnownBytes.{AppendsPrefix, FromTo, Took}
 use Rattle.cdb_form.specs.declared.text.native_reader.TextReader.{TextReader}
 use Rattle.cdb_form.specs.Text.Native.{Spelled, Reads, HasFault, HasNoRecord}
-use Rattle.cdb_form.specs.Views.TextFault.{IsOfText, IsReadFault}
 use Rattle.cdb_form.proofs.NativeTexts.WholeText.{SoFar, so_far_none, so_far_more}
-use Rattle.cdb_form.proofs.Bytes.WritingLemmas.{appends_kept}
-use Rattle.cdb_store.specs.declared.store.Store.{Ghosts}
 use Rattle.cdb_form.specs.declared.width.Width.{Ghosts as Widths}
-use Rattle.cdb_make.specs.Views.Maker.{Holds, FailsPutting, limit_of}
-use Rattle.cdb_make.specs.declared.maker.Maker.{Maker}
 use Rattle.cdb_form.specs.declared.mode.Mode.TheVariants as mode
-use Rattle.cdb_store.specs.declared.make_fault.MakeFault.{MakeFault}
 use Rattle.cdb_store.specs.declared.make_fault.MakeFault.TheVariants as make
 use Rattle.cdb_show.specs.Views.Fault as run
 use Rattle.cdb_show.proofs.NativeInputs.{some_weaker, fault_of_text, fault_of_part, prefix_of}
-use Rattle.cdb_show.specs.Runs.Flushed.{Flushed}
 use Rattle.cdb_tool.specs.Runs.MakeBytes.{IsNewText, FailsText, FailsRead, PassesGreatest, TextNotRead, ReadsFitting, MakesFile, MakesBytes}
-use Rattle.cdb_show.specs.declared.fault.Fault.{Fault}
 use Rattle.cdb_show.specs.declared.fault.Fault.TheVariants.{Text, Make, Duplicate, Missing, Read, Walk, Output, Long, Open, Rename, NoMemory, Old, New, NoOldTables, NoNewTables, NoBaseTables}
 use Rattle.cdb_show.proofs.Writers.{prefix_kept, whole_prefix, keeps_self, keeps_then, not_ok}
 

@@ -1,7 +1,5 @@
 -- Lists of bytes.
-use Rattle.std.proofs.Common.{◌≡◌, ℕ, zero, suc, ◌<◌, List, [], ◌∷◌, ◌++◌, take, drop, replicate, lit<, subst, sym}
-use Rattle.std.proofs.lemmas.List.{take-append-drop}
-use Rattle.cdb_form.specs.Format.Record.{AreBytes}
+use Rattle.cdb_form.proofs.Words.{AreBytes, List, [], drop, lit<, replicate, subst, suc, sym, take, take-append-drop, zero, ℕ, ◌++◌, ◌<◌, ◌∷◌, ◌≡◌}
 
 pub AreBytes-nil : AreBytes []
 AreBytes-nil k = lit< tt

@@ -1,8 +1,5 @@
 -- The hash of bytes that are taken eight at once.
-use Rattle.std.proofs.Common.{◌≡◌, ◌*◌, ◌+◌, ◌∙◌, ℕ, List, zero, suc, ap, arith, drop, fold, sym, take}
-use Rattle.std.proofs.Math.Seq.{take-add}
-use Rattle.std.proofs.lemmas.List.{take-append-drop}
-use Rattle.std.proofs.lemmas.List.Sums.{fold-append}
+use Rattle.cdb_form.proofs.Words.{List, ap, arith, drop, fold, fold-append, suc, sym, take, take-add, take-append-drop, zero, ℕ, ◌*◌, ◌+◌, ◌∙◌, ◌≡◌}
 use Rattle.std.specs.Simd.{first_chunks}
 
 -- the chunks of a list, one after the other, are its front

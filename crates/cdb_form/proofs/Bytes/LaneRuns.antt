@@ -1,13 +1,7 @@
 -- Runs of bytes that are looked at 16 or 32 at once.
-use Rattle.std.proofs.Common.{List, ap, arith, drop, false, get_or, inl, inr, length, map, not, sym, take, true, ◌+◌, ◌<◌, ◌∙◌, ◌≡◌, ◌≢◌, ◌≤◌, ℕ}
+use Rattle.cdb_form.proofs.Words.{Kind, List, ap, arith, cases_lt, drop, false, get_or, inl, inr, is_of, length, map, mask_l, may_end, not, prefix_len, sym, take, true, ℕ, ◌+◌, ◌<◌, ◌∙◌, ◌≡◌, ◌≢◌, ◌≤◌}
 use Rattle.std.specs.Int.Count.{count_trailing_zeros}
-use Rattle.std.specs.List.{prefix_len}
-use Rattle.std.specs.Simd.Lanes.{mask_l}
-use Rattle.std.proofs.lemmas.Bool.{cases_lt}
 use Rattle.std.proofs.lemmas.Simd.{leading_from_mask_l, length-chunk, run_in_chunk_fails, run_in_chunk_le, trailing_mask_l}
-use Rattle.cdb_form.specs.Views.PrefixLine.{may_end}
-use Rattle.cdb_form.specs.Views.MapParser.{is_of}
-use Rattle.cdb_form.specs.declared.text.kind.Kind.{Kind}
 use Rattle.cdb_form.specs.declared.text.kind.Kind.TheVariants.{Blank, InLine, InWord}
 
 -- a byte that ends no run of a kind is of the kind

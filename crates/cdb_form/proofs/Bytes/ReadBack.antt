@@ -1,16 +1,8 @@
 -- Words that were written are read back.
-use Rattle.std.proofs.Common.{◌≡◌, ℕ, zero, suc, ◌+◌, ◌*◌, ◌^◌, ◌<◌, List, [], ◌∷◌, ◌++◌, length, drop, map, flat_map, get_or, sym, ap, ◌∙◌, arith, append_assoc}
-use Rattle.std.specs.List.{AllByRecursion, range_with_len}
+use Rattle.cdb_form.proofs.Words.{AllByRecursion, List, PairFits, WordPair, [], ap, append-nil, append_assoc, arith, drop, drop-drop, drop_at, empty_slot, fill_by_all, flat_map, get_or, head_at, length, map, nth_pair, pair_at, pair_bytes, range_with_len, recursion_from_All, suc, sym, zero, ℕ, ◌*◌, ◌++◌, ◌+◌, ◌<◌, ◌^◌, ◌∙◌, ◌∷◌, ◌≡◌}
 use Rattle.std.specs.Prelude.{All}
-use Rattle.std.proofs.lemmas.List.{append-nil, drop_at, drop-drop}
-use Rattle.std.proofs.lemmas.List.Elements.{recursion_from_All}
-use Rattle.std.proofs.lemmas.List.FromFn.{fill_by_all}
 use Rattle.byteorder.specs.Endian.{little_bytes, little_number}
 use Rattle.byteorder.specs.Numbers.{length-bytes_low_first, little_number-reads_back}
-use Rattle.cdb_form.specs.Format.Pair.{WordPair, pair_bytes}
-use Rattle.cdb_form.specs.Format.Table.{empty_slot}
-use Rattle.cdb_form.specs.Format.Reading.{pair_at, nth_pair, head_at}
-use Rattle.cdb_form.specs.Views.Pairs.{PairFits}
 use Rattle.cdb_form.proofs.Bytes.HeadLemmas.{length-pair_bytes}
 
 pub same_words : (a b : WordPair) → a.first ≡ b.first → a.second ≡ b.second → a ≡ b

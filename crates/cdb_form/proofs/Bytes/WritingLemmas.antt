@@ -1,9 +1,8 @@
 -- What a writer holds, piece after piece.
 use Rattle.std.proofs.Common.{◌≡◌, ℕ, ◌+◌, ◌<◌, List, [], ◌++◌, length, flat_map, get_or, take, drop, sym, ap, subst, ◌∙◌, Option, Some, None, Result, Ok, Err, append_assoc}
 use Rattle.std.proofs.lemmas.List.{append-nil, take-append-drop, drop_more}
-use Rattle.std.proofs.lemmas.List.Concat.{flat_map-append}
+use Rattle.cdb_form.proofs.Words.{flat_map-append, take-add}
 use Rattle.std.specs.Io.KnownBytes.{Appends, Keeps}
-use Rattle.std.proofs.Math.Seq.{take-add}
 use Rattle.cdb_form.specs.Views.KnownBytes.{AppendsPrefix, Writes}
 
 pub appends_none : (o : Option (List ℕ)) → Appends o o []

@@ -1,16 +1,10 @@
 -- Readers that tell their bytes: what is said of items by feed says it in the standard library's words.
-use Rattle.std.proofs.Common.{List, None, Option, Some, refl, ◌≢◌, ℕ}
-use Rattle.std.proofs.lemmas.Option.{IfSome_then}
+use Rattle.cdb_form.proofs.Words.{Feed, FormReader, IfSome_then, KeyValue, List, ListReader, None, Option, Putting, Record, Some, Source, Spells, SpellsChange, SpellsKey, TextFault, reader_feed, refl, ℕ, ◌≢◌}
 use Rattle.std.specs.Option.{is_some}
 use Rattle.std.specs.Prelude.{Bool, MatchBool, MatchOption, true, false}
-use Rattle.cdb_form.specs.Fed.Feed.{Feed, reader_feed}
 use Rattle.cdb_form.specs.Fed.FormReader as fed
 use Rattle.cdb_form.specs.Fed.ListReader as fed_list
 use Rattle.cdb_form.specs.Fed.Taking as taking
-use Rattle.cdb_form.specs.Format.Record.{KeyValue}
-use Rattle.cdb_form.specs.Text.Amending.{Putting, SpellsChange}
-use Rattle.cdb_form.specs.Text.List.{SpellsKey}
-use Rattle.cdb_form.specs.Text.Native.{Spells}
 use Rattle.cdb_form.specs.Views.FormReader.{Ends, Fails, FailsAs, GivesEnd, GivesItem, MeetsFault, ReadsItem}
 use Rattle.cdb_form.specs.Views.KnownBytes.{LosesAtMost, Took}
 use Rattle.cdb_form.specs.Views.ListReader as list
@@ -20,11 +14,6 @@ use Rattle.cdb_form.specs.declared.item.ItemKind.TheVariants.{Put, Remove}
 use Rattle.cdb_form.specs.Views.Reading.{Gives}
 use Rattle.cdb_form.specs.declared.reading_whole.Extent.{Extent}
 use Rattle.cdb_form.specs.declared.reading_whole.Extent.TheVariants.{All, More}
-use Rattle.cdb_form.specs.declared.record.Record.{Record}
-use Rattle.cdb_form.specs.declared.text.fault.TextFault.{TextFault}
-use Rattle.cdb_form.specs.declared.text.form_reader.FormReader.{FormReader}
-use Rattle.cdb_form.specs.declared.text.list_reader.ListReader.{ListReader}
-use Rattle.cdb_form.specs.declared.text.source.Source.{Source}
 use Rattle.cdb_form.proofs.Fed.KnownReaders.{known_consumes, known_end, known_reader}
 
 -- the feed of readers that tell their bytes

@@ -1,17 +1,12 @@
 -- Map texts of readers of which the standard library says which bytes are left: what is said of any feed, of those bytes.
-use Rattle.std.proofs.Common.{[], Option, ◌∷◌, List, ℕ}
+use Rattle.cdb_form.proofs.Words.{Feed, KeyValue, List, MapReader, Option, Source, TextFault, [], reader_feed, ℕ, ◌∷◌}
 use Rattle.std.specs.Prelude.{Bool, Err, IfErr, IfOk, MatchBool, Ok, Result, false, true}
-use Rattle.cdb_form.specs.Fed.Feed.{Feed, reader_feed}
 use Rattle.cdb_form.specs.Fed.MapParser as fed_parser
 use Rattle.cdb_form.specs.Fed.MapReader as fed
 use Rattle.cdb_form.specs.Fed.Source as fed_source
-use Rattle.cdb_form.specs.Format.Record.{KeyValue}
 use Rattle.cdb_form.specs.Views.MapParser.{EndsLine, ReadsToEnding}
 use Rattle.cdb_form.specs.Views.MapReader.{Fails, GivesEnd, GivesRecord, IsAmidLines, ReadsIgnored, ReadsLinesOf}
 use Rattle.cdb_form.specs.Views.Source.{LeavesAmid, Takes}
-use Rattle.cdb_form.specs.declared.text.fault.TextFault.{TextFault}
-use Rattle.cdb_form.specs.declared.text.map_reader.MapReader.{MapReader}
-use Rattle.cdb_form.specs.declared.text.source.Source.{Source}
 use Rattle.cdb_form.proofs.Fed.KnownReaders.{known_consumes, known_end}
 
 -- the feeds of readers

@@ -1,8 +1,7 @@
 -- Readers of which the standard library says which bytes are left: its words and those of feeds, each from the other.
-use Rattle.std.proofs.Common.{◌≡◌, ℕ, List, [], ◌++◌, subst, sym, length, ◌<◌, Option, Some, None, ap, refl}
+use Rattle.cdb_form.proofs.Words.{Consumes, FromTo, IsAtEnd, List, None, Option, Some, [], ap, length, reader_feed, refl, subst, sym, ℕ, ◌++◌, ◌<◌, ◌≡◌}
 use Rattle.std.specs.Io.KnownBytes.{Consumes as KnownConsumes, IsAtEnd as KnownEnd, ReadConsumes}
 use Rattle.std.specs.Prelude.{Result, Ok, Err, IfOk, IfSome}
-use Rattle.cdb_form.specs.Fed.Feed.{Consumes, IsAtEnd, FromTo, reader_feed}
 use Rattle.cdb_form.specs.Views.KnownBytes.{FromTo as KnownFromTo}
 
 some_eq : {xs ys : List ℕ} → ◌≡◌ {A = Option (List ℕ)} (Some xs) (Some ys) → xs ≡ ys

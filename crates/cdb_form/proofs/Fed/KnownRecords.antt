@@ -1,15 +1,10 @@
 -- Readers of records of which the standard library says which bytes are left: what is said by feed, in its words.
-use Rattle.std.proofs.Common.{ℕ, List, Option, inl, inr}
+use Rattle.cdb_form.proofs.Words.{KeyValue, List, Option, RecordReader, WalkFault, Walked, inl, inr, reader_feed, ℕ}
 use Rattle.std.specs.Prelude.{Bool, true, false, MatchBool}
-use Rattle.cdb_form.specs.Fed.Feed.{reader_feed}
 use Rattle.cdb_form.specs.Fed.RecordReader as fed
 use Rattle.cdb_form.specs.Fed.Taking as taking
-use Rattle.cdb_form.specs.Format.Record.{KeyValue}
-use Rattle.cdb_form.specs.Format.Walk.{Walked}
 use Rattle.cdb_form.specs.Views.Reading.{ReadsFirst, ReadsNoFurther, ReadsNoRecord}
 use Rattle.cdb_form.specs.Views.RecordReader.{Fails, GivesEnd, GivesKey, GivesRecord}
-use Rattle.cdb_form.specs.declared.walk.fault.WalkFault.{WalkFault}
-use Rattle.cdb_form.specs.declared.walk.record_reader.RecordReader.{RecordReader}
 use Rattle.cdb_form.proofs.Fed.FeedLemmas.{from_weaker}
 use Rattle.cdb_form.proofs.Fed.KnownReaders.{known_consumes, known_end, known_from, known_text}
 

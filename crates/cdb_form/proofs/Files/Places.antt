@@ -1,14 +1,5 @@
 -- Where the parts of a file stand.
-use Rattle.std.proofs.Common.{◌≡◌, ℕ, ◌*◌, List, [], ◌∷◌, ◌++◌, length, drop, map, flat_map, ap, ◌∙◌, arith, append_assoc}
-use Rattle.std.specs.List.{range_with_len}
-use Rattle.std.specs.Prelude.{sum_by}
-use Rattle.std.proofs.lemmas.List.{drop_at, length-map}
-use Rattle.std.proofs.lemmas.List.Sums.{sum_by-cons}
-use Rattle.std.proofs.lemmas.List.FromFn.{length-map-range_with_len}
-use Rattle.cdb_form.specs.Format.Record.{KeyValue, record_bytes, records_end}
-use Rattle.cdb_form.specs.Format.Pair.{WordPair, pair_bytes, head_size}
-use Rattle.cdb_form.specs.Format.Table.{table_entries, slots_of, file_tables}
-use Rattle.cdb_form.specs.Format.File.{file_pointers, file_bytes}
+use Rattle.cdb_form.proofs.Words.{KeyValue, List, WordPair, [], ap, append_assoc, arith, drop, drop_at, file_bytes, file_pointers, file_tables, flat_map, head_size, length, length-map, length-map-range_with_len, map, pair_bytes, range_with_len, record_bytes, records_end, slots_of, sum_by, sum_by-cons, table_entries, ℕ, ◌*◌, ◌++◌, ◌∙◌, ◌∷◌, ◌≡◌}
 use Rattle.cdb_form.proofs.Bytes.HeadLemmas.{length-flat_map_words}
 use Rattle.cdb_form.proofs.Files.Sizes.{length-slots_of, length-pointers_from, sum_by-table_entries, tables_are}
 

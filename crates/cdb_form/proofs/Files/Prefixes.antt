@@ -1,13 +1,8 @@
 -- A record at the start of some bytes, and all whole records there.
 use Rattle.std.proofs.Common.{◌≡◌, ℕ, zero, suc, ◌+◌, ◌*◌, ◌<◌, ◌≤◌, Bool, List, [], ◌∷◌, ◌++◌, length, take, drop, refl, sym, ap, ◌∙◌, arith, inl, inr, append_assoc, length-append, length-drop}
 use Rattle.std.specs.Prelude.{nat_le}
-use Rattle.std.proofs.lemmas.List.{drop_at, take_at, drop-drop}
+use Rattle.cdb_form.proofs.Words.{KeyValue, WordPair, drop-drop, drop_at, pair_at, prefix_record, prefix_size, record_size, take-add, take_at, whole_records}
 use Rattle.std.proofs.lemmas.Bool.{cases_Bool, cond-true, cond-false, le-leb, lt-leb, leb-true}
-use Rattle.std.proofs.Math.Seq.{take-add}
-use Rattle.cdb_form.specs.Format.Record.{KeyValue, record_size}
-use Rattle.cdb_form.specs.Format.Pair.{WordPair}
-use Rattle.cdb_form.specs.Format.Reading.{pair_at}
-use Rattle.cdb_form.specs.Format.Walk.{prefix_size, prefix_record, whole_records}
 use Rattle.cdb_form.proofs.Bytes.WordLemmas.{pair_at-take}
 
 -- the lengths of a record

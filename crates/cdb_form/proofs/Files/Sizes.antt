@@ -2,19 +2,12 @@
 use Rattle.std.proofs.Common.{◌≡◌, ℕ, zero, suc, ◌+◌, ◌*◌, ◌%◌, ◌<◌, ◌≤◌, Bool, true, false, cond, List, [], ◌∷◌, ◌++◌, length, map, flat_map, refl, sym, ap, ◌∙◌, arith, nat_eq, nat_lt, length-append, fold, length-set, replicate, ◌⊎◌, inl, inr}
 use Rattle.std.specs.List.{filter, range_with_len}
 use Rattle.std.specs.Prelude.{sum_by, All}
-use Rattle.std.proofs.lemmas.Bool.Decides.{nat_tests}
-use Rattle.std.proofs.lemmas.List.{length-replicate, length-map}
+use Rattle.cdb_form.proofs.Words.{KeyValue, PairFits, WordPair, file_bytes, file_pointers, file_size, head_size, length-bytes_low_first, length-map, length-replicate, nat_tests, pair_bytes, pointers_from, record_bytes, record_size, records_end, sum_by-cons}
 use Rattle.std.proofs.lemmas.List.Concat.{length-flat_map}
-use Rattle.std.proofs.lemmas.List.Sums.{sum_by-cons}
 use Rattle.std.proofs.lemmas.List.FromFn.{sum_by-map-range_with_len_more, length-map-range_with_len}
 use Rattle.std.proofs.lemmas.List.Elements.{All-cons, All-nil}
-use Rattle.cdb_form.specs.Format.Record.{KeyValue, record_size, records_end, record_bytes}
-use Rattle.cdb_form.specs.Format.Pair.{WordPair, head_size, pair_bytes}
 use Rattle.cdb_form.specs.Format.Table.{in_table, slots_with, filled_slots, file_entries, entries_from, table_entries, slots_of, table_slots, file_tables, empty_slot}
-use Rattle.cdb_form.specs.Format.File.{pointers_from, file_pointers, file_size, file_bytes}
-use Rattle.cdb_form.specs.Views.Pairs.{PairFits}
 use Rattle.cdb_form.proofs.Bytes.HeadLemmas.{length-flat_map_words}
-use Rattle.byteorder.specs.Numbers.{length-bytes_low_first}
 
 -- a table keeps its number of slots
 pub length-slots_with : (slots : List WordPair) (e : WordPair) → length (slots_with slots e) ≡ length slots

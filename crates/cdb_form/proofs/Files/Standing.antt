@@ -1,19 +1,9 @@
 -- Records that stand at the start of some bytes are those that are read there.
-use Rattle.std.proofs.Common.{◌≡◌, ℕ, zero, suc, ◌+◌, ◌*◌, ◌/◌, ◌%◌, ◌^◌, ◌<◌, ◌≤◌, List, [], ◌∷◌, ◌++◌, length, take, drop, flat_map, refl, sym, ap, ◌∙◌, arith, append_assoc, length-take, length-drop}
-use Rattle.std.specs.Prelude.{sum_by}
-use Rattle.std.specs.List.{AllByRecursion}
+use Rattle.cdb_form.proofs.Words.{AllByRecursion, AreBytes, KeyValue, List, PairFits, WordPair, [], ap, append-nil, append_assoc, arith, cond_both, drop, drop-drop, flat_map, leb-true, length, length-drop, length-take, pair_at, pair_bytes, prefix_record, prefix_size, record_bytes, record_size, refl, suc, sum_by, sum_by-cons, sym, take, take-append-drop, whole_records, zero, ℕ, ◌%◌, ◌*◌, ◌++◌, ◌+◌, ◌/◌, ◌<◌, ◌^◌, ◌∙◌, ◌∷◌, ◌≡◌, ◌≤◌}
 use Rattle.std.specs.Int.{byte_at, bytes_low_first}
 use Rattle.std.proofs.Math.Nat.{div-div-eq-div-mul, div-one, pow-succ'}
-use Rattle.std.proofs.lemmas.List.{take-append-drop, drop-drop, append-nil}
-use Rattle.std.proofs.lemmas.List.Sums.{sum_by-cons}
-use Rattle.std.proofs.lemmas.Bool.{cond_both, leb-true}
 use Rattle.byteorder.specs.Endian.{little_from}
 use Rattle.byteorder.specs.Numbers.{little_from-cons}
-use Rattle.cdb_form.specs.Format.Record.{AreBytes, KeyValue, record_bytes, record_size}
-use Rattle.cdb_form.specs.Format.Pair.{WordPair, pair_bytes}
-use Rattle.cdb_form.specs.Format.Reading.{pair_at}
-use Rattle.cdb_form.specs.Views.Pairs.{PairFits}
-use Rattle.cdb_form.specs.Format.Walk.{prefix_size, prefix_record, whole_records}
 use Rattle.cdb_form.proofs.Bytes.HeadLemmas.{length-pair_bytes}
 use Rattle.cdb_form.proofs.Bytes.ReadBack.{pair_at-pair_bytes, same_words}
 use Rattle.cdb_form.proofs.Files.Prefixes.{lengths_of, Begins, all_records, all_records-more, fits_prefix}

@@ -1,14 +1,7 @@
 -- The tables that have slots, as the code's pointers tell them.
 use Rattle.std.proofs.Common.{◌≡◌, ℕ, ◌+◌, Bool, true, false, cond, List, [], ◌∷◌, length, map, refl, ap, ◌∙◌, arith, inl, inr}
 use Rattle.std.specs.Prelude.{◌==◌, not, ◌&&◌, nat_lt, filter, min, position, unwrap_or, Some, None}
-use Rattle.std.specs.List.{reduce, position_or_len}
-use Rattle.std.proofs.lemmas.Bool.{cases_lt, cond-true, cond-false, lt-ltb, le-ltb}
-use Rattle.std.proofs.lemmas.List.Sums.{prefix_len-le-length}
-use Rattle.cdb_form.specs.Format.Pair.{WordPair, head_size}
-use Rattle.cdb_form.specs.Format.Reading.{head_at}
-use Rattle.cdb_form.specs.Views.Pairs.{pointer_pair}
-use Rattle.cdb_form.specs.Format.Walk.{has_slots, least_place, record_end, first_table_at}
-use Rattle.cdb_form.specs.declared.head.Pointer.{Pointer}
+use Rattle.cdb_form.proofs.Words.{Pointer, WordPair, cases_lt, cond-false, cond-true, first_table_at, has_slots, head_at, head_size, le-ltb, least_place, lt-ltb, pointer_pair, position_or_len, prefix_len-le-length, record_end, reduce}
 
 abbrev pub is_used : Pointer → Bool
 is_used p = not (p.slots == 0)

@@ -1,20 +1,9 @@
 -- The walk of any file, and of the file of some records.
-use Rattle.std.proofs.Common.{◌≡◌, ℕ, zero, suc, ◌+◌, ◌-◌, ◌*◌, ◌^◌, ◌<◌, ◌≤◌, ◌⊎◌, List, [], ◌∷◌, ◌++◌, length, take, drop, map, flat_map, fold, refl, sym, ap, ◌∙◌, subst, arith, inl, inr, length-append, length-take, length-drop}
+use Rattle.cdb_form.proofs.Words.{AllByRecursion, AreBytes, Damage, KeyValue, List, PairFits, Walked, WordPair, [], ap, arith, drop, file_bytes, file_pointers, file_size, file_tables, flat_map, fold, has_slots, head_at, head_size, inl, inr, least_place, length, length-append, length-drop, length-take, map, nth_pair, pointers_from, range_with_len, record_bytes, record_end, record_size, records_end, recursion_from_All, reduce, refl, slots_of, subst, suc, sum_by-cons, sym, table_entries, take, walk_of, whole_records, zero, ℕ, ◌*◌, ◌++◌, ◌+◌, ◌-◌, ◌<◌, ◌^◌, ◌∙◌, ◌∷◌, ◌≡◌, ◌≤◌, ◌⊎◌}
 use Rattle.std.specs.Prelude.{Option, Some, ◌==◌, not, min, unwrap_or, filter, sum_by}
-use Rattle.std.specs.List.{AllByRecursion, range_with_len, reduce}
 use Rattle.std.proofs.lemmas.List.{nil_from_length, append-nil, take_at, take-append-drop, take-take}
-use Rattle.std.proofs.lemmas.List.Sums.{sum_by-cons}
 use Rattle.std.proofs.lemmas.Bool.{cond-true, cond-false, cond_both, ne_eqb, eq-eqb, not_from_true, not_from_false, cases_eq}
-use Rattle.std.proofs.lemmas.List.Elements.{recursion_from_All}
 use Rattle.byteorder.specs.Numbers.{little_from-lt}
-use Rattle.cdb_form.specs.Format.Record.{AreBytes, KeyValue, record_size, record_bytes, records_end}
-use Rattle.cdb_form.specs.Format.Pair.{WordPair, head_size}
-use Rattle.cdb_form.specs.Format.Table.{table_entries, slots_of, file_tables}
-use Rattle.cdb_form.specs.Format.File.{pointers_from, file_pointers, file_size, file_bytes}
-use Rattle.cdb_form.specs.Format.Reading.{head_at, nth_pair}
-use Rattle.cdb_form.specs.Views.Pairs.{PairFits}
-use Rattle.cdb_form.specs.Format.Walk.{Walked, has_slots, least_place, record_end, whole_records, walk_of}
-use Rattle.cdb_form.specs.declared.damage.Damage.{Damage}
 use Rattle.cdb_form.specs.declared.damage.Damage.TheVariants.{Record}
 use Rattle.cdb_form.specs.Laws.Walk.{Stand, StandLongest, HasHead, IsWalk, WalksBack}
 use Rattle.cdb_form.proofs.Bytes.ReadBack.{map-nth_pair}

@@ -1,13 +1,5 @@
 -- The walk of a file, one record after the other.
-use Rattle.std.proofs.Common.{◌≡◌, ℕ, ◌+◌, ◌-◌, ◌*◌, ◌<◌, ◌≤◌, ◌⊎◌, List, [], ◌∷◌, ◌++◌, length, take, drop, refl, sym, ap, ◌∙◌, arith, inl, inr, Option, Some, None, length-take}
-use Rattle.std.specs.Prelude.{nat_lt, ◌==◌, if◌then◌else◌, sum_by}
-use Rattle.std.proofs.lemmas.List.Sums.{sum_by-cons}
-use Rattle.std.proofs.lemmas.Bool.{cond-true, cond-false, eq-eqb, ne_eqb, lt-ltb, le-ltb}
-use Rattle.cdb_form.specs.Format.Record.{KeyValue, record_size}
-use Rattle.cdb_form.specs.Format.Pair.{WordPair, head_size}
-use Rattle.cdb_form.specs.Format.Reading.{pair_at, head_at}
-use Rattle.cdb_form.specs.Format.Walk.{Walked, prefix_size, whole_records, walk_from, walk_of, no_walk, with_first, damaged, record_end, first_table_at}
-use Rattle.cdb_form.specs.declared.damage.Damage.{Damage}
+use Rattle.cdb_form.proofs.Words.{Damage, KeyValue, List, None, Option, Some, Walked, WordPair, [], ap, arith, cond-false, cond-true, damaged, drop, eq-eqb, first_table_at, head_at, head_size, if◌then◌else◌, inl, inr, le-ltb, length, length-take, lt-ltb, nat_lt, ne_eqb, no_walk, pair_at, prefix_size, record_end, record_size, refl, sum_by, sum_by-cons, sym, take, walk_from, walk_of, whole_records, with_first, ℕ, ◌*◌, ◌++◌, ◌+◌, ◌-◌, ◌<◌, ◌==◌, ◌∙◌, ◌∷◌, ◌≡◌, ◌≤◌, ◌⊎◌}
 use Rattle.cdb_form.specs.declared.damage.Damage.TheVariants.{Short, Table, Record}
 use Rattle.cdb_form.proofs.Files.Prefixes.{Begins, Begins-take, all_records, all_records-more, whole_records-none, pair_at-front, take_past}
 

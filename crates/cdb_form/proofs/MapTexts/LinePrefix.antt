@@ -1,14 +1,9 @@
 -- The line that bytes of a map text begin with, part after part.
 use Rattle.std.proofs.Common.{Bool, List, [], ap, append_assoc, arith, drop, false, get_or, length, length-drop, refl, subst, sym, take, true, ◌++◌, ◌+◌, ◌<◌, ◌∙◌, ◌∷◌, ◌≡◌, ◌≢◌, ℕ, suc, zero}
-use Rattle.std.specs.List.{AllPass, position_or_len, prefix_len}
-use Rattle.std.proofs.Math.Seq.{take-add}
+use Rattle.cdb_form.proofs.Words.{AllPass, BeginsOther, BeginsWithLine, IsLineOf, KeyValue, Lacks, behind_blanks, is_blank, is_ignored, is_newline, is_of, line_pair, position_or_len, prefix_len, take-add}
 use Rattle.std.proofs.lemmas.Grind.{get_or_default_zero}
 use Rattle.std.proofs.lemmas.List.{drop-drop, get_or-drop, get_or-take, length-take, take_more}
 use Rattle.std.proofs.lemmas.List.Sums.{position_or_len_is, prefix_len_is, prefix_len_passes, prefix_len_stops}
-use Rattle.cdb_form.specs.Format.Record.{KeyValue}
-use Rattle.cdb_form.specs.Text.Map.{BeginsOther, IsLineOf, Lacks, behind_blanks, is_blank, is_ignored, is_newline, line_pair}
-use Rattle.cdb_form.specs.Views.PrefixLine.{BeginsWithLine}
-use Rattle.cdb_form.specs.Views.MapParser.{is_of}
 use Rattle.cdb_form.specs.declared.text.kind.Kind.TheVariants.{Blank, InLine, InWord}
 use Rattle.cdb_form.proofs.MapTexts.MapLines.{behind_blanks-run, kept_line, line_pair-key, no_blank_first}
 use Rattle.cdb_form.proofs.MapTexts.MapReads.{in_line_stop, lacks_append, other_than, run_lacks, word_lacks, word_no_blank, word_stop}

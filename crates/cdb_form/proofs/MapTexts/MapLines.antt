@@ -1,11 +1,8 @@
 -- The lines of a map text.
 use Rattle.std.proofs.Common.{All, Bool, List, [], append_assoc, ap, arith, drop, false, flat_map, length, not, refl, sym, take, true, ◌++◌, ◌∙◌, ◌∷◌, ◌≡◌, ℕ}
-use Rattle.std.specs.List.{AllByRecursion, AllPass, position_or_len, prefix_len}
-use Rattle.std.specs.Prelude.{if◌then◌else◌}
-use Rattle.std.proofs.lemmas.List.{append-nil, drop_at, take_at}
+use Rattle.cdb_form.proofs.Words.{AllByRecursion, AllPass, KeyValue, append-nil, drop_at, if◌then◌else◌, position_or_len, prefix_len, take_at}
 use Rattle.std.proofs.lemmas.List.Elements.{All-append, All-nil, recursion_from_All, All-from_recursion}
 use Rattle.std.proofs.lemmas.List.Splits.{slice_split_at, slice_split_none}
-use Rattle.cdb_form.specs.Format.Record.{KeyValue}
 use Rattle.cdb_form.specs.Text.Map.{BeginsOther, IsMapWord, Lacks, behind_blanks, is_blank, is_ignored, is_newline, line_records, lines_of, map_line, map_lines, map_text, line_pair}
 
 -- ---- a run of bytes at the start

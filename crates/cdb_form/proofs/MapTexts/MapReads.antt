@@ -1,28 +1,13 @@
 -- What the parser of a map text took, piece after piece.
 use Rattle.std.proofs.Common.{All, List, None, Option, Some, [], append_assoc, ap, arith, false, get_or, is_some, length, length-append, refl, subst, sym, take, true, ◌++◌, ◌+◌, ◌<◌, ◌∙◌, ◌∷◌, ◌≡◌, ◌≢◌, ◌≤◌, ℕ}
-use Rattle.std.specs.List.{AllPass}
-use Rattle.std.specs.Prelude.{◌==◌}
-use Rattle.std.proofs.lemmas.Bool.{eqb-true}
+use Rattle.cdb_form.proofs.Words.{All-append, All-nil, All-push, AllPass, BeginsWithLine, Consumes, Feed, IsAmidLines, IsAtEnd, IsIgnoredLine, IsLineOf, IsOfText, IsReadFault, IsSpent, Keeps, KeyValue, Kind, Lacks, Source, TextFault, behind_blanks, budget, eqb-true, flat_map-append, is_blank, is_newline, is_of, line_end, line_pair, with_newlines, ◌==◌}
 use Rattle.std.proofs.lemmas.List.{append-nil, length-take}
-use Rattle.std.proofs.lemmas.List.Concat.{flat_map-append}
-use Rattle.std.proofs.lemmas.List.Elements.{All-append, All-nil, All-push}
-use Rattle.cdb_form.specs.Fed.Feed.{Consumes, Feed, IsAtEnd, Keeps}
 use Rattle.cdb_form.specs.Fed.MapParser.{MovesRun, ReadsLine, ReadsPair, ReadsRun, ReadsToEnding, ReadsValue}
 use Rattle.cdb_form.specs.Fed.MapReader.{ReadsLinesOf}
 use Rattle.cdb_form.specs.Fed.Source.{LeavesAmid, Takes}
-use Rattle.cdb_form.specs.Format.Record.{KeyValue}
-use Rattle.cdb_form.specs.Text.Map.{IsIgnoredLine, IsLineOf, Lacks, behind_blanks, is_blank, is_newline, line_pair, with_newlines}
-use Rattle.cdb_form.specs.Views.MapParser.{is_of, line_end}
-use Rattle.cdb_form.specs.Views.MapReader.{IsAmidLines}
-use Rattle.cdb_form.specs.Views.PrefixLine.{BeginsWithLine}
-use Rattle.cdb_form.specs.Views.Source.{budget}
-use Rattle.cdb_form.specs.Views.TextFault.{IsOfText, IsReadFault, IsSpent}
-use Rattle.cdb_form.specs.declared.text.fault.TextFault.{TextFault}
 use Rattle.cdb_form.specs.declared.text.fault.TextFault.TheVariants.{Syntax, Ended, Large, Input, Endless, NoMemory}
-use Rattle.cdb_form.specs.declared.text.kind.Kind.{Kind}
 use Rattle.cdb_form.specs.declared.text.kind.Kind.TheVariants.{Blank, InLine, InWord}
 use Rattle.cdb_form.specs.declared.text.map_parser.LineRead.TheVariants.{Ignored, Last, Pair}
-use Rattle.cdb_form.specs.declared.text.source.Source.{Source}
 use Rattle.cdb_form.proofs.MapTexts.MapLines.{behind_blanks-run, blank_line, noted_line, kept_line, line_pair-key}
 use Rattle.cdb_form.proofs.Fed.FeedLemmas.{consumes_then, nothing_taken}
 

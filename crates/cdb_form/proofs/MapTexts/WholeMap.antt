@@ -1,21 +1,10 @@
 -- A whole map text, record after record.
-use Rattle.std.proofs.Common.{All, IfSome, List, None, Option, Some, [], append_assoc, ap, flat_map, inl, inr, refl, subst, sym, ◌++◌, ◌∙◌, ◌∷◌, ◌≡◌, ◌≢◌, ◌⊎◌, ℕ}
-use Rattle.std.specs.List.{AllByRecursion}
+use Rattle.cdb_form.proofs.Words.{All, All-append, All-nil, All-push, AllByRecursion, EndsLine, IfSome, IsIgnoredLine, IsLineOf, KeyValue, Lacks, LeavesAmid, List, MapReader, None, Option, Some, Source, TextFault, [], ap, append-nil, append_assoc, flat_map, flat_map-append, inl, inr, is_newline, line_records, map_lines, recursion_from_All, refl, subst, sym, with_newlines, ℕ, ◌++◌, ◌∙◌, ◌∷◌, ◌≡◌, ◌≢◌, ◌⊎◌}
 use Rattle.std.specs.Io.KnownBytes.{Consumes, IsAtEnd}
-use Rattle.std.proofs.lemmas.List.{append-nil}
-use Rattle.std.proofs.lemmas.List.Concat.{flat_map-append}
-use Rattle.std.proofs.lemmas.List.Elements.{All-append, All-nil, All-push, recursion_from_All}
-use Rattle.cdb_form.specs.Format.Record.{KeyValue}
-use Rattle.cdb_form.specs.Text.Map.{IsIgnoredLine, IsLineOf, Lacks, is_newline, line_records, map_lines, with_newlines}
 use Rattle.cdb_form.specs.Views.KnownBytes.{FromTo}
-use Rattle.cdb_form.specs.Views.MapParser.{EndsLine}
 use Rattle.cdb_form.specs.Views.MapReader.{Fails, GivesEnd, GivesRecord, GoesOn, HasEnded, IsAmidLines, IsGoing, ReadAmid, ReadLines, unread}
-use Rattle.cdb_form.specs.Views.Source.{LeavesAmid}
-use Rattle.cdb_form.specs.declared.text.fault.TextFault.{TextFault}
 use Rattle.cdb_form.specs.declared.text.fault.TextFault.TheVariants.{NoMemory}
 use Rattle.cdb_form.specs.declared.text.going.Going.TheVariants.{AtEnd, On}
-use Rattle.cdb_form.specs.declared.text.map_reader.MapReader.{MapReader}
-use Rattle.cdb_form.specs.declared.text.source.Source.{Source}
 use Rattle.cdb_form.proofs.MapTexts.MapLines.{map_lines-last, map_lines-line}
 
 -- ---- lines with their newlines

@@ -1,15 +1,8 @@
 -- What the reader of a text of either form answered.
-use Rattle.std.proofs.Common.{List, ℕ}
+use Rattle.cdb_form.proofs.Words.{FailsEntry, FailsIn, FailsItem, Feed, FormReader, Leaves, List, Spells, SpellsChange, TextFault, ℕ}
 use Rattle.std.specs.Prelude.{Bool, false, true}
-use Rattle.cdb_form.specs.Text.Amending.{SpellsChange}
-use Rattle.cdb_form.specs.Text.Native.{Spells}
-use Rattle.cdb_form.specs.Fed.Feed.{Feed}
 use Rattle.cdb_form.specs.Fed.FormReader.{Fails, FailsAs}
-use Rattle.cdb_form.specs.Fed.NativeParser.{FailsIn, Leaves}
 use Rattle.cdb_form.specs.Views.FormReader.{HasFailed}
-use Rattle.cdb_form.specs.Views.NativeParser.{FailsEntry, FailsItem}
-use Rattle.cdb_form.specs.declared.text.fault.TextFault.{TextFault}
-use Rattle.cdb_form.specs.declared.text.form_reader.FormReader.{FormReader}
 use Rattle.cdb_form.proofs.NativeTexts.Stops.{met}
 
 fails_with : {R L X : Type 0} (S : ℕ → List ℕ → X → Type 0) (g : ℕ) (feed : R → Feed) (old new : FormReader R L) (f : TextFault) → HasFailed new f

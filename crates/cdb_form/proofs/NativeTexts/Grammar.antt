@@ -1,12 +1,6 @@
 -- Prefixes of texts, part by part.
-use Rattle.std.proofs.Common.{◌≡◌, ◌≢◌, ℕ, ◌+◌, ◌-◌, ◌*◌, ◌<◌, ◌≤◌, List, [], ◌∷◌, ◌++◌, length, take, replicate, refl, sym, ap, subst, ◌∙◌, arith, append_assoc, length-append, lit<}
-use Rattle.std.proofs.lemmas.List.{length-replicate, take_at}
-use Rattle.std.proofs.lemmas.Int.Digits.{digits_push, digits_value_push}
+use Rattle.cdb_form.proofs.Words.{AllDigits, AreBytes, IsNumeral, List, [], ap, append_assoc, arith, digit_value, digits_push, digits_value, digits_value_push, length, length-append, length-replicate, lit<, refl, replicate, subst, sym, take, take_at, ℕ, ◌*◌, ◌++◌, ◌+◌, ◌-◌, ◌<◌, ◌∙◌, ◌∷◌, ◌≡◌, ◌≢◌, ◌≤◌}
 use Rattle.std.proofs.lemmas.Str.Parse.{digits_value-take-le}
-use Rattle.std.specs.Char.{digit_value}
-use Rattle.std.specs.Str.Parse.{AllDigits, digits_value}
-use Rattle.cdb_form.specs.Format.Record.{AreBytes}
-use Rattle.cdb_form.specs.Text.Native.{IsNumeral}
 use Rattle.cdb_form.proofs.Bytes.ByteLemmas.{AreBytes-append, AreBytes-replicate}
 
 -- s can go on to a text of L; no prefix of s is one; s with c behind it can't go on to one

@@ -1,18 +1,9 @@
 -- List texts: how a key is spelled, where its spelling stops, and what a reader answered.
 use Rattle.std.proofs.Common.{◌≡◌, ◌≢◌, ℕ, ◌≤◌, ◌+◌, List, [], ◌∷◌, ◌++◌, length, refl, sym, ap, subst, ◌∙◌, arith, append_assoc, lit≤, codes}
-use Rattle.std.specs.Str.Parse.{digits_value}
-use Rattle.cdb_form.specs.Fed.Feed.{Consumes, Feed, FromTo, IsAtEnd, Keeps}
+use Rattle.cdb_form.proofs.Words.{AreBytes, Consumes, FailsIn, FailsItem, Feed, FromTo, IsAtEnd, IsNumeral, Keeps, Leaves, ListReader, ReadsBehind, SpellsKey, SpellsRemoval, TextFault, digits_value, seen, told}
 use Rattle.cdb_form.specs.Fed.ListReader.{Fails}
-use Rattle.cdb_form.specs.Fed.NativeParser.{FailsIn, Leaves, ReadsBehind}
-use Rattle.cdb_form.specs.Format.Record.{AreBytes}
-use Rattle.cdb_form.specs.Text.Amending.{SpellsRemoval}
-use Rattle.cdb_form.specs.Text.List.{SpellsKey}
-use Rattle.cdb_form.specs.Text.Native.{IsNumeral}
 use Rattle.cdb_form.specs.Views.ListReader.{HasFailed}
-use Rattle.cdb_form.specs.Views.NativeParser.{FailsItem, seen, told}
-use Rattle.cdb_form.specs.declared.text.fault.TextFault.{TextFault}
 use Rattle.cdb_form.specs.declared.text.fault.TextFault.TheVariants.{Syntax, Ended}
-use Rattle.cdb_form.specs.declared.text.list_reader.ListReader.{ListReader}
 use Rattle.cdb_form.proofs.Fed.FeedLemmas.{from_all, from_taken}
 use Rattle.cdb_form.proofs.NativeTexts.Grammar.{same_digits, same_prefixes}
 use Rattle.cdb_form.proofs.NativeTexts.Spelling.{IsSpelling}

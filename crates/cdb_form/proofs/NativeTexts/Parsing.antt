@@ -2,19 +2,11 @@
 use Rattle.std.proofs.Common.{◌≡◌, ◌⊎◌, ℕ, zero, suc, ◌+◌, ◌*◌, ◌<◌, ◌≤◌, ◌&&◌, ◌==◌, nat_lt, nat_le, true, false, List, [], ◌∷◌, ◌++◌, length, take, drop, map, refl, sym, ap, subst, ◌∙◌, arith, append_assoc, append-nil, length-append, length-take-le, take-append-drop, length-drop, Option, Some, None, Result, Ok, Err, inl, inr, codes, if◌then◌else◌}
 use Rattle.std.proofs.lemmas.Bool.{cond_both, ltb-true, ltb-false, leb-true, leb-false, eqb-true, eqb-false, and_parts, and_cases, cases_lt}
 use Rattle.std.proofs.lemmas.List.{map-append}
-use Rattle.std.proofs.lemmas.Int.Digits.{digits_push, digits_value_push}
-use Rattle.std.specs.Char.{digit_value}
-use Rattle.std.specs.Str.Parse.{AllDigits, digits_value}
+use Rattle.cdb_form.proofs.Words.{AllDigits, Change, FailsByte, FailsField, FailsItem, FailsNumber, IsNumeral, IsOfText, Putting, Removing, Spells, SpellsChange, SpellsKey, SpellsRemoval, TextFault, digit_value, digits_push, digits_value, digits_value_push}
 use Rattle.cdb_form.specs.Format.Record.{AreBytes, KeyValue, IsRecord, record_of}
-use Rattle.cdb_form.specs.declared.text.fault.TextFault.{TextFault}
 use Rattle.cdb_form.specs.declared.text.fault.TextFault.TheVariants.{Syntax, Ended, Large, Input, Endless, NoMemory}
 use Rattle.cdb_form.specs.Laws.Parse.{HoldsOf, IsParsed}
-use Rattle.cdb_form.specs.Views.TextFault.{IsOfText}
-use Rattle.cdb_form.specs.Views.NativeParser.{FailsNumber, FailsByte, FailsField, FailsItem}
 use Rattle.cdb_form.specs.Text.Form.{Spelled, Reads, HasNoItem, WholeItems, HasNoText, LongestPrefix, LiftsLength, HasFault}
-use Rattle.cdb_form.specs.Text.Native.{IsNumeral, Spells}
-use Rattle.cdb_form.specs.Text.Amending.{Change, Putting, Removing, SpellsRemoval, SpellsChange}
-use Rattle.cdb_form.specs.Text.List.{SpellsKey}
 use Rattle.cdb_form.specs.Text.Parse.{Part, Found, Stuck, followed, byte_part, field_part, number_part, record_part, removal_part, item_part, key_part, listed, Parsed, going_on, text_from, parse, parse_list}
 use Rattle.cdb_form.proofs.Bytes.ByteLemmas.{AreBytes-take}
 use Rattle.cdb_form.proofs.NativeTexts.KeyTexts.{keys, key_of_removal, listed_stops, listed_syntax}

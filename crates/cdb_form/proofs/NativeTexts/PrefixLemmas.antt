@@ -1,13 +1,5 @@
 -- What bytes of a native text begin with, part after part.
-use Rattle.std.proofs.Common.{List, [], refl, append_assoc, ap, arith, length, length-drop, sym, ◌++◌, ◌+◌, ◌*◌, ◌<◌, ◌∙◌, ◌∷◌, ◌≡◌, ◌≤◌, ℕ, take, drop, get_or, subst}
-use Rattle.std.proofs.Math.Seq.{take-add}
-use Rattle.std.proofs.lemmas.Int.Digits.{digits_push, digits_value_push}
-use Rattle.std.proofs.lemmas.List.{length-take-le, take_more}
-use Rattle.std.specs.Char.{digit_value}
-use Rattle.std.specs.Prelude.{codes}
-use Rattle.std.specs.Str.Parse.{AllDigits, digits_value}
-use Rattle.cdb_form.specs.Format.Record.{IsRecord, KeyValue}
-use Rattle.cdb_form.specs.Text.Native.{IsNumeral}
+use Rattle.cdb_form.proofs.Words.{AllDigits, IsNumeral, IsRecord, KeyValue, List, [], ap, append_assoc, arith, codes, digit_value, digits_push, digits_value, digits_value_push, drop, get_or, length, length-drop, length-take-le, refl, subst, sym, take, take-add, take_more, ℕ, ◌*◌, ◌++◌, ◌+◌, ◌<◌, ◌∙◌, ◌∷◌, ◌≡◌, ◌≤◌}
 use Rattle.cdb_form.specs.Views.Prefix.{BeginsWithBody, BeginsWithLengths, BeginsWithNumeral, BeginsWithRecord}
 use Rattle.cdb_form.specs.declared.text.prefix.PrefixLengths.{PrefixLengths}
 use Rattle.cdb_form.specs.declared.text.prefix.PrefixNumeral.{PrefixNumeral}

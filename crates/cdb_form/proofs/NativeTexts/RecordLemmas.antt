@@ -1,12 +1,8 @@
 -- The records and items of the code are lists of bytes.
-use Rattle.std.proofs.Common.{ℕ, List, [], ◌∷◌}
-use Rattle.std.specs.List.{AllByRecursion}
-use Rattle.cdb_form.specs.Format.Record.{IsRecord}
-use Rattle.cdb_form.specs.Laws.Text.{ChangeFits}
+use Rattle.cdb_form.proofs.Words.{AllByRecursion, ChangeFits, IsRecord, List, Record, [], ℕ, ◌∷◌}
 use Rattle.cdb_form.specs.Views.Pairs.{key_values, change_of, changes_of}
 use Rattle.cdb_form.specs.declared.item.Item.{Item}
 use Rattle.cdb_form.specs.declared.item.Item.TheVariants.{Put, Remove}
-use Rattle.cdb_form.specs.declared.record.Record.{Record}
 use Rattle.cdb_form.proofs.NativeTexts.TextLaws.{IsFitting}
 
 pub are_records : (rs : List Record) → AllByRecursion IsRecord (key_values rs)

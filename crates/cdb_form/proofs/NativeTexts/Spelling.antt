@@ -1,9 +1,5 @@
 -- How the items of the forms are spelled.
-use Rattle.std.proofs.Common.{◌≡◌, ℕ, ◌≤◌, List, ◌∷◌, ◌++◌, length, sym, ap, ◌∙◌, arith, append_assoc, lit≤}
-use Rattle.std.specs.Str.Parse.{digits_value}
-use Rattle.cdb_form.specs.Format.Record.{KeyValue}
-use Rattle.cdb_form.specs.Text.Amending.{Change, Putting, Removing, SpellsRemoval, SpellsChange}
-use Rattle.cdb_form.specs.Text.Native.{Spells}
+use Rattle.cdb_form.proofs.Words.{Change, KeyValue, List, Putting, Removing, Spells, SpellsChange, SpellsRemoval, ap, append_assoc, arith, digits_value, length, lit≤, sym, ℕ, ◌++◌, ◌∙◌, ◌∷◌, ◌≡◌, ◌≤◌}
 use Rattle.cdb_form.proofs.NativeTexts.Grammar.{same_digits, same_prefixes}
 
 -- What the laws of a form rest on: no spelling begins with a newline, a greater bound spells no

@@ -1,20 +1,8 @@
 -- Where a text stops being one of the form.
-use Rattle.std.proofs.Common.{◌≡◌, ◌≢◌, ℕ, zero, suc, ◌+◌, ◌*◌, ◌<◌, ◌≤◌, ◌⊎◌, inl, inr, List, [], ◌∷◌, ◌++◌, length, get_or, take, refl, sym, ap, subst, ◌∙◌, arith, append_assoc, length-append, lit≤}
-use Rattle.std.proofs.lemmas.List.{append-nil, take_at, take_all}
-use Rattle.std.proofs.lemmas.Int.Digits.{digits_push, digits_value_push}
-use Rattle.std.specs.Char.{digit_value}
+use Rattle.cdb_form.proofs.Words.{AreBytes, Change, Consumes, FailsByte, FailsEntry, FailsField, FailsItem, FailsNumber, Feed, FromTo, HasFault, HasNoItem, HasNoText, IsAtEnd, IsNumeral, IsOfText, IsPrefix, IsRecord, Keeps, KeyValue, List, LongestPrefix, Putting, Reads, Removing, Spells, SpellsChange, SpellsRemoval, TextFault, [], ap, append-nil, append_assoc, arith, digit_value, digits_push, digits_value, digits_value_push, get_or, inl, inr, length, length-append, lit≤, refl, seen, subst, suc, sym, take, take_all, take_at, told, zero, ℕ, ◌*◌, ◌++◌, ◌+◌, ◌<◌, ◌∙◌, ◌∷◌, ◌≡◌, ◌≢◌, ◌≤◌, ◌⊎◌}
 use Rattle.std.specs.Prelude.{⊤, Bool, true, false}
-use Rattle.std.specs.Str.Parse.{digits_value}
-use Rattle.cdb_form.specs.Fed.Feed.{Consumes, Feed, FromTo, IsAtEnd, Keeps}
 use Rattle.cdb_form.specs.Fed.FormReader.{IsFaultOf}
-use Rattle.cdb_form.specs.Format.Record.{AreBytes, KeyValue, IsRecord}
-use Rattle.cdb_form.specs.declared.text.fault.TextFault.{TextFault}
 use Rattle.cdb_form.specs.declared.text.fault.TextFault.TheVariants.{Syntax, Ended, Large, Input, Endless, NoMemory}
-use Rattle.cdb_form.specs.Views.TextFault.{IsOfText}
-use Rattle.cdb_form.specs.Views.NativeParser.{FailsNumber, FailsByte, FailsField, FailsItem, FailsEntry, seen, told}
-use Rattle.cdb_form.specs.Text.Form.{Reads, HasNoItem, IsPrefix, HasNoText, LongestPrefix, HasFault}
-use Rattle.cdb_form.specs.Text.Native.{IsNumeral, Spells}
-use Rattle.cdb_form.specs.Text.Amending.{Change, Putting, Removing, SpellsRemoval, SpellsChange}
 use Rattle.cdb_form.proofs.Bytes.ByteLemmas.{AreBytes-nil}
 use Rattle.cdb_form.proofs.Fed.FeedLemmas.{from_all, from_both, from_taken, from_weaker}
 use Rattle.cdb_form.proofs.NativeTexts.Spelling.{IsSpelling, records, changes, first_of_spelled, first_of_removal, head_of_spelled, head_of_removal, no_change}

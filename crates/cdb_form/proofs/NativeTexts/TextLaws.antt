@@ -1,11 +1,8 @@
 -- Texts are read in one way.
-use Rattle.std.proofs.Common.{◌≡◌, ℕ, zero, suc, lit<, ◌^◌, ◌<◌, List, [], ◌∷◌, length, map, refl, arith, decimal}
-use Rattle.std.specs.List.{AllByRecursion}
-use Rattle.std.specs.Str.Parse.{AllDigits, digits_value}
+use Rattle.cdb_form.proofs.Words.{AllByRecursion, AllDigits, IsRecord, KeyValue, List, [], arith, decimal, digits_value, length, lit<, map, refl, suc, zero, ℕ, ◌<◌, ◌^◌, ◌∷◌, ◌≡◌}
 use Rattle.std.proofs.lemmas.Str.Parse.{IsNumeralModel}
 use Rattle.std.proofs.lemmas.Fmt.{digits_decimal, digits_value-decimal}
 use Rattle.std.specs.Fmt.{digits}
-use Rattle.cdb_form.specs.Format.Record.{KeyValue, IsRecord}
 use Rattle.cdb_form.specs.Text.Amending.{Change, Putting, Removing, SpellsChange, SpellsRemoval, SpelledChanges, change_line, removal_line}
 use Rattle.cdb_form.specs.Text.Native.{IsNumeral, Spells, Spelled, spelling_of}
 use Rattle.cdb_form.specs.Laws.Text.{LengthsFit, KeyFits, TextReadsBack, ChangesReadBack, AmendsByPuts}

@@ -1,10 +1,7 @@
 -- A whole amending text, change after change.
-use Rattle.std.proofs.Common.{◌≡◌, ℕ, ◌+◌, ◌≤◌, List, [], ◌∷◌, ◌++◌, length, take, Option, IfSome}
-use Rattle.cdb_form.specs.declared.text.fault.TextFault.{TextFault}
-use Rattle.cdb_form.specs.Views.TextFault.{IsOfText, IsReadFault}
+use Rattle.cdb_form.proofs.Words.{IfSome, IsOfText, IsReadFault, List, Option, TextFault, Took, [], length, take, ℕ, ◌++◌, ◌+◌, ◌∷◌, ◌≡◌, ◌≤◌}
 use Rattle.cdb_form.specs.Text.Amending.{Change, SpellsChange, SpelledChanges, HasNoChange, WholeChanges, HasAmendingFault}
 use Rattle.cdb_form.specs.Views.AmendReader.{ReadsChange, StopsAmid}
-use Rattle.cdb_form.specs.Views.KnownBytes.{Took}
 use Rattle.cdb_form.proofs.NativeTexts.Spelling.{changes}
 use Rattle.cdb_form.proofs.NativeTexts.WholeForm as form
 

@@ -1,16 +1,10 @@
 -- A whole text of a form, item after item.
-use Rattle.std.proofs.Common.{◌≡◌, ℕ, ◌+◌, ◌-◌, ◌≤◌, List, [], ◌∷◌, ◌++◌, length, take, get_or, flat_map, refl, sym, ap, subst, ◌∙◌, arith, append_assoc, length-append, Option, Some, None, IfSome}
-use Rattle.std.specs.Prelude.{⊤}
-use Rattle.std.specs.Char.{digit_value}
-use Rattle.std.specs.List.{AllByRecursion}
+use Rattle.cdb_form.proofs.Words.{AllByRecursion, IfSome, IsOfText, IsReadFault, List, None, Option, Some, TextFault, Took, [], ap, append_assoc, arith, digit_value, flat_map, get_or, length, length-append, refl, subst, sym, take, ℕ, ⊤, ◌++◌, ◌+◌, ◌-◌, ◌∙◌, ◌∷◌, ◌≡◌, ◌≤◌}
 use Rattle.std.proofs.Math.Seq.{take-append-add}
 use Rattle.std.proofs.lemmas.List.{get_or-append-add, length-take-le}
-use Rattle.cdb_form.specs.declared.text.fault.TextFault.{TextFault}
 use Rattle.cdb_form.specs.declared.text.fault.TextFault.TheVariants.{Syntax, Ended, Large, Input, Endless, NoMemory}
 use Rattle.cdb_form.specs.Laws.Text.{IsReadAs}
 use Rattle.cdb_form.specs.Views.FormReader.{ReadsItem, StopsAmid}
-use Rattle.cdb_form.specs.Views.TextFault.{IsOfText, IsReadFault}
-use Rattle.cdb_form.specs.Views.KnownBytes.{Took}
 use Rattle.cdb_form.specs.Text.Form.{Spelled, Reads, HasNoItem, WholeItems, IsPrefix, HasNoText, LongestPrefix, LiftsLength, HasFault}
 use Rattle.cdb_form.proofs.NativeTexts.Spelling.{IsSpelling}
 

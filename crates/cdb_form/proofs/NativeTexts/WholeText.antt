@@ -1,8 +1,5 @@
 -- A whole native text, record after record.
-use Rattle.std.proofs.Common.{◌≡◌, ℕ, ◌+◌, List, [], ◌∷◌, ◌++◌, length, Option, IfSome}
-use Rattle.cdb_form.specs.Format.Record.{KeyValue}
-use Rattle.cdb_form.specs.declared.text.fault.TextFault.{TextFault}
-use Rattle.cdb_form.specs.Views.TextFault.{IsOfText}
+use Rattle.cdb_form.proofs.Words.{IfSome, IsOfText, KeyValue, List, Option, TextFault, [], length, ℕ, ◌++◌, ◌+◌, ◌∷◌, ◌≡◌}
 use Rattle.cdb_form.specs.Text.Native.{Spells, Spelled, HasNoRecord, WholeRecords, HasFault}
 use Rattle.cdb_form.specs.Views.TextReader.{ReadsRecord}
 use Rattle.cdb_form.proofs.NativeTexts.Spelling.{records}

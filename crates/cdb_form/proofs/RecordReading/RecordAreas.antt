@@ -1,21 +1,10 @@
 -- What the head that was read says of the walk of the whole file.
-use Rattle.std.proofs.Common.{◌≡◌, ℕ, ◌+◌, ◌*◌, ◌<◌, ◌≤◌, ◌⊎◌, List, ◌++◌, length, take, replicate, inl, inr, drop, map, sym, ap, ◌∙◌, arith, append_assoc, length-append, length-drop}
-use Rattle.std.proofs.Math.Nat.{mul-le-mul_left}
-use Rattle.std.specs.List.{range_with_len}
+use Rattle.cdb_form.proofs.Words.{Consumes, Feed, FromTo, KeyValue, List, WalkFault, Walked, WordPair, ap, append_assoc, arith, damaged, drop, empty_slot, fill_by_all, first_table_at, get_or-map-range_with_len, head_at, head_size, inl, inr, least_place, length, length-append, length-drop, length-map-range_with_len, map, mul-le-mul_left, nth_pair, pair_at, pair_size, range_with_len, record_end, replicate, stopped_by, sym, take, walk_from, walk_of, ℕ, ◌*◌, ◌++◌, ◌+◌, ◌<◌, ◌∙◌, ◌≡◌, ◌≤◌, ◌⊎◌}
 use Rattle.std.proofs.lemmas.List.{take-append-le, drop-append-le, drop_at}
-use Rattle.std.proofs.lemmas.List.FromFn.{fill_by_all, length-map-range_with_len, get_or-map-range_with_len}
-use Rattle.cdb_form.specs.Fed.Feed.{Consumes, Feed, FromTo}
 use Rattle.cdb_form.specs.Fed.Taking.{LosesFewer, ReadsFirst, ReadsHead, ReadsNoRecord}
 use Rattle.cdb_form.proofs.Fed.FeedLemmas.{consumes_then, from_taken, from_weaker}
-use Rattle.cdb_form.specs.Format.Pair.{WordPair, pair_size, head_size}
-use Rattle.cdb_form.specs.Format.Table.{empty_slot}
-use Rattle.cdb_form.specs.Format.Reading.{pair_at, nth_pair, head_at}
-use Rattle.cdb_form.specs.Format.Record.{KeyValue}
-use Rattle.cdb_form.specs.Format.Walk.{Walked, least_place, record_end, walk_of, walk_from, damaged, first_table_at}
-use Rattle.cdb_form.specs.declared.walk.fault.WalkFault.{WalkFault}
 use Rattle.cdb_form.specs.declared.walk.fault.WalkFault.TheVariants.{Short}
 use Rattle.cdb_form.specs.declared.damage.Damage.TheVariants.{Table}
-use Rattle.cdb_form.specs.Views.WalkFault.{stopped_by}
 use Rattle.cdb_form.proofs.Sources.AskingLemmas.{zeros_long}
 use Rattle.cdb_form.proofs.Bytes.WordLemmas.{pair_at-take}
 use Rattle.cdb_form.proofs.Files.WalkSteps.{walk_of-short, walk_of-table, walk_of-records}

@@ -1,16 +1,5 @@
 -- What the parts of a record that were read say of the walk of what was unread.
-use Rattle.std.proofs.Common.{◌≡◌, ℕ, ◌+◌, ◌-◌, ◌*◌, ◌<◌, ◌≤◌, List, [], ◌++◌, length, drop, refl, sym, ap, ◌∙◌, arith, inl, inr, append_assoc, length-append}
-use Rattle.std.proofs.lemmas.List.{append-nil, drop-drop}
-use Rattle.cdb_form.specs.Fed.Feed.{Consumes, Feed, FromTo}
-use Rattle.cdb_form.specs.Fed.Taking.{LosesAtMost, LosesFewer, ReadsFirst, ReadsNoRecord, ReadsShort}
-use Rattle.cdb_form.specs.Format.Record.{KeyValue, record_size}
-use Rattle.cdb_form.specs.Format.Pair.{WordPair}
-use Rattle.cdb_form.specs.Format.Reading.{pair_at}
-use Rattle.cdb_form.specs.Format.Walk.{Walked, prefix_size, walk_from, with_first}
-use Rattle.cdb_form.specs.Views.Pairs.{header_pair}
-use Rattle.cdb_form.specs.Views.WalkFault.{stopped_by}
-use Rattle.cdb_form.specs.declared.walk.fault.WalkFault.{WalkFault}
-use Rattle.cdb_form.specs.declared.header.Header.{Header}
+use Rattle.cdb_form.proofs.Words.{Consumes, Feed, FromTo, Header, KeyValue, List, LosesAtMost, LosesFewer, ReadsFirst, ReadsNoRecord, ReadsShort, WalkFault, Walked, WordPair, [], ap, append-nil, append_assoc, arith, drop, drop-drop, header_pair, inl, inr, length, length-append, pair_at, prefix_size, record_size, refl, stopped_by, sym, walk_from, with_first, ℕ, ◌*◌, ◌++◌, ◌+◌, ◌-◌, ◌<◌, ◌∙◌, ◌≡◌, ◌≤◌}
 use Rattle.cdb_form.specs.declared.walk.fault.WalkFault.TheVariants.{Record}
 use Rattle.cdb_form.proofs.Files.Prefixes.{lengths_of, Begins, prefix_reads}
 use Rattle.cdb_form.proofs.Fed.FeedLemmas.{consumes_then, from_behind, from_kept, from_taken, from_weaker, nothing_taken}

@@ -1,21 +1,10 @@
 -- A record of a database file at the start of some bytes that are at hand.
-use Rattle.std.proofs.Common.{◌≡◌, ℕ, ◌+◌, ◌-◌, ◌*◌, ◌<◌, ◌≤◌, List, ◌++◌, length, take, drop, sym, subst, ap, ◌∙◌, arith, length-append, length-drop, length-take}
-use Rattle.std.proofs.lemmas.List.{drop-drop, drop-take, length-take-le, take-append-drop, take-take, take_all}
-use Rattle.cdb_form.specs.Fed.Feed.{Consumes, Feed, FromTo}
+use Rattle.cdb_form.proofs.Words.{Consumes, Feed, FromTo, Header, IsStored, KeyValue, List, ReadsFirst, RecordReader, WordPair, ap, arith, drop, drop-drop, drop-take, header_pair, length, length-append, length-drop, length-take, length-take-le, pair_at, prefix_record, prefix_size, record_size, subst, sym, take, take-append-drop, take-take, take_all, walk_from, with_first, ℕ, ◌*◌, ◌++◌, ◌+◌, ◌-◌, ◌<◌, ◌∙◌, ◌≡◌, ◌≤◌}
 use Rattle.cdb_form.specs.Fed.RecordReader.{GivesRecord}
-use Rattle.cdb_form.specs.Fed.Taking.{ReadsFirst}
-use Rattle.cdb_form.specs.Format.Pair.{WordPair}
-use Rattle.cdb_form.specs.Format.Reading.{pair_at}
-use Rattle.cdb_form.specs.Format.Record.{KeyValue, record_size}
-use Rattle.cdb_form.specs.Format.Walk.{prefix_record, prefix_size, walk_from, with_first}
-use Rattle.cdb_form.specs.Views.Pairs.{header_pair}
-use Rattle.cdb_form.specs.Views.Prefix.{IsStored}
 use Rattle.cdb_form.specs.Views.RecordReader.{HasPeeked}
-use Rattle.cdb_form.specs.declared.header.Header.{Header}
 use Rattle.cdb_form.specs.declared.walk.record_area.RecordArea.{RecordArea}
 use Rattle.cdb_form.specs.declared.walk.record_reader.Progress.{Progress}
 use Rattle.cdb_form.specs.declared.walk.record_reader.Progress.TheVariants.{AtHead, At, AtEnd, Failed}
-use Rattle.cdb_form.specs.declared.walk.record_reader.RecordReader.{RecordReader}
 use Rattle.cdb_form.proofs.Files.Prefixes.{lengths_of}
 use Rattle.cdb_form.proofs.Bytes.ReadBack.{same_words}
 use Rattle.cdb_form.proofs.RecordReading.RecordReads.{goes_on, record_cut, record_read}

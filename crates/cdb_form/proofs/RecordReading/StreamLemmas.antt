@@ -1,25 +1,15 @@
 -- What a reader of records leaves unread.
-use Rattle.std.proofs.Common.{◌≡◌, ℕ, ◌+◌, ◌-◌, ◌≤◌, List, ◌++◌, length, take, drop, refl, sym, ap, subst, ◌∙◌, arith, inl, inr}
+use Rattle.cdb_form.proofs.Words.{Feed, FromTo, KeyValue, List, Record, RecordReader, WalkFault, Walked, ap, arith, behind_records, drop, drop-drop, drop_at, head_size, inl, inr, key_value, length, no_walk, record_end, refl, subst, sym, take, take-append-drop, walk_from, walk_of, with_first, ℕ, ◌++◌, ◌+◌, ◌-◌, ◌∙◌, ◌≡◌, ◌≤◌}
 use Rattle.std.specs.Prelude.{max, Bool, true, false, MatchBool}
 use Rattle.std.specs.Bool.{OnTrue, OnFalse}
-use Rattle.cdb_form.specs.Format.Record.{KeyValue}
-use Rattle.cdb_form.specs.Views.Pairs.{key_value}
-use Rattle.cdb_form.specs.Fed.Feed.{Feed, FromTo}
 use Rattle.cdb_form.specs.Fed.RecordReader.{GivesKept, GivesRecord}
-use Rattle.cdb_form.specs.declared.record.Record.{Record}
-use Rattle.cdb_form.specs.declared.walk.record_reader.RecordReader.{RecordReader}
 use Rattle.cdb_form.specs.declared.walk.keeping.Keeping.TheVariants.{Both}
-use Rattle.std.proofs.lemmas.List.{drop_at, drop-drop, take-append-drop}
 use Rattle.cdb_form.specs.Fed.Taking.{LosesAtMost, ReadsNoFurther}
 use Rattle.cdb_form.specs.Views.KnownBytes.{StillFrom}
 use Rattle.cdb_form.specs.Views.WalkFault.{IsDamage, stopped_by}
-use Rattle.cdb_form.specs.declared.walk.fault.WalkFault.{WalkFault}
 use Rattle.cdb_form.specs.declared.walk.fault.WalkFault.TheVariants.{Short, Table, Record as Cut, Input, NoMemory}
 use Rattle.cdb_form.proofs.Fed.FeedLemmas.{from_both, from_kept, from_taken, from_then, from_weaker, nothing_taken}
 use Rattle.cdb_form.proofs.RecordReading.RecordReads.{loses_then}
-use Rattle.cdb_form.specs.Format.Pair.{head_size}
-use Rattle.cdb_form.specs.Views.RecordReader.{behind_records}
-use Rattle.cdb_form.specs.Format.Walk.{Walked, walk_of, walk_from, record_end, no_walk, with_first}
 
 still_from : (lost rest : List ℕ) (n : ℕ) → length lost ≤ n → StillFrom n (lost ++ rest) rest
 still_from lost rest n few =

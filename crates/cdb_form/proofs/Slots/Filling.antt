@@ -1,13 +1,8 @@
 -- The search for an empty slot.
 use Rattle.std.proofs.Common.{◌≡◌, ℕ, ◌+◌, ◌-◌, ◌%◌, ◌<◌, ◌≤◌, Bool, true, eqb, List, [], ◌∷◌, length, take, drop, get_or, refl, sym, ap, ◌∙◌, ◌++◌, arith, min, inl, inr, length-drop, fold, replicate, slice_set}
-use Rattle.std.proofs.lemmas.Bool.{cases_lt}
-use Rattle.std.proofs.lemmas.List.{take-append-drop, length-take-le, take_more}
-use Rattle.std.proofs.lemmas.List.Sums.{prefix_len-le-length, fold-append}
+use Rattle.cdb_form.proofs.Words.{WordPair, cases_lt, fold-append, length-take-le, nat_tests, prefix_len, prefix_len-le-length, take-append-drop, take_more}
 use Rattle.std.proofs.Math.Nat.{mod-eq_of_lt, add-mod_left}
 use Rattle.std.proofs.lemmas.List.Folds.{prefix_len-append}
-use Rattle.std.proofs.lemmas.Bool.Decides.{nat_tests}
-use Rattle.std.specs.List.{prefix_len}
-use Rattle.cdb_form.specs.Format.Pair.{WordPair}
 use Rattle.cdb_form.specs.Format.Table.{is_used, slots_from, slots_with, filled_slots, empty_slot}
 use Rattle.cdb_form.specs.Format.Hash.{home_slot}
 

@@ -1,12 +1,7 @@
 -- Runs of used slots.
 use Rattle.std.proofs.Common.{◌≡◌, ℕ, ◌+◌, ◌-◌, ◌<◌, ◌≤◌, true, false, List, [], ◌∷◌, length, drop, get_or, replicate, refl, sym, ap, ◌∙◌, arith, slice_set, suc, zero, max, inl, inr, subst}
-use Rattle.std.proofs.lemmas.List.{get_or-set_same, get_or-set_other, get_or-replicate, length-replicate}
+use Rattle.cdb_form.proofs.Words.{AreRuns, IsRun, WordPair, cases_lt, empty_slot, get_or-replicate, get_or-set_other, get_or-set_same, is_used, length-replicate, prefix_len}
 use Rattle.std.proofs.lemmas.List.Sums.{prefix_len-drop_yes}
-use Rattle.std.proofs.lemmas.Bool.{cases_lt}
-use Rattle.std.specs.List.{prefix_len}
-use Rattle.cdb_form.specs.Format.Pair.{WordPair}
-use Rattle.cdb_form.specs.Format.Table.{is_used, empty_slot}
-use Rattle.cdb_form.specs.Views.UsedRuns.{IsRun, AreRuns}
 
 past : {X : Type 0} (xs : List X) (at : ℕ) (d : X) → length xs ≤ at → get_or xs at d ≡ d
 past [] at d h = refl

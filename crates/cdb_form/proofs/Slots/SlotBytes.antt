@@ -1,23 +1,13 @@
 -- The slots that the bytes of a table hold.
-use Rattle.std.proofs.Common.{◌≡◌, ℕ, zero, suc, ◌+◌, ◌-◌, ◌*◌, ◌/◌, ◌<◌, ◌≤◌, ◌⊎◌, inl, inr, List, [], ◌∷◌, ◌++◌, length, take, drop, map, flat_map, get_or, replicate, slice_set, refl, sym, ap, subst, ◌∙◌, arith}
-use Rattle.std.specs.List.{range_with_len}
-use Rattle.std.specs.Int.{bytes_low_first}
+use Rattle.cdb_form.proofs.Words.{AreBytes, List, WordPair, [], ap, arith, bytes_low_first, cases_eq, cases_lt, drop, empty_slot, flat_map, flat_map-append, get_or, inl, inr, length, map, nth_pair, pair_at, pair_bytes, pair_size, range_with_len, refl, replicate, slice_set, slots_in, subst, suc, sym, take, take-add, zero, ℕ, ◌*◌, ◌++◌, ◌+◌, ◌-◌, ◌/◌, ◌<◌, ◌∙◌, ◌∷◌, ◌≡◌, ◌≤◌, ◌⊎◌}
 use Rattle.std.proofs.Math.Nat.{mul-div-le, mul-le-mul_left, mul-div_cancel_left}
-use Rattle.std.proofs.Math.Seq.{take-add}
-use Rattle.std.proofs.lemmas.Bool.{cases_lt, cases_eq}
 use Rattle.std.proofs.lemmas.Grind.{get_or-set_at}
 use Rattle.std.proofs.lemmas.List.{length-replicate, length-set, length-take-le, take-append-le, take-take, take_all, drop-take, drop-drop, drop_at, get_or-set_other, get_or-replicate, take-replicate, drop-replicate, append-nil, length-drop}
-use Rattle.std.proofs.lemmas.List.Concat.{flat_map-append}
 use Rattle.std.proofs.lemmas.List.FromFn.{fill_by_all, get_or-map-range_with_len, length-map-range_with_len, map-range_with_len_more}
-use Rattle.cdb_form.specs.Format.Pair.{WordPair, pair_bytes, pair_size}
-use Rattle.cdb_form.specs.Format.Reading.{pair_at, nth_pair}
-use Rattle.cdb_form.specs.Format.Record.{AreBytes}
-use Rattle.cdb_form.specs.Format.Table.{empty_slot}
 use Rattle.cdb_form.proofs.Files.Standing.{AreBytes-drop, little_bytes-little_from}
 use Rattle.cdb_form.proofs.Bytes.WordLemmas.{pair_at-take, pair_at_part}
 use Rattle.cdb_form.proofs.Bytes.HeadLemmas.{rest_of, length-pair_bytes}
 use borrow.Rule.Slice.PartMut.{mid_of, put_mid, post_of, mid_len, same_len_mid, take_put, drop_put}
-use Rattle.cdb_form.specs.Views.SlotBytes.{slots_in}
 
 -- how many slots some bytes hold
 pub length-slots_in : (w : ℕ) (bytes : List ℕ) → length (slots_in w bytes) ≡ length bytes / pair_size w

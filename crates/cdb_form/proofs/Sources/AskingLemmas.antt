@@ -1,9 +1,6 @@
 -- What a reader gave, ask after ask.
-use Rattle.std.proofs.Common.{◌≡◌, ℕ, ◌+◌, ◌≤◌, List, ◌++◌, length, take, replicate, ap, sym, ◌∙◌, arith, append_assoc, length-append}
-use Rattle.std.proofs.lemmas.List.{take-append-le, take-take, length-take-le, length-replicate}
-use Rattle.cdb_form.specs.Fed.Feed.{Consumes, Feed}
+use Rattle.cdb_form.proofs.Words.{AreBytes, Consumes, Feed, List, ap, append_assoc, arith, length, length-append, length-replicate, length-take-le, replicate, sym, take, take-append-le, take-take, ℕ, ◌++◌, ◌+◌, ◌∙◌, ◌≡◌, ◌≤◌}
 use borrow.Rule.Slice.PartMut.{put_mid, post_of}
-use Rattle.cdb_form.specs.Format.Record.{AreBytes}
 use Rattle.cdb_form.proofs.Bytes.ByteLemmas.{AreBytes-append, AreBytes-take}
 use Rattle.cdb_form.proofs.Files.Prefixes.{take_past}
 use Rattle.cdb_form.proofs.Fed.FeedLemmas.{consumes_then}

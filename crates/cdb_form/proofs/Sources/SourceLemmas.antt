@@ -1,18 +1,7 @@
 -- What a source read, piece after piece.
-use Rattle.std.proofs.Common.{◌-◌, take, ◌≡◌, ◌≢◌, ℕ, ◌+◌, ◌*◌, ◌<◌, ◌≤◌, List, [], ◌∷◌, ◌++◌, length, refl, sym, ap, subst, ◌∙◌, arith, append_assoc, length-append}
-use Rattle.std.proofs.lemmas.List.{take_at}
-use Rattle.cdb_form.specs.Fed.Feed.{Consumes, Feed, FromTo, IsAtEnd}
-use Rattle.std.specs.Str.Parse.{AllDigits, digits_value}
-use Rattle.std.specs.Char.{digit_value}
-use Rattle.std.proofs.lemmas.Int.Digits.{digits_push, digits_value_push}
+use Rattle.cdb_form.proofs.Words.{AllDigits, AreBytes, Consumes, Feed, FromTo, IsAtEnd, IsNumeral, IsRecord, KeyValue, Leaves, List, ReadsBehind, Source, Spells, SpellsRemoval, TextFault, [], ap, append_assoc, arith, budget, codes, digit_value, digits_push, digits_value, digits_value_push, length, length-append, refl, subst, sym, take, take_at, ℕ, ◌*◌, ◌++◌, ◌+◌, ◌-◌, ◌<◌, ◌∙◌, ◌∷◌, ◌≡◌, ◌≢◌, ◌≤◌}
 use Rattle.cdb_form.proofs.Bytes.ByteLemmas.{AreBytes-front}
-use Rattle.cdb_form.specs.declared.text.source.Source.{Source}
-use Rattle.cdb_form.specs.declared.text.fault.TextFault.{TextFault}
 use Rattle.cdb_form.specs.declared.text.fault.TextFault.TheVariants.{Syntax, Ended, Large, Input, Endless, NoMemory}
-use Rattle.cdb_form.specs.Format.Record.{AreBytes, KeyValue, IsRecord}
-use Rattle.cdb_form.specs.Text.Amending.{SpellsRemoval}
-use Rattle.cdb_form.specs.Text.Native.{IsNumeral, Spells}
-use Rattle.std.specs.Prelude.{codes}
 use Rattle.cdb_form.specs.Fed.Taking.{Took}
 use Rattle.cdb_form.proofs.Fed.FeedLemmas.{consumes_then, from_all, from_behind, from_taken, from_weaker}
 use Rattle.cdb_form.proofs.Files.Prefixes.{take_past}
@@ -20,9 +9,7 @@ use Rattle.cdb_form.specs.declared.reading.ReadStop.{ReadStop}
 use Rattle.cdb_form.specs.declared.reading.ReadStop.TheVariants as unread
 use Rattle.cdb_form.specs.Views.TextFault.{IsReadFault, IsSpent, LastRead, unread_fault}
 use Rattle.cdb_form.specs.Fed.FormReader.{ReadsItem}
-use Rattle.cdb_form.specs.Fed.NativeParser.{Leaves, ReadsBehind}
 use Rattle.cdb_form.specs.Views.NativeParser.{FailsBytes, FailsField, seen, told}
-use Rattle.cdb_form.specs.Views.Source.{budget}
 
 -- digits were read that stand for a value
 pub record DigitsSoFar (old new : Feed) (greatest start taken value : ℕ) : Type 0 where

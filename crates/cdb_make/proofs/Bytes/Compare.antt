@@ -1,14 +1,7 @@
 -- Bytes that are read piece by piece and compared.
-use Rattle.std.proofs.Common.{◌≡◌, ◌≢◌, ℕ, ◌+◌, ◌-◌, ◌≤◌, Bool, true, false, not, List, ◌++◌, length, take, drop, refl, sym, ap, ◌∙◌, arith}
-use Rattle.std.specs.Prelude.{bytes_eq}
-use Rattle.std.proofs.lemmas.List.{take_at}
-use Rattle.std.proofs.lemmas.Slice.Eq.{bytes_eq-Decides}
-use Rattle.cdb_store.specs.Images.{part, AfterRead}
-use Rattle.cdb_store.specs.Reads.{OnlyReads}
-use Rattle.cdb_store.specs.declared.store.Store.{Ghosts}
+use Rattle.cdb_make.proofs.Words.{AfterRead, Bool, Ghosts, List, NoNewImage, OnlyReads, TellsSameInImages, ap, arith, bytes_eq, bytes_eq-Decides, drop, false, length, not, part, refl, sym, take, take_at, true, ℕ, ◌++◌, ◌+◌, ◌-◌, ◌∙◌, ◌≡◌, ◌≢◌, ◌≤◌}
 pub use Rattle.cdb_store.proofs.Compared.{AgreesSoFar, agrees_piece}
 use Rattle.cdb_store.proofs.Compared.{part_inner}
-use Rattle.cdb_make.specs.Looks.{NoNewImage, TellsSameInImages}
 
 -- the two pieces that are compared
 compared : (n done : ℕ) (p piece key : List ℕ) → length p ≡ n → (take n (p ++ drop n piece) ≡ p) × (take ((done + n) - done) (drop done key) ≡ take n (drop done key))

@@ -1,22 +1,13 @@
 -- The first whole records of some bytes.
-use Rattle.std.proofs.Common.{◌≡◌, ℕ, suc, ◌+◌, ◌-◌, ◌*◌, ◌<◌, ◌≤◌, List, [], ◌∷◌, ◌++◌, length, take, drop, flat_map, refl, sym, ap, ◌∙◌, arith, inl, inr, append_assoc, length-take, length-drop}
+use Rattle.cdb_make.proofs.Words.{AreBytes, AreFirst, ImagesHold, IsRecord, KeyValue, List, [], ap, append-nil, append_assoc, arith, drop, drop-drop, drop-take, flat_map, flat_map-append, inl, inr, length, length-drop, length-record_bytes, length-take, pair_at, part, prefix_record, prefix_size, record_bytes, record_size, records_at, refl, suc, sym, take, take-take, take_at, whole_records, whole_size, ℕ, ◌*◌, ◌++◌, ◌+◌, ◌-◌, ◌<◌, ◌∙◌, ◌∷◌, ◌≡◌, ◌≤◌}
 use Rattle.std.specs.Prelude.{sum_by}
 use Rattle.std.proofs.Math.Seq.{take-add}
-use Rattle.std.proofs.lemmas.List.{append-nil, drop-drop, drop-take, take-take, take_at}
-use Rattle.std.proofs.lemmas.List.Concat.{flat_map-append}
 use Rattle.std.proofs.lemmas.List.Sums.{sum_by_push, sum_by-take-le}
 use Rattle.std.proofs.lemmas.Bool.{cases_lt, cond-true, le-leb}
-use Rattle.cdb_store.specs.Images.{part, ImagesHold}
 use Rattle.cdb_store.proofs.Parts.{part_part}
-use Rattle.cdb_form.specs.Format.File.{whole_size}
-use Rattle.cdb_form.specs.Format.Record.{AreBytes, IsRecord, KeyValue, record_bytes, record_size}
-use Rattle.cdb_form.specs.Format.Reading.{pair_at}
-use Rattle.cdb_form.specs.Format.Walk.{prefix_record, prefix_size, whole_records}
 use Rattle.cdb_form.proofs.Bytes.ByteLemmas.{AreBytes-take}
 use Rattle.cdb_form.proofs.Files.Prefixes.{fits_prefix, whole_records-none, whole_records-room}
-use Rattle.cdb_form.proofs.Files.Sizes.{length-record_bytes}
 use Rattle.cdb_form.proofs.Files.Standing.{AreBytes-drop, prefix_stands}
-use Rattle.cdb_make.specs.Views.Appending.{AreFirst, records_at}
 
 -- a whole record, and then those of the rest
 pub records_at-cons : (w : ℕ) (xs : List ℕ) → 0 < w → prefix_size w xs ≤ length xs → records_at w xs ≡ prefix_record w xs ∷ records_at w (drop (prefix_size w xs) xs)

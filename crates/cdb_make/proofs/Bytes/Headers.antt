@@ -1,12 +1,6 @@
 -- What a header that was read says of the record at its place.
 use Rattle.std.proofs.Common.{◌≡◌, ◌≢◌, ℕ, ◌+◌, ◌*◌, ◌<◌, ◌≤◌, Bool, true, false, List, length, take, drop, refl, sym, ap, ◌∙◌, arith, rules, length-drop, ◌-◌, Ok, Err, Some, None}
-use Rattle.std.specs.Prelude.{bytes_eq}
-use Rattle.std.proofs.lemmas.List.{drop-drop, take-take, drop-take, take_all}
-use Rattle.std.proofs.lemmas.Slice.Eq.{bytes_eq-Decides}
-use Rattle.cdb_store.specs.Images.{part, AfterRead, AreSized}
-use Rattle.cdb_store.proofs.Parts.{length-part}
-use Rattle.cdb_form.specs.Format.Reading.{pair_at}
-use Rattle.cdb_form.specs.Views.Pairs.{header_pair}
+use Rattle.cdb_make.proofs.Words.{AfterRead, AreSized, bytes_eq, bytes_eq-Decides, drop-drop, drop-take, header_pair, length-part, pair_at, part, take-take, take_all}
 use Rattle.cdb_form.specs.declared.header.Header.{Header}
 use Rattle.cdb_form.proofs.Bytes.WordLemmas.{pair_at-take}
 use Rattle.cdb_make.specs.declared.key_at.LookFault.TheVariants.{Foreign}

@@ -1,11 +1,5 @@
 -- How many entries the tables have.
-use Rattle.std.proofs.Common.{◌≡◌, ℕ, ◌+◌, ◌*◌, ◌<◌, ◌≤◌, List, [], ◌∷◌, length, take, map, get_or, replicate, refl, sym, ap, ◌∙◌, arith, sum_by}
-use Rattle.std.specs.Prelude.{sum}
-use Rattle.std.proofs.lemmas.List.{length-replicate}
-use Rattle.std.proofs.lemmas.List.Sums.{sum_by-cons, sum_by_more_le, sum_by_more}
-use Rattle.std.proofs.Math.Nat.{mul-le-mul_left}
-use Rattle.cdb_form.specs.Format.Pair.{WordPair}
-use Rattle.cdb_form.specs.Format.Table.{empty_slot}
+use Rattle.cdb_make.proofs.Words.{List, WordPair, [], ap, arith, empty_slot, get_or, length, length-replicate, map, mul-le-mul_left, refl, replicate, sum, sum_by, sum_by-cons, sum_by_more, sum_by_more_le, sym, take, ℕ, ◌*◌, ◌+◌, ◌<◌, ◌∙◌, ◌∷◌, ◌≡◌, ◌≤◌}
 
 -- slots of one table more
 pub counts_more : (k : ℕ) (ns : List ℕ) (i : ℕ) → i < length ns → k * sum (take (i + 1) ns) ≡ k * sum (take i ns) + k * get_or ns i 0

@@ -1,15 +1,7 @@
 -- The pointers to the tables of some lists of entries.
-use Rattle.std.proofs.Common.{◌≡◌, ℕ, ◌+◌, ◌*◌, ◌<◌, ◌≤◌, List, [], ◌∷◌, ◌++◌, length, take, map, get_or, refl, sym, ap, ◌∙◌, arith, sum_by}
-use Rattle.std.proofs.lemmas.List.{take_more, length-map, take-map, get_or-map, map_push, take_more_set}
-use Rattle.std.proofs.lemmas.List.Sums.{sum_by-cons, sum_by_more_le, sum_by_more}
-use Rattle.std.proofs.Math.Nat.{mul-le-mul_left}
+use Rattle.cdb_make.proofs.Words.{List, WordPair, [], ap, arith, get_or, get_or-map, length, length-map, length-slots_of, map, map_push, mul-le-mul_left, pair_size, pointer_pair, pointers_from, refl, slots_of, sum_by, sum_by-cons, sum_by_more, sum_by_more_le, sym, take, take-map, take_more, take_more_set, ℕ, ◌*◌, ◌++◌, ◌+◌, ◌<◌, ◌∙◌, ◌∷◌, ◌≡◌, ◌≤◌}
 use Rattle.std.specs.List.{slice_set}
-use Rattle.cdb_form.specs.Format.Pair.{WordPair, pair_size}
-use Rattle.cdb_form.specs.Format.File.{pointers_from}
-use Rattle.cdb_form.specs.Format.Table.{slots_of}
-use Rattle.cdb_form.specs.Views.Pairs.{pointer_pair}
 use Rattle.cdb_form.specs.declared.head.Pointer.{Pointer}
-use Rattle.cdb_form.proofs.Files.Sizes.{length-slots_of}
 
 pointers_append : (w at : ℕ) (ls more : List (List WordPair)) → pointers_from w at (map slots_of (ls ++ more)) ≡ pointers_from w at (map slots_of ls) ++ pointers_from w (at + 4 * w * sum_by length ls) (map slots_of more)
 unfolding pointers_from

@@ -1,17 +1,7 @@
 -- What the tables of some lists are.
-use Rattle.std.proofs.Common.{◌≡◌, ℕ, ◌+◌, ◌*◌, ◌<◌, ◌≤◌, ◌⊎◌, List, [], ◌∷◌, ◌++◌, length, take, map, flat_map, get_or, refl, sym, ap, ◌∙◌, arith, sum_by, length-append, subst}
-use Rattle.std.specs.Prelude.{All}
-use Rattle.std.proofs.Math.Nat.{mul-le-mul_left}
+use Rattle.cdb_make.proofs.Words.{AfterWrite, All, List, WordPair, [], ap, arith, flat_map, flat_map-append, get_or, length, length-append, length-flat_map_words, length-slots_of, map, mul-le-mul_left, overwrite, pair_size, refl, slots_of, slots_within, subst, sum_by, sum_by-cons, sym, table_bytes, take, ℕ, ◌*◌, ◌++◌, ◌+◌, ◌<◌, ◌∙◌, ◌∷◌, ◌≡◌, ◌≤◌, ◌⊎◌}
 use Rattle.std.proofs.lemmas.List.{nil_from_length, take_more, map_push, append-nil, length-map, get_or-map}
-use Rattle.std.proofs.lemmas.List.Concat.{flat_map-append}
-use Rattle.std.proofs.lemmas.List.Sums.{sum_by-cons}
-use Rattle.cdb_store.specs.Images.{overwrite, AfterWrite}
 use Rattle.cdb_store.proofs.Parts.{overwrite_nothing}
-use Rattle.cdb_form.specs.Format.Pair.{WordPair, pair_size}
-use Rattle.cdb_form.specs.Format.Table.{slots_of}
-use Rattle.cdb_form.proofs.Bytes.HeadLemmas.{length-flat_map_words}
-use Rattle.cdb_form.proofs.Files.Sizes.{length-slots_of, slots_within}
-use Rattle.cdb_make.specs.Parts.{table_bytes}
 use Rattle.cdb_make.proofs.Slots.HeadPointers.{sums_within, table_size}
 
 pub length-table_bytes : (w : ℕ) (es : List WordPair) → length (table_bytes w es) ≡ 4 * w * length es

@@ -1,10 +1,7 @@
 -- Bytes that are read piece by piece and compared.
 use Rattle.std.proofs.Common.{◌≡◌, ◌≢◌, ℕ, ◌+◌, ◌-◌, ◌≤◌, Bool, true, false, not, List, length, take, drop, refl, sym, ap, ◌∙◌, arith}
-use Rattle.std.specs.Prelude.{bytes_eq}
-use Rattle.std.proofs.lemmas.Slice.Eq.{bytes_eq-Decides}
-use Rattle.cdb_store.specs.Images.{part, ImagesHold}
+use Rattle.cdb_read.proofs.Words.{ImagesHold, TellsSame, bytes_eq, bytes_eq-Decides, part}
 pub use Rattle.cdb_store.proofs.Compared.{AgreesSoFar, part_inner, agrees_piece}
-use Rattle.cdb_read.specs.Views.Search.{TellsSame}
 
 -- the piece of the key that is compared
 key_piece : (n done : ℕ) (key : List ℕ) → take ((done + n) - done) (drop done key) ≡ take n (drop done key)

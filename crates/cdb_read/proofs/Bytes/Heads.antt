@@ -1,9 +1,5 @@
 -- The head of a store's images, once it was read.
-use Rattle.std.proofs.Common.{◌≡◌, ℕ, List, ◌++◌, length, take, drop, sym, ap, ◌∙◌}
-use Rattle.std.proofs.lemmas.List.{take-append-drop}
-use Rattle.cdb_store.specs.Images.{AfterRead}
-use Rattle.cdb_form.specs.Format.Pair.{WordPair, head_size}
-use Rattle.cdb_form.specs.Format.Reading.{head_at}
+use Rattle.cdb_read.proofs.Words.{AfterRead, List, WordPair, ap, drop, head_at, head_size, length, sym, take, take-append-drop, ℕ, ◌++◌, ◌∙◌, ◌≡◌}
 use Rattle.cdb_form.proofs.RecordReading.RecordAreas.{head_at-append}
 
 pub head_known : (w : ℕ) (bytes : List ℕ) (pointers : List WordPair) (old new : List ℕ → Type 0) (b : List ℕ) → length bytes ≡ head_size w → AfterRead 0 bytes old new → head_at w bytes ≡ pointers → new b → head_at w b ≡ pointers

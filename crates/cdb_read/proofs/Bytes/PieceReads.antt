@@ -1,8 +1,7 @@
 -- Bytes that are read piece by piece.
 use Rattle.std.proofs.Common.{◌≡◌, ℕ, ◌+◌, List, ◌++◌, length, sym, ap, ◌∙◌, subst, Option}
 use Rattle.std.specs.Io.KnownBytes.{Appends}
-use Rattle.cdb_store.specs.Images.{AfterRead, part}
-use Rattle.cdb_store.proofs.Parts.{part_add}
+use Rattle.cdb_read.proofs.Words.{AfterRead, part, part_add}
 use Rattle.cdb_form.specs.Views.KnownBytes.{AppendsPrefix}
 use Rattle.cdb_form.proofs.Bytes.WritingLemmas.{appends_then, prefix_then}
 pub use Rattle.cdb_store.proofs.Reading.{reads_more}

@@ -1,20 +1,8 @@
 -- How records that stand in some bytes are read there.
-use Rattle.std.proofs.Common.{◌≡◌, ℕ, ◌+◌, ◌*◌, ◌^◌, ◌≤◌, true, List, [], ◌∷◌, ◌++◌, length, take, drop, flat_map, sym, ap, ◌∙◌, subst, arith, append_assoc}
-use Rattle.std.specs.Prelude.{All, sum_by}
-use Rattle.std.proofs.lemmas.List.{drop-drop, drop_at}
-use Rattle.std.proofs.lemmas.List.Elements.{All-nil, All-cons}
-use Rattle.std.proofs.lemmas.List.Sums.{sum_by-cons}
-use Rattle.std.proofs.lemmas.Bool.{le-leb, and_from}
-use Rattle.cdb_form.specs.Format.Pair.{WordPair, head_size}
-use Rattle.cdb_form.specs.Format.Reading.{pair_at}
-use Rattle.cdb_form.specs.Format.Record.{KeyValue, record_bytes, record_size}
-use Rattle.cdb_form.specs.Format.Table.{entries_from}
-use Rattle.cdb_form.specs.Format.Walk.{prefix_size, prefix_record}
-use Rattle.cdb_form.specs.Views.Pairs.{PairFits}
+use Rattle.cdb_read.proofs.Words.{All, All-cons, All-nil, KeyValue, List, PairFits, WordPair, [], and_from, ap, append_assoc, arith, bytes_of, drop, drop-drop, drop_at, entries_from, flat_map, head_size, is_whole, le-leb, length, pair_at, prefix_record, prefix_size, record_bytes, record_size, subst, sum_by, sum_by-cons, sym, take, true, value_span, ℕ, ◌*◌, ◌++◌, ◌+◌, ◌^◌, ◌∙◌, ◌∷◌, ◌≡◌, ◌≤◌}
 use Rattle.cdb_form.proofs.Files.Prefixes.{lengths_of, Begins, prefix_reads}
 use Rattle.cdb_form.proofs.Files.Sizes.{length-record_bytes}
 use Rattle.cdb_form.proofs.Files.Standing.{Begins-record_bytes}
-use Rattle.cdb_read.specs.Lookup.{bytes_of, is_whole, value_span}
 
 -- how a record that stands at a place reads
 pub record ReadsAt (w : ℕ) (bytes : List ℕ) (at : ℕ) (r : KeyValue) : Type 0 where

@@ -1,9 +1,6 @@
 -- What a window shows.
-use Rattle.std.proofs.Common.{◌≡◌, ℕ, ◌+◌, ◌-◌, ◌≤◌, List, length, take, sym, ap, ◌∙◌, arith}
-use Rattle.cdb_store.specs.Images.{part, ImagesHold}
+use Rattle.cdb_read.proofs.Words.{Covers, ImagesHold, List, Shows, Window, ap, arith, length, part, sym, take, ℕ, ◌+◌, ◌-◌, ◌∙◌, ◌≡◌, ◌≤◌}
 use Rattle.cdb_store.proofs.Parts.{part_part}
-use Rattle.cdb_read.specs.Views.Window.{Shows, Covers}
-use Rattle.cdb_read.specs.declared.window.Window.{Window}
 
 -- what it covers, it shows
 pub shown_is : (window : Window) (images : List ℕ → Type 0) (place n : ℕ) → Shows window images → Covers window place n → (b : List ℕ) → images b → part (place - window.place) n window.bytes ≡ part place n b

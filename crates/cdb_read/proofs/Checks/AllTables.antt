@@ -1,23 +1,6 @@
 -- One table after another.
-use Rattle.std.proofs.Common.{◌≡◌, ℕ, ◌+◌, ◌<◌, List, [], ◌++◌, map, get_or, set, flat_map, refl, sym, ap, ◌∙◌, subst, arith, inl, inr}
-use Rattle.std.specs.Prelude.{None}
+use Rattle.cdb_read.proofs.Words.{Damage, List, ListsMark, Marks, None, Pointer, TableHas, TableIsClear, TableRecords, TablesAreClear, TablesHave, WordPair, [], all_slots, ap, append-nil, arith, cases_eq, faults_behind, first_of, flat_map, flat_map-append, get_or, get_or-set_other, get_or-set_same, head_at, in_table, inl, inr, length-set, map, pointer_pair, refl, set, slots_at, slots_fault, subst, sym, table_at, tables_below, ℕ, ◌++◌, ◌+◌, ◌<◌, ◌∙◌, ◌≡◌}
 use Rattle.std.specs.List.{filter, range_with_len}
-use Rattle.std.proofs.lemmas.Bool.{cases_eq}
-use Rattle.std.proofs.lemmas.List.{append-nil, length-set, get_or-set_same, get_or-set_other}
-use Rattle.std.proofs.lemmas.Grind.{flat_map-append}
-use Rattle.cdb_form.specs.Format.Pair.{WordPair}
-use Rattle.cdb_form.specs.Format.Reading.{head_at}
-use Rattle.cdb_form.specs.Format.Table.{in_table}
-use Rattle.cdb_form.specs.Views.Pairs.{pointer_pair}
-use Rattle.cdb_form.specs.declared.damage.Damage.{Damage}
-use Rattle.cdb_form.specs.declared.head.Pointer.{Pointer}
-use Rattle.cdb_read.specs.Faults.{first_of, faults_behind, slots_fault}
-use Rattle.cdb_read.specs.Lookup.{slots_at}
-use Rattle.cdb_read.specs.Sound.{table_at, tables_below, all_slots}
-use Rattle.cdb_read.specs.Views.Checked.{TableIsClear, TableHas, TablesAreClear, TablesHave}
-use Rattle.cdb_read.specs.Views.TableRecords.{Marks}
-use Rattle.cdb_read.specs.Views.RecordLists.{ListsMark}
-use Rattle.cdb_read.specs.declared.checking.table_records.TableRecords.{TableRecords}
 use Rattle.cdb_read.proofs.Probing.Beginnings.{pointer_known}
 use Rattle.cdb_read.proofs.Checks.Elsewhere.{faults_in, marks_elsewhere}
 use Rattle.cdb_read.proofs.Checks.FaultSteps.{range_split, first_of-nil, none_next, first_next}

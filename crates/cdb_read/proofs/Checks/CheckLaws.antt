@@ -1,27 +1,7 @@
 -- What the parts of a check come to.
-use Rattle.std.proofs.Common.{◌≡◌, ℕ, ◌<◌, ◌≤◌, true, false, List, length, map, get_or, refl, sym, ap, subst, ◌∙◌, arith}
-use Rattle.std.specs.Prelude.{All, Option, Some, None, option_map, position}
-use Rattle.std.specs.List.{range_with_len}
-use Rattle.std.specs.Option.{option_or}
-use Rattle.std.proofs.lemmas.Bool.{cond-true, cond-false}
-use Rattle.std.proofs.lemmas.List.{get_or-map, length-map}
+use Rattle.cdb_read.proofs.Words.{All, All-get_or, Damage, HasEntries, IsFirstDamage, IsSound, List, ListsMark, None, Option, Pointer, Some, StandsInside, TableRecords, TablesAreClear, TablesHave, WalkHas, WordPair, all_slots, ap, arith, cond-false, cond-true, entry_fault, false, first_fault, first_of, get_or, get_or-map, head_at, head_size, is_outside, length, length-map, lost_fault, map, nth_pair, option_map, option_or, pointer_pair, position, range_with_len, refl, slots_fault, subst, sym, table_fault, true, walk_entries, walk_of, ℕ, ◌<◌, ◌∙◌, ◌≡◌, ◌≤◌}
 use Rattle.std.proofs.lemmas.List.Quantifiers.{position-Some}
-use Rattle.std.proofs.lemmas.List.Elements.{All-get_or}
-use Rattle.cdb_form.specs.Format.Pair.{WordPair, head_size}
-use Rattle.cdb_form.specs.Format.Reading.{nth_pair, head_at}
-use Rattle.cdb_form.specs.Format.Walk.{walk_of}
-use Rattle.cdb_form.specs.Views.Pairs.{pointer_pair}
-use Rattle.cdb_form.specs.declared.damage.Damage.{Damage}
 use Rattle.cdb_form.specs.declared.damage.Damage.TheVariants.{Table, Unindexed}
-use Rattle.cdb_form.specs.declared.head.Pointer.{Pointer}
-use Rattle.cdb_read.specs.Faults.{first_of, first_fault, table_fault, lost_fault, entry_fault, slots_fault}
-use Rattle.cdb_read.specs.Sound.{IsSound, all_slots, walk_entries}
-use Rattle.cdb_read.specs.Statistics.{is_outside}
-use Rattle.cdb_read.specs.Views.Check.{IsFirstDamage}
-use Rattle.cdb_read.specs.Views.Checked.{HasEntries, WalkHas, TablesAreClear, TablesHave}
-use Rattle.cdb_read.specs.Views.Inside.{StandsInside}
-use Rattle.cdb_read.specs.Views.RecordLists.{ListsMark}
-use Rattle.cdb_read.specs.declared.checking.table_records.TableRecords.{TableRecords}
 use Rattle.cdb_read.proofs.Probing.Beginnings.{pointer_known}
 use Rattle.cdb_read.proofs.WholeFiles.FaultLaws.{first_fault-whole, none_of-all, all_numbers, sound_is_no_damage}
 use Rattle.cdb_read.proofs.Checks.FaultSteps.{first_next}

@@ -1,19 +1,11 @@
 -- The first record that no slot tells, among those of some tables.
 use Rattle.std.proofs.Common.{◌≡◌, ℕ, ◌+◌, ◌<◌, ◌≤◌, Bool, true, false, not, List, [], ◌∷◌, length, get_or, refl, sym, ap, ◌∙◌, subst, arith, inl, inr}
-use Rattle.std.specs.Prelude.{Option, Some, None, nat_lt, option_map, if◌then◌else◌}
+use Rattle.cdb_read.proofs.Words.{Damage, Marks, None, Option, Some, TableRecords, WordPair, fault_if, first_of, if◌then◌else◌, in_table, is_told, lost_fault, min-eq_left, min-eq_right, nat_lt, option_map, table_number}
 use Rattle.std.specs.Option.{option_or, unwrap_or}
 use Rattle.std.specs.List.{filter}
 use Rattle.std.proofs.lemmas.Bool.{cases_Bool, cases_lt, cond-true, cond-false, eqb-true, eqb-false, ne_eqb, lt-ltb, le-ltb, ltb-true, ltb-false}
-use Rattle.std.proofs.Math.Nat.{min-eq_left, min-eq_right}
-use Rattle.cdb_form.specs.Format.Hash.{table_number}
-use Rattle.cdb_form.specs.Format.Pair.{WordPair}
-use Rattle.cdb_form.specs.Format.Table.{in_table}
-use Rattle.cdb_form.specs.declared.damage.Damage.{Damage}
 use Rattle.cdb_form.specs.declared.damage.Damage.TheVariants.{Unindexed}
-use Rattle.cdb_read.specs.Faults.{first_of, fault_if, lost_fault}
-use Rattle.cdb_read.specs.Views.TableRecords.{is_told, Marks}
 use Rattle.cdb_read.specs.Views.RecordLists.{earlier_of, IsRising, ListsMark}
-use Rattle.cdb_read.specs.declared.checking.table_records.TableRecords.{TableRecords}
 use Rattle.cdb_read.proofs.Checks.FaultSteps.{first_of-cons, first_of-nil}
 use Rattle.cdb_read.proofs.Lists.Rising.{rising_filter}
 

@@ -1,21 +1,9 @@
 -- The slots of a table without a fault tell no record of another table, and are right or wrong by
 -- the records of their own alone.
 use Rattle.std.proofs.Common.{◌≡◌, ℕ, ◌<◌, ◌≤◌, Bool, true, false, ◌&&◌, ◌||◌, List, [], ◌∷◌, ◌++◌, length, take, get_or, refl, sym, ap, ◌∙◌, subst, arith, inl, inr}
-use Rattle.std.specs.Prelude.{Option, None, All, ◌==◌, if◌then◌else◌}
+use Rattle.cdb_read.proofs.Words.{All, Damage, IsRising, Marks, None, Option, TableRecords, WordPair, and_left, and_parts, and_right, both_ways, cases_Bool, cond-false, cond-true, empty_slot, eqb-true, faults_behind, first_of, has_place, if◌then◌else◌, in_table, is_reached, is_right_slot, is_same, is_told, is_used, list_any-append, list_any_none, marks_of, ne_eqb, not-false, nth_slot, option_or, slot_fault, slots_fault, table_at, table_number, tables_below, used_fault, ◌==◌}
 use Rattle.std.specs.List.{Contains, filter, list_any, range_with_len}
-use Rattle.std.specs.Option.{option_or}
-use Rattle.std.proofs.lemmas.Bool.{cases_Bool, both_ways, cond-true, cond-false, and_parts, and_left, and_right, eqb-true, ne_eqb, not-false}
 use Rattle.std.proofs.lemmas.List.Elements.{All-nil, All-cons, All-head, All-tail, All-from_get_or, All-contains, Contains-get_or}
-use Rattle.std.proofs.lemmas.List.Folds.{list_any-append, list_any_none}
-use Rattle.cdb_form.specs.Format.Hash.{table_number}
-use Rattle.cdb_form.specs.Format.Pair.{WordPair}
-use Rattle.cdb_form.specs.Format.Table.{empty_slot, in_table, is_used}
-use Rattle.cdb_form.specs.declared.damage.Damage.{Damage}
-use Rattle.cdb_read.specs.Faults.{first_of, faults_behind, is_right_slot, is_same, slot_fault, slots_fault, used_fault}
-use Rattle.cdb_read.specs.Sound.{has_place, is_reached, nth_slot, table_at, tables_below}
-use Rattle.cdb_read.specs.Views.TableRecords.{is_told, marks_of, Marks}
-use Rattle.cdb_read.specs.Views.RecordLists.{IsRising}
-use Rattle.cdb_read.specs.declared.checking.table_records.TableRecords.{TableRecords}
 use Rattle.cdb_read.proofs.Lists.Apart.{apart_same}
 use Rattle.cdb_read.proofs.WholeFiles.FaultLaws.{slot_clean, slots_clean}
 use Rattle.cdb_read.proofs.Lists.Rising.{rising_above, rising_is_apart}

@@ -1,22 +1,9 @@
 -- The records of a walk by their places and hashes, and which of them slots have told.
 use Rattle.std.proofs.Common.{◌≡◌, ℕ, zero, suc, ◌+◌, ◌<◌, ◌≤◌, Bool, true, false, not, ◌&&◌, ◌||◌, List, [], ◌∷◌, ◌++◌, length, get_or, set, drop, refl, sym, ap, ◌∙◌, subst, arith, inl, inr}
-use Rattle.std.specs.Prelude.{Option, Some, None, ◌==◌, All}
-use Rattle.std.specs.List.{list_any}
-use Rattle.std.specs.Option.{option_or}
-use Rattle.std.specs.List.Sorted.{IsStrictlyIncreasing}
+use Rattle.cdb_read.proofs.Words.{All, All-from_get_or, Damage, IsStrictlyIncreasing, Marks, None, Option, Some, TableRecords, WordPair, and_from, and_left, and_right, cases_eq, cases_lt, empty_slot, entries_of, entry_pairs, eq-eqb, fault_if, first_of, has_place, is_right_slot, is_same, is_told, list_any, lost_fault, marks_of, ne_eqb, option_or, table_number, used_fault, ◌==◌}
 use Rattle.std.proofs.lemmas.List.{same_lists, get_or-map, length-map, length-set, get_or-set_same, get_or-set_other, map-append, at_drop_more, drop_all}
 use Rattle.std.proofs.lemmas.List.Folds.{list_any-append, list_any_none, list_any_at}
-use Rattle.std.proofs.lemmas.List.Elements.{All-from_get_or}
-use Rattle.std.proofs.lemmas.Bool.{cases_eq, cases_lt, eq-eqb, ne_eqb, and_from, and_left, and_right}
-use Rattle.cdb_form.specs.Format.Hash.{table_number}
-use Rattle.cdb_form.specs.Format.Pair.{WordPair}
-use Rattle.cdb_form.specs.Format.Table.{empty_slot}
-use Rattle.cdb_form.specs.declared.damage.Damage.{Damage}
 use Rattle.cdb_form.specs.declared.damage.Damage.TheVariants.{Slot, Twice, Unindexed}
-use Rattle.cdb_read.specs.Faults.{first_of, fault_if, is_same, is_right_slot, used_fault, lost_fault}
-use Rattle.cdb_read.specs.Sound.{has_place}
-use Rattle.cdb_read.specs.Views.TableRecords.{entries_of, entry_pairs, is_told, marks_of, Marks}
-use Rattle.cdb_read.specs.declared.checking.table_records.TableRecords.{TableRecords}
 use Rattle.cdb_read.proofs.Checks.FaultSteps.{first_of-cons, first_of-nil}
 
 pub length-entries_of : (ps hs : List ℕ) → length hs ≡ length ps → length (entries_of ps hs) ≡ length ps

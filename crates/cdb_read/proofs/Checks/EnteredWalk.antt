@@ -1,19 +1,5 @@
 -- The records that a walk has given, as a check keeps them.
-use Rattle.std.proofs.Common.{◌≡◌, ℕ, ◌+◌, ◌<◌, ◌≤◌, List, [], ◌∷◌, ◌++◌, length, sym, ap, ◌∙◌, subst, arith}
-use Rattle.std.specs.Prelude.{sum_by}
-use Rattle.std.proofs.lemmas.List.{append-nil}
-use Rattle.std.proofs.lemmas.List.Sums.{sum_by-cons}
-use Rattle.cdb_form.specs.Format.Hash.{key_hash}
-use Rattle.cdb_form.specs.Format.Pair.{WordPair, head_size}
-use Rattle.cdb_form.specs.Format.Record.{KeyValue, record_size}
-use Rattle.cdb_form.specs.Format.Table.{entries_from, file_entries}
-use Rattle.cdb_form.specs.Format.Walk.{Walked, walk_of, no_walk, with_first, with_records}
-use Rattle.cdb_read.specs.Lookup.{bytes_of}
-use Rattle.cdb_read.specs.Views.Checked.{HasEntries}
-use Rattle.cdb_read.specs.Views.RecordLists.{IsRising, ListsMark, HasAdded}
-use Rattle.cdb_read.specs.Views.Walking.{record_in, behind, LiesAt}
-use Rattle.cdb_read.specs.declared.checking.table_records.TableRecords.{TableRecords}
-use Rattle.cdb_read.specs.declared.span.Pair.{Pair}
+use Rattle.cdb_read.proofs.Words.{HasAdded, HasEntries, IsRising, KeyValue, LiesAt, List, ListsMark, Pair, TableRecords, Walked, WordPair, [], ap, append-nil, arith, behind, bytes_of, entries_from, file_entries, head_size, key_hash, length, no_walk, record_in, record_size, subst, sum_by, sum_by-cons, sym, walk_of, with_first, with_records, ℕ, ◌++◌, ◌+◌, ◌<◌, ◌∙◌, ◌∷◌, ◌≡◌, ◌≤◌}
 use Rattle.cdb_read.proofs.Lists.Rising.{rising_entries, rising_from_one}
 use Rattle.cdb_read.proofs.Walked.WalkedLengths.{given_one, ends_behind}
 

@@ -1,10 +1,5 @@
 -- Faults in turn: of one thing after the other.
-use Rattle.std.proofs.Common.{◌≡◌, ℕ, zero, suc, ◌+◌, ◌-◌, ◌<◌, List, [], ◌∷◌, ◌++◌, refl, sym, ap, ◌∙◌, arith}
-use Rattle.std.specs.Prelude.{Option, Some, None}
-use Rattle.std.specs.List.{range_with_len}
-use Rattle.std.specs.Option.{option_or}
-use Rattle.cdb_form.specs.declared.damage.Damage.{Damage}
-use Rattle.cdb_read.specs.Faults.{first_of}
+use Rattle.cdb_read.proofs.Words.{Damage, List, None, Option, Some, [], ap, arith, first_of, option_or, range_with_len, refl, suc, sym, zero, ℕ, ◌++◌, ◌+◌, ◌-◌, ◌<◌, ◌∙◌, ◌∷◌, ◌≡◌}
 
 -- numbers in a row
 pub range_split : (a k m : ℕ) → range_with_len a (k + m) ≡ range_with_len a k ++ range_with_len (a + k) m

@@ -1,34 +1,11 @@
 -- A table that its records fill in their order has no fault, and tells each of them.
-use Rattle.std.proofs.Common.{◌≡◌, ℕ, suc, ◌+◌, ◌*◌, ◌-◌, ◌<◌, ◌≤◌, ◌⊎◌, Bool, true, false, List, [], ◌∷◌, ◌++◌, length, get_or, take, drop, map, flat_map, replicate, refl, sym, ap, ◌∙◌, subst, arith, inl, inr}
+use Rattle.cdb_read.proofs.Words.{All-contains, All-contains_itself, All-from_get_or, All-get_or, All-head, All-tail, Bool, Contains, IsRising, IsStrictlyIncreasing, List, Marks, ReadFault, TableIsClear, TableRecords, TellsSame, WordPair, [], ap, append-nil, arith, cases_Bool, count_by, drop, drop-take, empty_slot, entries_of, entry_pairs, false, faults_behind, flat_map, get_or, get_or-map, get_or-map-range_with_len, get_or_default, has_place, inl, inr, is_told, is_used, length, length-map-range_with_len, list_any, list_any-append, map, marks_of, nth_pair, nth_slot, or_right, pair_at, pair_size, range_with_len, refl, replicate, same_lists, same_words, slot_pair, slots_at, slots_in, slots_of, subst, suc, sym, table_number, take, take-take, true, ℕ, ◌*◌, ◌++◌, ◌+◌, ◌-◌, ◌<◌, ◌∙◌, ◌∷◌, ◌≡◌, ◌≤◌, ◌⊎◌}
 use Rattle.std.specs.Prelude.{All, None, ◌||◌, Result, Ok, Err, IfOk}
-use Rattle.std.specs.List.{Contains, count_by, list_any, range_with_len}
-use Rattle.std.specs.List.Sorted.{IsStrictlyIncreasing}
 use Rattle.std.proofs.Math.Nat.{mul-le-mul_left}
-use Rattle.std.proofs.lemmas.List.{append-nil, get_or-map, get_or_default, same_lists, take-take, drop-take}
-use Rattle.std.proofs.lemmas.List.FromFn.{get_or-map-range_with_len, length-map-range_with_len}
-use Rattle.std.proofs.lemmas.List.Folds.{list_any-append}
-use Rattle.std.proofs.lemmas.List.Elements.{All-contains, All-contains_itself, All-from_get_or, All-get_or, All-head, All-tail}
-use Rattle.std.proofs.lemmas.Bool.{cases_Bool, or_right}
-use Rattle.cdb_form.specs.Format.Hash.{table_number}
-use Rattle.cdb_form.specs.Format.Pair.{WordPair, pair_size}
-use Rattle.cdb_form.specs.Format.Reading.{nth_pair, pair_at}
-use Rattle.cdb_form.specs.Format.Table.{empty_slot, is_used, slots_of}
-use Rattle.cdb_form.specs.Views.Pairs.{slot_pair}
-use Rattle.cdb_form.specs.Views.SlotBytes.{slots_in}
 use Rattle.cdb_form.specs.declared.slot.Slot.{Slot}
 use Rattle.cdb_form.proofs.Bytes.WordLemmas.{pair_at_part}
-use Rattle.cdb_form.proofs.Bytes.ReadBack.{same_words}
 use Rattle.cdb_form.proofs.Slots.SlotBytes.{count_slots, get_or-slots_in}
-use Rattle.cdb_read.specs.Faults.{faults_behind}
-use Rattle.cdb_read.specs.Lookup.{slots_at}
-use Rattle.cdb_read.specs.Sound.{has_place, nth_slot}
-use Rattle.cdb_read.specs.Views.Checked.{TableIsClear}
 use Rattle.cdb_read.specs.Views.FilledTable.{AreFresh, IsFilled}
-use Rattle.cdb_read.specs.Views.RecordLists.{IsRising}
-use Rattle.cdb_read.specs.Views.Search.{TellsSame}
-use Rattle.cdb_read.specs.Views.TableRecords.{Marks, entries_of, entry_pairs, is_told, marks_of}
-use Rattle.cdb_read.specs.declared.checking.table_records.TableRecords.{TableRecords}
-use Rattle.cdb_read.specs.declared.fault.ReadFault.{ReadFault}
 use Rattle.cdb_read.proofs.Checks.Entered.{get_or-entries_of, length-entries_of}
 use Rattle.cdb_read.proofs.FilledTables.Filled.{AllUsed, IsUsed}
 use Rattle.cdb_read.proofs.FilledTables.Fits.{used}

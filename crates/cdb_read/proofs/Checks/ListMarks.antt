@@ -1,16 +1,7 @@
 -- The lists of all tables, one record after another.
-use Rattle.std.proofs.Common.{◌≡◌, ℕ, ◌<◌, ◌≤◌, false, List, [], ◌∷◌, ◌++◌, length, get_or, set, sym, ap, ◌∙◌, subst, arith, inl, inr}
-use Rattle.std.specs.Prelude.{All}
+use Rattle.cdb_read.proofs.Words.{All, All-get_or, All-weaker, HasAdded, IsRising, List, ListsMark, TableRecords, WordPair, [], ap, append-nil, arith, cases_eq, cond-false, cond-true, eq-eqb, false, filter-append, get_or, get_or-set_other, get_or-set_same, in_table, inl, inr, length, length-set, ne_eqb, set, subst, sym, table_number, ℕ, ◌++◌, ◌<◌, ◌∙◌, ◌∷◌, ◌≡◌, ◌≤◌}
 use Rattle.std.specs.List.{filter}
-use Rattle.std.proofs.lemmas.Bool.{cases_eq, cond-true, cond-false, eq-eqb, ne_eqb}
-use Rattle.std.proofs.lemmas.List.{append-nil, length-set, get_or-set_same, get_or-set_other}
-use Rattle.std.proofs.lemmas.List.Elements.{All-get_or, All-weaker, filter-append}
-use Rattle.cdb_form.specs.Format.Hash.{table_number}
-use Rattle.cdb_form.specs.Format.Pair.{WordPair}
-use Rattle.cdb_form.specs.Format.Table.{in_table}
 use Rattle.cdb_read.specs.Views.TableRecords.{entry_pairs, marks_of, HasMore, Marks}
-use Rattle.cdb_read.specs.Views.RecordLists.{IsRising, ListsMark, HasAdded}
-use Rattle.cdb_read.specs.declared.checking.table_records.TableRecords.{TableRecords}
 use Rattle.cdb_read.proofs.Checks.Entered.{marks_of-push}
 use Rattle.cdb_read.proofs.Lists.Rising.{rising_filter, places_rise, places_above}
 

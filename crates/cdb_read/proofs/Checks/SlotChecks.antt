@@ -1,19 +1,6 @@
 -- One slot of a table after another.
-use Rattle.std.proofs.Common.{◌≡◌, ℕ, ◌+◌, ◌*◌, ◌<◌, ◌≤◌, Bool, true, false, List, ◌∷◌, [], ◌++◌, length, take, drop, sym, ap, ◌∙◌, subst, arith, append_assoc}
-use Rattle.std.specs.Prelude.{None}
-use Rattle.std.specs.List.{range_with_len}
-use Rattle.std.proofs.lemmas.Bool.{cond-true, cond-false, eq-eqb, ne_eqb, not_from_true, not_from_false}
-use Rattle.std.proofs.lemmas.List.{take_more, take_all, append-nil}
-use Rattle.cdb_form.specs.Format.Pair.{WordPair}
-use Rattle.cdb_form.specs.Format.Reading.{pair_at}
-use Rattle.cdb_form.specs.Format.Table.{empty_slot, is_used}
-use Rattle.cdb_form.specs.declared.damage.Damage.{Damage}
-use Rattle.cdb_read.specs.Faults.{first_of, slot_fault, used_fault, is_right_slot}
-use Rattle.cdb_read.specs.Lookup.{slots_at}
-use Rattle.cdb_read.specs.Sound.{nth_slot, is_reached}
+use Rattle.cdb_read.proofs.Words.{Bool, Damage, List, Marks, None, TableRecords, WordPair, [], ap, append-nil, append_assoc, arith, cond-false, cond-true, drop, empty_slot, eq-eqb, false, first_of, is_reached, is_right_slot, is_used, length, ne_eqb, not_from_false, not_from_true, nth_slot, pair_at, range_with_len, slot_fault, slots_at, subst, sym, take, take_all, take_more, true, used_fault, ℕ, ◌*◌, ◌++◌, ◌+◌, ◌<◌, ◌∙◌, ◌∷◌, ◌≡◌, ◌≤◌}
 use Rattle.cdb_read.specs.Views.Checked.{SlotIsClear, SlotHas, TableIsClear, TableHas}
-use Rattle.cdb_read.specs.Views.TableRecords.{Marks}
-use Rattle.cdb_read.specs.declared.checking.table_records.TableRecords.{TableRecords}
 use Rattle.cdb_read.proofs.Checks.Entered.{marks_unused}
 use Rattle.cdb_read.proofs.Checks.FaultSteps.{first_of-nil, none_next, first_next}
 use Rattle.cdb_read.proofs.Probing.Probes.{slot_is, length-slots_at}

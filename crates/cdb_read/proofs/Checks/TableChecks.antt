@@ -1,17 +1,7 @@
 -- Tables that lie in a file or outside of it, and the first one outside.
-use Rattle.std.proofs.Common.{◌≡◌, ℕ, ◌+◌, ◌*◌, ◌<◌, ◌≤◌, Bool, true, false, List, length, map, get_or, inl, inr, subst, sym, ap, ◌∙◌, arith}
+use Rattle.cdb_read.proofs.Words.{All-get_or, Bool, LiesInside, List, Pointer, StandsInside, WordPair, and_from, ap, arith, cases_Bool, cases_lt, cond-false, cond-true, false, get_or, get_or-map, has_slots, head_size, inl, inr, is_inside, is_outside, le-leb, le-ltb, length, length-map, lt-ltb, map, ne_eqb, not_from_false, not_from_true, pair_size, pointer_pair, subst, sym, true, ℕ, ◌*◌, ◌+◌, ◌<◌, ◌∙◌, ◌≡◌, ◌≤◌}
 use Rattle.std.specs.Prelude.{All, Some, None, position, nat_lt, cond, not, ◌==◌, ◌&&◌}
-use Rattle.std.proofs.lemmas.Bool.{cases_Bool, cases_lt, cond-true, cond-false, le-leb, and_from, not_from_true, not_from_false, ne_eqb, lt-ltb, le-ltb}
-use Rattle.std.proofs.lemmas.List.{get_or-map, length-map}
-use Rattle.std.proofs.lemmas.List.Elements.{All-get_or}
 use Rattle.std.proofs.lemmas.List.Sums.{position_or_len_is}
-use Rattle.cdb_form.specs.Format.Pair.{WordPair, pair_size, head_size}
-use Rattle.cdb_form.specs.Format.Walk.{has_slots}
-use Rattle.cdb_form.specs.Views.Pairs.{pointer_pair}
-use Rattle.cdb_form.specs.declared.head.Pointer.{Pointer}
-use Rattle.cdb_read.specs.Lookup.{is_inside}
-use Rattle.cdb_read.specs.Statistics.{is_outside}
-use Rattle.cdb_read.specs.Views.Inside.{LiesInside, StandsInside}
 use Rattle.cdb_read.proofs.Probing.Beginnings.{is_inside-lies}
 
 lies_is_inside : (w size : ℕ) (b : List ℕ) (p : WordPair) → length b ≡ size → LiesInside w size p → is_inside w b p ≡ true

@@ -1,11 +1,7 @@
 -- Why a check ended, where more is known of the damage that it tells.
-use Rattle.std.proofs.Common.{ℕ, List, arith}
-use Rattle.cdb_store.specs.declared.store.Store.{Ghosts}
-use Rattle.cdb_form.specs.declared.damage.Damage.{Damage}
+use Rattle.cdb_read.proofs.Words.{Damage, Ghosts, List, OnlyReads, ReadFault, arith, ℕ}
 use Rattle.cdb_form.specs.declared.damage.Damage.TheVariants as damage
 use Rattle.cdb_read.specs.Views.Check.{FaultTells, InEach, ReadTells, CheckTells}
-use Rattle.cdb_store.specs.Reads.{OnlyReads}
-use Rattle.cdb_read.specs.declared.fault.ReadFault.{ReadFault}
 use Rattle.cdb_read.specs.declared.fault.ReadFault.TheVariants.{Short, Table, Record, Slot, Twice, Unindexed, Device, NoMemory, Output}
 
 -- a damage that is told without the store

@@ -1,14 +1,8 @@
 -- Counters that take one more number.
-use Rattle.std.proofs.Common.{◌≡◌, ℕ, ◌+◌, ◌<◌, ◌≤◌, Bool, true, false, List, [], ◌∷◌, ◌++◌, length, get_or, inl, inr, sym, ap, ◌∙◌, arith}
+use Rattle.cdb_read.proofs.Words.{Bool, Counts, Distances, List, [], ap, arith, cases_Bool, cases_lt, eqb-false, eqb-true, false, get_or, get_or-map-range_with_len, inl, inr, length, length-map-range_with_len, min-eq_left, min-eq_right, min-le_right, sum_by-append, sym, true, ℕ, ◌++◌, ◌+◌, ◌<◌, ◌∙◌, ◌∷◌, ◌≡◌, ◌≤◌}
 use Rattle.std.specs.Prelude.{◌==◌, min, count_by, cond, set, not}
-use Rattle.std.proofs.Math.Nat.{min-eq_left, min-eq_right, min-le_right}
-use Rattle.std.proofs.lemmas.Bool.{cases_lt, eqb-true, eqb-false, cases_Bool}
 use Rattle.std.proofs.lemmas.List.{ext_get_or, get_or-set_same, get_or-set_other, length-set, length-append}
-use Rattle.std.proofs.lemmas.List.FromFn.{length-map-range_with_len, get_or-map-range_with_len}
-use Rattle.std.proofs.lemmas.List.Sums.{sum_by-append}
 use Rattle.cdb_read.specs.Statistics.{capped, collisions_of, distance_counts}
-use Rattle.cdb_read.specs.Views.Counting.{Counts}
-use Rattle.cdb_read.specs.declared.statistics.distances.Distances.{Distances}
 
 -- a count that stops, and one more
 pub capped_more : (n m : ℕ) → min (capped n + m) 18446744073709551615 ≡ capped (n + m)

@@ -1,23 +1,9 @@
 -- The slots of a table, and the tables of a head, one after the other.
-use Rattle.std.proofs.Common.{◌≡◌, ℕ, ◌+◌, ◌<◌, ◌≤◌, true, false, List, [], ◌∷◌, ◌++◌, length, take, map, get_or, refl, subst, sym, ap, ◌∙◌, arith}
+use Rattle.cdb_read.proofs.Words.{Counts, Distances, List, Pointer, Spread, Spreads, WordPair, [], ap, arith, cond-false, cond-true, distance, eq-eqb, false, filter-append, flat_map-append, get_or, has_slots, home_slot, is_used, length, map, ne_eqb, not_from_false, not_from_true, pointer_pair, range_with_len, refl, subst, sym, take, true, ℕ, ◌++◌, ◌+◌, ◌<◌, ◌∙◌, ◌∷◌, ◌≡◌, ◌≤◌}
 use Rattle.std.specs.Prelude.{Bool, filter}
-use Rattle.std.specs.List.{range_with_len}
-use Rattle.std.proofs.lemmas.Bool.{cond-true, cond-false, not_from_false, ne_eqb, eq-eqb, not_from_true}
 use Rattle.std.proofs.lemmas.List.{map-id, map-append, append-nil, append_assoc, take_more, take_all, get_or-map, length-map}
-use Rattle.std.proofs.lemmas.List.Elements.{filter-append}
 use Rattle.std.proofs.lemmas.List.FromFn.{map-range_with_len_more}
-use Rattle.std.proofs.lemmas.Grind.{flat_map-append}
-use Rattle.cdb_form.specs.Format.Hash.{home_slot}
-use Rattle.cdb_form.specs.Format.Pair.{WordPair}
-use Rattle.cdb_form.specs.Format.Table.{is_used}
-use Rattle.cdb_form.specs.Format.Walk.{has_slots}
-use Rattle.cdb_form.specs.Views.Pairs.{pointer_pair}
-use Rattle.cdb_form.specs.declared.head.Pointer.{Pointer}
-use Rattle.cdb_read.specs.Sound.{distance}
 use Rattle.cdb_read.specs.Statistics.{slot_of, distances_in, distances_of, table_sizes}
-use Rattle.cdb_read.specs.Views.Counting.{Counts, Spreads}
-use Rattle.cdb_read.specs.declared.statistics.distances.Distances.{Distances}
-use Rattle.cdb_read.specs.declared.statistics.spread.Spread.{Spread}
 
 -- the distances of the used slots before one
 abbrev pub is_used_at : ℕ → List ℕ → WordPair → ℕ → Bool

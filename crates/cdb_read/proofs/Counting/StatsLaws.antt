@@ -1,27 +1,12 @@
 -- What is counted of a file, or the damage that is told.
-use Rattle.std.proofs.Common.{◌≡◌, ℕ, List, sym, ap, ◌∙◌, subst, arith}
+use Rattle.cdb_read.proofs.Words.{Counts, Damage, Distances, Ghosts, HasLengths, Lengths, LengthsFail, List, OnlyReads, ReadFault, Spread, Spreads, StandsInside, WordPair, ap, arith, head_at, option_or, pointer_pair, subst, sym, walk_of, ℕ, ◌∙◌, ◌≡◌}
 use Rattle.std.specs.Prelude.{All, map, Option, Some, None, option_map, position}
-use Rattle.std.specs.Option.{option_or}
-use Rattle.cdb_store.specs.declared.store.Store.{Ghosts}
-use Rattle.cdb_form.specs.declared.damage.Damage.{Damage}
 use Rattle.cdb_form.specs.declared.damage.Damage.TheVariants as damage
-use Rattle.cdb_form.specs.Views.Pairs.{pointer_pair}
 use Rattle.cdb_form.specs.declared.head.Head.{Head}
-use Rattle.cdb_form.specs.Format.Pair.{WordPair}
-use Rattle.cdb_form.specs.Format.Reading.{head_at}
-use Rattle.cdb_form.specs.Format.Walk.{walk_of}
 use Rattle.cdb_read.specs.Statistics.{statistics_of, statistics_damage, is_outside, key_lengths, value_lengths, table_sizes, distances_of, stats_of}
-use Rattle.cdb_read.specs.Views.Counting.{Counts, Spreads}
-use Rattle.cdb_read.specs.Views.Lengths.{HasLengths, LengthsFail}
-use Rattle.cdb_store.specs.Reads.{OnlyReads}
 use Rattle.cdb_read.specs.Views.Reads.{StoreFails}
-use Rattle.cdb_read.specs.Views.Inside.{StandsInside}
 use Rattle.cdb_read.specs.Views.Stats.{HasStats, StatsFail}
-use Rattle.cdb_read.specs.declared.statistics.distances.Distances.{Distances}
-use Rattle.cdb_read.specs.declared.fault.ReadFault.{ReadFault}
 use Rattle.cdb_read.specs.declared.fault.ReadFault.TheVariants.{Short, Table, Record, Slot, Twice, Unindexed, Device, NoMemory, Output}
-use Rattle.cdb_read.specs.declared.statistics.lengths.Lengths.{Lengths}
-use Rattle.cdb_read.specs.declared.statistics.spread.Spread.{Spread}
 use Rattle.cdb_read.specs.declared.statistics.stats.Stats.{Stats}
 
 -- the damage, by the first table outside the file

@@ -1,16 +1,7 @@
 -- The tables of the file of some records: where they stand, and that they are read back.
-use Rattle.std.proofs.Common.{◌≡◌, ℕ, zero, suc, ◌+◌, ◌*◌, ◌<◌, ◌≤◌, true, List, [], ◌∷◌, ◌++◌, length, take, drop, map, flat_map, get_or, refl, sym, ap, ◌∙◌, arith}
-use Rattle.std.specs.Prelude.{sum_by}
-use Rattle.std.specs.List.{range_with_len}
-use Rattle.std.proofs.lemmas.List.{drop_at, drop-drop}
-use Rattle.std.proofs.lemmas.List.FromFn.{length-map-range_with_len, get_or-map-range_with_len}
+use Rattle.cdb_read.proofs.Words.{KeyValue, List, PairFits, [], and_from, ap, arith, drop, drop-drop, drop_at, flat_map, get_or, get_or-map-range_with_len, is_inside, le-leb, length, length-map-range_with_len, map, nth_pair, range_with_len, record_bytes, record_size, records_end, recursion_from_All, refl, slots_at, suc, sum_by, sym, take, true, zero, ℕ, ◌*◌, ◌++◌, ◌+◌, ◌<◌, ◌∙◌, ◌∷◌, ◌≡◌, ◌≤◌}
 use Rattle.std.proofs.lemmas.List.Sums.{sum_by-cons, sum_by_more_le}
-use Rattle.std.proofs.lemmas.List.Elements.{recursion_from_All}
-use Rattle.cdb_form.specs.Views.Pairs.{PairFits}
-use Rattle.std.proofs.lemmas.Bool.{le-leb, and_from}
 use Rattle.cdb_form.specs.Format.Pair.{WordPair, pair_bytes, head_size}
-use Rattle.cdb_form.specs.Format.Reading.{nth_pair}
-use Rattle.cdb_form.specs.Format.Record.{KeyValue, record_bytes, record_size, records_end}
 use Rattle.cdb_form.specs.Format.Table.{empty_slot, table_slots, file_tables}
 use Rattle.cdb_form.specs.Format.File.{pointers_from, file_pointers, file_bytes}
 use Rattle.cdb_form.proofs.Bytes.HeadLemmas.{length-flat_map_words}
@@ -18,7 +9,6 @@ use Rattle.cdb_form.proofs.Files.Places.{slot_count, slot_count-file_tables, len
 use Rattle.cdb_form.proofs.Bytes.ReadBack.{nth_pair-flat_map, map-nth_pair}
 use Rattle.cdb_form.proofs.Files.Sizes.{length-records, length-file_bytes}
 use Rattle.cdb_form.proofs.Files.WalkLaws.{Fit-file_pointers}
-use Rattle.cdb_read.specs.Lookup.{is_inside, slots_at}
 use Rattle.cdb_read.proofs.FilledTables.Fits.{Fit, size_is, table_fits}
 
 length-file_tables : (w : ℕ) (rs : List KeyValue) → length (file_tables w rs) ≡ 256

@@ -1,18 +1,11 @@
 -- A search in a table that was filled entry by entry meets the entries of its hash, in order.
 use Rattle.std.proofs.Common.{◌≡◌, ℕ, zero, suc, ◌+◌, ◌-◌, ◌%◌, ◌<◌, ◌≤◌, Bool, true, false, cond, List, [], ◌∷◌, ◌++◌, length, get_or, set, take, drop, replicate, fold, refl, sym, ap, ◌∙◌, subst, arith, inl, inr, length-append, length-take, length-drop, append_assoc, nat_lt, mod-eq_of_lt}
 use native.Mathlib.Nat.{mod-eq-sub-mod}
-use Rattle.std.specs.Prelude.{All}
+use Rattle.cdb_read.proofs.Words.{All, All-head, All-tail, WordPair, both_ways, cases_lt, cond-false, cond-true, empty_slot, eqb-true, filled_slots, has_hash, home_slot, is_used, le-ltb, length-slots_with, lt-ltb, met_slots, slots_from, slots_with}
 use Rattle.std.specs.List.{filter, take_while, prefix_len, count_by}
-use Rattle.std.proofs.lemmas.List.Elements.{All-head, All-tail}
 use Rattle.std.proofs.lemmas.List.{length-replicate, drop-set-add, drop-set-lt, take-set-le, set-append_left, set-append_right, get_or-append_right, get_or_append_left, get_or-drop, get_or-take, take-replicate, drop-replicate, replicate-append-replicate, append-nil}
 use Rattle.std.proofs.Math.Seq.{take-set-lt}
 use Rattle.std.proofs.lemmas.List.Sums.{sum_by-append, sum_by-take-drop, sum_by-set, prefix_len_stops}
-use Rattle.std.proofs.lemmas.Bool.{cases_lt, cond-true, cond-false, lt-ltb, le-ltb, eqb-true, both_ways}
-use Rattle.cdb_form.specs.Format.Pair.{WordPair}
-use Rattle.cdb_form.specs.Format.Hash.{home_slot}
-use Rattle.cdb_form.specs.Format.Table.{is_used, empty_slot, slots_from, slots_with, filled_slots}
-use Rattle.cdb_form.proofs.Files.Sizes.{length-slots_with}
-use Rattle.cdb_read.specs.Lookup.{has_hash, met_slots}
 use Rattle.cdb_read.proofs.Lists.Counts.{counts_none, counts_one}
 use Rattle.cdb_read.proofs.Lists.Meeting.{met, HasNone, HasNoneBehind, HasNoneBehind-HasNone, met-HasNone, met-set, HasNoneBehind-set, prefix_len-lt}
 

@@ -1,17 +1,8 @@
 -- The words of the tables of a file fit where its size does.
-use Rattle.std.proofs.Common.{◌≡◌, ℕ, suc, ◌+◌, ◌*◌, ◌^◌, ◌<◌, ◌≤◌, ◌%◌, ◌⊎◌, inl, inr, true, List, [], ◌∷◌, length, fold, replicate, ap, ◌∙◌, arith}
+use Rattle.cdb_read.proofs.Words.{All-cons, All-filter, All-head, All-nil, All-replicate, All-set, All-tail, AllByRecursion, AreBytes, IsRecord, KeyValue, List, PairFits, WordPair, [], ap, arith, empty_slot, entries_from, file_entries, filled_slots, fold, hash_step, head_size, in_table, inl, inr, key_hash, length, ne_eqb, not_from_false, record_size, records_end, replicate, slots_of, slots_with, suc, sum_by-cons, table_entries, table_slots, true, ℕ, ◌%◌, ◌*◌, ◌+◌, ◌<◌, ◌^◌, ◌∙◌, ◌∷◌, ◌≡◌, ◌≤◌, ◌⊎◌}
 use Rattle.std.specs.Prelude.{◌==◌, not, filter, sum_by, bit_xor, All}
-use Rattle.std.proofs.lemmas.List.Elements.{All-nil, All-cons, All-head, All-tail, All-set, All-replicate, All-filter}
-use Rattle.std.specs.List.{AllByRecursion}
-use Rattle.std.proofs.lemmas.List.Sums.{sum_by-cons}
-use Rattle.std.proofs.lemmas.Bool.{ne_eqb, not_from_false}
 use Rattle.std.proofs.lemmas.Nat.{xor_lt}
-use Rattle.cdb_form.specs.Format.Pair.{WordPair, head_size}
-use Rattle.cdb_form.specs.Format.Hash.{key_hash, hash_step}
-use Rattle.cdb_form.specs.Format.Record.{KeyValue, IsRecord, AreBytes, record_size, records_end}
-use Rattle.cdb_form.specs.Format.Table.{entries_from, file_entries, in_table, table_entries, empty_slot, slots_with, filled_slots, slots_of, table_slots}
 use Rattle.cdb_form.specs.Format.File.{file_size}
-use Rattle.cdb_form.specs.Views.Pairs.{PairFits}
 use Rattle.cdb_form.proofs.Files.Sizes.{size_split}
 use Rattle.cdb_read.proofs.FilledTables.Filled.{IsUsed, AllUsed}
 

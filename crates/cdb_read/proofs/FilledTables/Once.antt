@@ -1,13 +1,6 @@
 -- How often a place stands in tables, one behind the other.
-use Rattle.std.proofs.Common.{◌≡◌, ℕ, zero, suc, ◌+◌, ◌<◌, ◌≤◌, true, false, cond, List, ◌++◌, length, take, flat_map, refl, sym, ap, ◌∙◌, subst, arith, inl, inr}
-use Rattle.std.specs.Prelude.{◌==◌}
-use Rattle.std.specs.List.{count_by, list_any, range_with_len}
-use Rattle.std.proofs.lemmas.List.{append-nil, take_all}
+use Rattle.cdb_read.proofs.Words.{List, WordPair, ap, append-nil, arith, cases_Bool, cond, count_by, empty_slot, eq-eqb, eqb-true, false, flat_map, has_place, inl, inr, is_used, length, list_any, nth_slot, range_with_len, refl, subst, suc, sym, take, take_all, true, zero, ℕ, ◌++◌, ◌+◌, ◌<◌, ◌==◌, ◌∙◌, ◌≡◌, ◌≤◌}
 use Rattle.std.proofs.lemmas.List.Sums.{count_by_more_yes, count_by_more_no, sum_by-take-le}
-use Rattle.std.proofs.lemmas.Bool.{cases_Bool, eq-eqb, eqb-true}
-use Rattle.cdb_form.specs.Format.Pair.{WordPair}
-use Rattle.cdb_form.specs.Format.Table.{empty_slot, is_used}
-use Rattle.cdb_read.specs.Sound.{has_place, nth_slot}
 use Rattle.cdb_read.proofs.Lists.Counts.{any_none, count-append, count_lists_part, lists_more, none_any}
 use Rattle.cdb_read.proofs.FilledTables.Fits.{used}
 

@@ -1,15 +1,7 @@
 -- What a search comes to: the used and wanted elements, told by their places and counted.
-use Rattle.std.proofs.Common.{◌≡◌, ℕ, zero, suc, ◌+◌, ◌-◌, ◌%◌, ◌<◌, ◌≤◌, Bool, true, false, List, [], ◌∷◌, length, get_or, take, drop, refl, sym, ap, ◌∙◌, subst, arith, inl, inr, mod-eq_of_lt}
+use Rattle.cdb_read.proofs.Words.{All, Bool, List, WordPair, [], and_from, and_parts, ap, arith, both_ways, cases_Bool, cases_lt, cond-false, cond-true, count_by, distance, drop, empty_slot, eq-eqb, eqb-true, false, get_or, has_hash, home_slot, inl, inr, is_reached, is_used, length, list_all, mod-eq_of_lt, nth_slot, prefix_len, refl, slots_from, subst, suc, sym, take, true, zero, ℕ, ◌%◌, ◌+◌, ◌-◌, ◌<◌, ◌∙◌, ◌∷◌, ◌≡◌, ◌≤◌}
 use native.Mathlib.Nat.{mod-eq-sub-mod}
-use Rattle.std.specs.Prelude.{All}
-use Rattle.std.specs.List.{count_by, list_all, prefix_len}
 use Rattle.std.proofs.lemmas.List.Elements.{All-nil, All-cons, All-head, All-tail, All-append, All-drop, All-take, All-same}
-use Rattle.std.proofs.lemmas.Bool.{cases_Bool, cases_lt, cond-true, cond-false, both_ways, eq-eqb, eqb-true, and_parts, and_from}
-use Rattle.cdb_form.specs.Format.Hash.{home_slot}
-use Rattle.cdb_form.specs.Format.Pair.{WordPair}
-use Rattle.cdb_form.specs.Format.Table.{is_used, empty_slot, slots_from}
-use Rattle.cdb_read.specs.Lookup.{has_hash}
-use Rattle.cdb_read.specs.Sound.{nth_slot, distance, is_reached}
 use Rattle.cdb_read.proofs.Lists.Counts.{count-cons, counts_none}
 use Rattle.cdb_read.proofs.FilledTables.Filled.{turned, turned-before, turned-behind, turned-home, turned-lt, get_or-slots_from, length-slots_from, from_home, NoneBehind}
 use Rattle.cdb_read.proofs.Lists.Meeting.{met, met-used, met-unused, met-none, HasNone, HasNoneBehind}

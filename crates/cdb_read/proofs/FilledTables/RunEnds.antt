@@ -1,16 +1,10 @@
 -- Runs of used slots: how long the one before a slot is, and whether a search comes to the slot.
 use Rattle.std.proofs.Common.{◌≡◌, ℕ, zero, suc, ◌+◌, ◌-◌, ◌<◌, ◌≤◌, Bool, true, false, ◌&&◌, cond, List, [], ◌∷◌, ◌++◌, length, take, drop, reverse, refl, sym, ap, ◌∙◌, arith, inl, inr, length-append, length-take, length-drop}
-use Rattle.std.specs.Prelude.{nat_le}
-use Rattle.std.specs.List.{list_all, prefix_len}
+use Rattle.cdb_read.proofs.Words.{WordPair, distance, home_slot, is_reached, is_used, list_all, nat_le, nth_slot, prefix_len, run_of, slots_from}
 use Rattle.std.proofs.lemmas.Bool.{cases_Bool, cases_lt, cond-true, cond-false, le-leb, lt-leb}
 use Rattle.std.proofs.lemmas.List.{reverse-append, length-reverse, take-append-drop, take-append-le, drop-append-le, drop-take, drop-drop, take-take, take_at, drop_at}
 use Rattle.std.proofs.Math.Seq.{take-append-add}
 use Rattle.std.proofs.lemmas.List.Folds.{list_all-append}
-use Rattle.cdb_form.specs.Format.Hash.{home_slot}
-use Rattle.cdb_form.specs.Format.Pair.{WordPair}
-use Rattle.cdb_form.specs.Format.Table.{is_used, slots_from}
-use Rattle.cdb_read.specs.SlotRuns.{run_of}
-use Rattle.cdb_read.specs.Sound.{distance, is_reached, nth_slot}
 use Rattle.cdb_read.proofs.FilledTables.Filled.{turned-before, turned-behind}
 use Rattle.cdb_read.proofs.FilledTables.Reached.{distance-turned}
 

@@ -1,14 +1,5 @@
 -- The slots of a filled table: what they tell, that a search comes to each, and how many there are.
-use Rattle.std.proofs.Common.{◌≡◌, ℕ, ◌+◌, ◌<◌, ◌≤◌, Bool, true, false, cond, List, [], ◌∷◌, length, get_or, set, fold, replicate, refl, ap, ◌∙◌, arith}
-use Rattle.std.specs.Prelude.{All}
-use Rattle.std.specs.List.{count_by}
-use Rattle.std.proofs.lemmas.List.{length-replicate}
-use Rattle.std.proofs.lemmas.List.Elements.{All-head, All-tail, All-set, All-replicate}
-use Rattle.std.proofs.lemmas.List.Sums.{sum_by-set}
-use Rattle.std.proofs.lemmas.Bool.{both_ways}
-use Rattle.cdb_form.specs.Format.Pair.{WordPair}
-use Rattle.cdb_form.specs.Format.Table.{is_used, empty_slot, slots_with, filled_slots}
-use Rattle.cdb_form.proofs.Files.Sizes.{length-slots_with}
+use Rattle.cdb_read.proofs.Words.{All, All-head, All-replicate, All-set, All-tail, Bool, List, WordPair, [], ap, arith, both_ways, cond, count_by, empty_slot, false, filled_slots, fold, get_or, is_used, length, length-replicate, length-slots_with, refl, replicate, set, slots_with, sum_by-set, true, ℕ, ◌+◌, ◌<◌, ◌∙◌, ◌∷◌, ◌≡◌, ◌≤◌}
 use Rattle.cdb_read.proofs.Lists.Counts.{count-cons, counts_none, count_zero}
 use Rattle.cdb_read.proofs.FilledTables.Filled.{IsUsed, AllUsed, NoneBehind, NoneBehind-empty, NoneBehind-slots_with, used_count, used_count-slots_with, used_count-empty, free, free_slot, slots_with-set}
 

@@ -1,17 +1,8 @@
 -- Entries of which no two have one place, and lists of slots that have each of them once.
-use Rattle.std.proofs.Common.{◌≡◌, ◌⊎◌, ℕ, get_or, zero, suc, ◌+◌, ◌<◌, ◌≤◌, Bool, true, false, cond, List, [], ◌∷◌, ◌++◌, flat_map, refl, sym, ap, ◌∙◌, subst, arith, inl, inr, append_assoc}
-use Rattle.std.specs.Prelude.{All}
+use Rattle.cdb_read.proofs.Words.{All, All-cons, All-contains, All-filter, All-head, All-nil, All-tail, All-weaker, Bool, Contains-append_right, IsPermutation, KeyValue, List, WordPair, [], ap, append_assoc, arith, both_ways, cases_Bool, cond, cond-false, cond-true, entries_from, eq-eqb, eqb-false, eqb-true, false, flat_map, get_or, has_place, inl, inr, ne_eqb, record_size, refl, subst, suc, sym, table_number, true, zero, ℕ, ◌++◌, ◌+◌, ◌<◌, ◌∙◌, ◌∷◌, ◌≡◌, ◌≤◌, ◌⊎◌}
 use Rattle.std.specs.List.{Contains, count_by, filter}
-use Rattle.std.specs.List.Sorted.{IsPermutation}
 use Rattle.std.proofs.lemmas.List.Sorted.{IsPermutation-refl, IsPermutation-trans, IsPermutation-append_comm, IsPermutation-append_left, IsPermutation-append_right}
 use Rattle.std.proofs.lemmas.List.Concat.{flat_map-append}
-use Rattle.std.proofs.lemmas.List.Elements.{All-nil, All-cons, All-head, All-tail, All-contains, All-filter, All-weaker, Contains-append_right}
-use Rattle.std.proofs.lemmas.Bool.{cases_Bool, cond-true, cond-false, both_ways, eqb-true, eqb-false, eq-eqb, ne_eqb}
-use Rattle.cdb_form.specs.Format.Hash.{table_number}
-use Rattle.cdb_form.specs.Format.Pair.{WordPair}
-use Rattle.cdb_form.specs.Format.Record.{KeyValue, record_size}
-use Rattle.cdb_form.specs.Format.Table.{entries_from}
-use Rattle.cdb_read.specs.Sound.{has_place}
 use Rattle.cdb_read.proofs.Lists.Counts.{count-cons, count-append, counts_one, counts_none, count_zero, none_counted}
 
 -- no two have one place

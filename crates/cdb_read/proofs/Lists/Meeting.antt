@@ -1,10 +1,7 @@
 -- A list read from its front up to the first element that is not used: what it has that is wanted,
 -- and how that changes as elements are put in.
-use Rattle.std.proofs.Common.{◌≡◌, ℕ, zero, suc, ◌+◌, ◌<◌, Bool, true, false, cond, List, [], ◌∷◌, ◌++◌, length, get_or, set, refl, sym, ap, ◌∙◌, arith, inl, inr}
-use Rattle.std.specs.Prelude.{⊤}
+use Rattle.cdb_read.proofs.Words.{Bool, List, [], ap, arith, cases_Bool, cond, cond-false, cond-true, false, get_or, inl, inr, length, refl, set, suc, sym, take_while-cons, true, zero, ℕ, ⊤, ◌++◌, ◌+◌, ◌<◌, ◌∙◌, ◌∷◌, ◌≡◌}
 use Rattle.std.specs.List.{filter, take_while, prefix_len, count_by}
-use Rattle.std.proofs.lemmas.List.Sums.{take_while-cons}
-use Rattle.std.proofs.lemmas.Bool.{cases_Bool, cond-true, cond-false}
 use Rattle.cdb_read.proofs.Lists.Counts.{count-cons, counts_one}
 
 -- the wanted elements before the first that is not used

@@ -1,15 +1,6 @@
 -- Entries whose places rise.
-use Rattle.std.proofs.Common.{◌≡◌, ℕ, zero, suc, ◌+◌, ◌<◌, ◌≤◌, Bool, List, [], ◌∷◌, length, get_or, sym, subst, arith, inl, inr}
-use Rattle.std.specs.Prelude.{All}
+use Rattle.cdb_read.proofs.Words.{All, All-cons, All-nil, All-weaker, Bool, IsRising, IsStrictlyIncreasing, KeyValue, List, WordPair, [], arith, cases_Bool, cond-false, cond-true, entries_from, entries_of, get_or, inl, inr, length, ne_eqb, record_size, subst, suc, sym, zero, ℕ, ◌+◌, ◌<◌, ◌∷◌, ◌≡◌, ◌≤◌}
 use Rattle.std.specs.List.{filter}
-use Rattle.std.specs.List.Sorted.{IsStrictlyIncreasing}
-use Rattle.std.proofs.lemmas.Bool.{cases_Bool, cond-true, cond-false, ne_eqb}
-use Rattle.std.proofs.lemmas.List.Elements.{All-nil, All-cons, All-weaker}
-use Rattle.cdb_form.specs.Format.Pair.{WordPair}
-use Rattle.cdb_form.specs.Format.Record.{KeyValue, record_size}
-use Rattle.cdb_form.specs.Format.Table.{entries_from}
-use Rattle.cdb_read.specs.Views.TableRecords.{entries_of}
-use Rattle.cdb_read.specs.Views.RecordLists.{IsRising}
 use Rattle.cdb_read.proofs.Lists.Apart.{AreApart}
 
 rising_lower : (low high : ℕ) (es : List WordPair) → low ≤ high → IsRising high es → IsRising low es

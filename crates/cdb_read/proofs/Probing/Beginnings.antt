@@ -1,23 +1,8 @@
 -- Where the search of a key begins.
-use Rattle.std.proofs.Common.{◌≡◌, ℕ, ◌+◌, ◌*◌, ◌<◌, Bool, true, false, List, length, take, map, get_or, inl, inr, sym, ap, ◌∙◌, arith, refl}
-use Rattle.std.specs.Prelude.{◌==◌, not, nat_le, ◌&&◌, filter, take_while}
-use Rattle.std.proofs.lemmas.Bool.{cond-true, cond-false, eq-eqb, ne_eqb, not_from_true, not_from_false, le-leb, leb-true, and_from, both_ways, cases_Bool}
-use Rattle.std.proofs.lemmas.List.{length-map, take_all, get_or-map}
-use Rattle.std.proofs.lemmas.List.FromFn.{length-map-range_with_len, get_or-map-range_with_len}
-use Rattle.cdb_form.specs.Format.Hash.{key_hash, table_number, home_slot}
-use Rattle.cdb_form.specs.Format.Pair.{WordPair, head_size, pair_size}
-use Rattle.cdb_form.specs.Format.Reading.{nth_pair, head_at}
-use Rattle.cdb_form.specs.Format.Table.{is_used, slots_from}
-use Rattle.cdb_form.specs.Format.Walk.{has_slots}
-use Rattle.cdb_form.specs.Views.Pairs.{pointer_pair}
+use Rattle.cdb_read.proofs.Words.{Bool, LiesInside, List, Pointer, Probe, WordPair, and_from, ap, arith, both_ways, cases_Bool, cond-false, cond-true, eq-eqb, false, filter, found_ahead, found_at, found_by, get_or, get_or-map, get_or-map-range_with_len, has_hash, has_slots, head_at, head_size, home_slot, inl, inr, is_inside, is_used, key_hash, le-leb, leb-true, length, length-map, length-map-range_with_len, lookup_of, map, met_slots, nat_le, ne_eqb, not, not_from_false, not_from_true, nth_pair, pair_size, pointer_pair, refl, slots_at, slots_from, sym, table_number, take, take_all, take_while, true, ℕ, ◌&&◌, ◌*◌, ◌+◌, ◌<◌, ◌==◌, ◌∙◌, ◌≡◌}
 use Rattle.cdb_form.specs.declared.damage.Damage.TheVariants.{Table}
-use Rattle.cdb_form.specs.declared.head.Pointer.{Pointer}
-use Rattle.cdb_read.specs.Lookup.{found_by, lookup_of, found_at, met_slots, has_hash, is_inside, slots_at}
 use Rattle.cdb_read.specs.Lookup.{nothing_found, found_damaged}
-use Rattle.cdb_read.specs.Views.Search.{found_ahead}
-use Rattle.cdb_read.specs.Views.Inside.{LiesInside}
 use Rattle.cdb_read.specs.declared.lookup.probe.Searching.TheVariants.{At}
-use Rattle.cdb_read.specs.declared.lookup.probe.Probe.{Probe}
 use Rattle.cdb_read.proofs.FilledTables.Filled.{length-slots_from}
 use Rattle.cdb_read.proofs.WholeFiles.LookupLaws.{lookup_of-is}
 use Rattle.cdb_read.proofs.Probing.Probes.{length-slots_at}

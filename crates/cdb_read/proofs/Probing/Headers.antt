@@ -1,28 +1,9 @@
 -- What a header that was read says of the record at its place.
-use Rattle.std.proofs.Common.{◌≡◌, ◌≢◌, ℕ, ◌+◌, ◌-◌, ◌*◌, ◌<◌, ◌≤◌, Bool, true, false, List, length, take, drop, refl, sym, ap, ◌∙◌, arith, inl, inr}
-use Rattle.std.specs.Prelude.{bytes_eq, nat_le}
-use Rattle.std.proofs.lemmas.Bool.{le-leb, leb-true, and_from, cases_Bool, cases_lt, both_ways}
+use Rattle.cdb_read.proofs.Words.{Bool, Covers, HasSpans, Header, ImagesHold, List, LooksAt, Pair, Shows, Span, TellsSame, Window, WordPair, and_from, ap, arith, both_ways, bytes_eq, bytes_eq-Decides, cases_Bool, cases_lt, drop, drop-drop, false, head_size, header_pair, inl, inr, is_whole, le-leb, leb-true, length, length-part, nat_le, pair_at, pair_at-take, part, prefix_record, prefix_size, refl, sym, take, true, value_span, ℕ, ◌*◌, ◌+◌, ◌-◌, ◌<◌, ◌∙◌, ◌≡◌, ◌≢◌, ◌≤◌}
 use Rattle.std.specs.Bool.{Decides}
-use Rattle.std.proofs.lemmas.List.{drop-drop}
-use Rattle.std.proofs.lemmas.Slice.Eq.{bytes_eq-Decides}
-use Rattle.cdb_store.specs.Images.{part, ImagesHold}
-use Rattle.cdb_store.proofs.Parts.{length-part}
-use Rattle.cdb_form.specs.Format.Pair.{WordPair, head_size}
-use Rattle.cdb_form.specs.Format.Reading.{pair_at}
-use Rattle.cdb_form.specs.Format.Walk.{prefix_size, prefix_record}
-use Rattle.cdb_form.specs.Views.Pairs.{header_pair}
-use Rattle.cdb_form.specs.declared.header.Header.{Header}
-use Rattle.cdb_form.proofs.Bytes.WordLemmas.{pair_at-take}
 use Rattle.cdb_read.proofs.Bytes.Windows.{holds_shown}
 use Rattle.cdb_read.proofs.Probing.Beginnings.{and_true}
-use Rattle.cdb_read.specs.Lookup.{is_whole, value_span}
-use Rattle.cdb_read.specs.Views.Search.{TellsSame, LooksAt}
 use Rattle.cdb_read.specs.declared.lookup.key_at.Look.TheVariants as look
-use Rattle.cdb_read.specs.Views.Spans.{HasSpans}
-use Rattle.cdb_read.specs.declared.span.Pair.{Pair}
-use Rattle.cdb_read.specs.declared.span.Span.{Span}
-use Rattle.cdb_read.specs.Views.Window.{Shows, Covers}
-use Rattle.cdb_read.specs.declared.window.Window.{Window}
 
 -- in each image, of n bytes, the record at a place has lengths k and v
 pub record HasLengths (w p k v n : ℕ) (images : List ℕ → Type 0) : Type 0 where

@@ -1,23 +1,9 @@
 -- The record that stands at a place, and the walk behind it.
-use Rattle.std.proofs.Common.{◌≡◌, ℕ, ◌+◌, ◌-◌, ◌*◌, ◌<◌, ◌≤◌, ◌⊎◌, List, ◌++◌, length, take, drop, refl, sym, ap, ◌∙◌, arith, inl, inr, length-drop}
-use Rattle.std.proofs.lemmas.List.{take-append-drop, drop-drop}
-use Rattle.std.proofs.lemmas.Bool.{cases_lt}
+use Rattle.cdb_read.proofs.Words.{Begins, HasSpans, Header, ImagesHold, KeyValue, List, Pair, RecordArea, WordPair, ap, arith, cases_lt, drop, drop-drop, header_pair, inl, inr, length, length-drop, length-part, pair_at, part, prefix_size, record_size, refl, sym, take, take-append-drop, walk_from, with_first, ℕ, ◌*◌, ◌++◌, ◌+◌, ◌-◌, ◌<◌, ◌∙◌, ◌≡◌, ◌≤◌, ◌⊎◌}
 use Rattle.std.proofs.Math.Nat.{le-min, min-le_left, min-le_right}
-use Rattle.cdb_store.specs.Images.{part, ImagesHold}
-use Rattle.cdb_store.proofs.Parts.{length-part}
-use Rattle.cdb_form.specs.Format.Pair.{WordPair}
-use Rattle.cdb_form.specs.Format.Reading.{pair_at}
-use Rattle.cdb_form.specs.Format.Record.{KeyValue, record_size}
-use Rattle.cdb_form.specs.Format.Walk.{prefix_size, walk_from, with_first}
-use Rattle.cdb_form.specs.Views.Pairs.{header_pair}
-use Rattle.cdb_form.specs.declared.header.Header.{Header}
-use Rattle.cdb_form.proofs.Files.Prefixes.{Begins}
 use Rattle.cdb_form.proofs.Files.WalkSteps.{walk_from-more, walk_from-no_header, walk_from-no_body}
 use Rattle.cdb_read.proofs.Probing.Headers.{prefix_pair, pair_read}
-use Rattle.cdb_read.specs.Views.Spans.{HasSpans}
 use Rattle.cdb_read.specs.Views.Walking.{record_in, behind, LiesAt, StandsAt, StandsWithin}
-use Rattle.cdb_read.specs.declared.walking.state.RecordArea.{RecordArea}
-use Rattle.cdb_read.specs.declared.span.Pair.{Pair}
 use Rattle.std.specs.Prelude.{Option, Some, None, MatchOption, min}
 
 -- in each image, of n bytes, the header at a place tells these lengths

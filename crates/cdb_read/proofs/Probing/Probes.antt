@@ -1,17 +1,8 @@
 -- A search, slot after slot.
-use Rattle.std.proofs.Common.{◌≡◌, ℕ, suc, ◌+◌, ◌*◌, ◌%◌, ◌<◌, true, false, List, [], ◌∷◌, ◌++◌, length, take, drop, map, get_or, sym, ap, ◌∙◌, arith, inl, inr, append_assoc, length-append, length-drop, mod-eq_of_lt}
-use Rattle.std.specs.Prelude.{filter, take_while, find, not, option_map, Some}
-use Rattle.std.proofs.lemmas.List.Sums.{take_while-cons}
+use Rattle.cdb_read.proofs.Words.{List, Some, WordPair, [], ap, append-nil, append_assoc, arith, cases_lt, cond-false, cond-true, drop, drop-drop, empty_slot, false, filter, find, found_at, get_or, get_or-map-range_with_len, has_hash, has_key, inl, inr, is_used, is_whole, length, length-append, length-drop, length-map-range_with_len, length-take-le, map, mod-eq_of_lt, not, not_from_false, nth_pair, option_map, pair_at, slots_at, slots_from, suc, sym, take, take-append-le, take-take, take_more, take_while, take_while-cons, true, value_span, ℕ, ◌%◌, ◌*◌, ◌++◌, ◌+◌, ◌<◌, ◌∙◌, ◌∷◌, ◌≡◌}
 use Rattle.std.proofs.Math.Seq.{drop-cons, drop-length}
 use Rattle.std.proofs.Math.Nat.{add-mod_left}
-use Rattle.std.proofs.lemmas.Bool.{cases_lt, cond-true, cond-false, not_from_false}
-use Rattle.std.proofs.lemmas.List.{append-nil, drop-drop, take_more, take-take, take-append-le, length-take-le}
-use Rattle.std.proofs.lemmas.List.FromFn.{length-map-range_with_len, get_or-map-range_with_len}
-use Rattle.cdb_form.specs.Format.Pair.{WordPair}
-use Rattle.cdb_form.specs.Format.Reading.{pair_at, nth_pair}
-use Rattle.cdb_form.specs.Format.Table.{is_used, slots_from, empty_slot}
 use Rattle.cdb_form.specs.declared.damage.Damage.TheVariants.{Record}
-use Rattle.cdb_read.specs.Lookup.{has_hash, slots_at, is_whole, has_key, value_span, found_at}
 use Rattle.cdb_read.proofs.WholeFiles.LookupLaws.{same_found}
 use Rattle.cdb_read.proofs.Lists.Meeting.{met, met-used, met-unused, met-none}
 

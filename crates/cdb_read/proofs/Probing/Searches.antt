@@ -1,21 +1,11 @@
 -- What a probe of a search tells.
-use Rattle.std.proofs.Common.{◌≡◌, ◌≢◌, ℕ, suc, ◌+◌, ◌-◌, ◌%◌, ◌<◌, ◌≤◌, true, false, List, ◌∷◌, map, refl, sym, ap, ◌∙◌, arith}
-use Rattle.std.specs.Prelude.{◌==◌}
-use Rattle.std.proofs.lemmas.Bool.{eq-eqb, ne_eqb, not_from_true, not_from_false}
-use Rattle.cdb_form.specs.Format.Hash.{key_hash}
-use Rattle.cdb_form.specs.Format.Pair.{WordPair}
-use Rattle.cdb_form.specs.Format.Table.{is_used}
-use Rattle.cdb_form.specs.Views.Pairs.{pointer_pair}
-use Rattle.cdb_read.specs.Lookup.{Found, found_at, has_hash, slots_at}
-use Rattle.cdb_read.specs.Lookup.{nothing_found, with_span}
+use Rattle.cdb_read.proofs.Words.{Found, List, Probe, Span, WordPair, ap, arith, eq-eqb, false, found_at, has_hash, is_used, key_hash, map, ne_eqb, not_from_false, not_from_true, nothing_found, pointer_pair, refl, slots_at, suc, sym, true, with_span, ℕ, ◌%◌, ◌+◌, ◌-◌, ◌<◌, ◌==◌, ◌∙◌, ◌∷◌, ◌≡◌, ◌≢◌, ◌≤◌}
 use Rattle.cdb_read.specs.Views.Search.{found_ahead, probe_slot, LooksAt, ProbedFrom, Meets}
 use Rattle.cdb_read.specs.Views.Probing.{ProbeInside, next_probe}
 use Rattle.cdb_read.specs.declared.lookup.key_at.Look.TheVariants as look
 use Rattle.cdb_read.specs.declared.lookup.search.Probed.TheVariants as step
 use Rattle.cdb_read.specs.declared.lookup.search.Met.TheVariants as met
-use Rattle.cdb_read.specs.declared.span.Span.{Span}
 use Rattle.cdb_read.specs.declared.lookup.probe.Searching.TheVariants.{At}
-use Rattle.cdb_read.specs.declared.lookup.probe.Probe.{Probe}
 use Rattle.cdb_read.proofs.WholeFiles.LookupLaws.{found_at-has, found_at-other, found_at-none}
 use Rattle.cdb_read.proofs.Lists.Meeting.{met as met_of}
 use Rattle.cdb_read.proofs.Probing.Probes.{met_ahead, next_slot, met_ahead-none, met_ahead-empty, met_ahead-other, met_ahead-hash, found_at-broken}

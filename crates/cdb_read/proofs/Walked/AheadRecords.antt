@@ -1,26 +1,14 @@
 -- Whole records at the start of some bytes, and the walk after them.
-use Rattle.std.proofs.Common.{◌≡◌, ℕ, zero, suc, ◌+◌, ◌-◌, ◌*◌, ◌<◌, ◌≤◌, List, [], ◌∷◌, ◌++◌, length, take, drop, false, refl, sym, ap, ◌∙◌, subst, arith, inl, inr, length-append, length-drop, length-take}
-use Rattle.std.specs.Prelude.{min, sum_by}
-use Rattle.std.proofs.lemmas.Bool.{cases_Bool, cases_lt, cond-true, cond-false, le-leb, leb-true}
-use Rattle.std.proofs.lemmas.List.{take-append-drop, take-append-le, drop-append-le, drop-take, take-take, drop-drop, length-take-le, take_all, nil_from_length}
-use Rattle.std.proofs.lemmas.List.Sums.{sum_by-cons, sum_by-append}
+use Rattle.cdb_read.proofs.Words.{Ghosts, KeyValue, List, RecordArea, Walk, WordPair, [], ap, arith, cases_Bool, cases_lt, cond-false, cond-true, drop, drop-append-le, drop-drop, drop-take, false, inl, inr, le-leb, leb-true, length, length-append, length-drop, length-take, length-take-le, min, nil_from_length, pair_at, pair_at-take, part, record_size, refl, subst, suc, sum_by, sum_by-append, sum_by-cons, sym, take, take-append-drop, take-append-le, take-take, take_all, zero, ℕ, ◌*◌, ◌++◌, ◌+◌, ◌-◌, ◌<◌, ◌∙◌, ◌∷◌, ◌≡◌, ◌≤◌}
 use Rattle.std.proofs.Math.Seq.{take-add}
 use Rattle.std.proofs.Math.Bridge.{le_prop}
-use Rattle.cdb_form.specs.Format.Pair.{WordPair}
-use Rattle.cdb_form.specs.Format.Reading.{pair_at}
-use Rattle.cdb_form.specs.Format.Record.{KeyValue, record_size}
 use Rattle.cdb_form.specs.Format.Walk.{Walked, prefix_size, prefix_record, whole_records, walk_from, with_records}
-use Rattle.cdb_store.specs.Images.{part}
-use Rattle.cdb_store.specs.declared.store.Store.{Ghosts}
 use Rattle.cdb_form.specs.declared.width.Width.{Ghosts as Widths}
 use Rattle.cdb_read.specs.Views.Walk.{GivesRecords, bytes_left, place_of}
 use Rattle.cdb_read.specs.Views.Walking.{records_length, RecordsAhead, walk_ahead, next_place, size_ahead}
-use Rattle.cdb_read.specs.declared.walking.records.Walk.{Walk}
-use Rattle.cdb_read.specs.declared.walking.state.RecordArea.{RecordArea}
 use Rattle.cdb_read.specs.declared.walking.state.Walking.{Walking}
 use Rattle.cdb_read.specs.declared.walking.state.Walking.TheVariants.{At, AtEnd, NoTable, NoRecord}
 use Rattle.cdb_form.proofs.Files.Prefixes.{all_records, fits_prefix, whole_records-none, whole_records-room}
-use Rattle.cdb_form.proofs.Bytes.WordLemmas.{pair_at-take}
 use Rattle.cdb_form.proofs.Files.WalkSteps.{walk_from-is, walk_with, stopped}
 
 -- how many bytes the whole records at the start of some have

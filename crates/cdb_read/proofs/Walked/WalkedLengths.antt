@@ -1,31 +1,10 @@
 -- The lengths of the records that a walk has given.
-use Rattle.std.proofs.Common.{◌≡◌, ℕ, ◌+◌, ◌<◌, ◌≤◌, ◌⊎◌, inl, inr, List, [], ◌∷◌, ◌++◌, length, sym, ap, ◌∙◌, subst, append_assoc, arith}
-use Rattle.std.specs.Prelude.{Some, sum_by}
-use Rattle.std.proofs.lemmas.List.Sums.{sum_by-append, sum_by-cons}
-use Rattle.cdb_form.specs.Format.Pair.{head_size}
-use Rattle.cdb_store.specs.declared.store.Store.{Ghosts}
+use Rattle.cdb_read.proofs.Words.{Damage, Ghosts, HasLengths, KeyValue, Lengths, LengthsFail, LiesAt, List, OnlyReads, Pair, ReadFault, Some, Span, Spread, Spreads, Walk, Walked, [], ap, append-nil, append_assoc, arith, behind, bytes_of, damaged, head_size, inl, inr, key_lengths, length, length-part, map-append, no_walk, record_in, record_size, subst, sum_by, sum_by-append, sum_by-cons, sym, value_lengths, walk_of, with_first, with_records, ℕ, ◌++◌, ◌+◌, ◌<◌, ◌∙◌, ◌∷◌, ◌≡◌, ◌≤◌, ◌⊎◌}
 use Rattle.cdb_form.specs.declared.width.Width.{Ghosts as Widths}
 use Rattle.cdb_form.specs.declared.damage.Damage.TheVariants as damage
-use Rattle.std.proofs.lemmas.List.{map-append, append-nil}
-use Rattle.cdb_store.proofs.Parts.{length-part}
-use Rattle.cdb_form.specs.Format.Record.{KeyValue, record_size}
-use Rattle.cdb_form.specs.Format.Walk.{Walked, walk_of, no_walk, damaged, with_first, with_records}
-use Rattle.cdb_form.specs.declared.damage.Damage.{Damage}
-use Rattle.cdb_read.specs.Lookup.{bytes_of}
-use Rattle.cdb_read.specs.Statistics.{key_lengths, value_lengths}
-use Rattle.cdb_read.specs.Views.Counting.{Spreads}
-use Rattle.cdb_read.specs.Views.Lengths.{HasLengths, LengthsFail}
 pub use Rattle.cdb_store.proofs.Reading.{reads_nothing}
-use Rattle.cdb_store.specs.Reads.{OnlyReads}
 use Rattle.cdb_read.specs.Views.Walk.{left_of, WalkingFails}
-use Rattle.cdb_read.specs.Views.Walking.{record_in, behind, LiesAt}
-use Rattle.cdb_read.specs.declared.fault.ReadFault.{ReadFault}
 use Rattle.cdb_read.specs.declared.fault.ReadFault.TheVariants.{Short, Table, Record, Slot, Twice, Unindexed, Device, NoMemory, Output}
-use Rattle.cdb_read.specs.declared.walking.records.Walk.{Walk}
-use Rattle.cdb_read.specs.declared.statistics.lengths.Lengths.{Lengths}
-use Rattle.cdb_read.specs.declared.span.Pair.{Pair}
-use Rattle.cdb_read.specs.declared.span.Span.{Span}
-use Rattle.cdb_read.specs.declared.statistics.spread.Spread.{Spread}
 
 -- some records were given, whose lengths these are, and then what is left of the walk
 pub record WalkedSoFar (w : ℕ) (b : List ℕ) (left : Walked) (key_spread value_spread : Spread) : Type 0 where

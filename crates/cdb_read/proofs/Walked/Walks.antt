@@ -1,9 +1,5 @@
 -- Where the walk of a file begins, and where it ends.
-use Rattle.std.proofs.Common.{◌≡◌, ℕ, ◌<◌, ◌≤◌, List, length, drop, refl, sym, ap, ◌∙◌, subst, inl, inr}
-use Rattle.std.specs.Prelude.{None}
-use Rattle.std.proofs.lemmas.Bool.{cases_lt}
-use Rattle.cdb_form.specs.Format.Pair.{WordPair, head_size}
-use Rattle.cdb_form.specs.Format.Reading.{head_at}
+use Rattle.cdb_read.proofs.Words.{List, None, WordPair, ap, cases_lt, drop, head_at, head_size, inl, inr, length, refl, subst, sym, ℕ, ◌<◌, ◌∙◌, ◌≡◌, ◌≤◌}
 use Rattle.cdb_form.specs.Format.Walk.{Walked, walk_of, walk_from, record_end, least_place, first_table_at, damaged}
 use Rattle.cdb_form.specs.declared.damage.Damage.TheVariants.{Table}
 use Rattle.cdb_form.specs.Laws.Walk.{HasHead}

@@ -1,23 +1,10 @@
 -- A file is sound exactly where it has no fault.
-use Rattle.std.proofs.Common.{◌≡◌, ℕ, ◌+◌, ◌<◌, ◌≤◌, Bool, true, false, List, [], ◌∷◌, ◌++◌, length, get_or, take, refl, sym, ap, ◌∙◌, subst, arith, inl, inr}
-use Rattle.std.specs.Prelude.{All, Option, Some, None, ◌==◌, ◌&&◌, not, nat_lt}
-use Rattle.std.specs.List.{Contains, count_by, list_any, range_with_len}
-use Rattle.std.specs.Option.{option_or}
-use Rattle.std.proofs.lemmas.List.Elements.{All-nil, All-cons, All-head, All-tail, All-weaker, All-contains, All-get_or, All-from_get_or, Contains-append_right}
+use Rattle.cdb_read.proofs.Words.{All, All-cons, All-contains, All-from_get_or, All-get_or, All-head, All-nil, All-tail, All-weaker, Bool, Contains, Contains-append_right, Damage, IsRight, IsSound, List, None, Option, Some, WordPair, [], all_slots, ap, arith, count_by, false, get_or, has_place, has_slots, head_size, inl, inr, is_inside, is_reached, is_used, length, list_any, nat_lt, not, nth_pair, nth_slot, option_or, range_with_len, refl, same_words, subst, sym, table_at, table_number, tables_below, take, true, walk_entries, walk_of, ℕ, ◌&&◌, ◌++◌, ◌+◌, ◌<◌, ◌==◌, ◌∙◌, ◌∷◌, ◌≡◌, ◌≤◌}
 use Rattle.std.proofs.lemmas.List.FromFn.{length-range_with_len, get_or-range_with_len}
 use Rattle.std.proofs.lemmas.Bool.{cases_Bool, cases_lt, cond-true, cond-false, both_ways, eq-eqb, eqb-true, not-false, not_from_true, not_from_false, and_parts, and_from, and_left, and_right, or_cases, or_left, or_right, le-ltb, lt-ltb}
-use Rattle.cdb_form.specs.Format.Hash.{table_number}
-use Rattle.cdb_form.specs.Format.Pair.{WordPair, head_size}
-use Rattle.cdb_form.specs.Format.Reading.{nth_pair}
-use Rattle.cdb_form.specs.Format.Table.{is_used}
-use Rattle.cdb_form.specs.Format.Walk.{has_slots, walk_of}
-use Rattle.cdb_form.specs.declared.damage.Damage.{Damage}
 use Rattle.cdb_form.specs.declared.damage.Damage.TheVariants.{Table, Slot, Twice, Unindexed}
-use Rattle.cdb_form.proofs.Bytes.ReadBack.{same_words}
 use Rattle.cdb_read.specs.Faults.{entry_fault, fault_if, first_fault, first_of, is_right, is_same, slot_fault, slots_fault, table_fault}
 use Rattle.cdb_read.specs.Laws.{SoundIsNoDamage}
-use Rattle.cdb_read.specs.Lookup.{is_inside}
-use Rattle.cdb_read.specs.Sound.{IsRight, IsSound, all_slots, has_place, is_reached, nth_slot, table_at, tables_below, walk_entries}
 use Rattle.cdb_read.proofs.Lists.Apart.{Contains-cases, entries-above}
 use Rattle.cdb_read.proofs.Lists.Counts.{any_none, any_some}
 use Rattle.cdb_read.proofs.FilledTables.Once.{NoneTwice, once_in_tables, none_earlier}

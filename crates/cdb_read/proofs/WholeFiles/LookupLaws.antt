@@ -1,26 +1,7 @@
 -- A look-up in the file of some records finds the values of the key.
-use Rattle.std.proofs.Common.{◌≡◌, ℕ, ◌+◌, ◌*◌, ◌<◌, true, false, cond, List, [], ◌∷◌, length, drop, map, refl, sym, ap, ◌∙◌, subst, arith, inl, inr}
-use Rattle.std.specs.Prelude.{Option, Some, None, option_map, ◌==◌, not, bytes_eq, filter, take_while, find}
-use Rattle.std.proofs.lemmas.Slice.Eq.{bytes_eq-Decides}
-use Rattle.std.proofs.lemmas.List.{nil_from_length}
-use Rattle.std.proofs.lemmas.List.Sums.{take_while-cons}
-use Rattle.std.proofs.lemmas.Bool.{cases_Bool, cond-true, cond-false, ne_eqb, eqb-true, eq-eqb, both_ways, not_from_true, not_from_false}
-use Rattle.std.proofs.lemmas.List.Elements.{All-filter}
-use Rattle.std.proofs.lemmas.List.FromFn.{length-map-range_with_len}
-use Rattle.cdb_form.specs.Format.Hash.{key_hash, table_number}
-use Rattle.cdb_form.specs.Format.Pair.{WordPair, head_size}
-use Rattle.cdb_form.specs.Format.Reading.{nth_pair}
-use Rattle.cdb_form.specs.Format.Record.{KeyValue, record_size}
-use Rattle.cdb_form.specs.Format.Table.{entries_from, file_entries, in_table, table_entries, table_slots}
-use Rattle.cdb_form.specs.Format.Walk.{has_slots}
-use Rattle.cdb_form.specs.Format.File.{file_bytes}
-use Rattle.cdb_form.specs.declared.damage.Damage.{Damage}
+use Rattle.cdb_read.proofs.Words.{All-filter, Damage, Found, KeyValue, List, None, Option, Some, WordPair, [], ap, arith, both_ways, bytes_eq, bytes_eq-Decides, bytes_of, cases_Bool, cond, cond-false, cond-true, drop, drop-head, entries_from, eq-eqb, eqb-true, false, file_bytes, file_entries, filter, find, found_at, found_by, has_hash, has_key, has_slots, head_size, in_table, inl, inr, is_inside, is_whole, key_hash, length, length-file_bytes, length-map-range_with_len, lookup_of, map, met_slots, ne_eqb, nil_from_length, not, not_from_false, not_from_true, nth_pair, option_map, record_size, refl, slots_at, subst, sym, table_entries, table_number, table_slots, tables_bytes, take_while, take_while-cons, true, value_span, values_of, with_span, ℕ, ◌*◌, ◌+◌, ◌<◌, ◌==◌, ◌∙◌, ◌∷◌, ◌≡◌}
 use Rattle.cdb_form.specs.declared.damage.Damage.TheVariants.{Record}
-use Rattle.cdb_form.proofs.Files.Places.{tables_bytes, drop-head}
-use Rattle.cdb_form.proofs.Files.Sizes.{length-file_bytes}
 use Rattle.cdb_read.specs.Laws.{FindsValues}
-use Rattle.cdb_read.specs.Lookup.{found_by, bytes_of, with_span, is_whole, has_key, value_span, is_inside, slots_at, has_hash, met_slots, Found, found_at, lookup_of}
-use Rattle.cdb_read.specs.Values.{values_of}
 use Rattle.cdb_read.proofs.FilledTables.FileTables.{table_pointer, nth_pair-file_bytes, slots_at-file_bytes, is_inside-file_bytes}
 use Rattle.cdb_read.proofs.FilledTables.Filled.{IsUsed, met_slots-filled_slots, met_slots-none}
 use Rattle.cdb_read.proofs.FilledTables.Fits.{Fit, some_width, size_is, AllUsed-entries}

@@ -1,18 +1,5 @@
 -- The file of some records is sound.
-use Rattle.std.proofs.Common.{◌≡◌, ℕ, ◌*◌, ◌<◌, ◌≤◌, true, false, List, length, sym, ap, ◌∙◌, subst, arith, inl, inr}
-use Rattle.std.specs.Prelude.{All, ◌==◌, not}
-use Rattle.std.specs.List.{Contains, count_by}
-use Rattle.std.proofs.lemmas.List.Elements.{All-filter, All-weaker, All-contains, All-contains_itself, All-get_or, filter_passes}
-use Rattle.std.proofs.lemmas.Bool.{cases_Bool, both_ways, ne_eqb, eq-eqb, eqb-true}
-use Rattle.cdb_form.specs.Format.File.{file_bytes}
-use Rattle.cdb_form.specs.Format.Hash.{table_number}
-use Rattle.cdb_form.specs.Format.Pair.{WordPair, head_size}
-use Rattle.cdb_form.specs.Format.Record.{KeyValue}
-use Rattle.cdb_form.specs.Format.Table.{file_entries, in_table, is_used, table_entries, table_slots}
-use Rattle.cdb_form.specs.Format.Walk.{Walked}
-use Rattle.cdb_form.proofs.Files.WalkLaws.{walk_of-file_bytes}
-use Rattle.cdb_read.specs.Lookup.{is_inside, slots_at}
-use Rattle.cdb_read.specs.Sound.{IsRight, IsSound, all_slots, has_place, nth_slot, table_at, walk_entries}
+use Rattle.cdb_read.proofs.Words.{All, All-contains, All-contains_itself, All-filter, All-get_or, All-weaker, Contains, IsRight, IsSound, KeyValue, List, Walked, WordPair, all_slots, ap, arith, both_ways, cases_Bool, count_by, eq-eqb, eqb-true, false, file_bytes, file_entries, filter_passes, has_place, head_size, in_table, inl, inr, is_inside, is_used, length, ne_eqb, not, nth_slot, slots_at, subst, sym, table_at, table_entries, table_number, table_slots, true, walk_entries, walk_of-file_bytes, ℕ, ◌*◌, ◌<◌, ◌==◌, ◌∙◌, ◌≡◌, ◌≤◌}
 use Rattle.cdb_read.proofs.Lists.Apart.{IsEntryOf, AreApart-entries, apart_same, count_apart, entries-above}
 use Rattle.cdb_read.proofs.Lists.Counts.{count_zero, count-filter, count_lists_one}
 use Rattle.cdb_read.proofs.FilledTables.FileTables.{nth_pair-file_bytes, slots_at-file_bytes, is_inside-file_bytes}

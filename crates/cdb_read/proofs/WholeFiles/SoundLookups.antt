@@ -1,21 +1,7 @@
 -- A look-up in a sound file finds the values that its key has in the walk.
-use Rattle.std.proofs.Common.{◌≡◌, ℕ, ◌+◌, ◌^◌, ◌<◌, ◌≤◌, true, false, cond, List, [], ◌∷◌, ◌++◌, length, drop, map, flat_map, refl, sym, ap, ◌∙◌, subst, arith, inl, inr}
-use Rattle.std.specs.Prelude.{All, None, filter, sum_by}
-use Rattle.std.specs.List.{Contains, count_by}
-use Rattle.std.specs.List.Sorted.{IsPermutation}
-use Rattle.std.proofs.lemmas.List.{take-append-drop}
-use Rattle.std.proofs.lemmas.List.Elements.{All-head, All-tail, All-same, All-filter, All-weaker, All-contains, All-contains_itself, All-from_get_or, filter_passes}
-use Rattle.std.proofs.lemmas.Bool.{cases_Bool, cond-true, cond-false, eqb-true}
-use Rattle.cdb_form.specs.Format.Hash.{key_hash, table_number, home_slot}
-use Rattle.cdb_form.specs.Format.Pair.{WordPair, head_size}
-use Rattle.cdb_form.specs.Format.Reading.{nth_pair}
-use Rattle.cdb_form.specs.Format.Record.{AreBytes, KeyValue, record_bytes, record_size}
-use Rattle.cdb_form.specs.Format.Table.{file_entries, is_used, empty_slot}
-use Rattle.cdb_form.specs.Format.Walk.{walk_of}
+use Rattle.cdb_read.proofs.Words.{All, All-contains, All-contains_itself, All-filter, All-from_get_or, All-head, All-same, All-tail, All-weaker, AreBytes, Contains, Found, IsPermutation, IsSound, KeyValue, List, None, WordPair, [], all_slots, ap, arith, bytes_of, cases_Bool, cond, cond-false, cond-true, count_by, drop, empty_slot, eqb-true, false, file_entries, filter, filter_passes, flat_map, found_at, has_hash, has_key, has_place, head_size, home_slot, inl, inr, is_used, key_hash, length, lookup_of, map, met_slots, nth_pair, record_bytes, record_size, refl, subst, sum_by, sym, table_at, table_number, take-append-drop, true, value_span, walk_entries, walk_of, ℕ, ◌++◌, ◌+◌, ◌<◌, ◌^◌, ◌∙◌, ◌∷◌, ◌≡◌, ◌≤◌}
 use Rattle.cdb_form.proofs.Files.WalkLaws.{record_end-le, walk_of-IsWalk}
 use Rattle.cdb_read.specs.Laws.{FindsWalked}
-use Rattle.cdb_read.specs.Lookup.{Found, bytes_of, found_at, has_hash, has_key, lookup_of, met_slots, value_span}
-use Rattle.cdb_read.specs.Sound.{IsSound, all_slots, has_place, table_at, walk_entries}
 use Rattle.cdb_read.proofs.Lists.Apart.{AreApart-entries, AreApart-filter, Contains-filter, IsEntryOf, apart_same, entries-above, same_entries}
 use Rattle.cdb_read.proofs.Lists.Counts.{count_zero, count_lists_one}
 use Rattle.cdb_read.proofs.FilledTables.Filled.{count_by-slots_from, from_home, met_slots-met}

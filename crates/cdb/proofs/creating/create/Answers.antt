@@ -1,7 +1,4 @@
-use Rattle.std.proofs.Common.{Err, inl, inr, refl, rules}
-use Rattle.std.proofs.KnownBytes.{Keeps-refl}
-use Rattle.cdb_show.proofs.OutputFaults.{says_more}
-use Rattle.cdb_show.proofs.PlacedReaders.{same_places}
+use Rattle.cdb.proofs.Words.{Err, Keeps-refl, inl, inr, refl, rules, same_places, says_more}
 use Rattle.cdb.proofs.HandedBack.{hands_left, opens_nothing}
 use Rattle.cdb.proofs.creating.create.Goals as goal
 

@@ -1,6 +1,4 @@
-use Rattle.std.proofs.Common.{refl, Ok, Err, subst}
-use Rattle.std.proofs.KnownBytes.{Keeps-refl}
-use Rattle.cdb.specs.Creating.{WritesAll}
+use Rattle.cdb.proofs.Words.{Err, Keeps-refl, Ok, WritesAll, refl, subst}
 use Rattle.cdb.proofs.creating.make_on_output.Goals as goal
 
 pub returns-clause-makes : goal.returns-clause-makes

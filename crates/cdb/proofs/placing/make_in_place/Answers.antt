@@ -1,9 +1,4 @@
-use Rattle.std.proofs.Common.{inl, inr, refl, rules}
-use Rattle.std.proofs.KnownBytes.{Keeps-refl}
-use Rattle.cdb_show.proofs.PlacedReaders.{same_places}
-use Rattle.cdb.specs.Agreeing.{inputs_of}
-use Rattle.cdb.specs.Contents.{making_of}
-use Rattle.cdb.specs.Creating.{IsDatabase}
+use Rattle.cdb.proofs.Words.{IsDatabase, Keeps-refl, inl, inputs_of, inr, making_of, refl, rules, same_places}
 use Rattle.cdb.proofs.Agreeing.{built_of_one}
 use Rattle.cdb.proofs.Databases.{database_synced, named_says, synced_says}
 use Rattle.cdb.proofs.HandedBack.{hands_left, making_opens, missing_opens}

@@ -1,5 +1,4 @@
-use Rattle.std.proofs.Common.{map, string_bytes, take}
-use Rattle.cdb.specs.Creating.{AsksEach}
+use Rattle.cdb.proofs.Words.{AsksEach, map, string_bytes, take}
 use Rattle.cdb.proofs.placing.may_be_one_of_inputs.Given as goal
 
 -- the inputs so far are other files

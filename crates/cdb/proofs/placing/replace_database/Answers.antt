@@ -1,8 +1,5 @@
-use Rattle.std.proofs.Common.{inr, refl, rules}
+use Rattle.cdb.proofs.Words.{inr, making_of, on_ok_weaker, refl, rules, same_places}
 use Rattle.cdb_names.proofs.Replacing.{weaker_replacing, weaker_sure}
-use Rattle.std.proofs.lemmas.Result.{on_ok_weaker}
-use Rattle.cdb_show.proofs.PlacedReaders.{same_places}
-use Rattle.cdb.specs.Contents.{making_of}
 use Rattle.cdb.proofs.Agreeing.{Tells, of_contents, told_placed}
 use Rattle.cdb.proofs.Asks.{ok_and}
 use Rattle.cdb.proofs.Replaced.{replaced_says, weaker_moments}

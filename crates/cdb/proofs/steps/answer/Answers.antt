@@ -1,8 +1,5 @@
-use Rattle.std.proofs.Common.{[], ap, rules, inl, inr, refl, Ok, Err}
-use Rattle.std.proofs.KnownBytes.{Keeps-refl}
+use Rattle.cdb.proofs.Words.{Err, Keeps-refl, Ok, [], ap, inl, inr, output_bytes, refl, rules, says_more}
 use Rattle.cdb_command.specs.Refused.{refused_in}
-use Rattle.cdb_show.specs.Views.Output.{output_bytes}
-use Rattle.cdb_show.proofs.OutputFaults.{says_more}
 use Rattle.cdb_system.specs.CauseLine.{more_of}
 use Rattle.cdb_system.proofs.Explained.{none_said}
 use Rattle.cdb.proofs.steps.answer.Goals as goal

@@ -1,5 +1,4 @@
-use Rattle.std.proofs.Common.{rules, inr}
-use Rattle.cdb_show.specs.Views.Output.{held_by}
+use Rattle.cdb.proofs.Words.{held_by, inr, rules}
 use Rattle.cdb.proofs.steps.handed_on.Goals as goal
 
 pub returns-in-Ok-Err-clause-hands : goal.returns-in-Ok-Err-clause-hands

@@ -1,11 +1,8 @@
-use Rattle.std.proofs.Common.{◌≡◌, ◌∙◌, true, false, subst, sym}
+use Rattle.cdb.proofs.Words.{PerformsIn, false, files_of, output_bytes, subst, sym, true, ◌∙◌, ◌≡◌}
 use Rattle.cdb_show.specs.Command.{asked_in, has_wide_words}
-use Rattle.cdb_show.specs.Views.Output.{output_bytes}
-use Rattle.cdb.specs.Performs.{PerformsIn}
 use Rattle.cdb.proofs.steps.perform.Goals.{then-is_wide, else-is_wide}
 use Rattle.cdb.proofs.steps.perform.Goals as goal
 use Rattle.cdb_system.specs.State.{given_of, standard_of, state_of}
-use Rattle.cdb_system.specs.Files.{files_of}
 
 pub returns-clause-does : goal.returns-clause-does
 returns-clause-does g c = record {

@@ -1,5 +1,4 @@
-use Rattle.std.proofs.lemmas.Grind.{common_steps}
-use Rattle.std.proofs.Common.{arith}
+use Rattle.cdb_difference.proofs.Words.{arith, common_steps}
 use Rattle.cdb_difference.proofs.differing_values.is_first_changed.Goals as goal
 
 pub returns-clause-fails : goal.returns-clause-fails

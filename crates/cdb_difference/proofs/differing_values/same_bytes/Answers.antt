@@ -1,7 +1,5 @@
-use Rattle.std.proofs.lemmas.Grind.{common_steps}
+use Rattle.cdb_difference.proofs.Words.{common_steps, length_of, part}
 use Rattle.std.proofs.Common.{rules, arith, ◌≡◌, ◌∙◌, ◌+◌, ◌≤◌, ℕ, length, sym, ap, subst, refl, true, false, length-append, length-drop}
-use Rattle.cdb_store.specs.Images.{part}
-use Rattle.cdb_read.proofs.Walked.WalkedLengths.{length_of}
 use Rattle.cdb_difference.proofs.ComparedValues.{piece_differs, same_more}
 use Rattle.cdb_difference.proofs.Looked.{stays_more}
 use Rattle.cdb_difference.proofs.differing_values.same_bytes.Goals as goal

@@ -1,6 +1,4 @@
-use Rattle.std.proofs.Common.{◌≡◌, ◌-◌, ◌≤◌, ℕ, List, length}
-use Rattle.cdb_store.specs.Images.{part}
-use Rattle.cdb_difference.specs.Views.Looking.{StaysAt}
+use Rattle.cdb_difference.proofs.Words.{List, StaysAt, length, part, ℕ, ◌-◌, ◌≡◌, ◌≤◌}
 use Rattle.cdb_difference.proofs.differing_values.same_bytes.Given as goal
 
 -- the pieces so far were the same

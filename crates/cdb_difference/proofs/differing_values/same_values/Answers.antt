@@ -1,7 +1,6 @@
-use Rattle.std.proofs.lemmas.Grind.{common_steps}
+use Rattle.cdb_difference.proofs.Words.{common_steps, with_span}
 use Rattle.std.proofs.Common.{arith, rules, ◌≡◌, ◌∙◌, sym, ap, subst, IfOk}
 use Rattle.std.proofs.lemmas.Bool.{both_ways}
-use Rattle.cdb_read.specs.Lookup.{with_span}
 use Rattle.cdb_difference.proofs.ComparedValues.{compared_more, damage_next, damage_still, left_stays, one_differs, other_ended, own_ended}
 use Rattle.cdb_difference.proofs.Looked.{looks_more}
 use Rattle.cdb_difference.proofs.differing_values.same_values.Goals as goal

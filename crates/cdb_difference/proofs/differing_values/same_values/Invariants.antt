@@ -1,7 +1,5 @@
-use Rattle.std.proofs.Common.{◌≡◌, ◌+◌, ◌≤◌, ℕ, List, length}
-use Rattle.cdb_read.specs.Views.Finder.{left_in, slots_left}
+use Rattle.cdb_difference.proofs.Words.{List, LooksOn, left_in, length, slots_left, ℕ, ◌+◌, ◌≡◌, ◌≤◌}
 use Rattle.cdb_difference.proofs.ComparedValues.{Compared, SameDamage}
-use Rattle.cdb_difference.specs.Views.Looking.{LooksOn}
 use Rattle.cdb_difference.proofs.differing_values.same_values.Given as goal
 
 -- the values so far were the same

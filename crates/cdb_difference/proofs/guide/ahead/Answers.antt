@@ -1,5 +1,4 @@
-use Rattle.std.proofs.lemmas.Grind.{common_steps}
-use Rattle.std.proofs.Common.{arith}
+use Rattle.cdb_difference.proofs.Words.{arith, common_steps}
 use Rattle.cdb_difference.proofs.guide.ahead.Goals as goal
 
 pub returns-in-Err-Device-clause-fails : goal.returns-in-Err-Device-clause-fails

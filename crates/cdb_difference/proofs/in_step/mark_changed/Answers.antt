@@ -1,8 +1,4 @@
-use Rattle.std.proofs.lemmas.Grind.{common_steps}
-use Rattle.std.proofs.Common.{arith, rules, ◌∙◌, sym, ap}
-use Rattle.cdb_store.proofs.Reading.{reads_nothing}
-use Rattle.cdb_form.specs.Format.Walk.{Walked}
-use Rattle.cdb_read.specs.Views.Walking.{walk_ahead}
+use Rattle.cdb_difference.proofs.Words.{Walked, ap, arith, common_steps, reads_nothing, rules, sym, walk_ahead, ◌∙◌}
 use Rattle.cdb_difference.proofs.Marked.{in_step_end, in_step_grown, in_step_start, still_marked}
 use Rattle.cdb_difference.proofs.in_step.mark_changed.Goals as goal
 

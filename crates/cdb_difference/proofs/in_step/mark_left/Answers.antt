@@ -1,7 +1,4 @@
-use Rattle.std.proofs.lemmas.Grind.{common_steps}
-use Rattle.std.proofs.Common.{arith}
-use Rattle.cdb_store.proofs.Reading.{reads_more}
-use Rattle.cdb_read.specs.Views.Walking.{record_in}
+use Rattle.cdb_difference.proofs.Words.{arith, common_steps, reads_more, record_in}
 use Rattle.cdb_difference.proofs.Steps.{passed_more}
 use Rattle.cdb_difference.proofs.in_step.mark_left.Goals as goal
 

@@ -1,8 +1,4 @@
-use Rattle.std.proofs.Common.{ℕ, List}
-use Rattle.cdb_store.specs.Reads.{OnlyReads}
-use Rattle.cdb_read.specs.Views.Walking.{size_ahead}
-use Rattle.cdb_difference.specs.Views.Marks.{Grows}
-use Rattle.cdb_difference.specs.Views.NextRecord.{left_from}
+use Rattle.cdb_difference.proofs.Words.{Grows, List, OnlyReads, left_from, size_ahead, ℕ}
 use Rattle.cdb_difference.proofs.Steps.{Passed}
 use Rattle.cdb_difference.proofs.in_step.mark_left.Given as goal
 

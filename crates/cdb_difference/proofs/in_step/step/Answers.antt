@@ -1,7 +1,4 @@
-use Rattle.std.proofs.lemmas.Grind.{common_steps}
-use Rattle.std.proofs.Common.{arith}
-use Rattle.cdb_store.proofs.Reading.{reads_more}
-use Rattle.cdb_read.proofs.FoundSoFar.{reads_none}
+use Rattle.cdb_difference.proofs.Words.{arith, common_steps, reads_more, reads_none}
 use Rattle.cdb_difference.proofs.Steps.{both_same, other_marked, own_marked}
 use Rattle.cdb_difference.proofs.in_step.step.Goals as goal
 

@@ -1,5 +1,4 @@
-use Rattle.std.proofs.lemmas.Grind.{common_steps}
-use Rattle.std.proofs.Common.{arith}
+use Rattle.cdb_difference.proofs.Words.{arith, common_steps}
 use Rattle.cdb_difference.proofs.key_changes.write_changes.Goals as goal
 
 pub returns-in-Put-clause-writes : goal.returns-in-Put-clause-writes

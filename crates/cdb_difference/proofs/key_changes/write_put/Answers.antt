@@ -1,9 +1,4 @@
-use Rattle.std.proofs.lemmas.Grind.{common_steps}
-use Rattle.std.proofs.Common.{arith, ◌∙◌, ◌+◌, ◌≤◌, ◌++◌, ℕ, sym, subst, append_assoc, codes}
-use Rattle.std.proofs.lemmas.Result.{err_from_is_err_and}
-use Rattle.cdb_form.proofs.Bytes.WritingLemmas.{appends_then, prefix_in, prefix_last, prefix_then, same_appends, writes_prefix}
-use Rattle.cdb_read.specs.Lookup.{bytes_of}
-use Rattle.cdb_read.proofs.Walked.WalkedLengths.{length_of}
+use Rattle.cdb_difference.proofs.Words.{append_assoc, appends_then, arith, bytes_of, codes, common_steps, err_from_is_err_and, length_of, prefix_in, prefix_last, prefix_then, same_appends, subst, sym, writes_prefix, ℕ, ◌++◌, ◌+◌, ◌∙◌, ◌≤◌}
 use Rattle.cdb_difference.proofs.PutValues.{put_head, put_is}
 use Rattle.cdb_difference.proofs.key_changes.write_put.Goals as goal
 

@@ -1,7 +1,4 @@
-use Rattle.std.proofs.lemmas.Grind.{common_steps}
-use Rattle.std.proofs.Common.{arith, ◌∙◌, refl, ap, rules}
-use Rattle.std.proofs.lemmas.Result.{err_from_is_err_and}
-use Rattle.cdb_form.proofs.Bytes.WritingLemmas.{writes_prefix}
+use Rattle.cdb_difference.proofs.Words.{ap, arith, common_steps, err_from_is_err_and, refl, rules, writes_prefix, ◌∙◌}
 use Rattle.cdb_difference.proofs.PutValues.{put_more, put_none, put_part}
 use Rattle.cdb_read.proofs.FoundSoFar.{found_more, found_none, found_still}
 use Rattle.cdb_difference.proofs.key_changes.write_puts.Goals as goal

@@ -1,5 +1,4 @@
-use Rattle.std.proofs.Common.{◌≡◌}
-use Rattle.cdb_read.specs.Views.Finder.{slots_left}
+use Rattle.cdb_difference.proofs.Words.{slots_left, ◌≡◌}
 use Rattle.cdb_difference.proofs.PutValues.{PutSoFar}
 use Rattle.cdb_difference.proofs.key_changes.write_puts.Given as goal
 

@@ -1,9 +1,5 @@
-use Rattle.std.proofs.Common.{◌+◌, fold, sym, ap, ◌∙◌, arith}
+use Rattle.cdb_difference.proofs.Words.{ap, arith, fold, mark_step, part, part_add, reads_more, sym, ◌+◌, ◌∙◌}
 use Rattle.std.proofs.lemmas.List.Sums.{fold-append}
-use Rattle.cdb_store.proofs.Parts.{part_add}
-use Rattle.cdb_store.proofs.Reading.{reads_more}
-use Rattle.cdb_store.specs.Images.{part}
-use Rattle.cdb_difference.specs.Views.Marks.{mark_step}
 use Rattle.cdb_difference.proofs.mark_hash.mark_hash.Goals as goal
 
 pub loop-done-preserved : goal.loop-done-preserved

@@ -1,7 +1,4 @@
-use Rattle.std.proofs.Common.{◌≡◌, ◌-◌, ◌≤◌, ℕ, List}
-use Rattle.cdb_store.specs.Images.{part}
-use Rattle.cdb_store.specs.Reads.{OnlyReads}
-use Rattle.cdb_difference.specs.Views.Marks.{mark_hash}
+use Rattle.cdb_difference.proofs.Words.{List, OnlyReads, mark_hash, part, ℕ, ◌-◌, ◌≡◌, ◌≤◌}
 use Rattle.cdb_difference.proofs.mark_hash.mark_hash.Given as goal
 
 -- the hash of the bytes so far

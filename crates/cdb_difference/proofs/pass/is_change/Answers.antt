@@ -1,5 +1,4 @@
-use Rattle.std.proofs.lemmas.Grind.{common_steps}
-use Rattle.std.proofs.Common.{arith}
+use Rattle.cdb_difference.proofs.Words.{arith, common_steps}
 use Rattle.cdb_difference.proofs.pass.is_change.Goals as goal
 
 pub is_first_changed-requires-clause-pieces : goal.is_first_changed-requires-clause-pieces

@@ -1,17 +1,9 @@
-use Rattle.std.proofs.lemmas.Grind.{common_steps}
-use Rattle.std.proofs.Common.{rules, ◌∙◌, ◌≤◌, ℕ, List, refl, sym, ap, subst, arith, inl, inr}
-use Rattle.std.proofs.lemmas.Result.{err_from_is_err_and}
-use Rattle.cdb_store.proofs.Reading.{reads_more, reads_nothing}
-use Rattle.cdb_form.specs.Format.Walk.{Walked, walk_of}
+use Rattle.cdb_difference.proofs.Words.{List, Walked, ap, arith, behind, bytes_of, common_steps, err_from_is_err_and, inl, inr, is_marked, lookup_of, next_place, reads_more, reads_none, reads_nothing, record_in, refl, rules, subst, sym, walk_ahead, walk_of, ℕ, ◌∙◌, ◌≤◌}
 use Rattle.cdb_form.proofs.Bytes.WritingLemmas.{same_appends, same_prefix}
-use Rattle.cdb_read.specs.Lookup.{bytes_of, lookup_of}
-use Rattle.cdb_read.specs.Views.Walking.{behind, next_place, record_in, walk_ahead}
 use Rattle.cdb_read.proofs.Walked.WalkedLengths.{some_word}
 use Rattle.cdb_difference.specs.Difference.{WalkHasKey, IsOneDamaged, LookHas, OtherLookHas, OwnLookHas, changes_at, changes_text}
-use Rattle.cdb_difference.specs.Views.Marks.{is_marked}
 use Rattle.cdb_difference.proofs.PassStops.{both_since, passed_key, stops_since}
 use Rattle.cdb_difference.proofs.PassSteps.{changed, changed_prefix, ended, so_far_none, stopped, unchanged}
-use Rattle.cdb_read.proofs.FoundSoFar.{reads_none}
 use Rattle.cdb_difference.proofs.pass.write_pass.Goals as goal
 
 pub loop-key-init : goal.loop-key-init

@@ -1,9 +1,5 @@
-use Rattle.std.proofs.Common.{◌≡◌, ℕ, List}
-use Rattle.cdb_form.specs.Format.Walk.{walk_of}
-use Rattle.cdb_difference.specs.Views.Looking.{ReadBoth}
-use Rattle.cdb_read.specs.Views.Walking.{next_place, size_ahead}
+use Rattle.cdb_difference.proofs.Words.{List, ReadBoth, left_from, next_place, size_ahead, walk_of, ℕ, ◌≡◌}
 use Rattle.cdb_difference.proofs.PassSteps.{PassSoFar}
-use Rattle.cdb_difference.specs.Views.NextRecord.{left_from}
 use Rattle.cdb_difference.proofs.pass.write_pass.Given as goal
 
 -- what the difference says of the keys so far was written

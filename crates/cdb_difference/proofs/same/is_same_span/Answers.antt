@@ -1,8 +1,4 @@
-use Rattle.std.proofs.lemmas.Grind.{common_steps}
-use Rattle.std.proofs.Common.{arith, ◌≡◌, ◌≤◌, ◌+◌, ℕ, length, ◌∙◌, sym, ap, subst, refl, true, false}
-use Rattle.cdb_store.proofs.Reading.{reads_more}
-use Rattle.cdb_store.specs.Images.{part}
-use Rattle.cdb_read.proofs.Walked.WalkedLengths.{length_of}
+use Rattle.cdb_difference.proofs.Words.{ap, arith, common_steps, false, length, length_of, part, reads_more, refl, subst, sym, true, ℕ, ◌+◌, ◌∙◌, ◌≡◌, ◌≤◌}
 use Rattle.cdb_difference.proofs.ComparedValues.{piece_differs, same_more}
 use Rattle.cdb_difference.proofs.same.is_same_span.Goals as goal
 

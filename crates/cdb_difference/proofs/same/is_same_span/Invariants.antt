@@ -1,6 +1,4 @@
-use Rattle.std.proofs.Common.{◌≡◌, ◌-◌, ◌≤◌, ℕ, List}
-use Rattle.cdb_store.specs.Images.{part}
-use Rattle.cdb_difference.specs.Views.Looking.{ReadBoth}
+use Rattle.cdb_difference.proofs.Words.{List, ReadBoth, part, ℕ, ◌-◌, ◌≡◌, ◌≤◌}
 use Rattle.cdb_difference.proofs.same.is_same_span.Given as goal
 
 -- the pieces so far were the same

@@ -1,9 +1,4 @@
-use Rattle.std.proofs.Common.{sym, subst}
-use Rattle.std.proofs.lemmas.Result.{err_from_is_err_and}
-use Rattle.cdb_store.proofs.Reading.{reads_more}
-use Rattle.cdb_read.proofs.FoundSoFar.{reads_none}
-use Rattle.cdb_difference.specs.Difference.{DifferenceStops}
-use Rattle.cdb_difference.specs.Views.Stop.{flipped}
+use Rattle.cdb_difference.proofs.Words.{DifferenceStops, err_from_is_err_and, flipped, reads_more, reads_none, subst, sym}
 use Rattle.cdb_difference.proofs.Marked.{agree_flipped}
 use Rattle.cdb_difference.proofs.PassStops.{flipped_stops, whole_since}
 use Rattle.cdb_difference.proofs.WholeDifferences.{difference_written, nothing_written, prefix_end, prefix_first, prefix_second}

@@ -1,12 +1,6 @@
-use Rattle.std.proofs.lemmas.Grind.{common_steps}
+use Rattle.cdb_form.proofs.Words.{PairFits, Pointer, WordPair, common_steps, fill_by_all, get_or-map, get_or-set_other, get_or-set_same, head_at, length-map, length-set, nth_pair, pointer_pair}
 use Rattle.std.proofs.Common.{◌≡◌, ◌≢◌, ℕ, ◌<◌, ◌+◌, ◌-◌, ◌*◌, length, map, get_or, slice_set, arith, ◌∙◌, below_more, ap}
-use Rattle.std.proofs.lemmas.List.{get_or-map, length-map, get_or-set_same, get_or-set_other, length-set}
 use Rattle.std.proofs.lemmas.List.Elements.{All-from_get_or, All-map}
-use Rattle.std.proofs.lemmas.List.FromFn.{fill_by_all}
-use Rattle.cdb_form.specs.Format.Pair.{WordPair}
-use Rattle.cdb_form.specs.Format.Reading.{head_at, nth_pair}
-use Rattle.cdb_form.specs.Views.Pairs.{pointer_pair, PairFits}
-use Rattle.cdb_form.specs.declared.head.Pointer.{Pointer}
 use Rattle.cdb_form.proofs.Bytes.WordLemmas.{pair_at_part, span_of}
 use Rattle.cdb_form.proofs.head.read_head.Goals as goal
 

@@ -1,7 +1,4 @@
-use Rattle.std.proofs.Common.{◌≡◌, ℕ, ◌<◌, ◌*◌, length, get_or}
-use Rattle.cdb_form.specs.Format.Reading.{nth_pair}
-use Rattle.cdb_form.specs.Views.Pairs.{pointer_pair, PairFits}
-use Rattle.cdb_form.specs.declared.head.Pointer.{Pointer}
+use Rattle.cdb_form.proofs.Words.{PairFits, Pointer, get_or, length, nth_pair, pointer_pair, ℕ, ◌*◌, ◌<◌, ◌≡◌}
 use Rattle.cdb_form.proofs.head.read_head.Given as goal
 
 -- the pointers so far

@@ -1,12 +1,7 @@
-use Rattle.std.proofs.Common.{◌≡◌, ℕ, ◌*◌, ◌≤◌, ◌++◌, subst, [], length, map, flat_map, take, drop, arith, sym, ap, ◌∙◌}
+use Rattle.cdb_form.proofs.Words.{PairFits, Pointer, [], ap, arith, common_steps, drop, empty_slot, flat_map, length, map, pair_bytes, pointer_pair, subst, sym, take, ℕ, ◌*◌, ◌++◌, ◌∙◌, ◌≡◌, ◌≤◌}
 use Rattle.std.proofs.lemmas.List.{append-nil, drop_all, take_all, get_or-map, length-map}
 use Rattle.std.proofs.lemmas.List.Elements.{All-get_or}
-use Rattle.cdb_form.specs.Format.Pair.{pair_bytes}
-use Rattle.cdb_form.specs.Format.Table.{empty_slot}
-use Rattle.cdb_form.specs.Views.Pairs.{pointer_pair, PairFits}
-use Rattle.cdb_form.specs.declared.head.Pointer.{Pointer}
 use Rattle.cdb_form.proofs.Bytes.ReadBack.{head_at-flat_map}
-use Rattle.std.proofs.lemmas.Grind.{common_steps}
 use Rattle.cdb_form.proofs.head.write_head.Goals as goal
 
 abbrev blank : Pointer

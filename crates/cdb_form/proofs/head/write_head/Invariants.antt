@@ -1,6 +1,4 @@
-use Rattle.std.proofs.Common.{◌≡◌, ◌*◌, ◌++◌, take, drop, map, flat_map, length}
-use Rattle.cdb_form.specs.Format.Pair.{pair_bytes}
-use Rattle.cdb_form.specs.Views.Pairs.{pointer_pair}
+use Rattle.cdb_form.proofs.Words.{drop, flat_map, length, map, pair_bytes, pointer_pair, take, ◌*◌, ◌++◌, ◌≡◌}
 use Rattle.cdb_form.proofs.head.write_head.Given as goal
 
 -- what is written so far, and what stands behind it

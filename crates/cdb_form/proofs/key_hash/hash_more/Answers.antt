@@ -1,6 +1,5 @@
-use Rattle.std.proofs.Common.{◌≡◌, ◌/◌, ◌*◌, ◌∙◌, ap, arith, drop, fold, length, sym, ℕ, []}
+use Rattle.cdb_form.proofs.Words.{[], ap, arith, drop, fold, hash_step, length, sym, ℕ, ◌*◌, ◌/◌, ◌∙◌, ◌≡◌}
 use Rattle.std.proofs.Math.ListN.{drop_of_length-le}
-use Rattle.cdb_form.specs.Format.Hash.{hash_step}
 use Rattle.cdb_form.proofs.Bytes.HashLemmas.{fold_all}
 use Rattle.cdb_form.proofs.key_hash.hash_more.Goals as goal
 

@@ -1,5 +1,4 @@
-use Rattle.std.proofs.Common.{◌≡◌, drop, fold}
-use Rattle.cdb_form.specs.Format.Hash.{hash_step}
+use Rattle.cdb_form.proofs.Words.{drop, fold, hash_step, ◌≡◌}
 use Rattle.cdb_form.proofs.key_hash.hash_more.Given as goal
 
 -- the hash so far, and what is left of the eights

@@ -1,7 +1,4 @@
-use Rattle.std.proofs.Common.{arith}
-use Rattle.std.proofs.lemmas.List.Elements.{recursion_from_All}
-use Rattle.cdb_form.specs.Laws.Text.{ChangeFits}
-use Rattle.cdb_form.specs.Views.Pairs.{changes_of}
+use Rattle.cdb_form.proofs.Words.{ChangeFits, arith, changes_of, recursion_from_All}
 use Rattle.cdb_form.proofs.NativeTexts.RecordLemmas.{are_fitting}
 use Rattle.cdb_form.proofs.NativeTexts.TextLaws.{changes_read_back as law}
 use Rattle.cdb_form.proofs.laws.amending_text_reads_back.Goals as goal

@@ -1,7 +1,4 @@
-use Rattle.std.proofs.Common.{arith}
-use Rattle.std.proofs.lemmas.List.Elements.{recursion_from_All}
-use Rattle.cdb_form.specs.Laws.Text.{LengthsFit}
-use Rattle.cdb_form.specs.Views.Pairs.{key_values}
+use Rattle.cdb_form.proofs.Words.{LengthsFit, arith, key_values, recursion_from_All}
 use Rattle.cdb_form.proofs.NativeTexts.RecordLemmas.{are_records}
 use Rattle.cdb_form.proofs.NativeTexts.TextLaws.{text_reads_back as law}
 use Rattle.cdb_form.proofs.laws.text_reads_back.Goals as goal

@@ -1,5 +1,4 @@
-use Rattle.std.proofs.Common.{arith}
-use Rattle.cdb_form.specs.Views.Pairs.{key_values}
+use Rattle.cdb_form.proofs.Words.{arith, key_values}
 use Rattle.cdb_form.proofs.Files.WalkLaws.{walk_of-file_bytes}
 use Rattle.cdb_form.proofs.laws.walk_of_file.Goals as goal
 

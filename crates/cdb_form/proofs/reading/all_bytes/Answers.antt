@@ -1,12 +1,7 @@
-use Rattle.std.proofs.Common.{◌≡◌, ◌+◌, ◌-◌, length, take, arith, subst, sym, ◌∙◌, length-drop}
-use Rattle.std.proofs.lemmas.List.{length-take-le}
-use Rattle.cdb_form.specs.Fed.Feed.{Consumes}
+use Rattle.cdb_form.proofs.Words.{AreBytes, Consumes, arith, common_steps, length, length-drop, length-take-le, rules, subst, sym, take, ◌+◌, ◌-◌, ◌∙◌, ◌≡◌}
 use borrow.Rule.Slice.PartMut.{put_mid, same_len_mid}
-use Rattle.cdb_form.specs.Format.Record.{AreBytes}
-use Rattle.std.proofs.Common.{rules}
 use Rattle.cdb_form.proofs.Fed.FeedLemmas.{loses_these, consumes_kept, consumes_no_more}
 use Rattle.cdb_form.proofs.Sources.AskingLemmas.{take_read, read_more}
-use Rattle.std.proofs.lemmas.Grind.{common_steps}
 use Rattle.cdb_form.proofs.reading.all_bytes.Goals as goal
 
 pub loop-done-preserved : goal.loop-done-preserved

@@ -1,7 +1,5 @@
-use Rattle.std.proofs.Common.{◌≡◌, ◌++◌, length, take, arith, length-append, length-drop, ◌∙◌, rules}
-use Rattle.std.proofs.lemmas.List.{length-take-le}
+use Rattle.cdb_form.proofs.Words.{arith, common_steps, length, length-append, length-drop, length-take-le, rules, take, ◌++◌, ◌∙◌, ◌≡◌}
 use Rattle.cdb_form.proofs.Fed.FeedLemmas.{consumes_then}
-use Rattle.std.proofs.lemmas.Grind.{common_steps}
 use Rattle.cdb_form.proofs.reading.skip.Goals as goal
 
 pub loop-done-preserved : goal.loop-done-preserved

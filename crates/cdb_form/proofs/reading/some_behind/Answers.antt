@@ -1,8 +1,7 @@
-use Rattle.std.proofs.Common.{◌≡◌, ◌+◌, ◌-◌, ◌≤◌, ◌++◌, length, length-drop, take, drop, arith, ap, ◌∙◌, rules}
+use Rattle.cdb_form.proofs.Words.{ap, arith, common_steps, drop, length, length-drop, rules, take, ◌++◌, ◌+◌, ◌-◌, ◌∙◌, ◌≡◌, ◌≤◌}
 use Rattle.std.proofs.lemmas.List.{length-take, length-take-le}
 use Rattle.cdb_form.proofs.Bytes.ByteLemmas.{AreBytes-take}
 use Rattle.cdb_form.proofs.Sources.AskingLemmas.{same_prefix, came_behind}
-use Rattle.std.proofs.lemmas.Grind.{common_steps}
 use Rattle.cdb_form.proofs.reading.some_behind.Goals as goal
 
 pub returns-in-Ok-clause-read : goal.returns-in-Ok-clause-read

@@ -1,5 +1,4 @@
-use Rattle.std.proofs.lemmas.Grind.{common_steps}
-use Rattle.std.proofs.Common.{rules, arith}
+use Rattle.cdb_form.proofs.Words.{arith, common_steps, rules}
 use Rattle.cdb_form.proofs.reading.some_bytes.Goals as goal
 
 pub returns-in-Ok-clause-spends : goal.returns-in-Ok-clause-spends

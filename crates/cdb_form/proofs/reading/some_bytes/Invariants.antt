@@ -1,5 +1,4 @@
-use Rattle.std.proofs.Common.{◌≡◌, ◌+◌, ◌≤◌, length}
-use Rattle.cdb_form.specs.Fed.Feed.{Keeps}
+use Rattle.cdb_form.proofs.Words.{Keeps, length, ◌+◌, ◌≡◌, ◌≤◌}
 use Rattle.cdb_form.proofs.reading.some_bytes.Given as goal
 
 -- nothing was read yet, and each call took an ask

@@ -1,7 +1,4 @@
-use Rattle.std.proofs.lemmas.Grind.{common_steps}
-use Rattle.std.proofs.Common.{◌≡◌, ◌+◌, ◌≤◌, ◌++◌, take, arith, subst, sym, rules}
-use Rattle.cdb_form.specs.Fed.Feed.{Consumes}
-use Rattle.cdb_form.specs.Format.Record.{AreBytes}
+use Rattle.cdb_form.proofs.Words.{AreBytes, Consumes, arith, common_steps, rules, subst, sym, take, ◌++◌, ◌+◌, ◌≡◌, ◌≤◌}
 use Rattle.cdb_form.proofs.Bytes.ByteLemmas.{AreBytes-append}
 use Rattle.cdb_form.proofs.Fed.FeedLemmas.{consumes_then}
 use Rattle.cdb_form.proofs.reading.vector.Goals as goal

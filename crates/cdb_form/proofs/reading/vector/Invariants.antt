@@ -1,6 +1,4 @@
-use Rattle.std.proofs.Common.{◌+◌, ◌*◌, ◌-◌, ◌≤◌, length, take}
-use Rattle.cdb_form.specs.Fed.Feed.{Consumes}
-use Rattle.cdb_form.specs.Format.Record.{AreBytes}
+use Rattle.cdb_form.proofs.Words.{AreBytes, Consumes, length, take, ◌*◌, ◌+◌, ◌-◌, ◌≤◌}
 use Rattle.cdb_form.proofs.reading.vector.Given as goal
 
 -- the bytes so far, each of which took an ask at least and 1001 at most

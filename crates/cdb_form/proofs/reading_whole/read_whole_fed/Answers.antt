@@ -1,5 +1,4 @@
-use Rattle.std.proofs.lemmas.Grind.{common_steps}
-use Rattle.std.proofs.Common.{rules, arith}
+use Rattle.cdb_form.proofs.Words.{arith, common_steps, rules}
 use Rattle.cdb_form.proofs.reading_whole.read_whole_fed.Goals as goal
 
 pub returns-in-Ok-clause-given : goal.returns-in-Ok-clause-given

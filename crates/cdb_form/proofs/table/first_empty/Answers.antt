@@ -1,9 +1,4 @@
-use Rattle.std.proofs.Common.{arith, sym, ◌≡◌, ◌∙◌, drop, List}
-use Rattle.std.proofs.lemmas.List.Sums.{prefix_len-drop_no}
-use Rattle.std.specs.List.{prefix_len}
-use Rattle.cdb_form.specs.Format.Pair.{WordPair}
-use Rattle.cdb_form.specs.Format.Table.{is_used, empty_slot}
-use Rattle.cdb_form.specs.Views.SlotBytes.{slots_in}
+use Rattle.cdb_form.proofs.Words.{List, WordPair, arith, drop, empty_slot, is_used, prefix_len, prefix_len-drop_no, slots_in, sym, ◌∙◌, ◌≡◌}
 use Rattle.cdb_form.proofs.Slots.Filling.{first_behind_slots, first_before_slots}
 use Rattle.cdb_form.proofs.table.first_empty.Goals as goal
 

@@ -1,6 +1,4 @@
-use Rattle.std.proofs.Common.{arith, length, ◌<◌}
-use Rattle.std.proofs.lemmas.List.{length-set}
-use Rattle.cdb_form.specs.Views.SlotBytes.{slots_in}
+use Rattle.cdb_form.proofs.Words.{arith, length, length-set, slots_in, ◌<◌}
 use Rattle.cdb_form.proofs.Slots.RunLemmas.{runs_passed, run_noted}
 use Rattle.cdb_form.proofs.table.next_empty.Goals as goal
 

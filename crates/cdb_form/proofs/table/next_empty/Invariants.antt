@@ -1,8 +1,4 @@
-use Rattle.std.proofs.Common.{◌≡◌, ◌+◌, ◌-◌, ◌≤◌, drop, length}
-use Rattle.std.specs.List.{prefix_len}
-use Rattle.cdb_form.specs.Format.Table.{is_used}
-use Rattle.cdb_form.specs.Views.UsedRuns.{IsRun, AreRuns}
-use Rattle.cdb_form.specs.Views.SlotBytes.{slots_in}
+use Rattle.cdb_form.proofs.Words.{AreRuns, IsRun, drop, is_used, length, prefix_len, slots_in, ◌+◌, ◌-◌, ◌≡◌, ◌≤◌}
 use Rattle.cdb_form.proofs.table.next_empty.Given as goal
 
 -- the slots passed over are used, and the run from the next on is known

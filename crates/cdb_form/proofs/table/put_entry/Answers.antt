@@ -1,8 +1,5 @@
-use Rattle.std.proofs.Common.{arith, subst, sym, ◌∙◌, ℕ, List, slice_set}
-use Rattle.cdb_form.specs.Format.Pair.{WordPair}
+use Rattle.cdb_form.proofs.Words.{AreRuns, List, WordPair, arith, slice_set, slots_in, subst, sym, ℕ, ◌∙◌}
 use Rattle.cdb_form.specs.Views.Pairs.{slot_pair}
-use Rattle.cdb_form.specs.Views.UsedRuns.{AreRuns}
-use Rattle.cdb_form.specs.Views.SlotBytes.{slots_in}
 use Rattle.cdb_form.proofs.Slots.Filling.{entry_put}
 use Rattle.cdb_form.proofs.Slots.RunLemmas.{runs_filled, runs_unknown}
 use Rattle.cdb_form.proofs.Slots.SlotBytes.{slot_within, slots_in-put}

@@ -1,8 +1,5 @@
-use Rattle.std.proofs.Common.{arith, sym, ◌≡◌, ◌∙◌, true, get_or, List}
+use Rattle.cdb_form.proofs.Words.{List, WordPair, arith, empty_slot, get_or, is_used, slots_in, sym, true, ◌∙◌, ◌≡◌}
 use Rattle.std.proofs.lemmas.List.Sums.{prefix_len-drop_no, prefix_len-drop_all}
-use Rattle.cdb_form.specs.Format.Pair.{WordPair}
-use Rattle.cdb_form.specs.Format.Table.{is_used, empty_slot}
-use Rattle.cdb_form.specs.Views.SlotBytes.{slots_in}
 use Rattle.cdb_form.proofs.Slots.RunLemmas.{run_some}
 use Rattle.cdb_form.proofs.table.run_at.Goals.{else-at-runs-via-then-at-runs+else-is_used, else-at-runs-via-else-at-runs}
 use Rattle.cdb_form.proofs.table.run_at.Goals as goal

@@ -1,5 +1,4 @@
-use Rattle.std.proofs.Common.{◌∙◌, ap, length, refl, sym, take, ◌++◌}
-use Rattle.std.proofs.lemmas.List.{take-append-drop}
+use Rattle.cdb_form.proofs.Words.{ap, length, refl, sym, take, take-append-drop, ◌++◌, ◌∙◌}
 use Rattle.cdb_form.proofs.Bytes.HeadLemmas.{rest_of}
 use Rattle.cdb_form.proofs.Bytes.WritingLemmas.{writes_last}
 use Rattle.cdb_form.proofs.writing.write_at_once.Goals as goal

@@ -1,5 +1,4 @@
-use Rattle.std.proofs.Common.{arith}
-use Rattle.std.proofs.lemmas.Grind.{common_steps}
+use Rattle.cdb_make.proofs.Words.{arith, common_steps}
 use Rattle.cdb_make.proofs.append.first_record.Goals as goal
 
 pub returns-clause-size : goal.returns-clause-size

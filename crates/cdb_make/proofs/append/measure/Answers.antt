@@ -1,6 +1,5 @@
-use Rattle.std.proofs.Common.{ℕ, ◌≡◌, ◌<◌, ◌≤◌, List, Some, None, arith, drop, length, subst}
+use Rattle.cdb_make.proofs.Words.{List, None, Some, arith, drop, length, prefix_size, subst, ℕ, ◌<◌, ◌≡◌, ◌≤◌}
 use Rattle.std.proofs.lemmas.List.{take_rest}
-use Rattle.cdb_form.specs.Format.Walk.{prefix_size}
 use Rattle.cdb_form.specs.Views.Prefix.{PrefixTells}
 use Rattle.cdb_make.proofs.Bytes.Fitting.{first_more, next_splits, next_sums, no_next}
 use Rattle.cdb_make.proofs.append.measure.Goals as goal

@@ -1,7 +1,5 @@
-use Rattle.std.proofs.Common.{◌≡◌, ◌+◌, ◌-◌, ◌≤◌, length, take}
+use Rattle.cdb_make.proofs.Words.{AreFirst, length, records_at, take, whole_size, ◌+◌, ◌-◌, ◌≡◌, ◌≤◌}
 use Rattle.std.specs.Prelude.{sum_by}
-use Rattle.cdb_form.specs.Format.File.{whole_size}
-use Rattle.cdb_make.specs.Views.Appending.{AreFirst, records_at}
 use Rattle.cdb_make.proofs.append.measure.Given as goal
 
 -- the records that fit so far

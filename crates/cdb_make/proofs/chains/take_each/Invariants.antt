@@ -1,5 +1,4 @@
-use Rattle.std.proofs.Common.{◌≡◌, length}
-use Rattle.cdb_make.specs.Marks.{IsTakenFrom}
+use Rattle.cdb_make.proofs.Words.{IsTakenFrom, length, ◌≡◌}
 use Rattle.cdb_make.proofs.chains.take_each.Given as goal
 
 abbrev pub invariant-loop-n : goal.invariant-loop-n

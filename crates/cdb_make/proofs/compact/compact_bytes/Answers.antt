@@ -1,16 +1,6 @@
-use Rattle.std.proofs.Common.{refl, sym, ap, subst, ◌∙◌, arith, ◌≡◌, ◌<◌, ◌+◌, ◌-◌, ℕ, inl, inr, length, get_or, take, true, false}
-use Rattle.std.specs.Prelude.{sum}
-use Rattle.std.proofs.lemmas.Bool.{cases_lt}
-use Rattle.std.proofs.lemmas.List.{get_or_default, get_or_past, length-map}
-use Rattle.std.proofs.lemmas.List.Sums.{sum_by_push}
-use Rattle.std.proofs.lemmas.Result.{on_ok_weaker}
-use Rattle.cdb_store.specs.Images.{AreSized, Copied}
+use Rattle.cdb_make.proofs.Words.{AreSized, Copied, ap, arith, behind, cases_lt, common_steps, false, get_or, get_or_default, get_or_past, gone_of, inl, inr, is_gone, length, length-map, on_ok_weaker, places_in, refl, subst, sum, sum_by_push, sym, take, true, ℕ, ◌+◌, ◌-◌, ◌<◌, ◌∙◌, ◌≡◌}
 use Rattle.cdb_store.proofs.Moves.{kept_within}
-use Rattle.cdb_make.specs.Marks.{is_gone, gone_of}
-use Rattle.cdb_make.specs.Spans.{behind}
-use Rattle.cdb_make.specs.Views.Places.{places_in}
 use Rattle.cdb_make.proofs.Spans.{place_low, place_high, place_next, place_size, long_as, behind_none, behind_live, behind_gone, behind_all, amid_begun, amid_live, amid_more, amid_ended, kept_then}
-use Rattle.std.proofs.lemmas.Grind.{common_steps}
 use Rattle.cdb_make.proofs.compact.compact_bytes.Goals as goal
 
 pub loop-n-init : goal.loop-n-init

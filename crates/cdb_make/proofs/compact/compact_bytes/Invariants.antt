@@ -1,9 +1,4 @@
-use Rattle.std.proofs.Common.{◌≡◌, ℕ, ◌+◌, ◌≤◌, List, get_or, take}
-use Rattle.std.specs.Prelude.{sum}
-use Rattle.cdb_store.specs.Images.{KeepsPart}
-use Rattle.cdb_make.specs.Marks.{gone_of}
-use Rattle.cdb_make.specs.Views.Places.{places_in}
-use Rattle.cdb_make.specs.Spans.{behind, AreOf}
+use Rattle.cdb_make.proofs.Words.{AreOf, KeepsPart, List, behind, get_or, gone_of, places_in, sum, take, ℕ, ◌+◌, ◌≡◌, ◌≤◌}
 use Rattle.cdb_make.proofs.Spans.{Amid}
 use Rattle.cdb_make.proofs.compact.compact_bytes.Given as goal
 

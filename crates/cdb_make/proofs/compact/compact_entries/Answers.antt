@@ -1,10 +1,5 @@
-use Rattle.std.proofs.Common.{refl, sym, ap, ◌∙◌, arith, ◌≡◌, ◌<◌, ◌+◌, ◌∷◌, ◌++◌, [], ℕ, Bool, List, length, get_or, take, true, false, length-set}
-use Rattle.std.proofs.lemmas.List.{get_or_default, length-map, get_or-set_other, take_more_set}
-use Rattle.cdb_make.specs.Marks.{is_gone, gone_of}
-use Rattle.cdb_make.specs.Views.Places.{places_in}
-use Rattle.cdb_make.specs.Spans.{left, places_from, end_from}
+use Rattle.cdb_make.proofs.Words.{Bool, List, [], ap, arith, common_steps, end_from, false, get_or, get_or-set_other, get_or_default, gone_of, is_gone, left, length, length-map, length-set, places_from, places_in, refl, sym, take, take_more_set, true, ℕ, ◌++◌, ◌+◌, ◌<◌, ◌∙◌, ◌∷◌, ◌≡◌}
 use Rattle.cdb_make.proofs.Spans.{place_next, place_size, long_as, left_live, left_gone, left_all, left_none, place_is, places_take, places_more, end_more}
-use Rattle.std.proofs.lemmas.Grind.{common_steps}
 use Rattle.cdb_make.proofs.compact.compact_entries.Goals as goal
 
 pub loop-n-init : goal.loop-n-init

@@ -1,7 +1,5 @@
-use Rattle.std.proofs.Common.{◌≡◌, ℕ, ◌≤◌, List, get_or, take, length}
-use Rattle.cdb_make.specs.Marks.{gone_of}
+use Rattle.cdb_make.proofs.Words.{AreOf, List, get_or, gone_of, left, length, take, ℕ, ◌≡◌, ◌≤◌}
 use Rattle.cdb_make.specs.Views.Places.{places_in, places_room}
-use Rattle.cdb_make.specs.Spans.{left, AreOf}
 use Rattle.cdb_make.proofs.compact.compact_entries.Given as goal
 
 abbrev pub invariant-loop-n : goal.invariant-loop-n

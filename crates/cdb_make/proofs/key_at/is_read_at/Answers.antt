@@ -1,8 +1,5 @@
-use Rattle.std.proofs.Common.{rules, arith, ◌≡◌, ◌∙◌, length, length-append, length-drop}
-use Rattle.cdb_store.specs.Reads.{OnlyReads}
-use Rattle.cdb_store.proofs.Reading.{reads_more}
+use Rattle.cdb_make.proofs.Words.{OnlyReads, arith, common_steps, length, length-append, length-drop, reads_more, rules, ◌∙◌, ◌≡◌}
 use Rattle.cdb_make.proofs.Bytes.Compare.{differs, agrees, agrees_piece, tells_other}
-use Rattle.std.proofs.lemmas.Grind.{common_steps}
 use Rattle.cdb_make.proofs.key_at.is_read_at.Goals as goal
 
 pub returns-then-ne-clause-same : goal.returns-then-ne-clause-same

@@ -1,5 +1,4 @@
-use Rattle.std.proofs.Common.{◌-◌, ◌≡◌, ◌≤◌, length, take}
-use Rattle.cdb_store.specs.Reads.{OnlyReads}
+use Rattle.cdb_make.proofs.Words.{OnlyReads, length, take, ◌-◌, ◌≡◌, ◌≤◌}
 use Rattle.cdb_make.proofs.Bytes.Compare.{AgreesSoFar}
 use Rattle.cdb_make.proofs.key_at.is_read_at.Given as goal
 

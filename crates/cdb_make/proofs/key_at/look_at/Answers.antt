@@ -1,10 +1,7 @@
-use Rattle.std.proofs.Common.{rules, subst, arith, ◌≡◌, ◌+◌, ◌*◌, ◌<◌, ◌≤◌, length, ℕ, true, false}
-use Rattle.cdb_store.specs.Images.{AreSized}
-use Rattle.cdb_make.specs.Looks.{HasLengthsInImages, TellsSameInImages}
+use Rattle.cdb_make.proofs.Words.{AreSized, HasLengthsInImages, TellsSameInImages, arith, common_steps, false, length, rules, subst, true, ℕ, ◌*◌, ◌+◌, ◌<◌, ◌≡◌, ◌≤◌}
 use Rattle.cdb_make.proofs.Bytes.Compare.{reads_fewer}
 use Rattle.cdb_make.proofs.Bytes.Headers.{held_from, fewer_lengths, no_header, no_room, other_length, other_key, same_key}
 use Rattle.cdb_make.proofs.key_at.look_at.Goals.{then-room-header-via-then-room-header, then-room-header-via-else-room-header+then-room-header-2, then-header-key-via-then-header-key, then-header-key-via-else-header-key+in_ok-key_follows+then-not-branch}
-use Rattle.std.proofs.lemmas.Grind.{common_steps}
 use Rattle.cdb_make.proofs.key_at.look_at.Goals as goal
 
 pub returns-then-end-key_place-clause-looks : goal.returns-then-end-key_place-clause-looks

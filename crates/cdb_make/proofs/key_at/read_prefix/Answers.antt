@@ -1,6 +1,4 @@
-use Rattle.std.proofs.Common.{rules, arith, ap, ◌∙◌, ◌≡◌, ◌*◌, ◌≤◌, length, take}
-use Rattle.cdb_form.specs.Format.Reading.{pair_at}
-use Rattle.cdb_form.specs.Views.Pairs.{header_pair}
+use Rattle.cdb_make.proofs.Words.{ap, arith, header_pair, length, pair_at, rules, take, ◌*◌, ◌∙◌, ◌≡◌, ◌≤◌}
 use Rattle.cdb_make.proofs.Bytes.Headers.{has_lengths, held_behind}
 use Rattle.cdb_make.proofs.key_at.read_prefix.Goals as goal
 

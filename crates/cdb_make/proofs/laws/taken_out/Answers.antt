@@ -1,11 +1,7 @@
-use Rattle.std.proofs.Common.{◌≡◌, ◌∙◌, ◌-◌, ℕ, ap, arith}
+use Rattle.cdb_make.proofs.Words.{WordPair, ap, arith, head_size, left, lowered, record_size, ℕ, ◌-◌, ◌∙◌, ◌≡◌}
 use Rattle.std.specs.Prelude.{List, filter, map}
-use Rattle.cdb_form.specs.Format.Pair.{WordPair, head_size}
-use Rattle.cdb_form.specs.Format.Record.{record_size}
 use Rattle.cdb_form.specs.Format.Table.{entries_from, file_entries, table_entries, in_table}
 use Rattle.cdb_form.specs.Views.Pairs.{key_values}
-use Rattle.cdb_make.specs.Laws.{lowered}
-use Rattle.cdb_make.specs.Spans.{left}
 use Rattle.cdb_make.proofs.Lowering.{left_lower}
 use Rattle.cdb_make.proofs.laws.taken_out.Goals as goal
 

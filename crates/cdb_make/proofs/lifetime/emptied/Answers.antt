@@ -1,5 +1,4 @@
-use Rattle.std.proofs.Common.{rules, arith, refl, inl, inr, ◌≤◌, ℕ}
-use Rattle.std.proofs.lemmas.Grind.{common_steps}
+use Rattle.cdb_make.proofs.Words.{arith, common_steps, inl, inr, refl, rules, ℕ, ◌≤◌}
 use Rattle.cdb_store.proofs.Moves.{same_refl, write_between}
 use Rattle.cdb_make.proofs.BegunHeads.{head_begun}
 use Rattle.cdb_make.proofs.lifetime.emptied.Goals as goal

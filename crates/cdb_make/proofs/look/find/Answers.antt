@@ -1,14 +1,7 @@
-use Rattle.std.proofs.Common.{rules, Err, ◌≡◌, ℕ, ◌-◌, ◌<◌, Bool, List, true, false, length, get_or, set, sym, ap, ◌∙◌, arith, inl, inr}
-use Rattle.std.proofs.lemmas.Bool.{cases_eq, cases_lt}
-use Rattle.std.proofs.lemmas.List.{length-map, ext_get_or, get_or-set_same, get_or-set_other}
-use Rattle.cdb_store.proofs.Reading.{reads_more}
+use Rattle.cdb_make.proofs.Words.{Bool, Err, List, ap, arith, cases_eq, cases_lt, common_steps, ext_get_or, false, found_of, fresh, get_or, get_or-set_other, get_or-set_same, gone_of, inl, inr, is_found, is_gone, length, length-map, reads_more, rules, searched, set, sym, true, ℕ, ◌-◌, ◌<◌, ◌∙◌, ◌≡◌}
 use Rattle.cdb_make.specs.declared.key_at.LookFault.TheVariants.{Failed}
-use Rattle.cdb_make.specs.Marks.{gone_of, found_of, is_found, is_gone}
-use Rattle.cdb_make.specs.Rolls.{fresh}
-use Rattle.cdb_make.specs.Views.Roll.{searched}
 use Rattle.cdb_make.proofs.Looking.{sees_long, sees_same, same_back, same_then, length-fresh}
 use Rattle.cdb_make.proofs.Picking.{found_hash, not_fresh}
-use Rattle.std.proofs.lemmas.Grind.{common_steps}
 use Rattle.cdb_make.proofs.look.find.Goals as goal
 
 pub loop-at-init : goal.loop-at-init

@@ -1,10 +1,4 @@
-use Rattle.std.proofs.Common.{◌≡◌, ℕ, ◌-◌, ◌<◌, ◌≤◌, List, length, get_or, false}
-use Rattle.cdb_store.specs.Reads.{OnlyReads}
-use Rattle.cdb_form.specs.Format.Record.{KeyValue}
-use Rattle.cdb_make.specs.Chains.{Has}
-use Rattle.cdb_make.specs.Marks.{gone_of, found_of, HaveHash}
-use Rattle.cdb_make.specs.Rolls.{Sees, fresh, IsFreshRecord}
-use Rattle.cdb_make.specs.Views.Roll.{searched, HasRoom, SameRecords}
+use Rattle.cdb_make.proofs.Words.{Has, HasRoom, HaveHash, IsFreshRecord, KeyValue, List, OnlyReads, SameRecords, Sees, false, found_of, fresh, get_or, gone_of, length, searched, ℕ, ◌-◌, ◌<◌, ◌≡◌, ◌≤◌}
 use Rattle.cdb_make.proofs.look.find.Given as goal
 
 abbrev pub invariant-loop-at : goal.invariant-loop-at

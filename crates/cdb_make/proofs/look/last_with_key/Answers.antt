@@ -1,15 +1,7 @@
-use Rattle.std.proofs.Common.{rules, ◌≡◌, ℕ, ◌+◌, ◌-◌, get_or, Err, refl, sym, ap, subst, ◌∙◌, arith, inl, inr}
-use Rattle.std.proofs.lemmas.Bool.{cases_eq, cases_lt}
-use Rattle.std.proofs.lemmas.List.{length-map, get_or_default}
-use Rattle.cdb_store.proofs.Reading.{reads_more, reads_nothing}
-use Rattle.cdb_make.specs.declared.key_at.LookFault.{LookFault}
+use Rattle.cdb_make.proofs.Words.{Err, LookFault, LooksAtImages, ap, arith, cases_eq, cases_lt, common_steps, get_or, get_or_default, inl, inr, is_gone, length-map, places_in, reads_more, reads_nothing, refl, rules, subst, sym, ℕ, ◌+◌, ◌-◌, ◌∙◌, ◌≡◌}
 use Rattle.cdb_make.specs.declared.key_at.LookFault.TheVariants.{Foreign}
-use Rattle.cdb_make.specs.Looks.{LooksAtImages}
-use Rattle.cdb_make.specs.Marks.{is_gone}
-use Rattle.cdb_make.specs.Views.Places.{places_in}
 use Rattle.cdb_make.proofs.Spans.{spans_of, place_high}
 use Rattle.cdb_make.proofs.Looking.{sees_long, fresh_has, looked_none, looked_some, looked_foreign, has_it, has_it_not}
-use Rattle.std.proofs.lemmas.Grind.{common_steps}
 use Rattle.cdb_make.proofs.look.last_with_key.Goals as goal
 
 pub loop-at-init : goal.loop-at-init

@@ -1,10 +1,4 @@
-use Rattle.std.proofs.Common.{◌≡◌, ℕ, ◌-◌, ◌<◌, ◌≤◌, List}
-use Rattle.cdb_store.specs.Reads.{OnlyReads}
-use Rattle.cdb_form.specs.Format.Record.{KeyValue}
-use Rattle.cdb_make.specs.Chains.{Has}
-use Rattle.cdb_make.specs.Marks.{gone_of}
-use Rattle.cdb_make.specs.Views.Roll.{searched}
-use Rattle.cdb_make.specs.Rolls.{Sees, IsFreshRecord}
+use Rattle.cdb_make.proofs.Words.{Has, IsFreshRecord, KeyValue, List, OnlyReads, Sees, gone_of, searched, ℕ, ◌-◌, ◌<◌, ◌≡◌, ◌≤◌}
 use Rattle.cdb_make.proofs.look.last_with_key.Given as goal
 
 abbrev pub invariant-loop-at : goal.invariant-loop-at

@@ -1,5 +1,4 @@
-use Rattle.std.proofs.Common.{arith}
-use Rattle.std.proofs.lemmas.Grind.{common_steps}
+use Rattle.cdb_make.proofs.Words.{arith, common_steps}
 use Rattle.cdb_make.proofs.move_down.move_down.Goals as goal
 
 pub move_pieces-requires-else-len-3-clause-piece : goal.move_pieces-requires-else-len-3-clause-piece

@@ -1,7 +1,5 @@
-use Rattle.std.proofs.Common.{rules, arith, ◌≡◌, length, refl}
-use Rattle.cdb_store.specs.Images.{AreSized}
+use Rattle.cdb_make.proofs.Words.{AreSized, arith, common_steps, length, refl, rules, ◌≡◌}
 use Rattle.cdb_store.proofs.Moves.{copied_none, copied_more, within_none, within_more}
-use Rattle.std.proofs.lemmas.Grind.{common_steps}
 use Rattle.cdb_make.proofs.move_down.move_pieces.Goals as goal
 
 pub loop-done-init : goal.loop-done-init

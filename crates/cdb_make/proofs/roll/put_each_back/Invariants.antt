@@ -1,5 +1,4 @@
-use Rattle.std.proofs.Common.{◌≡◌, length}
-use Rattle.cdb_make.specs.Marks.{IsPutBackFrom}
+use Rattle.cdb_make.proofs.Words.{IsPutBackFrom, length, ◌≡◌}
 use Rattle.cdb_make.proofs.roll.put_each_back.Given as goal
 
 abbrev pub invariant-loop-n : goal.invariant-loop-n

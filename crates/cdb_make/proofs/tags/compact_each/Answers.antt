@@ -1,7 +1,4 @@
-use Rattle.std.proofs.Common.{refl, sym, ap, ◌∙◌, arith, ◌≡◌, ◌<◌, ◌∷◌, ◌++◌, [], ℕ, Bool, List, length, get_or, take, true, false, length-set}
-use Rattle.std.proofs.lemmas.List.{get_or_default, length-map, get_or-set_other, take_more_set}
-use Rattle.cdb_make.specs.Marks.{is_gone, gone_of}
-use Rattle.cdb_make.specs.Spans.{left}
+use Rattle.cdb_make.proofs.Words.{Bool, List, [], ap, arith, false, get_or, get_or-set_other, get_or_default, gone_of, is_gone, left, length, length-map, length-set, refl, sym, take, take_more_set, true, ℕ, ◌++◌, ◌<◌, ◌∙◌, ◌∷◌, ◌≡◌}
 use Rattle.cdb_make.proofs.Spans.{left_live, left_gone, left_none}
 use Rattle.cdb_make.proofs.tags.compact_each.Goals as goal
 

@@ -1,6 +1,4 @@
-use Rattle.std.proofs.Common.{◌≡◌, ℕ, ◌≤◌, get_or, take, length}
-use Rattle.cdb_make.specs.Marks.{gone_of}
-use Rattle.cdb_make.specs.Spans.{left}
+use Rattle.cdb_make.proofs.Words.{get_or, gone_of, left, length, take, ℕ, ◌≡◌, ◌≤◌}
 use Rattle.cdb_make.proofs.tags.compact_each.Given as goal
 
 abbrev pub invariant-loop-n : goal.invariant-loop-n

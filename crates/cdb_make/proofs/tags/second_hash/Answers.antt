@@ -1,7 +1,6 @@
-use Rattle.std.proofs.Common.{◌≡◌, ◌/◌, ◌*◌, ◌∙◌, ap, arith, drop, fold, length, sym, ℕ, []}
+use Rattle.cdb_make.proofs.Words.{[], ap, arith, drop, fold, length, sym, tag_step, ℕ, ◌*◌, ◌/◌, ◌∙◌, ◌≡◌}
 use Rattle.std.proofs.Math.ListN.{drop_of_length-le}
 use Rattle.cdb_form.proofs.Bytes.HashLemmas.{fold_all}
-use Rattle.cdb_make.specs.Tags.{tag_step}
 use Rattle.cdb_make.proofs.tags.second_hash.Goals as goal
 
 pub returns : goal.returns

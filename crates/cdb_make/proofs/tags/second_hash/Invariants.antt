@@ -1,5 +1,4 @@
-use Rattle.std.proofs.Common.{◌≡◌, drop, fold}
-use Rattle.cdb_make.specs.Tags.{tag_step}
+use Rattle.cdb_make.proofs.Words.{drop, fold, tag_step, ◌≡◌}
 use Rattle.cdb_make.proofs.tags.second_hash.Given as goal
 
 -- the tag so far, and what is left of the eights

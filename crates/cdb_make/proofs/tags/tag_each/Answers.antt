@@ -1,5 +1,4 @@
-use Rattle.std.proofs.Common.{arith}
-use Rattle.std.proofs.lemmas.Grind.{common_steps}
+use Rattle.cdb_make.proofs.Words.{arith, common_steps}
 use Rattle.cdb_make.proofs.tags.tag_each.Goals as goal
 
 pub loop-byte-preserved : goal.loop-byte-preserved

@@ -1,8 +1,4 @@
-use Rattle.std.proofs.Common.{arith, ◌≡◌, ◌++◌, ℕ, List, length, ap, refl, subst, ◌∙◌}
-use Rattle.cdb_store.specs.Images.{AfterWrite}
-use Rattle.cdb_store.proofs.Moves.{torn_wider}
-use Rattle.cdb_form.specs.Format.Record.{KeyValue, record_bytes, record_size}
-use Rattle.cdb_form.proofs.Files.Sizes.{length-record_bytes}
+use Rattle.cdb_make.proofs.Words.{AfterWrite, KeyValue, List, ap, arith, length, length-record_bytes, record_bytes, record_size, refl, subst, torn_wider, ℕ, ◌++◌, ◌∙◌, ◌≡◌}
 use Rattle.cdb_make.proofs.Bytes.Written.{pieces_are, on_ok_of}
 use Rattle.cdb_make.proofs.write.append_record.Goals as goal
 

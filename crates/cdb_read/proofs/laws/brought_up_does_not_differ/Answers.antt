@@ -1,6 +1,5 @@
-use Rattle.cdb_form.specs.Views.Pairs.{key_values}
+use Rattle.cdb_read.proofs.Words.{brought_up, key_values}
 use Rattle.cdb_read.proofs.Differences.{brings_up, same_is_empty}
-use Rattle.cdb_read.specs.Laws.{brought_up}
 use Rattle.cdb_read.proofs.laws.brought_up_does_not_differ.Goals as goal
 
 pub returns : goal.returns

@@ -1,6 +1,4 @@
-use Rattle.std.proofs.Common.{arith}
-use Rattle.cdb_form.specs.Views.Pairs.{key_values}
-use Rattle.cdb_form.proofs.NativeTexts.RecordLemmas.{are_records}
+use Rattle.cdb_read.proofs.Words.{are_records, arith, key_values}
 use Rattle.cdb_read.proofs.WholeFiles.SoundFiles.{IsSound-file_bytes}
 use Rattle.cdb_read.proofs.laws.file_is_sound.Goals as goal
 

@@ -1,10 +1,7 @@
-use Rattle.std.proofs.Common.{◌∙◌, arith}
-use Rattle.cdb_form.specs.Views.Pairs.{key_values}
-use Rattle.cdb_form.proofs.NativeTexts.RecordLemmas.{are_records}
+use Rattle.cdb_read.proofs.Words.{are_records, arith, brought_up, key_values, ◌∙◌}
 use Rattle.cdb_read.proofs.DifferenceBytes.{brought_up_records}
 use Rattle.cdb_read.proofs.Differences.{brings_up}
 use Rattle.cdb_read.proofs.WholeFiles.LookupLaws.{finds_values}
-use Rattle.cdb_read.specs.Laws.{brought_up}
 use Rattle.cdb_read.proofs.laws.lookup_of_brought_up.Goals as goal
 
 pub returns : goal.returns

@@ -1,6 +1,4 @@
-use Rattle.std.proofs.Common.{rules, arith, ◌≡◌, ◌+◌, ◌-◌, ℕ, length, length-append, length-drop, refl}
-use Rattle.std.proofs.lemmas.Result.{err_from_is_err_and}
-use Rattle.cdb_form.proofs.Bytes.WritingLemmas.{writes_prefix}
+use Rattle.cdb_read.proofs.Words.{arith, err_from_is_err_and, length, length-append, length-drop, refl, rules, writes_prefix, ℕ, ◌+◌, ◌-◌, ◌≡◌}
 use Rattle.cdb_read.proofs.Bytes.PieceReads.{reads_more, copied_prefix, copied_piece, copied_more}
 use Rattle.cdb_read.proofs.pieces.copy_span.Goals as goal
 

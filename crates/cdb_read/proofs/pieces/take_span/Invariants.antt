@@ -1,5 +1,4 @@
-use Rattle.std.proofs.Common.{◌-◌, ◌≡◌, ◌≤◌, length}
-use Rattle.cdb_store.specs.Reads.{OnlyReads}
+use Rattle.cdb_read.proofs.Words.{OnlyReads, length, ◌-◌, ◌≡◌, ◌≤◌}
 use Rattle.cdb_read.proofs.Bytes.PieceReads.{HasTaken}
 use Rattle.cdb_read.proofs.pieces.take_span.Given as goal
 

@@ -1,9 +1,4 @@
-use Rattle.std.proofs.Common.{ℕ, List, ap, ◌∙◌, ◌≡◌, ◌+◌, ◌*◌, arith, ◌++◌, sym, subst}
-use Rattle.std.proofs.lemmas.List.{drop-drop}
-use Rattle.cdb_form.specs.Format.Reading.{pair_at}
-use Rattle.cdb_form.specs.Views.Pairs.{pointer_pair, slot_pair}
-use Rattle.cdb_read.specs.Statistics.{slot_of}
-use Rattle.cdb_read.specs.Views.Counting.{Counts}
+use Rattle.cdb_read.proofs.Words.{Counts, List, ap, arith, drop-drop, pair_at, pointer_pair, slot_of, slot_pair, subst, sym, ℕ, ◌*◌, ◌++◌, ◌+◌, ◌∙◌, ◌≡◌}
 use Rattle.cdb_read.proofs.Bytes.PieceReads.{reads_more}
 use Rattle.cdb_read.proofs.Counting.SlotCounts.{all_before, counts_used, counts_empty, some_slots, distances_before}
 use Rattle.cdb_read.proofs.tables.count_table.Goals as goal

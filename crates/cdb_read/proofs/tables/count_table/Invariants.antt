@@ -1,8 +1,4 @@
-use Rattle.std.proofs.Common.{ℕ, List, ◌++◌}
-use Rattle.cdb_form.specs.Views.Pairs.{pointer_pair}
-use Rattle.cdb_read.specs.Views.Counting.{Counts}
-use Rattle.cdb_store.specs.Reads.{OnlyReads}
-use Rattle.cdb_read.specs.Views.Window.{Shows}
+use Rattle.cdb_read.proofs.Words.{Counts, List, OnlyReads, Shows, pointer_pair, ℕ, ◌++◌}
 use Rattle.cdb_read.proofs.Counting.SlotCounts.{distances_before}
 use Rattle.cdb_read.proofs.tables.count_table.Given as goal
 

@@ -1,7 +1,4 @@
-use Rattle.std.proofs.Common.{ap, sym, subst, map, arith}
-use Rattle.cdb_form.specs.Views.Pairs.{pointer_pair}
-use Rattle.cdb_read.specs.Statistics.{distances_of}
-use Rattle.cdb_read.specs.Views.Counting.{Counts}
+use Rattle.cdb_read.proofs.Words.{Counts, ap, arith, distances_of, map, pointer_pair, subst, sym}
 use Rattle.cdb_read.proofs.Bytes.PieceReads.{reads_more}
 use Rattle.cdb_read.proofs.Counting.SlotCounts.{tables_more_at, tables_before, all_tables}
 use Rattle.cdb_read.proofs.Checks.TableChecks.{stands_at}

@@ -1,7 +1,4 @@
-use Rattle.std.proofs.Common.{arith}
-use Rattle.std.proofs.lemmas.Bool.{both_ways, eq-eqb, not_from_true}
-use Rattle.std.proofs.lemmas.List.{length-map}
-use Rattle.cdb_form.specs.Views.Pairs.{pointer_pair}
+use Rattle.cdb_read.proofs.Words.{arith, both_ways, eq-eqb, length-map, not_from_true, pointer_pair}
 use Rattle.cdb_read.proofs.Checks.TableChecks.{stand_more, first_outside_is, none_outside_is}
 use Rattle.cdb_read.proofs.tables.first_outside.Goals as goal
 use Rattle.cdb_read.proofs.tables.first_outside.Goals.{else-table-ne0-via-then-table-ne0+else-not-lies_inside, else-table-ne0-via-else-table-ne0}

@@ -1,5 +1,4 @@
-use Rattle.std.proofs.Common.{map}
-use Rattle.cdb_form.specs.Views.Pairs.{pointer_pair}
+use Rattle.cdb_read.proofs.Words.{map, pointer_pair}
 use Rattle.cdb_read.proofs.Checks.TableChecks.{StandBefore}
 use Rattle.cdb_read.proofs.tables.first_outside.Given as goal
 

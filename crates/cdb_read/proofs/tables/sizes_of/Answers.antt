@@ -1,6 +1,4 @@
-use Rattle.std.proofs.Common.{◌+◌, arith, subst, sym, ap}
-use Rattle.cdb_read.specs.Statistics.{table_sizes}
-use Rattle.cdb_read.specs.Views.Counting.{Spreads}
+use Rattle.cdb_read.proofs.Words.{Spreads, ap, arith, subst, sym, table_sizes, ◌+◌}
 use Rattle.cdb_read.proofs.Counting.SlotCounts.{SizesBefore, sizes_some, sizes_none, all_tables}
 use Rattle.cdb_read.proofs.tables.sizes_of.Goals as goal
 use Rattle.cdb_read.proofs.tables.sizes_of.Goals.{then-slots-ne0, else-slots-ne0}

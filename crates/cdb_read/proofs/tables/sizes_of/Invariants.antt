@@ -1,7 +1,4 @@
-use Rattle.std.proofs.Common.{◌≤◌, map, take}
-use Rattle.cdb_form.specs.Views.Pairs.{pointer_pair}
-use Rattle.cdb_read.specs.Statistics.{table_sizes}
-use Rattle.cdb_read.specs.Views.Counting.{Spreads}
+use Rattle.cdb_read.proofs.Words.{Spreads, map, pointer_pair, table_sizes, take, ◌≤◌}
 use Rattle.cdb_read.proofs.tables.sizes_of.Given as goal
 
 -- the tables so far that have slots

@@ -1,7 +1,4 @@
-use Rattle.std.proofs.Common.{◌≡◌, ℕ, ◌+◌, ◌*◌, length, drop, sym, ap, ◌∙◌}
-use Rattle.cdb_store.specs.Images.{ImagesHold}
-use Rattle.cdb_form.specs.Format.Reading.{pair_at}
-use Rattle.cdb_form.specs.Views.Pairs.{slot_pair}
+use Rattle.cdb_read.proofs.Words.{ImagesHold, ap, drop, length, pair_at, slot_pair, sym, ℕ, ◌*◌, ◌+◌, ◌∙◌, ◌≡◌}
 use Rattle.cdb_read.proofs.Probing.Headers.{pair_read}
 use Rattle.cdb_read.proofs.Bytes.Windows.{holds_shown}
 use Rattle.cdb_read.proofs.tables.slot_at.Goals as goal

@@ -1,5 +1,4 @@
-use Rattle.std.proofs.Common.{◌≡◌, ◌+◌, ◌-◌, ◌≤◌, ap, arith, drop, length, take}
-use Rattle.cdb_show.specs.Lines.{newlines}
+use Rattle.cdb_show.proofs.Words.{ap, arith, drop, length, newlines, take, ◌+◌, ◌-◌, ◌≡◌, ◌≤◌}
 use Rattle.cdb_show.proofs.LineCounts.{newlines_behind}
 use Rattle.cdb_show.proofs.counting.newlines.Goals as goal
 

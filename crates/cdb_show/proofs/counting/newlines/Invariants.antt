@@ -1,5 +1,4 @@
-use Rattle.std.proofs.Common.{◌≡◌, ◌≤◌, ◌-◌, length, take}
-use Rattle.cdb_show.specs.Lines.{newlines}
+use Rattle.cdb_show.proofs.Words.{length, newlines, take, ◌-◌, ◌≡◌, ◌≤◌}
 use Rattle.cdb_show.proofs.counting.newlines.Given as goal
 
 -- those of the bytes so far were counted

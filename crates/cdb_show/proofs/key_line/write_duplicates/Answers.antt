@@ -1,6 +1,5 @@
 use Rattle.std.proofs.Common.{ap, map, refl, string_bytes}
-use Rattle.std.proofs.lemmas.Result.{err_from_is_err_and}
-use Rattle.cdb_form.proofs.Bytes.WritingLemmas.{prefix_in, same_writes, writes_last, writes_prefix}
+use Rattle.cdb_show.proofs.Words.{err_from_is_err_and, prefix_in, same_writes, writes_last, writes_prefix}
 use Rattle.cdb_show.specs.Message.{duplicate_line, input_at, key_line}
 use Rattle.cdb_show.proofs.key_line.write_duplicates.Goals as goal
 

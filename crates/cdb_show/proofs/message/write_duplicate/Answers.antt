@@ -1,7 +1,5 @@
-use Rattle.std.proofs.Common.{◌≡◌, ◌∙◌, ◌++◌, [], List, ℕ, sym, ap, append_assoc}
+use Rattle.cdb_show.proofs.Words.{List, [], ap, append_assoc, duplicate_line, numbered, same_writes, sym, ℕ, ◌++◌, ◌∙◌, ◌≡◌}
 use Rattle.std.specs.Prelude.{codes, decimal}
-use Rattle.cdb_form.proofs.Bytes.WritingLemmas.{same_writes}
-use Rattle.cdb_show.specs.Message.{duplicate_line, numbered}
 use Rattle.cdb_show.proofs.message.write_duplicate.Goals as goal
 
 -- the line, in the pieces that are written

@@ -1,5 +1,4 @@
-use Rattle.std.proofs.lemmas.Grind.{common_steps}
-use Rattle.std.proofs.Common.{arith}
+use Rattle.cdb_show.proofs.Words.{arith, common_steps}
 use Rattle.cdb_show.proofs.message.write_numbered.Goals as goal
 
 pub returns-clause-writes : goal.returns-clause-writes

@@ -1,8 +1,4 @@
-use Rattle.std.proofs.lemmas.Grind.{common_steps}
-use Rattle.std.proofs.Common.{arith, refl, codes}
-use Rattle.std.proofs.lemmas.Result.{err_from_is_err_and}
-use Rattle.cdb_form.proofs.Bytes.WritingLemmas.{prefix_in, writes_prefix, writes_last}
-use Rattle.cdb_show.specs.Message.{numbered}
+use Rattle.cdb_show.proofs.Words.{arith, codes, common_steps, err_from_is_err_and, numbered, prefix_in, refl, writes_last, writes_prefix}
 use Rattle.cdb_show.proofs.message.write_place.Goals as goal
 
 pub returns-in_err-write_numbered-in-Byte-clause-writes : goal.returns-in_err-write_numbered-in-Byte-clause-writes

@@ -1,11 +1,6 @@
-use Rattle.std.proofs.lemmas.Grind.{common_steps}
-use Rattle.std.proofs.Common.{arith, ◌≡◌, ◌∙◌, sym, ◌++◌, ap, append_assoc}
-use Rattle.std.proofs.lemmas.List.{append-nil}
-use Rattle.std.proofs.lemmas.Result.{err_from_is_err_and}
+use Rattle.cdb_show.proofs.Words.{Fault, ap, append-nil, append_assoc, appends_then, arith, common_steps, err_from_is_err_and, prefix_in, prefix_then, same_appends, same_prefix, same_writes, sym, writes_last, writes_prefix, ◌++◌, ◌∙◌, ◌≡◌}
 use Rattle.std.specs.Prelude.{codes}
-use Rattle.cdb_form.proofs.Bytes.WritingLemmas.{appends_then, prefix_then, prefix_in, same_prefix, same_appends, same_writes, writes_prefix, writes_last}
 use Rattle.cdb_show.specs.Message.{said_place, fault_place, fault_message, fault_side, said_line}
-use Rattle.cdb_show.specs.declared.fault.Fault.{Fault}
 use Rattle.cdb_show.proofs.message.write_said.Goals as goal
 
 in_three : (f : Fault) → said_line f ≡ (codes "cdb: " ++ fault_side f) ++ (said_place (fault_place f) ++ (fault_message f ++ codes "\n"))

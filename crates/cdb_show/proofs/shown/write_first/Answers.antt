@@ -1,8 +1,5 @@
-use Rattle.std.proofs.Common.{◌∙◌, ◌++◌, arith, ap, drop, sym}
-use Rattle.std.proofs.lemmas.Result.{err_from_is_err_and}
-use Rattle.cdb_command.specs.Shown.{shown}
+use Rattle.cdb_show.proofs.Words.{ap, arith, drop, err_from_is_err_and, prefix_in, shown, sym, ◌++◌, ◌∙◌}
 use Rattle.cdb_command.proofs.ShownText.{shown_byte, shown_character}
-use Rattle.cdb_form.proofs.Bytes.WritingLemmas.{prefix_in}
 use Rattle.cdb_show.proofs.shown.write_first.Goals as goal
 
 pub returns-in_err-write_whole-in-0-clause-err : goal.returns-in_err-write_whole-in-0-clause-err

@@ -1,6 +1,4 @@
-use Rattle.std.proofs.Common.{◌∙◌, ◌++◌, sym, flat_map, codes, append_assoc}
-use Rattle.std.proofs.lemmas.Result.{err_from_is_err_and}
-use Rattle.cdb_form.proofs.Bytes.WritingLemmas.{appends_then, prefix_in, prefix_then, writes_last, writes_prefix}
+use Rattle.cdb_show.proofs.Words.{append_assoc, appends_then, codes, err_from_is_err_and, flat_map, prefix_in, prefix_then, sym, writes_last, writes_prefix, ◌++◌, ◌∙◌}
 use Rattle.cdb_show.proofs.ShownParts.{line_of, shown_part}
 use Rattle.cdb_show.proofs.shown.write_line.Goals as goal
 

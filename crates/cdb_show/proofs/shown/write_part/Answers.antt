@@ -1,7 +1,4 @@
-use Rattle.std.proofs.Common.{refl}
-use Rattle.std.proofs.lemmas.Result.{err_from_is_err_and}
-use Rattle.cdb_form.proofs.Bytes.WritingLemmas.{prefix_in, writes_last, writes_prefix}
-use Rattle.cdb_command.specs.Shown.{shown}
+use Rattle.cdb_show.proofs.Words.{err_from_is_err_and, prefix_in, refl, shown, writes_last, writes_prefix}
 use Rattle.cdb_show.proofs.shown.write_part.Goals as goal
 
 pub returns-in_err-write_whole-clause-writes : goal.returns-in_err-write_whole-clause-writes

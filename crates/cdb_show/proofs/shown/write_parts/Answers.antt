@@ -1,8 +1,5 @@
-use Rattle.std.proofs.lemmas.Grind.{common_steps}
-use Rattle.std.proofs.Common.{◌++◌, arith}
-use Rattle.std.proofs.lemmas.Result.{err_from_is_err_and}
+use Rattle.cdb_show.proofs.Words.{arith, common_steps, err_from_is_err_and, shown, ◌++◌}
 use Rattle.cdb_form.proofs.Bytes.WritingLemmas.{prefix_then, flat_map_at, writes_prefix}
-use Rattle.cdb_command.specs.Shown.{shown}
 use Rattle.cdb_show.proofs.shown.write_parts.Goals as goal
 
 pub returns-in_err-write_part-clause-writes : goal.returns-in_err-write_part-clause-writes

@@ -1,6 +1,4 @@
-use Rattle.std.proofs.Common.{◌++◌, take, flat_map}
-use Rattle.std.specs.Io.KnownBytes.{Appends}
-use Rattle.cdb_command.specs.Shown.{shown}
+use Rattle.cdb_show.proofs.Words.{Appends, flat_map, shown, take, ◌++◌}
 use Rattle.cdb_show.proofs.shown.write_parts.Given as goal
 
 -- the parts so far were written

@@ -1,9 +1,5 @@
-use Rattle.std.proofs.Common.{◌∙◌, ◌++◌, ap, append_assoc, arith, drop, refl, sym}
-use Rattle.std.proofs.lemmas.List.{drop-drop}
-use Rattle.std.proofs.lemmas.Result.{err_from_is_err_and}
-use Rattle.cdb_command.specs.Shown.{shown}
+use Rattle.cdb_show.proofs.Words.{ap, append_assoc, appends_then, arith, drop, drop-drop, err_from_is_err_and, prefix_last, refl, same_prefix, shown, sym, writes_prefix, ◌++◌, ◌∙◌}
 use Rattle.cdb_form.proofs.Bytes.HeadLemmas.{rest_of}
-use Rattle.cdb_form.proofs.Bytes.WritingLemmas.{appends_then, prefix_last, same_prefix, writes_prefix}
 use Rattle.cdb_show.proofs.shown.write_shown.Goals as goal
 
 pub returns-in_err-done-clause-writes : goal.returns-in_err-done-clause-writes

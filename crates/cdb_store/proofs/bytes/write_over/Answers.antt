@@ -1,5 +1,4 @@
-use Rattle.std.proofs.Common.{arith}
-use Rattle.std.proofs.lemmas.Grind.{common_steps}
+use Rattle.cdb_store.proofs.Words.{arith, common_steps}
 use Rattle.cdb_store.proofs.bytes.write_over.Goals as goal
 
 pub returns-else-inside-gt0-clause-ok : goal.returns-else-inside-gt0-clause-ok

@@ -1,5 +1,4 @@
-use Rattle.std.proofs.Common.{refl}
-use Rattle.cdb_store.specs.Images.{AreSized}
+use Rattle.cdb_store.proofs.Words.{AreSized, refl}
 use Rattle.cdb_store.proofs.Moves.{copied_join}
 use Rattle.cdb_store.proofs.laws.moved_pieces_are_one.Goals as goal
 

@@ -1,5 +1,4 @@
-use Rattle.std.proofs.Common.{refl}
-use Rattle.cdb_store.specs.Images.{AreSized}
+use Rattle.cdb_store.proofs.Words.{AreSized, refl}
 use Rattle.cdb_store.proofs.Moves.{held_first, held_join}
 use Rattle.cdb_store.proofs.laws.written_bytes_are_held.Goals as goal
 

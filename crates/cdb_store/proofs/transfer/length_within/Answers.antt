@@ -1,5 +1,4 @@
-use Rattle.std.proofs.lemmas.Grind.{common_steps}
-use Rattle.std.proofs.Common.{arith}
+use Rattle.cdb_store.proofs.Words.{arith, common_steps}
 use Rattle.cdb_store.proofs.transfer.length_within.Goals as goal
 
 pub returns-clause-lost : goal.returns-clause-lost

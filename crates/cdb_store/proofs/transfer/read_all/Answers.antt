@@ -1,6 +1,4 @@
-use Rattle.std.proofs.Common.{arith, ◌≡◌, ◌≤◌, ◌<◌, ◌-◌, ℕ, length, take, ◌∙◌}
-use Rattle.std.proofs.lemmas.List.{take_all, length-take-le}
-use Rattle.cdb_store.specs.Calls.{failure_count}
+use Rattle.cdb_store.proofs.Words.{arith, failure_count, length, length-take-le, take, take_all, ℕ, ◌-◌, ◌<◌, ◌∙◌, ◌≡◌, ◌≤◌}
 use Rattle.cdb_store.proofs.RawCalls.{came_none, came_more, read_untouched, read_fine, vain_untouched, vain_failed, untouched_refl, untouched_trans}
 use Rattle.cdb_store.proofs.Puts.{take_piece_put}
 use Rattle.cdb_store.proofs.Answered.{held_on_err}

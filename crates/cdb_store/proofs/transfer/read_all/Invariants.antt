@@ -1,5 +1,4 @@
-use Rattle.std.proofs.Common.{◌≡◌, ◌≤◌, ◌-◌, length, take}
-use Rattle.cdb_store.specs.Calls.{Came, Untouched, failure_count}
+use Rattle.cdb_store.proofs.Words.{Came, Untouched, failure_count, length, take, ◌-◌, ◌≡◌, ◌≤◌}
 use Rattle.cdb_store.proofs.transfer.read_all.Given as goal
 
 abbrev pub invariant-loop-done : goal.invariant-loop-done

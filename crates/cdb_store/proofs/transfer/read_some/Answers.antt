@@ -1,7 +1,5 @@
-use Rattle.std.proofs.lemmas.Grind.{common_steps}
-use Rattle.std.proofs.Common.{◌∷◌, [], inl, inr, ap, ◌∙◌, arith, rules}
+use Rattle.cdb_store.proofs.Words.{[], ap, arith, common_steps, ended, inl, inr, lost, rules, ◌∙◌, ◌∷◌}
 use Rattle.cdb_store.specs.declared.trace.Call.TheVariants.{Failed, Refused}
-use Rattle.cdb_store.specs.Calls.{lost, ended}
 use Rattle.cdb_store.proofs.RawCalls.{interrupted_none, interrupted_more, interrupted_all, lost_interrupted, asked_after}
 use Rattle.cdb_store.proofs.transfer.read_some.Goals as goal
 

@@ -1,5 +1,4 @@
-use Rattle.std.proofs.Common.{◌≡◌}
-use Rattle.cdb_store.specs.Calls.{interrupted}
+use Rattle.cdb_store.proofs.Words.{interrupted, ◌≡◌}
 use Rattle.cdb_store.proofs.transfer.read_some.Given as goal
 
 abbrev pub invariant-loop-turn : goal.invariant-loop-turn

@@ -1,8 +1,5 @@
-use Rattle.std.proofs.lemmas.Grind.{common_steps}
-use Rattle.std.proofs.Common.{arith, ◌≡◌, ◌≤◌, ◌<◌, ◌-◌, ℕ, List, length, take, ◌∙◌, length-take}
-use Rattle.std.proofs.lemmas.List.{take_all, length-take-le}
+use Rattle.cdb_store.proofs.Words.{List, arith, common_steps, failure_count, length, length-take, length-take-le, take, take_all, ℕ, ◌-◌, ◌<◌, ◌∙◌, ◌≡◌, ◌≤◌}
 use borrow.Rule.Slice.PartMut.{mid_of}
-use Rattle.cdb_store.specs.Calls.{failure_count}
 use Rattle.cdb_store.proofs.Puts.{put_none, put_asked, put_more, torn_vain, torn_behind_put, written_asked, written_vain, take_piece_of}
 use Rattle.cdb_store.proofs.Answered.{held_on_err}
 use Rattle.cdb_store.proofs.transfer.write_all.Goals as goal

@@ -1,6 +1,5 @@
-use Rattle.std.proofs.Common.{length, ◌∷◌, [], inl, inr, ap, ◌∙◌, arith}
+use Rattle.cdb_store.proofs.Words.{[], ap, arith, ended, inl, inr, length, lost, ◌∙◌, ◌∷◌}
 use Rattle.cdb_store.specs.declared.trace.Call.TheVariants.{NotWritten}
-use Rattle.cdb_store.specs.Calls.{lost, ended}
 use Rattle.cdb_store.proofs.RawCalls.{interrupted_none, interrupted_more, interrupted_all, lost_interrupted, asked_after}
 use Rattle.cdb_store.proofs.transfer.write_some.Goals as goal
 

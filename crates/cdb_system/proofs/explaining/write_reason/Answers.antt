@@ -1,7 +1,5 @@
 use Rattle.std.proofs.Common.{◌∙◌, ◌++◌, ◌∷◌, [], ap, sym, unwrap_or}
-use Rattle.cdb_command.specs.Refused.{parts_line}
-use Rattle.cdb_form.proofs.Bytes.WritingLemmas.{same_writes}
-use Rattle.cdb_command.specs.Shown.{shown}
+use Rattle.cdb_system.proofs.Words.{parts_line, same_writes, shown}
 use Rattle.cdb_system.specs.CauseLine.{name_ending, reason_name, said_of}
 use Rattle.cdb_system.proofs.Said.{cause_parts, named_so}
 use Rattle.cdb_system.proofs.explaining.write_reason.Goals as goal

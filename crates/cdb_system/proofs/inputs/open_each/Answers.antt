@@ -1,7 +1,4 @@
-use Rattle.std.proofs.Common.{arith, ℕ, ◌+◌, ◌++◌, ◌∷◌, [], map, string_bytes, subst, sym, take}
-use Rattle.std.proofs.lemmas.Result.{err_from_is_err_and}
-use Rattle.cdb_feed.specs.Inputs.{AreUnread}
-use Rattle.cdb_system.specs.Inputs.{OpensEach}
+use Rattle.cdb_system.proofs.Words.{AreUnread, OpensEach, [], arith, err_from_is_err_and, map, string_bytes, subst, sym, take, ℕ, ◌++◌, ◌+◌, ◌∷◌}
 use Rattle.cdb_system.proofs.Opens.{opens_more, unread_more, names_more, stops_missed, stops_after}
 use Rattle.cdb_system.proofs.inputs.open_each.Goals as goal
 

@@ -1,6 +1,4 @@
-use Rattle.std.proofs.Common.{map, string_bytes, take}
-use Rattle.cdb_feed.specs.Inputs.{AreUnread}
-use Rattle.cdb_system.specs.Inputs.{OpensEach}
+use Rattle.cdb_system.proofs.Words.{AreUnread, OpensEach, map, string_bytes, take}
 use Rattle.cdb_system.proofs.inputs.open_each.Given as goal
 
 -- the inputs so far were opened

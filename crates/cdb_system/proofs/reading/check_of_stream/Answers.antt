@@ -1,6 +1,5 @@
-use Rattle.std.proofs.Common.{IfOk, inr, subst}
+use Rattle.cdb_system.proofs.Words.{IfOk, IsWhole, inr, subst}
 use Rattle.std.proofs.KnownBytes.{Keeps-refl}
-use Rattle.cdb_system.specs.Reading.{IsWhole}
 use Rattle.cdb_system.proofs.reading.check_of_stream.Goals as goal
 
 pub returns-in-Ok-clause-takes : goal.returns-in-Ok-clause-takes

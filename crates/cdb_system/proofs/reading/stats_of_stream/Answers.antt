@@ -1,5 +1,4 @@
-use Rattle.std.proofs.Common.{IfOk, inr, subst}
-use Rattle.cdb_system.specs.Reading.{IsWhole}
+use Rattle.cdb_system.proofs.Words.{IfOk, IsWhole, inr, subst}
 use Rattle.cdb_system.proofs.reading.stats_of_stream.Goals as goal
 
 pub returns-in-Ok-clause-takes : goal.returns-in-Ok-clause-takes

@@ -1,5 +1,4 @@
-use Rattle.std.proofs.Common.{◌∙◌, ◌++◌, ap, codes}
-use Rattle.cdb_form.proofs.Bytes.WritingLemmas.{same_writes}
+use Rattle.cdb_system.proofs.Words.{ap, codes, same_writes, ◌++◌, ◌∙◌}
 use Rattle.cdb_system.proofs.telling.refuse_unbuffered.Goals as goal
 
 pub returns-clause-line : goal.returns-clause-line

@@ -1,6 +1,4 @@
-use Rattle.std.proofs.Common.{◌≡◌, ◌∙◌, ◌++◌, ℕ, Bool, true, false, List, [], ap, sym, refl, codes}
-use Rattle.std.proofs.lemmas.List.{append-nil}
-use Rattle.std.proofs.lemmas.Result.{err_from_is_err_and}
+use Rattle.cdb_system.proofs.Words.{Bool, List, [], ap, append-nil, codes, err_from_is_err_and, false, refl, sym, true, ℕ, ◌++◌, ◌∙◌, ◌≡◌}
 use Rattle.cdb_command.specs.Refused.{Refused, refused_in, refused_line, usage_of}
 use Rattle.cdb_command.specs.Usage.{usage_message}
 use Rattle.cdb_form.proofs.Bytes.WritingLemmas.{prefix_in, prefix_last, same_appends, same_prefix, writes_prefix}

@@ -1,7 +1,5 @@
-use Rattle.std.proofs.Common.{refl}
-use Rattle.std.proofs.lemmas.Result.{err_from_is_err_and}
+use Rattle.cdb_system.proofs.Words.{err_from_is_err_and, fault_line, refl}
 use Rattle.cdb_form.proofs.Bytes.WritingLemmas.{prefix_in, writes_last, writes_prefix}
-use Rattle.cdb_show.specs.Message.{fault_line}
 use Rattle.cdb_system.specs.CauseLine.{more_of}
 use Rattle.cdb_system.proofs.telling.write_told.Goals as goal
 

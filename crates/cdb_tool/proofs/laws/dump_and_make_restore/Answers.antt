@@ -1,5 +1,4 @@
-use Rattle.std.proofs.Common.{arith}
-use Rattle.cdb_form.specs.Views.Pairs.{key_values}
+use Rattle.cdb_tool.proofs.Words.{arith, key_values}
 use Rattle.cdb_form.proofs.NativeTexts.RecordLemmas.{are_records}
 use Rattle.cdb_tool.proofs.RestoreLaws.{restores}
 use Rattle.cdb_tool.proofs.laws.dump_and_make_restore.Goals as goal

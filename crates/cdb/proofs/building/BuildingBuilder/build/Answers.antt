@@ -1,14 +1,9 @@
-use Rattle.std.proofs.Common.{ap, arith, inl, inr, refl, take, ◌∙◌, ◌≡◌, ◌<◌}
-use Rattle.std.proofs.KnownBytes.{Keeps-refl}
+use Rattle.cdb.proofs.Words.{IsDatabase, Keeps-refl, ap, arith, inl, inputs_of, inr, making_of, refl, same_places, take, ◌<◌, ◌∙◌, ◌≡◌}
 use Rattle.std.proofs.lemmas.Result.{IfErr-weaker, on_ok_weaker}
 use Rattle.cdb_store.specs.BufferedStore.{bytes_of}
 use Rattle.cdb_store.specs.Images.{overwrite}
 use Rattle.cdb_store.proofs.OverLemmas.{over_emptied}
 use Rattle.cdb_names.specs.Unsynced.{inner_of}
-use Rattle.cdb_show.proofs.PlacedReaders.{same_places}
-use Rattle.cdb.specs.Agreeing.{inputs_of}
-use Rattle.cdb.specs.Contents.{making_of}
-use Rattle.cdb.specs.Creating.{IsDatabase}
 use Rattle.cdb.proofs.Agreeing.{built_of_all}
 use Rattle.cdb.proofs.Databases.{database_made, run_under}
 use Rattle.cdb.proofs.building.BuildingBuilder.build.Goals as goal

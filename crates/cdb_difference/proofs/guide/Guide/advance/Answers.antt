@@ -1,5 +1,4 @@
-use Rattle.std.proofs.lemmas.Grind.{common_steps}
-use Rattle.std.proofs.Common.{arith}
+use Rattle.cdb_difference.proofs.Words.{arith, common_steps}
 use Rattle.cdb_difference.proofs.guide.Guide.advance.Goals as goal
 
 pub is_same_span-requires-then-same_key-clause-inside : goal.is_same_span-requires-then-same_key-clause-inside

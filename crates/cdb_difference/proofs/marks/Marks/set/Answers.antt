@@ -1,5 +1,4 @@
-use Rattle.std.proofs.Common.{ap, ◌∙◌, subst, sym}
-use Rattle.cdb_difference.specs.Views.Marks.{Grows, KeepsOthers, mark_at}
+use Rattle.cdb_difference.proofs.Words.{Grows, KeepsOthers, ap, mark_at, subst, sym, ◌∙◌}
 use Rattle.cdb_difference.proofs.MarkBits.{mark_grown, mark_kept, mark_set, with_word}
 use Rattle.cdb_difference.proofs.marks.Marks.set.Goals as goal
 

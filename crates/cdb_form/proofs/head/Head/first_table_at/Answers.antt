@@ -1,5 +1,4 @@
-use Rattle.std.proofs.Common.{◌≡◌, ℕ, length, arith, ap, ◌∙◌, sym}
-use Rattle.std.specs.Prelude.{unwrap_or}
+use Rattle.cdb_form.proofs.Words.{ap, arith, length, sym, unwrap_or, ℕ, ◌∙◌, ◌≡◌}
 use Rattle.cdb_form.proofs.Files.TableLemmas.{first_used}
 use Rattle.cdb_form.proofs.head.Head.first_table_at.Goals as goal
 

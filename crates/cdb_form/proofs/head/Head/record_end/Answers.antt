@@ -1,7 +1,4 @@
-use Rattle.std.proofs.Common.{ℕ, ap, ◌∙◌, map}
-use Rattle.std.specs.Prelude.{unwrap_or}
-use Rattle.cdb_form.specs.Format.Walk.{least_place}
-use Rattle.cdb_form.specs.Views.Pairs.{pointer_pair}
+use Rattle.cdb_form.proofs.Words.{ap, least_place, map, pointer_pair, unwrap_or, ℕ, ◌∙◌}
 use Rattle.cdb_form.proofs.Files.TableLemmas.{least_used}
 use Rattle.cdb_form.proofs.head.Head.record_end.Goals as goal
 

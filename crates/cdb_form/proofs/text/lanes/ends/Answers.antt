@@ -1,7 +1,4 @@
-use Rattle.std.proofs.Common.{ap, arith, eqb, leb, map, not, sym, w8, ◌∙◌}
-use Rattle.std.specs.Simd.Lanes.{mask_l}
-use Rattle.std.proofs.lemmas.Simd.{bitmask_splat}
-use Rattle.cdb_form.specs.Views.PrefixLine.{may_end}
+use Rattle.cdb_form.proofs.Words.{ap, arith, bitmask_splat, eqb, leb, map, mask_l, may_end, not, sym, w8, ◌∙◌}
 use Rattle.cdb_form.proofs.text.lanes.ends.Goals as goal
 
 pub returns-in-Blank : goal.returns-in-Blank

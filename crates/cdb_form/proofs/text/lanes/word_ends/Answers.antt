@@ -1,5 +1,4 @@
-use Rattle.std.proofs.Common.{arith, leb, w8}
-use Rattle.std.proofs.lemmas.Simd.{bitmask_splat}
+use Rattle.cdb_form.proofs.Words.{arith, bitmask_splat, leb, w8}
 use Rattle.cdb_form.proofs.text.lanes.word_ends.Goals as goal
 
 pub returns : goal.returns

@@ -1,5 +1,4 @@
-use Rattle.std.proofs.Common.{arith}
-use Rattle.std.proofs.lemmas.Bool.{eqb-true}
+use Rattle.cdb_form.proofs.Words.{arith, eqb-true}
 use Rattle.cdb_form.proofs.NativeTexts.PrefixLemmas.{body_prefix}
 use Rattle.cdb_form.proofs.text.prefix.has_body.Goals as goal
 

@@ -1,6 +1,4 @@
-use Rattle.std.proofs.lemmas.Grind.{common_steps}
-use Rattle.std.proofs.Common.{get_or, subst, sym, arith, refl, ◌*◌, ◌+◌, ◌<◌, ◌≡◌, ℕ, rules}
-use Rattle.std.specs.Char.{digit_value}
+use Rattle.cdb_form.proofs.Words.{arith, common_steps, digit_value, get_or, refl, rules, subst, sym, ℕ, ◌*◌, ◌+◌, ◌<◌, ◌≡◌}
 use Rattle.std.proofs.lemmas.Str.{digit_value_digit}
 use Rattle.cdb_form.proofs.NativeTexts.PrefixLemmas.{PrefixDigits, prefix_digit}
 use Rattle.cdb_form.proofs.text.prefix.numeral.Goals as goal

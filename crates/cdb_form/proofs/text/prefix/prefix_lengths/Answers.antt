@@ -1,6 +1,4 @@
-use Rattle.std.proofs.lemmas.Grind.{common_steps}
-use Rattle.std.proofs.Common.{arith, ◌+◌, length, refl, subst}
-use Rattle.cdb_form.specs.Views.Prefix.{BeginsWithNumeral}
+use Rattle.cdb_form.proofs.Words.{BeginsWithNumeral, arith, common_steps, length, refl, subst, ◌+◌}
 use Rattle.cdb_form.proofs.NativeTexts.PrefixLemmas.{lengths_prefix}
 use Rattle.cdb_form.proofs.Bytes.HeadLemmas.{rest_of}
 use Rattle.cdb_form.proofs.text.prefix.prefix_lengths.Goals as goal

@@ -1,5 +1,4 @@
-use Rattle.std.proofs.Common.{ℕ, ◌≡◌, ◌+◌, ◌-◌, ap, arith, drop, length, refl, subst, take, ◌∙◌}
-use Rattle.cdb_form.specs.Views.Prefix.{BeginsWithBody}
+use Rattle.cdb_form.proofs.Words.{BeginsWithBody, ap, arith, drop, length, refl, subst, take, ℕ, ◌+◌, ◌-◌, ◌∙◌, ◌≡◌}
 use Rattle.cdb_form.proofs.Bytes.ByteLemmas.{AreBytes-take}
 use Rattle.cdb_form.proofs.NativeTexts.PrefixLemmas.{record_prefix}
 use Rattle.cdb_form.proofs.Bytes.HeadLemmas.{rest_of}

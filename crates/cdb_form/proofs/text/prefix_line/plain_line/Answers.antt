@@ -1,6 +1,4 @@
-use Rattle.std.proofs.Common.{ap, arith, drop, false, get_or, length, length-drop, refl, sym, take, ◌+◌, ◌∙◌, ◌≡◌, ◌≢◌, ◌≤◌, ℕ}
-use Rattle.std.proofs.lemmas.List.{get_or-drop}
-use Rattle.cdb_form.specs.Text.Map.{is_blank}
+use Rattle.cdb_form.proofs.Words.{ap, arith, drop, false, get_or, get_or-drop, is_blank, length, length-drop, refl, sym, take, ℕ, ◌+◌, ◌∙◌, ◌≡◌, ◌≢◌, ◌≤◌}
 use Rattle.cdb_form.proofs.Bytes.HeadLemmas.{rest_of}
 use Rattle.cdb_form.proofs.MapTexts.LinePrefix.{PlainKey, after_blanks, newline_behind, plain_prefix, some_word}
 use Rattle.cdb_form.proofs.text.prefix_line.plain_line.Goals as goal

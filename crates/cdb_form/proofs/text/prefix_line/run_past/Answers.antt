@@ -1,6 +1,4 @@
-use Rattle.std.proofs.Common.{arith, sym}
-use Rattle.std.proofs.lemmas.List.Sums.{prefix_len_is}
-use Rattle.cdb_form.specs.Views.MapParser.{is_of}
+use Rattle.cdb_form.proofs.Words.{arith, is_of, prefix_len_is, sym}
 use Rattle.cdb_form.proofs.text.prefix_line.run_past.Goals as goal
 
 pub returns-else-has-clause-is : goal.returns-else-has-clause-is

@@ -1,5 +1,4 @@
-use Rattle.std.proofs.Common.{get_or, length, true, ◌-◌, ◌<◌, ◌≡◌, ◌≤◌, ℕ}
-use Rattle.cdb_form.specs.Views.MapParser.{is_of}
+use Rattle.cdb_form.proofs.Words.{get_or, is_of, length, true, ℕ, ◌-◌, ◌<◌, ◌≡◌, ◌≤◌}
 use Rattle.cdb_form.proofs.text.prefix_line.run_past.Given as goal
 
 -- the bytes so far are of the kind

@@ -1,8 +1,4 @@
-use Rattle.std.proofs.lemmas.Grind.{common_steps}
-use Rattle.std.proofs.Common.{arith, drop, length, refl, ◌≡◌, ◌≢◌, ◌≤◌}
-use Rattle.std.specs.List.{prefix_len}
-use Rattle.cdb_form.specs.Text.Map.{is_blank}
-use Rattle.cdb_form.specs.Views.MapParser.{is_of}
+use Rattle.cdb_form.proofs.Words.{arith, common_steps, drop, is_blank, is_of, length, prefix_len, refl, ◌≡◌, ◌≢◌, ◌≤◌}
 use Rattle.cdb_form.specs.declared.text.kind.Kind.TheVariants.{InLine, InWord}
 use Rattle.cdb_form.proofs.Bytes.HeadLemmas.{rest_of}
 use Rattle.cdb_form.proofs.MapTexts.LinePrefix.{first_newline, line_prefix}

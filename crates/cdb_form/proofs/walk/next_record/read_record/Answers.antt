@@ -1,7 +1,4 @@
-use Rattle.std.proofs.lemmas.Grind.{common_steps}
-use Rattle.std.proofs.Common.{◌≡◌, ◌+◌, ◌<◌, ◌≤◌, ◌++◌, arith, ◌∙◌, sym, inl, inr, rules}
-use Rattle.std.proofs.lemmas.Result.{err_from_is_err_and}
-use Rattle.cdb_form.specs.Format.Record.{record_size}
+use Rattle.cdb_form.proofs.Words.{arith, common_steps, err_from_is_err_and, inl, inr, record_size, rules, sym, ◌++◌, ◌+◌, ◌<◌, ◌∙◌, ◌≡◌, ◌≤◌}
 use Rattle.cdb_form.proofs.Fed.FeedLemmas.{consumes_then}
 use Rattle.cdb_form.proofs.Bytes.ReadBack.{same_words}
 use Rattle.cdb_form.proofs.RecordReading.RecordReads.{prefix_told, no_room, header_early, body_no_room, body_early, record_read, record_cut, loses_then, none_no_room, none_header, none_body_no_room, none_body}

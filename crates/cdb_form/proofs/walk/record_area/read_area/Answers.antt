@@ -1,6 +1,4 @@
-use Rattle.std.proofs.lemmas.Grind.{common_steps}
-use Rattle.std.proofs.Common.{arith}
-use Rattle.std.proofs.lemmas.Result.{err_from_is_err_and}
+use Rattle.cdb_form.proofs.Words.{arith, common_steps, err_from_is_err_and}
 use Rattle.cdb_form.proofs.RecordReading.RecordAreas.{area_short, area_table, area_read, head_cut, none_short, none_table}
 use Rattle.cdb_form.proofs.Files.TableLemmas.{end_told, table_told}
 use Rattle.cdb_form.proofs.walk.record_area.read_area.Goals as goal

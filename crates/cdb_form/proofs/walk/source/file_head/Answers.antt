@@ -1,10 +1,5 @@
-use Rattle.std.proofs.Common.{ℕ, ap, ◌∙◌, sym, subst, rules, arith}
-use Rattle.std.proofs.lemmas.Result.{err_from_is_err_and}
-use Rattle.std.proofs.lemmas.List.{take_at}
-use Rattle.cdb_form.specs.Format.Reading.{head_at}
-use Rattle.cdb_form.specs.Fed.Taking.{ReadsShort}
+use Rattle.cdb_form.proofs.Words.{ReadsShort, ap, arith, common_steps, err_from_is_err_and, head_at, rules, subst, sym, take_at, ℕ, ◌∙◌}
 use Rattle.cdb_form.proofs.RecordReading.RecordAreas.{head_fits}
-use Rattle.std.proofs.lemmas.Grind.{common_steps}
 use Rattle.cdb_form.proofs.walk.source.file_head.Goals as goal
 
 pub returns-clause-read : goal.returns-clause-read

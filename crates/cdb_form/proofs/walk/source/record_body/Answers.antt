@@ -1,5 +1,4 @@
-use Rattle.std.proofs.lemmas.Grind.{common_steps}
-use Rattle.std.proofs.Common.{refl, arith, ◌+◌}
+use Rattle.cdb_form.proofs.Words.{arith, common_steps, refl, ◌+◌}
 use Rattle.std.proofs.lemmas.Result.{IfErr-weaker, on_ok_weaker, on_err_weaker}
 use Rattle.cdb_form.proofs.Fed.FeedLemmas.{consumes_then}
 use Rattle.cdb_form.proofs.RecordReading.RecordReads.{loses_then, fewer_then, short_then}

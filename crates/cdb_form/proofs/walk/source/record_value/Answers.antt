@@ -1,5 +1,4 @@
-use Rattle.std.proofs.lemmas.Grind.{common_steps}
-use Rattle.std.proofs.Common.{arith}
+use Rattle.cdb_form.proofs.Words.{arith, common_steps}
 use Rattle.cdb_form.proofs.walk.source.record_value.Goals as goal
 
 pub returns-in-Key-clause-are : goal.returns-in-Key-clause-are

@@ -1,5 +1,4 @@
-use Rattle.std.proofs.Common.{arith}
-use Rattle.std.proofs.lemmas.Grind.{common_steps}
+use Rattle.cdb_form.proofs.Words.{arith, common_steps}
 use Rattle.cdb_form.proofs.width.WideWidth.write_word.Goals as goal
 
 pub returns : goal.returns

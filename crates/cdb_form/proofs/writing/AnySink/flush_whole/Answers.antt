@@ -1,5 +1,4 @@
-use Rattle.std.proofs.lemmas.Grind.{common_steps}
-use Rattle.std.proofs.Common.{rules, arith}
+use Rattle.cdb_form.proofs.Words.{arith, common_steps, rules}
 use Rattle.cdb_form.proofs.writing.AnySink.flush_whole.Goals as goal
 
 pub returns-in-Ok : goal.returns-in-Ok

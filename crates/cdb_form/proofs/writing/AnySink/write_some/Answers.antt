@@ -1,5 +1,4 @@
-use Rattle.std.proofs.lemmas.Grind.{common_steps}
-use Rattle.std.proofs.Common.{arith, rules}
+use Rattle.cdb_form.proofs.Words.{arith, common_steps, rules}
 use Rattle.cdb_form.proofs.writing.AnySink.write_some.Goals as goal
 
 pub returns-then-ne-clause-count : goal.returns-then-ne-clause-count

@@ -1,6 +1,4 @@
-use Rattle.std.proofs.Common.{length}
-use Rattle.cdb_make.specs.Chains.{AreChained}
-use Rattle.cdb_make.specs.Marks.{gone_of}
+use Rattle.cdb_make.proofs.Words.{AreChained, gone_of, length}
 use Rattle.cdb_make.proofs.chains.Chains.cut.Given as goal
 
 abbrev pub invariant-loop-self : goal.invariant-loop-self

@@ -1,8 +1,4 @@
-use Rattle.std.proofs.Common.{◌≡◌, ℕ, ◌+◌, ◌-◌, length, arith, ap, ◌∙◌}
-use Rattle.std.proofs.lemmas.Grind.{get_or_default_zero}
-use Rattle.std.specs.Prelude.{slice_index}
-use Rattle.cdb_make.specs.Chains.{bucket_of}
-use Rattle.cdb_make.specs.Marks.{gone_of}
+use Rattle.cdb_make.proofs.Words.{ap, arith, bucket_of, get_or_default_zero, gone_of, length, slice_index, ℕ, ◌+◌, ◌-◌, ◌∙◌, ◌≡◌}
 use Rattle.cdb_make.proofs.Linking.{dropped, dropped_last}
 use Rattle.cdb_make.proofs.chains.Chains.drop_entry.Goals as goal
 

@@ -1,6 +1,4 @@
-use Rattle.std.proofs.Common.{ℕ, ◌<◌, ◌≤◌}
-use Rattle.cdb_make.specs.Marks.{gone_of}
-use Rattle.cdb_make.specs.Chains.{Has}
+use Rattle.cdb_make.proofs.Words.{Has, gone_of, ℕ, ◌<◌, ◌≤◌}
 use Rattle.cdb_make.proofs.chains.Chains.last.Given as goal
 
 abbrev pub invariant-loop-at : goal.invariant-loop-at

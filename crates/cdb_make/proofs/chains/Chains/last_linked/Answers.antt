@@ -1,8 +1,4 @@
-use Rattle.std.proofs.Common.{◌≡◌, ℕ, ◌-◌, ◌≤◌, ◌<◌, List, length, arith, sym, subst, ◌∙◌}
-use Rattle.std.specs.Prelude.{slice_index}
-use Rattle.std.proofs.lemmas.Grind.{get_or_default_zero}
-use Rattle.cdb_make.specs.Chains.{Reaches}
-use Rattle.cdb_make.specs.Marks.{gone_of}
+use Rattle.cdb_make.proofs.Words.{List, Reaches, arith, get_or_default_zero, gone_of, length, slice_index, subst, sym, ℕ, ◌-◌, ◌<◌, ◌∙◌, ◌≡◌, ◌≤◌}
 use Rattle.cdb_make.proofs.Linking.{reaches_step}
 use Rattle.cdb_make.proofs.chains.Chains.last_linked.Goals.{else-at-end-via-then-at-end+else-hashes-at, else-at-end-via-else-at-end}
 use Rattle.cdb_make.proofs.chains.Chains.last_linked.Goals as goal

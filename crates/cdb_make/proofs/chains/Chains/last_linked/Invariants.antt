@@ -1,6 +1,4 @@
-use Rattle.std.proofs.Common.{length}
-use Rattle.cdb_make.specs.Marks.{gone_of}
-use Rattle.cdb_make.specs.Chains.{Reaches}
+use Rattle.cdb_make.proofs.Words.{Reaches, gone_of, length}
 use Rattle.cdb_make.proofs.chains.Chains.last_linked.Given as goal
 
 abbrev pub invariant-loop-at : goal.invariant-loop-at

@@ -1,6 +1,5 @@
 use Rattle.std.proofs.Common.{◌∙◌, sym, subst, ap, vec_capacity}
-use Rattle.cdb_make.specs.Chains.{AreChained}
-use Rattle.cdb_make.specs.Marks.{gone_of}
+use Rattle.cdb_make.proofs.Words.{AreChained, gone_of}
 use Rattle.cdb_make.proofs.chains.Chains.link_all.Goals.{then-most-len-2, else-most-len-2}
 use Rattle.cdb_make.proofs.chains.Chains.link_all.Goals as goal
 

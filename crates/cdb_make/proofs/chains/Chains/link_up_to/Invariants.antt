@@ -1,6 +1,5 @@
 use Rattle.std.proofs.Common.{◌≡◌, ◌≤◌, ◌-◌, length, vec_capacity}
-use Rattle.cdb_make.specs.Chains.{AreChained}
-use Rattle.cdb_make.specs.Marks.{gone_of}
+use Rattle.cdb_make.proofs.Words.{AreChained, gone_of}
 use Rattle.cdb_make.proofs.chains.Chains.link_up_to.Given as goal
 
 abbrev pub invariant-loop-self : goal.invariant-loop-self

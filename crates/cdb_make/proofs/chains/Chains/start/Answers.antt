@@ -1,8 +1,4 @@
-use Rattle.std.proofs.Common.{◌≡◌, ℕ, List, length, arith, sym, subst, ◌∙◌}
-use Rattle.std.specs.Prelude.{slice_index}
-use Rattle.std.proofs.lemmas.Grind.{get_or_default_zero}
-use Rattle.cdb_make.specs.Chains.{IsIn, IsLast}
-use Rattle.cdb_make.specs.Marks.{gone_of}
+use Rattle.cdb_make.proofs.Words.{IsIn, IsLast, List, arith, get_or_default_zero, gone_of, length, slice_index, subst, sym, ℕ, ◌∙◌, ◌≡◌}
 use Rattle.cdb_make.proofs.Linking.{reaches_from}
 use Rattle.cdb_make.proofs.chains.Chains.start.Goals as goal
 

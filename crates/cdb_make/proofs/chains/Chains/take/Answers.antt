@@ -1,5 +1,4 @@
-use Rattle.std.proofs.Common.{◌≡◌, ℕ, length, ap, sym, subst, ◌∙◌, arith, refl}
-use Rattle.cdb_make.specs.Marks.{gone_of, is_gone, IsTakenFrom}
+use Rattle.cdb_make.proofs.Words.{IsTakenFrom, ap, arith, gone_of, is_gone, length, refl, subst, sym, ℕ, ◌∙◌, ◌≡◌}
 use Rattle.cdb_make.proofs.Linking.{chained_same}
 use Rattle.cdb_make.proofs.Marking.{gone_or, taken_all}
 use Rattle.cdb_make.proofs.chains.Chains.take.Goals as goal

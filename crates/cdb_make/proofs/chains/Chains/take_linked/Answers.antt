@@ -1,13 +1,6 @@
-use Rattle.std.proofs.Common.{◌≡◌, ◌≢◌, ℕ, ◌+◌, ◌-◌, ◌<◌, Bool, List, length, get_or, set, true, refl, sym, ap, subst, ◌∙◌, arith, length-set}
-use Rattle.std.specs.Prelude.{slice_index}
-use Rattle.std.proofs.lemmas.Grind.{get_or_default_zero}
-use Rattle.std.proofs.lemmas.List.{get_or-set_same, get_or-set_other, map-set}
-use Rattle.cdb_make.specs.declared.mark.Mark.{Mark}
+use Rattle.cdb_make.proofs.Words.{AreChained, Bool, IsIn, IsTakenFrom, List, Mark, ap, arith, bucket_of, common_steps, get_or, get_or-set_other, get_or-set_same, get_or_default_zero, gone_of, is_gone, length, length-set, map-set, refl, set, slice_index, subst, sym, true, ℕ, ◌+◌, ◌-◌, ◌<◌, ◌∙◌, ◌≡◌, ◌≢◌}
 use Rattle.cdb_make.specs.declared.mark.Mark.TheVariants.{Gone}
-use Rattle.cdb_make.specs.Chains.{AreChained, IsIn, bucket_of}
-use Rattle.cdb_make.specs.Marks.{gone_of, is_gone, IsTakenFrom}
 use Rattle.cdb_make.proofs.Marking.{found_or, taken_found, taken_same, taken_none, taken_step, free_of, onward}
-use Rattle.std.proofs.lemmas.Grind.{common_steps}
 use Rattle.cdb_make.proofs.chains.Chains.take_linked.Goals as goal
 
 pub loop-at-init : goal.loop-at-init

@@ -1,7 +1,4 @@
-use Rattle.std.proofs.Common.{◌≡◌, ◌-◌, ◌<◌, ◌≤◌, length, get_or, true, false}
-use Rattle.std.specs.Prelude.{slice_index}
-use Rattle.cdb_make.specs.Chains.{AreChained, IsIn, bucket_of}
-use Rattle.cdb_make.specs.Marks.{gone_of, IsTakenFrom}
+use Rattle.cdb_make.proofs.Words.{AreChained, IsIn, IsTakenFrom, bucket_of, false, get_or, gone_of, length, slice_index, true, ◌-◌, ◌<◌, ◌≡◌, ◌≤◌}
 use Rattle.cdb_make.proofs.chains.Chains.take_linked.Given as goal
 
 -- `at` is the number after an entry of the bucket, or 0, and `newer` that of the next one of it, or 0

@@ -1,8 +1,4 @@
-use Rattle.std.proofs.Common.{◌≡◌, ℕ, ◌+◌, ◌-◌, ◌<◌, List, length, set, take, arith, ap, sym, subst, ◌∙◌}
-use Rattle.std.specs.Prelude.{slice_index}
-use Rattle.std.proofs.lemmas.Grind.{get_or_default_zero}
-use Rattle.cdb_make.specs.Chains.{AreChained}
-use Rattle.cdb_make.specs.Marks.{gone_of}
+use Rattle.cdb_make.proofs.Words.{AreChained, List, ap, arith, get_or_default_zero, gone_of, length, set, slice_index, subst, sym, take, ℕ, ◌+◌, ◌-◌, ◌<◌, ◌∙◌, ◌≡◌}
 use Rattle.cdb_make.proofs.Linking.{unlinked, unlinked_gone}
 use Rattle.cdb_make.proofs.chains.Chains.unlink.Goals.{then-not-is_gone_at, else-not-is_gone_at}
 use Rattle.cdb_make.proofs.chains.Chains.unlink.Goals as goal

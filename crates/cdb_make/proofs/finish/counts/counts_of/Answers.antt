@@ -1,9 +1,4 @@
-use Rattle.std.proofs.Common.{◌≡◌, ◌+◌, ℕ, List, [], ◌∷◌, ◌++◌, length, map, take, get_or, sym, ap, ◌∙◌, arith}
-use Rattle.std.proofs.lemmas.List.{take_all, take_more, get_or_default, length-take-le}
-use Rattle.cdb_form.specs.Format.Hash.{table_number}
-use Rattle.cdb_form.specs.Format.Pair.{WordPair}
-use Rattle.cdb_make.specs.Tables.{roll_entries, tables_of}
-use Rattle.cdb_make.specs.Views.Places.{places_in}
+use Rattle.cdb_make.proofs.Words.{List, WordPair, [], ap, arith, get_or, get_or_default, length, length-take-le, map, places_in, roll_entries, sym, table_number, tables_of, take, take_all, take_more, ℕ, ◌++◌, ◌+◌, ◌∙◌, ◌∷◌, ◌≡◌}
 use Rattle.cdb_make.proofs.Tables.{get_or-entries_of, roll_long, counts_none, counts_push, counts_few}
 use Rattle.cdb_make.proofs.finish.counts.counts_of.Goals as goal
 

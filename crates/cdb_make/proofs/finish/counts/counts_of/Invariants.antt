@@ -1,5 +1,4 @@
-use Rattle.std.proofs.Common.{◌≡◌, length, map, take}
-use Rattle.cdb_make.specs.Tables.{roll_entries, tables_of}
+use Rattle.cdb_make.proofs.Words.{length, map, roll_entries, tables_of, take, ◌≡◌}
 use Rattle.cdb_make.proofs.finish.counts.counts_of.Given as goal
 
 -- the entries so far are counted

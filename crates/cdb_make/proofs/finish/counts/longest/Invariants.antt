@@ -1,5 +1,4 @@
-use Rattle.std.proofs.Common.{ℕ, ◌≤◌, take}
-use Rattle.std.specs.Prelude.{All}
+use Rattle.cdb_make.proofs.Words.{All, take, ℕ, ◌≤◌}
 use Rattle.cdb_make.proofs.finish.counts.longest.Given as goal
 
 abbrev pub invariant-loop-count : goal.invariant-loop-count

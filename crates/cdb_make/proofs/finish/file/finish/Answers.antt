@@ -1,13 +1,4 @@
-use Rattle.std.proofs.Common.{arith, ◌≡◌, ◌∙◌, ◌+◌, ◌*◌, ◌≤◌, ℕ, List, length, get_or, sum_by, sym, ap, rules}
-use Rattle.std.proofs.Math.Nat.{mul-le-mul_left}
-use Rattle.std.proofs.lemmas.Grind.{common_steps}
-use Rattle.std.proofs.lemmas.List.{get_or-map, length-map}
-use Rattle.cdb_store.specs.Images.{SameImages}
-use Rattle.cdb_store.proofs.Moves.{kept_same}
-use Rattle.cdb_form.specs.Format.Pair.{WordPair}
-use Rattle.cdb_form.proofs.Files.Sizes.{slots_within}
-use Rattle.cdb_make.specs.Finished.{IsFinished}
-use Rattle.cdb_make.specs.Tables.{roll_entries, roll_tables}
+use Rattle.cdb_make.proofs.Words.{IsFinished, List, SameImages, WordPair, ap, arith, common_steps, get_or, get_or-map, kept_same, length, length-map, mul-le-mul_left, roll_entries, roll_tables, rules, slots_within, sum_by, sym, ℕ, ◌*◌, ◌+◌, ◌∙◌, ◌≡◌, ◌≤◌}
 use Rattle.cdb_make.proofs.FinishedFile.{kept_then, head_kept, head_then}
 use Rattle.cdb_make.proofs.Tables.{counts_at_most, roll_long, tables_sum}
 use Rattle.cdb_make.proofs.finish.file.finish.Goals as goal

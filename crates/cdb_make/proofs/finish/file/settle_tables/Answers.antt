@@ -1,13 +1,8 @@
-use Rattle.std.proofs.Common.{arith, inl, ℕ, length, List, ◌-◌, flat_map}
-use Rattle.cdb_store.specs.Images.{AreSized, ImagesHold}
+use Rattle.cdb_make.proofs.Words.{AreSized, ImagesHold, List, arith, common_steps, flat_map, head_size, inl, length, roll_tables, table_bytes, ℕ, ◌-◌}
 use Rattle.cdb_store.proofs.Moves.{kept_torn, kept_cut, kept_same, held_first, held_kept}
-use Rattle.cdb_form.specs.Format.Pair.{head_size}
-use Rattle.cdb_make.specs.Parts.{table_bytes}
-use Rattle.cdb_make.specs.Tables.{roll_tables}
 use Rattle.cdb_make.proofs.Slots.TableBytes.{length-tables}
 use Rattle.cdb_make.proofs.FinishedFile.{settled_end, kept_then}
 use Rattle.cdb_make.proofs.Bytes.Written.{on_any_ok}
-use Rattle.std.proofs.lemmas.Grind.{common_steps}
 use Rattle.cdb_make.proofs.finish.file.settle_tables.Goals as goal
 
 pub returns-in_err-write_tables-clause-kept : goal.returns-in_err-write_tables-clause-kept

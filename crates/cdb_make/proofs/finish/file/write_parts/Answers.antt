@@ -1,16 +1,8 @@
-use Rattle.std.proofs.Common.{arith, inr, ◌≡◌, ◌∙◌, ◌*◌, ℕ, List, length, ap, ◌-◌, flat_map, rules, sum_by}
-use Rattle.std.specs.Prelude.{sum}
-use Rattle.std.proofs.lemmas.List.{length-map}
-use Rattle.cdb_store.specs.Images.{AreSized, ImagesHold}
-use Rattle.cdb_store.proofs.Moves.{kept_torn, kept_same, held_kept}
-use Rattle.cdb_form.specs.Format.Pair.{head_size}
-use Rattle.cdb_make.specs.Parts.{table_bytes}
-use Rattle.cdb_make.specs.Tables.{roll_entries, roll_tables}
+use Rattle.cdb_make.proofs.Words.{AreSized, ImagesHold, List, ap, arith, common_steps, flat_map, head_size, held_kept, inr, kept_same, kept_torn, length, length-map, roll_entries, roll_tables, rules, sum, sum_by, table_bytes, ℕ, ◌*◌, ◌-◌, ◌∙◌, ◌≡◌}
 use Rattle.cdb_make.proofs.FinishedFile.{finished, kept_then, head_kept, tables_held}
 use Rattle.cdb_make.proofs.Slots.Counts.{sum_lengths}
 use Rattle.cdb_make.proofs.Tables.{length-tables_of}
 use Rattle.cdb_make.proofs.Bytes.Written.{on_any_ok}
-use Rattle.std.proofs.lemmas.Grind.{common_steps}
 use Rattle.cdb_make.proofs.finish.file.write_parts.Goals as goal
 
 pub write_pointers-requires-clause-long : goal.write_pointers-requires-clause-long

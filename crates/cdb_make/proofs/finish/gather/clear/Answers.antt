@@ -1,7 +1,4 @@
-use Rattle.std.proofs.Common.{◌≡◌, ℕ, [], inl, inr, map, ap, ◌∙◌, arith, length-set, get_or, slice_set}
-use Rattle.std.proofs.lemmas.Bool.{cases_eq}
-use Rattle.std.proofs.Math.Seq.{map-set_same}
-use Rattle.cdb_make.specs.Tables.{gathered_in, gathered_room}
+use Rattle.cdb_make.proofs.Words.{[], ap, arith, cases_eq, gathered_in, gathered_room, get_or, inl, inr, length-set, map, map-set_same, slice_set, ℕ, ◌∙◌, ◌≡◌}
 use Rattle.cdb_make.proofs.Gathered.{told_here, told_there}
 use Rattle.cdb_make.proofs.finish.gather.clear.Goals as goal
 

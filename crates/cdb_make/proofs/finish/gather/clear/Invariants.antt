@@ -1,5 +1,4 @@
-use Rattle.std.proofs.Common.{◌≡◌, ◌<◌, ℕ, [], length, get_or}
-use Rattle.cdb_make.specs.Tables.{all_gathered, rooms_of}
+use Rattle.cdb_make.proofs.Words.{[], all_gathered, get_or, length, rooms_of, ℕ, ◌<◌, ◌≡◌}
 use Rattle.cdb_make.proofs.finish.gather.clear.Given as goal
 
 abbrev pub invariant-loop-n : goal.invariant-loop-n

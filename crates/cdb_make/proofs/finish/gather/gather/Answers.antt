@@ -1,7 +1,4 @@
-use Rattle.std.proofs.Common.{◌∙◌, List, ap, arith, length}
-use Rattle.std.proofs.lemmas.List.{length-map, take_all}
-use Rattle.cdb_form.specs.Format.Pair.{WordPair}
-use Rattle.cdb_make.specs.Tables.{all_gathered, gathered_in, roll_entries, tables_of}
+use Rattle.cdb_make.proofs.Words.{List, WordPair, all_gathered, ap, arith, gathered_in, length, length-map, roll_entries, tables_of, take_all, ◌∙◌}
 use Rattle.cdb_make.proofs.Gathering.{room_then}
 use Rattle.cdb_make.proofs.Tables.{roll_long, tables_none}
 use Rattle.cdb_make.proofs.finish.gather.gather.Goals as goal

@@ -1,5 +1,4 @@
-use Rattle.std.proofs.Common.{◌≡◌, length, take}
-use Rattle.cdb_make.specs.Tables.{all_gathered, rooms_of, roll_entries, tables_of}
+use Rattle.cdb_make.proofs.Words.{all_gathered, length, roll_entries, rooms_of, tables_of, take, ◌≡◌}
 use Rattle.cdb_make.proofs.finish.gather.gather.Given as goal
 
 -- the entries so far are gathered

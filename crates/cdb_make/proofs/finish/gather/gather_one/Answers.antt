@@ -1,9 +1,4 @@
-use Rattle.std.proofs.Common.{◌≡◌, ◌<◌, ◌+◌, ◌-◌, ℕ, List, [], ◌∷◌, ◌++◌, length, take, get_or, slice_set, sym, ap, ◌∙◌, arith}
-use Rattle.std.proofs.lemmas.List.{take_more, get_or_default}
-use Rattle.cdb_form.specs.Format.Hash.{table_number}
-use Rattle.cdb_form.specs.Format.Pair.{WordPair}
-use Rattle.cdb_make.specs.Tables.{all_gathered, roll_entries, entries_in, tables_of}
-use Rattle.cdb_make.specs.Views.Places.{places_in}
+use Rattle.cdb_make.proofs.Words.{List, WordPair, [], all_gathered, ap, arith, entries_in, get_or, get_or_default, length, places_in, roll_entries, slice_set, sym, table_number, tables_of, take, take_more, ℕ, ◌++◌, ◌+◌, ◌-◌, ◌<◌, ◌∙◌, ◌∷◌, ◌≡◌}
 use Rattle.cdb_make.proofs.Tables.{get_or-entries_of, roll_long, table_at, tables_more, tables_same, entries_more}
 use Rattle.cdb_make.proofs.finish.gather.gather_one.Goals.{else-first-table-via-then-first-table+else-table-first, else-first-table-via-else-first-table}
 use Rattle.cdb_make.proofs.finish.gather.gather_one.Goals as goal

@@ -1,9 +1,5 @@
-use Rattle.std.proofs.Common.{◌≡◌, ◌∙◌, ◌+◌, ◌-◌, ◌%◌, ap, arith, drop, length, map, refl, take, List, ℕ}
-use Rattle.std.specs.Int.Count.{count_trailing_zeros}
-use Rattle.std.specs.Simd.Lanes.{mask_l}
+use Rattle.cdb_make.proofs.Words.{List, ap, arith, count_trailing_zeros, drop, is_among, length, map, mask_l, refl, roll_entries, tables_of, take, ℕ, ◌%◌, ◌+◌, ◌-◌, ◌∙◌, ◌≡◌}
 use Rattle.std.proofs.lemmas.List.{length-drop, take_all}
-use Rattle.cdb_make.specs.Gathering.{is_among}
-use Rattle.cdb_make.specs.Tables.{roll_entries, tables_of}
 use Rattle.cdb_make.proofs.Gathering.{behind_first, to_end, to_first}
 use Rattle.cdb_make.proofs.finish.gather.gather_sixteen.Goals as goal
 

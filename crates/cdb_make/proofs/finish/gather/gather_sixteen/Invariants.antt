@@ -1,7 +1,4 @@
-use Rattle.std.proofs.Common.{◌≡◌, ◌+◌, ◌-◌, ◌%◌, ◌≤◌, drop, length, map, take}
-use Rattle.std.specs.Simd.Lanes.{mask_l}
-use Rattle.cdb_make.specs.Gathering.{is_among}
-use Rattle.cdb_make.specs.Tables.{all_gathered, rooms_of, roll_entries, tables_of}
+use Rattle.cdb_make.proofs.Words.{all_gathered, drop, is_among, length, map, mask_l, roll_entries, rooms_of, tables_of, take, ◌%◌, ◌+◌, ◌-◌, ◌≡◌, ◌≤◌}
 use Rattle.cdb_make.proofs.finish.gather.gather_sixteen.Given as goal
 
 -- the entries before `at` are gathered, and a bit is left for each record from it on

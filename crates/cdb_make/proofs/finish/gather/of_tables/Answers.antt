@@ -2,9 +2,8 @@ use Rattle.std.proofs.Common.{◌∙◌, ◌+◌, ◌-◌, ◌%◌, ◌^◌, ap,
 use Rattle.std.specs.Prelude.{bit_and}
 use Rattle.std.specs.Simd.Lanes.{mask_l, zip2, top}
 use Rattle.std.proofs.lemmas.Simd.{bitmask_splat, Each1-zip2, Each2-splat, Each1-all, map-map}
-use Rattle.std.proofs.lemmas.List.{length-map}
+use Rattle.cdb_make.proofs.Words.{is_among, length-map}
 use Rattle.std.proofs.lemmas.Nat.{and_mask}
-use Rattle.cdb_make.specs.Gathering.{is_among}
 use Rattle.cdb_make.proofs.Gathering.{lanes_are, tests_same}
 use Rattle.cdb_make.proofs.finish.gather.of_tables.Goals as goal
 

@@ -1,8 +1,4 @@
-use Rattle.std.proofs.Common.{◌≡◌, ℕ, [], ◌∷◌, ◌++◌, get_or, slice_set, ap, sym, ◌∙◌}
-use Rattle.std.proofs.lemmas.List.{map-set, get_or-map}
-use Rattle.std.proofs.Math.Seq.{map-set_same}
-use Rattle.cdb_form.specs.Format.Pair.{WordPair}
-use Rattle.cdb_make.specs.Tables.{all_gathered, gathered_in, gathered_room}
+use Rattle.cdb_make.proofs.Words.{WordPair, [], all_gathered, ap, gathered_in, gathered_room, get_or, get_or-map, map-set, map-set_same, slice_set, sym, ℕ, ◌++◌, ◌∙◌, ◌∷◌, ◌≡◌}
 use Rattle.cdb_make.proofs.finish.gather.push.Goals as goal
 
 pub returns-clause-more : goal.returns-clause-more

@@ -1,5 +1,4 @@
-use Rattle.std.proofs.Common.{arith}
-use Rattle.std.proofs.lemmas.Grind.{common_steps}
+use Rattle.cdb_make.proofs.Words.{arith, common_steps}
 use Rattle.cdb_make.proofs.finish.gather.room_for.Goals as goal
 
 pub loop-n-preserved : goal.loop-n-preserved

@@ -1,11 +1,4 @@
-use Rattle.std.proofs.Common.{refl, arith, ◌≡◌, ◌∙◌, ◌+◌, ◌*◌, ◌<◌, ℕ, List, [], length, map, take, get_or, ap, sym, length-set, sum_by}
-use Rattle.std.specs.Prelude.{sum}
-use Rattle.std.proofs.lemmas.List.{length-map, get_or-map, get_or_default, take-map, take_all}
-use Rattle.cdb_form.specs.Format.Pair.{WordPair}
-use Rattle.cdb_form.specs.Format.File.{pointers_from}
-use Rattle.cdb_form.specs.Format.Table.{slots_of}
-use Rattle.cdb_form.specs.Views.Pairs.{pointer_pair}
-use Rattle.cdb_form.proofs.Files.Sizes.{slots_within}
+use Rattle.cdb_make.proofs.Words.{List, WordPair, [], ap, arith, get_or, get_or-map, get_or_default, length, length-map, length-set, map, pointer_pair, pointers_from, refl, slots_of, slots_within, sum, sum_by, sym, take, take-map, take_all, ℕ, ◌*◌, ◌+◌, ◌<◌, ◌∙◌, ◌≡◌}
 use Rattle.cdb_make.proofs.Slots.HeadPointers.{pointers_none, pointers_next}
 use Rattle.cdb_make.proofs.Slots.Counts.{counts_more, counts_within, sum_lengths}
 use Rattle.cdb_make.proofs.finish.head.head_of.Goals as goal

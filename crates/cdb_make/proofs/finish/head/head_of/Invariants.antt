@@ -1,9 +1,4 @@
-use Rattle.std.proofs.Common.{◌≡◌, ◌+◌, ◌*◌, List, take, length, map}
-use Rattle.std.specs.Prelude.{sum}
-use Rattle.cdb_form.specs.Format.File.{pointers_from}
-use Rattle.cdb_form.specs.Format.Pair.{WordPair}
-use Rattle.cdb_form.specs.Format.Table.{slots_of}
-use Rattle.cdb_form.specs.Views.Pairs.{pointer_pair}
+use Rattle.cdb_make.proofs.Words.{List, WordPair, length, map, pointer_pair, pointers_from, slots_of, sum, take, ◌*◌, ◌+◌, ◌≡◌}
 use Rattle.cdb_make.proofs.finish.head.head_of.Given as goal
 
 -- the pointers so far, and the place of the next table

@@ -1,11 +1,6 @@
-use Rattle.std.proofs.Common.{◌≡◌, ◌∙◌, ◌+◌, ◌*◌, ◌≤◌, ℕ, List, length, map, sum_by, arith, ap}
-use Rattle.std.specs.Prelude.{sum}
-use Rattle.std.proofs.lemmas.List.Elements.{All-same}
-use Rattle.cdb_form.specs.Format.Pair.{WordPair}
-use Rattle.cdb_form.specs.Views.Pairs.{PairFits}
+use Rattle.cdb_make.proofs.Words.{All-same, List, PairFits, WordPair, ap, arith, common_steps, length, map, sum, sum_by, ℕ, ◌*◌, ◌+◌, ◌∙◌, ◌≡◌, ◌≤◌}
 use Rattle.cdb_form.proofs.Files.Sizes.{pointers_fit}
 use Rattle.cdb_make.proofs.Slots.Counts.{lists_of, lengths_of, sum_lengths}
-use Rattle.std.proofs.lemmas.Grind.{common_steps}
 use Rattle.cdb_make.proofs.finish.head.write_pointers.Goals as goal
 
 pub write_head-requires-clause-fits : goal.write_head-requires-clause-fits

@@ -1,10 +1,6 @@
 use Rattle.std.proofs.Common.{length-take-le, arith, ◌≡◌, ◌∙◌, ◌*◌, ℕ, List, length, replicate, flat_map, ap}
-use Rattle.std.proofs.lemmas.List.{take_all}
-use Rattle.cdb_form.specs.Format.Pair.{WordPair, pair_bytes}
-use Rattle.cdb_form.specs.Format.Table.{empty_slot, filled_slots}
+use Rattle.cdb_make.proofs.Words.{WordPair, empty_slot, filled_slots, gathered_in, pair_bytes, slots_in, take_all}
 use Rattle.cdb_form.specs.Views.Pairs.{slot_pair}
-use Rattle.cdb_make.specs.Tables.{gathered_in}
-use Rattle.cdb_form.specs.Views.SlotBytes.{slots_in}
 use Rattle.cdb_form.proofs.Slots.Filling.{filled_nothing, filled_next}
 use Rattle.cdb_form.proofs.Slots.RunLemmas.{runs_none}
 use Rattle.cdb_form.proofs.Slots.SlotBytes.{count_slots, slots_in-zeros, bytes_of-slots_in}

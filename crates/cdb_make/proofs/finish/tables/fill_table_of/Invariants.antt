@@ -1,10 +1,5 @@
-use Rattle.std.proofs.Common.{◌≡◌, ◌*◌, length, take}
-use Rattle.cdb_form.specs.Format.Pair.{pair_size}
-use Rattle.cdb_form.specs.Format.Record.{AreBytes}
-use Rattle.cdb_form.specs.Format.Table.{filled_slots}
+use Rattle.cdb_make.proofs.Words.{AreBytes, filled_slots, gathered_in, length, pair_size, slots_in, take, ◌*◌, ◌≡◌}
 use Rattle.cdb_form.specs.Views.UsedRuns.{AreRuns}
-use Rattle.cdb_make.specs.Tables.{gathered_in}
-use Rattle.cdb_form.specs.Views.SlotBytes.{slots_in}
 use Rattle.cdb_make.proofs.finish.tables.fill_table_of.Given as goal
 
 -- the slots that the entries so far fill

@@ -1,13 +1,6 @@
-use Rattle.std.proofs.Common.{arith, refl, ◌≡◌, ◌∙◌, ◌+◌, ◌*◌, ◌++◌, ℕ, List, length, take, flat_map, sum_by, ap, sym, subst, length-append, length-drop}
-use Rattle.std.proofs.lemmas.List.{take_all, length-take-le}
-use Rattle.cdb_store.specs.Images.{AfterWrite, AfterTornWrite, AreSized}
-use Rattle.cdb_store.proofs.Moves.{write_more, torn_behind, torn_wider, torn_from_write}
-use Rattle.cdb_form.specs.Format.Pair.{pair_size}
-use Rattle.cdb_make.specs.Parts.{table_bytes}
-use Rattle.cdb_make.specs.Tables.{gathered_in, all_gathered}
+use Rattle.cdb_make.proofs.Words.{AfterTornWrite, AfterWrite, AreSized, List, all_gathered, ap, arith, common_steps, flat_map, gathered_in, length, length-append, length-drop, length-take-le, pair_size, refl, subst, sum_by, sym, table_bytes, take, take_all, torn_behind, torn_from_write, torn_wider, write_more, ℕ, ◌*◌, ◌++◌, ◌+◌, ◌∙◌, ◌≡◌}
 use Rattle.cdb_make.proofs.Slots.HeadPointers.{sums_more}
 use Rattle.cdb_make.proofs.Slots.TableBytes.{table_room, tables_next, length-tables}
-use Rattle.std.proofs.lemmas.Grind.{common_steps}
 use Rattle.cdb_make.proofs.finish.tables.write_group.Goals as goal
 
 pub overflow_mul-count : goal.overflow_mul-count

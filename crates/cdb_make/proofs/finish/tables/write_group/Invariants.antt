@@ -1,7 +1,4 @@
-use Rattle.std.proofs.Common.{◌≡◌, ◌+◌, ◌*◌, ◌≤◌, take, flat_map, length, sum_by, max}
-use Rattle.cdb_store.specs.Images.{AfterWrite}
-use Rattle.cdb_make.specs.Parts.{table_bytes}
-use Rattle.cdb_make.specs.Tables.{all_gathered}
+use Rattle.cdb_make.proofs.Words.{AfterWrite, all_gathered, flat_map, length, max, sum_by, table_bytes, take, ◌*◌, ◌+◌, ◌≡◌, ◌≤◌}
 use Rattle.cdb_make.proofs.finish.tables.write_group.Given as goal
 
 -- the tables so far are written, and the next begins behind them

@@ -1,8 +1,5 @@
-use Rattle.std.proofs.Common.{arith, rules, ◌≡◌, length}
-use Rattle.cdb_form.proofs.Files.Sizes.{slots_within}
-use Rattle.cdb_make.specs.Tables.{gathered_in}
+use Rattle.cdb_make.proofs.Words.{arith, common_steps, gathered_in, length, rules, slots_within, ◌≡◌}
 use Rattle.cdb_make.proofs.Slots.TableBytes.{nothing_written}
-use Rattle.std.proofs.lemmas.Grind.{common_steps}
 use Rattle.cdb_make.proofs.finish.tables.write_table.Goals as goal
 
 pub returns-then-is_empty-clause-ok : goal.returns-then-is_empty-clause-ok

@@ -1,13 +1,6 @@
-use Rattle.std.proofs.Common.{arith, refl, ◌≡◌, ◌∙◌, ◌+◌, ◌*◌, ◌<◌, ◌≤◌, ◌++◌, ℕ, List, [], length, flat_map, sum_by, ap, sym, subst, max}
-use Rattle.std.proofs.lemmas.List.Concat.{flat_map-append}
-use Rattle.cdb_store.specs.Images.{AfterWrite, AfterTornWrite, AreSized}
-use Rattle.cdb_store.proofs.Moves.{write_more, torn_behind, torn_wider, torn_from_write}
-use Rattle.cdb_form.specs.Format.Pair.{WordPair}
-use Rattle.cdb_make.specs.Parts.{table_bytes}
-use Rattle.cdb_make.specs.Tables.{roll_entries, roll_tables, tables_of, all_gathered}
+use Rattle.cdb_make.proofs.Words.{AfterTornWrite, AfterWrite, AreSized, List, WordPair, [], all_gathered, ap, arith, common_steps, flat_map, flat_map-append, length, max, refl, roll_entries, roll_tables, subst, sum_by, sym, table_bytes, tables_of, torn_behind, torn_from_write, torn_wider, write_more, ℕ, ◌*◌, ◌++◌, ◌+◌, ◌<◌, ◌∙◌, ◌≡◌, ◌≤◌}
 use Rattle.cdb_make.proofs.Slots.TableBytes.{length-tables, all_written}
 use Rattle.cdb_make.proofs.Tables.{group_room, group_runs, group_next, group_sum, no_tables}
-use Rattle.std.proofs.lemmas.Grind.{common_steps}
 use Rattle.cdb_make.proofs.finish.tables.write_tables.Goals as goal
 
 pub loop-group-init : goal.loop-group-init

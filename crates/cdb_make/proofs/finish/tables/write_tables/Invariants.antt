@@ -1,7 +1,4 @@
-use Rattle.std.proofs.Common.{◌≡◌, ◌+◌, ◌*◌, ◌≤◌, flat_map, length, sum_by, max}
-use Rattle.cdb_store.specs.Images.{AfterWrite}
-use Rattle.cdb_make.specs.Parts.{table_bytes}
-use Rattle.cdb_make.specs.Tables.{roll_entries, rooms_of, tables_of}
+use Rattle.cdb_make.proofs.Words.{AfterWrite, flat_map, length, max, roll_entries, rooms_of, sum_by, table_bytes, tables_of, ◌*◌, ◌+◌, ◌≡◌, ◌≤◌}
 use Rattle.cdb_make.proofs.finish.tables.write_tables.Given as goal
 
 -- the tables so far are written, and the next begins behind them

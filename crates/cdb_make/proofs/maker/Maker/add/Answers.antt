@@ -1,19 +1,8 @@
-use Rattle.std.proofs.Common.{◌≡◌, ◌+◌, ◌*◌, ◌∷◌, ◌++◌, [], ℕ, Bool, false, cond, List, length, take, inl, inr, Err, refl, ap, sym, subst, ◌∙◌, arith}
-use Rattle.std.proofs.lemmas.List.{length_push}
-use Rattle.cdb_store.proofs.Moves.{kept_torn}
-use Rattle.cdb_form.specs.Format.Pair.{head_size}
-use Rattle.cdb_form.specs.Format.Record.{KeyValue, IsRecord, record_size}
-use Rattle.cdb_form.proofs.Files.Sizes.{length-record_bytes}
-use Rattle.cdb_make.specs.Marks.{gone_of, found_of, AreNone}
-use Rattle.cdb_make.specs.Spans.{AreOf}
-use Rattle.cdb_make.specs.Tags.{sought_by}
-use Rattle.cdb_make.specs.Views.Roll.{searched}
-use Rattle.cdb_make.specs.Views.Places.{places_in}
+use Rattle.cdb_make.proofs.Words.{AreNone, AreOf, Bool, Err, IsRecord, KeyValue, List, [], ap, arith, common_steps, cond, false, found_of, gone_of, head_size, inl, inr, kept_torn, length, length-record_bytes, length_push, places_in, record_size, refl, searched, sought_by, subst, sym, take, ℕ, ◌*◌, ◌++◌, ◌+◌, ◌∙◌, ◌∷◌, ◌≡◌}
 use Rattle.cdb_make.proofs.Bytes.Written.{on_any_err}
 use Rattle.cdb_make.proofs.Looking.{sees_same}
 use Rattle.cdb_make.proofs.Spans.{spans_of, place_low}
 use Rattle.cdb_make.proofs.Rolls.{add_fails, number_is, none_more, sees_kept, sees_added, more_slots, comes_write}
-use Rattle.std.proofs.lemmas.Grind.{common_steps}
 use Rattle.cdb_make.proofs.maker.Maker.add.Goals as goal
 
 pub returns-in_err-reserve-clause-stays : goal.returns-in_err-reserve-clause-stays

@@ -1,6 +1,4 @@
-use Rattle.std.proofs.Common.{◌≡◌, ◌+◌, ◌*◌, ℕ, ap, refl, arith}
-use Rattle.std.proofs.lemmas.Result.{on_ok_weaker}
-use Rattle.cdb_form.specs.Format.Record.{KeyValue}
+use Rattle.cdb_make.proofs.Words.{KeyValue, ap, arith, on_ok_weaker, refl, ℕ, ◌*◌, ◌+◌, ◌≡◌}
 use Rattle.cdb_make.proofs.Finishing.{found_size, none_size}
 use Rattle.cdb_make.proofs.Admitting.{admits_alone, stays_self}
 use Rattle.cdb_make.proofs.maker.Maker.add_alone.Goals as goal

@@ -1,5 +1,4 @@
-use Rattle.std.proofs.Common.{arith, refl, inl}
-use Rattle.std.proofs.lemmas.Grind.{common_steps}
+use Rattle.cdb_make.proofs.Words.{arith, common_steps, inl, refl}
 use Rattle.cdb_make.proofs.Admitting.{stays_self}
 use Rattle.cdb_make.proofs.maker.Maker.add_before.Goals as goal
 

@@ -1,12 +1,7 @@
-use Rattle.std.proofs.Common.{inl, inr, refl, sym, subst, ap, arith, ◌∙◌}
-use Rattle.std.proofs.lemmas.Result.{on_ok_weaker}
-use Rattle.cdb_form.specs.Format.Record.{KeyValue}
-use Rattle.cdb_make.specs.Marks.{AreNone}
-use Rattle.cdb_make.specs.Views.Roll.{searched}
+use Rattle.cdb_make.proofs.Words.{AreNone, KeyValue, ap, arith, common_steps, inl, inr, on_ok_weaker, refl, searched, subst, sym, ◌∙◌}
 use Rattle.cdb_make.proofs.Bytes.Written.{on_any_ok}
 use Rattle.cdb_make.proofs.Rolls.{follows_then, if_err_weaker}
 use Rattle.cdb_make.proofs.Admitting.{have_more, taken_clear, admits_later, admits_after, fails_after}
-use Rattle.std.proofs.lemmas.Grind.{common_steps}
 use Rattle.cdb_make.proofs.maker.Maker.add_then_take.Goals as goal
 
 pub take-requires : goal.take-requires

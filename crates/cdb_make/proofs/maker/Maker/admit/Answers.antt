@@ -1,5 +1,4 @@
-use Rattle.std.proofs.Common.{arith}
-use Rattle.std.proofs.lemmas.Grind.{common_steps}
+use Rattle.cdb_make.proofs.Words.{arith, common_steps}
 use Rattle.cdb_make.proofs.maker.Maker.admit.Goals as goal
 
 pub compact_and_add-requires-clause-tag : goal.compact_and_add-requires-clause-tag

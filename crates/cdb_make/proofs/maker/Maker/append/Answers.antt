@@ -1,5 +1,4 @@
-use Rattle.cdb_form.specs.Format.Walk.{whole_records}
-use Rattle.std.proofs.Common.{length}
+use Rattle.cdb_make.proofs.Words.{length, whole_records}
 use Rattle.cdb_make.proofs.Appends.{appends_after, fails_after, if_ok_weaker}
 use Rattle.cdb_make.proofs.Rolls.{follows_then, if_err_weaker}
 use Rattle.cdb_make.proofs.maker.Maker.append.Goals as goal

@@ -1,15 +1,8 @@
-use Rattle.std.proofs.Common.{arith, sym, ap, subst, ◌∙◌, ◌≡◌, ◌<◌, ◌+◌, ◌++◌, ◌∷◌, [], ℕ, List, length, take, drop, inl, inr}
+use Rattle.cdb_make.proofs.Words.{FailsAppending, KeyValue, List, PassesLimit, [], ap, arith, common_steps, drop, err_from_is_err_and, full_size, inl, inr, length, prefix_record, records_at, subst, sym, take, take-append-drop, take_all, whole_size, ℕ, ◌++◌, ◌+◌, ◌<◌, ◌∙◌, ◌∷◌, ◌≡◌}
 use Rattle.std.specs.Prelude.{sum_by}
-use Rattle.std.proofs.lemmas.List.{take-append-drop, take_all}
-use Rattle.std.proofs.lemmas.Result.{err_from_is_err_and}
-use Rattle.cdb_form.specs.Format.File.{whole_size}
-use Rattle.cdb_form.specs.Format.Record.{KeyValue}
-use Rattle.cdb_form.specs.Format.Walk.{prefix_record}
-use Rattle.cdb_make.specs.Views.Appending.{full_size, FailsAppending, PassesLimit, records_at}
 use Rattle.cdb_make.proofs.Appends.{appends_until, fails_wider, passes_limit}
 use Rattle.cdb_make.proofs.Finishing.{made_none}
 use Rattle.cdb_make.proofs.Bytes.Fitting.{next_fits, next_splits, sum_take}
-use Rattle.std.proofs.lemmas.Grind.{common_steps}
 use Rattle.cdb_make.proofs.maker.Maker.append_beside.Goals as goal
 
 pub returns-in_err-append_first-clause-fails : goal.returns-in_err-append_first-clause-fails

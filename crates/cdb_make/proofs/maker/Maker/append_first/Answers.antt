@@ -1,17 +1,10 @@
-use Rattle.std.proofs.Common.{arith, refl, sym, ap, subst, ◌∙◌, ◌≡◌, ◌<◌, ◌+◌, ◌-◌, ◌*◌, ◌∷◌, [], ℕ, List, length, length-take, take, drop}
+use Rattle.cdb_make.proofs.Words.{AreFirst, FailsAppending, KeepsLimit, KeyValue, List, [], ap, arith, common_steps, drop, err_from_is_err_and, length, length-take, on_ok_weaker, prefix_record, record_size, records_at, refl, size_split, subst, sym, take, whole_size, ℕ, ◌*◌, ◌+◌, ◌-◌, ◌<◌, ◌∙◌, ◌∷◌, ◌≡◌}
 use Rattle.std.specs.Prelude.{sum_by}
-use Rattle.std.proofs.lemmas.Result.{err_from_is_err_and, on_ok_weaker}
 use Rattle.cdb_store.specs.Images.{ImagesHold as Stored}
-use Rattle.cdb_form.specs.Format.File.{whole_size}
-use Rattle.cdb_form.specs.Format.Record.{KeyValue, record_size}
-use Rattle.cdb_form.specs.Format.Walk.{prefix_record}
-use Rattle.cdb_form.proofs.Files.Sizes.{size_split}
-use Rattle.cdb_make.specs.Views.Appending.{AreFirst, FailsAppending, KeepsLimit, records_at}
 use Rattle.cdb_make.proofs.Appends.{appends_all, appends_none, fails_behind, fails_writing, keeps_limit, stays_noted}
 use Rattle.cdb_make.proofs.Finishing.{whole_then}
 use Rattle.cdb_make.proofs.Looking.{same_then}
 use Rattle.cdb_make.proofs.Bytes.Fitting.{first_none, next_fits, next_of, next_splits, sum_take}
-use Rattle.std.proofs.lemmas.Grind.{common_steps}
 use Rattle.cdb_make.proofs.maker.Maker.append_first.Goals as goal
 
 pub write_behind-requires-clause-fits : goal.write_behind-requires-clause-fits

@@ -1,7 +1,4 @@
-use Rattle.std.proofs.Common.{◌∙◌, [], List, refl, ap, sym, rules}
-use Rattle.cdb_form.specs.Format.Record.{KeyValue}
-use Rattle.cdb_make.specs.Marks.{gone_of}
-use Rattle.cdb_make.specs.Spans.{left, number}
+use Rattle.cdb_make.proofs.Words.{KeyValue, List, [], ap, gone_of, left, number, refl, rules, sym, ◌∙◌}
 use Rattle.cdb_make.proofs.maker.Maker.begun.Goals as goal
 
 pub returns-in-Ok-clause-begins : goal.returns-in-Ok-clause-begins

@@ -1,13 +1,7 @@
-use Rattle.std.proofs.lemmas.Bool.{false_from_ne_true}
-use Rattle.std.proofs.Common.{◌≡◌, ◌+◌, length, inr, refl, ◌∙◌, arith, true, false, sym}
-use Rattle.std.proofs.lemmas.List.{length-map}
-use Rattle.cdb_form.specs.Format.Record.{KeyValue}
-use Rattle.cdb_make.specs.Marks.{is_gone}
-use Rattle.cdb_make.specs.Views.Maker.{gone_in}
+use Rattle.cdb_make.proofs.Words.{KeyValue, arith, common_steps, false, false_from_ne_true, gone_in, inr, is_gone, length, length-map, refl, sym, true, ◌+◌, ◌∙◌, ◌≡◌}
 use Rattle.cdb_make.proofs.Looking.{sees_long}
 use Rattle.cdb_make.proofs.Picking.{left_all_stay, both_few, both_within}
 use Rattle.cdb_make.proofs.Rolls.{follows_then, follows_room, compacting_fails, fewer_slots}
-use Rattle.std.proofs.lemmas.Grind.{common_steps}
 use Rattle.cdb_make.proofs.maker.Maker.compact_and_add.Goals as goal
 
 -- the record is within the limit by itself

@@ -1,7 +1,4 @@
-use Rattle.std.proofs.Common.{◌≡◌, length, ap, arith}
-use Rattle.std.proofs.lemmas.List.{length-map}
-use Rattle.cdb_make.specs.Marks.{is_gone}
-use Rattle.cdb_make.specs.Views.Maker.{gone_in}
+use Rattle.cdb_make.proofs.Words.{ap, arith, gone_in, is_gone, length, length-map, ◌≡◌}
 use Rattle.cdb_make.proofs.Looking.{sees_long}
 use Rattle.cdb_make.proofs.Picking.{left_number}
 use Rattle.cdb_make.proofs.maker.Maker.count.Goals as goal

@@ -1,9 +1,5 @@
-use Rattle.std.proofs.Common.{◌≡◌, ◌+◌, ℕ, List, ap, arith, length, take}
+use Rattle.cdb_make.proofs.Words.{KeyValue, List, ap, arith, length, records_at, take, take_all, whole_size, ℕ, ◌+◌, ◌≡◌}
 use Rattle.std.specs.Prelude.{sum_by}
-use Rattle.std.proofs.lemmas.List.{take_all}
-use Rattle.cdb_form.specs.Format.File.{whole_size}
-use Rattle.cdb_form.specs.Format.Record.{KeyValue}
-use Rattle.cdb_make.specs.Views.Appending.{records_at}
 use Rattle.cdb_make.proofs.Bytes.Fitting.{sum_take}
 use Rattle.cdb_make.proofs.maker.Maker.crowds.Goals as goal
 

@@ -1,14 +1,7 @@
-use Rattle.std.proofs.Common.{◌≡◌, ◌+◌, ◌*◌, ◌∷◌, ◌++◌, [], ℕ, false, List, length, refl, ap, sym, subst, ◌∙◌, arith}
-use Rattle.std.proofs.lemmas.List.{length_push}
-use Rattle.cdb_form.specs.Format.Pair.{head_size}
-use Rattle.cdb_make.specs.Marks.{gone_of, AreNone}
-use Rattle.cdb_make.specs.Spans.{AreOf}
-use Rattle.cdb_make.specs.Views.Places.{places_in}
-use Rattle.cdb_make.specs.Views.Roll.{searched}
+use Rattle.cdb_make.proofs.Words.{AreNone, AreOf, List, [], ap, arith, common_steps, false, gone_of, head_size, length, length_push, places_in, refl, searched, subst, sym, ℕ, ◌*◌, ◌++◌, ◌+◌, ◌∙◌, ◌∷◌, ◌≡◌}
 use Rattle.cdb_make.proofs.Bytes.Written.{on_any_err}
 use Rattle.cdb_make.proofs.Appends.{entered, stays_noted}
 use Rattle.cdb_make.proofs.Rolls.{number_is, more_slots, none_more}
-use Rattle.std.proofs.lemmas.Grind.{common_steps}
 use Rattle.cdb_make.proofs.maker.Maker.enter.Goals as goal
 
 pub returns-in_err-reserve-clause-stays : goal.returns-in_err-reserve-clause-stays

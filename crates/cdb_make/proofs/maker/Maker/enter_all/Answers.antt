@@ -1,12 +1,7 @@
-use Rattle.std.proofs.Common.{arith, refl, ap, sym, subst, ◌∙◌, ◌≡◌, ◌<◌, ◌≤◌, ◌+◌, ◌-◌, ◌++◌, ◌∷◌, [], ℕ, List, length, take, drop}
+use Rattle.cdb_make.proofs.Words.{AreBytes, AreBytes-drop, KeyValue, List, [], ap, arith, drop, key_hash, length, prefix_record, prefix_size, record_bytes, record_size, refl, subst, sym, take, whole_size, ℕ, ◌++◌, ◌+◌, ◌-◌, ◌<◌, ◌∙◌, ◌∷◌, ◌≡◌, ◌≤◌}
 use Rattle.std.specs.Prelude.{sum_by}
 use Rattle.cdb_store.specs.Images.{ImagesHold as Stored}
-use Rattle.cdb_form.specs.Format.File.{whole_size}
-use Rattle.cdb_form.specs.Format.Hash.{key_hash}
-use Rattle.cdb_form.specs.Format.Record.{AreBytes, KeyValue, record_bytes, record_size}
-use Rattle.cdb_form.specs.Format.Walk.{prefix_record, prefix_size}
 use Rattle.cdb_form.proofs.Bytes.HeadLemmas.{rest_of}
-use Rattle.cdb_form.proofs.Files.Standing.{AreBytes-drop}
 use Rattle.cdb_make.specs.Views.Roll.{IsSought}
 use Rattle.cdb_make.specs.Views.Appending.{Enters, first_size, records_at}
 use Rattle.cdb_make.proofs.Appends.{entered_size, enters_more, stops_entering}

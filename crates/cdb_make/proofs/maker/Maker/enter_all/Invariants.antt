@@ -1,5 +1,4 @@
-use Rattle.std.proofs.Common.{◌≡◌, take}
-use Rattle.cdb_make.specs.Views.Appending.{AreFirst, Enters, records_at}
+use Rattle.cdb_make.proofs.Words.{AreFirst, Enters, records_at, take, ◌≡◌}
 use Rattle.cdb_make.proofs.maker.Maker.enter_all.Given as goal
 
 -- the records that have an entry so far

@@ -1,13 +1,7 @@
-use Rattle.std.proofs.Common.{◌≡◌, ◌+◌, ◌*◌, ◌∷◌, ◌++◌, [], ℕ, Bool, List, length, map, inl, inr, ap, sym, ◌∙◌, arith}
-use Rattle.std.specs.Prelude.{sum}
-use Rattle.std.proofs.lemmas.Result.{on_ok_weaker, on_err_weaker}
-use Rattle.cdb_form.specs.Format.Record.{KeyValue, record_size}
-use Rattle.cdb_make.specs.Spans.{left, behind, or_each}
-use Rattle.cdb_make.specs.Views.Maker.{gone_in, found_in}
+use Rattle.cdb_make.proofs.Words.{Bool, KeyValue, List, [], ap, arith, behind, common_steps, found_in, gone_in, inl, inr, left, length, map, on_err_weaker, on_ok_weaker, or_each, record_size, sum, sym, ℕ, ◌*◌, ◌++◌, ◌+◌, ◌∙◌, ◌∷◌, ◌≡◌}
 use Rattle.cdb_make.proofs.Finishing.{exchange_counts}
 use Rattle.cdb_make.proofs.Looking.{sees_same}
 use Rattle.cdb_make.proofs.Rolls.{none_more, slots_add, follows_then, exchange_fails, torn_fails}
-use Rattle.std.proofs.lemmas.Grind.{common_steps}
 use Rattle.cdb_make.proofs.maker.Maker.exchange.Goals as goal
 
 pub add-requires-clause-fits : goal.add-requires-clause-fits

@@ -1,6 +1,4 @@
-use Rattle.std.proofs.Common.{sym, subst, arith}
-use Rattle.cdb_make.specs.Views.Maker.{IsFile}
-use Rattle.std.proofs.lemmas.Grind.{common_steps}
+use Rattle.cdb_make.proofs.Words.{IsFile, arith, common_steps, subst, sym}
 use Rattle.cdb_make.proofs.maker.Maker.finish.Goals as goal
 
 pub returns-in-Ok-clause-file : goal.returns-in-Ok-clause-file

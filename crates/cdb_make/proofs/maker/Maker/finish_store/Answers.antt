@@ -1,5 +1,4 @@
-use Rattle.std.proofs.Common.{refl, ap, ◌∙◌, Err}
-use Rattle.std.proofs.lemmas.Result.{on_ok_weaker}
+use Rattle.cdb_make.proofs.Words.{Err, ap, on_ok_weaker, refl, ◌∙◌}
 use Rattle.cdb_make.proofs.Finishing.{end_behind, is_file, finish_writes, head_from, finishing_fails, on_fault_is}
 use Rattle.cdb_make.proofs.Rolls.{comes_part, on_ok_both}
 use Rattle.cdb_make.proofs.maker.Maker.finish_store.Goals as goal

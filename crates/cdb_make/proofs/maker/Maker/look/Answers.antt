@@ -1,18 +1,7 @@
-use Rattle.cdb_make.specs.Tags.{sought_by}
-use Rattle.std.proofs.Common.{◌≡◌, ◌<◌, Err, List, Bool, length, subst, ap, sym, ◌∙◌, refl, arith}
-use Rattle.std.proofs.lemmas.List.{length-map}
-use Rattle.cdb_store.specs.Reads.{OnlyReads}
-use Rattle.cdb_store.proofs.Reading.{reads_nothing}
-use Rattle.cdb_make.specs.Marks.{is_gone, gone_of, AreNone}
-use Rattle.cdb_make.specs.Rolls.{SeesNone}
-use Rattle.cdb_make.specs.Spans.{left}
-use Rattle.cdb_make.specs.Survivors.{is_there}
-use Rattle.cdb_make.specs.Views.Roll.{SameRecords}
-use Rattle.cdb_make.specs.Views.Maker.{FailsLooking}
+use Rattle.cdb_make.proofs.Words.{AreNone, Bool, Err, FailsLooking, List, OnlyReads, SameRecords, SeesNone, ap, arith, common_steps, gone_of, is_gone, is_there, left, length, length-map, reads_nothing, refl, sought_by, subst, sym, ◌<◌, ◌∙◌, ◌≡◌}
 use Rattle.cdb_make.proofs.Looking.{sees_long, sees_same, same_then}
 use Rattle.cdb_make.proofs.Survive.{last_there}
 use Rattle.cdb_make.proofs.Rolls.{look_fails, follows_read}
-use Rattle.std.proofs.lemmas.Grind.{common_steps}
 use Rattle.cdb_make.proofs.maker.Maker.look.Goals as goal
 
 pub returns-in-Ok-clause-looks : goal.returns-in-Ok-clause-looks

@@ -1,12 +1,7 @@
-use Rattle.cdb_make.specs.Marks.{AreNone}
-use Rattle.std.proofs.Common.{◌≡◌, ◌<◌, ℕ, refl, sym, subst, ◌∙◌, arith}
-use Rattle.cdb_store.proofs.Reading.{reads_nothing}
+use Rattle.cdb_make.proofs.Words.{AreNone, KeyValue, Meets, arith, common_steps, reads_nothing, refl, subst, sym, ℕ, ◌<◌, ◌∙◌, ◌≡◌}
 use Rattle.cdb_form.specs.declared.mode.Mode.TheVariants.{Warn, Insert, Replace}
-use Rattle.cdb_form.specs.Format.Record.{KeyValue}
 use Rattle.cdb_make.specs.declared.answer.Put.TheVariants.{Added, AddedAgain, Present, Replaced}
-use Rattle.cdb_make.specs.Views.Maker.{Meets}
 use Rattle.cdb_make.proofs.Meeting.{meets_add, meets_by, meets_found, plain_again, plain_warn, plain_present, plain_insert, answers_none, answers_some}
-use Rattle.std.proofs.lemmas.Grind.{common_steps}
 use Rattle.cdb_make.proofs.maker.Maker.meet.Goals as goal
 
 pub returns-else-self-clause-meets : goal.returns-else-self-clause-meets

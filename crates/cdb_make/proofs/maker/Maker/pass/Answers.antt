@@ -1,14 +1,6 @@
-use Rattle.std.proofs.Common.{◌+◌, ℕ, Bool, List, length, map, refl, sym, ap, subst, ◌∙◌, arith}
-use Rattle.std.specs.Prelude.{sum}
-use Rattle.cdb_form.specs.Format.Pair.{head_size}
-use Rattle.cdb_form.specs.Format.Record.{record_size}
-use Rattle.cdb_make.specs.declared.mark.Mark.{Mark}
-use Rattle.cdb_make.specs.Marks.{gone_of}
-use Rattle.cdb_make.specs.Spans.{AreSpans, AreOf, Turns, left, behind}
-use Rattle.cdb_make.specs.Views.Places.{places_in}
+use Rattle.cdb_make.proofs.Words.{AreOf, AreSpans, Bool, List, Mark, Turns, ap, arith, behind, common_steps, gone_of, head_size, left, length, map, places_in, record_size, refl, subst, sum, sym, ℕ, ◌+◌, ◌∙◌}
 use Rattle.cdb_make.proofs.Spans.{spans_of}
 use Rattle.cdb_make.proofs.Rolls.{sees_compacted, fewer_slots, comes_part}
-use Rattle.std.proofs.lemmas.Grind.{common_steps}
 use Rattle.cdb_make.proofs.maker.Maker.pass.Goals as goal
 
 pub compact_bytes-requires-clause-spans : goal.compact_bytes-requires-clause-spans

@@ -1,5 +1,4 @@
-use Rattle.std.proofs.Common.{refl}
-use Rattle.cdb_form.specs.Format.Record.{KeyValue}
+use Rattle.cdb_make.proofs.Words.{KeyValue, refl}
 use Rattle.cdb_make.specs.declared.answer.Put.TheVariants.{Added}
 use Rattle.cdb_make.proofs.Meeting.{meets_alone, puts_by, put_failed}
 use Rattle.cdb_make.proofs.maker.Maker.put.Goals as goal

@@ -1,5 +1,4 @@
-use Rattle.std.proofs.Common.{sym, ◌∙◌}
-use Rattle.cdb_form.specs.Format.Record.{KeyValue}
+use Rattle.cdb_make.proofs.Words.{KeyValue, sym, ◌∙◌}
 use Rattle.cdb_make.proofs.Bytes.Written.{on_any_err}
 use Rattle.cdb_make.proofs.Finishing.{counts_then, rests_counts}
 use Rattle.cdb_make.proofs.Rolls.{follows_then}

@@ -1,14 +1,6 @@
-use Rattle.cdb_make.specs.Tags.{sought_by}
-use Rattle.std.proofs.Common.{refl, ◌<◌, Err, subst, ap, sym, ◌∙◌, arith}
-use Rattle.cdb_store.specs.Reads.{OnlyReads}
-use Rattle.cdb_store.proofs.Reading.{reads_nothing}
-use Rattle.cdb_make.specs.Marks.{gone_of, AreNone}
-use Rattle.cdb_make.specs.Rolls.{SeesNone}
-use Rattle.cdb_make.specs.Views.Roll.{SameRecords}
-use Rattle.cdb_make.specs.Views.Maker.{FailsLooking}
+use Rattle.cdb_make.proofs.Words.{AreNone, Err, FailsLooking, OnlyReads, SameRecords, SeesNone, ap, arith, common_steps, gone_of, reads_nothing, refl, sought_by, subst, sym, ◌<◌, ◌∙◌}
 use Rattle.cdb_make.proofs.Looking.{same_then}
 use Rattle.cdb_make.proofs.Rolls.{look_fails, follows_read}
-use Rattle.std.proofs.lemmas.Grind.{common_steps}
 use Rattle.cdb_make.proofs.maker.Maker.seek.Goals as goal
 
 pub returns-in-Err-clause-fails : goal.returns-in-Err-clause-fails

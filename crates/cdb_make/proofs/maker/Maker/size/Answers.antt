@@ -1,8 +1,4 @@
-use Rattle.std.proofs.Common.{◌≡◌, ◌+◌, length, ap, sym, ◌∙◌, arith}
-use Rattle.std.proofs.lemmas.List.{length-map}
-use Rattle.cdb_form.specs.Format.File.{file_size}
-use Rattle.cdb_make.specs.Marks.{is_gone}
-use Rattle.cdb_make.specs.Views.Maker.{gone_in}
+use Rattle.cdb_make.proofs.Words.{ap, arith, file_size, gone_in, is_gone, length, length-map, sym, ◌+◌, ◌∙◌, ◌≡◌}
 use Rattle.cdb_make.proofs.Looking.{sees_long}
 use Rattle.cdb_make.proofs.Rolls.{fewer_slots, left_file, two_slots}
 use Rattle.cdb_make.proofs.maker.Maker.size.Goals as goal

@@ -1,12 +1,4 @@
-use Rattle.std.proofs.Common.{◌≡◌, ℕ, Bool, true, false, List, length, map, inl, inr, refl, ap, sym, ◌∙◌, arith}
-use Rattle.std.specs.Prelude.{sum}
-use Rattle.std.proofs.lemmas.List.{length-map}
-use Rattle.std.proofs.lemmas.Result.{on_err_weaker}
-use Rattle.cdb_form.specs.Format.Pair.{head_size}
-use Rattle.cdb_form.specs.Format.Record.{record_size}
-use Rattle.cdb_make.specs.Marks.{is_gone, gone_of}
-use Rattle.cdb_make.specs.Spans.{left, behind, or_each}
-use Rattle.cdb_make.specs.Views.Maker.{gone_in, found_in}
+use Rattle.cdb_make.proofs.Words.{Bool, List, ap, arith, behind, false, found_in, gone_in, gone_of, head_size, inl, inr, is_gone, left, length, length-map, map, on_err_weaker, or_each, record_size, refl, sum, sym, true, ℕ, ◌∙◌, ◌≡◌}
 use Rattle.cdb_make.proofs.Looking.{sees_same, sees_long}
 use Rattle.cdb_make.proofs.Picking.{left_all_stay, left_sum, end_sum}
 use Rattle.cdb_make.proofs.Spans.{long_as}

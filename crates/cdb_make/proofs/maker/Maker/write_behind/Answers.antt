@@ -1,7 +1,4 @@
-use Rattle.std.proofs.Common.{arith, refl, ◌-◌, ℕ, inl}
-use Rattle.cdb_store.specs.Images.{AreSized, KeepsPart}
-use Rattle.cdb_store.proofs.Moves.{kept_torn}
-use Rattle.cdb_form.specs.Format.Pair.{head_size}
+use Rattle.cdb_make.proofs.Words.{AreSized, KeepsPart, arith, head_size, inl, kept_torn, refl, ℕ, ◌-◌}
 use Rattle.cdb_make.proofs.Appends.{stored_written}
 use Rattle.cdb_make.proofs.Finishing.{end_behind, stays_kept}
 use Rattle.cdb_make.proofs.Rolls.{comes_write}

@@ -1,5 +1,4 @@
-use Rattle.std.proofs.Common.{arith, ◌≡◌, ◌∙◌, ◌+◌, ◌*◌, ◌^◌, ◌<◌, ap, sym, subst, ℕ, List, get_or, length}
-use Rattle.cdb_make.specs.Views.Places.{of_halves}
+use Rattle.cdb_make.proofs.Words.{List, ap, arith, get_or, length, of_halves, subst, sym, ℕ, ◌*◌, ◌+◌, ◌<◌, ◌^◌, ◌∙◌, ◌≡◌}
 use Rattle.cdb_make.proofs.Halves.{length-halves, halves-none, get_or-halves}
 use Rattle.cdb_make.proofs.places.Places.at.Goals as goal
 

@@ -1,5 +1,4 @@
-use Rattle.std.proofs.Common.{arith}
-use Rattle.std.specs.Prelude.{vec_capacity}
+use Rattle.cdb_make.proofs.Words.{arith, vec_capacity}
 use Rattle.cdb_make.proofs.Halves.{length-halves, room_wide, room_narrow, pushed_wide, pushed_narrow}
 use Rattle.cdb_make.proofs.places.Places.push.Goals as goal
 

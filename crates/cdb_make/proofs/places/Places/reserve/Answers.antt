@@ -1,6 +1,4 @@
-use Rattle.std.proofs.Common.{arith, length, ap}
-use Rattle.std.specs.Prelude.{vec_capacity}
-use Rattle.std.proofs.lemmas.Result.{on_ok_weaker, on_err_weaker}
+use Rattle.cdb_make.proofs.Words.{ap, arith, length, on_err_weaker, on_ok_weaker, vec_capacity}
 use Rattle.cdb_store.proofs.Answered.{held_on_err}
 use Rattle.cdb_make.proofs.Halves.{length-halves, room_wide, room_narrow}
 use Rattle.cdb_make.proofs.places.Places.reserve.Goals as goal

@@ -1,5 +1,4 @@
-use Rattle.std.proofs.Common.{ap, ◌∙◌, ℕ, List, take}
-use Rattle.cdb_make.specs.Views.Places.{of_halves}
+use Rattle.cdb_make.proofs.Words.{List, ap, of_halves, take, ℕ, ◌∙◌}
 use Rattle.cdb_make.proofs.Halves.{halves-take}
 use Rattle.cdb_make.proofs.places.Places.truncate.Goals as goal
 

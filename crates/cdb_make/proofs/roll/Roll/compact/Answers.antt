@@ -1,19 +1,7 @@
-use Rattle.std.proofs.Common.{◌≡◌, ◌<◌, ◌≤◌, ◌+◌, ℕ, List, Bool, true, false, length, take, ap, sym, subst, ◌∙◌, arith}
-use Rattle.std.specs.Prelude.{slice_index}
-use Rattle.std.proofs.lemmas.List.{take_at, length-map, length-take-le, get_or_default}
-use Rattle.cdb_form.specs.Format.Pair.{head_size}
-use Rattle.cdb_make.specs.declared.mark.Mark.{Mark}
-use Rattle.cdb_make.specs.declared.roll.Picked.{Picked}
-use Rattle.cdb_make.specs.Chains.{AreChained}
-use Rattle.cdb_make.specs.Marks.{gone_of, found_of, is_gone}
-use Rattle.cdb_make.specs.Spans.{AreSpans, AreRising, AreOf, left, number}
-use Rattle.cdb_make.specs.Tags.{searched_by}
-use Rattle.cdb_make.specs.Views.Roll.{searched}
-use Rattle.cdb_make.specs.Views.Places.{places_in}
+use Rattle.cdb_make.proofs.Words.{AreChained, AreOf, AreRising, AreSpans, Bool, List, Mark, Picked, ap, arith, common_steps, false, found_of, get_or_default, gone_of, head_size, is_gone, left, length, length-map, length-take-le, number, places_in, searched, searched_by, slice_index, subst, sym, take, take_at, true, ℕ, ◌+◌, ◌<◌, ◌∙◌, ◌≡◌, ◌≤◌}
 use Rattle.cdb_make.proofs.Spans.{rising_of, spans_of}
 use Rattle.cdb_make.proofs.Linking.{chained_same}
 use Rattle.cdb_make.proofs.Picking.{picks_none, left_front, stays_at, none_gone, none_found, left_number, end_left}
-use Rattle.std.proofs.lemmas.Grind.{common_steps}
 use Rattle.cdb_make.proofs.roll.Roll.compact.Goals as goal
 
 pub compact_entries-kept-requires-clause-spans : goal.compact_entries-kept-requires-clause-spans

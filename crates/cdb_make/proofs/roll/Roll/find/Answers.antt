@@ -1,16 +1,7 @@
-use Rattle.std.proofs.Common.{◌≡◌, ◌+◌, ◌-◌, ℕ, List, Bool, get_or, refl, sym, subst, ◌∙◌, arith, length-set}
-use Rattle.std.proofs.lemmas.List.{length-map, map-set, get_or_default}
-use Rattle.cdb_form.specs.Format.Pair.{head_size}
+use Rattle.cdb_make.proofs.Words.{AreChained, Bool, IsPicked, List, Picked, arith, common_steps, found_of, get_or, get_or_default, head_size, is_found, length-map, length-set, map-set, places_in, refl, searched, subst, sym, ℕ, ◌+◌, ◌-◌, ◌∙◌, ◌≡◌}
 use Rattle.cdb_make.specs.declared.mark.Mark.TheVariants.{Found}
-use Rattle.cdb_make.specs.declared.roll.Picked.{Picked}
-use Rattle.cdb_make.specs.Chains.{AreChained}
-use Rattle.cdb_make.specs.Marks.{found_of, is_found}
-use Rattle.cdb_make.specs.Spans.{IsPicked}
-use Rattle.cdb_make.specs.Views.Roll.{searched}
-use Rattle.cdb_make.specs.Views.Places.{places_in}
 use Rattle.cdb_make.proofs.Spans.{spans_of, long_as}
 use Rattle.cdb_make.proofs.Picking.{picks_set, gone_set, number_most, picked_within}
-use Rattle.std.proofs.lemmas.Grind.{common_steps}
 use Rattle.cdb_make.proofs.roll.Roll.find.Goals as goal
 
 pub returns-clause-found : goal.returns-clause-found

@@ -1,6 +1,4 @@
-use Rattle.std.proofs.Common.{subst, arith}
-use Rattle.std.proofs.lemmas.List.{length-map}
-use Rattle.cdb_make.specs.Marks.{gone_of, is_gone, IsFirstMarked}
+use Rattle.cdb_make.proofs.Words.{IsFirstMarked, arith, gone_of, is_gone, length-map, subst}
 use Rattle.cdb_make.proofs.Picking.{first_among}
 use Rattle.cdb_make.proofs.roll.Roll.first_gone.Goals as goal
 

@@ -1,7 +1,4 @@
-use Rattle.std.proofs.Common.{arith}
-use Rattle.cdb_form.specs.Format.Pair.{head_size}
-use Rattle.cdb_make.specs.Marks.{gone_of}
-use Rattle.cdb_make.specs.Views.Places.{places_in}
+use Rattle.cdb_make.proofs.Words.{arith, gone_of, head_size, places_in}
 use Rattle.cdb_make.proofs.Spans.{spans_of}
 use Rattle.cdb_make.proofs.Picking.{picked_within}
 use Rattle.cdb_make.proofs.roll.Roll.left_end.Goals as goal

@@ -1,8 +1,5 @@
-use Rattle.std.proofs.Common.{◌≡◌, ◌∙◌, ℕ, List, refl, ap, subst, length, arith}
-use Rattle.std.proofs.lemmas.Grind.{common_steps}
-use Rattle.cdb_make.specs.Tags.{searched_by}
+use Rattle.cdb_make.proofs.Words.{List, ap, arith, common_steps, length, refl, searched, searched_by, subst, ℕ, ◌∙◌, ◌≡◌}
 use Rattle.cdb_make.specs.Views.Chains.{LinksIfRoom}
-use Rattle.cdb_make.specs.Views.Roll.{searched}
 use Rattle.cdb_make.proofs.roll.Roll.link.Goals as goal
 
 pub invariant_of-self : goal.invariant_of-self

@@ -1,17 +1,8 @@
-use Rattle.std.proofs.Common.{◌≡◌, ◌∷◌, ◌++◌, [], ℕ, ◌+◌, List, Bool, true, false, cond, length, get_or, ap, sym, subst, ◌∙◌, arith}
-use Rattle.std.specs.Prelude.{slice_index}
-use Rattle.std.proofs.lemmas.List.{length-map, map-append, length_push, get_or_append_left}
-use Rattle.cdb_form.specs.Format.Pair.{head_size}
+use Rattle.cdb_make.proofs.Words.{Bool, IsPicked, List, [], ap, arith, common_steps, cond, false, found_of, get_or, get_or_append_left, gone_of, head_size, is_found, is_gone, length, length-map, length_push, map-append, places_in, searched, searched_by, slice_index, subst, sym, true, ℕ, ◌++◌, ◌+◌, ◌∙◌, ◌∷◌, ◌≡◌}
 use Rattle.cdb_make.specs.declared.mark.Mark.TheVariants.{Stays}
-use Rattle.cdb_make.specs.Marks.{is_gone, is_found, gone_of, found_of}
-use Rattle.cdb_make.specs.Spans.{IsPicked}
-use Rattle.cdb_make.specs.Tags.{searched_by}
-use Rattle.cdb_make.specs.Views.Roll.{searched}
-use Rattle.cdb_make.specs.Views.Places.{places_in}
 use Rattle.cdb_make.proofs.Linking.{chained_same}
 use Rattle.cdb_make.proofs.Picking.{picks_push}
 use Rattle.cdb_make.proofs.Spans.{long_as, pushed_of, rising_of, spans_of}
-use Rattle.std.proofs.lemmas.Grind.{common_steps}
 use Rattle.cdb_make.proofs.roll.Roll.push.Goals as goal
 
 pub returns-clause-of : goal.returns-clause-of

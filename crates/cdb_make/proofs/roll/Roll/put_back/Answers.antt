@@ -1,16 +1,6 @@
-use Rattle.std.proofs.Common.{ℕ, ◌<◌, ◌≤◌, List, length, map, ap, sym, subst, ◌∙◌, arith}
-use Rattle.std.specs.Prelude.{vec_capacity}
-use Rattle.std.proofs.lemmas.List.{length-map}
-use Rattle.cdb_form.specs.Format.Pair.{head_size}
-use Rattle.cdb_make.specs.declared.mark.Mark.{Mark}
-use Rattle.cdb_make.specs.Chains.{AreChained}
-use Rattle.cdb_make.specs.Marks.{gone_of, found_of, is_found, put_back, AreNone}
-use Rattle.cdb_make.specs.Spans.{IsPicked, number}
-use Rattle.cdb_make.specs.Views.Roll.{searched}
-use Rattle.cdb_make.specs.Views.Places.{places_in}
+use Rattle.cdb_make.proofs.Words.{AreChained, AreNone, IsPicked, List, Mark, ap, arith, common_steps, found_of, gone_of, head_size, is_found, length, length-map, map, number, places_in, put_back, searched, subst, sym, vec_capacity, ℕ, ◌<◌, ◌∙◌, ◌≤◌}
 use Rattle.cdb_make.proofs.Picking.{back_items, first_within, gone_put_back, found_put_back, picks_none}
 use Rattle.cdb_make.proofs.Survive.{number_zero}
-use Rattle.std.proofs.lemmas.Grind.{common_steps}
 use Rattle.cdb_make.proofs.roll.Roll.put_back.Goals as goal
 
 pub returns-clause-gone : goal.returns-clause-gone

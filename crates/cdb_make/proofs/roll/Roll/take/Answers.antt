@@ -1,18 +1,7 @@
-use Rattle.std.proofs.Common.{◌≡◌, ◌+◌, ◌≤◌, ℕ, List, length, map, ap, sym, subst, ◌∙◌, arith, refl}
-use Rattle.std.specs.Prelude.{sum, vec_capacity}
-use Rattle.std.proofs.lemmas.List.{length-map}
-use Rattle.cdb_form.specs.Format.Pair.{head_size}
-use Rattle.cdb_make.specs.declared.mark.Mark.{Mark}
-use Rattle.cdb_make.specs.Chains.{AreChained}
-use Rattle.cdb_make.specs.Marks.{gone_of, found_of, is_gone, is_found, taken}
-use Rattle.cdb_make.specs.Spans.{IsPicked, picked}
-use Rattle.cdb_make.specs.Tags.{searched_by}
-use Rattle.cdb_make.specs.Views.Roll.{searched}
-use Rattle.cdb_make.specs.Views.Places.{places_in}
+use Rattle.cdb_make.proofs.Words.{AreChained, IsPicked, List, Mark, ap, arith, common_steps, found_of, gone_of, head_size, is_found, is_gone, length, length-map, map, picked, places_in, refl, searched, searched_by, subst, sum, sym, taken, vec_capacity, ℕ, ◌+◌, ◌∙◌, ◌≡◌, ◌≤◌}
 use Rattle.cdb_make.proofs.Spans.{spans_of, long_as}
 use Rattle.cdb_make.proofs.Picking.{picks_none, picks_taken, gone_taken, found_taken, taken_items, number_taken, number_most, picked_taken, picked_within, picked_none}
 use Rattle.cdb_make.proofs.Survive.{or_none, number_zero}
-use Rattle.std.proofs.lemmas.Grind.{common_steps}
 use Rattle.cdb_make.proofs.roll.Roll.take.Goals as goal
 
 pub overflow_add-self : goal.overflow_add-self

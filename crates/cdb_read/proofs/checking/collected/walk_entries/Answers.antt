@@ -1,10 +1,7 @@
-use Rattle.std.proofs.Common.{◌≤◌, refl, sym, ap, ◌∙◌, subst, rules, arith}
-use Rattle.cdb_read.specs.Views.Walk.{place_of}
-use Rattle.cdb_read.specs.Views.Walking.{behind, walk_ahead, next_place}
+use Rattle.cdb_read.proofs.Words.{ap, arith, behind, common_steps, next_place, place_of, refl, rules, subst, sym, walk_ahead, ◌∙◌, ◌≤◌}
 use Rattle.cdb_read.proofs.Checks.EnteredWalk.{EnteredSoFar, entered_none, entered_more, entered_all}
 use Rattle.cdb_read.proofs.Bytes.PieceReads.{reads_more}
 use Rattle.cdb_read.proofs.Walked.WalkedLengths.{reads_nothing, some_word}
-use Rattle.std.proofs.lemmas.Grind.{common_steps}
 use Rattle.cdb_read.proofs.checking.collected.walk_entries.Goals as goal
 
 pub loop-lists-init : goal.loop-lists-init

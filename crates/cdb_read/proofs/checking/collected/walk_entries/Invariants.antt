@@ -1,6 +1,4 @@
-use Rattle.std.proofs.Common.{◌≡◌, ℕ, List, length}
-use Rattle.cdb_store.specs.Reads.{OnlyReads}
-use Rattle.cdb_read.specs.Views.Walk.{left_of, place_of, bytes_left}
+use Rattle.cdb_read.proofs.Words.{List, OnlyReads, bytes_left, left_of, length, place_of, ℕ, ◌≡◌}
 use Rattle.cdb_read.proofs.Checks.EnteredWalk.{EnteredSoFar}
 use Rattle.cdb_read.proofs.checking.collected.walk_entries.Given as goal
 

@@ -1,5 +1,4 @@
-use Rattle.std.proofs.Common.{◌≤◌, get_or, arith}
-use Rattle.std.proofs.lemmas.Bool.{ltb-true}
+use Rattle.cdb_read.proofs.Words.{arith, get_or, ltb-true, ◌≤◌}
 use Rattle.cdb_read.proofs.Checks.Entered.{rising_from}
 use Rattle.cdb_read.proofs.checking.directory.is_above.Goals as goal
 

@@ -1,11 +1,5 @@
-use Rattle.std.proofs.Common.{◌≡◌, ◌*◌, ℕ, length, ap, ◌∙◌, rules, arith}
-use Rattle.cdb_form.specs.Format.Pair.{pair_size}
-use Rattle.cdb_form.specs.Format.Table.{slots_of}
-use Rattle.cdb_form.specs.Views.Pairs.{pointer_pair}
-use Rattle.cdb_form.specs.Views.SlotBytes.{slots_in}
-use Rattle.cdb_read.specs.Views.TableRecords.{entry_pairs}
+use Rattle.cdb_read.proofs.Words.{ap, arith, common_steps, entry_pairs, length, pair_size, pointer_pair, rules, slots_in, slots_of, ℕ, ◌*◌, ◌∙◌, ◌≡◌}
 use Rattle.cdb_read.proofs.Checks.FilledChecks.{filled_there}
-use Rattle.std.proofs.lemmas.Grind.{common_steps}
 use Rattle.cdb_read.proofs.checking.filled_table.is_filled.Goals as goal
 
 pub returns-in-Ok-clause-filled : goal.returns-in-Ok-clause-filled

@@ -1,13 +1,7 @@
-use Rattle.std.proofs.Common.{arith, ◌≡◌, ◌∙◌, ◌*◌, ℕ, List, length, replicate, refl, ap}
-use Rattle.std.proofs.lemmas.List.{length-replicate, take_all}
-use Rattle.cdb_form.specs.Format.Pair.{WordPair, pair_size}
-use Rattle.cdb_form.specs.Format.Table.{empty_slot, filled_slots}
-use Rattle.cdb_form.specs.Views.Pairs.{slot_pair}
-use Rattle.cdb_form.specs.Views.SlotBytes.{slots_in}
+use Rattle.cdb_read.proofs.Words.{List, WordPair, ap, arith, empty_slot, entry_pairs, filled_slots, length, length-replicate, pair_size, refl, replicate, slot_pair, slots_in, take_all, ℕ, ◌*◌, ◌∙◌, ◌≡◌}
 use Rattle.cdb_form.proofs.Slots.Filling.{filled_nothing, filled_next}
 use Rattle.cdb_form.proofs.Slots.RunLemmas.{runs_none}
 use Rattle.cdb_form.proofs.Slots.SlotBytes.{count_slots, slots_in-zeros}
-use Rattle.cdb_read.specs.Views.TableRecords.{entry_pairs}
 use Rattle.cdb_read.proofs.Checks.Entered.{length-entries_of}
 use Rattle.cdb_read.proofs.Checks.FilledChecks.{slot_there}
 use Rattle.cdb_read.proofs.checking.filled_table.put_all.Goals as goal

@@ -1,9 +1,5 @@
-use Rattle.std.proofs.Common.{◌≡◌, ◌*◌, length, take}
-use Rattle.cdb_form.specs.Format.Pair.{pair_size}
-use Rattle.cdb_form.specs.Format.Table.{filled_slots}
-use Rattle.cdb_form.specs.Views.SlotBytes.{slots_in}
+use Rattle.cdb_read.proofs.Words.{entry_pairs, filled_slots, length, pair_size, slots_in, take, ◌*◌, ◌≡◌}
 use Rattle.cdb_form.specs.Views.UsedRuns.{AreRuns}
-use Rattle.cdb_read.specs.Views.TableRecords.{entry_pairs}
 use Rattle.cdb_read.proofs.checking.filled_table.put_all.Given as goal
 
 -- the slots that the entries so far fill

@@ -1,8 +1,4 @@
-use Rattle.std.proofs.Common.{◌≡◌, ◌+◌, fold, sym, ap, ◌∙◌, arith}
-use Rattle.std.proofs.lemmas.List.Sums.{fold-append}
-use Rattle.cdb_store.proofs.Parts.{part_add}
-use Rattle.cdb_store.specs.Images.{part, ImagesHold}
-use Rattle.cdb_form.specs.Format.Hash.{hash_step}
+use Rattle.cdb_read.proofs.Words.{ImagesHold, ap, arith, fold, fold-append, hash_step, part, part_add, sym, ◌+◌, ◌∙◌, ◌≡◌}
 use Rattle.cdb_read.proofs.Bytes.PieceReads.{reads_more}
 use Rattle.cdb_read.proofs.Bytes.Windows.{holds_shown}
 use Rattle.cdb_read.proofs.checking.key_hash.span_hash.Goals as goal

@@ -1,8 +1,4 @@
-use Rattle.std.proofs.Common.{◌≡◌, ◌-◌, ◌≤◌, ℕ, List}
-use Rattle.cdb_store.specs.Images.{part}
-use Rattle.cdb_form.specs.Format.Hash.{key_hash}
-use Rattle.cdb_store.specs.Reads.{OnlyReads}
-use Rattle.cdb_read.specs.Views.Window.{Shows}
+use Rattle.cdb_read.proofs.Words.{List, OnlyReads, Shows, key_hash, part, ℕ, ◌-◌, ◌≡◌, ◌≤◌}
 use Rattle.cdb_read.proofs.checking.key_hash.span_hash.Given as goal
 
 -- the hash of the bytes so far

@@ -1,6 +1,5 @@
-use Rattle.std.proofs.Common.{ap, ◌∙◌}
+use Rattle.cdb_read.proofs.Words.{ap, table_number, ◌∙◌}
 use Rattle.std.proofs.lemmas.Result.{on_ok_weaker}
-use Rattle.cdb_form.specs.Format.Hash.{table_number}
 use Rattle.cdb_read.proofs.Checks.ListMarks.{lists_more}
 use Rattle.cdb_read.proofs.checking.record_lists.add_entry.Goals as goal
 

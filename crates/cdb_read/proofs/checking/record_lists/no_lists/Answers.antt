@@ -1,8 +1,5 @@
-use Rattle.std.specs.Prelude.{All}
-use Rattle.std.proofs.Common.{[], List, sym, subst, arith}
+use Rattle.cdb_read.proofs.Words.{All, List, Marks, TableRecords, [], arith, subst, sym}
 use Rattle.std.proofs.lemmas.List.Elements.{All-push}
-use Rattle.cdb_read.specs.Views.TableRecords.{Marks}
-use Rattle.cdb_read.specs.declared.checking.table_records.TableRecords.{TableRecords}
 use Rattle.cdb_read.proofs.Checks.ListMarks.{marks_nothing, lists_none}
 use Rattle.cdb_read.proofs.checking.record_lists.no_lists.Goals as goal
 

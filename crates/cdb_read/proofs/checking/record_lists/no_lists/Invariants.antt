@@ -1,6 +1,4 @@
-use Rattle.std.specs.Prelude.{All}
-use Rattle.std.proofs.Common.{◌≡◌, length, []}
-use Rattle.cdb_read.specs.Views.TableRecords.{Marks}
+use Rattle.cdb_read.proofs.Words.{All, Marks, [], length, ◌≡◌}
 use Rattle.cdb_read.proofs.checking.record_lists.no_lists.Given as goal
 
 -- so many lists, without records

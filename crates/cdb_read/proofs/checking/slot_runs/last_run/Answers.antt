@@ -1,13 +1,8 @@
-use Rattle.std.proofs.Common.{◌≡◌, ◌+◌, ◌-◌, ◌∙◌, ap, arith, refl, take}
-use Rattle.std.proofs.lemmas.Bool.{eq-eqb, ne_eqb, not_from_true, not_from_false}
-use Rattle.cdb_form.specs.Views.Pairs.{pointer_pair, slot_pair}
-use Rattle.cdb_read.specs.Lookup.{slots_at}
-use Rattle.cdb_read.specs.SlotRuns.{run_of}
+use Rattle.cdb_read.proofs.Words.{ap, arith, common_steps, eq-eqb, ne_eqb, not_from_false, not_from_true, pointer_pair, refl, run_of, slot_pair, slots_at, take, ◌+◌, ◌-◌, ◌∙◌, ◌≡◌}
 use Rattle.cdb_read.proofs.Bytes.PieceReads.{reads_more}
 use Rattle.cdb_read.proofs.Walked.WalkedLengths.{reads_nothing}
 use Rattle.cdb_read.proofs.FilledTables.RunEnds.{run_of-none, run_of-used, run_of-unused}
 use Rattle.cdb_read.proofs.Checks.SlotChecks.{slot_read, slots_more, slots_all}
-use Rattle.std.proofs.lemmas.Grind.{common_steps}
 use Rattle.cdb_read.proofs.checking.slot_runs.last_run.Goals as goal
 
 pub loop-run-init : goal.loop-run-init

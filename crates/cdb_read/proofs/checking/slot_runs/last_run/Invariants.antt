@@ -1,9 +1,4 @@
-use Rattle.std.proofs.Common.{◌≡◌, ◌+◌, ◌-◌, ℕ, List, take}
-use Rattle.cdb_form.specs.Views.Pairs.{pointer_pair}
-use Rattle.cdb_read.specs.Lookup.{slots_at}
-use Rattle.cdb_read.specs.SlotRuns.{run_of}
-use Rattle.cdb_store.specs.Reads.{OnlyReads}
-use Rattle.cdb_read.specs.Views.Window.{Shows}
+use Rattle.cdb_read.proofs.Words.{List, OnlyReads, Shows, pointer_pair, run_of, slots_at, take, ℕ, ◌+◌, ◌-◌, ◌≡◌}
 use Rattle.cdb_read.proofs.checking.slot_runs.last_run.Given as goal
 
 -- the run is that of the slots before, and those that were looked at

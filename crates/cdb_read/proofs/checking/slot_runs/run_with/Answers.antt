@@ -1,6 +1,4 @@
-use Rattle.std.proofs.Common.{sym, arith}
-use Rattle.std.proofs.lemmas.Bool.{eq-eqb, ne_eqb, not_from_true, not_from_false}
-use Rattle.cdb_form.specs.Views.Pairs.{slot_pair}
+use Rattle.cdb_read.proofs.Words.{arith, eq-eqb, ne_eqb, not_from_false, not_from_true, slot_pair, sym}
 use Rattle.cdb_read.proofs.FilledTables.RunEnds.{run_of-used, run_of-unused}
 use Rattle.cdb_read.proofs.checking.slot_runs.run_with.Goals as goal
 

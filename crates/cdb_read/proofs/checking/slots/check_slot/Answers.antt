@@ -1,5 +1,4 @@
-use Rattle.std.proofs.Common.{◌∙◌, sym, true, false}
-use Rattle.cdb_form.specs.Views.Pairs.{slot_pair}
+use Rattle.cdb_read.proofs.Words.{false, slot_pair, sym, true, ◌∙◌}
 use Rattle.cdb_read.proofs.Checks.Entered.{told_by_mark, marks_told}
 use Rattle.cdb_read.proofs.checking.slots.check_slot.Goals as goal
 

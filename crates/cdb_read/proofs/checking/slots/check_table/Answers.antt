@@ -1,21 +1,12 @@
 use Rattle.cdb_read.proofs.Checks.FilledChecks.{filled_is_clear}
-use Rattle.std.proofs.Common.{rules, ◌≡◌, ◌∙◌, ◌+◌, ◌++◌, Bool, take, ap, sym, subst, arith}
-use Rattle.std.specs.Prelude.{nat_le}
+use Rattle.cdb_read.proofs.Words.{Bool, ReadTells, SlotHas, TableHas, ap, arith, common_steps, err_from_is_err_and, is_reached, nat_le, pointer_pair, rules, run_of, slot_pair, slots_at, subst, sym, take, ◌++◌, ◌+◌, ◌∙◌, ◌≡◌}
 use Rattle.std.proofs.lemmas.List.{append-nil, append_assoc}
-use Rattle.std.proofs.lemmas.Result.{err_from_is_err_and}
-use Rattle.cdb_form.specs.Views.Pairs.{pointer_pair, slot_pair}
-use Rattle.cdb_read.specs.Lookup.{slots_at}
-use Rattle.cdb_read.specs.SlotRuns.{run_of}
-use Rattle.cdb_read.specs.Sound.{is_reached}
-use Rattle.cdb_read.specs.Views.Check.{ReadTells}
-use Rattle.cdb_read.specs.Views.Checked.{SlotHas, TableHas}
 use Rattle.cdb_read.proofs.Bytes.PieceReads.{reads_more}
 use Rattle.cdb_read.proofs.FilledTables.RunEnds.{reached_by_run}
 use Rattle.cdb_read.proofs.Checks.SlotChecks.{IsClearTo, slot_read, slots_more, clear_to_none, clear_to_used, clear_to_empty, clear_to_all, fault_at}
 use Rattle.cdb_read.proofs.Checks.Tells.{fault_tells}
 use Rattle.cdb_read.proofs.Probing.Probes.{length-slots_at}
 use Rattle.cdb_read.proofs.checking.slots.check_table.Goals.{then-slot-ne0+in_ok-check_slot, else-slot-ne0}
-use Rattle.std.proofs.lemmas.Grind.{common_steps}
 use Rattle.cdb_read.proofs.checking.slots.check_table.Goals as goal
 
 pub loop-i-init : goal.loop-i-init

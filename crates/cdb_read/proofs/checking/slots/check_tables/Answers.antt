@@ -1,8 +1,5 @@
 use Rattle.std.proofs.Common.{refl, get_or, length-set, ◌∙◌, arith}
-use Rattle.std.proofs.lemmas.Result.{err_from_is_err_and}
-use Rattle.cdb_form.specs.Views.Pairs.{pointer_pair}
-use Rattle.cdb_read.specs.Views.Check.{ReadTells}
-use Rattle.cdb_read.specs.Views.Checked.{TableHas, TablesHave}
+use Rattle.cdb_read.proofs.Words.{ReadTells, TableHas, TablesHave, err_from_is_err_and, pointer_pair}
 use Rattle.cdb_read.proofs.Checks.AllTables.{are_clear_none, are_clear_more, are_clear_all, fault_in}
 use Rattle.cdb_read.proofs.Bytes.PieceReads.{reads_more}
 use Rattle.cdb_read.proofs.Checks.TableChecks.{stands_at}

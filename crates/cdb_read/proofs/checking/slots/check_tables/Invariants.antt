@@ -1,6 +1,4 @@
-use Rattle.std.proofs.Common.{◌≡◌, ℕ, List, length}
-use Rattle.cdb_store.specs.Reads.{OnlyReads}
-use Rattle.cdb_read.specs.Views.Window.{Shows}
+use Rattle.cdb_read.proofs.Words.{List, OnlyReads, Shows, length, ℕ, ◌≡◌}
 use Rattle.cdb_read.proofs.Checks.AllTables.{AreClearTo}
 use Rattle.cdb_read.proofs.checking.slots.check_tables.Given as goal
 

@@ -1,13 +1,9 @@
-use Rattle.std.proofs.Common.{◌≡◌, ℕ, List, length, take, ◌++◌, ap, sym, ◌∙◌, subst, arith}
+use Rattle.cdb_read.proofs.Words.{HasEntries, List, TableRecords, TablesAreClear, TablesHave, WalkHas, ap, arith, common_steps, err_from_is_err_and, length, subst, sym, take, ℕ, ◌++◌, ◌∙◌, ◌≡◌}
 use Rattle.std.proofs.Math.Seq.{take-append_seam}
-use Rattle.std.proofs.lemmas.Result.{err_from_is_err_and}
 use Rattle.cdb_read.specs.Views.Check.{CheckFails, IsFirstDamage}
-use Rattle.cdb_read.specs.Views.Checked.{HasEntries, WalkHas, TablesAreClear, TablesHave}
-use Rattle.cdb_read.specs.declared.checking.table_records.TableRecords.{TableRecords}
 use Rattle.cdb_read.proofs.Checks.CheckLaws.{IsWhole, has_tables, first_is_table, first_in_walk, first_in_slots, first_is_lost, sound_is}
 use Rattle.cdb_read.proofs.Checks.Tells.{read_tells, check_tells, check_tells_more}
 use Rattle.cdb_read.proofs.Walked.WalkedLengths.{some_word}
-use Rattle.std.proofs.lemmas.Grind.{common_steps}
 use Rattle.cdb_read.proofs.checking.sound.check.Goals as goal
 
 -- a vector whose items were all changed in place

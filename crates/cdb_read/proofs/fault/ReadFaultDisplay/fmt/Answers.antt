@@ -1,5 +1,4 @@
-use Rattle.std.proofs.Common.{arith}
-use Rattle.std.proofs.lemmas.Grind.{common_steps}
+use Rattle.cdb_read.proofs.Words.{arith, common_steps}
 use Rattle.cdb_read.proofs.fault.ReadFaultDisplay.fmt.Goals as goal
 
 pub returns-in-Slot-clause-writes : goal.returns-in-Slot-clause-writes

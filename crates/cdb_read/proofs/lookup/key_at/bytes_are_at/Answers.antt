@@ -1,9 +1,7 @@
-use Rattle.std.proofs.Common.{arith, ◌+◌}
-use Rattle.cdb_store.specs.Images.{ImagesHold}
+use Rattle.cdb_read.proofs.Words.{ImagesHold, arith, common_steps, ◌+◌}
 use Rattle.cdb_read.proofs.Bytes.Compare.{differs, agrees, agrees_piece, tells_other}
 use Rattle.cdb_read.proofs.Bytes.PieceReads.{reads_more}
 use Rattle.cdb_read.proofs.Bytes.Windows.{holds_shown}
-use Rattle.std.proofs.lemmas.Grind.{common_steps}
 use Rattle.cdb_read.proofs.lookup.key_at.bytes_are_at.Goals as goal
 
 pub returns-then-ne-clause-same : goal.returns-then-ne-clause-same

@@ -1,6 +1,4 @@
-use Rattle.std.proofs.Common.{◌-◌, ◌≤◌, length, take}
-use Rattle.cdb_store.specs.Reads.{OnlyReads}
-use Rattle.cdb_read.specs.Views.Window.{Shows}
+use Rattle.cdb_read.proofs.Words.{OnlyReads, Shows, length, take, ◌-◌, ◌≤◌}
 use Rattle.cdb_read.proofs.Bytes.Compare.{AgreesSoFar}
 use Rattle.cdb_read.proofs.lookup.key_at.bytes_are_at.Given as goal
 

@@ -1,9 +1,6 @@
-use Rattle.std.proofs.Common.{rules, subst, arith, ◌≡◌, ◌≤◌, true, false, sym, ◌∙◌}
-use Rattle.cdb_form.specs.Format.Pair.{head_size}
-use Rattle.cdb_read.specs.Views.Search.{TellsSame}
+use Rattle.cdb_read.proofs.Words.{TellsSame, arith, common_steps, false, head_size, rules, subst, sym, true, ◌∙◌, ◌≡◌, ◌≤◌}
 use Rattle.cdb_read.proofs.Probing.Headers.{lengths_shown, fewer_lengths, no_room, other_length, other_key, same_key}
 use Rattle.cdb_read.proofs.lookup.key_at.look_at.Goals.{then-record-key-via-then-record-key, then-record-key-via-else-record-key+in_ok-bytes_are_at+then-not-branch}
-use Rattle.std.proofs.lemmas.Grind.{common_steps}
 use Rattle.cdb_read.proofs.lookup.key_at.look_at.Goals as goal
 
 pub returns-in_default-clause-looks : goal.returns-in_default-clause-looks

@@ -1,7 +1,4 @@
-use Rattle.std.proofs.Common.{ap, ◌∙◌, refl}
-use Rattle.std.proofs.lemmas.Bool.{both_ways}
-use Rattle.cdb_form.specs.Format.Hash.{table_number}
-use Rattle.cdb_form.specs.Views.Pairs.{pointer_pair}
+use Rattle.cdb_read.proofs.Words.{ap, both_ways, pointer_pair, refl, table_number, ◌∙◌}
 use Rattle.cdb_read.proofs.Probing.Beginnings.{begins_nowhere, begins_outside, begins_at}
 use Rattle.cdb_read.proofs.lookup.probe.first_probe.Goals as goal
 

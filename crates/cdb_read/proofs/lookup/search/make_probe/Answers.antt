@@ -1,8 +1,5 @@
-use Rattle.std.proofs.Common.{sym, ◌∙◌, subst, arith}
-use Rattle.cdb_form.specs.Views.Pairs.{slot_pair}
-use Rattle.cdb_read.specs.Views.Search.{LooksAt}
+use Rattle.cdb_read.proofs.Words.{LooksAt, arith, common_steps, slot_pair, subst, sym, ◌∙◌}
 use Rattle.cdb_read.proofs.Probing.Searches.{IsProbeSlot, fewer_slots, step_empty, step_other, step_broken, step_passed, step_value}
-use Rattle.std.proofs.lemmas.Grind.{common_steps}
 use Rattle.cdb_read.proofs.lookup.search.make_probe.Goals as goal
 
 pub returns-then-slot-eq0-clause-steps : goal.returns-then-slot-eq0-clause-steps

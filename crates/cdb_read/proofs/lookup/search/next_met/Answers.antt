@@ -1,6 +1,5 @@
-use Rattle.std.proofs.Common.{◌≡◌, arith, rules}
+use Rattle.cdb_read.proofs.Words.{arith, common_steps, rules, ◌≡◌}
 use Rattle.cdb_read.proofs.Probing.Searches.{meets_none}
-use Rattle.std.proofs.lemmas.Grind.{common_steps}
 use Rattle.cdb_read.proofs.lookup.search.next_met.Goals as goal
 
 pub returns-clause-meets : goal.returns-clause-meets

@@ -1,7 +1,4 @@
-use Rattle.std.proofs.Common.{◌≤◌}
-use Rattle.cdb_store.specs.Reads.{OnlyReads}
-use Rattle.cdb_read.specs.Views.Window.{Shows}
-use Rattle.cdb_read.specs.Views.Probing.{ProbeInside}
+use Rattle.cdb_read.proofs.Words.{OnlyReads, ProbeInside, Shows, ◌≤◌}
 use Rattle.cdb_read.proofs.Probing.Searches.{SameAhead}
 use Rattle.cdb_read.proofs.lookup.search.next_met.Given as goal
 

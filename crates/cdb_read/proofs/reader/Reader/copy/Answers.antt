@@ -1,6 +1,4 @@
-use Rattle.std.proofs.Common.{rules, ◌∙◌}
-use Rattle.std.proofs.lemmas.Bool.{OnTrue_at}
-use Rattle.std.proofs.lemmas.Result.{err_from_is_err_and}
+use Rattle.cdb_read.proofs.Words.{OnTrue_at, err_from_is_err_and, rules, ◌∙◌}
 use Rattle.cdb_form.proofs.Bytes.WritingLemmas.{same_appends, same_prefix, writes_prefix}
 use Rattle.cdb_read.proofs.Bytes.Windows.{shown_is}
 use Rattle.cdb_read.proofs.reader.Reader.copy.Goals as goal

@@ -1,6 +1,4 @@
-use Rattle.std.proofs.Common.{ℕ, ap, subst, sym, ◌∙◌}
-use Rattle.cdb_form.specs.Format.Hash.{table_number}
-use Rattle.cdb_read.specs.Views.Probing.{IsSearchInside}
+use Rattle.cdb_read.proofs.Words.{IsSearchInside, ap, subst, sym, table_number, ℕ, ◌∙◌}
 use Rattle.cdb_read.proofs.Probing.Beginnings.{looks_by}
 use Rattle.cdb_read.proofs.reader.Reader.first_probe.Goals as goal
 

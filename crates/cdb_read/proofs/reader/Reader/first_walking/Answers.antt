@@ -1,6 +1,4 @@
-use Rattle.std.proofs.Common.{arith, ◌≤◌, length, sym, subst}
-use Rattle.cdb_form.specs.Format.Pair.{head_size}
-use Rattle.cdb_form.specs.Views.Pairs.{head_pairs}
+use Rattle.cdb_read.proofs.Words.{arith, head_pairs, head_size, length, subst, sym, ◌≤◌}
 use Rattle.cdb_read.proofs.Walked.Walks.{walks_nowhere, walks_from}
 use Rattle.cdb_read.proofs.reader.Reader.first_walking.Goals as goal
 

@@ -1,6 +1,4 @@
-use Rattle.std.proofs.Common.{◌∙◌, sym, ap}
-use Rattle.std.specs.Prelude.{◌&&◌, not}
-use Rattle.std.proofs.lemmas.Bool.{lt-ltb}
+use Rattle.cdb_read.proofs.Words.{ap, lt-ltb, not, sym, ◌&&◌, ◌∙◌}
 use Rattle.cdb_read.proofs.Lacking.{nothing_follows, tables_lack}
 use Rattle.cdb_read.proofs.reader.Reader.lacks_tables.Goals as goal
 

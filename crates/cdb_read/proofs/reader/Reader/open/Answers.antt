@@ -1,9 +1,6 @@
-use Rattle.std.proofs.Common.{ap, ◌∙◌, sym, rules, arith}
-use Rattle.std.proofs.lemmas.List.{take_at}
-use Rattle.cdb_form.specs.Format.Reading.{head_at}
+use Rattle.cdb_read.proofs.Words.{ap, arith, common_steps, head_at, rules, sym, take_at, ◌∙◌}
 use Rattle.cdb_form.proofs.RecordReading.RecordAreas.{head_fits}
 use Rattle.cdb_read.proofs.Bytes.Heads.{head_known}
-use Rattle.std.proofs.lemmas.Grind.{common_steps}
 use Rattle.cdb_read.proofs.reader.Reader.open.Goals as goal
 
 pub invariant_of-result-clause-known : goal.invariant_of-result-clause-known

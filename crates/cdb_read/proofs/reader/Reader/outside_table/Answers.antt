@@ -1,6 +1,4 @@
-use Rattle.std.proofs.Common.{◌∙◌, sym, ap}
-use Rattle.std.specs.Prelude.{position}
-use Rattle.cdb_read.specs.Statistics.{is_outside}
+use Rattle.cdb_read.proofs.Words.{ap, is_outside, position, sym, ◌∙◌}
 use Rattle.cdb_read.proofs.reader.Reader.outside_table.Goals as goal
 
 pub returns : goal.returns

@@ -1,5 +1,4 @@
-use Rattle.std.proofs.Common.{◌∙◌, length, sym, ap}
-use Rattle.cdb_store.specs.Images.{part}
+use Rattle.cdb_read.proofs.Words.{ap, length, part, sym, ◌∙◌}
 use Rattle.cdb_read.proofs.Bytes.Windows.{shown_is}
 use Rattle.cdb_read.proofs.reader.Reader.read_at.Goals as goal
 

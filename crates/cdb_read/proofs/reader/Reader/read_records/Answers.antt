@@ -1,5 +1,4 @@
-use Rattle.std.proofs.Common.{◌≡◌, ℕ, ◌+◌, ◌-◌, List, [], ◌++◌, length, length-append, length-drop, drop, refl, sym, ap, ◌∙◌, arith, rules}
-use Rattle.cdb_store.specs.Images.{part}
+use Rattle.cdb_read.proofs.Words.{List, [], ap, arith, drop, length, length-append, length-drop, part, refl, rules, sym, ℕ, ◌++◌, ◌+◌, ◌-◌, ◌∙◌, ◌≡◌}
 use Rattle.cdb_read.proofs.Walked.WalkedLengths.{some_word}
 use Rattle.cdb_read.proofs.Walked.AheadRecords.{records_ahead, size_end}
 use Rattle.cdb_read.proofs.reader.Reader.read_records.Goals as goal

@@ -1,5 +1,4 @@
-use Rattle.std.proofs.Common.{◌++◌, ap, ◌∙◌}
-use Rattle.std.proofs.lemmas.Bool.{OnTrue_at}
+use Rattle.cdb_read.proofs.Words.{OnTrue_at, ap, ◌++◌, ◌∙◌}
 use Rattle.cdb_read.proofs.Bytes.Windows.{shown_is}
 use Rattle.cdb_read.proofs.reader.Reader.value_into.Goals as goal
 

@@ -1,10 +1,4 @@
-use Rattle.std.proofs.Common.{◌≡◌, ℕ, List, sym, ◌∙◌, subst}
-use Rattle.std.proofs.lemmas.Result.{err_from_is_err_and}
-use Rattle.cdb_form.specs.Format.Walk.{walk_of}
-use Rattle.cdb_read.specs.Statistics.{statistics_damage, table_sizes}
-use Rattle.cdb_read.specs.Views.Counting.{Spreads}
-use Rattle.cdb_form.specs.Views.Pairs.{head_pairs}
-use Rattle.cdb_read.specs.Views.Stats.{StatsFail}
+use Rattle.cdb_read.proofs.Words.{List, Spreads, StatsFail, err_from_is_err_and, head_pairs, statistics_damage, subst, sym, table_sizes, walk_of, ℕ, ◌∙◌, ◌≡◌}
 use Rattle.cdb_read.proofs.Counting.StatsLaws.{damage_outside, damage_walk, walk_fails, slots_fail, still_inside, stats_are}
 use Rattle.cdb_read.proofs.statistics.count.stats.Goals as goal
 

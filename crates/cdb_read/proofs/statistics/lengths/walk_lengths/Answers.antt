@@ -1,10 +1,6 @@
-use Rattle.std.proofs.Common.{◌≤◌, refl, sym, ap, ◌∙◌, subst, arith, rules}
-use Rattle.std.proofs.lemmas.Result.{err_from_is_err_and}
-use Rattle.cdb_read.specs.Views.Lengths.{LengthsFail}
-use Rattle.cdb_read.specs.Views.Walking.{behind}
+use Rattle.cdb_read.proofs.Words.{LengthsFail, ap, arith, behind, common_steps, err_from_is_err_and, refl, rules, subst, sym, ◌∙◌, ◌≤◌}
 use Rattle.cdb_read.proofs.Bytes.PieceReads.{reads_more}
 use Rattle.cdb_read.proofs.Walked.WalkedLengths.{reads_nothing, few_more, some_word, walked_none, walked_more, walked_all, walking_fails}
-use Rattle.std.proofs.lemmas.Grind.{common_steps}
 use Rattle.cdb_read.proofs.statistics.lengths.walk_lengths.Goals as goal
 
 pub loop-pair-init : goal.loop-pair-init

@@ -1,6 +1,4 @@
-use Rattle.std.proofs.Common.{arith, ◌≡◌, ◌+◌, ◌*◌, length, ℕ, sym, ◌∙◌, inl, inr}
-use Rattle.cdb_form.specs.Views.Pairs.{header_pair}
-use Rattle.cdb_store.specs.Images.{ImagesHold}
+use Rattle.cdb_read.proofs.Words.{ImagesHold, arith, header_pair, inl, inr, length, sym, ℕ, ◌*◌, ◌+◌, ◌∙◌, ◌≡◌}
 use Rattle.cdb_read.proofs.Bytes.Windows.{holds_shown}
 use Rattle.cdb_read.proofs.Probing.Headers.{passes}
 use Rattle.cdb_read.proofs.Probing.Pairs.{HeaderTells, header_tells, least_below, no_header, spans_stand, spans_within}

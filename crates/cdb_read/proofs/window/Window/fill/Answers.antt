@@ -1,5 +1,4 @@
-use Rattle.std.proofs.Common.{rules, arith}
-use Rattle.std.proofs.lemmas.Grind.{common_steps}
+use Rattle.cdb_read.proofs.Words.{arith, common_steps, rules}
 use Rattle.cdb_read.proofs.window.Window.fill.Goals as goal
 
 pub returns-in_err-read_part-clause-shows : goal.returns-in_err-read_part-clause-shows

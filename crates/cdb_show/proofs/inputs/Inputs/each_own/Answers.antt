@@ -1,7 +1,4 @@
-use Rattle.std.proofs.Common.{◌≡◌, ◌++◌, [], map, ap, sym, ◌∙◌, rules, arith}
-use Rattle.std.proofs.lemmas.Grind.{common_steps}
-use Rattle.std.proofs.lemmas.List.{append-nil}
-use Rattle.cdb_show.specs.Views.Inputs.{one_of}
+use Rattle.cdb_show.proofs.Words.{[], ap, append-nil, arith, common_steps, map, one_of, rules, sym, ◌++◌, ◌∙◌, ◌≡◌}
 use Rattle.cdb_show.proofs.NextInputs.{own_of, own_bytes}
 use Rattle.cdb_show.proofs.inputs.Inputs.each_own.Goals as goal
 

@@ -1,5 +1,4 @@
-use Rattle.std.proofs.Common.{◌≡◌, ◌++◌, map}
-use Rattle.cdb_show.specs.Views.Inputs.{one_of}
+use Rattle.cdb_show.proofs.Words.{map, one_of, ◌++◌, ◌≡◌}
 use Rattle.cdb_show.proofs.NextInputs.{own_of}
 use Rattle.cdb_show.proofs.inputs.Inputs.each_own.Given as goal
 

@@ -1,8 +1,4 @@
-use Rattle.std.proofs.Common.{[], subst, sym}
-use Rattle.cdb_form.specs.Fed.Feed.{Consumes}
-use Rattle.cdb_form.proofs.Fed.FeedLemmas.{nothing_taken}
-use Rattle.cdb_show.specs.Views.Inputs.{shared_feed}
-use Rattle.cdb_show.specs.Views.Window.{feed_of}
+use Rattle.cdb_show.proofs.Words.{Consumes, [], feed_of, nothing_taken, shared_feed, subst, sym}
 use Rattle.cdb_show.proofs.inputs.SharedWindow.in_hand.Goals as goal
 
 pub returns-in-InHand-clause-kept : goal.returns-in-InHand-clause-kept

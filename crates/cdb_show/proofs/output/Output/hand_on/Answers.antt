@@ -1,7 +1,4 @@
-use Rattle.std.proofs.Common.{◌∙◌, ◌+◌, ℕ, List, Option, Some, ap, drop, rules}
-use Rattle.std.specs.Io.KnownBytes.{append_known}
-use Rattle.cdb_show.specs.Views.Noted.{noted_by}
-use Rattle.cdb_show.specs.Views.Output.{output_bytes, writer_bytes}
+use Rattle.cdb_show.proofs.Words.{List, Option, Some, ap, append_known, drop, noted_by, output_bytes, rules, writer_bytes, ℕ, ◌+◌, ◌∙◌}
 use Rattle.std.proofs.lemmas.List.{take_rest}
 use Rattle.cdb_show.proofs.Writers.{keeps_then}
 use Rattle.cdb_show.proofs.OutputLemmas.{marked_so, handed_on}

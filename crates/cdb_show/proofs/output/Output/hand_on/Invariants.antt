@@ -1,6 +1,4 @@
-use Rattle.std.proofs.Common.{◌≡◌, ◌-◌, length}
-use Rattle.std.specs.Io.KnownBytes.{Keeps}
-use Rattle.cdb_show.specs.Views.Output.{output_bytes}
+use Rattle.cdb_show.proofs.Words.{Keeps, length, output_bytes, ◌-◌, ◌≡◌}
 use Rattle.cdb_show.proofs.output.Output.hand_on.Given as goal
 
 -- no byte was lost so far, and the writer did not fail

@@ -1,6 +1,4 @@
-use Rattle.std.proofs.Common.{Some, arith}
-use Rattle.cdb_show.specs.Views.Noted.{noted_by}
-use Rattle.cdb_show.specs.Views.Output.{output_bytes, writer_bytes}
+use Rattle.cdb_show.proofs.Words.{Some, arith, noted_by, output_bytes, writer_bytes}
 use Rattle.cdb_show.proofs.OutputLemmas.{marked_so, some_passed_on}
 use Rattle.cdb_show.proofs.output.Output.pass_on.Goals as goal
 

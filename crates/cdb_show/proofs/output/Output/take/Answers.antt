@@ -1,7 +1,4 @@
-use Rattle.std.proofs.lemmas.Grind.{common_steps}
-use Rattle.std.proofs.lemmas.List.{length-take}
-use Rattle.std.proofs.Common.{arith}
-use Rattle.cdb_show.specs.Views.Output.{writer_bytes}
+use Rattle.cdb_show.proofs.Words.{arith, common_steps, length-take, writer_bytes}
 use Rattle.cdb_show.proofs.OutputLemmas.{all_in, taken_in}
 use Rattle.cdb_show.proofs.output.Output.take.Goals as goal
 

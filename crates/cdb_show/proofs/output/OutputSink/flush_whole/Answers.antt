@@ -1,5 +1,4 @@
-use Rattle.std.proofs.lemmas.Grind.{common_steps}
-use Rattle.std.proofs.Common.{arith}
+use Rattle.cdb_show.proofs.Words.{arith, common_steps}
 use Rattle.cdb_show.proofs.OutputLemmas.{marked_so}
 use Rattle.cdb_show.proofs.output.OutputSink.flush_whole.Goals as goal
 

@@ -1,6 +1,5 @@
-use Rattle.std.proofs.Common.{rules, arith}
+use Rattle.cdb_show.proofs.Words.{arith, common_steps, rules}
 use Rattle.cdb_show.proofs.Checks.{opening_unchecked}
-use Rattle.std.proofs.lemmas.Grind.{common_steps}
 use Rattle.cdb_show.proofs.runs.check.check_run.Goals as goal
 
 pub returns-in-Err-clause-fails : goal.returns-in-Err-clause-fails

@@ -1,5 +1,4 @@
-use Rattle.std.proofs.lemmas.Grind.{common_steps}
-use Rattle.std.proofs.Common.{arith}
+use Rattle.cdb_show.proofs.Words.{arith, common_steps}
 use Rattle.cdb_show.proofs.DifferenceRuns.{tells_flushed}
 use Rattle.cdb_show.proofs.runs.difference.difference_run.Goals as goal
 

@@ -1,6 +1,4 @@
-use Rattle.std.proofs.Common.{◌≤◌, sym, subst}
-use Rattle.cdb_form.specs.Format.Pair.{head_size}
-use Rattle.cdb_store.specs.Reads.{OnlyReads}
+use Rattle.cdb_show.proofs.Words.{OnlyReads, head_size, subst, sym, ◌≤◌}
 use Rattle.cdb_show.proofs.DifferenceRuns.{new_unopened, old_unopened, tells_since}
 use Rattle.cdb_show.proofs.runs.difference.difference_unflushed.Goals as goal
 

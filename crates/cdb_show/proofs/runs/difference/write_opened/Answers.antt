@@ -1,6 +1,4 @@
-use Rattle.std.proofs.lemmas.Grind.{common_steps}
-use Rattle.std.proofs.Common.{arith, sym, subst, ◌∙◌}
-use Rattle.cdb_difference.specs.Difference.{SaysDifference}
+use Rattle.cdb_show.proofs.Words.{SaysDifference, arith, common_steps, subst, sym, ◌∙◌}
 use Rattle.cdb_show.proofs.DifferenceRuns.{new_lacks, new_outside, old_lacks, old_outside, tells_stopped}
 use Rattle.cdb_show.proofs.runs.difference.write_opened.Goals as goal
 

@@ -1,11 +1,4 @@
-use Rattle.std.proofs.Common.{◌∙◌, ◌∷◌, ◌++◌, [], refl, sym, subst, true}
-use Rattle.std.proofs.lemmas.List.{append-nil}
-use Rattle.cdb_store.proofs.Reading.{reads_more}
-use Rattle.cdb_form.specs.Fed.Feed.{FromTo}
-use Rattle.cdb_read.proofs.FoundSoFar.{reads_none}
-use Rattle.cdb_show.specs.Runs.Inputs.{BeginsWithItems, IsInputOf}
-use Rattle.cdb_show.specs.Runs.Lookups.{HasLooked}
-use Rattle.cdb_show.specs.Views.KeyReader.{form_of, reader_of}
+use Rattle.cdb_show.proofs.Words.{BeginsWithItems, FromTo, HasLooked, IsInputOf, [], append-nil, form_of, reader_of, reads_more, reads_none, refl, subst, sym, true, ◌++◌, ◌∙◌, ◌∷◌}
 use Rattle.cdb_show.proofs.KeyInputs.{keys_none, keys_more, keys_all, keys_begin, keys_behind, same_form}
 use Rattle.cdb_show.proofs.LookupRuns.{found_more, missing_more, text_stops, stops_text, key_stops, key_stops_at}
 use Rattle.cdb_show.proofs.runs.lookups.look_up_input.Goals as goal

@@ -1,8 +1,4 @@
-use Rattle.std.proofs.Common.{◌≡◌, ◌++◌, ℕ, List, Option}
-use Rattle.cdb_store.specs.Reads.{OnlyReads}
-use Rattle.cdb_form.specs.Text.Amending.{Change}
-use Rattle.cdb_show.specs.Runs.Inputs.{keys_of}
-use Rattle.cdb_show.specs.Runs.Lookups.{HasLooked}
+use Rattle.cdb_show.proofs.Words.{Change, HasLooked, List, OnlyReads, Option, keys_of, ℕ, ◌++◌, ◌≡◌}
 use Rattle.cdb_show.specs.Views.KeyReader.{form_of, reader_of, asks_left}
 use Rattle.cdb_show.proofs.KeyInputs.{GaveKeys}
 use Rattle.cdb_show.proofs.runs.lookups.look_up_input.Given as goal

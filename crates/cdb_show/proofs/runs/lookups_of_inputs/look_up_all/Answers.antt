@@ -1,8 +1,6 @@
 use Rattle.std.specs.Vec.{with_items}
-use Rattle.std.proofs.Common.{ap, rules, sym}
+use Rattle.cdb_show.proofs.Words.{Inputs, ap, missing_answer, rules, sym}
 use Rattle.std.proofs.lemmas.List.{places, with_items_is}
-use Rattle.cdb_show.specs.Runs.Lookups.{missing_answer}
-use Rattle.cdb_show.specs.declared.inputs.Inputs.{Inputs}
 use Rattle.cdb_show.proofs.FedLookupRuns.{fed_stopped, fed_unended, fed_whole}
 use Rattle.cdb_show.proofs.LookupRuns.{looked_none}
 use Rattle.cdb_show.proofs.runs.lookups_of_inputs.look_up_all.Goals as goal

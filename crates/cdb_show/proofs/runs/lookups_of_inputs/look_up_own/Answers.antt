@@ -1,9 +1,5 @@
-use Rattle.std.specs.Prelude.{⊤}
-use Rattle.std.proofs.Common.{subst, sym}
-use Rattle.cdb_form.proofs.Fed.FeedLemmas.{nothing_taken}
+use Rattle.cdb_show.proofs.Words.{feed_of, keys_form, nothing_taken, subst, sym, ⊤}
 use Rattle.cdb_form.specs.Fed.Feed.{Keeps}
-use Rattle.cdb_show.specs.Runs.Inputs.{keys_form}
-use Rattle.cdb_show.specs.Views.Window.{feed_of}
 use Rattle.cdb_show.proofs.FedLookupRuns.{own_fails, own_ok, own_unread}
 use Rattle.cdb_show.proofs.runs.lookups_of_inputs.look_up_own.Goals as goal
 

@@ -1,5 +1,4 @@
-use Rattle.std.proofs.Common.{sym}
-use Rattle.cdb_store.proofs.Reading.{reads_more}
+use Rattle.cdb_show.proofs.Words.{reads_more, sym}
 use Rattle.cdb_show.proofs.FedLookupRuns.{fed_all, fed_more, fed_none, fed_stops}
 use Rattle.cdb_show.proofs.runs.lookups_of_inputs.look_up_readers.Goals as goal
 

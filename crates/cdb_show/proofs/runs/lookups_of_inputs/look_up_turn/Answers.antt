@@ -1,8 +1,4 @@
-use Rattle.std.specs.Prelude.{⊤}
-use Rattle.std.proofs.Common.{◌∙◌, sym}
-use Rattle.cdb_show.specs.Runs.FedLookups.{StopsFurther}
-use Rattle.cdb_show.specs.Views.Inputs.{shared_feed}
-use Rattle.cdb_show.specs.Views.Window.{feed_of}
+use Rattle.cdb_show.proofs.Words.{StopsFurther, feed_of, shared_feed, sym, ⊤, ◌∙◌}
 use Rattle.cdb_show.specs.declared.fault.Fault.TheVariants.{NoMemory}
 use Rattle.cdb_show.specs.declared.inputs.SharedWindow.TheVariants.{Unread}
 use Rattle.cdb_show.proofs.FedLookupRuns.{own_turn_fails, own_unread, one_shared, shared_stops, shared_turn_fails, shared_turn_ok}

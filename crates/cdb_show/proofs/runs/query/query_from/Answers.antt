@@ -1,7 +1,4 @@
-use Rattle.std.proofs.lemmas.Grind.{common_steps}
-use Rattle.std.proofs.Common.{◌∙◌, arith}
-use Rattle.std.proofs.lemmas.Result.{err_from_is_err_and}
-use Rattle.cdb_read.proofs.FoundSoFar.{found_more, found_still}
+use Rattle.cdb_show.proofs.Words.{arith, common_steps, err_from_is_err_and, found_more, found_still, ◌∙◌}
 use Rattle.cdb_show.proofs.Queries.{written_more, finding_fails, value_fails}
 use Rattle.cdb_show.proofs.runs.query.query_from.Goals as goal
 

@@ -1,5 +1,4 @@
-use Rattle.std.proofs.Common.{◌≡◌}
-use Rattle.cdb_read.specs.Views.Finder.{left_in, slots_left}
+use Rattle.cdb_show.proofs.Words.{left_in, slots_left, ◌≡◌}
 use Rattle.cdb_show.specs.Runs.Query.{shown_text}
 use Rattle.cdb_show.proofs.Queries.{WrittenSoFar}
 use Rattle.cdb_show.proofs.runs.query.query_from.Given as goal

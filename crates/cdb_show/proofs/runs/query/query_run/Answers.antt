@@ -1,5 +1,4 @@
-use Rattle.std.proofs.lemmas.Grind.{common_steps}
-use Rattle.std.proofs.Common.{arith}
+use Rattle.cdb_show.proofs.Words.{arith, common_steps}
 use Rattle.cdb_show.proofs.QueryEnds.{query_flushed}
 use Rattle.cdb_show.proofs.runs.query.query_run.Goals as goal
 

@@ -1,7 +1,4 @@
-use Rattle.std.proofs.lemmas.Grind.{common_steps}
-use Rattle.std.proofs.Common.{arith, ◌≡◌, ◌∙◌, ◌++◌, ℕ, List, refl, sym, append_assoc, codes}
-use Rattle.std.proofs.lemmas.Result.{err_from_is_err_and}
-use Rattle.cdb_form.proofs.Bytes.WritingLemmas.{appends_then, prefix_in, prefix_last, prefix_then, same_appends, writes_prefix}
+use Rattle.cdb_show.proofs.Words.{List, append_assoc, appends_then, arith, codes, common_steps, err_from_is_err_and, prefix_in, prefix_last, prefix_then, refl, same_appends, sym, writes_prefix, ℕ, ◌++◌, ◌∙◌, ◌≡◌}
 use Rattle.cdb_read.specs.Lookup.{bytes_of}
 use Rattle.cdb_show.specs.Runs.Query.{record_text}
 use Rattle.cdb_command.specs.declared.style.Style.TheVariants.{Map}

@@ -1,6 +1,4 @@
-use Rattle.std.proofs.lemmas.Grind.{common_steps}
-use Rattle.std.proofs.Common.{rules, refl, ap, ◌∙◌, ◌≡◌, ◌≤◌, ◌+◌, ◌-◌, arith, length}
-use Rattle.std.proofs.lemmas.Result.{err_from_is_err_and}
+use Rattle.cdb_show.proofs.Words.{ap, arith, common_steps, err_from_is_err_and, length, refl, rules, ◌+◌, ◌-◌, ◌∙◌, ◌≡◌, ◌≤◌}
 use Rattle.cdb_read.proofs.FoundSoFar.{found_none, found_more, found_still}
 use Rattle.cdb_show.proofs.Queries.{passed_none, passed_more, copying_fails, handed_back, nth_written, nth_prefix}
 use Rattle.cdb_show.proofs.runs.query.write_nth.Goals as goal

@@ -1,5 +1,4 @@
-use Rattle.std.proofs.Common.{◌≡◌}
-use Rattle.cdb_read.specs.Views.Finder.{slots_left}
+use Rattle.cdb_show.proofs.Words.{slots_left, ◌≡◌}
 use Rattle.cdb_show.proofs.Queries.{PassedSoFar}
 use Rattle.cdb_show.proofs.runs.query.write_nth.Given as goal
 

@@ -1,7 +1,4 @@
-use Rattle.std.proofs.lemmas.Grind.{common_steps}
-use Rattle.std.proofs.Common.{refl, sym, codes, arith}
-use Rattle.std.proofs.lemmas.Result.{err_from_is_err_and}
-use Rattle.cdb_form.proofs.Bytes.WritingLemmas.{appends_then, prefix_in, prefix_last, same_appends, writes_prefix}
+use Rattle.cdb_show.proofs.Words.{appends_then, arith, codes, common_steps, err_from_is_err_and, prefix_in, prefix_last, refl, same_appends, sym, writes_prefix}
 use Rattle.cdb_read.specs.Lookup.{bytes_of}
 use Rattle.cdb_show.proofs.Queries.{in_lines}
 use Rattle.cdb_show.proofs.runs.query.write_value.Goals as goal

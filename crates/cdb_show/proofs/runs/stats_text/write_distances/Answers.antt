@@ -1,6 +1,4 @@
-use Rattle.std.proofs.Common.{arith}
-use Rattle.std.proofs.lemmas.Result.{err_from_is_err_and}
-use Rattle.cdb_form.proofs.Bytes.WritingLemmas.{writes_prefix}
+use Rattle.cdb_show.proofs.Words.{arith, err_from_is_err_and, writes_prefix}
 use Rattle.cdb_show.proofs.StatsTexts.{amid_none, amid_more, amid_prefix, amid_last, lines_are, lines_next, lines_last}
 use Rattle.cdb_show.proofs.runs.stats_text.write_distances.Goals as goal
 

@@ -1,8 +1,4 @@
-use Rattle.std.proofs.lemmas.Grind.{common_steps}
-use Rattle.std.proofs.Common.{arith, refl}
-use Rattle.std.proofs.lemmas.Result.{err_from_is_err_and}
-use Rattle.cdb_form.proofs.Bytes.WritingLemmas.{prefix_in, writes_prefix}
-use Rattle.cdb_show.specs.Runs.StatsText.{records_line, keys_line, values_line, tables_line, sizes_line, distance_lines}
+use Rattle.cdb_show.proofs.Words.{arith, common_steps, distance_lines, err_from_is_err_and, keys_line, prefix_in, records_line, refl, sizes_line, tables_line, values_line, writes_prefix}
 use Rattle.cdb_show.proofs.StatsTexts.{amid_prefix, amid_last, behind_records, behind_keys, behind_values, behind_tables, first_line, after_records, after_keys, after_values, after_tables, after_sizes}
 use Rattle.cdb_show.proofs.runs.stats_text.write_stats.Goals as goal
 

@@ -1,5 +1,4 @@
-use Rattle.std.proofs.lemmas.Grind.{common_steps}
-use Rattle.std.proofs.Common.{arith}
+use Rattle.cdb_show.proofs.Words.{arith, common_steps}
 use Rattle.cdb_show.proofs.WholeTexts.{written_flushed}
 use Rattle.cdb_show.proofs.runs.walk_text.write_walk.Goals as goal
 

@@ -1,10 +1,7 @@
-use Rattle.std.proofs.Common.{◌++◌, ◌≡◌, ◌+◌, ◌-◌, ℕ, List, length, take, drop, length-append, arith}
+use Rattle.cdb_store.proofs.Words.{AreSized, List, arith, bytes_of, common_steps, drop, length, length-append, take, ℕ, ◌++◌, ◌+◌, ◌-◌, ◌≡◌}
 use borrow.Rule.Slice.PartMut.{post_of}
-use Rattle.cdb_store.specs.BufferedStore.{bytes_of}
-use Rattle.cdb_store.specs.Images.{AreSized}
 use Rattle.cdb_store.proofs.OverLemmas.{over_emptied, over_put, over_same, sized_taken}
 use Rattle.cdb_store.proofs.Moves.{same_trans, same_sym, write_between, torn_between, torn_same, torn_from_write}
-use Rattle.std.proofs.lemmas.Grind.{common_steps}
 use Rattle.cdb_store.proofs.buffered.BufferedStoreStore.write_parts.Goals as goal
 
 pub returns-in_err-reserve-clause-torn : goal.returns-in_err-reserve-clause-torn

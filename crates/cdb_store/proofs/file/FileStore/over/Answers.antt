@@ -1,5 +1,4 @@
-use Rattle.std.proofs.Common.{rules, arith}
-use Rattle.std.proofs.lemmas.Grind.{common_steps}
+use Rattle.cdb_store.proofs.Words.{arith, common_steps, rules}
 use Rattle.cdb_store.proofs.file.FileStore.over.Goals as goal
 
 pub invariant_of-result : goal.invariant_of-result

@@ -1,7 +1,4 @@
-use Rattle.std.proofs.lemmas.Grind.{common_steps}
-use Rattle.std.proofs.Common.{arith, subst, rules}
-use Rattle.cdb_store.specs.Images.{AfterCut}
-use Rattle.cdb_store.specs.Calls.{FileImage}
+use Rattle.cdb_store.proofs.Words.{AfterCut, FileImage, arith, common_steps, rules, subst}
 use Rattle.cdb_store.proofs.FileLemmas.{file_cut}
 use Rattle.cdb_store.proofs.FileFaults.{cut_refused, cut_told, cut_lost}
 use Rattle.cdb_store.proofs.file.FileStoreStore.cut.Goals as goal

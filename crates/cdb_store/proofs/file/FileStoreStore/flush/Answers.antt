@@ -1,5 +1,4 @@
-use Rattle.std.proofs.Common.{rules, arith}
-use Rattle.std.proofs.lemmas.Grind.{common_steps}
+use Rattle.cdb_store.proofs.Words.{arith, common_steps, rules}
 use Rattle.cdb_store.proofs.file.FileStoreStore.flush.Goals as goal
 
 pub returns-in-Ok-clause-images : goal.returns-in-Ok-clause-images

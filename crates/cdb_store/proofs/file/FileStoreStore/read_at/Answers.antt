@@ -1,7 +1,4 @@
-use Rattle.std.proofs.lemmas.Grind.{common_steps}
-use Rattle.std.proofs.Common.{arith, sym, subst, ◌∙◌, ap, rules}
-use Rattle.cdb_store.specs.Images.{AfterRead}
-use Rattle.cdb_store.specs.Calls.{FileImage, failed_syncs, lost}
+use Rattle.cdb_store.proofs.Words.{AfterRead, FileImage, ap, arith, common_steps, failed_syncs, lost, rules, subst, sym, ◌∙◌}
 use Rattle.cdb_store.proofs.FileLemmas.{file_gave, long_same, gave_long}
 use Rattle.cdb_store.proofs.file.FileStoreStore.read_at.Goals as goal
 

@@ -1,11 +1,7 @@
-use Rattle.std.proofs.Common.{arith, sym, subst, ◌∙◌, length, rules}
-use Rattle.cdb_store.specs.Images.{AfterWrite, AfterTornWrite, AreSized}
-use Rattle.cdb_store.specs.Calls.{FileImage}
-use Rattle.cdb_store.specs.Lengths.{file_size}
+use Rattle.cdb_store.proofs.Words.{AfterTornWrite, AfterWrite, AreSized, FileImage, arith, common_steps, file_size, length, rules, subst, sym, ◌∙◌}
 use Rattle.cdb_store.proofs.Moves.{torn_from_write}
 use Rattle.cdb_store.proofs.FileLemmas.{file_put, put_long}
 use Rattle.cdb_store.proofs.FileFaults.{torn_refused, torn_told, torn_lost}
-use Rattle.std.proofs.lemmas.Grind.{common_steps}
 use Rattle.cdb_store.proofs.file.FileStoreStore.write_at.Goals as goal
 
 pub returns-in_err-refuse_if_lost-clause-torn : goal.returns-in_err-refuse_if_lost-clause-torn

@@ -1,5 +1,4 @@
-use Rattle.std.proofs.Common.{arith}
-use Rattle.std.proofs.lemmas.Grind.{common_steps}
+use Rattle.cdb_store.proofs.Words.{arith, common_steps}
 use Rattle.cdb_store.proofs.fuse.FuseStoreStore.cut.Goals as goal
 
 pub returns-then-blows-clause-images : goal.returns-then-blows-clause-images

@@ -1,5 +1,4 @@
-use Rattle.std.proofs.lemmas.Grind.{common_steps}
-use Rattle.std.proofs.Common.{arith}
+use Rattle.cdb_store.proofs.Words.{arith, common_steps}
 use Rattle.cdb_store.proofs.fuse.FuseStoreStore.flush.Goals as goal
 
 pub returns-clause-ok_failures : goal.returns-clause-ok_failures

@@ -1,5 +1,4 @@
-use Rattle.std.proofs.lemmas.Grind.{common_steps}
-use Rattle.std.proofs.Common.{arith, ℕ, length, length-take, rules}
+use Rattle.cdb_store.proofs.Words.{arith, common_steps, length, length-take, rules, ℕ}
 use Rattle.cdb_store.proofs.Moves.{torn_wider}
 use Rattle.cdb_store.proofs.fuse.FuseStoreStore.write_at.Goals as goal
 

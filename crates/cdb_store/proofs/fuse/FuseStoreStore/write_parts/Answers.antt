@@ -1,6 +1,4 @@
-use Rattle.std.proofs.lemmas.Grind.{common_steps}
-use Rattle.std.proofs.Common.{◌≡◌, ◌++◌, arith, ℕ, List, length, length-append, length-take, ap, take, subst, inl}
-use Rattle.cdb_store.specs.Images.{AfterWrite}
+use Rattle.cdb_store.proofs.Words.{AfterWrite, List, ap, arith, common_steps, inl, length, length-append, length-take, subst, take, ℕ, ◌++◌, ◌≡◌}
 use Rattle.cdb_store.proofs.FuseLemmas.{taken_bytes, part_torn, whole_torn}
 use Rattle.cdb_store.proofs.fuse.FuseStoreStore.write_parts.Goals as goal
 

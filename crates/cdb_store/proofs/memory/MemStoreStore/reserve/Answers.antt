@@ -1,5 +1,4 @@
-use Rattle.std.proofs.lemmas.Grind.{common_steps}
-use Rattle.std.proofs.Common.{rules, arith}
+use Rattle.cdb_store.proofs.Words.{arith, common_steps, rules}
 use Rattle.cdb_store.proofs.memory.MemStoreStore.reserve.Goals as goal
 
 pub returns-in_ok-reserve-clause-ok : goal.returns-in_ok-reserve-clause-ok

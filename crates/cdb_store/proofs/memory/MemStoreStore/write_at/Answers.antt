@@ -1,5 +1,4 @@
-use Rattle.std.proofs.Common.{arith, rules}
-use Rattle.std.proofs.lemmas.Grind.{common_steps}
+use Rattle.cdb_store.proofs.Words.{arith, common_steps, rules}
 use Rattle.cdb_store.proofs.memory.MemStoreStore.write_at.Goals as goal
 
 pub write_over-requires-clause-end : goal.write_over-requires-clause-end

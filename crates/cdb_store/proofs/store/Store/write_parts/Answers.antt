@@ -1,8 +1,5 @@
-use Rattle.std.proofs.Common.{◌+◌, ◌++◌, ℕ, List, length, arith, length-append}
-use Rattle.std.proofs.lemmas.Result.{on_ok_weaker}
-use Rattle.cdb_store.specs.Images.{AfterWrite, AfterTornWrite, AreSized}
+use Rattle.cdb_store.proofs.Words.{AfterTornWrite, AfterWrite, AreSized, List, arith, common_steps, length, length-append, on_ok_weaker, ℕ, ◌++◌, ◌+◌}
 use Rattle.cdb_store.proofs.Moves.{same_refl, torn_behind, torn_between, torn_wider, write_between, write_more}
-use Rattle.std.proofs.lemmas.Grind.{common_steps}
 use Rattle.cdb_store.proofs.store.Store.write_parts.Goals as goal
 
 pub returns-in_err-write_at-clause-torn : goal.returns-in_err-write_at-clause-torn

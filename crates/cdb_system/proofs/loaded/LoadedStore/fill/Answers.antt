@@ -1,6 +1,5 @@
-use Rattle.std.proofs.Common.{ap, sym, ◌∙◌, length}
+use Rattle.cdb_system.proofs.Words.{ap, length, part, sym, ◌∙◌}
 use mathlib.Core.Logic.{∥∥₁_map}
-use Rattle.cdb_store.specs.Images.{part}
 use Rattle.cdb_system.proofs.LoadedLemmas.{copy_holds, fewer}
 use Rattle.cdb_system.proofs.loaded.LoadedStore.fill.Goals as goal
 

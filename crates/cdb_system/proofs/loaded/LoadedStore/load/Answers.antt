@@ -1,8 +1,7 @@
-use Rattle.std.proofs.Common.{List, ℕ, sym, subst, ap, ◌∙◌, arith, rules}
+use Rattle.cdb_system.proofs.Words.{ImagesHold, List, ap, arith, rules, subst, sym, ℕ, ◌∙◌}
 use Rattle.std.proofs.lemmas.Option.{same_Some}
 use Rattle.std.proofs.lemmas.List.{with_items_is}
 use mathlib.Core.Logic.{∥∥₁_map}
-use Rattle.cdb_store.specs.Images.{ImagesHold}
 use Rattle.cdb_system.proofs.loaded.LoadedStore.load.Goals as goal
 
 pub invariant_of-self-in-Break-1 : goal.invariant_of-self-in-Break-1

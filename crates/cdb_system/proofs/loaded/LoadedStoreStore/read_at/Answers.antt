@@ -1,6 +1,5 @@
-use Rattle.std.proofs.Common.{sym, subst}
+use Rattle.cdb_system.proofs.Words.{AgreeAll, subst, sym}
 use mathlib.Core.Logic.{∥∥₁_map}
-use Rattle.cdb_system.specs.Given.{AgreeAll}
 use Rattle.cdb_system.proofs.loaded.LoadedStoreStore.read_at.Goals as goal
 
 pub invariant_of-self-clause-agrees : goal.invariant_of-self-clause-agrees

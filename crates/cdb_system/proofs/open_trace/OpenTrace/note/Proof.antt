@@ -1,9 +1,7 @@
 -- An empty body: the trace gets another ghost value.
-use Rattle.std.proofs.Common.{◌≡◌, List, ◌∷◌, refl, ℕ}
+use Rattle.cdb_system.proofs.Words.{List, OpenCall, OpenTrace, refl, ℕ, ◌∷◌, ◌≡◌}
 use base.Logic.{id⊢}
 use Rattle.cdb_store.proofs.Traces.{noted}
-use Rattle.cdb_system.specs.declared.open_trace.OpenCall.{OpenCall}
-use Rattle.cdb_system.specs.declared.open_trace.OpenTrace.{OpenTrace}
 use Rattle.cdb_system.specs.contracts.open_trace.OpenCall as K
 use Rattle.cdb_system.specs.contracts.open_trace.OpenTrace as T
 use Rattle.cdb_system.specs.contracts.open_trace.OpenTrace.note as it

@@ -1,5 +1,4 @@
-use Rattle.std.proofs.lemmas.Grind.{common_steps}
-use Rattle.std.proofs.Common.{arith}
+use Rattle.cdb_tool.proofs.Words.{arith, common_steps}
 use Rattle.cdb_tool.proofs.FedEnds.{read_flushed}
 use Rattle.cdb_tool.proofs.runs.make.make_run_from.Goals as goal
 

@@ -1,7 +1,6 @@
-use Rattle.std.proofs.lemmas.Grind.{common_steps}
+use Rattle.cdb_tool.proofs.Words.{Err, arith, common_steps, sym, ◌∙◌}
 use Rattle.cdb_tool.proofs.FedEnds.{read_none, read_stopped, read_unfinished, read_whole}
 use Rattle.cdb_tool.proofs.RunEnds.{runs_not, runs_unbased, hands_same, hands_some, unmade_memory, unmade_store, unfinished_store, unfinished_memory}
-use Rattle.std.proofs.Common.{sym, ◌∙◌, arith, Err}
 use Rattle.cdb_show.proofs.OutputFaults.{says_more}
 use Rattle.cdb_tool.proofs.BaseRecords.{make_no_base, make_says}
 use Rattle.cdb_tool.proofs.runs.make.make_unflushed.Goals as goal

@@ -1,9 +1,4 @@
-use Rattle.std.proofs.Common.{arith, refl, sym, ap, ◌∙◌, ◌+◌, ◌∷◌, ◌++◌, [], ℕ, length, Ok}
-use Rattle.cdb_make.proofs.Callers.{follows_same}
-use Rattle.cdb_make.proofs.Rolls.{follows_then}
-use Rattle.cdb_show.specs.Runs.Inputs.{input_form}
-use Rattle.cdb_tool.specs.Runs.FormParsing.{parsing}
-use Rattle.cdb_show.specs.Views.Inputs.{shared_feed}
+use Rattle.cdb_tool.proofs.Words.{Ok, [], ap, arith, follows_same, follows_then, input_form, length, parsing, refl, shared_feed, sym, ℕ, ◌++◌, ◌+◌, ◌∙◌, ◌∷◌}
 use Rattle.cdb_tool.proofs.FedRuns.{all_read, offset_fits, so_far_none, stopped_here, turn_more}
 use Rattle.cdb_tool.proofs.MakerSteps.{step_failed}
 use Rattle.cdb_tool.proofs.runs.make.put_turns.Goals as goal

@@ -1,10 +1,5 @@
 use Rattle.std.proofs.Common.{◌≡◌, ◌-◌, List, Ok, length}
-use Rattle.cdb_form.specs.Text.Amending.{Change}
-use Rattle.cdb_make.specs.Views.Maker.{Follows}
-use Rattle.cdb_show.specs.Runs.Inputs.{input_form}
-use Rattle.cdb_tool.specs.Runs.FormParsing.{parsing}
-use Rattle.cdb_show.specs.Views.Inputs.{shared_feed}
-use Rattle.cdb_tool.specs.Runs.Make.{PutsInputs}
+use Rattle.cdb_tool.proofs.Words.{Change, Follows, PutsInputs, input_form, parsing, shared_feed}
 use Rattle.cdb_tool.proofs.FedRuns.{SoFar}
 use Rattle.cdb_tool.proofs.runs.make.put_turns.Given as goal
 

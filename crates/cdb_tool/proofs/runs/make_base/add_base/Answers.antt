@@ -1,5 +1,4 @@
-use Rattle.std.proofs.lemmas.Grind.{common_steps}
-use Rattle.std.proofs.Common.{rules, arith}
+use Rattle.cdb_tool.proofs.Words.{arith, common_steps, rules}
 use Rattle.cdb_tool.proofs.BaseRecords.{unopened, unopened_reads}
 use Rattle.cdb_tool.proofs.runs.make_base.add_base.Goals as goal
 

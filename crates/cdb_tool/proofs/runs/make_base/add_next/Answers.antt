@@ -1,11 +1,4 @@
-use Rattle.cdb_store.proofs.Reading.{reads_more}
-use Rattle.std.proofs.lemmas.Grind.{common_steps}
-use Rattle.std.proofs.Common.{◌≡◌, arith, refl, sym, ap, ◌∙◌, take}
-use Rattle.std.proofs.lemmas.Result.{err_from_is_err_and}
-use Rattle.cdb_form.specs.Format.Record.{KeyValue}
-use Rattle.cdb_form.specs.Format.Walk.{with_first}
-use Rattle.cdb_make.specs.Views.Maker.{Puts, FailsPutting}
-use Rattle.cdb_read.specs.Views.Walk.{left_of}
+use Rattle.cdb_tool.proofs.Words.{FailsPutting, KeyValue, Puts, ap, arith, common_steps, err_from_is_err_and, left_of, reads_more, refl, sym, take, with_first, ◌∙◌, ◌≡◌}
 use Rattle.cdb_read.specs.Views.Walking.{record_in, walk_ahead}
 use Rattle.cdb_tool.proofs.BaseRecords.{make_no_base, whole_window, window_added, window_stopped, walk_stopped, none_added, one_added, one_stopped}
 use Rattle.cdb_tool.proofs.Courses.{as_told, refused_store}

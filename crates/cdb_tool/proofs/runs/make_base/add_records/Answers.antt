@@ -1,9 +1,4 @@
-use Rattle.std.proofs.lemmas.Grind.{common_steps}
-use Rattle.std.proofs.Common.{refl, ap, ◌∙◌, rules, arith}
-use Rattle.std.proofs.lemmas.Result.{err_from_is_err_and}
-use Rattle.cdb_store.proofs.Reading.{reads_more, reads_nothing}
-use Rattle.cdb_make.proofs.Rolls.{follows_then}
-use Rattle.cdb_read.specs.Views.Walk.{left_of}
+use Rattle.cdb_tool.proofs.Words.{ap, arith, common_steps, err_from_is_err_and, follows_then, left_of, reads_more, reads_nothing, refl, rules, ◌∙◌}
 use Rattle.cdb_tool.proofs.BaseRecords.{added_start, none_stopped, added_next, added_all, added_not}
 use Rattle.cdb_tool.proofs.MakerSteps.{step_failed}
 use Rattle.cdb_tool.proofs.runs.make_base.add_records.Goals as goal

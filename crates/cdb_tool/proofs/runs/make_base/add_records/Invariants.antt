@@ -1,6 +1,4 @@
-use Rattle.std.proofs.Common.{◌≡◌}
-use Rattle.cdb_store.specs.Reads.{OnlyReads}
-use Rattle.cdb_make.specs.Views.Maker.{Follows}
+use Rattle.cdb_tool.proofs.Words.{Follows, OnlyReads, ◌≡◌}
 use Rattle.cdb_read.specs.Views.Walk.{left_of, bytes_left}
 use Rattle.cdb_tool.proofs.BaseRecords.{AddedSoFar}
 use Rattle.cdb_tool.proofs.runs.make_base.add_records.Given as goal

@@ -1,10 +1,5 @@
-use Rattle.std.proofs.lemmas.Grind.{common_steps}
-use Rattle.std.proofs.Common.{arith, ◌++◌, ◌∷◌, [], List, ℕ, refl, subst}
-use Rattle.cdb_form.specs.Format.Record.{KeyValue}
-use Rattle.cdb_make.specs.Views.Maker.{Holds, FailsPutting}
+use Rattle.cdb_tool.proofs.Words.{FailsPutting, Holds, KeyValue, List, [], arith, common_steps, err_from_is_err_and, holds_fits, refl, subst, ℕ, ◌++◌, ◌∷◌}
 use Rattle.cdb_form.specs.declared.mode.Mode.TheVariants.{Add}
-use Rattle.cdb_make.proofs.Callers.{holds_fits}
-use Rattle.std.proofs.lemmas.Result.{err_from_is_err_and}
 use Rattle.cdb_form.specs.Views.Pairs.{key_value}
 use Rattle.cdb_tool.proofs.WholeRuns.{holds_so_far_none, holds_so_far_more, reads_fitting, text_not_read, refused}
 use Rattle.cdb_tool.proofs.runs.make_bytes.fitting_records.Goals as goal

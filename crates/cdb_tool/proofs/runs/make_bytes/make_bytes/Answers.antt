@@ -1,6 +1,4 @@
-use Rattle.std.proofs.lemmas.Grind.{common_steps}
-use Rattle.std.proofs.Common.{arith}
-use Rattle.cdb_form.specs.Views.TextReader.{unread}
+use Rattle.cdb_tool.proofs.Words.{arith, common_steps, unread}
 use Rattle.cdb_tool.proofs.WholeRuns.{makes_flushed}
 use Rattle.cdb_tool.proofs.runs.make_bytes.make_bytes.Goals as goal
 

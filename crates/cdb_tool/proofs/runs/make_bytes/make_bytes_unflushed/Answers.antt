@@ -1,6 +1,4 @@
-use Rattle.std.proofs.lemmas.Grind.{common_steps}
-use Rattle.std.proofs.Common.{arith, ◌∙◌}
-use Rattle.std.proofs.lemmas.Result.{err_from_is_err_and}
+use Rattle.cdb_tool.proofs.Words.{arith, common_steps, err_from_is_err_and, ◌∙◌}
 use Rattle.cdb_form.proofs.Bytes.WritingLemmas.{same_prefix, same_appends}
 use Rattle.cdb_tool.proofs.WholeRuns.{nothing_made, file_made, file_fails}
 use Rattle.cdb_tool.proofs.runs.make_bytes.make_bytes_unflushed.Goals as goal

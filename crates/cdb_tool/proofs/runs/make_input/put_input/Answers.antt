@@ -1,15 +1,7 @@
-use Rattle.std.proofs.Common.{refl, arith, sym, subst, ap, ◌∙◌, ◌+◌, ◌∷◌, ◌++◌, [], ℕ, length-append}
-use Rattle.std.proofs.lemmas.Result.{err_from_is_err_and}
-use Rattle.cdb_form.specs.Fed.Feed.{FromTo}
-use Rattle.cdb_form.specs.Text.Amending.{Change, Putting}
+use Rattle.cdb_tool.proofs.Words.{Change, FromTo, InCourse, IsInputOf, Putting, [], ap, arith, err_from_is_err_and, follows_same, follows_then, form_of, length-append, reader_of, refl, subst, sym, ℕ, ◌++◌, ◌+◌, ◌∙◌, ◌∷◌}
 use Rattle.cdb_form.specs.Views.Pairs.{change_in}
 use Rattle.cdb_form.specs.Views.Prefix.{shown_by}
-use Rattle.cdb_make.proofs.Callers.{follows_same}
-use Rattle.cdb_make.proofs.Rolls.{follows_then}
-use Rattle.cdb_show.specs.Runs.Inputs.{IsInputOf}
-use Rattle.cdb_show.specs.Views.ItemReader.{form_of, reader_of}
 use Rattle.cdb_show.proofs.ItemInputs.{items_all, items_fewer, items_form, items_more, items_none}
-use Rattle.cdb_tool.specs.Runs.Make.{InCourse}
 use Rattle.cdb_tool.proofs.Courses.{came_more}
 use Rattle.cdb_tool.proofs.InputRuns.{item_stopped, item_stops, last_by, text_stopped, text_stops}
 use Rattle.cdb_tool.proofs.InputRuns.{none_put}

@@ -1,11 +1,5 @@
-use Rattle.std.proofs.Common.{◌≡◌, ◌+◌, ◌^◌, ◌≤◌, ℕ, List, length, Option}
-use Rattle.cdb_form.specs.Text.Amending.{Change}
-use Rattle.cdb_make.specs.Views.Maker.{Follows}
-use Rattle.cdb_show.specs.Runs.Incoming.{came, from_inputs}
+use Rattle.cdb_tool.proofs.Words.{Change, Follows, GaveItems, InCourse, List, Option, Task, came, from_inputs, length, ℕ, ◌+◌, ◌^◌, ◌≡◌, ◌≤◌}
 use Rattle.cdb_show.specs.Views.ItemReader.{asks_left, form_of, reader_of}
-use Rattle.cdb_show.proofs.ItemInputs.{GaveItems}
-use Rattle.cdb_tool.specs.Runs.Course.{Task}
-use Rattle.cdb_tool.specs.Runs.Make.{InCourse}
 use Rattle.cdb_tool.proofs.runs.make_input.put_input.Given as goal
 
 -- the items so far were done

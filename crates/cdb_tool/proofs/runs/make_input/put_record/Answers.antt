@@ -1,6 +1,4 @@
-use Rattle.std.proofs.Common.{refl}
-use Rattle.std.proofs.lemmas.Result.{err_from_is_err_and}
-use Rattle.cdb_make.specs.Views.Maker.{Puts, FailsPutting}
+use Rattle.cdb_tool.proofs.Words.{FailsPutting, Puts, err_from_is_err_and, refl}
 use Rattle.cdb_tool.proofs.Courses.{put_goes_so, put_told_so, put_refused_so, put_halted_so, memory_taken_so, told_halts, told_memory, as_told, ok_both, err_each}
 use Rattle.cdb_tool.proofs.runs.make_input.put_record.Goals as goal
 

@@ -1,5 +1,4 @@
-use Rattle.std.proofs.lemmas.Grind.{common_steps}
-use Rattle.std.proofs.Common.{arith, rules}
+use Rattle.cdb_tool.proofs.Words.{arith, common_steps, rules}
 use Rattle.cdb_tool.proofs.runs.make_input.tell_put.Goals as goal
 
 pub returns-clause-goes : goal.returns-clause-goes

@@ -1,5 +1,4 @@
-use Rattle.std.proofs.Common.{true}
-use Rattle.std.proofs.lemmas.Result.{IfErr-weaker, IfOk-weaker}
+use Rattle.cdb_form.proofs.Words.{IfErr-weaker, IfOk-weaker, true}
 use Rattle.cdb_form.proofs.Fed.KnownItems.{known_fails_as, known_found}
 use Rattle.cdb_form.proofs.text.amend_reader.AmendReader.read_into.Goals as goal
 

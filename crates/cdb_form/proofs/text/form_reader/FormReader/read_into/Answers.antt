@@ -1,6 +1,5 @@
-use Rattle.std.proofs.Common.{refl, arith}
+use Rattle.cdb_form.proofs.Words.{arith, common_steps, refl}
 use Rattle.cdb_form.proofs.NativeTexts.FormReads.{fails_as}
-use Rattle.std.proofs.lemmas.Grind.{common_steps}
 use Rattle.cdb_form.proofs.text.form_reader.FormReader.read_into.Goals as goal
 
 pub returns-in-Err-clause-fails : goal.returns-in-Err-clause-fails

@@ -1,6 +1,5 @@
-use Rattle.std.proofs.Common.{refl, arith}
+use Rattle.cdb_form.proofs.Words.{arith, common_steps, refl}
 use Rattle.cdb_form.proofs.NativeTexts.KeyTexts.{list_fails}
-use Rattle.std.proofs.lemmas.Grind.{common_steps}
 use Rattle.cdb_form.proofs.text.list_reader.ListReader.read_fed.Goals as goal
 
 pub returns-in-Err-clause-fails : goal.returns-in-Err-clause-fails

@@ -1,5 +1,4 @@
-use Rattle.std.proofs.Common.{false, refl}
-use Rattle.std.proofs.lemmas.Result.{err_from_is_err_and}
+use Rattle.cdb_form.proofs.Words.{err_from_is_err_and, false, refl}
 use Rattle.cdb_form.proofs.Fed.KnownItems.{known_fails_as, known_native}
 use Rattle.cdb_form.proofs.text.native_reader.TextReader.read_into.Goals as goal
 

@@ -1,5 +1,4 @@
-use Rattle.std.proofs.lemmas.Grind.{common_steps}
-use Rattle.std.proofs.Common.{arith}
+use Rattle.cdb_form.proofs.Words.{arith, common_steps}
 use Rattle.cdb_form.proofs.text.source.Source.byte.Goals as goal
 
 pub returns-in-Err-clause-fails : goal.returns-in-Err-clause-fails

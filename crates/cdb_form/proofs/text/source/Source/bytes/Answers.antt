@@ -1,6 +1,5 @@
-use Rattle.std.proofs.Common.{arith}
+use Rattle.cdb_form.proofs.Words.{arith, common_steps}
 use Rattle.cdb_form.proofs.Sources.SourceLemmas.{bytes_fail}
-use Rattle.std.proofs.lemmas.Grind.{common_steps}
 use Rattle.cdb_form.proofs.text.source.Source.bytes.Goals as goal
 
 pub returns-in-Err-clause-fails : goal.returns-in-Err-clause-fails

@@ -1,12 +1,7 @@
-use Rattle.std.proofs.Common.{◌≡◌, ℕ, [], true, false, arith, sym, subst, ◌∙◌, rules}
-use Rattle.std.proofs.lemmas.Result.{err_from_is_err_and}
+use Rattle.cdb_form.proofs.Words.{FailsEntry, Putting, Removing, Spells, SpellsChange, SpellsRemoval, [], arith, common_steps, err_from_is_err_and, false, rules, subst, sym, true, ℕ, ◌∙◌, ◌≡◌}
 use Rattle.cdb_form.proofs.Sources.SourceLemmas.{item_whole, leaves_past, part_seen}
-use Rattle.cdb_form.specs.Text.Amending.{Putting, Removing, SpellsChange, SpellsRemoval}
-use Rattle.cdb_form.specs.Text.Native.{Spells}
-use Rattle.cdb_form.specs.Views.NativeParser.{FailsEntry}
 use Rattle.cdb_form.specs.declared.text.fault.TextFault.TheVariants.{Ended}
 use Rattle.cdb_form.proofs.NativeTexts.Stops.{ended_first, syntax_first, mark_first, nothing_read}
-use Rattle.std.proofs.lemmas.Grind.{common_steps}
 use Rattle.cdb_form.proofs.text.source.Source.entry.Goals as goal
 
 pub returns-in_err-byte-clause-fails : goal.returns-in_err-byte-clause-fails

@@ -1,9 +1,8 @@
 use Rattle.std.proofs.Common.{◌≡◌, ◌<◌, false, true, vec_len, [], ◌∷◌, arith, subst, rules}
-use Rattle.cdb_form.specs.Format.Record.{AreBytes}
+use Rattle.cdb_form.proofs.Words.{AreBytes, common_steps}
 use Rattle.cdb_form.proofs.Bytes.ByteLemmas.{AreBytes-front}
 use Rattle.cdb_form.proofs.Sources.SourceLemmas.{other_last}
 use Rattle.cdb_form.proofs.text.source.Source.field.Goals.{in_default-via-in-Some+else-last-stop, in_default-via-in_default}
-use Rattle.std.proofs.lemmas.Grind.{common_steps}
 use Rattle.cdb_form.proofs.text.source.Source.field.Goals as goal
 
 pub returns-in-Some-clause-are : goal.returns-in-Some-clause-are

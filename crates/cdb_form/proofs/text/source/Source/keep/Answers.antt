@@ -1,8 +1,4 @@
-use Rattle.std.proofs.lemmas.Grind.{common_steps}
-use Rattle.std.proofs.Common.{[], ◌++◌, ◌∷◌, ◌≡◌, ◌<◌, arith, false, subst, sym, true}
-use Rattle.std.proofs.lemmas.Result.{err_from_is_err_and}
-use Rattle.cdb_form.specs.Format.Record.{AreBytes}
-use Rattle.cdb_form.specs.Views.MapParser.{is_of}
+use Rattle.cdb_form.proofs.Words.{AreBytes, [], arith, common_steps, err_from_is_err_and, false, is_of, subst, sym, true, ◌++◌, ◌<◌, ◌∷◌, ◌≡◌}
 use Rattle.cdb_form.proofs.Bytes.ByteLemmas.{AreBytes-append, AreBytes-push}
 use Rattle.cdb_form.proofs.MapTexts.MapReads.{kept_at_hand, kept_more, read_fault_outside, run_at_hand, run_ended, run_failed, run_left, run_more, run_stopped}
 use Rattle.cdb_form.proofs.text.source.Source.keep.Goals as goal

@@ -1,5 +1,4 @@
-use Rattle.std.proofs.Common.{List, ℕ, ◌∷◌, ◌≡◌}
-use Rattle.cdb_form.specs.Format.Record.{AreBytes}
+use Rattle.cdb_form.proofs.Words.{AreBytes, List, ℕ, ◌∷◌, ◌≡◌}
 use Rattle.cdb_form.proofs.MapTexts.MapReads.{RunSoFar}
 use Rattle.cdb_form.proofs.text.source.Source.keep.Given as goal
 

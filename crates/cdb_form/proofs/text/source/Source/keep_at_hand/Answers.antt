@@ -1,5 +1,4 @@
-use Rattle.std.proofs.lemmas.Grind.{common_steps}
-use Rattle.std.proofs.Common.{arith}
+use Rattle.cdb_form.proofs.Words.{arith, common_steps}
 use Rattle.cdb_form.proofs.text.source.Source.keep_at_hand.Goals as goal
 
 pub returns-clause-moved : goal.returns-clause-moved

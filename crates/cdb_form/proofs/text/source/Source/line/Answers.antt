@@ -1,7 +1,4 @@
-use Rattle.std.proofs.lemmas.Grind.{common_steps}
-use Rattle.std.proofs.Common.{[], ◌∷◌, ◌≡◌, ◌≢◌, arith}
-use Rattle.std.proofs.lemmas.Result.{err_from_is_err_and}
-use Rattle.cdb_form.specs.Views.Pairs.{key_value}
+use Rattle.cdb_form.proofs.Words.{[], arith, common_steps, err_from_is_err_and, key_value, ◌∷◌, ◌≡◌, ◌≢◌}
 use Rattle.cdb_form.proofs.MapTexts.MapReads.{leaves_past, line_ignored, line_last, line_of_pair, note_ignored, note_last, other_than}
 use Rattle.cdb_form.proofs.text.source.Source.line.Goals as goal
 

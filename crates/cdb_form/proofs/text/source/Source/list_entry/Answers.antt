@@ -1,12 +1,8 @@
-use Rattle.std.proofs.Common.{◌≡◌, ℕ, [], arith, sym, subst}
-use Rattle.std.proofs.lemmas.Result.{err_from_is_err_and}
+use Rattle.cdb_form.proofs.Words.{FailsItem, SpellsKey, [], arith, common_steps, err_from_is_err_and, subst, sym, ℕ, ◌≡◌}
 use Rattle.cdb_form.proofs.Sources.SourceLemmas.{part_seen, leaves_past}
-use Rattle.cdb_form.specs.Text.List.{SpellsKey}
-use Rattle.cdb_form.specs.Views.NativeParser.{FailsItem}
 use Rattle.cdb_form.specs.declared.text.fault.TextFault.TheVariants.{Ended}
 use Rattle.cdb_form.proofs.NativeTexts.KeyTexts.{key_ended, key_syntax, no_key_read}
 use Rattle.cdb_form.proofs.NativeTexts.Stops.{mark_first}
-use Rattle.std.proofs.lemmas.Grind.{common_steps}
 use Rattle.cdb_form.proofs.text.source.Source.list_entry.Goals as goal
 
 pub returns-in_err-byte-clause-fails : goal.returns-in_err-byte-clause-fails

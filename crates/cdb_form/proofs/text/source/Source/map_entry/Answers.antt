@@ -1,7 +1,5 @@
-use Rattle.std.proofs.Common.{[], ◌++◌, ◌∷◌, arith}
-use Rattle.std.proofs.lemmas.Result.{err_from_is_err_and}
+use Rattle.cdb_form.proofs.Words.{[], arith, common_steps, err_from_is_err_and, ◌++◌, ◌∷◌}
 use Rattle.cdb_form.proofs.MapTexts.MapReads.{lines_fail, lines_found, lines_more}
-use Rattle.std.proofs.lemmas.Grind.{common_steps}
 use Rattle.cdb_form.proofs.text.source.Source.map_entry.Goals as goal
 
 pub returns-in_err-line_buffered-clause-leaves : goal.returns-in_err-line_buffered-clause-leaves

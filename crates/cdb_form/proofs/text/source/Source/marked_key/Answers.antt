@@ -1,6 +1,4 @@
-use Rattle.std.proofs.lemmas.Grind.{common_steps}
-use Rattle.std.proofs.Common.{arith, rules}
-use Rattle.std.proofs.lemmas.Result.{err_from_is_err_and}
+use Rattle.cdb_form.proofs.Words.{arith, common_steps, err_from_is_err_and, rules}
 use Rattle.cdb_form.proofs.Sources.SourceLemmas.{removal_behind, leaves_past}
 use Rattle.cdb_form.proofs.NativeTexts.KeyTexts.{key_fails, listed_behind}
 use Rattle.cdb_form.proofs.NativeTexts.Stops.{removal_fails, lift_length, base_length, base_value}

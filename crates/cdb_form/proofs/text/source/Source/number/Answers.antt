@@ -1,7 +1,5 @@
-use Rattle.std.proofs.Common.{◌≡◌, ◌+◌, ◌*◌, ap, ◌∙◌, arith, rules}
-use Rattle.std.specs.Char.{digit_value}
+use Rattle.cdb_form.proofs.Words.{ap, arith, common_steps, digit_value, rules, ◌*◌, ◌+◌, ◌∙◌, ◌≡◌}
 use Rattle.cdb_form.proofs.Sources.SourceLemmas.{digit_more, digits_leave}
-use Rattle.std.proofs.lemmas.Grind.{common_steps}
 use Rattle.cdb_form.proofs.text.source.Source.number.Goals as goal
 
 pub loop-byte-preserved : goal.loop-byte-preserved

@@ -1,5 +1,4 @@
-use Rattle.std.proofs.Common.{◌≡◌, ◌≤◌}
-use Rattle.cdb_form.specs.Views.Source.{budget}
+use Rattle.cdb_form.proofs.Words.{budget, ◌≡◌, ◌≤◌}
 use Rattle.cdb_form.proofs.Sources.SourceLemmas.{DigitsSoFar}
 use Rattle.cdb_form.proofs.text.source.Source.number.Given as goal
 

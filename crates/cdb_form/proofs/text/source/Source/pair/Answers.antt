@@ -1,10 +1,5 @@
-use Rattle.std.proofs.lemmas.Grind.{common_steps}
-use Rattle.std.proofs.Common.{◌∷◌, ◌≡◌, ◌≢◌, [], arith, refl}
-use Rattle.std.proofs.lemmas.Result.{IfErr-weaker, IfOk-weaker}
-use Rattle.cdb_form.specs.Fed.MapParser.{ReadsPair, ReadsValue}
+use Rattle.cdb_form.proofs.Words.{IfErr-weaker, IfOk-weaker, Lacks, ReadsPair, ReadsValue, [], arith, common_steps, is_newline, line_end, refl, ◌∷◌, ◌≡◌, ◌≢◌}
 use Rattle.cdb_form.specs.Fed.Source.{LeavesAmid}
-use Rattle.cdb_form.specs.Text.Map.{Lacks, is_newline}
-use Rattle.cdb_form.specs.Views.MapParser.{line_end}
 use Rattle.cdb_form.specs.declared.text.kind.Kind.TheVariants.{InWord}
 use Rattle.cdb_form.proofs.MapTexts.MapReads.{leaves_past, other_than, pair_is, pair_none, pair_value, run_to_end, run_to_newline}
 use Rattle.cdb_form.proofs.text.source.Source.pair.Goals as goal

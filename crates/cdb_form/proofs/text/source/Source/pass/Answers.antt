@@ -1,7 +1,5 @@
-use Rattle.std.proofs.Common.{[], ◌++◌, ◌∷◌, ◌≡◌, arith, true, rules}
-use Rattle.cdb_form.specs.Views.MapParser.{is_of}
+use Rattle.cdb_form.proofs.Words.{[], arith, common_steps, is_of, rules, true, ◌++◌, ◌∷◌, ◌≡◌}
 use Rattle.cdb_form.proofs.MapTexts.MapReads.{run_more}
-use Rattle.std.proofs.lemmas.Grind.{common_steps}
 use Rattle.cdb_form.proofs.text.source.Source.pass.Goals as goal
 
 pub loop-byte-preserved : goal.loop-byte-preserved

@@ -1,8 +1,6 @@
-use Rattle.std.proofs.Common.{[], arith, rules}
-use Rattle.std.proofs.lemmas.Result.{err_from_is_err_and}
+use Rattle.cdb_form.proofs.Words.{[], arith, common_steps, err_from_is_err_and, rules}
 use Rattle.cdb_form.proofs.Sources.SourceLemmas.{record_behind, leaves_past}
 use Rattle.cdb_form.proofs.NativeTexts.Stops.{record_fails, lift_klen, lift_vlen, lift_key, lift_angle, base_klen, base_vlen, base_key, base_angle, base_value}
-use Rattle.std.proofs.lemmas.Grind.{common_steps}
 use Rattle.cdb_form.proofs.text.source.Source.record.Goals as goal
 
 pub returns-clause-read : goal.returns-clause-read

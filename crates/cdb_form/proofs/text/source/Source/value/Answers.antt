@@ -1,6 +1,4 @@
-use Rattle.std.proofs.lemmas.Grind.{common_steps}
-use Rattle.std.proofs.Common.{◌≢◌, arith, rules}
-use Rattle.std.proofs.lemmas.Result.{err_from_is_err_and}
+use Rattle.cdb_form.proofs.Words.{arith, common_steps, err_from_is_err_and, rules, ◌≢◌}
 use Rattle.cdb_form.proofs.MapTexts.MapReads.{leaves_past, other_than, value_some}
 use Rattle.cdb_form.proofs.text.source.Source.value.Goals as goal
 

@@ -1,10 +1,4 @@
-use Rattle.std.proofs.lemmas.Grind.{common_steps}
-use Rattle.std.proofs.Common.{◌≡◌, arith, subst, sym}
-use Rattle.std.specs.Prelude.{max}
-use Rattle.std.proofs.lemmas.Result.{err_from_is_err_and, on_err_weaker, IfErr-weaker, IfOk-weaker}
-use Rattle.cdb_form.specs.Format.Pair.{head_size, pair_size}
-use Rattle.cdb_form.specs.Format.Walk.{record_end, walk_of, no_walk}
-use Rattle.cdb_form.specs.Fed.Feed.{FromTo}
+use Rattle.cdb_form.proofs.Words.{FromTo, IfErr-weaker, IfOk-weaker, arith, common_steps, err_from_is_err_and, head_size, max, no_walk, on_err_weaker, pair_size, record_end, subst, sym, walk_of, ◌≡◌}
 use Rattle.cdb_form.proofs.RecordReading.StreamLemmas.{damage_and, end_then, fails_then, false_weaker, first_then, loses_still, no_further_then, true_weaker}
 use Rattle.cdb_form.proofs.RecordReading.RecordAreas.{none_behind_head, first_behind_head}
 use Rattle.cdb_form.specs.Views.RecordReader.{walk_left, behind_end, behind_records}

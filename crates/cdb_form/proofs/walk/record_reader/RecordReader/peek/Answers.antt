@@ -1,5 +1,4 @@
-use Rattle.std.proofs.Common.{subst}
-use Rattle.std.proofs.lemmas.Option.{IfSome_then}
+use Rattle.cdb_form.proofs.Words.{IfSome_then, subst}
 use Rattle.cdb_form.specs.Views.Prefix.{IsStored, shown_by}
 use Rattle.cdb_form.proofs.walk.record_reader.RecordReader.peek.Goals as goal
 

@@ -1,5 +1,4 @@
-use Rattle.std.proofs.lemmas.Grind.{common_steps}
-use Rattle.std.proofs.Common.{refl, sym, ◌∙◌, arith}
+use Rattle.cdb_form.proofs.Words.{arith, common_steps, refl, sym, ◌∙◌}
 use Rattle.cdb_form.proofs.walk.record_reader.RecordReader.read_kept.Goals.{in-AtHead, in-At}
 use Rattle.cdb_form.proofs.walk.record_reader.RecordReader.read_kept.Goals as goal
 

@@ -1,7 +1,4 @@
-use Rattle.std.proofs.Common.{ℕ, ◌-◌, arith, refl, rules, subst, sym}
-use Rattle.std.proofs.lemmas.Result.{err_from_is_err_and}
-use Rattle.cdb_form.specs.Fed.Taking.{ReadsFirst}
-use Rattle.cdb_form.specs.Format.Walk.{walk_from}
+use Rattle.cdb_form.proofs.Words.{ReadsFirst, arith, err_from_is_err_and, refl, rules, subst, sym, walk_from, ℕ, ◌-◌}
 use Rattle.cdb_form.proofs.Files.WalkSteps.{walk_from-end}
 use Rattle.cdb_form.proofs.RecordReading.RecordReads.{goes_on}
 use Rattle.cdb_form.proofs.RecordReading.StreamLemmas.{damage_and, loses_still}

@@ -1,6 +1,5 @@
-use Rattle.std.proofs.Common.{arith, inl, inr, refl}
+use Rattle.cdb_form.proofs.Words.{arith, common_steps, inl, inr, refl}
 use Rattle.cdb_form.proofs.RecordReading.Stored.{peeked_taken}
-use Rattle.std.proofs.lemmas.Grind.{common_steps}
 use Rattle.cdb_form.proofs.walk.record_reader.RecordReader.take_fed.Goals as goal
 
 pub returns-in-At : goal.returns-in-At

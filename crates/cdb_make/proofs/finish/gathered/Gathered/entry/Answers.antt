@@ -1,6 +1,4 @@
-use Rattle.std.proofs.Common.{◌<◌, ℕ, ap, sym, ◌∙◌, arith, length}
-use Rattle.cdb_form.specs.Format.Pair.{WordPair}
-use Rattle.cdb_make.specs.Views.Places.{places_in}
+use Rattle.cdb_make.proofs.Words.{WordPair, ap, arith, length, places_in, sym, ℕ, ◌<◌, ◌∙◌}
 use Rattle.cdb_make.proofs.Tables.{get_or-entries_of, length-entries_of}
 use Rattle.cdb_make.proofs.finish.gathered.Gathered.entry.Goals as goal
 

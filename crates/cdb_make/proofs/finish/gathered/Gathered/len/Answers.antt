@@ -1,5 +1,4 @@
-use Rattle.std.proofs.Common.{arith}
-use Rattle.cdb_make.specs.Views.Places.{places_in}
+use Rattle.cdb_make.proofs.Words.{arith, places_in}
 use Rattle.cdb_make.proofs.Tables.{length-entries_of}
 use Rattle.cdb_make.proofs.finish.gathered.Gathered.len.Goals as goal
 

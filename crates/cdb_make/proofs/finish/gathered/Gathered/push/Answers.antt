@@ -1,6 +1,4 @@
-use Rattle.std.proofs.Common.{◌≡◌, ℕ, List, [], ◌∷◌, ◌++◌, ◌+◌, length, length-append, ap, ◌∙◌, arith}
-use Rattle.cdb_make.specs.Tables.{entries_of}
-use Rattle.cdb_make.specs.Views.Places.{places_in}
+use Rattle.cdb_make.proofs.Words.{List, [], ap, arith, entries_of, length, length-append, places_in, ℕ, ◌++◌, ◌+◌, ◌∙◌, ◌∷◌, ◌≡◌}
 use Rattle.cdb_make.proofs.Tables.{entries_push, length-entries_of}
 use Rattle.cdb_make.proofs.finish.gathered.Gathered.push.Goals as goal
 

@@ -1,5 +1,4 @@
-use Rattle.std.proofs.Common.{◌≡◌, ◌<◌, ◌≤◌, ℕ, false, get_or}
-use Rattle.cdb_form.specs.Format.Hash.{table_number}
+use Rattle.cdb_read.proofs.Words.{false, get_or, table_number, ℕ, ◌<◌, ◌≡◌, ◌≤◌}
 use Rattle.cdb_read.proofs.checking.table_records.TableRecords.are_fresh.Given as goal
 
 -- the records so far are of the table, and none is marked

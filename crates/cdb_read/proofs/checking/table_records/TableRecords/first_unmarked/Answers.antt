@@ -1,8 +1,5 @@
-use Rattle.std.proofs.Common.{◌∙◌, ap, sym, arith, false}
-use Rattle.std.specs.Prelude.{Some}
-use Rattle.std.proofs.lemmas.List.{get_or_default}
+use Rattle.cdb_read.proofs.Words.{Some, ap, arith, false, first_of, get_or_default, lost_fault, sym, ◌∙◌}
 use Rattle.cdb_form.specs.declared.damage.Damage.TheVariants.{Unindexed}
-use Rattle.cdb_read.specs.Faults.{first_of, lost_fault}
 use Rattle.cdb_read.proofs.Checks.Entered.{lost_more, lost_here, lost_none}
 use Rattle.cdb_read.proofs.checking.table_records.TableRecords.first_unmarked.Goals as goal
 

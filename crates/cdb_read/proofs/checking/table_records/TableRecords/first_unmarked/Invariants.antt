@@ -1,6 +1,4 @@
-use Rattle.std.proofs.Common.{◌≡◌, List}
-use Rattle.cdb_form.specs.Format.Pair.{WordPair}
-use Rattle.cdb_read.specs.Views.TableRecords.{entry_pairs, Marks}
+use Rattle.cdb_read.proofs.Words.{List, Marks, WordPair, entry_pairs, ◌≡◌}
 use Rattle.cdb_read.proofs.Checks.Entered.{lost_from}
 use Rattle.cdb_read.proofs.checking.table_records.TableRecords.first_unmarked.Given as goal
 

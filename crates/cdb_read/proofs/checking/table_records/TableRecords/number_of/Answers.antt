@@ -1,8 +1,4 @@
-use Rattle.std.proofs.Common.{◌≡◌, ◌<◌, ◌+◌, ◌∙◌, ℕ, List, ap, sym, subst, arith, get_or, length, inl, inr, Ok, Err}
-use Rattle.std.specs.List.Sorted.{IsStrictlyIncreasing}
-use Rattle.std.proofs.lemmas.Bool.{cases_eq}
-use Rattle.std.proofs.lemmas.List.{get_or_default}
-use Rattle.cdb_form.specs.Views.Pairs.{slot_pair}
+use Rattle.cdb_read.proofs.Words.{Err, IsStrictlyIncreasing, List, Ok, ap, arith, cases_eq, get_or, get_or_default, inl, inr, length, slot_pair, subst, sym, ℕ, ◌+◌, ◌<◌, ◌∙◌, ◌≡◌}
 use Rattle.cdb_read.proofs.Checks.Buckets.{searched_among}
 use Rattle.cdb_read.proofs.Checks.Entered.{record_nowhere, rising_apart}
 use Rattle.cdb_read.proofs.checking.table_records.TableRecords.number_of.Goals as goal

@@ -1,7 +1,5 @@
-use Rattle.std.proofs.Common.{◌≡◌, ap, ◌∙◌, ◌∷◌, [], ◌++◌, List, ℕ, Bool, false, arith}
-use Rattle.cdb_read.specs.Views.TableRecords.{entries_of}
+use Rattle.cdb_read.proofs.Words.{Bool, List, [], ap, arith, common_steps, entries_of, false, ℕ, ◌++◌, ◌∙◌, ◌∷◌, ◌≡◌}
 use Rattle.cdb_read.proofs.Checks.Entered.{entries_of-push}
-use Rattle.std.proofs.lemmas.Grind.{common_steps}
 use Rattle.cdb_read.proofs.checking.table_records.TableRecords.push.Goals as goal
 
 pub returns : goal.returns

@@ -1,6 +1,4 @@
-use Rattle.std.proofs.Common.{ℕ, subst, sym, rules, arith}
-use Rattle.cdb_read.specs.Views.Probing.{IsSearchInside}
-use Rattle.std.proofs.lemmas.Grind.{common_steps}
+use Rattle.cdb_read.proofs.Words.{IsSearchInside, arith, common_steps, rules, subst, sym, ℕ}
 use Rattle.cdb_read.proofs.lookup.finder.Finder.next.Goals as goal
 
 pub met_from-requires : goal.met_from-requires

@@ -1,5 +1,4 @@
-use Rattle.std.proofs.Common.{ℕ, subst, sym}
-use Rattle.cdb_read.specs.Views.Probing.{IsSearchInside}
+use Rattle.cdb_read.proofs.Words.{IsSearchInside, subst, sym, ℕ}
 use Rattle.cdb_read.proofs.lookup.finder.Finder.read_at.Goals as goal
 
 pub invariant_of-self : goal.invariant_of-self

@@ -1,7 +1,5 @@
-use Rattle.std.proofs.Common.{ap, ◌∙◌, ◌+◌, true, false, get_or, arith, ◌∷◌, ◌++◌, [], sym, subst}
+use Rattle.cdb_read.proofs.Words.{Counts, [], ap, arith, eq-eqb, false, get_or, ne_eqb, not_from_false, not_from_true, subst, sym, true, ◌++◌, ◌+◌, ◌∙◌, ◌∷◌}
 use Rattle.std.specs.Prelude.{min, set}
-use Rattle.std.proofs.lemmas.Bool.{ne_eqb, eq-eqb, not_from_false, not_from_true}
-use Rattle.cdb_read.specs.Views.Counting.{Counts}
 use Rattle.cdb_read.proofs.Counting.Counters.{counts_more, counts_same}
 use Rattle.cdb_read.proofs.statistics.distances.Distances.count.Goals as goal
 use Rattle.cdb_read.proofs.statistics.distances.Distances.count.Goals.{then-distance-ne0, else-distance-ne0}

@@ -1,7 +1,5 @@
-use Rattle.std.proofs.Common.{drop, refl, ap, ◌∙◌, arith}
+use Rattle.cdb_read.proofs.Words.{ap, arith, common_steps, drop, refl, walk_ahead, ◌∙◌}
 use Rattle.cdb_form.proofs.Files.WalkSteps.{walk_from-end}
-use Rattle.cdb_read.specs.Views.Walking.{walk_ahead}
-use Rattle.std.proofs.lemmas.Grind.{common_steps}
 use Rattle.cdb_read.proofs.walking.records.Walk.next.Goals as goal
 
 pub returns-then-rest-clause-gives : goal.returns-then-rest-clause-gives

@@ -1,5 +1,4 @@
-use Rattle.std.proofs.lemmas.Grind.{common_steps}
-use Rattle.std.proofs.Common.{arith}
+use Rattle.cdb_show.proofs.Words.{arith, common_steps}
 use Rattle.cdb_show.proofs.runs.key_reader.KeyReader.read_into.Goals as goal
 
 pub returns-in-List-clause-fails : goal.returns-in-List-clause-fails

@@ -1,0 +1,42 @@
+-- The words that most proofs here name.
+pub use Rattle.cdb_difference.specs.Difference.{DifferenceStops, IsOneDamaged, WalkHasKey, WritesPass, WritesPassPrefix, changes_at, changes_text, is_first_changed, key_changes, pass_of}
+pub use Rattle.cdb_difference.specs.Views.InStep.{AllMarked, AreInStep}
+pub use Rattle.cdb_difference.specs.Views.Looking.{LooksOn, ReadBoth, StaysAt}
+pub use Rattle.cdb_difference.specs.Views.Marks.{Grows, KeepsOthers, is_marked, mark_hash, mark_step}
+unfoldable pub use Rattle.cdb_difference.specs.Views.Marks.{mark_at}
+pub use Rattle.cdb_difference.specs.Views.NextRecord.{left_from}
+pub use Rattle.cdb_difference.specs.Views.Stop.{flipped}
+pub use Rattle.cdb_form.proofs.Bytes.WritingLemmas.{appends_none, appends_then, prefix_in, prefix_last, prefix_then, same_appends, writes_prefix}
+pub use Rattle.cdb_form.specs.Format.Pair.{head_size}
+pub use Rattle.cdb_form.specs.Format.Record.{KeyValue}
+pub use Rattle.cdb_form.specs.Format.Walk.{Walked, no_walk, with_first, with_records}
+unfoldable pub use Rattle.cdb_form.specs.Format.Walk.{walk_of}
+pub use Rattle.cdb_form.specs.Text.Amending.{Change, Putting, change_line}
+pub use Rattle.cdb_form.specs.Views.KnownBytes.{AppendsPrefix}
+pub use Rattle.cdb_form.specs.declared.item.ItemKind.{ItemKind}
+pub use Rattle.cdb_read.proofs.Differences.{values_of-append}
+pub use Rattle.cdb_read.proofs.FoundSoFar.{reads_none}
+pub use Rattle.cdb_read.proofs.Walked.WalkedLengths.{length_of}
+unfoldable pub use Rattle.cdb_read.specs.Difference.{values_eq}
+pub use Rattle.cdb_read.specs.Lookup.{Found, bytes_of, nothing_found, with_span}
+unfoldable pub use Rattle.cdb_read.specs.Lookup.{lookup_of}
+pub use Rattle.cdb_read.specs.Values.{values_of}
+pub use Rattle.cdb_read.specs.Views.Finder.{left_in, slots_left}
+pub use Rattle.cdb_read.specs.Views.Walking.{LiesAt, behind, next_place, record_in, size_ahead, walk_ahead}
+pub use Rattle.cdb_read.specs.declared.lookup.finder.Finder.{Finder}
+pub use Rattle.cdb_read.specs.declared.span.Pair.{Pair}
+pub use Rattle.cdb_read.specs.declared.span.Span.{Span}
+pub use Rattle.cdb_store.proofs.Parts.{part_add}
+pub use Rattle.cdb_store.proofs.Reading.{reads_more, reads_nothing}
+pub use Rattle.cdb_store.specs.Images.{part}
+pub use Rattle.cdb_store.specs.Reads.{OnlyReads}
+pub use Rattle.cdb_store.specs.declared.store.Store.{Ghosts}
+pub use Rattle.std.proofs.Common.{Bool, List, Option, [], ap, append_assoc, arith, codes, cond, false, flat_map, fold, inl, inr, length, length-append, map, refl, rules, subst, sym, true, ℕ, ◌++◌, ◌+◌, ◌-◌, ◌<◌, ◌∙◌, ◌∷◌, ◌≡◌, ◌≢◌, ◌≤◌}
+pub use Rattle.std.proofs.lemmas.Bool.{cases_Bool, eq-eqb}
+pub use Rattle.std.proofs.lemmas.Grind.{common_steps}
+pub use Rattle.std.proofs.lemmas.List.{append-nil}
+pub use Rattle.std.proofs.lemmas.List.Concat.{flat_map-append}
+pub use Rattle.std.proofs.lemmas.Result.{err_from_is_err_and}
+pub use Rattle.std.proofs.lemmas.Slice.Eq.{bytes_eq-Decides}
+pub use Rattle.std.specs.Io.KnownBytes.{Appends}
+pub use Rattle.std.specs.Prelude.{bytes_eq, filter, ◌&&◌}

@@ -1,0 +1,63 @@
+-- The words that most proofs here name.
+pub use Rattle.cdb_feed.specs.Inputs.{AgreesWith, AreRead, AreUnread, CutShort, FirstAgree, HasFault, IsUnread, NoMore, NotBegun, Stop, StopsSo, TakesOne, reached}
+pub use Rattle.cdb_feed.specs.declared.input_reader.InputReader.{InputReader}
+pub use Rattle.cdb_form.proofs.Bytes.WritingLemmas.{appends_kept, appends_none}
+pub use Rattle.cdb_form.proofs.Fed.FeedLemmas.{from_weaker, nothing_taken}
+pub use Rattle.cdb_form.specs.Fed.Feed.{Consumes, Feed, FromTo}
+pub use Rattle.cdb_form.specs.Format.File.{file_size}
+pub use Rattle.cdb_form.specs.Format.Record.{KeyValue}
+pub use Rattle.cdb_form.specs.Format.Walk.{Walked, with_first}
+unfoldable pub use Rattle.cdb_form.specs.Format.Walk.{walk_of}
+pub use Rattle.cdb_form.specs.Text.Amending.{Change, Putting, Removing}
+pub use Rattle.cdb_form.specs.Text.Map.{with_newlines}
+pub use Rattle.cdb_form.specs.Views.KnownBytes.{AppendsPrefix}
+pub use Rattle.cdb_form.specs.Views.Pairs.{key_values}
+pub use Rattle.cdb_form.specs.Views.TextFault.{IsOfText, IsReadFault}
+pub use Rattle.cdb_form.specs.Views.TextReader.{unread}
+pub use Rattle.cdb_form.specs.declared.damage.Damage.{Damage}
+pub use Rattle.cdb_form.specs.declared.text.fault.TextFault.{TextFault}
+pub use Rattle.cdb_make.proofs.Callers.{follows_same, holds_fits}
+pub use Rattle.cdb_make.proofs.Rolls.{follows_then}
+pub use Rattle.cdb_make.specs.Survivors.{fits, put_answer, put_list, put_result}
+pub use Rattle.cdb_make.specs.Views.Maker.{ComesFrom, FailsFinishing, FailsPutting, Follows, Holds, IsFile, Puts, WhereHonest, limit_of}
+pub use Rattle.cdb_make.specs.declared.answer.Put.{Put}
+pub use Rattle.cdb_make.specs.declared.maker.Maker.{Maker}
+pub use Rattle.cdb_read.specs.Views.Walk.{left_of}
+pub use Rattle.cdb_read.specs.Views.Walking.{record_in}
+pub use Rattle.cdb_read.specs.declared.fault.ReadFault.{ReadFault}
+pub use Rattle.cdb_show.proofs.ItemInputs.{GaveItems, items_form, items_more}
+pub use Rattle.cdb_show.proofs.NativeInputs.{some_weaker}
+pub use Rattle.cdb_show.proofs.Writers.{not_ok, prefix_kept, whole_prefix}
+pub use Rattle.cdb_show.specs.Message.{TellsEach, TellsPart, Told}
+pub use Rattle.cdb_show.specs.Runs.Flushed.{Flushed}
+pub use Rattle.cdb_show.specs.Runs.Incoming.{Incoming, Known, came, from_input, from_inputs, one_input}
+pub use Rattle.cdb_show.specs.Runs.Inputs.{AreAllInputs, BeginsWithItems, FirstBegins, HasFaults, HasItemFault, InputForm, InputsLeft, IsInputOf, OneBegins, OneInput, bytes_of, input_form}
+pub use Rattle.cdb_show.specs.Runs.Lookups.{StopsBehind}
+pub use Rattle.cdb_show.specs.Views.Fault.{make_fault}
+pub use Rattle.cdb_show.specs.Views.Inputs.{ArePassed, shared_feed}
+pub use Rattle.cdb_show.specs.Views.ItemReader.{form_of, reader_of}
+pub use Rattle.cdb_show.specs.Views.Output.{OutputSays}
+pub use Rattle.cdb_show.specs.declared.fault.Fault.{Fault}
+pub use Rattle.cdb_show.specs.declared.inputs.Inputs.{Inputs}
+pub use Rattle.cdb_show.specs.declared.inputs.SharedWindow.{SharedWindow}
+pub use Rattle.cdb_store.proofs.Reading.{reads_more, reads_nothing}
+pub use Rattle.cdb_store.specs.Reads.{OnlyReads}
+pub use Rattle.cdb_store.specs.declared.make_fault.MakeFault.{MakeFault}
+pub use Rattle.cdb_store.specs.declared.store.Store.{Ghosts}
+pub use Rattle.cdb_tool.specs.Runs.Base.{NotAdded}
+pub use Rattle.cdb_tool.specs.Runs.Course.{Course, EndsSo, Goes, Task, at_start, course_of, ends, is_going, mode_of, task_of, told, with_change, with_next}
+pub use Rattle.cdb_tool.specs.Runs.FormParsing.{BeginsSo, FailsSo, parsing}
+pub use Rattle.cdb_tool.specs.Runs.InputsRead.{HasRead, IsFaultAt, RunsRead, StopsInput, WereRead, stop_by}
+pub use Rattle.cdb_tool.specs.Runs.Made.{made_of}
+pub use Rattle.cdb_tool.specs.Runs.Make.{BaseFails, HoldsBase, InCourse, InputsFail, IsHalt, IsOfStore, IsSomeBase, MakeRuns, MakeStandsAt, MakeStops, OfBase, PutStops, PutsInputs, PutsInputsStop, PutsStop, RunFails, StoppedAt, records_of}
+pub use Rattle.cdb_tool.specs.Runs.MakesSo.{ComesOf}
+pub use Rattle.cdb_tool.specs.declared.runs.options.RunOptions.{RunOptions}
+pub use Rattle.std.proofs.Common.{Bool, Err, IfSome, List, None, Ok, Option, Result, Some, [], ap, append_assoc, arith, drop, false, if◌then◌else◌, inl, inr, is_some, length, length-append, map, refl, rules, subst, sym, take, true, true≢false, ℕ, ◌*◌, ◌++◌, ◌+◌, ◌<◌, ◌^◌, ◌∙◌, ◌∷◌, ◌≡◌, ◌≢◌, ◌≤◌, ◌⊎◌}
+pub use Rattle.std.proofs.Math.Seq.{drop-length}
+pub use Rattle.std.proofs.lemmas.Bool.{cond-true, le-leb}
+pub use Rattle.std.proofs.lemmas.Grind.{common_steps}
+pub use Rattle.std.proofs.lemmas.List.{append-nil}
+pub use Rattle.std.proofs.lemmas.List.Sums.{fold-append}
+pub use Rattle.std.proofs.lemmas.Result.{err_from_is_err_and}
+pub use Rattle.std.specs.Io.KnownBytes.{Appends, Keeps}
+pub use Rattle.std.specs.Prelude.{IsOk, OnOk, ⊤}
