@@ -22,14 +22,12 @@ use Rattle.cdb_read.specs.Lookup.{Found, nothing_found, found_damaged, with_span
 use Rattle.cdb_read.specs.Values.{values_of}
 use Rattle.cdb_read.specs.Views.Finder.{left_in, FindingFails}
 use Rattle.cdb_store.specs.Reads.{OnlyReads}
-use Rattle.cdb_read.specs.Views.Reads.{CopyingFails, OpeningFails}
+use Rattle.cdb_read.specs.Views.Reads.{CopyingFails}
 use Rattle.cdb_read.specs.Views.Search.{found_ahead}
 use Rattle.cdb_read.specs.declared.fault.ReadFault.{ReadFault}
 use Rattle.cdb_read.specs.declared.fault.ReadFault.TheVariants.{Short, Table, Record, Slot, Twice, Unindexed, Device, NoMemory, Output}
 use Rattle.cdb_read.specs.declared.lookup.finder.Finder.{Finder}
 use Rattle.cdb_read.specs.declared.span.Span.{Span}
-use Rattle.cdb_uses.specs.Asks.{AskingFails}
-use Rattle.cdb_uses.specs.declared.ask.AskFault.TheVariants.{Read}
 
 -- in each image these spans are the first of the look-up, and their bytes were written
 pub record AskedSoFar (w : ℕ) (key : List ℕ) (old new : List ℕ → Type 0) (left : List ℕ → Found) (start now : Option (List ℕ)) : Type 0 where
@@ -132,31 +130,3 @@ pub held_within : {S L : Type 0} {s : Ghosts S} {l : Widths L} (m : Maker S L s 
 held_within {l = l} m rs b w is h =
     let size : made_size m ≡ file_size l.WORD rs = held_size m rs b w h is in
     (held_are m rs b h is, omega (arith, size, made_within m, m.within, m.limited))
-
--- which is still there where its store was only read
-pub file_opened : {S : Type 0} (s : Ghosts S) {w : ℕ} {rs : List KeyValue} {old new : S} → IsFile w rs (s.image old) → OnlyReads s old new → IsFile w rs (s.image new)
-file_opened s file reads = record { each = λ b is. file.each b (reads.images b is) }
-
--- where its store does not fail, only the writer can
-pub writer_fails : {S : Type 0} (s : Ghosts S) (before after : S) (old new : Option (List ℕ)) (values : List ℕ) (f : ReadFault) → s.failures after ≡ s.failures before → CopyingFails s before after f → AppendsPrefix old new values → AskingFails old new values (Read f)
-writer_fails s before after old new values Device same fails front = absurd (let failed : s.failures before < s.failures after = fails in omega arith)
-writer_fails s before after old new values (Table n) same fails front = absurd fails
-writer_fails s before after old new values (Record place) same fails front = absurd fails
-writer_fails s before after old new values Short same fails front = absurd fails
-writer_fails s before after old new values (Slot n i) same fails front = absurd fails
-writer_fails s before after old new values (Twice place) same fails front = absurd fails
-writer_fails s before after old new values (Unindexed place) same fails front = absurd fails
-writer_fails s before after old new values NoMemory same fails front = absurd fails
-writer_fails s before after old new values Output same fails front = front
-
--- a store that does not fail and is as long as a head is opened
-pub open_fails : {S : Type 0} (s : Ghosts S) (w : ℕ) (before after : S) (old new : Option (List ℕ)) (values : List ℕ) (f : ReadFault) → s.failures after ≡ s.failures before → head_size w ≤ s.size before → OpeningFails w s before after f → AskingFails old new values (Read f)
-open_fails s w before after old new values Short same long fails = let short : s.size before < head_size w = fails.0 in absurd (omega (arith, short, long))
-open_fails s w before after old new values Device same long fails = let failed : s.failures before < s.failures after = fails.1 in absurd (omega (arith, failed, same))
-open_fails s w before after old new values (Table n) same long fails = absurd fails
-open_fails s w before after old new values (Record place) same long fails = absurd fails
-open_fails s w before after old new values (Slot n i) same long fails = absurd fails
-open_fails s w before after old new values (Twice place) same long fails = absurd fails
-open_fails s w before after old new values (Unindexed place) same long fails = absurd fails
-open_fails s w before after old new values NoMemory same long fails = absurd fails
-open_fails s w before after old new values Output same long fails = absurd fails

@@ -3,21 +3,15 @@
 #![tactic(auto)]
 
 mod ask;
-mod check;
 mod edits;
 mod files;
 mod form;
-mod make;
 mod read;
 mod steps;
-mod unfinished;
 
-pub use ask::{AskFault, write_finished};
-pub use check::open_checked;
+pub use ask::AskFault;
 pub use edits::Edit;
 pub use files::make_and_get;
 pub use form::first_record;
-pub use make::file_of_latest;
 pub use read::write_values;
 pub use steps::{Built, Step, build, build_and_ask};
-pub use unfinished::unfinished_is_damaged;

@@ -6,12 +6,9 @@ mod drawn;
 
 use cdb_form::{Narrow, Record, Wide, Width};
 use cdb_make::{MakeFault, Maker, Mode};
-use cdb_read::ReadFault;
+use cdb_read::{ReadFault, Reader, check};
 use cdb_store::{FuseStore, MemStore};
-use cdb_uses::{
-    AskFault, Built, Edit, Step, build_and_ask, file_of_latest, first_record, make_and_get,
-    open_checked, write_finished,
-};
+use cdb_uses::{AskFault, Built, Edit, Step, build_and_ask, first_record, make_and_get};
 use std::alloc::Global;
 use std::io::Write;
 use std::prelude::*;
@@ -47,50 +44,6 @@ fn a_database_is_made_under_its_name_and_asked(rt: HostRuntime) -> Result<(), Fa
         "a key that is there"
     );
     assert!(rt; gives(&rt, b"two", None)?, "one that is not");
-    Ok(())
-}
-
-#[test]
-fn the_file_of_the_latest_records(rt: HostRuntime) -> Result<(), Fail> {
-    let mut records = Vec::new(rt.alloc());
-    for value in [b"1", b"2"] {
-        records.push(Record {
-            key: b"a".to_vec(rt.alloc())?,
-            value: value.to_vec(rt.alloc())?,
-        })?;
-    }
-    let file = file_of_latest(rt.alloc(), &records)?;
-    assert!(rt; file.len() == 2074);
-    assert!(rt; file.get(2048..2058) == Some(b"\x01\0\0\0\x01\0\0\0a2".as_slice()));
-    Ok(())
-}
-
-/// Whether these values of a key are written of what a maker holds.
-fn writes(alloc: Global, maker: Maker<MemStore, Narrow>, key: &[u8], values: &[u8]) -> bool {
-    let mut out = Vec::new(alloc);
-    write_finished(maker, key, &mut out).is_ok() && out.as_slice() == values
-}
-
-/// A maker of two values of one key, and of one of another.
-fn made(alloc: Global) -> Result<Maker<MemStore, Narrow>, Fail> {
-    let Ok(mut maker) = Maker::new(alloc, MemStore::new(alloc), 4294967295) else {
-        return Err(Fail::new("no maker was made"));
-    };
-    maker.put(Mode::Add, b"a", b"1")?;
-    maker.put(Mode::Add, b"one", b"Hello")?;
-    maker.put(Mode::Add, b"a", b"2")?;
-    Ok(maker)
-}
-
-#[test]
-fn the_values_of_a_key_in_what_was_made(rt: HostRuntime) -> Result<(), Fail> {
-    assert!(rt; writes(rt.alloc(), made(rt.alloc())?, b"a", b"12"));
-    let mut maker = made(rt.alloc())?;
-    maker.put(Mode::Replace, b"a", b"3")?;
-    assert!(rt; writes(rt.alloc(), maker, b"a", b"3"));
-    let mut maker = made(rt.alloc())?;
-    maker.remove(b"a")?;
-    assert!(rt; writes(rt.alloc(), maker, b"a", b""));
     Ok(())
 }
 
@@ -223,6 +176,14 @@ fn a_writer_that_fails_holds_a_prefix_of_the_values(rt: HostRuntime) -> Result<(
     Ok(())
 }
 
+/// Checks a file.
+fn checked(alloc: Global, file: Vec<u8>) -> Result<(), ReadFault> {
+    match Reader::<MemStore, Narrow>::open(MemStore::from_vec(file)) {
+        Ok(mut reader) => check(alloc, &mut reader),
+        Err(unread) => Err(unread.fault),
+    }
+}
+
 /// What is told of a file of zeros whose table 0 has a slot at 2048 that names a place.
 fn told_of(alloc: Global, slots: u8, place: u8) -> Result<(), ReadFault> {
     let mut file = vec![in alloc; 0u8; 2056]?;
@@ -232,12 +193,12 @@ fn told_of(alloc: Global, slots: u8, place: u8) -> Result<(), ReadFault> {
     for here in file.iter_mut().skip(2052).take(1) {
         *here = place;
     }
-    open_checked::<Narrow>(alloc, file, b"a")?;
+    checked(alloc, file)?;
     Ok(())
 }
 
 #[test]
-fn a_file_is_opened_where_it_is_sound(rt: HostRuntime) -> Result<(), Fail> {
+fn a_file_passes_where_it_is_sound(rt: HostRuntime) -> Result<(), Fail> {
     assert!(rt; told_of(rt.alloc(), 1, 0) == Ok(()));
     assert!(rt; told_of(rt.alloc(), 2, 0) == Err(ReadFault::Table(0)));
     assert!(rt; told_of(rt.alloc(), 1, 1) == Err(ReadFault::Slot(0, 0)));
@@ -296,7 +257,6 @@ fn a_database_that_is_not_finished_is_damaged(rt: HostRuntime) -> Result<(), Fai
     };
     maker.put(Mode::Add, b"a", b"1")?;
     let left = maker.into_store().into_vec();
-    let opened = open_checked::<Narrow>(alloc, left, b"a");
-    assert!(rt; matches!(opened, Err(ReadFault::Table(0))));
+    assert!(rt; checked(alloc, left) == Err(ReadFault::Table(0)));
     Ok(())
 }

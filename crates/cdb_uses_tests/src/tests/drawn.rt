@@ -1,5 +1,5 @@
-//! Files that are drawn, whole and damaged: a finder, a walk and a check come to what a plain reading
-//! of the bytes comes to.
+//! Files that are drawn, whole and damaged: a finder, a walk and a check come to what a plain
+//! reading of the bytes comes to.
 ghost use Rattle.std.specs.Prelude.{◌<◌};
 
 use cdb_form::{Narrow, hash};
