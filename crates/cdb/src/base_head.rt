@@ -26,9 +26,9 @@ fn see_head<L: Width, F: Store>(base: F) -> (F, Result<(), Fault>)
 
 /// Reads the head of a base, if there is one, and hands the base back.
 ///
-/// `Read(Short)`: it is shorter than its head. `NoBaseTables`: no table has slots, though bytes follow
-/// the head. Its words may have the other width, and then a run would find no record in it. `Read(Device)`:
-/// its store failed.
+/// `Read(Short)`: it is shorter than its head. `NoBaseTables`: no table has slots, though bytes
+/// follow the head. Its words may have the other width, and then a run would find no record in it.
+/// `Read(Device)`: its store failed.
 pub(crate) fn see_base<L: Width, F: Store>(base: Option<F>) -> (Option<F>, Result<(), Fault>)
     ensures sees { SeesBase L.WORD F.Store base result.0 result.1 }
     ensures output { OutputSays ⊥ result.1 }

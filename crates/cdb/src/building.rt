@@ -50,8 +50,8 @@ where
     (store, Sources { base, inputs }, made)
 }
 
-/// Builds the database in a file that is empty, through a buffer. What was read is handed back, also if
-/// there is no file to build in.
+/// Builds the database in a file that is empty, through a buffer. What was read is handed back,
+/// also if there is no file to build in.
 #[derive(Drop)]
 pub(crate) struct Building<'a, L: Width, F, J, I, E> {
     pub(crate) alloc: Global,

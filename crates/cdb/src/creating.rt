@@ -42,9 +42,10 @@ pub(crate) struct Creation<'a> {
 }
 
 /// Makes a database, on standard output or under its name: in place, or in a temporary file. The
-/// base and then all inputs are opened before anything is made, and a base that its head refuses ends the
-/// create there. A base that was opened is handed back, however the create ends, and so is a file that was
-/// made in place. If all inputs were opened, their readers are handed back too, and standard input.
+/// base and then all inputs are opened before anything is made, and a base that its head refuses
+/// ends the create there. A base that was opened is handed back, however the create ends, and so is
+/// a file that was made in place. If all inputs were opened, their readers are handed back too, and
+/// standard input.
 #[inline(never)]
 pub(crate) fn create<L, Y, N, I, O, E>(
     alloc: Global,

@@ -20,8 +20,8 @@ use std::io::{ErrorKind, Stderr, Stdout};
 use std::os::fd::AsRawFd;
 use std::process::ExitCode;
 
-/// How many bytes of lines on standard error are held before they are written. A line that finds room
-/// there is part of one write, so that no other program's line comes between.
+/// How many bytes of lines on standard error are held before they are written. A line that finds
+/// room there is part of one write, so that no other program's line comes between.
 const LINES: usize = 4096;
 
 /// The device that takes all and gives nothing.

@@ -36,7 +36,8 @@ fn version<O: Sink>(output: &mut O) -> Result<(), Fault>
     flushed(output, written.map_err(Fault::from))
 }
 
-/// The options of a run that creates, with the names of its inputs if duplicates are to be explained.
+/// The options of a run that creates, with the names of its inputs if duplicates are to be
+/// explained.
 fn shown_options<'a>(lines: &Lines, inputs: &'a [String], options: MakeOptions) -> RunOptions<'a>
     ensures shown { IsShown lines.now.counts (map string_bytes inputs.entry.now) options result }
     ensures limit { result.make.limit ≡ options.limit }
@@ -47,8 +48,8 @@ fn shown_options<'a>(lines: &Lines, inputs: &'a [String], options: MakeOptions) 
     }
 }
 
-/// Performs a command, with words as wide as `L` says, and hands back what it leaves open. If lines are
-/// counted, duplicates are explained.
+/// Performs a command, with words as wide as `L` says, and hands back what it leaves open. If lines
+/// are counted, duplicates are explained.
 pub(crate) fn perform_in<L, Y, N, I, O, E>(
     alloc: Global,
     system: &mut Y,

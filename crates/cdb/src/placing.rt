@@ -29,8 +29,8 @@ use cdb_tool::Fault;
 use std::alloc::Global;
 use std::marker::PhantomData;
 
-/// Whether a file that is read may be the one of this name, which is not followed as a link: it is, or
-/// the system did not say.
+/// Whether a file that is read may be the one of this name, which is not followed as a link: it is,
+/// or the system did not say.
 fn may_be_one<N: Names>(names: &mut N, name: &str, file: &str) -> bool
     ensures other { result ≡ false
         → N.calls names.new ≡ (Same No, name.now, file.now, []) ∷ N.calls names.old }
@@ -125,9 +125,9 @@ fn may_be_read<N: Names>(names: &mut N, name: &str, creation: Creation<'_>) -> b
     may_be_one_read(names, name, creation.inputs)
 }
 
-/// Empties the file of a name, or makes one, once its lock is held. `Open`: another process holds it, or
-/// the file cannot be opened or emptied, or the name is that of a link. `Rename`: the name lost the file
-/// by then, or the system did not say whether it did.
+/// Empties the file of a name, or makes one, once its lock is held. `Open`: another process holds
+/// it, or the file cannot be opened or emptied, or the name is that of a link. `Rename`: the name
+/// lost the file by then, or the system did not say whether it did.
 fn emptied<Y>(system: &mut Y, name: &str) -> Result<Y::Made, Fault>
 where
     Y: System,
@@ -161,10 +161,10 @@ fn named(has_file: Answer) -> Result<(), Fault>
 
 /// Makes it in the file of its name, which is emptied first, once its lock is held.
 ///
-/// `Open`: the base or an input is that file, and would be lost, or the system did not say whether it
-/// is; or another process holds it; or the name is that of a link, or the file cannot be opened.
-/// `Rename`: another file has the name before the file is emptied or once it is whole, or none has, or the
-/// system did not say.
+/// `Open`: the base or an input is that file, and would be lost, or the system did not say whether
+/// it is; or another process holds it; or the name is that of a link, or the file cannot be opened.
+/// `Rename`: another file has the name before the file is emptied or once it is whole, or none has,
+/// or the system did not say.
 ///
 /// What was read is handed back, and the file if it was opened.
 #[inline(never)]
@@ -223,7 +223,8 @@ fn synced<S: Store>(store: &mut S, built: Result<(), Fault>) -> Result<(), Fault
     }
 }
 
-/// What a database that was made in place comes to, unless it failed: its name has the file to the end.
+/// What a database that was made in place comes to, unless it failed: its name has the file to the
+/// end.
 fn kept<Y>(
     system: &mut Y,
     name: &str,
@@ -240,8 +241,9 @@ where
 
 /// Makes it in a temporary file, which replaces the database once it is whole.
 ///
-/// If the temporary name refers to the base or to an input, or the system did not say whether it does,
-/// nothing is removed and the call fails. What was read is handed back, also if nothing was built.
+/// If the temporary name refers to the base or to an input, or the system did not say whether it
+/// does, nothing is removed and the call fails. What was read is handed back, also if nothing was
+/// built.
 #[inline(never)]
 pub(crate) fn replace_database<L, F, J, N, I, E>(
     alloc: Global,

@@ -46,8 +46,8 @@ where
     (left, status)
 }
 
-/// Does what the words ask for, and answers the exit status. What is said stays where `errors` holds
-/// it.
+/// Does what the words ask for, and answers the exit status. What is said stays where `errors`
+/// holds it.
 fn answer<Y, N, I, O, E>(
     alloc: Global,
     system: &mut Y,
@@ -90,7 +90,8 @@ where
     }
 }
 
-/// What a fault is of and why, if that is asked for and known. `unwritten` says that standard output failed.
+/// What a fault is of and why, if that is asked for and known. `unwritten` says that standard
+/// output failed.
 #[cold]
 #[inline(never)]
 fn cause_of<'a, Y, N, I>(

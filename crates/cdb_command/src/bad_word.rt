@@ -163,8 +163,8 @@ fn is_help(fault: &WordFault<'_>) -> bool
     }
 }
 
-/// The first letter or word that is no part of a command line, whose first word is the program's name. If
-/// it is `--help`, and no letter of a command is on the line, that is what lacks.
+/// The first letter or word that is no part of a command line, whose first word is the program's
+/// name. If it is `--help`, and no letter of a command is on the line, that is what lacks.
 pub(crate) fn bad_word(words: &[String]) -> WordFault<'_>
     ensures { refused_in result ≡ bad_word (map string_bytes words.entry.now) }
 {

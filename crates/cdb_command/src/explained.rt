@@ -41,8 +41,8 @@ fn some_has(sought: &[u8], words: &[String]) -> bool
     false
 }
 
-/// Whether `-v` is among the words of a command line, the first of which is the program's name: faults
-/// are to be explained then. It is answered of words without a meaning too.
+/// Whether `-v` is among the words of a command line, the first of which is the program's name:
+/// faults are to be explained then. It is answered of words without a meaning too.
 pub fn explains(words: &[String]) -> bool
     ensures { result ≡ explains_in (map string_bytes words.now) }
 {

@@ -17,17 +17,18 @@ use std::alloc::Global;
 /// Letters come alone or several after one hyphen, in any order, before names, between them and
 /// after them; a letter without a value that comes often is as one. After `--` all words are
 /// names. The answer is the first that holds of these:
-/// - `Words`: a word has an unknown letter or is long as `--map`, or `-n`, `-t` or `-b` has no value or
-///   stands twice. The next word is no value if it begins with a hyphen and is longer than that;
+/// - `Words`: a word has an unknown letter or is long as `--map`, or `-n`, `-t` or `-b` has no
+///   value or stands twice. The next word is no value if it begins with a hyphen and is longer than
+///   that;
 /// - `Ok(Help)`: `-h` is there; `Ok(Version)`: `-V` is there;
 /// - `NoCommand`, `TwoCommands`: none of `-q`, `-d`, `-l`, `-s`, `-c`, `-k` and `-D`, or several;
 /// - `Option`: the command doesn't take this option, the first such of `m n i t w e r u b`.
-///   `-q` takes `m`, `n` and `i`, `-d` and `-l` take `m`, and `-c` takes all but `n` and `i`. It takes no `b`
-///   beside `-t -`, nor if it would build in the base: if `-t`, or the database's name and `.tmp`, is the
-///   base's name. A database named `-` is built in no file;
+///   `-q` takes `m`, `n` and `i`, `-d` and `-l` take `m`, and `-c` takes all but `n` and `i`. It
+/// takes no `b` beside `-t -`, nor if it would build in the base: if `-t`, or the database's name
+/// and `.tmp`, is the base's name. A database named `-` is built in no file;
 /// - `Number`: the value of `-n` isn't decimal digits alone, of a number from 1 to 4294967295;
-/// - `Names`: `-q` and `-D` take two names, `-c` and `-q` with `-i` one and any number of inputs, the
-///   others one at most;
+/// - `Names`: `-q` and `-D` take two names, `-c` and `-q` with `-i` one and any number of inputs,
+///   the others one at most;
 /// - `Both`: `-r` and `-u`;
 /// - the command. If it reads one file, no name and `-` are standard input. `-W` and `-v` go
 ///   with every command; `explains` answers whether `-v` is there.
@@ -47,10 +48,11 @@ pub fn plan(alloc: Global, words: Vec<String>) -> Result<Command, Usage>
 }
 
 /// Answers as `plan` does, and of words without a meaning which word or letter has none:
-/// - `Words` is `Unknown`, `Long`, `NoValue` or `Twice`, of the first of the words that has one of these,
-///   or `Words` if the parser of the line had another reason;
+/// - `Words` is `Unknown`, `Long`, `NoValue` or `Twice`, of the first of the words that has one of
+///   these, or `Words` if the parser of the line had another reason;
 /// - `TwoCommands` has the first two of the letters;
-/// - `Option` has the command's letter too; of `b` it is `BaseInPlace`, beside `-t -`, or `BaseBuiltIn`;
+/// - `Option` has the command's letter too; of `b` it is `BaseInPlace`, beside `-t -`, or
+///   `BaseBuiltIn`;
 /// - `Names` is `Lacks` or `Surplus`.
 pub fn plan_explained(alloc: Global, words: &[String]) -> Result<Command, WordFault<'_>>
     ensures exact { Gives asked_in result (plan_of (map string_bytes words.entry.now)) }

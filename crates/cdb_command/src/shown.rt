@@ -4,8 +4,8 @@ ghost use Rattle.std.specs.Str.{continuation_len};
 ghost use Rattle.cdb_command.specs.Shown.{digit, escaped, first_piece, has_hidden, is_hidden};
 ghost use Rattle.cdb_command.specs.Shown.{is_printable, printable_len};
 
-/// Whether a character could end a line, command a terminal, turn the order of what is read, or be taken for
-/// the number of a byte.
+/// Whether a character could end a line, command a terminal, turn the order of what is read, or be
+/// taken for the number of a byte.
 fn is_hidden(character: char) -> bool
     ensures { result ≡ is_hidden character }
 {
@@ -62,10 +62,10 @@ fn first_piece(bytes: &[u8]) -> &[u8]
     }
 }
 
-/// How many bytes the character has that some bytes begin with, if a line shows it as it is: or else 0.
-/// All of UTF-8 is shown so but control characters, the separators of lines and paragraphs, characters
-/// that embed, override or isolate a direction of writing, and the backslash. Of 0 the first byte is
-/// shown `escaped`.
+/// How many bytes the character has that some bytes begin with, if a line shows it as it is: or
+/// else 0. All of UTF-8 is shown so but control characters, the separators of lines and paragraphs,
+/// characters that embed, override or isolate a direction of writing, and the backslash. Of 0 the
+/// first byte is shown `escaped`.
 pub fn printable_len(bytes: &[u8]) -> usize
     ensures exact { result ≡ printable_len bytes.now }
     ensures bound { result ≤ length bytes.now }
@@ -82,8 +82,8 @@ fn digit(n: u8) -> u8
     if n < 10 { n + 48 } else { n + 87 }
 }
 
-/// What a byte of a name, a word or a key is shown as in a line if it begins no character that is shown as
-/// it is: a backslash, `x` and its number.
+/// What a byte of a name, a word or a key is shown as in a line if it begins no character that is
+/// shown as it is: a backslash, `x` and its number.
 pub fn escaped(byte: u8) -> [u8; 4]
     ensures { result ≡ escaped byte }
 {

@@ -25,8 +25,8 @@ fn is_of_memory(error: &clap::Error) -> bool
     matches!(error.kind(), ErrorKind::OutOfMemory)
 }
 
-/// What `clap` makes of the words, the first of which is the program's name. The first bad letter or
-/// word if it refuses them.
+/// What `clap` makes of the words, the first of which is the program's name. The first bad letter
+/// or word if it refuses them.
 pub(crate) fn matches_of<'a>(
     alloc: Global,
     words: &'a [String],

@@ -85,8 +85,8 @@ fn ends<L: Width, T: Store>(other: &mut Finder<'_, T, L>) -> Result<bool, Stop>
     }
 }
 
-/// Whether a value and those that its finder has left are, one by one, those that another finder has
-/// left. The first that differs ends it.
+/// Whether a value and those that its finder has left are, one by one, those that another finder
+/// has left. The first that differs ends it.
 fn same_values<L: Width, S: Store, T: Store>(
     own: &mut Finder<'_, S, L>,
     first: Span,

@@ -105,8 +105,8 @@ fn mark_left<L: Width, S: Store>(
     Ok(())
 }
 
-/// Goes on in one walk or in both. Unless both have the same record, each that goes on sets the mark
-/// of its key. Answers whether both had a record.
+/// Goes on in one walk or in both. Unless both have the same record, each that goes on sets the
+/// mark of its key. Answers whether both had a record.
 fn step<L: Width, S: Store, T: Store>(
     own: &mut Reader<S, L>,
     other: &mut Reader<T, L>,

@@ -15,7 +15,8 @@ use cdb_read::{Finder, ReadFault, Reader, Span};
 use cdb_store::Store;
 use itoa::Buffer;
 
-/// Writes what comes before the value of a put. After an `OutFault` the writer holds a prefix of it.
+/// Writes what comes before the value of a put. After an `OutFault` the writer holds a prefix of
+/// it.
 fn write_put_head<W: Sink>(w: &mut W, key: &[u8], vlen: u64) -> Result<(), OutFault>
     ensures writes { Writes result (W.contents w.old) (W.contents w.new) (codes "+" ++ decimal (length key.now)
         ++ codes "," ++ decimal vlen ++ codes ":" ++ key.now ++ codes "->") }
@@ -28,8 +29,8 @@ fn write_put_head<W: Sink>(w: &mut W, key: &[u8], vlen: u64) -> Result<(), OutFa
     write_pieces(w, &[b"+", klen, b",", vlen, b":", key, b"->"])
 }
 
-/// Writes a put of a key and a value that a finder gave, whose bytes go from the store to the writer
-/// in pieces. After a fault the writer holds a prefix of it.
+/// Writes a put of a key and a value that a finder gave, whose bytes go from the store to the
+/// writer in pieces. After a fault the writer holds a prefix of it.
 pub fn write_put<L: Width, S: Store, W: Sink>(
     finder: &mut Finder<'_, S, L>,
     key: &[u8],
@@ -54,8 +55,8 @@ pub fn write_put<L: Width, S: Store, W: Sink>(
     Ok(())
 }
 
-/// Writes a put for each value of a key, in the order in which a look-up gives them. After a fault the
-/// writer holds a prefix of that.
+/// Writes a put for each value of a key, in the order in which a look-up gives them. After a fault
+/// the writer holds a prefix of that.
 fn write_puts<L: Width, S: Store, W: Sink>(
     reader: &mut Reader<S, L>,
     key: &[u8],

@@ -9,8 +9,8 @@ use cdb_form::Width;
 use cdb_read::{AT_HAND, ReadFault, Reader, Span};
 use cdb_store::Store;
 
-/// From what a hash starts, and by what each byte multiplies it. The format multiplies by 33, and keys
-/// that it gives one hash have different ones here.
+/// From what a hash starts, and by what each byte multiplies it. The format multiplies by 33, and
+/// keys that it gives one hash have different ones here.
 const START: u32 = 2166136261;
 
 const FACTOR: u32 = 2654435761;

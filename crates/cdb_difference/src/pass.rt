@@ -22,8 +22,8 @@ use std::alloc::Global;
 /// How many bytes of a value are compared at once.
 const PIECE: usize = 4096;
 
-/// Whether the mark of a record's key is set, and it is the first record of the key, and the key has
-/// other values in the other database. Then `key` has the bytes of the key.
+/// Whether the mark of a record's key is set, and it is the first record of the key, and the key
+/// has other values in the other database. Then `key` has the bytes of the key.
 fn is_change<L: Width, S: Store, T: Store>(
     own: &mut Reader<S, L>,
     other: &mut Reader<T, L>,
@@ -55,8 +55,9 @@ fn is_change<L: Width, S: Store, T: Store>(
 }
 
 /// Writes what the difference says of each key of a database whose values in the other one are
-/// others, where the first record of the key is: removals or puts. A key whose mark is not set has the
-/// same values in both walks, and is not looked up. After a `Stop` the writer holds a prefix of that.
+/// others, where the first record of the key is: removals or puts. A key whose mark is not set has
+/// the same values in both walks, and is not looked up. After a `Stop` the writer holds a prefix of
+/// that.
 pub(crate) fn write_pass<L: Width, S: Store, T: Store, W: Sink>(
     alloc: Global,
     own: &mut Reader<S, L>,

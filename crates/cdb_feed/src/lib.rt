@@ -1,4 +1,5 @@
-//! Readers of which something is known at the end: what was read is then what any bytes say that agree with it.
+//! Readers of which something is known at the end: what was read is then what any bytes say that
+//! agree with it.
 #![tactic(auto)]
 
 mod input_reader;

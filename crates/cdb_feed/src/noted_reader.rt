@@ -42,8 +42,8 @@ impl<R: Read> Feeds for NotedReader<R> {
 
     ghost one_rest = { λ r whole first second one other. same_continued one other };
 
-    /// Notes no more than it answers: all bytes that agreed before and go on with those that came, or
-    /// are at their end if it is, still agree.
+    /// Notes no more than it answers: all bytes that agreed before and go on with those that came,
+    /// or are at their end if it is, still agree.
     fn read_some(&mut self, into: &mut [u8]) -> io::Result<usize>
         ensures bound { IfOk result (λ n. n ≤ length into.new) }
         ensures bytes { IfOk result (λ n.

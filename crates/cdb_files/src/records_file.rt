@@ -136,8 +136,8 @@ pub fn make_file_in<L: Width, N: Names>(
     ensures ok { OnOk result (IsRenamed temporary.now name.now (N.calls names.new)) }
     ensures calls { AreOfReplacing temporary.now name.now (IsFileOf L.WORD records.now)
         (N.calls names.old) (N.calls names.new) }
-    // A name is taken only from a file whose lock this create holds, and a file is renamed only if it
-    // may replace the other.
+    // A name is taken only from a file whose lock this create holds, and a file is renamed only if
+    // it may replace the other.
     ensures guarded { AreGuarded name.now (N.calls names.old) (N.calls names.new) }
     ensures renamed { OnOk result
         (renames (N.calls names.new) ≡ renames (N.calls names.old) + 1) }

@@ -93,9 +93,9 @@ fn first_empty<L: Width>(bytes: &[u8], runs: &mut [u32], home: usize) -> usize
 
 /// Writes an entry into the first empty slot from its home, as Bernstein's cdb specification says.
 ///
-/// `bytes` are those of a table with at least one slot, and `runs` has a number for each slot: of a table
-/// without entries all bytes and all numbers are 0. The calls note there how many slots are used from
-/// each one on, so a search passes them at once.
+/// `bytes` are those of a table with at least one slot, and `runs` has a number for each slot: of a
+/// table without entries all bytes and all numbers are 0. The calls note there how many slots are
+/// used from each one on, so a search passes them at once.
 #[inline(always)]
 pub fn put_entry<L: Width>(bytes: &mut [u8], runs: &mut [u32], entry: Slot)
     requires some { 0 < length (slots_in L.WORD bytes.old) }

@@ -10,8 +10,8 @@ use std::marker::Model;
 
 /// The address of a file on the heap, which C gives away with what it points to.
 ///
-/// C makes it of a descriptor: a block of `malloc` that begins with the descriptor's number, and has more
-/// bytes than a file.
+/// C makes it of a descriptor: a block of `malloc` that begins with the descriptor's number, and
+/// has more bytes than a file.
 #[repr(C)]
 #[derive(Drop)]
 pub struct GivenFile {

@@ -44,8 +44,8 @@ fn leave(database: Database) {
     }
 }
 
-/// The number of the descriptor of a file that C gives, which stays open. C compares it with the number
-/// that it wrote into the block: so it sees whether a file is laid out as it takes it to be.
+/// The number of the descriptor of a file that C gives, which stays open. C compares it with the
+/// number that it wrote into the block: so it sees whether a file is laid out as it takes it to be.
 pub fn number(file: GivenFile) -> i32 {
     file.into_file().into_raw_fd()
 }
@@ -72,10 +72,11 @@ fn begin(alloc: Global, file: File) -> Result<Making, MakeFault>
     }
 }
 
-/// Begins a database in a file that is empty, which C gives and which stays open. What the handle held
-/// before is freed.
+/// Begins a database in a file that is empty, which C gives and which stays open. What the handle
+/// held before is freed.
 ///
-/// `NoMemory`: an allocation failed. `Writing`: the file failed. The handle keeps what it held then.
+/// `NoMemory`: an allocation failed. `Writing`: the file failed. The handle keeps what it held
+/// then.
 pub fn start(alloc: Global, handle: &mut Handle, file: GivenFile) -> Result<(), MakeFault>
     ensures ok { OnOk result (HasNewMaker (kept_in handle.new)) }
     ensures err { OnErr result (kept_in handle.new ≡ kept_in handle.old) }

@@ -201,7 +201,8 @@ impl<S: Store, L: Width> Maker<S, L> {
         self.enter_all(bytes, count)
     }
 
-    /// Whether some records go, and beside them there is no room for all whole records of some bytes.
+    /// Whether some records go, and beside them there is no room for all whole records of some
+    /// bytes.
     fn crowds(&self, bytes: &[u8]) -> bool
         ensures beside { result ≡ false → (self.now.roll.gone.count ≡ 0) ⊎ (full_size self.now
             + sum_by (whole_size L.WORD) (records_at L.WORD bytes.now) ≤ self.now.limit) }
@@ -237,9 +238,10 @@ impl<S: Store, L: Width> Maker<S, L> {
     /// bytes they have.
     ///
     /// They are written by one write, and no record is copied. The bytes after the last whole
-    /// record are left out: pass them again, before those that follow them. Records that go are taken
-    /// out first if the file has no room beside them. A lazy maker that has noted no record so far tags
-    /// all that come, also if these bytes have none: so keys of one hash are found as fast as others.
+    /// record are left out: pass them again, before those that follow them. Records that go are
+    /// taken out first if the file has no room beside them. A lazy maker that has noted no record
+    /// so far tags all that come, also if these bytes have none: so keys of one hash are found as
+    /// fast as others.
     ///
     /// `TooBig`: with the next record the file would pass the limit. `NoMemory`: an allocation
     /// failed at the next record. Both leave the records before that one appended. `Writing`: the

@@ -301,7 +301,8 @@ impl Chains {
         }
     }
 
-    /// Takes the records of a hash that a look has found out of their chain, and marks that they go.
+    /// Takes the records of a hash that a look has found out of their chain, and marks that they
+    /// go.
     fn take_linked(&mut self, hashes: &[u32], marks: &mut [Mark], hash: u32)
         requires chained { AreChained self.old.heads.items self.old.before.items hashes.now (gone_of marks.old) }
         requires long { length marks.old ≡ length hashes.now }
@@ -326,7 +327,8 @@ impl Chains {
         }
     }
 
-    /// Marks that the records of a hash go that a look has found, and takes them out of their chain.
+    /// Marks that the records of a hash go that a look has found, and takes them out of their
+    /// chain.
     pub(crate) fn take(&mut self, hashes: &[u32], marks: &mut [Mark], hash: u32)
         requires chained { AreChained self.old.heads.items self.old.before.items hashes.now (gone_of marks.old) }
         requires long { length marks.old ≡ length hashes.now }

@@ -23,8 +23,8 @@ pub(crate) fn place_at<L: Width>(places: &Places<L>, n: usize, end: u64) -> u64
 
 /// Moves the records that stay down, side by side. Each byte behind the first gap moves once.
 ///
-/// `first` is the number of the first record that goes, or of all. It takes no memory. `Device`: the
-/// bytes before the records stay.
+/// `first` is the number of the first record that goes, or of all. It takes no memory. `Device`:
+/// the bytes before the records stay.
 pub(crate) fn compact_bytes<S: Store, L: Width>(
     store: &mut S,
     start: u64,

@@ -48,7 +48,8 @@ impl<S: Store + Drop, L: Width> From<Unfinished<S, L>> for MakeFault {
     }
 }
 
-/// Leaves a head of all ones in a store and nothing else, and hands it on. All memory is taken first.
+/// Leaves a head of all ones in a store and nothing else, and hands it on. All memory is taken
+/// first.
 ///
 /// So no byte of a record stands on what holds the bytes before the head does.
 fn emptied<S: Store, L: Width>(store: &mut S) -> Result<(), MakeFault>
@@ -100,12 +101,12 @@ impl<S: Store, L: Width> Maker<S, L> {
         }
     }
 
-    /// A maker of a file of at most `limit` bytes in a store, which is emptied. It takes records out
-    /// at once.
+    /// A maker of a file of at most `limit` bytes in a store, which is emptied. It takes records
+    /// out at once.
     ///
     /// Until the finish the head is one of all ones, whose tables lie outside of any file: so what
-    /// a maker leaves that does not finish is damaged. The store is flushed after this head, so no byte
-    /// of a record is on the disk before it.
+    /// a maker leaves that does not finish is damaged. The store is flushed after this head, so no
+    /// byte of a record is on the disk before it.
     ///
     /// The store is handed back if that failed: with `NoMemory` as it was, and with `Writing`
     /// it failed, and may hold anything.
@@ -121,7 +122,8 @@ impl<S: Store, L: Width> Maker<S, L> {
     }
 
     /// The same, of a maker that takes records out later: it marks them, and no look finds them.
-    /// Their bytes stay on the store until a pass closes all gaps at once. `finish` makes one first.
+    /// Their bytes stay on the store until a pass closes all gaps at once. `finish` makes one
+    /// first.
     ///
     /// So however many records go, the others move a few times at most.
     pub fn lazy(alloc: Global, store: S, limit: u64) -> Result<Maker<S, L>, Refused<S>>
@@ -165,8 +167,8 @@ impl<S: Store, L: Width> Maker<S, L> {
         Ok(())
     }
 
-    /// Takes the records that go out, and writes the tables and the head of the others, and hands all
-    /// on.
+    /// Takes the records that go out, and writes the tables and the head of the others, and hands
+    /// all on.
     fn finish_store(&mut self) -> Result<(), MakeFault>
         ensures whole { OnOk result (IsUsable self.old) }
         ensures file { (rs : List KeyValue) → Holds self.old rs
@@ -188,10 +190,10 @@ impl<S: Store, L: Width> Maker<S, L> {
     /// Finishes the file of its records, and hands the store over, which holds that file alone and
     /// has handed it on to what holds its bytes. Records that go are taken out first, by one pass.
     ///
-    /// All memory is taken before a byte of the tables is written, and the head is written last. The
-    /// maker is handed back if that failed. `NoMemory`: a pass was made if records were to go, and no
-    /// more. `Writing`: the store failed; amid the pass that breaks the maker, else it holds what it
-    /// held. `Broken`: an earlier call broke the maker.
+    /// All memory is taken before a byte of the tables is written, and the head is written last.
+    /// The maker is handed back if that failed. `NoMemory`: a pass was made if records were to go,
+    /// and no more. `Writing`: the store failed; amid the pass that breaks the maker, else it holds
+    /// what it held. `Broken`: an earlier call broke the maker.
     pub fn finish(mut self) -> Result<S, Unfinished<S, L>>
         ensures whole { IfOk result (λ _. IsUsable self) }
         ensures file { (rs : List KeyValue) → Holds self rs

@@ -27,9 +27,9 @@ pub(crate) struct Counts {
 /// Makes a database in a store: each record is written as it is put.
 ///
 /// The store holds the records one after another, from the end of the head on. Of each the maker
-/// keeps the hash of its key, its place and its mark: 9 bytes, or 13 if words are wide. If a look came
-/// before the first, it keeps a tag of its key too, of 4 bytes. Of the bytes
-/// of all records at most half, and 2 MiB, are of records that go with a later pass.
+/// keeps the hash of its key, its place and its mark: 9 bytes, or 13 if words are wide. If a look
+/// came before the first, it keeps a tag of its key too, of 4 bytes. Of the bytes of all records at
+/// most half, and 2 MiB, are of records that go with a later pass.
 #[derive(Drop)]
 pub struct Maker<S: Store, L: Width> {
     pub(crate) alloc: Global,
@@ -58,7 +58,8 @@ impl<S: Store, L: Width> Maker<S, L> {
 
     /// One more record, behind the others.
     ///
-    /// `NoMemory`: nothing was written. `Writing`: the store failed. The records are what they were.
+    /// `NoMemory`: nothing was written. `Writing`: the store failed. The records are what they
+    /// were.
     #[inline(always)]
     pub(crate) fn add(
         &mut self,
@@ -127,8 +128,8 @@ impl<S: Store, L: Width> Maker<S, L> {
         Ok(())
     }
 
-    /// Takes out the records that go and those that a look for the number has found, which are some,
-    /// and adds one behind the others. There is room for it.
+    /// Takes out the records that go and those that a look for the number has found, which are
+    /// some, and adds one behind the others. There is room for it.
     ///
     /// `Writing`: the store failed. Amid the pass that breaks the maker, else the records are gone.
     #[inline(never)]

@@ -60,7 +60,8 @@ impl<S: Store, L: Width> Maker<S, L> {
         }
     }
 
-    /// Whether a put adds its record and does no more: no other goes or was found, and none is tagged.
+    /// Whether a put adds its record and does no more: no other goes or was found, and none is
+    /// tagged.
     #[inline(always)]
     fn only_adds(&self, mode: Mode) -> bool
         ensures add { result ≡ true → mode ≡ Add }
@@ -103,9 +104,9 @@ impl<S: Store, L: Width> Maker<S, L> {
     ///
     /// `Lookup`: the store failed while it was read. `TooBig`: the file would pass the limit.
     /// `NoMemory`: memory was refused to a put that would have been taken. All these leave the
-    /// records as they were, and nothing was written. `Writing`: the store failed; if records were to
-    /// be taken out, the maker is broken, else its records are what they were. `Broken`: an earlier
-    /// call broke it, or the store gave back other bytes than were written.
+    /// records as they were, and nothing was written. `Writing`: the store failed; if records were
+    /// to be taken out, the maker is broken, else its records are what they were. `Broken`: an
+    /// earlier call broke it, or the store gave back other bytes than were written.
     #[inline(always)]
     pub fn put(&mut self, mode: Mode, key: &[u8], value: &[u8]) -> Result<Put, MakeFault>
         ensures puts { IfOk result

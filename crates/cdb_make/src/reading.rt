@@ -98,8 +98,9 @@ impl<S: Store, L: Width> Maker<S, L> {
 
     /// Whether some record has a key.
     ///
-    /// It writes nothing and takes no memory. `Lookup`: the store failed while it was read. `Broken`: an
-    /// earlier call broke the maker, or the store gave back other bytes than were written.
+    /// It writes nothing and takes no memory. `Lookup`: the store failed while it was read.
+    /// `Broken`: an earlier call broke the maker, or the store gave back other bytes than were
+    /// written.
     pub fn exists(&mut self, key: &[u8]) -> Result<bool, MakeFault>
         ensures there { (rs : List KeyValue) → Holds self.old rs
             → IfOk result (λ there. IsThere there key.now rs (S.image self.new.store)) }
@@ -138,8 +139,8 @@ impl<S: Store, L: Width> Maker<S, L> {
         }
     }
 
-    /// Whether some record has a key of this number, as `exists` says it. It leaves no record noted as
-    /// found.
+    /// Whether some record has a key of this number, as `exists` says it. It leaves no record noted
+    /// as found.
     #[inline(always)]
     pub(crate) fn look(&mut self, sought: u32, key: &[u8]) -> Result<bool, MakeFault>
         requires { IsSought self.old.roll key.now sought }

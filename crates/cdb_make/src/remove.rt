@@ -65,8 +65,8 @@ impl<S: Store, L: Width> Maker<S, L> {
     /// Removes every record of a key, and answers how many they were.
     ///
     /// It takes no memory. `Lookup`: the store failed while it was read, and no record has gone.
-    /// `Writing`: it failed amid a pass, and the maker is broken. `Broken`: an earlier call broke it,
-    /// or the store gave back other bytes than were written.
+    /// `Writing`: it failed amid a pass, and the maker is broken. `Broken`: an earlier call broke
+    /// it, or the store gave back other bytes than were written.
     pub fn remove(&mut self, key: &[u8]) -> Result<u64, MakeFault>
         ensures removes { IfOk result (Removes self.old self.new key.now) }
         ensures fine { OnOk result (HasNotFailed self.old self.new) }
@@ -86,8 +86,8 @@ impl<S: Store, L: Width> Maker<S, L> {
     /// Takes all records that go out by one pass. Then its store has the others and no more.
     ///
     /// Each byte behind the first gap moves once, however many records go, and no memory is taken.
-    /// `Writing`: the store failed amid the pass, and the maker is broken. `Broken`: an earlier call
-    /// broke it.
+    /// `Writing`: the store failed amid the pass, and the maker is broken. `Broken`: an earlier
+    /// call broke it.
     pub fn compact_all(&mut self) -> Result<(), MakeFault>
         ensures compacts_all { OnOk result (CompactsAll self.old self.new) }
         ensures fails { IfErr result (FailsCompactingAll self.old self.new) }

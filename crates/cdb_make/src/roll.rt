@@ -57,8 +57,8 @@ fn put_each_back(marks: &mut [Mark], from: usize)
     }
 }
 
-/// Leaves the marks of so many records that stay. Those before `first` stayed, and no look has found
-/// them.
+/// Leaves the marks of so many records that stay. Those before `first` stayed, and no look has
+/// found them.
 fn compact_marks(marks: &mut Vec<Mark>, first: usize, count: usize)
     requires first { first ≤ count }
     requires within { count ≤ vec_capacity marks.old }
@@ -74,8 +74,8 @@ fn compact_marks(marks: &mut Vec<Mark>, first: usize, count: usize)
 
 /// The hash of each record's key and where it lies, in the order of the file, and which records go.
 ///
-/// If a look or an append of a lazy maker came before the first record, each has a tag too: then keys
-/// that all have one hash are found as fast as others.
+/// If a look or an append of a lazy maker came before the first record, each has a tag too: then
+/// keys that all have one hash are found as fast as others.
 #[derive(Drop)]
 pub(crate) struct Roll<L: Width> {
     /// The hash of each record's key.
@@ -196,8 +196,8 @@ impl<L: Width> Roll<L> {
         self.gone.first.min(self.marks.len())
     }
 
-    /// The number by which a look finds the records of a key. If none was noted before, the look begins
-    /// the tags. `hash` is the key's hash.
+    /// The number by which a look finds the records of a key. If none was noted before, the look
+    /// begins the tags. `hash` is the key's hash.
     #[inline(always)]
     pub(crate) fn sought_by_look(&self, hash: u32, key: &[u8]) -> u32
         requires { hash ≡ key_hash key.now }
@@ -231,8 +231,8 @@ impl<L: Width> Roll<L> {
         }
     }
 
-    /// The number after the last of the first `end` records that has a number and does not go, or 0.
-    /// If `end` is the number of such a record, the search goes on from it.
+    /// The number after the last of the first `end` records that has a number and does not go, or
+    /// 0. If `end` is the number of such a record, the search goes on from it.
     #[inline(always)]
     pub(crate) fn last(&self, sought: u32, end: usize) -> usize
         requires { end ≤ length self.now.hashes.items }
@@ -283,8 +283,8 @@ impl<L: Width> Roll<L> {
         self.chains.reserve(self.most)
     }
 
-    /// Makes room for one more record, and in the chains too if memory is given for them. If memory is
-    /// refused, nothing has changed.
+    /// Makes room for one more record, and in the chains too if memory is given for them. If memory
+    /// is refused, nothing has changed.
     #[inline(always)]
     pub(crate) fn reserve(&mut self) -> Result<(), AllocError>
         ensures room { OnOk result (HasRoom self.new) }
@@ -433,8 +433,8 @@ impl<L: Width> Roll<L> {
         self.found = none();
     }
 
-    /// Puts the records into chains before a look, as many as there is room for. It takes no memory. If
-    /// no record was noted so far, all that come are tagged.
+    /// Puts the records into chains before a look, as many as there is room for. It takes no
+    /// memory. If no record was noted so far, all that come are tagged.
     pub(crate) fn link(&mut self)
         ensures sought { (key : List ℕ) (n : ℕ) → IsSought self.old key n → n ≡ sought_in self.new key }
         ensures same { SameRecords self.old self.new }
@@ -449,8 +449,8 @@ impl<L: Width> Roll<L> {
         self.chains.link_all(searched, &self.marks);
     }
 
-    /// Lets the chains go, and their memory. The next growth makes room for them anew; until then looks
-    /// compare the records one by one.
+    /// Lets the chains go, and their memory. The next growth makes room for them anew; until then
+    /// looks compare the records one by one.
     pub(crate) fn unchain(&mut self, alloc: Global)
         ensures same { SameRecords self.old self.new }
         ensures marks { self.new.marks ≡ self.old.marks }

@@ -22,7 +22,8 @@ fn tag_each(tag: u32, bytes: &[u8]) -> u32
     tag
 }
 
-/// The second hash of a key. Keys that have one cdb hash, as a text may have by intent, differ in it.
+/// The second hash of a key. Keys that have one cdb hash, as a text may have by intent, differ in
+/// it.
 pub(crate) fn second_hash(key: &[u8]) -> u32
     ensures { result ≡ second_hash key.now }
 {
@@ -71,8 +72,8 @@ pub(crate) fn push_tag(tagged: bool, tags: &mut Vec<u32>, tag: u32)
     }
 }
 
-/// Leaves before all others the tag of each record that stays, and answers how many they are. `first`
-/// is the number of the first that goes, or of all.
+/// Leaves before all others the tag of each record that stays, and answers how many they are.
+/// `first` is the number of the first that goes, or of all.
 fn compact_each(tags: &mut [u32], marks: &[Mark], first: usize) -> usize
     requires long { length marks.now ≡ length tags.old }
     requires first { IsFirstMarked (gone_of marks.now) first }

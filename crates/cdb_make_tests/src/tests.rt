@@ -1,5 +1,5 @@
-// Makers, eager and lazy ones, over stores in memory and files, with faults of the store and want of
-// memory.
+// Makers, eager and lazy ones, over stores in memory and files, with faults of the store and want
+// of memory.
 mod again;
 mod appends;
 mod drawn;

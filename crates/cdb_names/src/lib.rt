@@ -1,4 +1,5 @@
-//! Names of files: looks, locks and links, and a file that is replaced at once or not at all, whatever happens.
+//! Names of files: looks, locks and links, and a file that is replaced at once or not at all,
+//! whatever happens.
 #![tactic(auto)]
 
 mod answer;

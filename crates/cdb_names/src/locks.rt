@@ -8,8 +8,8 @@ use crate::refusal::Cause;
 use cdb_store::RealFile;
 use std::fs::TryLockError;
 
-/// Requests the lock of an open file, and does not wait for it. `Ok(false)`: its file system knows none.
-/// Otherwise another process holds it, or the system refused it.
+/// Requests the lock of an open file, and does not wait for it. `Ok(false)`: its file system knows
+/// none. Otherwise another process holds it, or the system refused it.
 pub fn locked(file: &RealFile) -> Result<bool, Cause>
     ensures { IfErr result (λ cause. may_be_for (Locked Held) cause ≡ true) }
 {

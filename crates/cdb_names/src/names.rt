@@ -53,8 +53,8 @@ pub trait Names {
     fn refusal(&self) -> Option<&Refusal>
         ensures { IfSome result (λ refusal. IsNameRefusal refusal.now (calls self.now)) };
 
-    /// The number of the error of the last call that failed on the file from which a name was taken last,
-    /// if the system gave one.
+    /// The number of the error of the last call that failed on the file from which a name was taken
+    /// last, if the system gave one.
     fn file_error(&self) -> Option<i32>;
 
     /// Whether a name leads to something that is no regular file, and so is not to be replaced: a
@@ -80,8 +80,8 @@ pub trait Names {
         ensures err { IfErr result
             (λ f. calls self.new ≡ (NotOpened f, name.now, [], []) ∷ calls self.old) };
 
-    /// Makes a file under a name that nothing has, reads and writes it, and follows no link. It gets
-    /// these permission bits, but for those that the umask or the folder's access list takes.
+    /// Makes a file under a name that nothing has, reads and writes it, and follows no link. It
+    /// gets these permission bits, but for those that the umask or the folder's access list takes.
     fn make_new(&mut self, name: &str, bits: u32) -> Result<Self::File, NameFault>
         ensures ok { OnOk result (calls self.new ≡ (Made bits, name.now, [], []) ∷ calls self.old) }
         ensures err { IfErr result
@@ -100,8 +100,8 @@ pub trait Names {
     fn is_input(&mut self, name: &str) -> Answer
         ensures { calls self.new ≡ (Input result, name.now, [], []) ∷ calls self.old };
 
-    /// The permission bits for a file that is to get a name: those of the regular file there, which is
-    /// not followed as a link, or else these. `None`: the system did not say what is there.
+    /// The permission bits for a file that is to get a name: those of the regular file there, which
+    /// is not followed as a link, or else these. `None`: the system did not say what is there.
     fn bits_for(&mut self, name: &str, bits: u32) -> Option<Wanted>
         ensures trace { calls self.new ≡ (Bits result, name.now, [], []) ∷ calls self.old }
         ensures old_or { IfSome result (IsOldOr bits) };
@@ -124,7 +124,8 @@ pub trait Names {
         ensures { IsCleared name.now (Self.File.calls file.now) (calls self.old) (calls self.new) };
 
     /// Gives an open file, which is closed then, the other name in place of its own and of what had
-    /// the other. A file that is of another length, or does not have its name any more, is `Failed`.
+    /// the other. A file that is of another length, or does not have its name any more, is
+    /// `Failed`.
     fn rename(
         &mut self,
         file: Self::File,

@@ -30,7 +30,8 @@ pub struct RealNames<'a, R> {
     trace: NameTrace,
     /// The name that was refused last, if there was memory for it.
     last: Option<Refusal>,
-    /// The number of the error of the last call that failed on the file whose name was removed last.
+    /// The number of the error of the last call that failed on the file whose name was removed
+    /// last.
     file_error: Option<i32>,
     /// The number of the error of the last removal, if that failed.
     unremoved: Option<i32>,
@@ -101,8 +102,8 @@ fn bits_in(found: &Metadata) -> u32 {
     found.permissions().mode() & FOR_ALL
 }
 
-/// Removes what a name has, if it is an open file. Otherwise it was not removed: the number of the error, if
-/// a call failed. A look that failed is made once more.
+/// Removes what a name has, if it is an open file. Otherwise it was not removed: the number of the
+/// error, if a call failed. A look that failed is made once more.
 fn removed<R: Files<File = File>>(rt: &R, name: &str, file: &RealFile) -> Result<(), Option<i32>> {
     let is_own = match has_name(rt, name, file) {
         Err(_) => has_name(rt, name, file)?,
@@ -114,8 +115,8 @@ fn removed<R: Files<File = File>>(rt: &R, name: &str, file: &RealFile) -> Result
     fs::remove_file(rt, name).map_err(|error| error.raw_os_error())
 }
 
-/// The permission bits of what was looked at, if it is a regular file, or else these. If the system did not
-/// say: the number of its error.
+/// The permission bits of what was looked at, if it is a regular file, or else these. If the system
+/// did not say: the number of its error.
 fn wanted_of(look: &Look, bits: u32) -> Result<Wanted, Option<i32>>
     ensures { IfOk result (IsOldOr bits) }
 {
@@ -135,8 +136,8 @@ fn fault_of(error: &io::Error) -> NameFault {
     }
 }
 
-/// Why the regular file that was seen under a name was not opened: it is gone, so another create took it;
-/// what was opened was none; or the system's fault.
+/// Why the regular file that was seen under a name was not opened: it is gone, so another create
+/// took it; what was opened was none; or the system's fault.
 fn unopened(error: &io::Error, _fault: NameFault) -> Cause
     ensures { may_be_for (NotOpened _fault) result ≡ true }
 {
@@ -147,8 +148,8 @@ fn unopened(error: &io::Error, _fault: NameFault) -> Cause
     }
 }
 
-/// Why no file was made under a name that nothing had: the one that was there could not be removed, another
-/// create has made one since, or the system's fault.
+/// Why no file was made under a name that nothing had: the one that was there could not be removed,
+/// another create has made one since, or the system's fault.
 fn unmade(error: &io::Error, unremoved: Option<i32>, _fault: NameFault) -> Cause
     ensures { may_be_for (NotMade _fault) result ≡ true }
 {
@@ -159,8 +160,8 @@ fn unmade(error: &io::Error, unremoved: Option<i32>, _fault: NameFault) -> Cause
     }
 }
 
-/// Why a name's file is that of another name too: it is one file under two names, unless the name does not have
-/// it any more. Then another create gave it the other name in the meantime.
+/// Why a name's file is that of another name too: it is one file under two names, unless the name
+/// does not have it any more. Then another create gave it the other name in the meantime.
 fn same_cause<R: Files<File = File>>(rt: &R, own: &Look, name: &str) -> Cause
     ensures { may_be_for (Same Yes) result ≡ true }
 {
@@ -408,8 +409,8 @@ impl<'a, R: Files<File = File> + AllocGlobal> Names for RealNames<'a, R> {
     }
 
     // Shown by tests/cli/taken.py, orders.py and tests/faults/others.py.
-    /// Why it was not removed is kept for the next file of that name alone: else it would hide why the create
-    /// ended.
+    /// Why it was not removed is kept for the next file of that name alone: else it would hide why
+    /// the create ended.
     fn remove_own(&mut self, name: &str, file: &RealFile) {
         self.file_error = file.last_error();
         let removed = removed(self.rt, name, file);

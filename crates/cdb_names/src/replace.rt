@@ -54,8 +54,8 @@ pub trait Builder<S: Store> {
     /// What it may hand back if it is given no store.
     ghost gives_up: { Self → Self.Back → Type 0 };
 
-    /// Builds the file, and hands the store back. It need not flush the store: the caller does, after
-    /// its own last change. After a fault the store may hold anything.
+    /// Builds the file, and hands the store back. It need not flush the store: the caller does,
+    /// after its own last change. After a fault the store may hold anything.
     fn build(self, store: S, told: &mut Self::Told) -> (S, Self::Back, Result<(), Self::Fault>)
         ensures built { OnOk result.2
             ((b : List ℕ) → S.image result.0 b → builds self result.1 b) }
@@ -70,10 +70,10 @@ pub trait Builder<S: Store> {
 /// Why a file was not replaced.
 #[derive(Clone, Copy, Debug, PartialEq, Eq)]
 pub enum ReplaceFault<E> {
-    /// The file's name is empty or ends in a slash, or the temporary name is the same or leads to the
-    /// same file; or the temporary name has something that is no regular file, or the file of another
-    /// create; or no file could be made, or not with the old file's permissions; or the system did
-    /// not say what a name has.
+    /// The file's name is empty or ends in a slash, or the temporary name is the same or leads to
+    /// the same file; or the temporary name has something that is no regular file, or the file of
+    /// another create; or no file could be made, or not with the old file's permissions; or the
+    /// system did not say what a name has.
     Open,
     /// The system had no memory as the temporary file was opened, made or renamed.
     NoMemory,
@@ -157,7 +157,8 @@ fn is_locked<N: Names>(names: &mut N, name: &str, file: &N::File) -> bool
     }
 }
 
-/// Removes the old file of the temporary name, once its lock is taken: no other create holds it then.
+/// Removes the old file of the temporary name, once its lock is taken: no other create holds it
+/// then.
 fn remove_old<N: Names, E: Drop>(
     names: &mut N,
     name: &str,
@@ -184,9 +185,9 @@ fn remove_old<N: Names, E: Drop>(
     Ok(())
 }
 
-/// Sees that nothing has the temporary name, or removes the old file that has it, unless it is the file
-/// to be replaced. If the look found nothing, nothing is removed: a file that is there by then is another
-/// create's.
+/// Sees that nothing has the temporary name, or removes the old file that has it, unless it is the
+/// file to be replaced. If the look found nothing, nothing is removed: a file that is there by then
+/// is another create's.
 fn clear<N: Names, E: Drop>(
     names: &mut N,
     name: &str,
@@ -213,9 +214,9 @@ fn clear<N: Names, E: Drop>(
     }
 }
 
-/// Whether the temporary name has the file that was made, and is of another file than the name. Both
-/// are seen once the file is locked: another create may have taken it for an old file before, and two
-/// names can be of one file though none was there.
+/// Whether the temporary name has the file that was made, and is of another file than the name.
+/// Both are seen once the file is locked: another create may have taken it for an old file before,
+/// and two names can be of one file though none was there.
 fn is_own_apart<N: Names>(names: &mut N, name: &str, temporary: &str, file: &N::File) -> bool
     ensures seen { result ≡ true → N.calls names.new ≡ (Same No, temporary.now, name.now, [])
         ∷ (Own Yes, temporary.now, [], []) ∷ N.calls names.old }
@@ -239,9 +240,10 @@ fn is_own_apart<N: Names>(names: &mut N, name: &str, temporary: &str, file: &N::
     }
 }
 
-/// The permission bits of a file that gets the name: those of the file that has it, or those that the
-/// system gives a plain new file of the folder, by the umask and the folder's access list. A file that is
-/// made under the temporary name, which nothing has, shows these, and is removed again.
+/// The permission bits of a file that gets the name: those of the file that has it, or those that
+/// the system gives a plain new file of the folder, by the umask and the folder's access list. A
+/// file that is made under the temporary name, which nothing has, shows these, and is removed
+/// again.
 fn show_bits<N: Names, E: Drop>(
     names: &mut N,
     name: &str,
@@ -280,7 +282,8 @@ fn show_bits<N: Names, E: Drop>(
     }
 }
 
-/// Makes a file under the temporary name, which nothing has, for this user alone, and takes its lock.
+/// Makes a file under the temporary name, which nothing has, for this user alone, and takes its
+/// lock.
 fn make_own<N: Names, E: Drop>(
     names: &mut N,
     name: &str,
@@ -312,8 +315,8 @@ fn make_own<N: Names, E: Drop>(
 }
 
 /// Makes a file under the temporary name, in place of an old one of that name that is not the file
-/// to be replaced and that no other create holds. Answers the permission bits too that the file is to
-/// have if nothing has the name by then.
+/// to be replaced and that no other create holds. Answers the permission bits too that the file is
+/// to have if nothing has the name by then.
 fn make_temporary<N: Names, E: Drop>(
     names: &mut N,
     name: &str,
@@ -355,10 +358,10 @@ fn sync<F: RawFile, E>(store: &mut FileStore<F>) -> Result<(), ReplaceFault<E>>
     }
 }
 
-/// Syncs the file that was built, and then gives it the permission bits with which it may get its name,
-/// unless it has them. A look says what the file system made of them. If they changed, the file is synced
-/// once more. So what a create that is killed leaves is open to this user alone until its bytes are sure.
-/// If no regular file has the name, it gets the bits that are passed.
+/// Syncs the file that was built, and then gives it the permission bits with which it may get its
+/// name, unless it has them. A look says what the file system made of them. If they changed, the
+/// file is synced once more. So what a create that is killed leaves is open to this user alone
+/// until its bytes are sure. If no regular file has the name, it gets the bits that are passed.
 fn seal<N: Names, E>(
     names: &mut N,
     store: &mut FileStore<N::File>,
@@ -455,12 +458,12 @@ fn publish<N: Names, E: Drop>(
 /// An old regular file of the temporary name is removed first, once its lock is taken, unless it is
 /// the file to be replaced or another create holds it. Whatever else has that name stays, a link
 /// too, and so does a file that came there after the look. The new file is made for this user alone
-/// and locked until after the rename, so no other create takes it. Once it is whole it is synced, and
-/// then it gets the permission bits of the regular file that it replaces, and is synced once more if
-/// they changed. If there is none by then, it gets those of the one that was there before the build,
-/// or those of a plain new file: one that was made under the temporary name showed them before.
-/// After a fault the temporary name is taken from the file, if it still has it. A folder that cannot
-/// be synced is no fault.
+/// and locked until after the rename, so no other create takes it. Once it is whole it is synced,
+/// and then it gets the permission bits of the regular file that it replaces, and is synced once
+/// more if they changed. If there is none by then, it gets those of the one that was there before
+/// the build, or those of a plain new file: one that was made under the temporary name showed them
+/// before. After a fault the temporary name is taken from the file, if it still has it. A folder
+/// that cannot be synced is no fault.
 ///
 /// If the system did not say what a name has, nothing is touched: `Open`.
 ///
@@ -477,26 +480,27 @@ pub fn replace_file<N: Names, B: Builder<FileStore<N::File>>>(
     ensures calls { AreOfReplacing temporary.now name.now (B.builds builder result.0)
         (N.calls names.old) (N.calls names.new) }
     // A name is taken only from a file whose lock this create holds. A file is renamed only if its
-    // lock is held, its name was seen to have it, the two names were seen to be of two files, and the
-    // name led to a regular file or to nothing. Its bytes were synced before it got permission bits,
-    // and it was synced once more after that; it has those of the file that it replaces, or no others
-    // than a plain new file.
+    // lock is held, its name was seen to have it, the two names were seen to be of two files, and
+    // the name led to a regular file or to nothing. Its bytes were synced before it got permission
+    // bits, and it was synced once more after that; it has those of the file that it replaces, or
+    // no others than a plain new file.
     ensures guarded { AreGuarded name.now (N.calls names.old) (N.calls names.new) }
     ensures ok { OnOk result.1 (IsRenamed temporary.now name.now (N.calls names.new)) }
     ensures renames_ok { OnOk result.1
         (renames (N.calls names.new) ≡ renames (N.calls names.old) + 1) }
     ensures renames_err { OnErr result.1
         (renames (N.calls names.new) ≡ renames (N.calls names.old)) }
-    // The calls that ended it are its own. It made none only if no file can have the name, or if one
-    // text was given for both names.
+    // The calls that ended it are its own. It made none only if no file can have the name, or if
+    // one text was given for both names.
     ensures err { IfErr result.1
         (EndsIn temporary.now name.now (N.calls names.old) (N.calls names.new)) }
-    // The fault of the builder is the one that it answered, and the file that it left is the one from
-    // which the temporary name is taken.
+    // The fault of the builder is the one that it answered, and the file that it left is the one
+    // from which the temporary name is taken.
     ensures build { IfErr result.1 (IsOfBuilder (FailsToBuild (B.fails builder) temporary.now
         (N.calls names.old) (N.calls names.new))) }
-    // If nothing was built, no file is whole, the builder gave up, and what it writes to beside is as
-    // it was. Else that is as the builder left it, and at Ok the file that it built then was renamed.
+    // If nothing was built, no file is whole, the builder gave up, and what it writes to beside is
+    // as it was. Else that is as the builder left it, and at Ok the file that it built then was
+    // renamed.
     ensures told { BuilderTells N.File.RawFile (B.gives_up builder) (B.tells builder) temporary.now name.now
         (N.calls names.old) (N.calls names.new) result.0 told.old told.new result.1 }
     // With one text for both names nothing is done.
@@ -504,8 +508,8 @@ pub fn replace_file<N: Names, B: Builder<FileStore<N::File>>>(
     // If the name is empty or ends in a slash, the file cannot be made, and nothing is done.
     ensures no_name { (IsNoName name.now → ⊥)
         ⊎ ((result.1 ≡ Err Open) × (N.calls names.new ≡ N.calls names.old)) }
-    // A crash at any moment leaves the old file or the new one, whole, if the names are of two files.
-    // A rename comes only after the system answered so.
+    // A crash at any moment leaves the old file or the new one, whole, if the names are of two
+    // files. A rename comes only after the system answered so.
     ensures any_moment { AtEachMoment (LeavesOldOrNew temporary.now name.now
         (B.builds builder result.0) (N.calls names.old)) (N.calls names.old)
         (N.calls names.new) }

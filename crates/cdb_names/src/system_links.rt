@@ -15,8 +15,8 @@ const ENOMEM: i32 = 12;
 /// The system's number for "too many levels of symbolic links".
 const ELOOP: i32 = 40;
 
-/// Whether a name is that of a link in `/dev`, or of one that lies in `/proc` or leads there by a link, as
-/// `/dev/stdout` does wherever it lies.
+/// Whether a name is that of a link in `/dev`, or of one that lies in `/proc` or leads there by a
+/// link, as `/dev/stdout` does wherever it lies.
 pub(crate) fn is_system_link<R: Files<File = File> + Alloc>(rt: &R, name: &str) -> Said {
     if link_at(rt, name)? {
         return leads_into_system(rt, name);

@@ -15,8 +15,8 @@ use cdb_store::Store;
 pub const AT_HAND: usize = WINDOW;
 
 impl<S: Store, L: Width> Reader<S, L> {
-    /// Has so many bytes from a place on at hand, which lie inside the file. The store is read only if they
-    /// are not, and then for `AT_HAND` bytes.
+    /// Has so many bytes from a place on at hand, which lie inside the file. The store is read only
+    /// if they are not, and then for `AT_HAND` bytes.
     #[inline(always)]
     pub fn read_ahead(&mut self, place: u64, n: usize) -> Result<(), ReadFault>
         requires short { n ≤ 4096 }

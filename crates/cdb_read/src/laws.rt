@@ -1,5 +1,5 @@
-//! Laws of look-ups, of sound files and of differences. Each is the contract of a function whose parameters are
-//! what it ranges over.
+//! Laws of look-ups, of sound files and of differences. Each is the contract of a function whose
+//! parameters are what it ranges over.
 ghost use Rattle.std.specs.Prelude.{◌≡◌, ◌≤◌, []};
 ghost use Rattle.cdb_form.specs.Format.File.{file_bytes, file_size};
 ghost use Rattle.cdb_form.specs.Views.Pairs.{key_values};
@@ -36,8 +36,8 @@ pub fn sound_is_no_damage<L: Width>(_bytes: &[u8])
     ensures { SoundIsNoDamage L.WORD _bytes.now }
 {}
 
-/// The look-ups in the file of some records, if its size fits, give each key its records in the order
-/// of the walk.
+/// The look-ups in the file of some records, if its size fits, give each key its records in the
+/// order of the walk.
 pub fn file_finds_in_order<L: Width>(_records: &[Record])
     ensures { file_size L.WORD (key_values _records.now) ≤ L.GREATEST →
         FindsInOrder L.WORD (file_bytes L.WORD (key_values _records.now)) }

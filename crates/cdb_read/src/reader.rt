@@ -143,8 +143,8 @@ impl<S: Store, L: Width> Reader<S, L> {
         self.store.len()
     }
 
-    /// Whether no table of its file has slots, though bytes follow the head: so a file with words of
-    /// the other width looks. An empty one of this width ends after its head.
+    /// Whether no table of its file has slots, though bytes follow the head: so a file with words
+    /// of the other width looks. An empty one of this width ends after its head.
     pub fn lacks_tables(&self) -> bool
         ensures { (b : List ℕ) → S.image self.now.store b → result ≡ lacks_tables L.WORD b }
     {
@@ -152,7 +152,8 @@ impl<S: Store, L: Width> Reader<S, L> {
         is_longer && !any_slots(&self.head.pointers)
     }
 
-    /// The number of the first table with slots that doesn't lie after the head and inside the file.
+    /// The number of the first table with slots that doesn't lie after the head and inside the
+    /// file.
     pub fn outside_table(&self) -> Option<u64>
         ensures { (b : List ℕ) → S.image self.now.store b → result ≡ outside_table L.WORD b }
     {

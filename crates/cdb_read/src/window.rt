@@ -103,8 +103,8 @@ impl Window {
         self.fill(store, place, n.max(ahead))
     }
 
-    /// Covers so many bytes from a place on. If the window lacks them, the store is read up to their
-    /// end: as many bytes before them as the window has room for, from `least` on.
+    /// Covers so many bytes from a place on. If the window lacks them, the store is read up to
+    /// their end: as many bytes before them as the window has room for, from `least` on.
     pub(crate) fn cover_back<S: Store>(
         &mut self,
         store: &mut S,

@@ -38,7 +38,8 @@ pub enum Fault {
     Old(ReadFault),
     /// Of two databases in stores the new one was not read.
     New(ReadFault),
-    /// Of two databases in stores the old one has no table with slots, though bytes follow its head.
+    /// Of two databases in stores the old one has no table with slots, though bytes follow its
+    /// head.
     NoOldTables,
     /// The same of the new one.
     NoNewTables,
@@ -84,8 +85,8 @@ impl Fault {
 }
 
 impl Fault {
-    /// The fault of a run that reads an old and a new database, if the old one was not read. Lack of
-    /// memory is the run's own, and so is a writer that failed.
+    /// The fault of a run that reads an old and a new database, if the old one was not read. Lack
+    /// of memory is the run's own, and so is a writer that failed.
     pub(crate) fn of_old(fault: ReadFault) -> Fault
         ensures { result ≡ old_fault fault }
     {

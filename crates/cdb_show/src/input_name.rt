@@ -12,7 +12,8 @@ fn said_input(name: &str) -> &str
     if name == "-" { STANDARD_INPUT } else { name }
 }
 
-/// The name of an input, counted from 1. Without inputs, and for each `-`, it is that of standard input.
+/// The name of an input, counted from 1. Without inputs, and for each `-`, it is that of standard
+/// input.
 pub fn input_at(names: &[String], number: u64) -> &str
     ensures { result.now ≡ input_at (map string_bytes names.now) number }
 {

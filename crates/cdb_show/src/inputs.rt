@@ -52,7 +52,8 @@ pub enum SharedWindow<I> {
 }
 
 impl<I: Feeds> SharedWindow<I> {
-    /// The reader in its window. If memory for that is refused, `NoWindow` has the reader as it came.
+    /// The reader in its window. If memory for that is refused, `NoWindow` has the reader as it
+    /// came.
     pub fn in_hand(self, alloc: Global) -> Result<Window<I>, NoWindow<I>>
         ensures kept { IfOk result (λ w. Keeps (shared_feed I.feed self) (feed_of I.feed w)) }
         ensures back { IfErr result (λ e. Keeps (shared_feed I.feed self) (I.feed e.reader)) }

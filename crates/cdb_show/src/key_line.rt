@@ -72,9 +72,9 @@ fn write_key<E: Sink>(name: &str, line: u64, key: &[u8], errors: &mut E) -> Resu
     )
 }
 
-/// Writes the line of a record whose key was there already, and the one that explains it if the names of
-/// the inputs are given for that: with the line of its input at which it begins. After an `OutFault` the
-/// writer holds a prefix of them.
+/// Writes the line of a record whose key was there already, and the one that explains it if the
+/// names of the inputs are given for that: with the line of its input at which it begins. After an
+/// `OutFault` the writer holds a prefix of them.
 #[cold]
 #[inline(never)]
 pub fn write_duplicates<E: Sink>(

@@ -1,6 +1,6 @@
-//! What the program `cdb` shows of inputs and stores: a run each that only reads, which a program of
-//! one's own may call as well. Beside them is what the runs that make a database share with them:
-//! inputs, outputs, faults and lines.
+//! What the program `cdb` shows of inputs and stores: a run each that only reads, which a program
+//! of one's own may call as well. Beside them is what the runs that make a database share with
+//! them: inputs, outputs, faults and lines.
 #![tactic(auto)]
 
 mod counting;

@@ -8,9 +8,9 @@ use cdb_form::{AtHand, Feeds};
 use std::cell::Cell;
 use std::io;
 
-/// The lines of the inputs of a run, as their bytes are taken: those of an input from its first byte on, and
-/// those of inputs that share a reader from the first byte of that. They are kept in cells, of which no
-/// clause says anything.
+/// The lines of the inputs of a run, as their bytes are taken: those of an input from its first
+/// byte on, and those of inputs that share a reader from the first byte of that. They are kept in
+/// cells, of which no clause says anything.
 #[derive(Drop)]
 pub struct Lines {
     /// Whether they are counted.
@@ -42,7 +42,8 @@ impl Lines {
         }
     }
 
-    /// An input begins: with a reader of its own, or where the one before it stopped that shares its reader.
+    /// An input begins: with a reader of its own, or where the one before it stopped that shares
+    /// its reader.
     pub fn begin(&self, is_shared: bool) {
         if self.is_shared.get() {
             self.shared.set(self.newlines.get());
@@ -83,8 +84,8 @@ impl Lines {
         }
     }
 
-    /// The line, counted from 1, of a fault of the input that was read last, whose place is counted in bytes
-    /// from the first one of that input: nothing after that byte was taken.
+    /// The line, counted from 1, of a fault of the input that was read last, whose place is counted
+    /// in bytes from the first one of that input: nothing after that byte was taken.
     pub fn line_at(&self, place: u64) -> u64 {
         if place < self.bytes.get() {
             self.last()

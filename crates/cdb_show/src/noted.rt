@@ -5,9 +5,9 @@ use cdb_form::{OutFault, Sink, flush_whole, write_some};
 use cdb_store::{Call, Trace};
 use std::io::Write;
 
-/// A writer that notes what it took and whether it failed, in data that only clauses read. So a clause can
-/// speak of the bytes of a writer of the system too. That a write took the bytes that it answered is
-/// trusted, as it is of a file.
+/// A writer that notes what it took and whether it failed, in data that only clauses read. So a
+/// clause can speak of the bytes of a writer of the system too. That a write took the bytes that it
+/// answered is trusted, as it is of a file.
 #[derive(Drop)]
 pub struct Noted<W> {
     writer: W,

@@ -34,7 +34,8 @@ pub struct Output<W> {
 impl<W: Write> Output<W> {
     ghost use Rattle.cdb_show.specs.Views.Output.{output_bytes, held_by};
 
-    /// An output over a writer, of which nothing is noted yet, with a buffer for so many bytes, which is empty.
+    /// An output over a writer, of which nothing is noted yet, with a buffer for so many bytes,
+    /// which is empty.
     pub fn new(alloc: Global, writer: W, size: usize) -> Result<Output<W>, AllocError>
     where
         W: Drop,

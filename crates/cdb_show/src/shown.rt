@@ -8,8 +8,8 @@ ghost use Rattle.cdb_show.specs.Showing.{ShowsFirst};
 use cdb_command::{escaped, printable_len};
 use cdb_form::{OutFault, Sink, write_whole};
 
-/// Writes what some bytes begin with as a line shows it, a character or a byte, and answers how many of them
-/// that is. After an `OutFault` the writer holds a prefix of it.
+/// Writes what some bytes begin with as a line shows it, a character or a byte, and answers how
+/// many of them that is. After an `OutFault` the writer holds a prefix of it.
 fn write_first<E: Sink>(bytes: &[u8], errors: &mut E) -> Result<usize, OutFault>
     requires { 0 < length bytes.now }
     ensures count { IfOk result (λ n. (0 < n) × (n ≤ length bytes.now)) }
@@ -69,8 +69,8 @@ fn write_parts<E: Sink>(parts: &[(&[u8], &[u8])], errors: &mut E) -> Result<(), 
     Ok(())
 }
 
-/// Writes a line of such parts: a text, and bytes that are shown after it. After an `OutFault` the writer
-/// holds a prefix of it.
+/// Writes a line of such parts: a text, and bytes that are shown after it. After an `OutFault` the
+/// writer holds a prefix of it.
 pub fn write_line<E: Sink>(parts: &[(&[u8], &[u8])], errors: &mut E) -> Result<(), OutFault>
     ensures writes { Writes result (E.contents errors.old) (E.contents errors.new)
         (parts_line (map (λ p. (p.0.now, p.1.now)) parts.now)) }

@@ -60,9 +60,9 @@ impl<F: Feeds> Window<F> {
         }
     }
 
-    /// An empty window of 4096 bytes over a reader, from which nothing is taken yet. Once a read has
-    /// filled it, it becomes as long as a pipe (`PIPE` bytes), if there is memory for that. If the
-    /// first allocation fails, `NoWindow` has the reader as it came.
+    /// An empty window of 4096 bytes over a reader, from which nothing is taken yet. Once a read
+    /// has filled it, it becomes as long as a pipe (`PIPE` bytes), if there is memory for that. If
+    /// the first allocation fails, `NoWindow` has the reader as it came.
     pub fn growing(alloc: Global, reader: F) -> Result<Window<F>, NoWindow<F>>
         ensures reader { IfOk result (λ w. reader_of w ≡ reader) }
         ensures empty { IfOk result (λ w. held_in w ≡ []) }
@@ -184,8 +184,8 @@ impl<F: Feeds> Feeds for Window<F> {
 
     #[inline(always)]
     fn read_some(&mut self, into: &mut [u8]) -> io::Result<usize> {
-        // A read of as many bytes as a pipe holds goes past the empty window, which saves a copy. That
-        // their number is a constant keeps shorter reads as fast as they are without it.
+        // A read of as many bytes as a pipe holds goes past the empty window, which saves a copy.
+        // That their number is a constant keeps shorter reads as fast as they are without it.
         if PIPE <= into.len() && self.start == self.end {
             return match self.read_past(into) {
                 Ok(n) => Ok(n),

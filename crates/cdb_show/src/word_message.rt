@@ -94,9 +94,9 @@ fn write_letter<E: Sink>(letter: char, after: &str, errors: &mut E) -> Result<()
     write_between("-", letter.encode_utf8(&mut bytes), after, errors)
 }
 
-/// Writes the line that says which word or letters of a command line have no meaning, and why, with its
-/// newline. Of `NoMemory` there is none. After an `OutFault` the output took a prefix of it, and has
-/// failed. The output is not flushed.
+/// Writes the line that says which word or letters of a command line have no meaning, and why, with
+/// its newline. Of `NoMemory` there is none. After an `OutFault` the output took a prefix of it,
+/// and has failed. The output is not flushed.
 pub fn write_word_fault<E: Sink>(fault: &WordFault<'_>, errors: &mut E) -> Result<(), OutFault>
     ensures writes { Writes result (E.contents errors.old)
         (E.contents errors.new) (refused_line (refused_in fault.now)) }

@@ -13,12 +13,12 @@ use std::alloc::{AllocError, AllocFailed, Global};
 
 /// A store over another that collects writes which continue one another in one buffer.
 ///
-/// It hands the bytes on when another position is written, at a read of bytes that lie in the buffer
-/// in part, at a cut, at `flush`, and when the buffer is full. Bytes in the buffer are read from it,
-/// and a read that touches none of them is passed straight on. A write first has the inner store
-/// reserve its room, so what is in the buffer takes no memory to be handed on. If handing on
-/// fails the buffer keeps its bytes, and the next call tries again. A buffer that is let go is lost:
-/// call `flush` or `into_inner` first.
+/// It hands the bytes on when another position is written, at a read of bytes that lie in the
+/// buffer in part, at a cut, at `flush`, and when the buffer is full. Bytes in the buffer are read
+/// from it, and a read that touches none of them is passed straight on. A write first has the inner
+/// store reserve its room, so what is in the buffer takes no memory to be handed on. If handing on
+/// fails the buffer keeps its bytes, and the next call tries again. A buffer that is let go is
+/// lost: call `flush` or `into_inner` first.
 #[derive(Drop)]
 pub struct BufferedStore<S: Store> {
     inner: S,
@@ -107,7 +107,8 @@ impl<S: Store> BufferedStore<S> {
         &self.inner
     }
 
-    /// The inner store, as it is. What is left in the buffer is let go: after a flush that is nothing.
+    /// The inner store, as it is. What is left in the buffer is let go: after a flush that is
+    /// nothing.
     pub fn discard(self) -> S
         ensures { result ≡ inner_of self }
     {
@@ -233,8 +234,8 @@ impl<S: Store> BufferedStore<S> {
     }
 }
 
-/// Makes a buffer `end` bytes long, and after the first time twice as long, but no longer than `most`,
-/// for which it has the capacity: so for a few bytes only a few are cleared.
+/// Makes a buffer `end` bytes long, and after the first time twice as long, but no longer than
+/// `most`, for which it has the capacity: so for a few bytes only a few are cleared.
 #[cold]
 #[inline(never)]
 fn lengthen(buffer: &mut Vec<u8>, end: usize, most: usize) -> Result<(), AllocError>

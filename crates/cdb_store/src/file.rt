@@ -72,8 +72,8 @@ impl FileStore {
 
     /// Makes a file, and reads and writes it. It follows no link of that name.
     ///
-    /// `NoMemory`: the system had none. `Device`: it can't be made, or something of that name is there
-    /// already.
+    /// `NoMemory`: the system had none. `Device`: it can't be made, or something of that name is
+    /// there already.
     pub fn create_new<R: Files<File = File>>(rt: &R, path: &str) -> Result<FileStore, StoreFault>
         ensures images { IfOk result (λ f. (b : List ℕ) → (images_of f b ↔ (b ≡ []))) }
         ensures made { IfOk result (λ f. calls_of f ≡ (Made, []) ∷ []) }

@@ -8,10 +8,11 @@ ghost use Rattle.cdb_store.specs.Fuse.{Blows, capped, PartWritten};
 
 use crate::{Store, StoreFault};
 
-/// A store that passes so many calls to the inner store, fails the next one, and passes all later ones.
+/// A store that passes so many calls to the inner store, fails the next one, and passes all later
+/// ones.
 ///
-/// The calls that count are `read_at`, `write_at`, `write_parts`, `cut` and `flush`. The write that fails
-/// first writes a part of its bytes; any other call that fails does nothing.
+/// The calls that count are `read_at`, `write_at`, `write_parts`, `cut` and `flush`. The write that
+/// fails first writes a part of its bytes; any other call that fails does nothing.
 #[derive(Drop)]
 pub struct FuseStore<S> {
     inner: S,

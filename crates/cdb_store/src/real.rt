@@ -16,8 +16,8 @@ pub const READ_AND_WRITTEN: u32 = 0o666;
 /// The greatest number of a standard stream.
 pub const LAST_STANDARD: i32 = 2;
 
-/// A file that was opened, unless it has the number of a standard stream, which is closed then: what is
-/// meant for that stream would be written into the file.
+/// A file that was opened, unless it has the number of a standard stream, which is closed then:
+/// what is meant for that stream would be written into the file.
 fn apart(file: File) -> io::Result<File> {
     if file.as_raw_fd() <= LAST_STANDARD {
         return Err(io::Error::from(ErrorKind::InvalidInput));
@@ -80,10 +80,11 @@ impl RealFile {
         }
     }
 
-    /// Opens the regular file of a name to read and write it. It does not wait: a pipe that is opened
-    /// to read and write never makes a process wait, and it is given up then.
+    /// Opens the regular file of a name to read and write it. It does not wait: a pipe that is
+    /// opened to read and write never makes a process wait, and it is given up then.
     ///
-    /// `InvalidInput`: what was opened is no regular file, or it got the number of a standard stream.
+    /// `InvalidInput`: what was opened is no regular file, or it got the number of a standard
+    /// stream.
     pub fn open_regular<R: Files<File = File>>(rt: &R, path: &str) -> io::Result<RealFile>
         ensures opened { IfOk result (λ f. events_of f ≡ []) }
     {
@@ -94,8 +95,8 @@ impl RealFile {
         Ok(RealFile::opened(file))
     }
 
-    /// Makes a file, or opens the one of this name, and reads and writes it. It is not emptied. A link is
-    /// not followed: it is a fault.
+    /// Makes a file, or opens the one of this name, and reads and writes it. It is not emptied. A
+    /// link is not followed: it is a fault.
     pub fn opened_to_empty<R: Files<File = File>>(rt: &R, path: &str) -> io::Result<RealFile>
         ensures opened { IfOk result (λ f. events_of f ≡ []) }
     {
@@ -147,8 +148,9 @@ impl RealFile {
         file
     }
 
-    /// The system's number of the error that the last call which failed met, if it was one of the system: no
-    /// error of it made a read fail past the end of the file, or a write that wrote nothing.
+    /// The system's number of the error that the last call which failed met, if it was one of the
+    /// system: no error of it made a read fail past the end of the file, or a write that wrote
+    /// nothing.
     pub fn last_error(&self) -> Option<i32> {
         self.error
     }

@@ -80,9 +80,9 @@ impl<T: Drop> From<AllocFailed<T>> for StoreFault {
 /// that agree with all that it was told to write and all that it gave back: a store in memory has
 /// exactly one, a file that was opened every list of its length until it is read. Its *failures*
 /// and *bytes written* are counts without a bound. Its *unwritten* count rises with each write that
-/// fails, so a caller that only read cannot answer that a write failed. Its *room* is how far writes
-/// go without taking memory. It is *settled* if all that it was told to write was handed on to what
-/// holds the bytes.
+/// fails, so a caller that only read cannot answer that a write failed. Its *room* is how far
+/// writes go without taking memory. It is *settled* if all that it was told to write was handed on
+/// to what holds the bytes.
 //
 // The order of each method's clauses means nothing to a caller. It is the one in which the checker
 // hands the bound `S: Store` on at a call in a seventh of the steps.
@@ -159,8 +159,8 @@ pub trait Store {
 
     /// Writes three pieces one after another from `pos` on, as `write_at` writes them in one.
     ///
-    /// If it has no other way, a store writes pieces of up to 256 bytes by one `write_at`. For longer ones it
-    /// makes room for all three, and writes each by itself.
+    /// If it has no other way, a store writes pieces of up to 256 bytes by one `write_at`. For
+    /// longer ones it makes room for all three, and writes each by itself.
     fn write_parts(
         &mut self,
         pos: u64,

@@ -73,8 +73,8 @@ fn of_number(number: Option<i32>) -> Told
     }
 }
 
-/// What is said of a name that was refused since its file is that of another name too: of the database, of
-/// the base, or of an input.
+/// What is said of a name that was refused since its file is that of another name too: of the
+/// database, of the base, or of an input.
 fn of_same(command: &Command, refused: &str, other: &str) -> Told
     ensures { said_of result ≡ same_words (asked_in command.now) refused.now other.now }
 {
@@ -142,7 +142,8 @@ fn of_no_name(command: &Command) -> Option<Reason<'_>>
     Some(of_name(name.as_str(), told))
 }
 
-/// Whether a call on another name than that of the database of a create was refused, as files were opened.
+/// Whether a call on another name than that of the database of a create was refused, as files were
+/// opened.
 fn is_of_another<Y: System>(command: &Command, system: &Y) -> bool {
     match (command, system.refusal()) {
         (Command::Create { name, .. }, Some(refusal)) => name.as_str() != refusal.name.as_str(),
@@ -150,8 +151,8 @@ fn is_of_another<Y: System>(command: &Command, system: &Y) -> bool {
     }
 }
 
-/// What is said of a name that was not opened or made. A name that no file can have is named for that, unless
-/// another name was refused before it.
+/// What is said of a name that was not opened or made. A name that no file can have is named for
+/// that, unless another name was refused before it.
 fn of_unopened<'a, Y, N>(command: &'a Command, system: &'a Y, names: &'a N) -> Option<Reason<'a>>
 where
     Y: System,
@@ -331,8 +332,8 @@ where
     }
 }
 
-/// What is said of the standard stream that failed: of standard output if that is unwritten, or else of
-/// standard error.
+/// What is said of the standard stream that failed: of standard output if that is unwritten, or
+/// else of standard error.
 fn of_stream<Y>(system: &Y, unwritten: bool) -> Reason<'static>
 where
     Y: System,
@@ -346,7 +347,8 @@ where
     }
 }
 
-/// Which file a fault is of, and why, if it is of a file. `unwritten` says that standard output failed.
+/// Which file a fault is of, and why, if it is of a file. `unwritten` says that standard output
+/// failed.
 pub fn reason_of<'a, Y, N, I>(
     command: &'a Command,
     fault: &Fault,

@@ -12,8 +12,8 @@ use cdb_form::{Sink, Width};
 use cdb_show::{Fault, difference_run};
 use std::alloc::Global;
 
-/// Writes what changed between the databases of two names, as a text that amends the old one. Both are
-/// opened before anything is written.
+/// Writes what changed between the databases of two names, as a text that amends the old one. Both
+/// are opened before anything is written.
 #[inline(never)]
 pub fn difference<L, Y, I, O>(
     alloc: Global,

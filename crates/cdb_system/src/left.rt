@@ -6,8 +6,8 @@ ghost use Rattle.cdb_system.specs.Opening.{stream_left, input_left, looked_left}
 use cdb_feed::InputReader;
 use cdb_show::Inputs;
 
-/// The files that a command opened and has not closed, and standard input if it was read, as they are
-/// at its end. A clause says what was read of them, or made.
+/// The files that a command opened and has not closed, and standard input if it was read, as they
+/// are at its end. A clause says what was read of them, or made.
 #[derive(Drop)]
 pub struct Left<F, M, S, I> {
     /// The file that was read at places, which is the base of a create and the old database of a
@@ -109,7 +109,8 @@ pub fn input_left<F: Drop, M: Drop, S: Drop, I: Drop>(input: I) -> Left<F, M, S,
     }
 }
 
-/// A file in which keys were looked up is handed back, and the readers of the inputs that gave them.
+/// A file in which keys were looked up is handed back, and the readers of the inputs that gave
+/// them.
 pub fn looked_left<F: Drop, M: Drop, S: Drop, I: Drop>(
     file: F,
     inputs: Inputs<S, I>,

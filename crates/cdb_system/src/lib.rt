@@ -1,4 +1,5 @@
-//! What the program `cdb` asks of the system, its commands that only read, and what it says of faults.
+//! What the program `cdb` asks of the system, its commands that only read, and what it says of
+//! faults.
 #![tactic(auto)]
 
 mod causes;

@@ -11,34 +11,36 @@ ghost use Rattle.cdb_system.specs.Given.{AgreeAll};
 use cdb_store::{Call, Store, StoreFault, Trace};
 use std::alloc::Global;
 
-/// It is read whole after as many reads that go back as it has blocks of so many bytes: these take about
-/// as long as reading it whole.
+/// It is read whole after as many reads that go back as it has blocks of so many bytes: these take
+/// about as long as reading it whole.
 const BLOCK: u64 = 4096;
 
-/// It is read whole after so many of these reads at least, so that a few look-ups never take a small
-/// file into memory.
+/// It is read whole after so many of these reads at least, so that a few look-ups never take a
+/// small file into memory.
 const LEAST_READS: u64 = 16;
 
 /// A longer store is never read whole: the memory of the machine is not the program's alone.
 const GREATEST_COPY: u64 = 1 << 30;
 
-/// A store over another that is only read. Once enough of its reads went back, it reads the inner store
-/// whole into memory, and answers all later reads from there.
+/// A store over another that is only read. Once enough of its reads went back, it reads the inner
+/// store whole into memory, and answers all later reads from there.
 ///
-/// A read goes back if it begins before the last one; most look-ups of a key make one. The store passes on
-/// as many of these as the inner store has blocks of 4096 bytes, and 16 at least. The next one takes memory
-/// for all bytes and reads them. A store that is read from its start to its end is never taken into memory.
+/// A read goes back if it begins before the last one; most look-ups of a key make one. The store
+/// passes on as many of these as the inner store has blocks of 4096 bytes, and 16 at least. The
+/// next one takes memory for all bytes and reads them. A store that is read from its start to its
+/// end is never taken into memory.
 ///
-/// If memory is refused, or the inner store has more than 2^30 bytes, every read is passed on. If the inner
-/// store fails while it is read whole, the read answers `Device`, and later ones are passed on. Every write
-/// and every cut is `Device`, without asking the inner store.
+/// If memory is refused, or the inner store has more than 2^30 bytes, every read is passed on. If
+/// the inner store fails while it is read whole, the read answers `Device`, and later ones are
+/// passed on. Every write and every cut is `Device`, without asking the inner store.
 #[derive(Drop)]
 pub struct LoadedStore<S: Store> {
     inner: S,
     alloc: Global,
     /// All its bytes, once they are in memory.
     copy: Option<Vec<u8>>,
-    /// How many reads that go back are passed on before it is read whole. `None`: it was, or it never is.
+    /// How many reads that go back are passed on before it is read whole. `None`: it was, or it
+    /// never is.
     left: Option<u64>,
     /// Where the last read that was passed on began.
     last: u64,
@@ -52,7 +54,8 @@ pub struct LoadedStore<S: Store> {
 impl<S: Store> LoadedStore<S> {
     ghost use Rattle.cdb_system.specs.LoadedStore.{inner_of, images_of, failures_of};
 
-    /// A store over `inner`, of whose bytes nothing is known yet. It takes memory by this allocator.
+    /// A store over `inner`, of whose bytes nothing is known yet. It takes memory by this
+    /// allocator.
     pub fn new(alloc: Global, inner: S) -> LoadedStore<S>
         ensures inner { inner_of result ≡ inner }
         ensures images { (b : List ℕ) → (images_of result b ↔ (length b ≡ S.size inner)) }
@@ -103,8 +106,8 @@ impl<S: Store> LoadedStore<S> {
         Ok(())
     }
 
-    /// Counts a read that finds no copy. If enough that go back were passed on, the inner store is read
-    /// whole.
+    /// Counts a read that finds no copy. If enough that go back were passed on, the inner store is
+    /// read whole.
     fn count(&mut self, pos: u64) -> Result<(), StoreFault>
         requires { self.old.copy ≡ None }
         ensures reads { OnlyReads S.Store self.old.inner self.new.inner }
@@ -190,7 +193,8 @@ impl<S: Store> Store for LoadedStore<S> {
         self.inner.len()
     }
 
-    // In line it is so long that the compiler leaves its callers out of line, which then move whole readers.
+    // In line it is so long that the compiler leaves its callers out of line, which then move whole
+    // readers.
     #[inline(never)]
     fn read_at(&mut self, pos: u64, into: &mut [u8]) -> Result<(), StoreFault>
         requires { pos + length into.old ≤ S.size self.old.inner }

@@ -60,7 +60,8 @@ where
     }
 }
 
-/// Writes the records of a database that is read in one pass, or their keys, and hands its reader back.
+/// Writes the records of a database that is read in one pass, or their keys, and hands its reader
+/// back.
 fn write_text<L: Width, F: Feeds + Drop, O: Sink>(
     alloc: Global,
     content: Content,
@@ -153,8 +154,8 @@ fn stats_of_stream<L: Width, F: Feeds + Drop, O: Sink>(
     }
 }
 
-/// Writes the statistics of a file, or of a stream: standard input, a pipe or a device. What was read is
-/// handed back.
+/// Writes the statistics of a file, or of a stream: standard input, a pipe or a device. What was
+/// read is handed back.
 #[inline(never)]
 pub fn stats<L, Y, I, O>(
     alloc: Global,
@@ -213,8 +214,8 @@ fn check_of_stream<L: Width, F: Feeds + Drop>(alloc: Global, stream: F) -> (F, R
     }
 }
 
-/// Checks a file, or a stream: standard input, a pipe or a device. Nothing is written. What was read is
-/// handed back.
+/// Checks a file, or a stream: standard input, a pipe or a device. Nothing is written. What was
+/// read is handed back.
 #[inline(never)]
 pub fn check<L, Y, I>(
     alloc: Global,

@@ -283,8 +283,8 @@ fn of_error(error: &io::Error) -> Why {
     }
 }
 
-/// Why the system opened no file to be emptied: one that was there and was not opened is a link, or was
-/// replaced, and one without a number of the system got that of a standard stream.
+/// Why the system opened no file to be emptied: one that was there and was not opened is a link, or
+/// was replaced, and one without a number of the system got that of a standard stream.
 fn of_emptying<R: Files<File = File>>(rt: &R, name: &str, error: &io::Error) -> Why {
     match error.kind() {
         ErrorKind::AlreadyExists => match fs::symlink_metadata(rt, name) {
@@ -296,8 +296,8 @@ fn of_emptying<R: Files<File = File>>(rt: &R, name: &str, error: &io::Error) -> 
     }
 }
 
-/// Whether a name is that of a pipe or a device, which is read from its start to its end alone. A name
-/// that nothing has is not.
+/// Whether a name is that of a pipe or a device, which is read from its start to its end alone. A
+/// name that nothing has is not.
 fn is_stream<R: Files<File = File>>(rt: &R, name: &str) -> Result<bool, Cause>
     ensures { IfErr result (λ cause. is_of_system cause ≡ true) }
 {

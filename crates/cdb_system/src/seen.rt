@@ -7,7 +7,8 @@ use std::io::{self, Read, Write};
 /// The number of the system's error for a descriptor that is not open.
 const NOT_OPEN: i32 = 9;
 
-/// What was seen last of what is read and written. It is kept in cells, of which no clause says anything.
+/// What was seen last of what is read and written. It is kept in cells, of which no clause says
+/// anything.
 #[derive(Drop)]
 pub struct Seen {
     /// The number of the error of the last read that failed.
@@ -33,12 +34,14 @@ impl Seen {
         self.read_error.get()
     }
 
-    /// The number of the error of the last write on standard output that failed, if the system gave one.
+    /// The number of the error of the last write on standard output that failed, if the system gave
+    /// one.
     pub fn output_error(&self) -> Option<i32> {
         self.output_error.get()
     }
 
-    /// The number of the error of the last write on standard error that failed, if the system gave one.
+    /// The number of the error of the last write on standard error that failed, if the system gave
+    /// one.
     pub fn errors_error(&self) -> Option<i32> {
         self.errors_error.get()
     }
@@ -59,7 +62,8 @@ impl Seen {
 pub struct SeenReader<'a, R> {
     reader: R,
     seen: &'a Seen,
-    /// Whether it is standard input, and closed: the file that holds its place fails for a reason of its own.
+    /// Whether it is standard input, and closed: the file that holds its place fails for a reason
+    /// of its own.
     is_closed: bool,
 }
 

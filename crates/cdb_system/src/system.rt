@@ -33,12 +33,13 @@ pub trait System {
     /// This file was given for the name, to be written.
     ghost makes: { List ℕ → Self.Made → Type 0 };
 
-    /// The name of the file that was not opened last, and why. `None`: each was, or it is not known.
+    /// The name of the file that was not opened last, and why. `None`: each was, or it is not
+    /// known.
     fn refusal(&self) -> Option<&Refusal>
         ensures { IfSome result (λ refusal. IsOpenRefusal refusal.now (calls self.now)) };
 
-    /// The number of the error of the last call that failed on a file that is read at places, if the
-    /// system gave one.
+    /// The number of the error of the last call that failed on a file that is read at places, if
+    /// the system gave one.
     fn store_error(&self, file: &Self::File) -> Option<i32>;
 
     /// The number of the error of the last call that failed on a file that is made.
@@ -60,8 +61,8 @@ pub trait System {
         ensures gives { IfOk result (gives name.now) }
         ensures fails { IfErr result (Misses name.now (calls self.old) (calls self.new)) };
 
-    /// Opens the file of a name, to be read from its start on: nothing was taken of it yet. `Open`: it
-    /// cannot be opened.
+    /// Opens the file of a name, to be read from its start on: nothing was taken of it yet. `Open`:
+    /// it cannot be opened.
     fn open(&mut self, name: &str) -> Result<Self::Stream, Fault>
         ensures calls { OnOk result (calls self.new ≡ (InTurn, name.now) ∷ calls self.old) }
         ensures reads { IfOk result (reads name.now) }
@@ -72,8 +73,8 @@ pub trait System {
     fn is_stream(&mut self, name: &str) -> Answer
         ensures calls { calls self.new ≡ (Stream result, name.now) ∷ calls self.old };
 
-    /// Opens the file of a name, or makes one, to be emptied. It stays as it is. `Open`: it cannot be
-    /// opened, or the name is that of a link, which is not followed.
+    /// Opens the file of a name, or makes one, to be emptied. It stays as it is. `Open`: it cannot
+    /// be opened, or the name is that of a link, which is not followed.
     fn open_to_empty(&mut self, name: &str) -> Result<RealFile, Fault>
         ensures calls { OnOk result (calls self.new ≡ (ToEmpty, name.now) ∷ calls self.old) }
         ensures fails { IfErr result (Misses name.now (calls self.old) (calls self.new)) };

@@ -64,7 +64,8 @@ fn refused_status(usage: &Usage) -> u8
     }
 }
 
-/// Writes why the words ask for nothing, and if it is to be explained which word or letters that is of.
+/// Writes why the words ask for nothing, and if it is to be explained which word or letters that is
+/// of.
 fn write_refused<E: Write>(
     fault: &WordFault<'_>,
     explains: bool,

@@ -6,7 +6,8 @@ ghost use Rattle.cdb_command.specs.Rules.{is_hyphen, two_names, file_named, one_
 
 use crate::word_fault::{Lacking, WordFault};
 
-/// Two names, of which the fault says what lacks. `Lacks` if there are fewer, `Surplus` if there are more.
+/// Two names, of which the fault says what lacks. `Lacks` if there are fewer, `Surplus` if there
+/// are more.
 pub(crate) fn two_names<'a>(
     names: Option<&[&'a str]>,
     one: Lacking,

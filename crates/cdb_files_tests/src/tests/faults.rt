@@ -5,12 +5,13 @@ use cdb_form::{Narrow, Record};
 use std::alloc::Global;
 use std::test::Fail;
 
-/// How many calls on names a make takes that can fail: special, wanted bits, look, compare, open, lock,
-/// remove, make, lock, look at the own name, compare, wanted bits, bits, set them, bits, rename, sync.
+/// How many calls on names a make takes that can fail: special, wanted bits, look, compare, open,
+/// lock, remove, make, lock, look at the own name, compare, wanted bits, bits, set them, bits,
+/// rename, sync.
 const NAME_CALLS: u64 = 17;
 
-/// How many it takes of a new name: after the removal it makes a plain file too, locks it, looks at its
-/// bits and removes it.
+/// How many it takes of a new name: after the removal it makes a plain file too, locks it, looks at
+/// its bits and removes it.
 const NEW_NAME_CALLS: u64 = 21;
 
 /// More calls than a make takes of the file.

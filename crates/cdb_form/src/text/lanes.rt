@@ -28,7 +28,8 @@ fn word_ends(bytes: u8x16) -> u64
     bytes.simd_le(u8x16::splat(b' ')).to_bitmask()
 }
 
-/// How many bytes of a word some bytes begin with, as far as whole 16 show it: most words are short.
+/// How many bytes of a word some bytes begin with, as far as whole 16 show it: most words are
+/// short.
 #[inline(always)]
 pub(crate) fn word_run(bytes: &[u8]) -> usize
     ensures within { result ≤ length bytes.now }

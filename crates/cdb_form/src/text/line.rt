@@ -72,8 +72,8 @@ fn put_long(line: &mut [u8], place: usize, n: usize) -> usize
     put_piece(line, place, digits.format(n).as_bytes())
 }
 
-/// Puts the shortest numeral of a number into a line at a place, and answers the place after it. Most
-/// numbers are lengths below 1000.
+/// Puts the shortest numeral of a number into a line at a place, and answers the place after it.
+/// Most numbers are lengths below 1000.
 #[inline(always)]
 pub(crate) fn put_number(line: &mut [u8], place: usize, n: usize) -> usize
     requires { place + 20 ≤ length line.old }

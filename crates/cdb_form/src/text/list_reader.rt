@@ -54,8 +54,8 @@ impl<R: Read, L: Width> ListReader<R, L> {
         self.source.reader
     }
 
-    /// Reads the next key over that of a record, whose memory it takes, and answers whether there is
-    /// one: none is at the newline that ends the text.
+    /// Reads the next key over that of a record, whose memory it takes, and answers whether there
+    /// is one: none is at the newline that ends the text.
     ///
     /// After the end it answers `Ok(false)` for good, and after a fault that fault. The faults are
     /// those of `TextReader::next`, of a list text. After a key the record's `value` holds any

@@ -146,8 +146,8 @@ impl<R: Feeds> MapReader<R> {
         self.source.reader
     }
 
-    /// The next record, where it lies, if its line is whole at hand, with its newline, and no ignored
-    /// line precedes it. Nothing is taken: `take_peeked` does that.
+    /// The next record, where it lies, if its line is whole at hand, with its newline, and no
+    /// ignored line precedes it. Nothing is taken: `take_peeked` does that.
     #[inline(always)]
     pub fn peek<A: AtHand<R>>(&self) -> Option<PeekedRecord<'_>>
         ensures { IfSome result (λ f. HasPeeked A.held self.now f.len (shown_by f)) }

@@ -1,4 +1,5 @@
-// The parser of a native text, of an amending one, and of a list: a machine that takes byte after byte.
+// The parser of a native text, of an amending one, and of a list: a machine that takes byte after
+// byte.
 ghost use Rattle.std.specs.Prelude.{◌≡◌, ◌≢◌, true, false, Some, ℕ, List, ◌+◌, ◌*◌, ◌^◌, ◌<◌, ◌≤◌, []};
 ghost use Rattle.std.specs.Prelude.{◌∷◌, ◌++◌, codes, length, OnOk, IfOk, IfErr};
 ghost use Rattle.std.specs.Prelude.{MatchBool, MatchOption, SomeIff};
@@ -143,8 +144,8 @@ impl<R: Feeds> Source<R> {
         Ok(())
     }
 
-    /// Takes the key after a mark, with its length before it and a newline after it: a removal's after a
-    /// minus, or that of a list text after a plus.
+    /// Takes the key after a mark, with its length before it and a newline after it: a removal's
+    /// after a minus, or that of a list text after a plus.
     fn marked_key(&mut self, into: &mut Record, greatest: u64) -> Result<(), TextFault>
         requires least { 9 ≤ greatest }
         requires most { greatest < 2 ^ 63 }
@@ -211,8 +212,8 @@ impl<R: Feeds> Source<R> {
         }
     }
 
-    /// Takes the next key of a list text, and answers whether there is one: none is at the newline that
-    /// ends the text.
+    /// Takes the next key of a list text, and answers whether there is one: none is at the newline
+    /// that ends the text.
     #[inline(never)]
     pub(crate) fn list_entry(&mut self, into: &mut Record, greatest: u64) -> Result<bool, TextFault>
         requires least { 9 ≤ greatest }

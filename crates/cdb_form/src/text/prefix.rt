@@ -32,8 +32,8 @@ pub(crate) struct PrefixLengths {
     pub(crate) end: usize,
 }
 
-/// The short numeral that some bytes begin with, with `stop` after it. If there is none, its end is 0:
-/// an `Option` of it would be cleared for each record.
+/// The short numeral that some bytes begin with, with `stop` after it. If there is none, its end is
+/// 0: an `Option` of it would be cleared for each record.
 #[inline(always)]
 fn numeral(bytes: &[u8], stop: u8) -> PrefixNumeral
     ensures begins { 0 < result.end → BeginsWithNumeral stop bytes.now result }
@@ -83,8 +83,8 @@ fn prefix_numeral(bytes: &[u8], stop: u8) -> PrefixNumeral
     long_numeral(bytes, stop)
 }
 
-/// The lengths, neither above `greatest`, of the record that some bytes begin with. If there are none,
-/// their end is 0.
+/// The lengths, neither above `greatest`, of the record that some bytes begin with. If there are
+/// none, their end is 0.
 #[inline(always)]
 fn prefix_lengths(bytes: &[u8], greatest: u64) -> PrefixLengths
     ensures begins { 0 < result.end → BeginsWithLengths greatest bytes.now result }

@@ -48,9 +48,9 @@ fn run(kind: Kind, bytes: &[u8]) -> usize
     run_past(wide_run(kind, bytes), kind, bytes)
 }
 
-/// The record of a line that has one space after its key and no other blank beside it, as most lines
-/// do. None is found near the end of the bytes, nor if a byte up to `#` begins the key, or one up to
-/// a space the value.
+/// The record of a line that has one space after its key and no other blank beside it, as most
+/// lines do. None is found near the end of the bytes, nor if a byte up to `#` begins the key, or
+/// one up to a space the value.
 #[inline(always)]
 fn plain_line(bytes: &[u8]) -> Option<PeekedRecord<'_>>
     ensures { IfSome result (λ f. BeginsWithLine bytes.now f.len (shown_by f)) }

@@ -96,8 +96,9 @@ impl<R: Read, L: Width> RecordReader<R, L> {
         self.read_fed(into)
     }
 
-    /// Reads the key of the next record over another record. It passes over the value, which takes no
-    /// memory, and leaves the one that the other record has. The answers are those of `read_into`.
+    /// Reads the key of the next record over another record. It passes over the value, which takes
+    /// no memory, and leaves the one that the other record has. The answers are those of
+    /// `read_into`.
     pub fn read_key(&mut self, into: &mut Record) -> Result<bool, WalkFault>
         ensures gives { IfOk result (λ given. MatchBool given
             (GivesKey L.WORD R.remaining self.old self.new into.new.key.items)
@@ -149,8 +150,8 @@ impl<R: Feeds, L: Width> RecordReader<R, L> {
         self.reader
     }
 
-    /// The next record, where it lies, if it is whole at hand and ends before the record end or at it.
-    /// Nothing is taken: `take_peeked` does that. Before the head was read no record is shown.
+    /// The next record, where it lies, if it is whole at hand and ends before the record end or at
+    /// it. Nothing is taken: `take_peeked` does that. Before the head was read no record is shown.
     #[inline(always)]
     pub fn peek<A: AtHand<R>>(&self) -> Option<PeekedRecord<'_>>
         ensures { IfSome result (λ f. HasPeeked L.WORD A.held self.now f.len (shown_by f)) }

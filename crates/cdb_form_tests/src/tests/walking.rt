@@ -165,7 +165,8 @@ fn a_longer_file(rt: HostRuntime) -> Result<(), Fail> {
     Ok(())
 }
 
-/// The file of two records with other bytes from a place on, how many records it has, and its fault.
+/// The file of two records with other bytes from a place on, how many records it has, and its
+/// fault.
 type Changed = (usize, &'static [u8], usize, Option<WalkFault>);
 
 const CHANGED: [Changed; 9] = [

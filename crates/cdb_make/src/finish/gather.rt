@@ -59,8 +59,8 @@ fn push<L: Width>(gathered: &mut [Gathered<L>], n: usize, hash: u32, place: u64)
     gathered[n].push(hash, place);
 }
 
-/// Which of 16 hashes belong to a table or to so many more after it, one bit for each. Table 0 follows
-/// table 255.
+/// Which of 16 hashes belong to a table or to so many more after it, one bit for each. Table 0
+/// follows table 255.
 #[inline(always)]
 fn of_tables(hashes: u32x16, first: u8, more: u8) -> u64
     ensures { result ≡ mask_l (map (is_among first more) hashes) }
@@ -130,7 +130,8 @@ fn gather_sixteens<L: Width>(gathered: &mut [Gathered<L>], roll: &Roll<L>, first
     n
 }
 
-/// Gathers the entries of some tables, from the first of them on, in their order. It takes no memory.
+/// Gathers the entries of some tables, from the first of them on, in their order. It takes no
+/// memory.
 pub(crate) fn gather<L: Width>(gathered: &mut [Gathered<L>], roll: &Roll<L>, first: usize)
     requires within { first + length gathered.old ≤ 256 }
     requires room { (k : ℕ) → k < length gathered.old

@@ -26,8 +26,8 @@ fn fill_table_of<L: Width>(bytes: &mut [u8], runs: &mut [u32], list: &Gathered<L
     }
 }
 
-/// Writes the table of some entries at a place, by way of its bytes. It takes no memory. A table with
-/// no slots isn't written.
+/// Writes the table of some entries at a place, by way of its bytes. It takes no memory. A table
+/// with no slots isn't written.
 ///
 /// `Device`: the table's bytes may be any, and those before and after it stay.
 fn write_table<S: Store, L: Width>(
@@ -105,8 +105,8 @@ fn write_group<S: Store, L: Width>(
     Ok(place)
 }
 
-/// Writes the tables of a roll one after another from `end` on. Some are gathered at once, by a pass
-/// over its entries. It takes no memory.
+/// Writes the tables of a roll one after another from `end` on. Some are gathered at once, by a
+/// pass over its entries. It takes no memory.
 ///
 /// `Device`: the tables' bytes may be any, and those before and after them stay.
 pub(crate) fn write_tables<S: Store, L: Width>(

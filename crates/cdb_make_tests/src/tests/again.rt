@@ -214,8 +214,8 @@ fn stays_broken<S: Store + Drop, L: Width>(maker: Maker<S, L>) -> Result<Played<
     Ok(Played { store, met, broke })
 }
 
-/// The store with the finished file. If the finish failed, it is made again, unless that broke a lazy
-/// maker.
+/// The store with the finished file. If the finish failed, it is made again, unless that broke a
+/// lazy maker.
 fn made<S: Store + Drop, L: Width>(tried: Tried<S, L>) -> Result<Played<S>, Fail> {
     let held = tried.counts();
     let Tried {

@@ -108,8 +108,8 @@ pub(super) fn mixed_calls(
     Ok(calls)
 }
 
-/// Runs so many scripts that are drawn, of fewer than so many calls each, with these keys; the first
-/// calls of each script only add. Each is to come to what a plain list of records does.
+/// Runs so many scripts that are drawn, of fewer than so many calls each, with these keys; the
+/// first calls of each script only add. Each is to come to what a plain list of records does.
 fn scripts_come_to_it(
     alloc: Global,
     seed: u64,
@@ -208,7 +208,8 @@ fn mark_of(calls: &[Call<'_>]) -> u64 {
     mark
 }
 
-/// Runs scripts of up to 15 calls, and answers a mark of each. Each draw goes on from the one before.
+/// Runs scripts of up to 15 calls, and answers a mark of each. Each draw goes on from the one
+/// before.
 fn short_scripts(alloc: Global) -> Result<Vec<u64>, Fail> {
     let mut state = SEED;
     let mut marks = Vec::new(alloc);

@@ -48,8 +48,8 @@ fn play_buffered<L: Width>(
     Ok(Played { store, met, broke })
 }
 
-/// Whether a script meets the fault of a store that fails the call after so many. It comes to what is
-/// wanted in any case, unless it leaves the maker broken.
+/// Whether a script meets the fault of a store that fails the call after so many. It comes to what
+/// is wanted in any case, unless it leaves the maker broken.
 fn meets_fault<L: Width>(
     alloc: Global,
     script: &[Call],
@@ -199,9 +199,9 @@ fn faults_of_drawn_scripts_leave_their_records(rt: HostRuntime) -> Result<(), Fa
     Ok(())
 }
 
-/// Each call of the store fails once, while scripts that append too are played, each on an eager maker
-/// and on a lazy one; each third may have a file of a few records at most. Answers how many calls of
-/// the store the script with the fewest makes.
+/// Each call of the store fails once, while scripts that append too are played, each on an eager
+/// maker and on a lazy one; each third may have a file of a few records at most. Answers how many
+/// calls of the store the script with the fewest makes.
 fn faults_of_mixed_scripts<L: Width>(alloc: Global, seed: u64) -> Result<u64, Fail> {
     let (mut state, mut fewest) = (seed, u64::MAX);
     for number in 0..12u32 {

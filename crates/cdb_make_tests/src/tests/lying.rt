@@ -1,5 +1,5 @@
-//! Makers over a store that once gives back other bytes than were written. It has no image then, and
-//! contracts promise nothing of the file; what a call may answer is seen here.
+//! Makers over a store that once gives back other bytes than were written. It has no image then,
+//! and contracts promise nothing of the file; what a call may answer is seen here.
 ghost use Rattle.std.specs.Prelude.{◌≡◌};
 
 use super::makers::{EAGER, LAZY, Way, made_in, refused_finish};
@@ -143,8 +143,8 @@ fn deceived(alloc: Global, way: Way, honest: u64) -> Result<(End, u64), Fail> {
     Ok((end, maker.into_store().reads))
 }
 
-/// Of the reads of the script, how many break the maker if they lie, and how many they are. Each other
-/// one leaves answers without a fault.
+/// Of the reads of the script, how many break the maker if they lie, and how many they are. Each
+/// other one leaves answers without a fault.
 fn counted(alloc: Global, way: Way) -> Result<(u64, u64), Fail> {
     let (end, reads) = deceived(alloc, way, u64::MAX)?;
     if end != End::Whole {

@@ -16,7 +16,8 @@ pub(super) struct Way {
     pub(super) lazy: bool,
     /// It makes a pass after each seventh call.
     pub(super) compacts: bool,
-    /// How many bytes its file may have more than those of a head. None: as many as the width has them.
+    /// How many bytes its file may have more than those of a head. None: as many as the width has
+    /// them.
     pub(super) most: Option<u16>,
 }
 

@@ -87,7 +87,8 @@ fn longest(maker: &mut Counting, value: &[u8], times: u32) -> Result<u64, Fail> 
 fn long_values_replaced_over_and_over_leave_a_short_store(rt: HostRuntime) -> Result<(), Fail> {
     let value = long(rt.alloc(), 200000)?;
     let mut maker = counting(rt.alloc())?;
-    // 20 records of 200009 bytes are fewer bytes than 4 MiB, and 21 are more than these and the head.
+    // 20 records of 200009 bytes are fewer bytes than 4 MiB, and 21 are more than these and the
+    // head.
     let most = longest(&mut maker, &value, 100)?;
     assert!(rt; most == 2048 + 21 * 200009, "{most}");
     let wanted = expected::<Narrow>(rt.alloc(), &[add(b"a", &value)])?;
@@ -147,8 +148,8 @@ fn many_records_are_removed_in_a_row(rt: HostRuntime) -> Result<(), Fail> {
     let gone = remove_all(&mut maker, 65536)?;
     let moved = maker.store().written().saturating_sub(before);
     assert!(rt; gone == 65536 && maker.count() == 0 && maker.size() == 2048);
-    // A pass is due when 42573 go, and moves the other 22963. One is due again when 21287 of these go,
-    // and moves 1676.
+    // A pass is due when 42573 go, and moves the other 22963. One is due again when 21287 of these
+    // go, and moves 1676.
     assert!(rt; moved == 214 * (22963 + 1676), "{moved}");
     let wanted = expected::<Narrow>(rt.alloc(), &[])?;
     assert!(rt; finished(maker)?.into_inner().into_vec() == wanted.file);

@@ -204,8 +204,8 @@ pub(super) fn comes_late_to<L: Width>(alloc: Global, calls: &[Call]) -> Result<M
     run_to::<L>(alloc, calls, LAZY, &expected::<L>(alloc, calls)?)
 }
 
-/// Runs a script on makers of each way, whose files may have so many bytes more than a head has. Each
-/// is to come to what a plain list of records does. Answers how many calls were refused.
+/// Runs a script on makers of each way, whose files may have so many bytes more than a head has.
+/// Each is to come to what a plain list of records does. Answers how many calls were refused.
 pub(super) fn all_come_to<L: Width>(
     alloc: Global,
     calls: &[Call],

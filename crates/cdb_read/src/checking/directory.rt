@@ -16,7 +16,8 @@ pub(crate) struct Between {
 /// It shortens a search and decides nothing: what it says is compared with the places.
 #[derive(Drop)]
 pub(crate) struct Directory {
-    /// The number of the first place that lies in the bucket or after it, and at the end that of all.
+    /// The number of the first place that lies in the bucket or after it, and at the end that of
+    /// all.
     firsts: Vec<usize>,
     /// A bucket has 2 to the power of this many bytes.
     shift: u32,
@@ -43,8 +44,9 @@ fn firsts_of(alloc: Global, places: &[u64], shift: u32) -> Result<Vec<usize>, Al
 }
 
 impl Directory {
-    /// The directory of some places: 4 bytes a place. If they are spread evenly, a bucket has two to
-    /// four of them. If an allocation fails the directory is empty, and a search goes through all places.
+    /// The directory of some places: 4 bytes a place. If they are spread evenly, a bucket has two
+    /// to four of them. If an allocation fails the directory is empty, and a search goes through
+    /// all places.
     pub(crate) fn of(alloc: Global, places: &[u64]) -> Directory {
         let most = places.last().copied().unwrap_or(0);
         let bytes = most / (places.len() as u64 / 4 + 1);

@@ -48,9 +48,9 @@ fn check_slot(
     Ok(())
 }
 
-/// Checks table `n` against the records of its list, and marks these: at once if the table is what they
-/// make of it, else slot by slot. The run of used slots before each slot is known as the slots pass, so no
-/// way to a slot is gone twice.
+/// Checks table `n` against the records of its list, and marks these: at once if the table is what
+/// they make of it, else slot by slot. The run of used slots before each slot is known as the slots
+/// pass, so no way to a slot is gone twice.
 fn check_table<S: Store, L: Width>(
     alloc: Global,
     store: &mut S,

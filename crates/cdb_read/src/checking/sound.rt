@@ -51,12 +51,13 @@ impl<S: Store, L: Width> Reader<S, L> {
 /// begins, and else `Twice`, if an earlier slot has its record; and `Unindexed`, the first
 /// record that no slot has. `NoMemory` and `Device` come if memory ran out or the store failed.
 ///
-/// The walk, and then the slots, are read through the window, 4096 bytes at once. A table that is what its
-/// records make of it, put in their order, is right as a whole; another is checked slot by slot.
+/// The walk, and then the slots, are read through the window, 4096 bytes at once. A table that is
+/// what its records make of it, put in their order, is right as a whole; another is checked slot by
+/// slot.
 ///
-/// It takes 13 bytes of memory a record. For those of one table it takes 24 more, or 40 if words are wide,
-/// and does without if they are refused. Its time is in order n log n. Whatever it answers, the reader stays
-/// as usable as it was.
+/// It takes 13 bytes of memory a record. For those of one table it takes 24 more, or 40 if words
+/// are wide, and does without if they are refused. Its time is in order n log n. Whatever it
+/// answers, the reader stays as usable as it was.
 pub fn check<L: Width, S: Store>(alloc: Global, reader: &mut Reader<S, L>) -> Result<(), ReadFault>
     ensures reads { OnlyReads S.Store reader.old.store reader.new.store }
     ensures sound { (b : List ℕ) → S.image reader.new.store b

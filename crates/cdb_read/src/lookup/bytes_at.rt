@@ -13,8 +13,8 @@ use cdb_form::Width;
 use cdb_store::Store;
 
 impl<S: Store, L: Width> Reader<S, L> {
-    /// Reads the bytes from a place on over `into`. The store is read only if the window lacks them,
-    /// and then for as many as the window has room for.
+    /// Reads the bytes from a place on over `into`. The store is read only if the window lacks
+    /// them, and then for as many as the window has room for.
     fn read_at(&mut self, place: u64, into: &mut [u8]) -> Result<(), ReadFault>
         requires inside { place + length into.old ≤ S.size self.old.store }
         ensures reads { OnlyReads S.Store self.old.store self.new.store }

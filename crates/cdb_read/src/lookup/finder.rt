@@ -53,8 +53,8 @@ impl<S: Store, L: Width> Reader<S, L> {
         first_probe::<L>(table, hash, self.store.len())
     }
 
-    /// The search of a key, which has this hash, from a probe on, up to its next value. So many bytes
-    /// are read at once.
+    /// The search of a key, which has this hash, from a probe on, up to its next value. So many
+    /// bytes are read at once.
     #[inline(always)]
     fn next_met(
         &mut self,
@@ -83,8 +83,8 @@ impl<S: Store, L: Width> Reader<S, L> {
     }
 
     /// The same. More bytes are read than are needed: up to a first value as many as a short record
-    /// has, and then as a window has room for. If that failed, what is needed is read alone, so a bad
-    /// place among the others spoils nothing.
+    /// has, and then as a window has room for. If that failed, what is needed is read alone, so a
+    /// bad place among the others spoils nothing.
     #[inline(always)]
     fn met_from(
         &mut self,

@@ -31,8 +31,8 @@ impl<S: Store, L: Width> Reader<S, L> {
 
     /// The first value of a key, and `None` if no record has it.
     ///
-    /// `Table`, `Record`: the file is damaged at a slot or record that was read. `Device`: the store
-    /// failed. `NoMemory`: there is none for the value. It can be made again after each.
+    /// `Table`, `Record`: the file is damaged at a slot or record that was read. `Device`: the
+    /// store failed. `NoMemory`: there is none for the value. It can be made again after each.
     pub fn get(&mut self, alloc: Global, key: &[u8]) -> Result<Option<Vec<u8>>, ReadFault>
         ensures reads { OnlyReads S.Store self.old.store self.new.store }
         ensures first { (b : List ℕ) → S.image self.new.store b → IfOk result (λ found.

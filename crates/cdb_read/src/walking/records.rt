@@ -75,8 +75,8 @@ impl<'a, S: Store, L: Width> Walk<'a, S, L> {
     /// `Ok(0)` means that no record was read and the walk is where it was: it is at its end or at a
     /// damage, or `into` has no room for the next record. `next` reports which.
     ///
-    /// `Device` is the only fault: the store failed. The walk is then where it was, so the same call
-    /// goes on, and `into` holds anything.
+    /// `Device` is the only fault: the store failed. The walk is then where it was, so the same
+    /// call goes on, and `into` holds anything.
     pub fn records_into(&mut self, into: &mut [u8]) -> Result<usize, ReadFault>
         ensures same_reader { self.new.reader.ghost_name ≡ self.old.reader.ghost_name }
         ensures reads { OnlyReads S.Store self.old.reader.now.store self.new.reader.now.store }

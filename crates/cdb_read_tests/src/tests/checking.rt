@@ -292,8 +292,8 @@ fn of_full(alloc: Global, first: u32, at: usize, bytes: &[u8]) -> Result<(Answer
     checked::<Narrow>(alloc, fused(file, u64::MAX))
 }
 
-/// From their home on, the first one behind it, and from slot 0 on. Slot 92, to which a search comes
-/// last, or slot 93, with which it begins, is empty in the other two.
+/// From their home on, the first one behind it, and from slot 0 on. Slot 92, to which a search
+/// comes last, or slot 93, with which it begins, is empty in the other two.
 const FULL: [(u32, usize, &[u8], Answer); 5] = [
     (93, 0, b"", Ok(())),
     (94, 0, b"", Ok(())),

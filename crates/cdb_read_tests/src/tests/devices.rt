@@ -1,6 +1,6 @@
-// In how many of the runs in which one call of the store fails `Device` is answered. A walk and a value
-// tell each of them. A look-up reads ahead, and if that fails reads again what it wants: of its calls
-// only the one that opens the file is told, if no other fails.
+// In how many of the runs in which one call of the store fails `Device` is answered. A walk and a
+// value tell each of them. A look-up reads ahead, and if that fails reads again what it wants: of
+// its calls only the one that opens the file is told, if no other fails.
 use super::counting::four_file;
 use super::files::{Fused, fused, two_file, wide_file};
 use super::reading::lies_inside;
@@ -61,8 +61,8 @@ fn job_tells<L: Width>(alloc: Global, reader: &mut Reader<Fused, L>, job: Job) -
     }
 }
 
-/// Whether `Device` is answered of a file whose store fails its call of a number, and how many calls
-/// the store then counted.
+/// Whether `Device` is answered of a file whose store fails its call of a number, and how many
+/// calls the store then counted.
 fn told<L: Width>(alloc: Global, file: Vec<u8>, fails: u64, job: Job) -> (bool, u64) {
     let mut reader = match Reader::<Fused, L>::open(fused(file, fails)) {
         Ok(reader) => reader,

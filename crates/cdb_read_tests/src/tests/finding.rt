@@ -190,7 +190,8 @@ fn copies_four(alloc: Global, fails: u64) -> Result<bool, ReadFault> {
 
 #[test]
 fn four_values_are_copied_whichever_call_of_the_store_fails(rt: HostRuntime) -> Result<(), Fail> {
-    // The head; the slots, twice since they go round; a header with its key and a value, four times.
+    // The head; the slots, twice since they go round; a header with its key and a value, four
+    // times.
     for fails in 0..16u64 {
         assert!(rt; copies_four(rt.alloc(), fails) == Ok(true), "{fails}");
     }

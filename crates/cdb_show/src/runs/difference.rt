@@ -11,8 +11,8 @@ use cdb_read::{ReadFault, Reader};
 use cdb_store::Store;
 use std::alloc::Global;
 
-/// Writes the difference of two databases that were opened, unless one of them lacks tables, or has one
-/// that lies outside the file.
+/// Writes the difference of two databases that were opened, unless one of them lacks tables, or has
+/// one that lies outside the file.
 fn write_opened<L: Width, S: Store, T: Store, W: Sink>(
     alloc: Global,
     old: &mut Reader<S, L>,
@@ -68,21 +68,22 @@ fn difference_unflushed<L: Width, S: Store, T: Store, W: Sink>(
     (first.into_store(), second.into_store(), answer)
 }
 
-/// Writes what changed between two databases, the old one and the new one, as an amending text: done
-/// to the old one, it leaves a database that answers each key as the new one does. It is the text of
-/// `cdb_difference::write_difference`. The faults:
-/// - `Old(fault)`, `New(fault)`: this database was not read: it is `Short`, or table `n` lies outside
-///   of it, `Table(n)`, the first such one by its number; or its walk or a look-up met the damage
-///   `Record(place)`, or its store failed, `Device`;
-/// - `NoOldTables`, `NoNewTables`: no table of this database has slots, though bytes follow its head:
-///   its words may have the other width;
+/// Writes what changed between two databases, the old one and the new one, as an amending text:
+/// done to the old one, it leaves a database that answers each key as the new one does. It is the
+/// text of `cdb_difference::write_difference`. The faults:
+/// - `Old(fault)`, `New(fault)`: this database was not read: it is `Short`, or table `n` lies
+///   outside of it, `Table(n)`, the first such one by its number; or its walk or a look-up met the
+///   damage `Record(place)`, or its store failed, `Device`;
+/// - `NoOldTables`, `NoNewTables`: no table of this database has slots, though bytes follow its
+///   head: its words may have the other width;
 /// - `Output`: the writer failed;
 /// - `NoMemory`: an allocation failed.
 ///
-/// By the heads alone is seen, before anything else, and nothing is written then, whether a database
-/// is `Short`, whether one lacks tables, and whether a table lies outside, in this order, and of each
-/// the old one first. After the other faults a prefix of the text was written. Both stores are handed back whatever the
-/// answer, and were only read. The writer is flushed last, after a fault too.
+/// By the heads alone is seen, before anything else, and nothing is written then, whether a
+/// database is `Short`, whether one lacks tables, and whether a table lies outside, in this order,
+/// and of each the old one first. After the other faults a prefix of the text was written. Both
+/// stores are handed back whatever the answer, and were only read. The writer is flushed last,
+/// after a fault too.
 pub fn difference_run<L: Width, S: Store, T: Store, W: Sink>(
     alloc: Global,
     old: S,

@@ -17,8 +17,8 @@ pub fn flushed<W: Sink>(w: &mut W, answer: Result<(), Fault>) -> Result<(), Faul
     }
 }
 
-/// Flushes the writer of a run that goes on after a key without a value. A flush that fails is `Output`
-/// in place of `Missing` too, after which all that was found is written.
+/// Flushes the writer of a run that goes on after a key without a value. A flush that fails is
+/// `Output` in place of `Missing` too, after which all that was found is written.
 pub(crate) fn flushed_whole<W: Sink>(w: &mut W, answer: Result<(), Fault>) -> Result<(), Fault>
     ensures flushes { FlushedWhole (W.contents w.old) (W.contents w.new) answer result }
     ensures output { OutputSays (W.failed w.old) answer → OutputSays (W.failed w.new) result }

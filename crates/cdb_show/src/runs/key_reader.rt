@@ -29,8 +29,8 @@ impl<F: Feeds, L: Width> KeyReader<F, L> {
         }
     }
 
-    /// Reads the next key over that of a record, whose memory it takes, and answers whether there is
-    /// one. Of a map bytes at hand are taken without an ask.
+    /// Reads the next key over that of a record, whose memory it takes, and answers whether there
+    /// is one. Of a map bytes at hand are taken without an ask.
     #[inline(always)]
     pub(crate) fn read_into<A: AtHand<F>>(&mut self, into: &mut Record) -> Result<bool, TextFault>
         ensures gives { IfOk result (λ given. MatchBool given

@@ -13,8 +13,8 @@ use cdb_store::MemStore;
 use std::alloc::Global;
 use std::io::Read;
 
-/// Does what `load_from` does, with whatever gives the bytes of a file. So the contract holds of each
-/// file that agrees with the bytes that were taken.
+/// Does what `load_from` does, with whatever gives the bytes of a file. So the contract holds of
+/// each file that agrees with the bytes that were taken.
 ///
 /// The bytes that were taken before a fault are lost:
 /// - `Long`: the file has more than `most` bytes, and `most + 1` were taken;

@@ -37,8 +37,8 @@ fn look_up_record<L: Width, S: Store, W: Sink>(
     look_up(reader, key, number, Shown::Record { key, style }, w)
 }
 
-/// Writes the records of the keys of an input, whose number is counted from 1, up to the end of its text.
-/// `missing` is set if a key had no value.
+/// Writes the records of the keys of an input, whose number is counted from 1, up to the end of its
+/// text. `missing` is set if a key had no value.
 pub(crate) fn look_up_input<L: Width, S: Store, F: Feeds, W: Sink, A: AtHand<F>>(
     alloc: Global,
     reader: &mut Reader<S, L>,

@@ -31,8 +31,8 @@ use cdb_store::Store;
 use std::alloc::Global;
 use std::mem::replace;
 
-/// Writes the records of the keys that an input gives from here on, whose number is counted from 1, and
-/// answers its window as it goes on after its text, or behind the last key that was read of it.
+/// Writes the records of the keys that an input gives from here on, whose number is counted from 1,
+/// and answers its window as it goes on after its text, or behind the last key that was read of it.
 fn look_up_text<L: Width, S: Store, F: Feeds, W: Sink>(
     alloc: Global,
     reader: &mut Reader<S, L>,
@@ -311,10 +311,10 @@ fn lookups_unflushed<L: Width, S: Store, J: Feeds + Drop, I: Feeds, W: Sink>(
 /// Each input is a list text, or in the style of a map a map text, of whose records the keys are
 /// taken. Of a key without a value nothing is written. Values go from the store to the writer in
 /// pieces, and one key is held at a time. The faults:
-/// - `Missing`: some key has no value, or fewer than the number; the records of the others, and what
-///   ends the text, were written;
-/// - `Read(Short)`: the store is shorter than a head; it was not read, nor was an input, and nothing
-///   was written;
+/// - `Missing`: some key has no value, or fewer than the number; the records of the others, and
+///   what ends the text, were written;
+/// - `Read(Short)`: the store is shorter than a head; it was not read, nor was an input, and
+///   nothing was written;
 /// - `Read(Table(n))`, `Read(Record(place))`: the look-up of a key met this damage; what was found
 ///   before it was written;
 /// - `Text(input, fault)`: an input, counted from 1, has this fault, its place in bytes from the
@@ -324,11 +324,11 @@ fn lookups_unflushed<L: Width, S: Store, J: Feeds + Drop, I: Feeds, W: Sink>(
 /// - `Read(Device)`: the store failed; a prefix of the text was written;
 /// - `Output`: the writer failed, and holds a prefix of the text.
 ///
-/// Only after `Missing`, and at Ok, is what ends the text written. The store is handed back whatever
-/// the answer, and was only read. So are the readers of the inputs, each in its place: what was taken
-/// of one behind its text, or behind the last key, is lost. The writer is flushed last, after a fault
-/// too. If that fails, `Output` takes the place of Ok and of `Missing`. `lines` may count the lines of
-/// the inputs, and then knows afterwards that of a fault.
+/// Only after `Missing`, and at Ok, is what ends the text written. The store is handed back
+/// whatever the answer, and was only read. So are the readers of the inputs, each in its place:
+/// what was taken of one behind its text, or behind the last key, is lost. The writer is flushed
+/// last, after a fault too. If that fails, `Output` takes the place of Ok and of `Missing`. `lines`
+/// may count the lines of the inputs, and then knows afterwards that of a fault.
 pub fn lookups_run<L: Width, S: Store, J: Feeds + Drop, I: Feeds, W: Sink>(
     alloc: Global,
     store: S,

@@ -47,8 +47,8 @@ fn write_value<L: Width, S: Store, W: Sink>(
     Ok(())
 }
 
-/// Writes what comes before the value of a record in a map text. After an `OutFault` the writer holds a
-/// prefix of it.
+/// Writes what comes before the value of a record in a map text. After an `OutFault` the writer
+/// holds a prefix of it.
 fn write_map_head<W: Sink>(w: &mut W, key: &[u8]) -> Result<(), OutFault>
     ensures writes { Writes result (W.contents w.old) (W.contents w.new) (key.now ++ codes " ") }
     ensures failed { OnErr result (W.failed w.new) }
@@ -119,13 +119,14 @@ fn write_shown<L: Width, S: Store, W: Sink>(
 ///
 /// It does what `query_run` does, and leaves in the finder what it did not give. The faults:
 /// - `Missing`: no value was left;
-/// - `Read(Table(n))`, `Read(Record(place))`: this damage follows the values, which were all written;
-/// - `Read(Device)`: the store failed. The values that the finder gave before were written whole, and
-///   of the one in hand a prefix;
+/// - `Read(Table(n))`, `Read(Record(place))`: this damage follows the values, which were all
+///   written;
+/// - `Read(Device)`: the store failed. The values that the finder gave before were written whole,
+///   and of the one in hand a prefix;
 /// - `Output`: the writer failed, and holds as much.
 ///
-/// After `Read(Device)` a further call goes on with the values that the finder has left. The writer is
-/// not flushed.
+/// After `Read(Device)` a further call goes on with the values that the finder has left. The writer
+/// is not flushed.
 pub fn query_from<L: Width, S: Store, W: Sink>(
     finder: &mut Finder<'_, S, L>,
     shown: Shown<'_>,

@@ -40,8 +40,8 @@ pub fn dump_run<L: Width, R: Read + Drop, W: Sink>(
     text_run_buffered::<L, R, W, NoneAtHand>(alloc, Content::Records, reader, style, w)
 }
 
-/// Writes the text of the keys of a database file, as `dump_run` does that of its records. Values are
-/// passed over, so they take no memory.
+/// Writes the text of the keys of a database file, as `dump_run` does that of its records. Values
+/// are passed over, so they take no memory.
 pub fn list_run<L: Width, R: Read + Drop, W: Sink>(
     alloc: Global,
     reader: R,
@@ -72,8 +72,8 @@ pub fn text_run_buffered<L: Width, R: Read + Drop, W: Sink, A: AtHand<R>>(
     answer
 }
 
-/// Does what `text_run_buffered` does, with whatever gives the bytes of the file, and returns it, after
-/// a fault too.
+/// Does what `text_run_buffered` does, with whatever gives the bytes of the file, and returns it,
+/// after a fault too.
 ///
 /// So the contract holds of each file that agrees with the bytes that were taken.
 pub fn text_run_fed<L: Width, F: Feeds, W: Sink, A: AtHand<F>>(

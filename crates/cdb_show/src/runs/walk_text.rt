@@ -71,8 +71,8 @@ pub(crate) fn write_last<W: Sink>(w: &mut W, style: Style) -> Result<(), OutFaul
     }
 }
 
-/// Writes the text of a file, which the writer may keep in a buffer. A record that is whole at hand is
-/// written from where it lies.
+/// Writes the text of a file, which the writer may keep in a buffer. A record that is whole at hand
+/// is written from where it lies.
 fn write_unflushed<L: Width, R: Feeds, W: Sink, A: AtHand<R>>(
     alloc: Global,
     records: &mut RecordReader<R, L>,

@@ -12,9 +12,9 @@ enum Step {
     Flush,
 }
 
-/// Each call, the store's length after it, and a sum over the bytes that it read. The sums come from
-/// a model in another language. Byte i of what row j writes is `(7 * j + 13 * i) % 251`, and the
-/// sum goes from 0 by `(31 * sum + byte + 1) % 1000003`.
+/// Each call, the store's length after it, and a sum over the bytes that it read. The sums come
+/// from a model in another language. Byte i of what row j writes is `(7 * j + 13 * i) % 251`, and
+/// the sum goes from 0 by `(31 * sum + byte + 1) % 1000003`.
 const ROWS: [(Step, u64, u32); 32] = [
     (Step::Write(0, 30), 30, 0),
     (Step::Write(30, 30), 60, 0),

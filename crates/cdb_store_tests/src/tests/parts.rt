@@ -116,8 +116,8 @@ fn a_fuse_fails_three_pieces_as_one_write(rt: HostRuntime) -> Result<(), Fail> {
     Ok(())
 }
 
-/// What a store with no way of its own to write pieces answers, and has after them, if its write after
-/// `limit` others fails and writes one byte.
+/// What a store with no way of its own to write pieces answers, and has after them, if its write
+/// after `limit` others fails and writes one byte.
 fn left_of(
     alloc: Global,
     limit: u64,

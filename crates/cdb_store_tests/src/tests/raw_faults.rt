@@ -4,8 +4,8 @@ use super::support::fake::{FakeFile, Trouble};
 use cdb_store::{FileStore, Store, StoreFault};
 use std::test::Fail;
 
-/// The last raw call of the script where none is in trouble. Its first is 1: raw call 0 asks for the
-/// length as the file is opened.
+/// The last raw call of the script where none is in trouble. Its first is 1: raw call 0 asks for
+/// the length as the file is opened.
 const LAST: u64 = 9;
 
 #[test]

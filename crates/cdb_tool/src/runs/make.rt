@@ -74,8 +74,8 @@ fn put_text<L: Width, S: Store, F: Feeds + Drop, E: Sink>(
     (items.into_reader(), put)
 }
 
-/// Does what an input says, whose number is counted from 1, and hands back what the inputs share. The
-/// input keeps its reader; what a window took of it past the text is lost.
+/// Does what an input says, whose number is counted from 1, and hands back what the inputs share.
+/// The input keeps its reader; what a window took of it past the text is lost.
 fn put_turn<L: Width, S: Store, J: Feeds + Drop, I: Feeds + Drop, E: Sink>(
     alloc: Global,
     maker: &mut Maker<S, L>,
@@ -184,16 +184,16 @@ fn put_turns<L: Width, S: Store, J: Feeds + Drop, I: Feeds + Drop, E: Sink>(
     (shared, Ok(()))
 }
 
-/// Does what some inputs say, one after the other, to a maker that its caller keeps: what `make_run`
-/// does between the base and the finish. With `amends`, native inputs may remove keys.
+/// Does what some inputs say, one after the other, to a maker that its caller keeps: what
+/// `make_run` does between the base and the finish. With `amends`, native inputs may remove keys.
 ///
-/// The faults are those of `make_run` that an input, the maker or `errors` brings. After `NoMemory`,
-/// `Make(Lookup)` and `Make(Writing)` the maker holds the records of the items that were done,
-/// unless it is broken, and the lines are those of these items. `errors` is not flushed. The lines of the
-/// inputs are counted by `lines` if duplicates are explained.
+/// The faults are those of `make_run` that an input, the maker or `errors` brings. After
+/// `NoMemory`, `Make(Lookup)` and `Make(Writing)` the maker holds the records of the items that
+/// were done, unless it is broken, and the lines are those of these items. `errors` is not flushed.
+/// The lines of the inputs are counted by `lines` if duplicates are explained.
 ///
-/// The inputs are handed back whatever the answer; what their windows took past the texts is lost. The
-/// contract holds of whatever bytes agree with what the readers gave.
+/// The inputs are handed back whatever the answer; what their windows took past the texts is lost.
+/// The contract holds of whatever bytes agree with what the readers gave.
 pub fn put_inputs<L: Width, S: Store, J: Feeds + Drop, I: Feeds + Drop, E: Sink>(
     alloc: Global,
     maker: &mut Maker<S, L>,
@@ -341,8 +341,8 @@ fn make_unflushed<L: Width, S: Store, B: Store, J: Feeds + Drop, I: Feeds + Drop
 /// - `Make(Broken)`: the store gave back other bytes than were written;
 /// - `Output`: `errors` failed, and holds a prefix of the lines.
 ///
-/// If an allocation or the store failed, the lines are those of some first records: `put_inputs` says
-/// which.
+/// If an allocation or the store failed, the lines are those of some first records: `put_inputs`
+/// says which.
 ///
 /// The base is read before any input, 64 KiB at a time. Store and base are handed back whatever
 /// the answer; the base was only read. At Ok the store holds the file of the records that survive,
@@ -386,12 +386,12 @@ pub fn make_run<L: Width, S: Store, B: Store, R: Read + Drop, E: Sink>(
 }
 
 /// Does what `make_run` does, of inputs of which several may share a reader: each of these begins
-/// where the text of the one before it ended. A map text leaves nothing. If duplicates are explained, `lines`
-/// counts the lines of the inputs, and knows afterwards that of a fault.
+/// where the text of the one before it ended. A map text leaves nothing. If duplicates are
+/// explained, `lines` counts the lines of the inputs, and knows afterwards that of a fault.
 ///
-/// The inputs are handed back whatever the answer; what their windows took past the texts is lost. The
-/// contract holds of whatever bytes agree with what the readers gave: for all inputs that agree with what was
-/// read, it says what `make_run` says of its own.
+/// The inputs are handed back whatever the answer; what their windows took past the texts is lost.
+/// The contract holds of whatever bytes agree with what the readers gave: for all inputs that agree
+/// with what was read, it says what `make_run` says of its own.
 pub fn make_run_from<L: Width, S: Store, B: Store, J: Feeds + Drop, I: Feeds + Drop, E: Sink>(
     alloc: Global,
     store: S,

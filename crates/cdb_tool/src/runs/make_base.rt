@@ -44,8 +44,8 @@ impl Room {
     }
 }
 
-/// Adds the next records of a walk: all that are whole in the window, as they are, or the next one if
-/// it has no room there. Answers whether there were any.
+/// Adds the next records of a walk: all that are whole in the window, as they are, or the next one
+/// if it has no room there. Answers whether there were any.
 fn add_next<L: Width, S: Store, B: Store>(
     maker: &mut Maker<S, L>,
     records: &mut Walk<'_, B, L>,
@@ -102,7 +102,8 @@ fn add_records<L: Width, S: Store, B: Store>(
     Ok(())
 }
 
-/// Adds all records of a base, if there is one, to a maker that holds none. The base is handed back.
+/// Adds all records of a base, if there is one, to a maker that holds none. The base is handed
+/// back.
 pub(crate) fn add_base<L: Width, S: Store, B: Store>(
     alloc: Global,
     maker: &mut Maker<S, L>,

@@ -55,7 +55,8 @@ fn meets_key(put: Put) -> bool
     }
 }
 
-/// Reports a put that met its key, if the options say so. Its record begins at this line of its input.
+/// Reports a put that met its key, if the options say so. Its record begins at this line of its
+/// input.
 #[inline(always)]
 fn write_put<E: Sink>(
     options: &RunOptions<'_>,
@@ -219,8 +220,8 @@ fn do_item<L: Width, S: Store, E: Sink>(
     }
 }
 
-/// The line of the item that was read last, before which the input was at this line: in a map text lines
-/// may stand between that hold none.
+/// The line of the item that was read last, before which the input was at this line: in a map text
+/// lines may stand between that hold none.
 fn line_of_last(style: Style, next: u64, lines: &Lines) -> u64 {
     match style {
         Style::Map => lines.last(),
@@ -228,8 +229,8 @@ fn line_of_last(style: Style, next: u64, lines: &Lines) -> u64 {
     }
 }
 
-/// Does what the items of an input say, whose number is counted from 1, up to the end of its text. The
-/// lines are those of the reader.
+/// Does what the items of an input say, whose number is counted from 1, up to the end of its text.
+/// The lines are those of the reader.
 pub(crate) fn put_input<L: Width, S: Store, F: Feeds, E: Sink, A: AtHand<F>>(
     alloc: Global,
     maker: &mut Maker<S, L>,

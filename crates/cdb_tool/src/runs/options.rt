@@ -6,7 +6,7 @@ use cdb_command::MakeOptions;
 pub struct RunOptions<'a> {
     /// How it is made.
     pub make: MakeOptions,
-    /// The names of the inputs, if duplicates are to be explained: after the line of one comes another with
-    /// the name of its input, the line at which its record begins there, and its key.
+    /// The names of the inputs, if duplicates are to be explained: after the line of one comes
+    /// another with the name of its input, the line at which its record begins there, and its key.
     pub names: Option<&'a [String]>,
 }

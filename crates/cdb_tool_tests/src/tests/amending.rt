@@ -253,7 +253,8 @@ fn a_damaged_base_is_told_behind_its_limit(rt: HostRuntime) -> Result<(), Fail> 
     Ok(())
 }
 
-/// The answer over a base, cut to so many bytes, of which a call fails, its bytes then, and the file.
+/// The answer over a base, cut to so many bytes, of which a call fails, its bytes then, and the
+/// file.
 fn over_fuse(
     alloc: Global,
     input: &'static [u8],
@@ -286,8 +287,8 @@ fn over_fuse(
     Ok((answer, base, store.into_vec()))
 }
 
-/// Whether a base of which any call fails is handed back as it was, with that fault, and a run that meets
-/// none makes this file.
+/// Whether a base of which any call fails is handed back as it was, with that fault, and a run that
+/// meets none makes this file.
 fn hands_back(
     alloc: Global,
     input: &'static [u8],

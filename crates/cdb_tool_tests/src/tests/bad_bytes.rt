@@ -33,7 +33,8 @@ fn answers(
     Ok(answer == want && out.as_slice() == text)
 }
 
-/// A number, the value, and the bytes that are bad: the values before it, and all records behind it.
+/// A number, the value, and the bytes that are bad: the values before it, and all records behind
+/// it.
 const NUMBERED: [(u64, &[u8], &[(u64, u64)]); 4] = [
     (1, b"1", &[(2058, 2088)]),
     (2, b"2", &[(2057, 2058), (2068, 2088)]),

@@ -120,8 +120,8 @@ fn refused_cut<L: Width>(alloc: Global, old: usize, new: usize) -> Result<Option
 /// Of how many bytes the last table of each file is: two slots of one record in words of 4 bytes.
 const LAST: usize = 16;
 
-/// Whether a cut is seen by the heads, from the first byte that lacks on. The last table of the old file
-/// is that of `b`, of the new one that of `c`; before both is that of `a`.
+/// Whether a cut is seen by the heads, from the first byte that lacks on. The last table of the old
+/// file is that of `b`, of the new one that of `c`; before both is that of `a`.
 fn cuts_are_seen<L: Width>(alloc: Global, last: usize) -> Result<bool, Fault> {
     let more = last.saturating_add(1);
     Ok(
@@ -164,8 +164,8 @@ fn made_long(alloc: Global, text: &[u8]) -> Result<MemStore, Fault> {
     made::<Narrow>(alloc, &whole)
 }
 
-/// How a difference ends if the stores fail the call after so many: its text is whole, or it answers so
-/// after a prefix of the text.
+/// How a difference ends if the stores fail the call after so many: its text is whole, or it
+/// answers so after a prefix of the text.
 fn ends(alloc: Global, old: u64, new: u64, want: Fault) -> Result<Ended, Fault> {
     let first = FuseStore::new(made_long(alloc, OLD)?, old, 0);
     let second = FuseStore::new(made_long(alloc, NEW)?, new, 0);

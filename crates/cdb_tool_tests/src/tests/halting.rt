@@ -47,8 +47,8 @@ fn lines_of(count: u64) -> &'static [u8] {
     LINES.get(count.min(4) as usize).copied().unwrap_or(b"")
 }
 
-/// What the inputs come to in memory, how many records are held then, and whether the lines are those
-/// of these records. `None`: there was no memory for maker and inputs.
+/// What the inputs come to in memory, how many records are held then, and whether the lines are
+/// those of these records. `None`: there was no memory for maker and inputs.
 pub(super) fn put_in_memory(alloc: Global) -> Option<(Result<(), Fault>, u64, bool)> {
     let store = FuseStore::new(MemStore::new(alloc), u64::MAX, 0);
     let Ok(mut maker) = Fused::lazy(alloc, store, 4294967295) else {
@@ -65,8 +65,8 @@ pub(super) fn put_in_memory(alloc: Global) -> Option<(Result<(), Fault>, u64, bo
     Some((answer, count, lines.as_slice() == lines_of(count)))
 }
 
-/// How many records a maker holds whose store failed its call of a number, if it was made. The lines
-/// are to be those of these records.
+/// How many records a maker holds whose store failed its call of a number, if it was made. The
+/// lines are to be those of these records.
 fn held(alloc: Global, calls: u64) -> Result<Option<u64>, AllocError> {
     let store = FuseStore::new(MemStore::new(alloc), calls, 0);
     let Ok(mut maker) = Fused::lazy(alloc, store, 4294967295) else {
@@ -91,7 +91,8 @@ fn held(alloc: Global, calls: u64) -> Result<Option<u64>, AllocError> {
 
 #[test]
 fn the_lines_are_those_of_the_records_that_were_put(rt: HostRuntime) -> Result<(), Fail> {
-    // The first three calls empty the store, write its head and flush it. Then come looks and writes.
+    // The first three calls empty the store, write its head and flush it. Then come looks and
+    // writes.
     let held = [
         held(rt.alloc(), 3)?,
         held(rt.alloc(), 4)?,

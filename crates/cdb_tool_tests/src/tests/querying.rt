@@ -1,4 +1,5 @@
-// query_run and lookups_run, over worked, damaged and foreign files, and over stores and writers that fail.
+// query_run and lookups_run, over worked, damaged and foreign files, and over stores and writers
+// that fail.
 use super::differing::made;
 use super::fakes::{FakeWriter, NotingWriter, SlowWriter};
 use super::worked::File;
@@ -397,9 +398,9 @@ fn calls_of(alloc: Global, file: Vec<u8>, asked: Asked) -> u64 {
 /// How many calls a query makes for the head, of which no more is read than is needed.
 const HEAD: u64 = 1;
 
-/// Whether the fault of the store is reported, with a prefix of the text written, and the same query
-/// of what it holds writes all. After the head a query may also write all at once: if bytes that were
-/// only read ahead failed, what is needed is read again.
+/// Whether the fault of the store is reported, with a prefix of the text written, and the same
+/// query of what it holds writes all. After the head a query may also write all at once: if bytes
+/// that were only read ahead failed, what is needed is read again.
 fn fails_and_goes_again(
     alloc: Global,
     file: Vec<u8>,

@@ -20,8 +20,8 @@ fn read_in(alloc: Global, reader: &mut CountingReader, sizes: &[usize]) -> Resul
     Ok(given)
 }
 
-/// Sizes of reads, what they give, and how often the reader is asked. Five bytes in pieces of two are
-/// three asks. A read gives no more than the window has.
+/// Sizes of reads, what they give, and how often the reader is asked. Five bytes in pieces of two
+/// are three asks. A read gives no more than the window has.
 const READS: [(&[usize], &[u8], u64); 4] = [
     (&[1, 1, 1, 1, 1], b"abcde", 3),
     (&[4], b"ab", 1),
@@ -47,8 +47,8 @@ fn a_read_asks_its_reader_once_at_most(rt: HostRuntime) -> Result<(), Fail> {
     Ok(())
 }
 
-/// Whether a read of so many bytes, of an input with a window of four, reports the interrupt that its
-/// reader met, and the next read gives so many bytes.
+/// Whether a read of so many bytes, of an input with a window of four, reports the interrupt that
+/// its reader met, and the next read gives so many bytes.
 fn reports_an_interrupt(alloc: Global, size: usize, given: usize) -> Result<bool, Fail> {
     let reader = FakeReader {
         interrupts: 1,

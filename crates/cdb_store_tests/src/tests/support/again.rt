@@ -63,8 +63,8 @@ fn flush<S: Store>(store: &mut S, heals: bool, outcome: &mut Outcome) {
     outcome.note(first, is_right);
 }
 
-/// Writes over what was written and past it, cuts, flushes and reads. It leaves `abXYZfghij`. A flush
-/// after a failed one succeeds if the store `heals`.
+/// Writes over what was written and past it, cuts, flushes and reads. It leaves `abXYZfghij`. A
+/// flush after a failed one succeeds if the store `heals`.
 pub fn script<S: Store>(store: &mut S, heals: bool) -> Outcome {
     let mut outcome = Outcome {
         failed: 0,

@@ -31,8 +31,8 @@ pub struct FakeFile {
 }
 
 impl FakeFile {
-    /// A file of these bytes. Its calls are numbered from 0 on, and `count` of them, from `first` on,
-    /// are in trouble.
+    /// A file of these bytes. Its calls are numbered from 0 on, and `count` of them, from `first`
+    /// on, are in trouble.
     pub fn new(bytes: Vec<u8>, first: u64, count: u64, trouble: Trouble) -> FakeFile
         ensures { result.trace.events ≡ [] }
     {
