@@ -39,7 +39,7 @@ stays_noted {s = s} old new was whole kept marks same = record {
   };
 }
 
--- a record whose bytes are behind the others is held once it is noted
+-- a record whose bytes follow the others is held once it is noted
 pub entered : {S L : Type 0} {s : Ghosts S} {l : Widths L} (old new : Maker S L s l) (m : Roll L l) (r : KeyValue) → SameRecords old.roll m → IsRecord r → old.broken ≡ false → new.broken ≡ false → new.roll.hashes.items ≡ m.hashes.items ++ key_hash r.key ∷ [] → new.roll.tagged ≡ m.tagged → searched new.roll ≡ searched m ++ sought_in m r.key ∷ []
     → ((sizes : List ℕ) → AreOf (head_size l.WORD) (places_in m.places) m.end sizes → AreOf (head_size l.WORD) (places_in new.roll.places) new.roll.end (sizes ++ record_size l.WORD r ∷ []))
     → gone_in new ≡ gone_in old ++ false ∷ [] → new.roll.end ≡ old.roll.end + record_size l.WORD r → new.roll.gone.count ≡ old.roll.gone.count → new.roll.gone.size ≡ old.roll.gone.size → new.limit ≡ old.limit → new.store ≡ old.store

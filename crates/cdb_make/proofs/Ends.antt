@@ -5,7 +5,7 @@ use Rattle.cdb_make.proofs.Picking.{end_sum, left_sum}
 use Rattle.cdb_make.proofs.Removing.{behind_most}
 use Rattle.cdb_make.proofs.Spans.{left-map}
 
--- behind the head and all records
+-- after the head and all records
 seen_end : {L : Type 0} {l : Widths L} (m : Roll L l) (all : List KeyValue) (b : List ℕ) → Sees m all b → m.end ≡ head_size l.WORD + sum (map (record_size l.WORD) all)
 seen_end {l = l} m all b sees = sees.of.ends ∙ end_sum (head_size l.WORD) (map (record_size l.WORD) all)
 

@@ -12,7 +12,7 @@ pub length-head_bytes : (w end : ℕ) (ls : List (List WordPair)) → length ls 
 length-head_bytes w end ls long =
     length-flat_map_words w (pointers_from w end (map slots_of ls)) ∙ ap (λ (n : ℕ). 2 * w * n) (length-pointers_from w end (map slots_of ls) ∙ length-map ls slots_of ∙ long) ∙ omega arith
 
--- a list with bytes over its end, cut behind them
+-- a list with bytes over its end, cut after them
 end_written : (end last : ℕ) (a tables : List ℕ) → end ≤ length a → last ≡ end + length tables
     → take last (overwrite a end tables) ≡ take end a ++ tables
 end_written end last a tables inside el =

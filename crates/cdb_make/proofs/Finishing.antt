@@ -1,4 +1,4 @@
--- A file finished: its records without those that go, and what is left where that failed.
+-- A finished file: its records without those that go, and what is left if that failed.
 use Rattle.cdb_make.proofs.Words.{AreNone, Bool, Ghosts, HeadIsLast, IsFinished, KeepsPart, KeyValue, List, MakeFault, Maker, Roll, SameImages, SameRecords, Sees, WordPair, ap, arith, behind, cond, false, file_bytes, flat_map, found_of, gone_of, head_bytes, head_size, inl, inr, is_gone, joined, left, length, length-map, map, part, places_in, record_bytes, record_size, records_end, refl, roll_tables, subst, sym, table_bytes, true, ℕ, ◌*◌, ◌++◌, ◌+◌, ◌-◌, ◌<◌, ◌∙◌, ◌≡◌, ◌≤◌, ◌⊎◌}
 use Rattle.std.specs.Prelude.{sum, Result, Ok, Err, IfErr, OnOk, OnErr}
 use Rattle.std.proofs.lemmas.List.Sums.{sum-map}
@@ -38,7 +38,7 @@ made_none {l = l} m e =
     let t : made_size m ≡ m.roll.end - m.roll.gone.size + 4 * l.WORD * length m.roll.hashes.items = ap (λ (k : ℕ). m.roll.end - m.roll.gone.size + 4 * l.WORD * k) n in
     omega (arith, t, z)
 
--- the records stand behind the head
+-- the records are stored after the head
 pub end_behind : {L : Type 0} {l : Widths L} (m : Roll L l) → head_size l.WORD ≤ m.end
 end_behind {l = l} m =
     let spans = spans_of (head_size l.WORD) m.end (places_in m.places) m.spans in
@@ -83,7 +83,7 @@ compacts_all_by i j was some h none end = record {
   lone = λ lone. absurd (lone (gone_lazy i was some, some));
 }
 
--- the records that stand are the same
+-- the records that are stored are the same
 pub compacts_all_then : {S L : Type 0} {s : Ghosts S} {l : Widths L} (i j k : Maker S L s l) → CompactsAll i j → k.store ≡ j.store → k.broken ≡ j.broken → SameRecords j.roll k.roll → k.roll.marks ≡ j.roll.marks → k.roll.gone ≡ j.roll.gone → CompactsAll i k
 compacts_all_then {s = s} i j k h store broken same marks gone =
     let goes = h.goes in
@@ -170,7 +170,7 @@ pub compacted_counts : {S L T E : Type 0} {s : Ghosts S} {l : Widths L} (i j : M
 compacted_counts i j (Ok x) was compacts none size end count limit torn = whole_counts i j was compacts.whole (left_counts i j none size end count) limit
 compacted_counts i j (Err e) was compacts none size end count limit torn = torn
 
--- where a look was made
+-- if a look was made
 pub rests_nothing : {S L : Type 0} {s : Ghosts S} {l : Widths L} (i j : Maker S L s l) → Rests i j → WritesNothing i j
 rests_nothing i j rests = record {
   stays = record {
@@ -187,7 +187,7 @@ rests_nothing i j rests = record {
 pub rests_counts : {S L : Type 0} {s : Ghosts S} {l : Widths L} (i j : Maker S L s l) → Rests i j → SameCounts i j
 rests_counts i j rests = whole_counts i j rests.was rests.whole (same_left i j rests.same rests.picked) rests.limit
 
--- after a pass, where no record could be added
+-- after a pass, if no record could be added
 pub exchange_counts : {S L : Type 0} {s : Ghosts S} {l : Widths L} (i j k : Maker S L s l) → j.counted.count ≡ told_count i → j.counted.size ≡ told_size i → k.counted ≡ j.counted → j.roll.gone.count ≡ 0 → j.roll.gone.size ≡ 0 → j.roll.end + (i.roll.gone.size + i.roll.found.size) ≡ i.roll.end
     → length j.roll.hashes.items + (i.roll.gone.count + i.roll.found.count) ≡ length i.roll.hashes.items → k.limit ≡ i.limit → Stays j k → TellsCounts i k
 exchange_counts i j k count size same none zero end many limit stays =
@@ -243,7 +243,7 @@ finish_writes i j store c counts finished written =
       lone = λ lone. omega (arith, written, c.lone lone, c.end, size, made_none j c.none);
     }
 
--- ---- where that failed
+-- ---- if that failed
 
 pub head_from : {w end : ℕ} {ls : List (List WordPair)} {i j k : List ℕ → Type 0} → KeepsPart 0 (head_size w) i j → HeadIsLast w end ls j k → HeadIsLast w end ls i k
 head_from keeps h = record { each = λ b is. elim (h.each b is) [ inl a ↦ inl (let g = keeps.each a.0 a.1 in (g.0, g.1, a.2 ∙ g.2)) | inr t ↦ inr t ] }

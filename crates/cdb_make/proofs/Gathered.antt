@@ -1,4 +1,4 @@
--- One element among some, as it is told of.
+-- One element among some, and what is said of it.
 use Rattle.cdb_make.proofs.Words.{List, ap, arith, get_or, get_or-map, get_or-set_other, get_or-set_same, length, length-set, map, map-set, slice_set, ℕ, ◌<◌, ◌∙◌, ◌≡◌}
 
 -- of one that took another's place, and of the others

@@ -37,7 +37,7 @@ mask_drop p (suc k) (x ∷ xs) =
     let twice : 2 ^ suc k ≡ 2 * 2 ^ k = omega arith in
     ap (λ (d : ℕ). (b + 2 * m) / d) twice ∙ sym (div-div-eq-div-mul (b + 2 * m) 2 (2 ^ k)) ∙ ap (λ (v : ℕ). v / 2 ^ k) half ∙ mask_drop p k xs
 
--- where a lane passes, the first that does is one of them
+-- if a lane passes, the first lane that does is one of them
 pub first_within : (p : ℕ → Bool) (xs : List ℕ) → (mask_l (map p xs) ≡ 0 → ⊥) → prefix_len (λ x. not (p x)) xs < length xs
 first_within p [] some = absurd (some refl)
 first_within p (x ∷ xs) some = elim (cases_Bool (p x)) [
@@ -88,7 +88,7 @@ to_first m first count at end left within up few room is some =
     let lt : at + r < end = omega (arith, counted, long, up, first_within p lanes (λ none. some (is ∙ none))) in
     (lt, skipped m first count at r within (omega (arith, lt, room)) (run_in_chunk_fails p m.hashes.items at n r 0 inside counted))
 
--- and none at all where none is left
+-- and no record at all if no lane is left
 pub to_end : {L : Type 0} {l : Widths L} (m : Roll L l) (first count at end left : ℕ) → first + count ≤ 256 → at ≤ end → end ≤ length m.hashes.items → left ≡ left_of m first count at end → left ≡ 0
     → tables_of (take at (roll_entries m)) first count ≡ tables_of (take end (roll_entries m)) first count
 to_end m first count at end left within up room is none =
@@ -99,7 +99,7 @@ to_end m first count at end left within up room is none =
     skipped m first count at n within inside (none_from_empty_mask p m.hashes.items at n 0 inside (sym is ∙ none))
     ∙ ap (λ (k : ℕ). tables_of (take k (roll_entries m)) first count) all
 
--- those behind the first
+-- the lanes after the first
 pub behind_first : {L : Type 0} {l : Widths L} (m : Roll L l) (first count at end left r : ℕ) → at + r < end → left ≡ left_of m first count at end → left / 2 ^ r / 2 ≡ left_of m first count (at + (r + 1)) end
 behind_first m first count at end left r lt is =
     let p : ℕ → Bool = is_among (first % 256) (count - 1) in

@@ -151,7 +151,7 @@ last_less count b hs ms e end n apart h = record {
   none = λ k low high q. h.none k low high (record { bucket = q.bucket; stays = (still ms e k q.stays).1 });
 }
 
--- what stood before it is what stands before the next one
+-- what was before it is now before the next one
 pub dropped : (heads before hs : List ℕ) (ms : List Bool) (p e x : ℕ) → p < length before → e < length before → get_or ms p true ≡ false → get_or ms e true ≡ false → slice_index before p ≡ e + 1 → x ≡ slice_index before e
     → AreChained heads before hs ms → AreChained heads (set before p x) hs (set ms e true)
 dropped heads before hs ms p e x in_p in_e live_p live_e next is h =
@@ -204,7 +204,7 @@ dropped heads before hs ms p e x in_p in_e live_p live_e next is h =
           ];
     }
 
--- what stood before the last one of a bucket is the last one then
+-- what was before the last entry of a bucket is then the last
 pub dropped_last : (heads before hs : List ℕ) (ms : List Bool) (b e x : ℕ) → b < length heads → e < length before → get_or ms e true ≡ false → b ≡ bucket_of (length heads) (slice_index hs e) → slice_index heads b ≡ e + 1 → x ≡ slice_index before e
     → AreChained heads before hs ms → AreChained (set heads b x) before hs (set ms e true)
 dropped_last heads before hs ms b e x in_heads in_e live here last is h =
@@ -253,7 +253,7 @@ dropped_last heads before hs ms b e x in_heads in_e live here last is h =
           (last_less count c hs ms e k (slice_index before k) other old);
     }
 
--- the same where the entries that are linked are the same
+-- the same if the entries that are linked are the same
 pub chained_same : (heads before hs hs₁ : List ℕ) (ms ms₁ : List Bool) → length before ≤ length hs₁ → ((k : ℕ) → k < length before → slice_index hs₁ k ≡ slice_index hs k) → ((k : ℕ) → k < length before → get_or ms₁ k true ≡ get_or ms k true)
     → AreChained heads before hs ms → AreChained heads before hs₁ ms₁
 chained_same heads before hs hs₁ ms ms₁ within same_hs same_ms h =

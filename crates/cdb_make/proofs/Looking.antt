@@ -7,7 +7,7 @@ use Rattle.cdb_form.proofs.Files.Standing.{Begins-record_bytes}
 use Rattle.cdb_make.specs.Looks.{key_at, size_at, has_key_at, LooksAtImages}
 use Rattle.cdb_make.proofs.Spans.{piece_at, place_is, place_high, place_size}
 
--- what a record that stands somewhere says
+-- what a record that is stored somewhere says
 pub record ReadsAs (w at : ℕ) (b : List ℕ) (r : KeyValue) : Type 0 where
   pub key : key_at w at b ≡ r.key
   pub size : size_at w at b ≡ record_size w r

@@ -210,7 +210,7 @@ first_within ms n h some = elim (cases_lt n (length ms)) [
   ))
 ]
 
--- what stands before the first that has a mark
+-- what is before the first that has a mark
 pub left_front : {A : Type 0} (ms : List Bool) (xs : List A) (first k : ℕ) (d : A) → ((i : ℕ) → i < first → get_or ms i true ≡ false) → k < first → length ms ≡ length xs → get_or (left ms xs) k d ≡ get_or xs k d
 left_front [] xs first k d none lt e = refl
 left_front (m ∷ ms) [] first k d none lt e = absurd (omega arith)

@@ -9,7 +9,7 @@ use Rattle.cdb_make.proofs.Picking.{left_all_stay, sum-cons, gone_taken, picked_
 use Rattle.cdb_make.proofs.Rolls.{taken_out}
 use Rattle.cdb_make.proofs.Survive.{fresh_count, number_zero, or_none, some_there}
 
--- those behind the first are among those that stay
+-- the numbers that stay after the first mark are among all that stay
 pub behind_most : (ms : List Bool) (xs : List ℕ) → sum (behind ms xs) ≤ sum (left ms xs)
 behind_most [] xs = omega arith
 behind_most (m ∷ ms) [] = omega arith
@@ -32,7 +32,7 @@ behind-sum_by f (m ∷ ms) [] = refl
 behind-sum_by f (true ∷ ms) (x ∷ xs) = left-sum_by f ms xs
 behind-sum_by f (false ∷ ms) (x ∷ xs) = behind-sum_by f ms xs
 
--- if none had a mark, those that move are the ones behind the first of the key
+-- if no record had a mark, the records that move are those after the first of the key
 pub moved_first : (k : List ℕ) (ms : List Bool) (rs : List KeyValue) → length ms ≡ length rs → AreNone ms → behind (or_each ms (fresh k ms rs)) rs ≡ behind_first (has_key k) rs
 moved_first k [] [] e none = refl
 moved_first k [] (r ∷ rs) e none = absurd (omega arith)

@@ -44,7 +44,7 @@ pub number_is : (tagged : Bool) (key : List ℕ) (hash tag : ℕ) → hash ≡ k
 number_is true key hash tag hashed tags = tags refl
 number_is false key hash tag hashed tags = hashed
 
--- one record more, whose bytes stand behind them
+-- one record more, whose bytes follow them
 pub sees_entered : {L : Type 0} {l : Widths L} (old new : Roll L l) (r : KeyValue) (all : List KeyValue) (b : List ℕ) → IsRecord r → new.hashes.items ≡ old.hashes.items ++ key_hash r.key ∷ [] → new.tagged ≡ old.tagged → searched new ≡ searched old ++ sought_in old r.key ∷ []
     → ((sizes : List ℕ) → AreOf (head_size l.WORD) (places_in old.places) old.end sizes → AreOf (head_size l.WORD) (places_in new.places) new.end (sizes ++ record_size l.WORD r ∷ [])) → part old.end (length (record_bytes l.WORD r)) b ≡ record_bytes l.WORD r → Sees old all b → Sees new (all ++ r ∷ []) b
 sees_entered {l = l} old new r all b is_record hashes tagged numbers of behind h =

@@ -1,4 +1,4 @@
--- Pieces that stand one after another: step by step, and closed.
+-- Pieces that lie one after another: step by step, and closed.
 use Rattle.std.proofs.Common.{◌≡◌, ℕ, zero, suc, ◌+◌, ◌-◌, ◌<◌, ◌≤◌, Bool, true, false, cond, List, [], ◌∷◌, ◌++◌, length, map, take, drop, get_or, refl, sym, ap, subst, ◌∙◌, arith, add-one, append_assoc, length-append, length-take}
 use Rattle.cdb_make.proofs.Words.{AreOf, AreRising, AreSized, AreSpans, Copied, KeepsPart, Stand, Turns, behind, end_from, joined, left, or_each, overwrite, part, places_from, sum}
 use Rattle.std.proofs.lemmas.List.{append-nil, take_at, drop_at, drop-take, take-take, drop-drop, take_more, length-take-le, get_or-take, length-map, take_all, take-map, get_or-map}
@@ -143,7 +143,7 @@ or_append [] (b ∷ ns) m n e = absurd (omega arith)
 or_append (a ∷ ms) [] m n e = absurd (omega arith)
 or_append (a ∷ ms) (b ∷ ns) m n e = ap (λ (v : List Bool). cond b true a ∷ v) (or_append ms ns m n (omega arith))
 
--- ---- the same behind the first mark
+-- ---- the same after the first mark
 
 behind_more : {A : Type 0} (k : ℕ) (ms ns : List Bool) (xs ys : List A) → length ms ≡ length xs → get_or ms k false ≡ true → behind (ms ++ ns) (xs ++ ys) ≡ behind ms xs ++ left ns ys
 behind_more k [] ns xs ys e is = absurd (let t : false ≡ true = is in cc)
@@ -229,7 +229,8 @@ left_none (suc k) (false ∷ ms) (x ∷ xs) e none = ap (λ v. x ∷ v) (left_no
 
 -- ---- amid a pass
 
--- the pieces without a mark so far stand side by side up to `to`, but for those from `from` on, and all behind is as it was
+-- the pieces so far without a mark lie side by side up to `to`, but for those from `from` on; all after
+-- that is as it was
 pub record Amid (start from to k : ℕ) (places : List ℕ) (gone : List Bool) (end : ℕ) (old new : List ℕ → Type 0) : Type 0 where
   pub each : (b : List ℕ) → new b → (a : List ℕ) × old a × (take start b ≡ take start a) × (drop from b ≡ drop from a)
       × ((ps : List (List ℕ)) → AreOf start places end (map length ps) → Stand start ps a
@@ -320,7 +321,7 @@ amid_gone {start = start} {from = from} {to = to} {k = k} {end = end} {size = si
           ap (λ (v : ℕ). part start (v - start) b) is ∙ ap (part start ((to + n) - start)) m.2 ∙ moved_front start to n c xs low (omega (arith, sized.each c m.1)) long ∙ h.4 ps of stand,
     )
 
--- at the mark of a piece, and behind the last piece
+-- at the mark of a piece, and after the last piece
 pub amid_more : {start from to k end size to₁ from₁ : ℕ} {places : List ℕ} {gone : List Bool} {i j l : List ℕ → Type 0} → start ≤ to → to ≤ from → from ≤ get_or places k end → get_or places k end ≤ size → get_or places k end ≤ from₁ → from₁ ≡ get_or places (k + 1) end → to₁ ≡ to + (get_or places k end - from)
     → k < length gone → length gone ≡ length places → get_or gone k true ≡ true → AreSized size j → Amid start from to k places gone end i j → Copied from to (get_or places k end - from) j l → Amid start from₁ to₁ (k + 1) places gone end i l
 amid_more {start = start} {k = k} {end = end} {to₁ = to₁} {from₁ = from₁} {places = places} {gone = gone} low order up inside later at is lt long marked sized amid moved = record {

@@ -78,7 +78,7 @@ tables_same es e first count none =
 pub tables_none : (first count : ℕ) (ts : List (List WordPair)) → length ts ≡ count → ((k : ℕ) → get_or ts k [] ≡ []) → ts ≡ tables_of [] first count
 tables_none first count ts long none = ext_get_or [] ts (tables_of [] first count) (long ∙ sym (length-tables_of [] first count)) (λ k lt. none k ∙ sym (table_at [] first count k (first + k) (omega arith) refl))
 
--- tables from one on, and those behind them
+-- tables from a number on, and the tables after them
 pub tables_split : (es : List WordPair) (first n m : ℕ) → tables_of es first (n + m) ≡ tables_of es first n ++ tables_of es (first + n) m
 unfolding tables_of
 tables_split es first n zero = let e : n + 0 ≡ n = omega arith in ap (λ (k : ℕ). map (entries_in es) (range_with_len first k)) e ∙ sym (append-nil (map (entries_in es) (range_with_len first n)))

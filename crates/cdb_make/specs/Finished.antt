@@ -4,7 +4,7 @@ use Rattle.cdb_store.specs.Images.{part}
 use Rattle.cdb_form.specs.Format.Pair.{WordPair, head_size}
 use Rattle.cdb_make.specs.Parts.{head_bytes, table_bytes}
 
--- in each image the head is that of an old one, or all tables stand
+-- in each image the head is that of an old one, or all tables are stored
 pub record HeadIsLast (w end : ℕ) (lists : List (List WordPair)) (old new : List ℕ → Type 0)
     : Type 0 where
   pub each : (b : List ℕ) → new b

@@ -1,4 +1,4 @@
--- What the bytes of an image say of a record that stands at a place, in words of w bytes.
+-- What the bytes of an image say of a record that is stored at a place, in words of w bytes.
 use Rattle.std.specs.Prelude.{◌≡◌, ℕ, ◌+◌, ◌*◌, ◌<◌, ◌≤◌, Bool, true, false, List}
 use Rattle.std.specs.Prelude.{length, drop, bytes_eq, Result, Ok, Err, Option, Some, None}
 use Rattle.std.specs.Bool.{Decides}
@@ -31,12 +31,12 @@ pub record HasLengthsInImages (w p k v : ℕ) (images : List ℕ → Type 0) : T
   pub size : (b : List ℕ) → images b → size_at w p b ≡ 2 * w + k + v
   pub key : (b : List ℕ) → images b → key_at w p b ≡ part (p + 2 * w) k b
 
--- in each image the bytes from a place on are the key exactly where the answer is true
+-- in each image the bytes from a place on are the key exactly if the answer is true
 pub record TellsSameInImages (same : Bool) (place : ℕ) (key : List ℕ) (images : List ℕ → Type 0)
     : Type 0 where
   pub each : (b : List ℕ) → images b → Decides same (part place (length key) b ≡ key)
 
--- what a look at one place tells of an image
+-- what a look at one place says of an image
 abbrev pub LookTellsOfImage : ℕ → ℕ → ℕ → List ℕ → Result (Option ℕ) LookFault → List ℕ → Type 0
 LookTellsOfImage w p end key (Ok None) b = (p + size_at w p b ≤ end) × (has_key_at w key b p ≡ false)
 LookTellsOfImage w p end key (Ok (Some n)) b =

@@ -8,10 +8,10 @@ use Rattle.cdb_form.specs.Format.File.{pointers_from}
 abbrev pub table_bytes : ℕ → List WordPair → List ℕ
 table_bytes w es = flat_map (pair_bytes w) (slots_of es)
 
--- the bytes of the head of tables with these entries, the first of which stands at `end`
+-- the bytes of the head of tables with these entries, the first of which begins at `end`
 abbrev pub head_bytes : ℕ → ℕ → List (List WordPair) → List ℕ
 head_bytes w end lists = flat_map (pair_bytes w) (pointers_from w end (map slots_of lists))
 
--- the place behind the last table, two slots an entry, where the first table stands at `end`
+-- the place after the last table, two slots an entry, if the first table begins at `end`
 abbrev pub tables_end : ℕ → ℕ → List (List WordPair) → ℕ
 tables_end w end lists = end + 4 * w * sum_by length lists

@@ -12,7 +12,7 @@ use Rattle.cdb_make.specs.Views.Places.{places_in}
 use Rattle.cdb_make.specs.Views.Roll.{searched, sought_in}
 use Rattle.cdb_make.specs.declared.roll.Roll.{Roll}
 
--- an image has these records one after another behind the head, and the roll notes them
+-- an image has these records one after another, following the head, and the roll notes them
 pub record Sees {L : Type 0} {l : Widths L} (m : Roll L l) (all : List KeyValue) (b : List ℕ)
     : Type 0 where
   pub are : All IsRecord all

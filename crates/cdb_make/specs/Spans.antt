@@ -1,4 +1,4 @@
--- Pieces that stand one after another, of which some are marked: these are to go.
+-- Pieces that lie one after another; the marked pieces go.
 use Rattle.std.specs.Prelude.{ℕ, ◌+◌, ◌≤◌, ◌≡◌, get_or, Bool, true, cond, List, [], ◌∷◌, length, map, take, flat_map, sum}
 use Rattle.cdb_store.specs.Images.{part}
 use Rattle.cdb_make.specs.Marks.{IsFirstOrPast}
@@ -10,7 +10,7 @@ left [] xs = xs
 left (m ∷ ms) [] = []
 left (m ∷ ms) (x ∷ xs) = cond m (left ms xs) (x ∷ left ms xs)
 
--- the same behind the first that has one
+-- the same after the first that has a mark
 abbrev pub behind : {A : Type 0} → List Bool → List A → List A
 behind [] xs = []
 behind (m ∷ ms) [] = []
@@ -33,7 +33,7 @@ or_each [] ns = []
 or_each (m ∷ ms) [] = m ∷ ms
 or_each (m ∷ ms) (n ∷ ns) = cond n true m ∷ or_each ms ns
 
--- where pieces of these sizes stand, the first at `at`, and where the last ends
+-- where pieces of these sizes begin, the first at `at`, and where the last ends
 abbrev pub places_from : ℕ → List ℕ → List ℕ
 places_from at [] = []
 places_from at (n ∷ ns) = at ∷ places_from (at + n) ns
@@ -71,8 +71,8 @@ joined ps = flat_map (λ p. p) ps
 abbrev pub Stand : ℕ → List (List ℕ) → List ℕ → Type 0
 Stand from ps b = part from (length (joined ps)) b ≡ joined ps
 
--- each image comes of an old one: where some pieces stood in that, those without a mark stand side by
--- side, and the bytes before them are the same
+-- each image comes of an old one: if some pieces were stored in that, the pieces without a mark lie
+-- side by side, and the bytes before them are the same
 pub record Turns (from : ℕ) (places : List ℕ) (end : ℕ) (marks : List Bool) (old new : List ℕ → Type 0)
     : Type 0 where
   pub each : (b : List ℕ) → new b → (a : List ℕ) × old a × (take from b ≡ take from a)

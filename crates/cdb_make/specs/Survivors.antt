@@ -1,4 +1,4 @@
--- The records that stand after puts and removals.
+-- The records that are left after puts and removals.
 use Rattle.std.specs.Prelude.{ℕ, Bool, cond, not, nat_le, if◌then◌else◌, List, [], ◌∷◌, ◌++◌}
 use Rattle.std.specs.Prelude.{filter, fold, bytes_eq, Result, Ok, Err}
 use Rattle.std.specs.List.{count_by, list_any}
@@ -26,7 +26,7 @@ count_of k rs = count_by (has_key k) rs
 abbrev pub without : List ℕ → List KeyValue → List KeyValue
 without k rs = filter (λ r. not (has_key k r)) rs
 
--- the records that stay behind the first that goes
+-- the records that stay after the first that goes
 abbrev pub behind_first : (KeyValue → Bool) → List KeyValue → List KeyValue
 behind_first goes [] = []
 behind_first goes (r ∷ rs) =

@@ -1,4 +1,4 @@
-// Whole records, as they are in a file, are written behind the others at once.
+// Whole records, as they are in a file, are written after the others at once.
 ghost use Rattle.std.specs.Prelude.{◌≡◌, ℕ, ◌+◌, ◌*◌, ◌<◌, ◌≤◌, ◌⊎◌, ◌++◌, ◌∷◌, [], true, false, List};
 ghost use Rattle.std.specs.Prelude.{length, take, sum_by, IfOk, IfErr, OnOk, OnErr};
 ghost use Rattle.cdb_store.specs.Images.{ImagesHold as AreIn};
@@ -87,7 +87,7 @@ impl<S: Store, L: Width> Maker<S, L> {
     ghost use Rattle.cdb_make.specs.Views.Appending.{AppendsAll, AppendsSome, FailsAppending, BeginsTags};
     ghost use Rattle.cdb_make.specs.Views.Appending.{Enters, KeepsLimit, IsCrowded, FailsWriting, full_size};
 
-    /// Notes a record whose bytes are in the store, behind the others.
+    /// Notes a record whose bytes are in the store, after the others.
     ///
     /// `NoMemory`: the records are what they were.
     fn enter(&mut self, hash: u32, sought: u32, size: u64) -> Result<(), MakeFault>
@@ -114,9 +114,9 @@ impl<S: Store, L: Width> Maker<S, L> {
         Ok(())
     }
 
-    /// Notes the first whole records of some bytes, which are in the store behind the others.
+    /// Notes the first whole records of some bytes, which are in the store after the others.
     ///
-    /// `NoMemory`: the records that are noted are held, and the bytes behind them are those of no
+    /// `NoMemory`: the records that are noted are held, and the bytes after them belong to no
     /// record.
     fn enter_all(&mut self, bytes: &[u8], count: usize) -> Result<(), MakeFault>
         requires whole { self.old.broken ≡ false }
@@ -151,7 +151,7 @@ impl<S: Store, L: Width> Maker<S, L> {
         Ok(())
     }
 
-    /// Writes some bytes behind the records, which stay.
+    /// Writes some bytes after the records, which stay.
     ///
     /// `NoMemory`: nothing was written. `Writing`: the store failed.
     fn write_behind(&mut self, bytes: &[u8]) -> Result<(), MakeFault>
@@ -175,8 +175,8 @@ impl<S: Store, L: Width> Maker<S, L> {
         Ok(())
     }
 
-    /// Writes the first whole records of some bytes behind the others, and notes them. A lazy maker
-    /// that has noted none tags all that come from now on, also if this is none.
+    /// Writes the first whole records of some bytes after the others, and notes them. A lazy maker
+    /// that has noted no record tags all that come from now on, also if this call has none.
     ///
     /// The faults are those of `append`.
     fn append_first(&mut self, bytes: &[u8], count: usize, size: usize) -> Result<(), MakeFault>

@@ -21,7 +21,7 @@ pub(crate) fn place_at<L: Width>(places: &Places<L>, n: usize, end: u64) -> u64
     if n < places.len() { places.at(n) } else { end }
 }
 
-/// Moves the records that stay down, side by side. Each byte behind the first gap moves once.
+/// Moves the records that stay down, side by side. Each byte after the first gap moves once.
 ///
 /// `first` is the number of the first record that goes, or of all. It takes no memory. `Device`:
 /// the bytes before the records stay.

@@ -19,7 +19,7 @@ fn grow<T: Copy>(items: &mut Vec<T>) -> Result<(), AllocError>
     items.reserve_exact(items.len() / 4 + LEAST)
 }
 
-/// Makes room for one more: where there is none, for a quarter more than there are. So at most the
+/// Makes room for one more: if there is no room, for a quarter more than there are. So at most the
 /// fifth part of a long vector is spare. If memory is refused, nothing has changed.
 #[inline(always)]
 pub(crate) fn reserve_one<T: Copy>(items: &mut Vec<T>) -> Result<(), AllocError>

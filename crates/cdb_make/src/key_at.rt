@@ -23,7 +23,7 @@ const BESIDE: usize = 48;
 pub(crate) enum LookFault {
     /// The store failed.
     Failed,
-    /// The store gave back bytes that it was not told to write.
+    /// The store gave back bytes that were not written to it.
     Foreign,
 }
 

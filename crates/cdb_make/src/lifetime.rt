@@ -51,7 +51,7 @@ impl<S: Store + Drop, L: Width> From<Unfinished<S, L>> for MakeFault {
 /// Leaves a head of all ones in a store and nothing else, and hands it on. All memory is taken
 /// first.
 ///
-/// So no byte of a record stands on what holds the bytes before the head does.
+/// So no byte of a record reaches what holds the bytes before the head does.
 fn emptied<S: Store, L: Width>(store: &mut S) -> Result<(), MakeFault>
     ensures head { OnOk result (IsUnfinished L.WORD (S.image store.new)) }
     ensures settled { OnOk result (S.settled store.new) }
@@ -206,7 +206,7 @@ impl<S: Store, L: Width> Maker<S, L> {
         ensures fails { IfErr result (λ u. FailsFinishing self u.maker u.fault) }
         ensures counts { IfErr result (λ u. SameCounts self u.maker) }
         ensures lazy { IfErr result (λ u. is_lazy u.maker ≡ is_lazy self) }
-        // In each image the head is an old one, or all tables stand.
+        // In each image the head is an old one, or all tables are stored.
         ensures head_last { IfErr result (λ u.
             PutsHeadLast u.maker (S.image self.store) (S.image u.maker.store)) }
         ensures fails_comes { IfErr result (λ u.

@@ -56,7 +56,7 @@ impl<S: Store, L: Width> Maker<S, L> {
     ghost use Rattle.cdb_make.specs.Views.Maker.{Adds, AddFails, Stays, Compacts, Exchanges, Follows, HasNotFailed};
     ghost use Rattle.cdb_make.specs.Views.Maker.{FailsExchanging, HasStoreFailed, SameCounts, TellsCounts, told_count, told_size};
 
-    /// One more record, behind the others.
+    /// One more record, after the others.
     ///
     /// `NoMemory`: nothing was written. `Writing`: the store failed. The records are what they
     /// were.
@@ -129,7 +129,7 @@ impl<S: Store, L: Width> Maker<S, L> {
     }
 
     /// Takes out the records that go and those that a look for the number has found, which are
-    /// some, and adds one behind the others. There is room for it.
+    /// some, and adds one after the others. There is room for it.
     ///
     /// `Writing`: the store failed. Amid the pass that breaks the maker, else the records are gone.
     #[inline(never)]

@@ -55,7 +55,7 @@ impl<S: Store, L: Width> Maker<S, L> {
         self.broken
     }
 
-    /// Its store, to ask how long it is or how much was written.
+    /// Its store, to read how long it is or how much was written.
     pub fn store(&self) -> &S
         ensures { result.now ≡ self.now.store }
     {

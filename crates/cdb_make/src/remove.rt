@@ -85,7 +85,7 @@ impl<S: Store, L: Width> Maker<S, L> {
 
     /// Takes all records that go out by one pass. Then its store has the others and no more.
     ///
-    /// Each byte behind the first gap moves once, however many records go, and no memory is taken.
+    /// Each byte after the first gap moves once, however many records go, and no memory is taken.
     /// `Writing`: the store failed amid the pass, and the maker is broken. `Broken`: an earlier
     /// call broke it.
     pub fn compact_all(&mut self) -> Result<(), MakeFault>

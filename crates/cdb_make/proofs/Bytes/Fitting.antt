@@ -22,7 +22,7 @@ records_at-cons w xs some fits =
 pub records_at-none : (w : ℕ) (xs : List ℕ) → length xs < prefix_size w xs → records_at w xs ≡ []
 records_at-none w xs short = whole_records-none w (length xs) xs short
 
--- the record has the size that its header tells, and its own bytes
+-- the record has the size that its header gives, and its own bytes
 pub prefix_sized : (w : ℕ) (xs : List ℕ) → prefix_size w xs ≤ length xs → record_size w (prefix_record w xs) ≡ prefix_size w xs
 prefix_sized w xs fits =
     let a = length-take (pair_at w xs).first (drop (2 * w) xs) in
@@ -44,7 +44,7 @@ prefix_is_record w xs bytes =
       value = AreBytes-take p.second (drop (2 * w + p.first) xs) (AreBytes-drop (2 * w + p.first) xs bytes);
     }
 
--- a list cut before an item and behind it
+-- a list cut before an item and after it
 abbrev SplitsAt : {A : Type 0} → ℕ → List A → A → Type 0
 SplitsAt k xs x = (k < length xs) × (take (k + 1) xs ≡ take k xs ++ x ∷ []) × (drop k xs ≡ x ∷ drop (k + 1) xs)
 
@@ -93,7 +93,7 @@ first_more w bytes count place size some are first is fits =
       rest = ap (records_at w) (sym behind) ∙ ap (λ (n : ℕ). records_at w (drop n xs)) is ∙ tail;
     }
 
--- there is one, where there are more records
+-- a whole record follows if there are more records
 pub next_fits : (w : ℕ) (bytes : List ℕ) (count place : ℕ) → AreFirst w bytes count place → count < length (records_at w bytes) → prefix_size w (drop place bytes) ≤ length (drop place bytes)
 next_fits w bytes count place first more = elim (cases_lt (length (drop place bytes)) (prefix_size w (drop place bytes))) [
   | inl short ↦
@@ -102,7 +102,7 @@ next_fits w bytes count place first more = elim (cases_lt (length (drop place by
   | inr fits ↦ fits
 ]
 
--- and there is none, where there are no more
+-- and no whole record follows if there are no more
 pub no_next : (w : ℕ) (bytes : List ℕ) (count place : ℕ) → AreFirst w bytes count place → length (drop place bytes) < prefix_size w (drop place bytes) → count ≡ length (records_at w bytes)
 no_next w bytes count place first short =
     let none : drop count (records_at w bytes) ≡ [] = sym first.rest ∙ records_at-none w (drop place bytes) short in

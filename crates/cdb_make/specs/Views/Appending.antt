@@ -39,7 +39,7 @@ abbrev pub IsCrowded : {S L : Type 0} {s : Ghosts S} {l : Widths L} → Maker S 
     → Type 0
 IsCrowded {l = l} m rs = m.limit < full_size m + sum_by (whole_size l.WORD) rs
 
--- all these records were written behind the others, and take so many bytes: no more were written, or
+-- all these records were written after the others, and take so many bytes: no more were written, or
 -- those of a pass before them, if records go beside which they have no room
 pub record AppendsAll {S L : Type 0} {s : Ghosts S} {l : Widths L} (old new : Maker S L s l)
     (rs : List KeyValue) (n : ℕ) : Type 0 where
@@ -55,7 +55,7 @@ pub record AppendsAll {S L : Type 0} {s : Ghosts S} {l : Widths L} (old new : Ma
   pub count : count_in new ≡ count_in old + length rs
   pub failures : HasNotFailed old new
 
--- the file with these records behind the others would keep the limit, or would pass it
+-- the file with these records after the others would keep the limit, or would pass it
 abbrev pub KeepsLimit : {S L : Type 0} {s : Ghosts S} {l : Widths L} → Maker S L s l
     → Maker S L s l → List KeyValue → Type 0
 KeepsLimit {s = s} {l = l} old new rs = (before : List KeyValue) → Holds old before
@@ -97,7 +97,7 @@ abbrev pub BeginsTags : {S L : Type 0} {s : Ghosts S} {l : Widths L} → Maker S
     → Type 0
 BeginsTags old new = old.lazy ≡ true → vec_capacity old.roll.hashes ≡ 0 → new.roll.tagged ≡ true
 
--- bytes were not written behind the records, since memory was refused or the store failed
+-- bytes were not written after the records, since memory was refused or the store failed
 abbrev pub FailsWriting : {S L : Type 0} {s : Ghosts S} {l : Widths L} → Maker S L s l
     → Maker S L s l → MakeFault → Type 0
 FailsWriting old new NoMemory = HasNotFailed old new

@@ -77,14 +77,14 @@ pub record Follows {S L : Type 0} {s : Ghosts S} {l : Widths L} (old new : Maker
   pub failures : s.failures old.store ≤ s.failures new.store
   pub unwritten : s.unwritten old.store ≤ s.unwritten new.store
 
--- each image of a store comes of an old one, and of the records that stood there these stand now
+-- each image of a store comes of an old one, and of the records that were stored there these are left now
 pub record Goes {S L : Type 0} {s : Ghosts S} {l : Widths L} (old new : Maker S L s l)
     (P : List KeyValue → List KeyValue → Type 0) : Type 0 where
   pub each : (b : List ℕ) → s.image new.store b → (a : List ℕ) × s.image old.store a
       × ((all : List KeyValue) → Sees old.roll all a
       → (rest : List KeyValue) × Sees new.roll rest b × P all rest)
 
--- the same records stand, with the same marks
+-- the records are the same, with the same marks
 pub record Stays {S L : Type 0} {s : Ghosts S} {l : Widths L} (old new : Maker S L s l)
     : Type 0 where
   pub same : SameRecords old.roll new.roll
@@ -94,7 +94,7 @@ pub record Stays {S L : Type 0} {s : Ghosts S} {l : Widths L} (old new : Maker S
   pub broken : new.broken ≡ old.broken
   pub goes : Goes old new (λ all rest. rest ≡ all)
 
--- one record more, behind the others
+-- one record more, after the others
 pub record Adds {S L : Type 0} {s : Ghosts S} {l : Widths L} (old new : Maker S L s l)
     (hash : ℕ) (r : KeyValue) : Type 0 where
   pub goes : Goes old new (λ all rest. rest ≡ all ++ r ∷ [])
@@ -117,7 +117,7 @@ AddFails written written₁ failures failures₁ unwritten unwritten₁ wants Wr
     (failures < failures₁) × (unwritten < unwritten₁)
 AddFails written written₁ failures failures₁ unwritten unwritten₁ wants fault = ⊥
 
--- a pass over the records with these marks: it moves those behind the first that stay
+-- a pass over the records with these marks: it moves the records after the first mark that stay
 abbrev pub Passes : {S L : Type 0} {s : Ghosts S} {l : Widths L} → Maker S L s l → Maker S L s l
     → List Bool → ℕ → List KeyValue → Type 0
 Passes {s = s} {l = l} old new marks more all = s.written new.store
@@ -153,7 +153,7 @@ FailsExchanging old new Writing =
     × Goes old new (λ all rest. rest ≡ left (or_each (gone_in old) (found_in old)) all))
 FailsExchanging old new fault = ⊥
 
--- this holds where some byte list is an image
+-- this holds if some byte list is an image
 pub record WhereHonest (images : List ℕ → Type 0) (P : Type 0) : Type 0 where
   pub each : (b : List ℕ) → images b → P
 
@@ -184,7 +184,7 @@ pub record Begins {S L : Type 0} {s : Ghosts S} {l : Widths L} (store : S) (limi
   pub room : s.room store ≤ s.room m.store
   pub fine : s.failures m.store ≡ s.failures store
 
--- its store was read and no more: the same records stand, and the same ones go
+-- its store was read and no more: the records are the same, and the same records go
 pub record Rests {S L : Type 0} {s : Ghosts S} {l : Widths L} (old new : Maker S L s l)
     : Type 0 where
   pub was : old.broken ≡ false
@@ -196,8 +196,7 @@ pub record Rests {S L : Type 0} {s : Ghosts S} {l : Widths L} (old new : Maker S
   pub lazy : new.lazy ≡ old.lazy
   pub reads : OnlyReads s old.store new.store
 
--- it is broken, since it was or since its store has given back other bytes than it was told to
--- write
+-- it is broken, since it was or since its store has given back bytes that were not written to it
 pub record IsBroken {S L : Type 0} {s : Ghosts S} {l : Widths L} (old new : Maker S L s l)
     : Type 0 where
   pub broken : new.broken ≡ true
@@ -229,7 +228,7 @@ pub record Seeks {S L : Type 0} {s : Ghosts S} {l : Widths L} (old new : Maker S
   pub looks : LooksAll key new.roll (s.image new.store)
   pub count : n ≡ new.roll.found.count
 
--- where they stand, the answer is whether some have a key
+-- if the records are stored, the answer is whether some have a key
 pub record IsThere (there : Bool) (k : List ℕ) (rs : List KeyValue) (images : List ℕ → Type 0)
     : Type 0 where
   pub each : (b : List ℕ) → images b → there ≡ is_there k rs
@@ -241,7 +240,7 @@ count_in m = length m.roll.hashes.items - m.roll.gone.count
 abbrev pub made_size : {S L : Type 0} {s : Ghosts S} {l : Widths L} → Maker S L s l → ℕ
 made_size {l = l} m = (m.roll.end - m.roll.gone.size) + 4 * l.WORD * count_in m
 
--- what it tells of them: in a broken maker, what it told before the call that broke it
+-- what it reports of them: in a broken maker, what it reported before the call that broke it
 abbrev pub told_count : {S L : Type 0} {s : Ghosts S} {l : Widths L} → Maker S L s l → ℕ
 told_count m = cond m.broken m.counted.count (count_in m)
 
@@ -357,8 +356,8 @@ goes_with Warn key ms rs = ms
 goes_with Insert key ms rs = ms
 goes_with Replace key ms rs = or_each ms (fresh key ms rs)
 
--- it wrote so many bytes, or those of a pass and then so many: where it held some records, and those
--- among all that go then. If it is lazy the pass was due, or in such a case
+-- it held these records and wrote so many bytes, or those of a pass and then so many. The pass takes
+-- out those among all that go then. If it is lazy the pass was due, or in such a case
 pub record WritesIn {S L : Type 0} {s : Ghosts S} {l : Widths L} (old new : Maker S L s l)
     (goes : List KeyValue → List Bool) (lone more : ℕ) (short : Type 0) (rs : List KeyValue)
     : Type 0 where
@@ -371,8 +370,8 @@ pub record WritesIn {S L : Type 0} {s : Ghosts S} {l : Widths L} (old new : Make
       ⊎ (Passes old new (goes all) more all × (old.lazy ≡ true
       → IsDueFor old (sum (picked (goes all) (map (record_size l.WORD) all))) ⊎ short))
 
--- a removal of the records of a key that answered so many. An eager maker moves each byte behind the
--- first of them once. With what a lazy one writes, its records end no later than before: so all its
+-- a removal of the records of a key that answered so many. An eager maker moves each byte after the
+-- first of them once. With what a lazy maker writes, its records end no later than before: so all its
 -- removals together move no more bytes than were put
 pub record Removes {S L : Type 0} {s : Ghosts S} {l : Widths L} (old new : Maker S L s l)
     (key : List ℕ) (count : ℕ) : Type 0 where
@@ -398,7 +397,7 @@ FailsRemoving old new key Lookup = Rests old new × HasStoreFailed old new
 FailsRemoving old new key Writing = IsTorn old new (HasKey key) (IsCountOf key) (IsMarked new)
 FailsRemoving old new key fault = ⊥
 
--- one record more is noted behind the others, or none, since memory is wanted or the file with those
+-- one record more is noted after the others, or none, since memory is wanted or the file with those
 -- that go has no room for it
 pub record Waits {S L : Type 0} {s : Ghosts S} {l : Widths L} (old new : Maker S L s l)
     (r : KeyValue) : Type 0 where
@@ -407,7 +406,7 @@ pub record Waits {S L : Type 0} {s : Ghosts S} {l : Widths L} (old new : Maker S
   pub fine : HasNotFailed old new
   pub short : IsShort old r
 
--- a write failed, and the same records stand
+-- a write failed, and the records are the same
 pub record FailsToWrite {S L : Type 0} {s : Ghosts S} {l : Widths L} (old new : Maker S L s l)
     (fault : MakeFault) : Type 0 where
   pub is : fault ≡ Writing
@@ -415,7 +414,7 @@ pub record FailsToWrite {S L : Type 0} {s : Ghosts S} {l : Widths L} (old new : 
   pub failed : HasFailedToWrite old new
 
 -- the records that go and those that were found are gone, now or with a later pass, and one was added:
--- alone behind the others, or after a pass
+-- alone after the others, or after a pass
 pub record Admits {S L : Type 0} {s : Ghosts S} {l : Widths L} (old new : Maker S L s l)
     (r : KeyValue) : Type 0 where
   pub whole : new.broken ≡ false
@@ -460,8 +459,8 @@ pub record DoesNothing {S L : Type 0} {s : Ghosts S} {l : Widths L} (old new : M
   pub written : s.written new.store ≡ s.written old.store
   pub fine : HasNotFailed old new
 
--- what is left where records were to be taken out by a pass, and one was to be added. It is broken only
--- if the store failed amid the pass, or if records were found and a write failed
+-- what is left if a pass was to take records out, and one was to be added. It is broken only if the
+-- store failed amid the pass, or if records were found and a write failed
 abbrev pub FailsCompacting : {S L : Type 0} {s : Ghosts S} {l : Widths L} → Maker S L s l
     → Maker S L s l → KeyValue → MakeFault → Type 0
 FailsCompacting old new r NoMemory = DoesNothing old new × PassesRoom old r
@@ -474,7 +473,7 @@ FailsCompacting old new r Writing =
 FailsCompacting old new r fault = ⊥
 
 -- why no record was added, and what is left then: it would be too big, memory is wanted, or a write
--- failed. Where no record was to be replaced, the same ones stand
+-- failed. If no record was to be replaced, the records are the same
 abbrev pub FailsAdmitting : {S L : Type 0} {s : Ghosts S} {l : Widths L} → Maker S L s l
     → Maker S L s l → KeyValue → MakeFault → Type 0
 FailsAdmitting old new r TooBig = DoesNothing old new × IsOver old r
@@ -548,8 +547,8 @@ pub record Meets {S L : Type 0} {s : Ghosts S} {l : Widths L} (old new : Maker S
       → MeetsIn new mode r put rs b
 
 -- a put of a record that answered so. With what a lazy maker writes, its records end no later than
--- before but for the new one, which is written and stands behind them: so all passes together move no
--- more bytes than were put, but for those of a put that had no room
+-- before but for the new record, which is written after them: so all passes together move no more bytes
+-- than were put, but for those of a put that had no room
 pub record Puts {S L : Type 0} {s : Ghosts S} {l : Widths L} (old new : Maker S L s l)
     (mode : Mode) (r : KeyValue) (answer : Put) : Type 0 where
   pub was : old.broken ≡ false
@@ -593,7 +592,7 @@ WantsRoom {s = s} {l = l} old new mode r = (rs : List KeyValue) → Holds old rs
     → WhereHonest (s.image new.store) (is_there r.key rs ≡ true
     → s.room old.store < records_end l.WORD (put_list mode r rs))
 
--- the put was to add its record behind the others, and to take none out
+-- the put was to add its record after the others, and to take no record out
 abbrev pub OnlyAdds : {S L : Type 0} {s : Ghosts S} {l : Widths L} → Maker S L s l → Maker S L s l
     → Mode → KeyValue → Type 0
 OnlyAdds {s = s} old new mode r = (rs : List KeyValue) → Holds old rs
@@ -632,7 +631,7 @@ pub record CompactsAll {S L : Type 0} {s : Ghosts S} {l : Widths L} (old new : M
       (rest ≡ left (gone_in old) all) × Passes old new (gone_in old) 0 all)
   pub lone : (HasGone old → ⊥) → s.written new.store ≡ s.written old.store
 
--- why no pass was made to its end: where one was made, the store failed amid it
+-- why no pass was made to its end: if a pass was made, the store failed amid it
 abbrev pub FailsCompactingAll : {S L : Type 0} {s : Ghosts S} {l : Widths L} → Maker S L s l
     → Maker S L s l → MakeFault → Type 0
 FailsCompactingAll old new Broken = (old.broken ≡ true) × (new ≡ old)
@@ -651,7 +650,7 @@ end_of m = m.roll.end - m.roll.gone.size
 pub record IsFile (w : ℕ) (rs : List KeyValue) (images : List ℕ → Type 0) : Type 0 where
   pub each : (b : List ℕ) → images b → b ≡ file_bytes w rs
 
--- in each image the head is an old one, or all tables of the records that the maker has noted stand
+-- in each image the head is an old one, or all tables of the records that the maker has noted are stored
 abbrev pub PutsHeadLast : {S L : Type 0} {s : Ghosts S} {l : Widths L} → Maker S L s l
     → (old new : List ℕ → Type 0) → Type 0
 PutsHeadLast {l = l} m old new = HeadIsLast l.WORD m.roll.end (roll_tables m.roll) old new

@@ -5,7 +5,7 @@ use Rattle.cdb_store.specs.declared.make_fault.MakeFault.{MakeFault}
 use Rattle.cdb_store.specs.declared.make_fault.MakeFault.TheVariants.{NoMemory}
 use Rattle.cdb_store.specs.declared.make_fault.MakeFault.TheVariants.{Writing}
 
--- where memory was refused it is as it was and has not failed, and else it failed
+-- if memory was refused, it is as it was and has not failed; else it failed
 abbrev pub MakingFault : {S : Type 0} → (S → List ℕ → Type 0) → (S → ℕ) → (S → ℕ) → (S → ℕ)
     → S → S → MakeFault → Type 0
 MakingFault image size written failures old new NoMemory =

@@ -19,8 +19,8 @@ use cdb_form::{Width, pair_size};
 use cdb_store::{MakeFault, Store, StoreFault};
 use std::alloc::Global;
 
-/// Writes the tables behind the records up to `last`, cuts the store after them, and hands all on,
-/// so that they stand before the head does. It takes no memory.
+/// Writes the tables after the records up to `last`, cuts the store after them, and hands all on,
+/// so that the tables are stored before the head is. It takes no memory.
 ///
 /// `Device`: the bytes of the records and before them stay.
 fn settle_tables<S: Store, L: Width>(
@@ -63,7 +63,7 @@ fn settle_tables<S: Store, L: Width>(
     store.flush()
 }
 
-/// Writes the tables behind the records up to `last`, cuts the store after them, and once that is
+/// Writes the tables after the records up to `last`, cuts the store after them, and once that is
 /// handed on writes the head, and flushes it. It takes no memory.
 ///
 /// `Device`: the bytes of the records stay.

@@ -1,7 +1,7 @@
 use Rattle.cdb_make.proofs.Words.{AfterWrite, all_gathered, flat_map, length, max, sum_by, table_bytes, take, ◌*◌, ◌+◌, ◌≡◌, ◌≤◌}
 use Rattle.cdb_make.proofs.finish.tables.write_group.Given as goal
 
--- the tables so far are written, and the next begins behind them
+-- the tables so far are written, and the next begins after them
 abbrev pub invariant-loop-list : goal.invariant-loop-list
 invariant-loop-list g l = record {
   place : l.place ≡ l.start + 4 * g.L.Width.WORD * sum_by length (all_gathered (take l.list-index l.lists));

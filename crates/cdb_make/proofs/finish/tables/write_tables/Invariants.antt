@@ -1,7 +1,7 @@
 use Rattle.cdb_make.proofs.Words.{AfterWrite, flat_map, length, max, roll_entries, rooms_of, sum_by, table_bytes, tables_of, ◌*◌, ◌+◌, ◌≡◌, ◌≤◌}
 use Rattle.cdb_make.proofs.finish.tables.write_tables.Given as goal
 
--- the tables so far are written, and the next begins behind them
+-- the tables so far are written, and the next begins after them
 abbrev pub invariant-loop-group : goal.invariant-loop-group
 invariant-loop-group g l = record {
   place : l.place ≡ l.end + 4 * g.L.Width.WORD * sum_by length (tables_of (roll_entries l.roll) 0 (32 * l.group));
