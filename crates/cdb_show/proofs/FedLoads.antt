@@ -1,4 +1,4 @@
--- A load from a reader that tells its bytes: what is said by feed, in the standard library's words.
+-- A load from a reader that reports its bytes: what is said by feed, in the standard library's words.
 use Rattle.cdb_show.proofs.Words.{Fault, List, Option, known_loses, known_whole, reader_feed, ℕ}
 use Rattle.cdb_form.specs.declared.reading_whole.Extent.TheVariants.{More}
 use Rattle.cdb_form.specs.declared.walk.fault.WalkFault.TheVariants as walk

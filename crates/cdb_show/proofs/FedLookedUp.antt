@@ -1,5 +1,6 @@
--- What a query of the keys of some inputs came to, of any bytes that agree with the readers of the inputs as they came
--- back: as of inputs that told these bytes before.
+-- What a query of the keys of some inputs came to, of any bytes that agree with the readers of the
+-- inputs as they came
+-- back: as of inputs that reported these bytes before.
 use Rattle.std.proofs.Common.{◌≡◌, ℕ, zero, suc, Bool, List, [], ◌∷◌, ◌++◌, length, map, refl, sym, ap, subst, ◌∙◌, arith, Option, None, Some, Result, Err, IfSome, inl, inr}
 use Rattle.std.specs.Prelude.{⊤, ◌<◌}
 use Rattle.cdb_show.proofs.Words.{Appends, AppendsPrefix, AreAllInputs, AreInputs, BeginsWithItems, Change, Fault, Feed, FirstHas, Ghosts, HasFaults, HasItemFault, InputForm, InputReader, Inputs, InputsLeft, IsInputOf, IsOfText, Keeps, LooksUp, LooksUpAll, LookupsFail, LookupsStop, ReadsOne, SharedWindow, StopsIn, Style, TextFault, append-nil, bytes_of, fault_in, keys_form, keys_of, one_input, stop_of, stopped_parsing}
@@ -21,7 +22,7 @@ use Rattle.cdb_show.proofs.Queries.{none_prefix}
 abbrev pub inputs_of : List (Option (List ℕ)) → List ℕ → InputsLeft
 inputs_of inputs shared = record { each = map one_input inputs; shared = Some shared }
 
--- ---- a fault of a text is behind its items
+-- ---- a fault of a text follows its items
 
 begins_so : (form : InputForm) (g : ℕ) (items : List Change) (fault : TextFault) (text : List ℕ) → HasFaults form → IsOfText fault → HasItemFault form g items fault text → BeginsWithItems form g items text
 begins_so (form_of.Puts style_of.Native) g items fault text own is (records, same, has) = let h = has.of_text is in (records, same, (h.rest, h.whole.spelled))
@@ -152,7 +153,7 @@ module _ {J S : Type 0} (form : InputForm) (g : ℕ) (own : J → Feed) (shared 
 
 -- ---- where it stopped
 
--- the first input that is left begins with these items, and has this fault behind them
+-- the first input that is left begins with these items, and has this fault after them
 record StopsFirst (form : InputForm) (g : ℕ) (fault : Option TextFault) (last : List Change) (rest : InputsLeft) : Type 0 where
   bytes : List ℕ
   first : FirstHas rest (Some bytes)
@@ -263,7 +264,8 @@ module _ {J I S : Type 0} (w g : ℕ) (s : Ghosts S) (number : Option ℕ) (styl
     fails_known old new start now NoMemory to h = stops_known old new start now _ to h
 
   -- for all bytes of the inputs that were reached and of the shared reader that agree with these readers as they came
-  -- back, of which nothing had been read before: what the run left is what it leaves of inputs that tell these bytes
+  -- back, of which nothing had been read before: what the run left is what it leaves of inputs that
+  -- report these bytes
   pub fed_looks_up : (old new : S) (start now : Option (List ℕ)) (result : Result Unit Fault) → (h : FedLooksUp w g s number style own shared inputs left old new start now result) → AreUnread own inputs.readers.items → IsUnread (shared inputs.shared) → length each ≡ length inputs.readers.items
       → FirstAgree own AreBytes (reached h.leaves.read h.leaves.stop) each left.readers.items → AgreesWith AreBytes (shared left.shared) whole → LooksUp w g s number style (inputs_of each whole) old new start now result
   fed_looks_up old new start now result h unread first long agree agrees =

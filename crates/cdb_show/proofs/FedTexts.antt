@@ -1,4 +1,4 @@
--- The text of a file whose reader tells its bytes: what is said by feed, in the standard library's words.
+-- The text of a file whose reader reports its bytes: what is said by feed, in the standard library's words.
 use Rattle.cdb_show.proofs.Words.{Damage, Err, Fault, Form, List, None, Ok, Option, Result, Some, [], from_weaker, reader_feed, refl, walk_of, ℕ}
 use Rattle.cdb_form.specs.declared.damage.Damage.TheVariants as file_damage
 use Rattle.cdb_form.specs.declared.walk.fault.WalkFault.TheVariants as walk
@@ -29,7 +29,7 @@ known_first w form file rest old new h = (
   known_from file rest _ (from_weaker _ _ _ _ h.is (λ f r b. b.1)),
 )
 
--- the walk of the file, where its bytes are known
+-- the walk of the file, if its bytes are known
 known_prefix : (w : ℕ) (form : Form) (file rest old new : Option (List ℕ)) → fed.WritesTextPrefix w form (reader_feed file) (reader_feed rest) old new → WritesTextPrefix w form file old new
 known_prefix w form None rest old new h = record { walked = h.walked; is = tt; appended = h.appended }
 known_prefix w form (Some f) rest old new h = record { walked = walk_of w f; is = refl; appended = known_text (Some f) rest _ (from_weaker _ _ _ _ h.is (λ f r b. b.0)) }

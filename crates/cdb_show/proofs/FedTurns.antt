@@ -42,7 +42,7 @@ module _ {R S Item F X : Type 0} (own : R → Feed) (shared : S → Feed) (p : X
       let k : drop (i + 1) now ≡ drop (i + 1) before = cc in
       drop-set-lt (i + 1) now i left (omega arith) ∙ k
 
-  -- the readers behind the next input are as they were
+  -- the readers after the next input are as they were
   pub others_same : (before now : List (InputReader R)) (it left : InputReader R) (old mid : S) (i : ℕ) (s : SoFar before now old mid i) → i < length now → it ≡ slice_index_or now i it → drop (length s.read + 1) (slice_set now i left) ≡ drop (length s.read + 1) before
   others_same before now it left old mid i s within e = subst (λ n. drop (n + 1) (slice_set now i left) ≡ drop (n + 1) before) (sym s.count) (after_same before now it left i within s.long s.same e)
 

@@ -147,7 +147,7 @@ first_begins f g number items (None ∷ inputs) shared left k h =
     let more = text_begins f g items shared k.bytes begins in
     input_begins number (input_parsed f g shared).items items more.0 (input_parsed f g shared).ends (λ rest. given_from f g (number + 1) inputs rest) more.1
 
--- behind those that were read
+-- after the inputs that were read
 inputs_then : (i : ℕ) (read others : List (List Change)) → from_inputs i (read ++ others) ≡ from_inputs i read ++ from_inputs (i + length read) others
 inputs_then i [] others = ap (λ (n : ℕ). from_inputs n others) (omega arith)
 inputs_then i (items ∷ read) others =

@@ -12,9 +12,9 @@ use Rattle.cdb_form.proofs.MapTexts.WholeMap.{GaveAll, GaveSoFar, gave_so_far_am
 use Rattle.cdb_form.proofs.MapTexts.WholeMap.{Gave as GaveLines, gave_more as gave_lines_more, gave_all as gave_lines_all}
 use Rattle.cdb_command.specs.declared.style.Style.TheVariants as style
 
--- ---- the asks of a map text
+-- ---- the requests of a map text
 
--- all that was read is counted, and took 1001 asks a byte at most
+-- all that was read is counted, and took 1001 requests a byte at most
 pub record Spent (asks taken : ℕ) (text rest : List ℕ) : Type 0 where
   pub counted : taken + length rest ≡ length text
   pub asked : 2 ^ 48 ≤ asks + 1001 * taken
@@ -51,7 +51,7 @@ spent_more remaining (Some text) old new bytes s m spends (Some mid) (Some rest)
     let long : length mid ≡ length bytes + length rest = ap length split ∙ length-append bytes rest in
     record { counted = omega (arith, was.counted, long, m.counted); asked = omega (arith, was.asked, spends) }
 
--- the line of a record with its newline; behind a last line without one it has ended
+-- the line of a record with its newline; after a last line without a newline it has ended
 spent_line : {R : Type 0} (remaining : R → Option (List ℕ)) (input : Option (List ℕ)) (t u : MapReader R) (r : KeyValue) (ending : List ℕ) → (maps.IsGoing t → HasSpent remaining input t) → maps.IsGoing t → ReadsLinesOf remaining t.source u.source r ending → maps.GoesOn ending u
     → maps.IsGoing u → HasSpent remaining input u
 spent_line remaining input t u r [] s was m goes going = absurd (going_on u going goes)
@@ -66,7 +66,7 @@ known_end P (Some t) None n bytes a read end = absurd a
 known_end P (Some t) (Some m) None bytes a read end = absurd read
 known_end P (Some t) (Some m) (Some n) bytes a read end = end
 
--- nothing is left behind a line that ended with the input
+-- nothing is left after a line that ended with the input
 ended_line : {R : Type 0} (remaining : R → Option (List ℕ)) (input : Option (List ℕ)) (t u : MapReader R) (r : KeyValue) (ending : List ℕ) → HasSpent remaining input t → ReadsLinesOf remaining t.source u.source r ending → maps.GoesOn ending u → maps.HasEnded u
     → HasNoMore input (maps.unread remaining u)
 ended_line remaining input t u r [] s m goes ended = known_end (Spent (maps.asks_left t) (maps.taken_of t)) input (maps.unread remaining t) (maps.unread remaining u) ((with_newlines m.ignored ++ m.line) ++ []) s m.reads.takes.read m.reads.ends

@@ -91,7 +91,7 @@ module _ {F L : Type 0} (g : ℕ) (feed : F → Feed) where
       from_weaker start (feed u.source.reader) (λ text rest. HasInputFault style.Map g h.0 f text) (λ text rest. HasItemFault (Puts style.Map) g items f text) (lines_fault feed g start t u h.0 f h.2 m other) (λ text rest is. (h.0, h.1, is))
   items_fault start t u items f one h m other = absurd m
 
-  -- it still begins with these items, whatever was taken behind them
+  -- it still begins with these items, whatever was taken after them
   pub items_still : (start : Feed) (t u : ItemReader F L) (items : List Change) (f : TextFault) → GaveItems g feed start t items → Fails g feed t u f → FromTo start (feed (reader_of u)) (λ text rest. BeginsWithItems (form_of t) g items text)
   items_still start (Form t true) (Form u true) items f h m = spelled_behind SpellsChange g feed start t.source u.source items f h.1 (m.meets h.0)
   items_still start (Form t false) (Form u false) items f h m =

@@ -19,7 +19,7 @@ GaveKeys g feed start (reader.Map t) items = (given : List KeyValue) × (items �
 
 -- ---- one key more
 
--- an item with this key comes behind these, which its reader gave
+-- an item with this key follows these items, which its reader gave
 pub record OneMore {F L : Type 0} (g : ℕ) (feed : F → Feed) (start : Feed) (u : KeyReader F L) (items : List Change) (key : List ℕ) : Type 0 where
   pub item : Change
   pub has : key_of item ≡ key
@@ -28,7 +28,7 @@ pub record OneMore {F L : Type 0} (g : ℕ) (feed : F → Feed) (start : Feed) (
 pub keys_push : (items : List Change) (item : Change) (key : List ℕ) → key_of item ≡ key → keys_of (items ++ item ∷ []) ≡ keys_of items ++ key ∷ []
 keys_push items item key e = map-append key_of items (item ∷ []) ∙ ap (λ k. keys_of items ++ k ∷ []) e
 
--- behind these keys
+-- after these keys
 pub keys_behind : (before : List (List ℕ)) (items : List Change) (item : Change) (key : List ℕ) → key_of item ≡ key → (before ++ keys_of items) ++ key ∷ [] ≡ before ++ keys_of (items ++ item ∷ [])
 keys_behind before items item key e = append_assoc before (keys_of items) (key ∷ []) ∙ ap (λ k. before ++ k) (sym (keys_push items item key e))
 
@@ -86,7 +86,7 @@ module _ {F L : Type 0} (g : ℕ) (feed : F → Feed) where
       from_weaker start (feed u.source.reader) (λ text rest. HasInputFault style.Map g h.0 f text) (λ text rest. HasItemFault (Puts style.Map) g items f text) (lines_fault feed g start t u h.0 f h.2 m other) (λ text rest is. (h.0, h.1, is))
   keys_fault start t u items f one h m other = absurd m
 
-  -- it still begins with the keys of these items, whatever was taken behind them
+  -- it still begins with the keys of these items, whatever was taken after them
   pub keys_still : (start : Feed) (t u : KeyReader F L) (items : List Change) (f : TextFault) → GaveKeys g feed start t items → Fails g feed t u f → FromTo start (feed (reader_of u)) (λ text rest. BeginsWithItems (form_of t) g items text)
   keys_still start (reader.List t) (reader.List u) items f h m =
       from_weaker start (feed u.source.reader) (λ text rest. (more : List ℕ) × SpelledKeys g h.0 text more) (λ text rest. BeginsWithItems Lists g items text) (spelled_behind SpellsKey g feed start t.source u.source h.0 f h.3 (m.meets h.2)) (λ text rest is. (h.0, h.1, is))

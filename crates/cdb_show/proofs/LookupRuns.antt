@@ -168,7 +168,7 @@ key_stops w g s q n form last start end old new mid now f begins query = record 
   of_text = λ i v e. absurd (no_text w s q old new mid now i v (subst (λ x. Queries w s q old new mid now (Err x)) e query));
 }
 
--- behind the keys up to the last one
+-- after the keys up to the last one
 pub key_stops_at : {S : Type 0} (w : ℕ) (s : Ghosts S) (number : Option ℕ) (style : Style) (before listed : List (List ℕ)) (key : List ℕ) (last : List Change) (first old new : S) (start mid now : Option (List ℕ)) (missing : Bool) (f : Fault)
     → listed ++ key ∷ [] ≡ before ++ keys_of last → HasLooked w s number style listed old start mid missing → OnlyReads s first old → head_size w ≤ s.size old → Queries w s (key_query number style key) old new mid now (Err f) → f ≢ Missing
     → LookupsStopAt w s number style (before ++ keys_of last) first new start now f

@@ -1,4 +1,4 @@
--- The fault of a native text, behind the records that were read.
+-- The fault of a native text, after the records that were read.
 use Rattle.cdb_show.proofs.Words.{HasFaultBehind, IfSome, KeyValue, List, None, Option, Some, TextFault, [], ap, append_assoc, arith, length, length-append, length-take-le, refl, subst, sym, take, ℕ, ◌++◌, ◌+◌, ◌-◌, ◌∙◌, ◌∷◌, ◌≡◌, ◌≤◌}
 use Rattle.std.proofs.Math.Seq.{take-append-add}
 use Rattle.cdb_form.specs.declared.text.fault.TextFault.TheVariants.{Ended}

@@ -30,7 +30,7 @@ text_append shown b xs ys = ap (texts shown) (map-append (bytes_of b) xs ys) ∙
 text_push : (shown : List ℕ → List ℕ) (b : List ℕ) (spans : List Span) (span : Span) → texts shown (map (bytes_of b) (spans ++ span ∷ [])) ≡ texts shown (map (bytes_of b) spans) ++ shown (bytes_of b span)
 text_push shown b spans span = text_append shown b spans (span ∷ []) ∙ ap (λ t. texts shown (map (bytes_of b) spans) ++ t) (append-nil (shown (bytes_of b span)))
 
--- behind the values before the number stands the one that is asked for
+-- the requested value follows the values before its number
 nth_one : (shown : List ℕ → List ℕ) (b : List ℕ) (spans rest : List Span) (span : Span) (number : ℕ) → length spans + 1 ≡ number → texts shown (asked_of (Some number) (map (bytes_of b) ((spans ++ span ∷ []) ++ rest))) ≡ shown (bytes_of b span)
 nth_one shown b spans rest span number count =
     let many : length (map (bytes_of b) spans) ≡ length spans = length-map spans (bytes_of b) in
@@ -106,7 +106,7 @@ written_more w all shown old t u start mid now spans span found before one = rec
 
 -- ---- what is left of a finder
 
--- behind these spans nothing but a damage, or none, is found
+-- after these spans only a damage, or nothing, is found
 with_nothing : (spans : List Span) (damage : Option Damage) → with_spans spans (ending [] damage) ≡ ending spans damage
 with_nothing spans damage = ap (λ xs. ending xs damage) (append-nil spans)
 

@@ -36,7 +36,7 @@ module _ {R X : Type 0} (S : ℕ → List ℕ → X → Type 0) (g : ℕ) (feed 
     omega (arith, h.1, spends),
   )
 
-  -- behind the newline that ends the text
+  -- after the newline that ends the text
   pub spelled_all : (start : Feed) (s t : Source R) (xs : List X) → GaveSpelled S g feed start s xs → Consumes (feed s.reader) (feed t.reader) (codes "\n") → FromTo start (feed t.reader) (Reads S g xs)
   spelled_all start s t xs h newline =
       from_weaker start (feed t.reader) _ (Reads S g xs)

@@ -54,7 +54,7 @@ lines_last counts k e = ap (λ n. flat_map (distance_line counts) (range_with_le
 
 -- ---- the whole text
 
--- what stands behind each of its lines, but for the last ones
+-- what follows each of its lines, but for the last lines
 abbrev pub behind_tables : Stats → List ℕ
 behind_tables s = sizes_line s ++ distance_lines s.distances
 

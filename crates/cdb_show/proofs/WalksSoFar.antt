@@ -18,7 +18,7 @@ with_none rs damage = ap (λ qs. walked qs damage) (append-nil rs)
 
 -- ---- of the whole file
 
--- the walk of a file is these records and then the walk that is left, and what stands behind its records is still left
+-- the walk of a file is these records and then the walk that is left, and what follows its records is still left
 pub record Gave {R L : Type 0} (w : ℕ) (t : RecordReader R L) (rs : List KeyValue) (f r : List ℕ) : Type 0 where
   pub walk : walk_of w f ≡ with_records rs (walk_left w t r)
   pub behind : behind_end w t r ≡ behind_records w f
@@ -27,7 +27,7 @@ pub record Gave {R L : Type 0} (w : ℕ) (t : RecordReader R L) (rs : List KeyVa
 abbrev pub GaveSoFar : {R L : Type 0} → ℕ → (R → Feed) → Feed → RecordReader R L → List KeyValue → Type 0
 GaveSoFar w feed file t rs = FromTo file (feed (reader_of t)) (Gave w t rs)
 
--- these are the first records of a file, and what stands behind its records is still left
+-- these are the first records of a file, and what follows its records is still left
 abbrev pub GaveFirst : ℕ → List KeyValue → List ℕ → List ℕ → Type 0
 GaveFirst w rs f r = ((more : List KeyValue) × ((walk_of w f).records ≡ rs ++ more)) × KeepsBehind w f r
 
@@ -47,7 +47,7 @@ gave_more w feed file t u rs r so_far one = record {
       (a.0, a.1, record { walk = a.2.walk ∙ ap (with_records rs) b.2.0 ∙ with_one rs r (walk_left w u rest); behind = b.2.1 ∙ a.2.behind });
 }
 
--- at the end these records are the walk, and all that is left stands behind them
+-- at the end these records are the walk, and all that is left follows them
 pub gave_all : {R L : Type 0} (w : ℕ) (feed : R → Feed) (file : Feed) (t u : RecordReader R L) (rs : List KeyValue) → GaveSoFar w feed file t rs → GivesEnd w feed t u
     → FromTo file (feed (reader_of u)) (λ f r. (walk_of w f ≡ walked rs None) × (r ≡ behind_records w f))
 gave_all w feed file t u rs so_far end = record {
@@ -89,7 +89,7 @@ gave_first w feed file t rs so_far =
 
 -- ---- of what was taken
 
--- what was taken so far has these records, and whatever stands behind it is what is left of the walk
+-- what was taken so far has these records, and whatever follows it is what is left of the walk
 pub record ReadSoFar {R L : Type 0} (w : ℕ) (feed : R → Feed) (file : Feed) (t : RecordReader R L) (rs : List KeyValue) : Type 0 where
   pub bytes : List ℕ
   pub read : Consumes file (feed (reader_of t)) bytes

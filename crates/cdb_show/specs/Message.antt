@@ -107,7 +107,7 @@ fault_text fault = fault_side fault ++ said_place (fault_place fault) ++ fault_m
 abbrev pub said_line : Fault → List ℕ
 said_line fault = codes "cdb: " ++ fault_text fault ++ codes "\n"
 
--- the line of a fault: none where a value is missing, which the exit status tells
+-- the line of a fault: no line if a value is missing, which the exit status reports
 abbrev pub fault_line : Fault → List ℕ
 fault_line Missing = []
 fault_line fault = said_line fault
@@ -156,7 +156,7 @@ AreLines names [] text = text ≡ []
 AreLines names (d ∷ duplicates) text = (line : ℕ) × (rest : List ℕ)
     × (text ≡ duplicate_lines names d line ++ rest) × AreLines names duplicates rest
 
--- these lines where none is explained
+-- these lines if no duplicate is explained
 abbrev pub plain_lines : List Told → List ℕ
 plain_lines duplicates = flat_map (λ d. duplicate_line d.input d.number) duplicates
 

@@ -14,7 +14,7 @@ is_damage read.NoMemory = false
 is_damage read.Output = false
 is_damage fault = true
 
--- the status where a check met a fault
+-- the status if a check met a fault
 abbrev pub check_status : Fault → ℕ
 check_status (Read fault) = if is_damage fault then 100 else 111
 check_status Missing = 100

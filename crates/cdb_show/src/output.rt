@@ -110,7 +110,7 @@ impl<W: Write> Output<W> {
         ensures sound { self.new.failed ≡ self.old.failed }
     {
         let n = bytes.len().min(self.size - self.buffer.len());
-        // It has room for them, so no memory is asked for.
+        // It has room for them, so no memory is requested.
         let _ = self.buffer.extend_from_slice(&bytes[..n]);
         n
     }

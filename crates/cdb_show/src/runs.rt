@@ -1,4 +1,4 @@
-// What the program is asked to show, a run each.
+// What the program shows on request, a run each.
 pub mod check;
 pub mod content;
 pub mod difference;

@@ -99,7 +99,7 @@ impl<F: Feeds> Window<F> {
         }
     }
 
-    /// Fills the empty window, by one ask of the reader.
+    /// Fills the empty window, by one request to the reader.
     #[cold]
     #[inline(never)]
     fn refill(&mut self) -> Result<(), ErrorKind>
@@ -122,7 +122,7 @@ impl<F: Feeds> Window<F> {
         }
     }
 
-    /// Gives bytes of the reader past the empty window, by one ask.
+    /// Gives bytes of the reader past the empty window, by one request.
     #[cold]
     #[inline(never)]
     fn read_past(&mut self, buf: &mut [u8]) -> Result<usize, ErrorKind>

@@ -36,7 +36,7 @@ LooksFurther w s number style last old new mid now was missing =
     → HasLooked w s number style before old start mid was
     → HasLooked w s number style (before ++ keys_of last) new start now missing
 
--- the run stopped with this fault in these keys, or behind them
+-- the run stopped with this fault in these keys, or after them
 abbrev pub StopsFurther : {S : Type 0} → ℕ → Ghosts S → Option ℕ → Style → List Change → (old new : S)
     → (mid now : Option (List ℕ)) → (was : Bool) → Fault → Type 0
 StopsFurther w s number style last old new mid now was fault =
@@ -44,7 +44,7 @@ StopsFurther w s number style last old new mid now was fault =
     → HasLooked w s number style before old start mid was
     → LookupsStopAt w s number style (before ++ keys_of last) old new start now fault
 
--- a run stopped in an input behind these items, with this fault of it or for another reason
+-- a run stopped in an input after these items, with this fault of it or for another reason
 abbrev pub StopsTurn : {J I : Type 0} → Style → (greatest : ℕ) → (own : J → Feed) → (shared : I → Feed)
     → Option TextFault → List Change → (before after : InputReader J) → (old new : SharedWindow I)
     → Type 0
@@ -64,7 +64,7 @@ pub record LooksUpRead {S : Type 0} (w : ℕ) (s : Ghosts S) (number : Option �
   pub written : (b : List ℕ) → s.image store b
       → Writes ((looked_up w b number style (keys_of_each read)).text ++ end_of style)
 
--- behind the inputs that were read the run stopped in the next one, behind these items
+-- after the inputs that were read the run stopped in the next input, after these items
 pub record StopsInNext {S : Type 0} (w : ℕ) (s : Ghosts S) (number : Option ℕ) (style : Style)
     (read : List (List Change)) (stop : Stop Change TextFault) (old new : S)
     (start end : Option (List ℕ)) (fault : Fault) : Type 0 where

@@ -16,7 +16,7 @@ use Rattle.cdb_show.specs.Runs.WalkText.{walk_text}
 use Rattle.cdb_show.specs.declared.fault.Fault.{Fault}
 use Rattle.cdb_show.specs.declared.fault.Fault.TheVariants.{Walk, Output, NoMemory}
 
--- what stands behind the records of a file is among what is left
+-- what follows the records of a file is among what is left
 abbrev pub KeepsBehind : ℕ → List ℕ → List ℕ → Type 0
 KeepsBehind w f r = (more : List ℕ) × (r ≡ more ++ behind_records w f)
 
@@ -26,8 +26,7 @@ pub record ReadsRecords (w : ℕ) (rs : List KeyValue) (old new : Feed) : Type 0
   pub read : Consumes old new bytes
   pub records : (walk_of w bytes).records ≡ rs
 
--- the text of the file's walk was appended, which has no damage; what stands behind its records is
--- all that is left
+-- the text of the file's walk was appended, which has no damage; what follows its records is all that is left
 pub record WritesAll (w : ℕ) (form : Form) (file rest : Feed) (old new : Option (List ℕ)) : Type 0
   where
     pub walked : Walked
@@ -61,8 +60,8 @@ pub record WritesFirst (w : ℕ) (form : Form) (file rest : Feed) (old new : Opt
     pub is : FromTo file rest (λ f r.
         ((more : List KeyValue) × ((walk_of w f).records ≡ first ++ more)) × KeepsBehind w f r)
 
--- what a fault leaves: at a damage of the file the text of its walk; where the reader failed or
--- memory ran out all records that were read; where the writer failed a prefix of the text of the walk
+-- what a fault leaves: at a damage of the file the text of its walk; if the reader failed or memory ran
+-- out, all records that were read; if the writer failed, a prefix of the text of the walk
 abbrev pub WritingFails : ℕ → Form → (file rest : Feed) → (old new : Option (List ℕ)) → Fault
     → Type 0
 WritingFails w form file rest old new (Walk walk.Input) = WritesFirst w form file rest old new

@@ -1,5 +1,5 @@
--- The items of the inputs of a run, by the form of its inputs. An input is the bytes of its reader,
--- where they are known.
+-- The items of the inputs of a run, by the form of its inputs. An input is the bytes of its reader, if
+-- they are known.
 use Rattle.std.specs.Prelude.{ℕ, ◌≡◌, ◌+◌, ◌*◌, ◌^◌, ◌≤◌, Bool, true, false, List, [], ◌∷◌, ◌++◌}
 use Rattle.std.specs.Prelude.{length, map, flat_map, Option, Some, IfSome, ⊤}
 use Rattle.cdb_form.specs.Format.Record.{KeyValue}
@@ -52,15 +52,15 @@ keys_of items = map key_of items
 abbrev pub keys_of_each : List (List Change) → List (List ℕ)
 keys_of_each read = flat_map keys_of read
 
--- a text has this fault, behind these items, all that are whole
+-- a text has this fault after these items, all that are whole
 pub record HasFaultBehind {X : Type 0} (spelling : ℕ → List ℕ → X → Type 0) (greatest : ℕ)
     (text : List ℕ) (xs : List X) (fault : TextFault) : Type 0 where
   pub rest : List ℕ
   pub whole : WholeItems spelling greatest text xs rest
   pub has : HasFault spelling greatest 0 text fault
 
--- the reader of an input failed after this part of it, or has no end: it took 2^48 asks, of 1001
--- at most for a byte or the end
+-- the reader of an input failed after this part of it, or has no end: it took 2^48 requests, of 1001 at
+-- most for a byte or the end
 pub record StopsReading (Ends : List ℕ → Type 0) (fault : TextFault) (input : List ℕ)
     : Type 0 where
   pub part : List ℕ
@@ -93,7 +93,7 @@ EndsAmid Native greatest records part =
     HasFaultBehind Spells greatest part records (Ended (length part))
 EndsAmid Map greatest records part = ReadAmid part [] records
 
--- an input has this fault behind these records
+-- an input has this fault after these records
 abbrev pub HasInputFault : Style → ℕ → List KeyValue → TextFault → List ℕ → Type 0
 HasInputFault style greatest records fault input =
     HasFaultOf (HasFaultBehind Spells greatest input records fault)
@@ -101,7 +101,7 @@ HasInputFault style greatest records fault input =
 
 -- ---- inputs that give keys
 
--- an input has this fault behind these keys
+-- an input has this fault after these keys
 abbrev pub HasKeyFault : ℕ → List (List ℕ) → TextFault → List ℕ → Type 0
 HasKeyFault greatest keys fault input =
     HasFaultOf (HasFaultBehind SpellsKey greatest input keys fault)
@@ -109,7 +109,7 @@ HasKeyFault greatest keys fault input =
 
 -- ---- inputs of any form
 
--- these items are puts of records of which this holds, or stand for keys of which it does
+-- these items are puts of records of which this holds, or keys of which it does
 abbrev pub ArePuts : List Change → (List KeyValue → Type 0) → Type 0
 ArePuts items P = (records : List KeyValue) × (items ≡ map Putting records) × P records
 
@@ -132,7 +132,7 @@ BeginsWithItems Changes greatest items input =
 BeginsWithItems Lists greatest items input =
     AreListed items (λ keys. (rest : List ℕ) × SpelledKeys greatest keys input rest)
 
--- an input has this fault behind these items
+-- an input has this fault after these items
 abbrev pub HasItemFault : InputForm → ℕ → List Change → TextFault → List ℕ → Type 0
 HasItemFault (Puts style) greatest items fault input =
     ArePuts items (λ records. HasInputFault style greatest records fault input)

@@ -1,4 +1,4 @@
--- What stops a load of a file. A file is the bytes of its reader, where they are known.
+-- What stops a load of a file. A file is the bytes of its reader, if they are known.
 use Rattle.std.specs.Prelude.{ℕ, ◌<◌, List, length, Option, IfSome, ⊤}
 use Rattle.cdb_form.specs.Views.KnownBytes.{LosesAtMost}
 use Rattle.cdb_form.specs.Views.Reading.{GivesMore}

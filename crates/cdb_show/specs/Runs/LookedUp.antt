@@ -10,7 +10,7 @@ use Rattle.cdb_show.specs.Runs.Query.{Query, query_text, query_answer, record_te
 use Rattle.cdb_show.specs.declared.fault.Fault.{Fault}
 use Rattle.cdb_show.specs.declared.fault.Fault.TheVariants.{Missing}
 
--- what is asked of each key: its records, or the one of a number
+-- what is requested of each key: its records, or the record of a number
 abbrev pub key_query : Option ℕ → Style → List ℕ → Query
 key_query number style key =
     record { key = key; number = number; shown = record_text style key }
@@ -22,7 +22,7 @@ pub record Looked : Type 0 where
   pub text : List ℕ
   pub answer : Result Unit Fault
 
--- it goes on behind a key without a value
+-- it goes on after a key without a value
 abbrev pub has_ended : Result Unit Fault → Bool
 has_ended (Ok done) = false
 has_ended (Err Missing) = false

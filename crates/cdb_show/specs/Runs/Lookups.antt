@@ -46,8 +46,8 @@ abbrev pub HasLooked : {S : Type 0} → ℕ → Ghosts S → Option ℕ → Styl
 HasLooked w s number style keys store start end missing =
     ComesTo w s number style keys store start end (missing_answer missing)
 
--- how it stopped in these keys: by a damage that the last one meets; or the store or the writer
--- failed, and a prefix of their text was appended; or behind them
+-- how it stopped in these keys: by a damage that the last one meets; or the store or the writer failed,
+-- and a prefix of their text was appended; or after them
 abbrev pub LookupsStopAt : {S : Type 0} → ℕ → Ghosts S → Option ℕ → Style → List (List ℕ) → (old new : S)
     → (start end : Option (List ℕ)) → Fault → Type 0
 LookupsStopAt w s number style keys old new start end (Read (read.Table n)) =
@@ -70,38 +70,38 @@ LookupsStopAt w s number style keys old new start end fault = ⊥
 
 -- ---- the inputs that give them
 
--- an input with these bytes has this fault behind these items: no allocation, and a map text has none
--- of its own
+-- an input with these bytes has this fault after these items: no failed allocation, and a map text has
+-- no fault of its own
 pub record FaultOf (form : InputForm) (greatest : ℕ) (last : List Change) (bytes : Option (List ℕ))
     (f : TextFault) : Type 0 where
   pub has : IfSome bytes (HasItemFault form greatest last f)
   pub own : IsOfText f → HasFaults form
   pub memory : f ≢ text_fault.NoMemory
 
--- whatever bytes agree, an input has this fault behind these items: no allocation, and a map text has
--- none of its own
+-- whatever bytes agree, an input has this fault after these items: no failed allocation, and a map text
+-- has no fault of its own
 pub record FaultBehind (form : InputForm) (greatest : ℕ) (last : List Change) (old new : Feed) (f : TextFault)
     : Type 0 where
   pub has : fed.FromTo old new (λ text rest. HasItemFault form greatest last f text)
   pub own : IsOfText f → HasFaults form
   pub memory : f ≢ text_fault.NoMemory
 
--- whatever bytes agree, an input of this number begins with these items, behind which a run stopped: a
--- fault of a text is one of it
+-- whatever bytes agree, an input of this number begins with these items, after which a run stopped: a
+-- fault of a text is one of this input
 pub record StopsBehind (form : InputForm) (greatest input : ℕ) (last : List Change) (old new : Feed)
     (fault : Fault) : Type 0 where
   pub begins : fed.FromTo old new (λ text rest. BeginsWithItems form greatest last text)
   pub of_text : (n : ℕ) (f : TextFault) → fault ≡ Text n f
       → (n ≡ input) × FaultBehind form greatest last old new f
 
--- the first of the inputs that are left has this fault, behind these items
+-- the first of the inputs that are left has this fault, after these items
 pub record HasFaultIn (form : InputForm) (greatest : ℕ) (last : List Change) (rest : InputsLeft)
     (f : TextFault) : Type 0 where
   pub input : Option (List ℕ)
   pub first : FirstHas rest input
   pub has : FaultOf form greatest last input f
 
--- in one of the inputs, behind these of them
+-- in one of the inputs, after the inputs that were read
 pub record LookupsStop {S : Type 0} (w greatest : ℕ) (s : Ghosts S) (number : Option ℕ) (style : Style)
     (inputs : InputsLeft) (old new : S) (start end : Option (List ℕ)) (fault : Fault) : Type 0
   where

@@ -38,7 +38,7 @@ abbrev pub fault_in : Result Unit Fault → Option TextFault
 fault_in (Err (Text n fault)) = Some fault
 fault_in _ = None
 
--- a text with a fault is read up to that; any other is cut short behind some items
+-- a text with a fault is read up to that; any other is cut short after some items
 abbrev pub stop_of : Option TextFault → List Change → Stop Change TextFault
 stop_of (Some (Syntax at)) items = HasFault items (Syntax at)
 stop_of (Some (Ended at)) items = HasFault items (Ended at)

@@ -26,18 +26,18 @@ use Rattle.cdb_show.specs.declared.runs.content.Content.TheVariants.{Records}
 use Rattle.cdb_show.specs.declared.runs.shown.Shown.{Shown}
 use Rattle.cdb_show.specs.declared.runs.shown.Shown.TheVariants as shown
 
--- what is asked: all values of a key, or the one of a number, from 1 on, and how each is written
+-- what is requested: all values of a key, or the value of a number, from 1 on, and how each is written
 pub record Query : Type 0 where
   pub key : List ℕ
   pub number : Option ℕ
   pub shown : List ℕ → List ℕ
 
--- the values that are asked for
+-- the values that are requested
 abbrev pub asked_of : Option ℕ → List (List ℕ) → List (List ℕ)
 asked_of None values = values
 asked_of (Some number) values = take 1 (drop (number - 1) values)
 
--- a value as it is written, with a newline behind it in lines
+-- a value as it is written, followed by a newline in lines
 abbrev pub value_text : Bool → List ℕ → List ℕ
 value_text lines value = value ++ (if lines then codes "\n" else [])
 
@@ -63,8 +63,7 @@ spans_text b q spans =
 abbrev pub query_text : ℕ → List ℕ → Query → List ℕ
 query_text w b q = spans_text b q (lookup_of w b q.key).spans
 
--- whether all is there that is asked for: some value, and no damage behind the last; or as many
--- values as the number
+-- whether all is there that is requested: some value, and no damage after the last; or as many values as the number
 abbrev pub has_asked : Option ℕ → List Span → Option Damage → Bool
 has_asked (Some number) spans damage = nat_le number (length spans)
 has_asked None spans (Some damage) = false
@@ -103,8 +102,7 @@ pub record IsShortForQuery {S : Type 0} (w : ℕ) (s : Ghosts S) (old new : S)
   pub unread : new ≡ old
   pub kept : Keeps start end
 
--- what a fault leaves: the text where it is the answer; a prefix of it where the store failed, or
--- the writer
+-- what a fault leaves: the text if it is the answer; a prefix of it if the store or the writer failed
 abbrev pub QueryFails : {S : Type 0} → ℕ → Ghosts S → Query → (old new : S) → Option (List ℕ)
     → Option (List ℕ) → Fault → Type 0
 QueryFails w s q old new start end Missing = QueryAnswers w s q new start end (Err Missing)
@@ -141,7 +139,7 @@ abbrev pub in_hand : Option Span → List Span
 in_hand None = []
 in_hand (Some span) = span ∷ []
 
--- it has others left: the values that it gave were written whole, but of the last, where that is
+-- it has others left: the values that it gave were written whole, but of the last value, if that is
 -- still in hand, a prefix
 pub record WritesSome {S L : Type 0} {s : Ghosts S} {l : Widths L} (w : ℕ) (shown : List ℕ → List ℕ)
     (old new : Finder S L s l) (start end : Option (List ℕ)) : Type 0 where

@@ -1,5 +1,5 @@
--- What the text of a file leaves, of each form. A file is the bytes of its reader, where they are
--- known, and the rest is what its reader has left.
+-- What the text of a file leaves, of each form. A file is the bytes of its reader, if they are known,
+-- and the rest is what its reader has left.
 use Rattle.std.specs.Prelude.{ℕ, ◌≡◌, List, [], ◌++◌, Option, None, Some, Result, IfSome, OnOk}
 use Rattle.std.specs.Prelude.{IfErr, flat_map}
 use Rattle.std.specs.Io.KnownBytes.{Appends}
@@ -24,7 +24,7 @@ closing form (Some damage) = []
 abbrev pub walk_text : Form → Walked → List ℕ
 walk_text form w = flat_map form.item w.records ++ closing form w.damage
 
--- the text of a walk that ends so was appended, the file's where that is known
+-- the text of a walk that ends so was appended, the file's walk if that is known
 pub record WritesItems (w : ℕ) (form : Form) (file : Option (List ℕ)) (damage : Option Damage)
     (old new : Option (List ℕ)) : Type 0 where
   pub walked : Walked
@@ -32,22 +32,22 @@ pub record WritesItems (w : ℕ) (form : Form) (file : Option (List ℕ)) (damag
   pub is : IfSome file (λ f. walk_of w f ≡ walked)
   pub appended : Appends old new (walk_text form walked)
 
--- a prefix of the text of a walk was appended, the file's where that is known
+-- a prefix of the text of a walk was appended, the file's walk if that is known
 pub record WritesTextPrefix (w : ℕ) (form : Form) (file old new : Option (List ℕ)) : Type 0 where
   pub walked : Walked
   pub is : IfSome file (λ f. walk_of w f ≡ walked)
   pub appended : AppendsPrefix old new (walk_text form walked)
 
--- the texts of some records were appended, the first of the file's walk where that is known: they
--- are all whole records in what was read of the file
+-- the texts of some records were appended, the first of the file's walk if that is known: they are all
+-- whole records in what was read of the file
 pub record WritesFirst (w : ℕ) (form : Form) (file rest old new : Option (List ℕ)) : Type 0 where
   pub first : List KeyValue
   pub read : ReadsRecords w first file rest
   pub is : IfSome file (λ f. (more : List KeyValue) × ((walk_of w f).records ≡ first ++ more))
   pub appended : Appends old new (flat_map form.item first)
 
--- what a fault leaves: at a damage of the file the text of its walk; where the reader failed or
--- memory ran out all records that were read; where the writer failed a prefix of the text of the walk
+-- what a fault leaves: at a damage of the file the text of its walk; if the reader failed or memory ran
+-- out, all records that were read; if the writer failed, a prefix of the text of the walk
 abbrev pub WritingFails : ℕ → Form → (file rest old new : Option (List ℕ)) → Fault → Type 0
 WritingFails w form file rest old new (Walk walk.Input) = WritesFirst w form file rest old new
 WritingFails w form file rest old new (Walk walk.NoMemory) = ⊥
@@ -56,7 +56,7 @@ WritingFails w form file rest old new NoMemory = WritesFirst w form file rest ol
 WritingFails w form file rest old new Output = WritesTextPrefix w form file old new
 WritingFails w form file rest old new fault = ⊥
 
--- what stands behind the record end is all that is unread; and is among what is unread
+-- what follows the record end is all that is unread; and is among what is unread
 abbrev pub LeavesBehind : ℕ → Option (List ℕ) → Option (List ℕ) → Type 0
 LeavesBehind w file rest = FromTo file rest (λ f r. r ≡ behind_records w f)
 

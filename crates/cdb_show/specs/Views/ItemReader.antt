@@ -26,7 +26,7 @@ abbrev pub reader_of : {F L : Type 0} → ItemReader F L → F
 reader_of (Form t removals) = text.reader_of t
 reader_of (Map t) = map.reader_of t
 
--- how many bytes it took, and how often its reader may still be asked
+-- how many bytes it took, and how many requests its reader may still get
 abbrev pub taken_of : {F L : Type 0} → ItemReader F L → ℕ
 taken_of (Form t removals) = text.taken_of t
 taken_of (Map t) = map.taken_of t
@@ -35,12 +35,12 @@ abbrev pub asks_left : {F L : Type 0} → ItemReader F L → ℕ
 asks_left (Form t removals) = text.asks_left t
 asks_left (Map t) = map.asks_left t
 
--- it has told neither the end nor a fault
+-- it has reported neither the end nor a fault
 abbrev pub IsGoing : {F L : Type 0} → ItemReader F L → Type 0
 IsGoing (Form t removals) = text.IsGoing t
 IsGoing (Map t) = map.IsGoing t
 
--- nothing was taken yet, and its reader may be asked 2^48 times
+-- nothing was taken yet, and its reader may get 2^48 requests
 pub record IsNew {F L : Type 0} (t : ItemReader F L) : Type 0 where
   pub going : IsGoing t
   pub taken : taken_of t ≡ 0
@@ -51,7 +51,7 @@ abbrev pub HasPeeked : {F L : Type 0} → (F → List ℕ) → ℕ → ItemReade
 HasPeeked held greatest (Form t removals) n r = text.HasPeeked held greatest t n r
 HasPeeked held greatest (Map t) n r = map.HasPeeked held t n r
 
--- a call gave an item, told the end, or answered a fault, as a reader of its form does
+-- a call gave an item, reported the end, or answered a fault, as a reader of its form does
 abbrev pub GivesItem : {F L : Type 0} → ℕ → (F → Feed) → ItemReader F L → ItemReader F L → Change
     → Type 0
 GivesItem greatest feed (Form old true) (Form new true) change =

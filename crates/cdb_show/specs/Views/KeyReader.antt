@@ -25,7 +25,7 @@ abbrev pub reader_of : {F L : Type 0} → KeyReader F L → F
 reader_of (reader.List t) = lists.reader_of t
 reader_of (reader.Map t) = map.reader_of t
 
--- how many bytes it took, and how often its reader may still be asked
+-- how many bytes it took, and how many requests its reader may still get
 abbrev pub taken_of : {F L : Type 0} → KeyReader F L → ℕ
 taken_of (reader.List t) = lists.taken_of t
 taken_of (reader.Map t) = map.taken_of t
@@ -34,12 +34,12 @@ abbrev pub asks_left : {F L : Type 0} → KeyReader F L → ℕ
 asks_left (reader.List t) = lists.asks_left t
 asks_left (reader.Map t) = map.asks_left t
 
--- it has told neither the end nor a fault
+-- it has reported neither the end nor a fault
 abbrev pub IsGoing : {F L : Type 0} → KeyReader F L → Type 0
 IsGoing (reader.List t) = lists.IsGoing t
 IsGoing (reader.Map t) = map.IsGoing t
 
--- nothing was taken yet, and its reader may be asked 2^48 times
+-- nothing was taken yet, and its reader may get 2^48 requests
 pub record IsNew {F L : Type 0} (t : KeyReader F L) : Type 0 where
   pub going : IsGoing t
   pub taken : taken_of t ≡ 0
@@ -52,7 +52,7 @@ pub record GivesKeyOf {F : Type 0} (feed : F → Feed) (old new : MapReader F) (
     pub has : given.key ≡ key
     pub gives : fed_map.GivesRecord feed old new given
 
--- a call gave a key, told the end, or answered a fault, as a reader of its form does
+-- a call gave a key, reported the end, or answered a fault, as a reader of its form does
 abbrev pub GivesKey : {F L : Type 0} → ℕ → (F → Feed) → KeyReader F L → KeyReader F L → List ℕ
     → Type 0
 GivesKey greatest feed (reader.List old) (reader.List new) key =

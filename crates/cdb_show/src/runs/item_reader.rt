@@ -41,7 +41,7 @@ pub enum ItemReader<F, L> {
 }
 
 impl<F: Feeds, L: Width> ItemReader<F, L> {
-    /// A reader of the input that `reader` gives, which may be asked 2^48 times. If a base is
+    /// A reader of the input that `reader` gives, which may get 2^48 requests. If a base is
     /// amended, a native text may also remove keys.
     pub fn new(alloc: Global, style: Style, amends: bool, reader: F) -> ItemReader<F, L>
         ensures form { form_of result ≡ input_form style amends }

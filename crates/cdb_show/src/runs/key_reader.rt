@@ -17,7 +17,7 @@ pub(crate) enum KeyReader<F, L> {
 }
 
 impl<F: Feeds, L: Width> KeyReader<F, L> {
-    /// A reader of the input that `reader` gives, which may be asked 2^48 times.
+    /// A reader of the input that `reader` gives, which may get 2^48 requests.
     pub(crate) fn new(alloc: Global, style: Style, reader: F) -> KeyReader<F, L>
         ensures form { form_of result ≡ keys_form style }
         ensures reader { reader_of result ≡ reader }
@@ -30,7 +30,7 @@ impl<F: Feeds, L: Width> KeyReader<F, L> {
     }
 
     /// Reads the next key over that of a record, whose memory it takes, and answers whether there
-    /// is one. Of a map bytes at hand are taken without an ask.
+    /// is one. Of a map bytes at hand are taken without a request.
     #[inline(always)]
     pub(crate) fn read_into<A: AtHand<F>>(&mut self, into: &mut Record) -> Result<bool, TextFault>
         ensures gives { IfOk result (λ given. MatchBool given

@@ -32,7 +32,7 @@ use std::alloc::Global;
 use std::mem::replace;
 
 /// Writes the records of the keys that an input gives from here on, whose number is counted from 1,
-/// and answers its window as it goes on after its text, or behind the last key that was read of it.
+/// and answers its window as it goes on after its text, or after the last key that was read of it.
 fn look_up_text<L: Width, S: Store, F: Feeds, W: Sink>(
     alloc: Global,
     reader: &mut Reader<S, L>,
@@ -74,7 +74,7 @@ fn look_up_text<L: Width, S: Store, F: Feeds, W: Sink>(
 }
 
 /// Writes the records of the keys of an input with a reader of its own, and answers that. What was
-/// taken of it behind its text, or behind the last key, is lost.
+/// taken of it after its text, or after the last key, is lost.
 fn look_up_own<L: Width, S: Store, J: Feeds, W: Sink>(
     alloc: Global,
     reader: &mut Reader<S, L>,
@@ -326,7 +326,7 @@ fn lookups_unflushed<L: Width, S: Store, J: Feeds + Drop, I: Feeds, W: Sink>(
 ///
 /// Only after `Missing`, and at Ok, is what ends the text written. The store is handed back
 /// whatever the answer, and was only read. So are the readers of the inputs, each in its place:
-/// what was taken of one behind its text, or behind the last key, is lost. The writer is flushed
+/// what was taken of one after its text, or after the last key, is lost. The writer is flushed
 /// last, after a fault too. If that fails, `Output` takes the place of Ok and of `Missing`. `lines`
 /// may count the lines of the inputs, and then knows afterwards that of a fault.
 pub fn lookups_run<L: Width, S: Store, J: Feeds + Drop, I: Feeds, W: Sink>(

@@ -56,7 +56,7 @@ pub fn list_run<L: Width, R: Read + Drop, W: Sink>(
 }
 
 /// Does what `dump_run` or `list_run` does, and takes a record that the reader has at hand without
-/// asking for it.
+/// a request.
 pub fn text_run_buffered<L: Width, R: Read + Drop, W: Sink, A: AtHand<R>>(
     alloc: Global,
     content: Content,
