@@ -159,7 +159,7 @@ gives_no_words (Err f) g h = λ w. elim h [
   | inr p ↦ subst (λ (r : Result Asked Refused). IfErr r (λ refused. usage_of refused ≢ Words)) p (plan_keeps g).never w
 ]
 
--- a fault, told whatever the word
+-- a fault, reported whatever the word
 pub gives_usage : (f : WordFault) (why : Usage) (planned : Result Asked Refused)
     → why ≡ usage_of (refused_in f) → (f ≡ word.NoMemory) ⊎ (planned ≡ Err (refused_in f))
     → (why ≡ NoMemory) ⊎ ((r : Refused) × (planned ≡ Err r) × (why ≡ usage_of r))

@@ -1,4 +1,4 @@
--- What a command line asks for, its texts as bytes, and how an answer tells it.
+-- What a command line requests, its texts as bytes, and how an answer reports it.
 use Rattle.std.specs.Prelude.{◌≡◌, ◌≤◌, ◌⊎◌, ℕ, Bool, false, if◌then◌else◌, List, map, Option, IfSome}
 use Rattle.std.specs.Prelude.{option_map, Result, Ok, Err, string_bytes}
 use Rattle.cdb_command.specs.Line.{Text}
@@ -84,7 +84,7 @@ FitsIn least greatest (Create name base inputs temporary options wide) =
 FitsIn least greatest Help = Unit
 FitsIn least greatest Version = Unit
 
--- the answer is the one that is wanted, or tells that memory was refused
+-- the answer is the one that is wanted, or reports that memory was refused
 abbrev pub Gives : {T A : Type 0} → (T → A) → Result T WordFault → Result A Refused → Type 0
 Gives view (Ok x) wanted = wanted ≡ Ok (view x)
 Gives view (Err fault) wanted = (fault ≡ NoMemory) ⊎ (wanted ≡ Err (refused_in fault))
@@ -95,7 +95,7 @@ GivesUsage view (Ok x) wanted = wanted ≡ Ok (view x)
 GivesUsage view (Err why) wanted =
     (why ≡ usage.NoMemory) ⊎ ((refused : Refused) × (wanted ≡ Err refused) × (why ≡ usage_of refused))
 
--- what follows where there is no fault
+-- what follows if there is no fault
 infixl 10 ◌>>=◌
 abbrev pub ◌>>=◌ : {A B : Type 0} → Result A Refused → (A → Result B Refused) → Result B Refused
 (Ok x) >>= next = next x

@@ -93,7 +93,7 @@ first_bad v (word ∷ words) =
     if bytes_eq word (codes "--") then end_met v.waiting
     else refused_or (word_met v word) (λ after. first_bad after words)
 
--- the word by which other programs are asked for help
+-- the word that requests help of other programs
 abbrev pub is_help : Refused → Bool
 is_help (Long word) = bytes_eq word (codes "--help")
 is_help refused = false

@@ -17,7 +17,7 @@ use Rattle.cdb_command.specs.Refused.{Option, BaseBuiltIn, Lacks, Surplus, Both,
 use Rattle.cdb_command.specs.Shown.{shown}
 use Rattle.cdb_command.specs.declared.word_fault.Lacking.TheVariants.{Database, Key, New}
 
--- what the words behind the program's name ask for
+-- what the words after the program's name request
 abbrev pub asks : List Text → Result Asked Refused
 asks words = plan_of (codes "cdb" ∷ words)
 

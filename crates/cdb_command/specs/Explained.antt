@@ -30,6 +30,6 @@ some_has sought (word ∷ words) =
 abbrev pub explains_in : List Text → Bool
 explains_in words = some_has (codes "v") (drop 1 words)
 
--- whether it asks for a command
+-- whether it requests a command
 abbrev pub asks_in : List Text → Bool
 asks_in words = some_has (codes "qdlsckDhV") (drop 1 words)

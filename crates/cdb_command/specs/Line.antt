@@ -1,4 +1,4 @@
--- What stands on a command line, its texts as bytes.
+-- What is on a command line, its texts as bytes.
 use Rattle.std.specs.Prelude.{ℕ, List, [], map, Option, option_map, unwrap_or}
 use denote.Bor.{Bor}
 use Rattle.cdb_command.specs.declared.letters.Flags.{Flags}

@@ -47,7 +47,7 @@ refused_in (fault.Surplus name) = Surplus name.now
 refused_in fault.Both = Both
 refused_in fault.NoMemory = NoMemory
 
--- an answer, whose fault is told so
+-- an answer, whose fault is reported so
 abbrev pub told : {A : Type 0} → Result A WordFault → Result A Refused
 told (Ok x) = Ok x
 told (Err fault) = Err (refused_in fault)

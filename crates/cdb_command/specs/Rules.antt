@@ -1,4 +1,4 @@
--- The rules of a command line: what it asks for, or the first of its faults.
+-- The rules of a command line: what it requests, or the first of its faults.
 use Prim.Native.Char.{code}
 use Rattle.std.specs.Prelude.{ℕ, ◌^◌, ◌==◌, Bool, not, ◌&&◌, ◌||◌, true, false, nat_lt}
 use Rattle.std.specs.Prelude.{if◌then◌else◌, List, [], ◌∷◌, ◌++◌, find, codes, bytes_eq, Option}
@@ -24,7 +24,7 @@ use Rattle.cdb_command.specs.Refused as refused
 
 -- ---- one command
 
--- it, where it is there
+-- it, if it is there
 abbrev pub when : {A : Type 0} → Bool → A → List A
 when true x = x ∷ []
 when false x = []
@@ -34,7 +34,7 @@ abbrev pub those_there : {A : Type 0} → List (Bool × A) → List A
 those_there [] = []
 those_there (x ∷ xs) = when x.0 x.1 ++ those_there xs
 
--- the commands, and whether their letters stand on a line
+-- the commands, and whether their letters are on a line
 abbrev pub commands_in : Flags → List (Bool × Letter)
 commands_in f = (f.query, letter.Query) ∷ (f.dump, letter.Dump) ∷ (f.list, letter.List)
     ∷ (f.stats, letter.Stats) ∷ (f.create, letter.Create) ∷ (f.check, letter.Check)
@@ -64,20 +64,18 @@ only_letter (x ∷ y ∷ more) = Err (refused.TwoCommands (letter_code x) (lette
 abbrev pub is_hyphen : Text → Bool
 is_hyphen name = bytes_eq name (codes "-")
 
--- whether a create writes the database to standard output, where no file is built
+-- whether a create writes the database to standard output: then no file is built
 abbrev pub writes_out : List Text → Bool
 writes_out [] = false
 writes_out (name ∷ inputs) = is_hyphen name
 
--- whether the file in which a create builds has this name; it is the database's name and `.tmp`
--- where none is given
+-- whether the file in which a create builds has this name; it is the database's name and `.tmp` if no name is given
 abbrev pub is_built_in : Option Text → List Text → Text → Bool
 is_built_in (Some temporary) names file = bytes_eq temporary file
 is_built_in None [] file = false
 is_built_in None (name ∷ inputs) file = bytes_eq (name ++ codes ".tmp") file
 
--- whether a create takes this base: not where it builds in place by `-t -`, and not where it would
--- build in the base
+-- whether a create takes this base: not if it builds in place by `-t -`, and not if it would build in the base
 abbrev pub takes_base : Given → Text → Bool
 takes_base g base = not (unwrap_or (option_map is_hyphen g.temporary) false)
     && (writes_out g.names || not (is_built_in g.temporary g.names base))

@@ -1,4 +1,4 @@
--- The words of a command line, as `clap` takes them apart, and what they ask for.
+-- The words of a command line, as `clap` takes them apart, and what they request.
 use Rattle.std.specs.Prelude.{ℕ, true, List, [], ◌∷◌, ◌++◌, Some, codes, map, fold, unwrap_or}
 use Rattle.std.specs.Prelude.{Result, Err}
 use Rattle.clap.specs.Walk.{Row, Rule, first_of, all_of}
@@ -14,9 +14,9 @@ use Rattle.cdb_command.specs.Rules.{line_plan}
 use Rattle.cdb_command.specs.BadWord.{bad_word}
 use Rattle.cdb_command.specs.Refused.{Refused}
 
--- ---- what `clap` is told
+-- ---- what `clap` is given
 
--- a letter without a value, which may stand often
+-- a letter without a value, which may come often
 abbrev pub flag_rule : Text → ℕ → Rule
 flag_rule id letter = record (new_rule id) { short = Some letter; action = Some Count }
 
@@ -51,7 +51,7 @@ cdb_app = with_rules (with_rules bare_app flag_rules) value_rules
 
 -- ---- what it makes of the words, the first of which is the program's name
 
--- the letters, values and names, where it takes the words
+-- the letters, values and names, if it takes the words
 unfoldable pub cdb_rows : List Text → List Row
 cdb_rows words = matches_of cdb_app words
 
@@ -68,7 +68,7 @@ given_of rows = record {
   names = unwrap_or (all_of (codes "names") rows) [];
 }
 
--- ---- and what they ask for
+-- ---- and what they request
 
 abbrev pub unless_refused : Kinds → Refused → Result Asked Refused → Result Asked Refused
 unless_refused [] refused plan = plan

@@ -153,7 +153,7 @@ fn first_bad(words: &[String]) -> WordFault<'_>
     end_met(values.waiting)
 }
 
-/// Whether it is the word by which other programs are asked for help.
+/// Whether it is the word that requests help of other programs.
 fn is_help(fault: &WordFault<'_>) -> bool
     ensures { result ≡ is_help (refused_in fault.now) }
 {

@@ -1,4 +1,4 @@
-// What the program is asked to do.
+// What the program does on request.
 use crate::options::MakeOptions;
 use crate::style::Style;
 

@@ -1,4 +1,4 @@
-// What a run that makes a database is told.
+// The options of a run that makes a database.
 use crate::style::Style;
 use cdb_form::Mode;
 

@@ -1,4 +1,4 @@
-// The simple command that `clap` is told.
+// The simple command that `clap` is given.
 ghost use Rattle.std.specs.Prelude.{◌≡◌, false, IfOk};
 ghost use Rattle.clap.specs.Walk.{rule_of};
 ghost use Rattle.clap.specs.Simple.{app_of};

@@ -1,4 +1,4 @@
-// What the words of a command line ask for.
+// What the words of a command line request.
 ghost use Rattle.std.specs.Prelude.{◌≡◌, ◌≢◌, [], IfOk, IfErr, map, string_bytes};
 ghost use Rattle.cdb_command.specs.Asked.{Gives, GivesUsage, asked_in, IsInRange};
 ghost use Rattle.cdb_command.specs.Refused.{refused_in, usage_of};
@@ -12,13 +12,13 @@ use crate::word_fault::WordFault;
 use crate::words::{line_of, matches_of};
 use std::alloc::Global;
 
-/// What the words of a command line ask for, the first of which is the program's name.
+/// What the words of a command line request, the first of which is the program's name.
 ///
 /// Letters come alone or several after one hyphen, in any order, before names, between them and
 /// after them; a letter without a value that comes often is as one. After `--` all words are
 /// names. The answer is the first that holds of these:
 /// - `Words`: a word has an unknown letter or is long as `--map`, or `-n`, `-t` or `-b` has no
-///   value or stands twice. The next word is no value if it begins with a hyphen and is longer than
+///   value or comes twice. The next word is no value if it begins with a hyphen and is longer than
 ///   that;
 /// - `Ok(Help)`: `-h` is there; `Ok(Version)`: `-V` is there;
 /// - `NoCommand`, `TwoCommands`: none of `-q`, `-d`, `-l`, `-s`, `-c`, `-k` and `-D`, or several;

@@ -27,7 +27,7 @@ pub enum WordFault<'a> {
     Long(&'a str),
     /// A letter without the value that it takes.
     NoValue(char),
-    /// A letter with a value that stands twice.
+    /// A letter with a value that comes twice.
     Twice(char),
     /// The words are refused, and none of these is the reason.
     Words,

@@ -31,7 +31,7 @@ record Compared {S : Type 0} (w : ℕ) (s : Ghosts S) (last : S) (bytes : List �
   size : length bytes ≡ s.size last
   works : s.failures last ≡ 0
 
--- what the heads say, once some looks are behind
+-- what the heads say, once some looks are done
 abbrev outside_fault : ℕ → (b c : List ℕ) → Option Fault
 outside_fault w b c = option_or (option_map (λ n. Old (read.Table n)) (outside_table w b)) (option_map (λ n. New (read.Table n)) (outside_table w c))
 

@@ -10,7 +10,7 @@ abbrev pub writes_output : Asked → Bool
 writes_output (asked.Check name wide) = false
 writes_output command = true
 
--- a refusal; or standard output failed, where it is written
+-- a refusal; or standard output failed, if it is written
 abbrev pub MayGiveUp : (writes : Bool) → Reading → Fault → Type 0
 MayGiveUp writes reads Output = writes ≡ true
 MayGiveUp writes reads fault = IsRefusal reads fault

@@ -128,7 +128,7 @@ reads_in_turn (asked.Stats None wide) = Database
 reads_in_turn (asked.Check None wide) = Database
 reads_in_turn command = Nothing
 
--- an allocation failed; or a reader, where one is read
+-- an allocation failed; or a reader failed, if one is read
 abbrev pub IsRefusal : (reads : Reading) → Fault → Type 0
 IsRefusal reads NoMemory = ⊤
 IsRefusal reads (Walk walk.Input) = reads ≡ Database

@@ -8,7 +8,7 @@ use Rattle.cdb_system.specs.declared.causes.Reason.{Reason}
 use Rattle.cdb_system.specs.declared.causes.Told.{Told}
 use Rattle.cdb_system.specs.declared.causes.Told.TheVariants as told
 
--- what stands after the name of a file
+-- what follows the name of a file
 abbrev pub name_ending : Reason → List ℕ
 name_ending reason = if reason.is_temporary then codes ".tmp" else []
 

@@ -12,7 +12,7 @@ use Rattle.cdb_system.specs.declared.system.System.{Ghosts as Systems}
 abbrev pub IsStandard : List ℕ → Type 0
 IsStandard name = name ≡ codes "-"
 
--- the inputs that are read: no name stands for one, which is standard input
+-- the inputs that are read: without a name, standard input is the one input
 abbrev pub inputs_read : List (List ℕ) → List (List ℕ)
 inputs_read [] = codes "-" ∷ []
 inputs_read (name ∷ names) = name ∷ names
@@ -45,7 +45,7 @@ OpensEach y (name ∷ names) (reader ∷ readers) old new =
     (mid : OpenCalls) × OpensInput y name reader old mid × OpensEach y names readers mid new
 OpensEach y names readers old new = ⊥
 
--- no names stand for one, which is standard input
+-- without a name, standard input is the one input
 abbrev pub OpensInputs : {F I M Y : Type 0} → Systems Y F I M → List (List ℕ) → List (InputReader I)
     → (old new : OpenCalls) → Type 0
 OpensInputs y [] readers old new = (readers ≡ Shared ∷ []) × (new ≡ old)

@@ -41,7 +41,7 @@ abbrev pub named_as : Answer → Result Unit Fault
 named_as Yes = Ok tt
 named_as answer = Err Rename
 
--- the file of a name was opened to be emptied, no other process holds its lock, and then it was asked
+-- the file of a name was opened to be emptied, no other process holds its lock, and then a call checked
 -- whether the name has the file
 pub record AsksToEmpty (name : List ℕ) (old new : OpenCalls) (answer : Answer) : Type 0 where
   pub lock : Lock

@@ -135,7 +135,7 @@ abbrev pub each_of : Disk → List (List ℕ) → Option (List (Option (List ℕ
 each_of disk [] = Some []
 each_of disk (name ∷ names) = both (λ x xs. x ∷ xs) (input_of disk name) (each_of disk names)
 
--- no names stand for standard input
+-- without a name, standard input is read
 abbrev pub inputs_of : Disk → List (List ℕ) → Option (List (Option (List ℕ)))
 inputs_of disk [] = Some (None ∷ [])
 inputs_of disk (name ∷ names) = each_of disk (name ∷ names)
@@ -178,7 +178,7 @@ command_outcome (asked.Create name base inputs temporary options wide) disk inpu
 command_outcome asked.Help disk input = Some (ended plain_status usage_text (Ok tt))
 command_outcome asked.Version disk input = Some (ended plain_status version_text (Ok tt))
 
--- of what the words are planned to ask for
+-- of what the words request, as they are planned
 abbrev pub oracle : Result Asked Refused → Disk → (input : List ℕ) → Option Outcome
 oracle (Ok command) disk input = command_outcome command disk input
 oracle (Err refused) disk input =

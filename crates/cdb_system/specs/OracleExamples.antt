@@ -94,7 +94,7 @@ keys_are : command_outcome (Listing (Some name) Map false) disk [] ≡ comes 0 (
 unfolding disk name other comes two_stats two_file put_at words_of repeat walk_of walk_from whole_records record_end head_at lookup_of met_slots found_at statistics_of statistics_damage distances_in stats_text distance_lines first_fault first_of slots_fault all_slots entries_from digits
 keys_are = refl
 
--- standard input, where the second record reaches behind the record end
+-- standard input, whose second record reaches past the record end
 damaged_dump_is : command_outcome (Dump None Native false) disk (put_at 2068 (8 ∷ []) two_file) ≡ comes 111 (codes "+3,5:one->Hello\n") (codes "cdb: record at 2064: not whole\n")
 unfolding disk name other comes two_stats two_file put_at words_of repeat walk_of walk_from whole_records record_end head_at lookup_of met_slots found_at statistics_of statistics_damage distances_in stats_text distance_lines first_fault first_of slots_fault all_slots entries_from digits
 damaged_dump_is = refl

@@ -1,4 +1,4 @@
--- What a command is given, and what it has asked of the system and written so far.
+-- What a command is given, and what it has requested of the system and written so far.
 use Rattle.std.specs.Prelude.{ℕ, Bool, List, Option}
 use Rattle.cdb_form.specs.Fed.Feed.{Feed}
 use Rattle.cdb_names.specs.Folder.{NameCalls}
@@ -13,7 +13,7 @@ pub record Standard (J : Type 0) : Type 1 where
 abbrev pub standard_of : {J : Type 0} → (J → Feed) → J → Standard J
 standard_of feed reader = record { feed = feed; reader = reader }
 
--- what is asked for, whether its faults are explained, and standard input
+-- what is requested, whether its faults are explained, and standard input
 pub record Given (A J : Type 0) : Type 1 where
   pub asked : A
   pub explained : Bool

@@ -9,7 +9,7 @@ use Rattle.cdb_form.specs.Views.KnownBytes.{AppendsPrefix}
 use Rattle.cdb_show.specs.Message.{fault_line}
 use Rattle.cdb_show.specs.declared.fault.Fault.{Fault}
 
--- the line of words that ask for nothing
+-- the line of words that request nothing
 abbrev pub usage_line : Usage → List ℕ
 usage_line usage = codes "cdb: " ++ (usage_message usage ++ codes "\n")
 
@@ -28,7 +28,7 @@ abbrev pub Says : Result Unit Fault → (more : List ℕ) → (told said : Optio
 Says (Ok done) more told said unsaid = Keeps told said
 Says (Err fault) more told said unsaid = SaysLine (fault_line fault ++ more) told said unsaid
 
--- the exit status, if the words ask for nothing
+-- the exit status, if the words request nothing
 abbrev pub usage_status : Usage → ℕ
 usage_status NoMemory = 111
 usage_status usage = 2

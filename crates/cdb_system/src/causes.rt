@@ -36,7 +36,7 @@ pub enum Told {
 pub struct Reason<'a> {
     /// The name of the file, but for `.tmp` after it. It is empty if the name itself is.
     pub name: &'a str,
-    /// Whether `.tmp` stands after it.
+    /// Whether `.tmp` follows it.
     pub is_temporary: bool,
     /// Why.
     pub told: Told,

@@ -44,7 +44,7 @@ fn between(reason: &Reason<'_>) -> &'static [u8]
     }
 }
 
-/// What stands after the name of a reason's file.
+/// What follows the name of a reason's file.
 fn ending(reason: &Reason<'_>) -> &'static [u8]
     ensures { result.now ≡ name_ending reason.now }
 {

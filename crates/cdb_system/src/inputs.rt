@@ -12,7 +12,7 @@ use cdb_form::Feeds;
 use cdb_show::{Fault, Inputs};
 use std::alloc::Global;
 
-/// The word that stands for standard input on the command line.
+/// The word that means standard input on the command line.
 pub const HYPHEN: &str = "-";
 
 /// Whether a name is that of standard input.

@@ -1,4 +1,4 @@
-//! What the program `cdb` asks of the system, its commands that only read, and what it says of
+//! What the program `cdb` requests of the system, its commands that only read, and what it says of
 //! faults.
 #![tactic(auto)]
 

@@ -32,7 +32,7 @@ const GREATEST_COPY: u64 = 1 << 30;
 ///
 /// If memory is refused, or the inner store has more than 2^30 bytes, every read is passed on. If
 /// the inner store fails while it is read whole, the read answers `Device`, and later ones are
-/// passed on. Every write and every cut is `Device`, without asking the inner store.
+/// passed on. Every write and every cut is `Device`, without a request to the inner store.
 #[derive(Drop)]
 pub struct LoadedStore<S: Store> {
     inner: S,
@@ -77,7 +77,7 @@ impl<S: Store> LoadedStore<S> {
         }
     }
 
-    /// The inner store, to ask about it. Each of its images is one of this store too.
+    /// The inner store, to look at it. Each of its images is one of this store too.
     pub fn inner(&self) -> &S
         ensures inner { result.now ≡ inner_of self.now }
         ensures images { ∥ ((b : List ℕ) → S.image result.now b → images_of self.now b) ∥₁ }

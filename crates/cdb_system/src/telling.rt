@@ -54,7 +54,7 @@ pub fn tell<E: Write>(fault: &Fault, reason: &Option<Reason<'_>>, errors: &mut O
     let _ = write_told(fault, reason, errors);
 }
 
-/// The exit status of words that ask for nothing.
+/// The exit status of words that request nothing.
 fn refused_status(usage: &Usage) -> u8
     ensures { result ≡ usage_status usage.now }
 {
@@ -64,7 +64,7 @@ fn refused_status(usage: &Usage) -> u8
     }
 }
 
-/// Writes why the words ask for nothing, and if it is to be explained which word or letters that is
+/// Writes why the words request nothing, and if it is to be explained which word or letters that is
 /// of.
 fn write_refused<E: Write>(
     fault: &WordFault<'_>,
@@ -85,7 +85,7 @@ fn write_refused<E: Write>(
     Ok(())
 }
 
-/// Says why the words ask for nothing, unless `errors` fails, and answers the exit status.
+/// Says why the words request nothing, unless `errors` fails, and answers the exit status.
 #[cold]
 #[inline(never)]
 pub fn refuse<E: Write>(fault: &WordFault<'_>, explains: bool, errors: &mut Output<E>) -> u8

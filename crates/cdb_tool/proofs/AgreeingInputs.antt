@@ -1,4 +1,4 @@
--- Which inputs agree with what a run read: those of readers that tell their bytes, and any bytes that agree with
+-- Which inputs agree with what a run read: those of readers that report their bytes, and any bytes that agree with
 -- what is known of the readers afterwards.
 use Rattle.std.proofs.Common.{◌≡◌, ◌++◌, ◌∙◌, ℕ, zero, suc, List, [], ◌∷◌, length, map, refl, sym, ap, subst, arith, Option, None, Some, IfSome, Result}
 use Rattle.cdb_tool.proofs.Words.{AgreesWith, AreRead, AreUnread, BeginsSo, Change, CutShort, FailsSo, Fault, FirstAgree, HasFault, HasRead, InputReader, Inputs, IsUnread, NoMore, NotBegun, SharedWindow, Stop, StopsSo, TakesOne, TextFault, WereRead, one_input, parsing, reached, ⊤}
@@ -196,7 +196,7 @@ module _ {R S : Type 0} (own : R → Feed) (shared : S → Feed) where
     all_known (items ∷ read) stop [] after old new known are = absurd are
     all_known (items ∷ read) stop (reader ∷ before) [] old new known are = absurd are
 
--- ---- readers that tell their bytes
+-- ---- readers that report their bytes
 
 some_of : (remaining : Option (List ℕ)) → IsSome remaining → (rest : List ℕ) × (remaining ≡ Some rest)
 some_of None is = absurd is

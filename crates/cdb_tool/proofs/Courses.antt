@@ -87,7 +87,7 @@ put_goes {l = l} t cs i n r start mid end old new put h wide puts comes limit te
   };
 }
 
--- or stops where it was told
+-- or stops as the put is reported
 told_so : {S L : Type 0} {s : Ghosts S} {l : Widths L} (t : Task) (cs : List Incoming) (i n : ℕ) (r : KeyValue) (start mid end : Option (List ℕ)) (m : Maker S L s l) (put : Put) (f : Fault) (b : List ℕ) → IsPut t cs i n r start mid m put b → TellFails t.options i n r.key put mid end f
     → StopsSo l.WORD t (cs ++ putting i n r ∷ []) start end f
 told_so t cs i n r start mid end m put (Text j f) b p x = absurd x
@@ -151,7 +151,7 @@ put_refused : {S L : Type 0} {s : Ghosts S} {l : Widths L} (t : Task) (cs : List
     → ComesFrom (s.image old.store) (s.image new.store) → WhereHonest (s.image new.store) (PutStops l.WORD t cs (putting i n r) start mid (make_fault f))
 put_refused t cs i n r start mid old new f h x comes = record { each = λ b is. refused_so t cs i n r start mid old new f h x comes b is }
 
--- a fault of the store comes where it failed
+-- a fault of the store comes only if it failed
 pub refused_store : {S L : Type 0} {s : Ghosts S} {l : Widths L} (old new : Maker S L s l) (mode : Mode) (r : KeyValue) (f : MakeFault) → FailsPutting old new mode r f → IsOfStore (make_fault f) → s.failures old.store < s.failures new.store
 refused_store old new mode r make.Broken x is = absurd is
 refused_store old new mode r make.Lookup x is = x.1
@@ -159,7 +159,7 @@ refused_store old new mode r make.TooBig x is = absurd is
 refused_store old new mode r make.NoMemory x is = absurd is
 refused_store old new mode r make.Writing x is = elim x.0 [ inl stays ↦ stays.1.failed | inr torn ↦ torn.0.failed ]
 
--- ---- where a run came to that was halted
+-- ---- how far a run came that was halted
 
 stands_so : {S L : Type 0} {s : Ghosts S} {l : Widths L} (t : Task) (cs : List Incoming) (start mid : Option (List ℕ)) (old new : Maker S L s l) → InCourse t cs start mid old → ComesFrom (s.image old.store) (s.image new.store) → told_count new ≡ told_count old
     → (IsUsable new → Holds new (course_of l.WORD t cs).records) → MakeStandsAt t cs start mid new
@@ -352,7 +352,7 @@ inputs_none i (q ∷ read) = ap (λ t. from_input i 1 q ++ t) (inputs_none (i + 
 pub came_none : (read : List (List Change)) → from_inputs 1 (read ++ [] ∷ []) ≡ from_inputs 1 read
 came_none read = inputs_none 1 read
 
--- ---- what a put was told
+-- ---- what a put was given
 
 pub as_told : (P : Mode → KeyValue → Type 0) (m n : Mode) (k v : List ℕ) (r : KeyValue) → m ≡ n → k ≡ r.key → v ≡ r.value → P m (record { key = k; value = v }) → P n r
 as_told P m n k v r a b d p =

@@ -38,7 +38,7 @@ stays_ended w o s (c ∷ more) f e =
     let one : with_next w o.make s c ≡ s = ap (λ x. if is_going x then with_change w o.make s c.input c.number c.it else s) e in
     ap (λ v. fold (with_next w o.make) v more) one ∙ stays_ended w o s more f e
 
--- what it told grows
+-- what it reported grows
 told_changed : (w : ℕ) (o : RunOptions) (s : Course) (i n : ℕ) (it : Change) → (x : List Told) × ((with_change w o.make s i n it).told ≡ s.told ++ x)
 told_changed w o s i n (Putting r) = (told o.make i n r.key (put_result w o.make.limit (mode_of o.make) r s.records), refl)
 told_changed w o s i n (Removing key) = ([], sym (append-nil s.told))
@@ -249,7 +249,7 @@ inputs_stop w g t inputs shared left images old new NoBaseTables k h = stopped_i
 
 -- ---- the run
 
--- behind a base
+-- after a base
 with_base : (w g : ℕ) (o : RunOptions) (base : Option (List ℕ)) (inputs : List (Option (List ℕ))) (shared : List ℕ) (images : List ℕ → Type 0) (old new : Option (List ℕ)) (result : Result Unit Fault) → IsSomeBase w o.make.limit base
     → ComesOf w o (made_from w (task_of o (records_of w base)) (given_from (input_form o.make.style (is_some (records_of w base))) g 1 inputs shared)) images old new result → ComesOf w o (made_of w g o.make base inputs shared) images old new result
 with_base w g o base inputs shared images old new result is h =

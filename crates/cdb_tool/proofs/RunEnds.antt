@@ -39,7 +39,7 @@ unmade_memory image size written failures old new make.Broken h e = absurd h
 unmade_memory image size written failures old new make.Lookup h e = absurd h
 unmade_memory image size written failures old new make.TooBig h e = absurd h
 
--- a fault of the store comes where it failed
+-- a fault of the store comes only if it failed
 pub unmade_store : {S : Type 0} (image : S → List ℕ → Type 0) (size written failures : S → ℕ) (old new : S) (f : MakeFault) → MakingFault image size written failures old new f → IsOfStore (make_fault f) → failures old < failures new
 unmade_store image size written failures old new make.Writing h is = h
 unmade_store image size written failures old new make.NoMemory h is = absurd is
@@ -153,7 +153,7 @@ not_finished {l = l} g t inputs read start now old new rs b make.Writing are hol
 not_finished g t inputs read start now old new rs b make.Lookup are holds is goes h = absurd h
 not_finished g t inputs read start now old new rs b make.TooBig are holds is goes h = absurd h
 
--- a fault of the store comes where it failed, and want of memory where it did not
+-- a fault of the store comes only if it failed, and a fault of memory only if it did not
 pub unfinished_store : {S L : Type 0} {s : Ghosts S} {l : Widths L} (old new : Maker S L s l) (f : MakeFault) → FailsFinishing old new f → IsOfStore (make_fault f) → s.failures old.store < s.failures new.store
 unfinished_store old new make.Broken x is = absurd is
 unfinished_store old new make.NoMemory x is = absurd is

@@ -1,4 +1,4 @@
--- The lines of duplicates that were told.
+-- The lines of duplicates that were reported.
 use Rattle.std.proofs.Common.{ℕ, true, ◌&&◌, ◌||◌, List, [], ◌∷◌, ◌++◌, Option, None, Result, Ok, Err, ◌≡◌, ◌∙◌, ap, append_assoc, refl, subst, sym}
 use Rattle.std.specs.Prelude.{OnErr, OnOk, String}
 use Rattle.cdb_tool.proofs.Words.{Appends, Keeps, Put, RunOptions, append-nil, cond-true, prefix_kept, whole_prefix}
@@ -85,7 +85,7 @@ tells_plain names ds old new none h = subst (Appends old new) (plain_are names d
 pub part_plain : {Z : Type 0} (names : Option (Bor (List (String Z)))) (ds : List Told) (old new : Option (List ℕ)) → names ≡ None → TellsPart names ds old new → AppendsPrefix old new (plain_lines ds)
 part_plain names ds old new none h = subst (AppendsPrefix old new) (plain_are names ds h.text none h.are) h.written
 
--- ---- what is told of a put
+-- ---- what is reported of a put
 
 is_told : (o : RunOptions) (input number : ℕ) (key : List ℕ) (put : Put) → (o.make.warn || o.make.stop) ≡ true → meets_key put ≡ true → told o.make input number key (Ok put) ≡ record { input = input; number = number; key = key } ∷ []
 is_told o input number key put tells meets = cond-true ((o.make.warn || o.make.stop) && meets_key put) _ _ (ap (λ x. x && meets_key put) tells ∙ meets)

@@ -25,7 +25,7 @@ use Rattle.cdb_show.proofs.Writers.{prefix_kept, whole_prefix, keeps_self, keeps
 
 -- ---- the records of a text
 
--- the records so far, whose file fits, and the asks that were spent for them
+-- the records so far, whose file fits, and the requests that were spent for them
 pub record HoldsSoFar {R L S K : Type 0} {s : Ghosts S} {k : Widths K} (w g : ℕ) (old new : Option (List ℕ)) (t : TextReader R L) (m : Maker S K s k) : Type 0 where
   pub records : List KeyValue
   pub holds : Holds m records
@@ -132,7 +132,7 @@ refused g o m n t u b c r make.Writing image h read is never x = elim x.0 [ inl 
 
 -- ---- the file
 
--- nothing was written where the text was not read
+-- nothing was written if the text was not read
 pub nothing_made : (w g : ℕ) (text rest o : Option (List ℕ)) (f : Fault) → TextNotRead w g text rest f → MakesBytes w g text rest o o (Err f)
 nothing_made w g text rest o (Text input f) x = record { ok = tt; err = (x, keeps_self o) }
 nothing_made w g text rest o (Make f) x = record { ok = tt; err = (x, keeps_self o) }

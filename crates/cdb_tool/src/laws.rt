@@ -29,8 +29,8 @@ pub fn difference_amends_base<L: Width>(_options: MakeOptions, _base: &[Record],
 {}
 
 /// What a run leaves that makes a database is what one function of its options, of its base and of
-/// its inputs says: the records of the file, the duplicates that are told and the answer. Or the
-/// run reports a refusal, and its lines are a prefix of those.
+/// its inputs says: the records of the file, the duplicates that are reported and the answer. Or
+/// the run reports a refusal, and its lines are a prefix of those.
 pub fn made_is_the_run<L: Width>(_options: RunOptions<'_>)
     ensures { RunsComeOf L.WORD L.GREATEST _options.entry }
 {}

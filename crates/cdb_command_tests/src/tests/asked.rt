@@ -1,11 +1,11 @@
-// Lines that ask for a command, and for which.
+// Lines that request a command, and the command that each requests.
 use super::lines::words_of;
 use cdb_command::plan;
 use std::alloc::{AllocError, Global};
 use std::prelude::*;
 use std::test::Fail;
 
-/// Whether a line asks for the command that is shown so.
+/// Whether a line requests the command that is shown so.
 fn asks(alloc: Global, line: &str, shown: &str) -> Result<bool, AllocError> {
     match plan(alloc, words_of(alloc, line)?) {
         Ok(command) => Ok(format!(in alloc; "{command:?}")?.as_str() == shown),
@@ -13,7 +13,7 @@ fn asks(alloc: Global, line: &str, shown: &str) -> Result<bool, AllocError> {
     }
 }
 
-/// Whether a line asks for a create of `x`, in words of 4 bytes, that is shown with these.
+/// Whether a line requests a create of `x`, in words of 4 bytes, that is shown with these.
 fn creates(
     alloc: Global,
     line: &str,
@@ -30,7 +30,7 @@ fn creates(
     asks(alloc, line, shown.as_str())
 }
 
-/// Lines, and the commands that they ask for.
+/// Lines, and the commands that they request.
 const READ: [(&str, &str); 20] = [
     ("-h -q -d", "Help"),
     ("-v -h", "Help"),
@@ -95,7 +95,7 @@ fn lines_ask_for_what_is_read(rt: HostRuntime) -> Result<(), Fail> {
     Ok(())
 }
 
-/// Lines that ask for a create, its inputs, its temporary file, and its options.
+/// Lines that request a create, its inputs, its temporary file, and its options.
 const MADE: [(&str, &str, &str, &str); 6] = [
     (
         "-c x",
@@ -159,7 +159,7 @@ fn a_wide_line_asks_for_a_wide_file(rt: HostRuntime) -> Result<(), Fail> {
 /// How a create with no option is shown.
 const ADDS: &str = "mode: Add, warn: false, stop: false, style: Native";
 
-/// Lines that ask for a create of `x` with a base, the base, and the temporary file.
+/// Lines that request a create of `x` with a base, the base, and the temporary file.
 const AMENDED: [(&str, &str, &str); 5] = [
     ("-c -b x x", "Some(\"x\")", "None"),
     ("-c -b - x", "Some(\"-\")", "None"),

@@ -1,7 +1,7 @@
 // Command lines of words without blanks.
 use std::alloc::{AllocError, Global};
 
-/// The words of a line, behind the program's name.
+/// The words of a line, after the program's name.
 pub(super) fn words_of(alloc: Global, line: &str) -> Result<Vec<String>, AllocError> {
     let mut words = Vec::new(alloc);
     words.push(String::from_str(alloc, "cdb")?)?;

@@ -1,5 +1,5 @@
-// Plans whose asks for memory `tests/faults/calls.py` refuses, each in turn. It reads what the test
-// prints: whether the refusal came to the call.
+// Plans whose requests for memory `tests/faults/calls.py` refuses, each in turn. It reads what the
+// test prints: whether the refusal came to the call.
 use super::lines::words_of;
 use cdb_command::{Command, Usage, WordFault, plan, plan_explained};
 use std::alloc::Global;
@@ -9,7 +9,7 @@ use std::test::Fail;
 /// How a plan ended.
 #[derive(Clone, Copy, Debug, PartialEq, Eq)]
 enum Came {
-    /// With what the line asks for, or with its fault.
+    /// With what the line requests, or with its fault.
     Whole,
     NoMemory,
     /// There was no memory for the words.

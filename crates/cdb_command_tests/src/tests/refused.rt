@@ -1,4 +1,4 @@
-// Lines that ask for nothing, and why.
+// Lines that request nothing, and why.
 use super::lines::words_of;
 use cdb_command::{Lacking, WordFault, plan, plan_explained};
 use std::alloc::{AllocError, Global};

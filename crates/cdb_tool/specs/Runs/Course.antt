@@ -41,7 +41,7 @@ meets_key AddedAgain = true
 meets_key Present = true
 meets_key (Replaced n) = true
 
--- what is told of a put
+-- what is reported of a put
 abbrev pub told : MakeOptions → ℕ → ℕ → (key : List ℕ) → Result Put MakeFault → List Told
 told o input number key (Ok put) =
     if (o.warn || o.stop) && meets_key put
@@ -54,7 +54,7 @@ ends o (Ok Present) = if o.stop then Some Duplicate else None
 ends o (Ok put) = None
 ends o (Err fault) = Some (Make fault)
 
--- the records that are held, the duplicates that were told, and why the run has ended, or not
+-- the records that are held, the duplicates that were reported, and why the run has ended, or not
 pub record Course : Type 0 where
   pub records : List KeyValue
   pub told : List Told
@@ -92,8 +92,7 @@ with_next w o s c = if is_going s.ended then with_change w o s c.input c.number 
 abbrev pub course_of : ℕ → Task → List Incoming → Course
 course_of w t cs = fold (with_next w t.options.make) (at_start t) cs
 
--- what is told of a put where the run stops there: its line was appended, or a prefix of it where
--- the writer failed
+-- what is reported of a put if the run stops there: its line was appended, or a prefix of it if the writer failed
 abbrev pub TellFails : RunOptions → ℕ → ℕ → (key : List ℕ) → Put → Option (List ℕ)
     → Option (List ℕ) → Fault → Type 0
 TellFails o input number key put old new Duplicate =

@@ -13,14 +13,14 @@ use Rattle.cdb_show.specs.declared.fault.Fault.{Fault}
 use Rattle.cdb_show.specs.declared.fault.Fault.TheVariants.{Text}
 use Rattle.cdb_show.specs.Runs.InputLaws.{text_begins, text_fails, text_input}
 
--- an input has this fault of its text behind these items
+-- an input has this fault of its text after these items
 pub record FailsSo (form : InputForm) (greatest : ℕ) (items : List Change) (fault : TextFault) (input : List ℕ)
     : Type 0 where
   pub has : HasItemFault form greatest items fault input
   pub is : IsOfText fault
   pub own : HasFaults form
 
--- in a run with this answer an input begins with these items: if its reader failed, it has that fault behind them
+-- in a run with this answer an input begins with these items: if its reader failed, it has that fault after them
 pub record BeginsSo (form : InputForm) (greatest : ℕ) (answer : Result Unit Fault) (items : List Change)
     (input : List ℕ) : Type 0 where
   pub begins : BeginsWithItems form greatest items input

@@ -22,7 +22,7 @@ use Rattle.cdb_tool.specs.Runs.Make.{MakeRuns, OfBase}
 
 -- ---- the readers
 
--- why no more was read in a run with this fault, behind these items of an input: it has a fault, or the run
+-- why no more was read in a run with this fault, after these items of an input: it has a fault, or the run
 -- stopped there
 abbrev pub stop_by : Fault → List Change → Stop Change TextFault
 stop_by (Text number (text_fault.Syntax at)) last = HasFault last (text_fault.Syntax at)
@@ -58,7 +58,7 @@ pub record WereRead {J I : Type 0} (own : J → Feed) (shared : I → Feed) (for
 
 -- ---- the bytes
 
--- in the inputs that are left a run stopped so: there are none; the first one has this fault behind these items,
+-- in the inputs that are left a run stopped so: there are none; the first one has this fault after these items,
 -- or begins with these; or it was not begun
 abbrev pub StopsIn : InputForm → ℕ → Result Unit Fault → Stop Change TextFault → InputsLeft → Type 0
 StopsIn form greatest answer NoMore rest = rest.each ≡ []

@@ -21,8 +21,7 @@ use Rattle.cdb_show.specs.Runs.Given.{Given, given_from}
 
 -- ---- the run
 
--- the records that are left, the duplicates that are told, and whether they are a database, or the
--- first fault
+-- the records that are left, the duplicates that are reported, and whether they are a database, or the first fault
 pub record Made : Type 0 where
   pub records : List KeyValue
   pub told : List Told
@@ -64,7 +63,7 @@ made_of w g o base inputs shared =
     unless_stopped (base_fault w o.limit base) (made_from w (task_of (plain o) (records_of w base))
     (given_from (input_form o.style (is_some (records_of w base))) g 1 inputs shared))
 
--- the lines of its duplicates, where none is explained
+-- the lines of its duplicates, if none is explained
 abbrev pub made_lines : Made → List ℕ
 made_lines made = plain_lines made.told
 

@@ -55,7 +55,7 @@ abbrev pub SomeBaseFails : ℕ → ℕ → Option (List ℕ) → Fault → Type 
 SomeBaseFails w limit None fault = ⊥
 SomeBaseFails w limit (Some b) fault = BaseFails w limit b fault
 
--- this holds of each image of a base, if there is one, and without one where there is none
+-- this holds of each image of a base, if there is one, and without a base if there is none
 abbrev pub OfBase : {B : Type 0} → Ghosts B → Option B → (Option (List ℕ) → Type 0) → Type 0
 OfBase s None P = P None
 OfBase s (Some base) P = (b : List ℕ) → s.image base b → P (Some b)
@@ -142,7 +142,7 @@ abbrev pub RunFails : ℕ → ℕ → RunOptions → Option (List ℕ) → Input
 RunFails w greatest o base inputs old new fault =
     BaseStops w o.make.limit base old new fault ⊎ InputsStop w greatest o base inputs old new fault
 
--- what a run leaves, where its store has an image
+-- what a run leaves, if its store has an image
 pub record MakeRuns (w greatest : ℕ) (o : RunOptions) (base : Option (List ℕ))
     (inputs : InputsLeft) (images : List ℕ → Type 0) (old new : Option (List ℕ))
     (result : Result Unit Fault) : Type 0 where
@@ -164,7 +164,7 @@ pub record InCourse {S L : Type 0} {s : Ghosts S} {l : Widths L} (t : Task)
   pub limit : limit_of m ≡ t.options.make.limit
   pub goes : WhereHonest (s.image m.store) (Goes l.WORD t cs old new)
 
--- the items of an input of this number were done, behind those of the inputs that were read
+-- the items of an input of this number were done, after those of the inputs that were read
 abbrev pub PutsItems : {S L : Type 0} {s : Ghosts S} {l : Widths L} → RunOptions → (number : ℕ)
     → List Change → (before now : Option (List ℕ)) → (old new : Maker S L s l) → Type 0
 PutsItems o number last before now old new =
@@ -172,8 +172,8 @@ PutsItems o number last before now old new =
     → number ≡ length read + 1 → InCourse t (from_inputs 1 read) start before old
     → InCourse t (from_inputs 1 (read ++ last ∷ [])) start now new
 
--- a maker is where a run came to: it counts its records and, unless it is broken, holds them; and
--- the lines are those of the same items
+-- a maker has what a run came to: it counts its records and, unless it is broken, holds them; and the
+-- lines are those of the same items
 pub record MakeStandsAt {S L : Type 0} {s : Ghosts S} {l : Widths L} (t : Task) (cs : List Incoming)
     (old new : Option (List ℕ)) (m : Maker S L s l) : Type 0 where
   pub holds : IsUsable m → Holds m (course_of l.WORD t cs).records
@@ -181,7 +181,7 @@ pub record MakeStandsAt {S L : Type 0} {s : Ghosts S} {l : Widths L} (t : Task) 
       (told_count m ≡ length (course_of l.WORD t cs).records)
   pub goes : WhereHonest (s.image m.store) (Goes l.WORD t cs old new)
 
--- the same behind the items of some inputs, and these of the next one
+-- the same after the items of some inputs, and these of the next one
 pub record Stands {S L : Type 0} {s : Ghosts S} {l : Widths L} (form : InputForm) (greatest : ℕ)
     (t : Task) (inputs : InputsLeft) (old new : Option (List ℕ)) (m : Maker S L s l)
     : Type 0 where
@@ -214,18 +214,18 @@ abbrev pub IsNoText : Fault → Type 0
 IsNoText (Text number fault) = ⊥
 IsNoText fault = ⊤
 
--- how a run stopped that had come to these items: behind them, if it met a fault of an input
+-- how a run stopped that had come to these items: after them, if it met a fault of an input
 abbrev pub StopsAt : ℕ → Task → List Incoming → Option (List ℕ) → Option (List ℕ) → Fault → Type 0
 StopsAt w t cs old new (Text number fault) = Goes w t cs old new
 StopsAt w t cs old new fault = StopsSo w t cs old new fault
 
--- it stopped so, and a maker is where it came to, if the fault is one of the store or of memory
+-- it stopped so, and a maker has what it came to, if the fault is one of the store or of memory
 pub record StoppedAt {S L : Type 0} {s : Ghosts S} {l : Widths L} (t : Task) (cs : List Incoming)
     (old new : Option (List ℕ)) (m : Maker S L s l) (fault : Fault) : Type 0 where
   pub stops : WhereHonest (s.image m.store) (StopsAt l.WORD t cs old new fault)
   pub stands : IsHalt fault → MakeStandsAt t cs old new m
 
--- it stopped behind these items of an input of this number, behind those of the inputs that were read
+-- it stopped after these items of an input of this number, which follow those of the inputs that were read
 abbrev pub PutsStop : {S L : Type 0} {s : Ghosts S} {l : Widths L} → RunOptions → (number : ℕ)
     → List Change → (before now : Option (List ℕ)) → (old new : Maker S L s l) → Fault → Type 0
 PutsStop o number last before now old new fault =
@@ -233,7 +233,7 @@ PutsStop o number last before now old new fault =
     → number ≡ length read + 1 → InCourse t (from_inputs 1 read) start before old
     → StoppedAt t (came read last) start now new fault
 
--- the items of the first inputs were done; and then the run stopped, behind these items of the next one
+-- the items of the first inputs were done; and then the run stopped, after these items of the next one
 abbrev pub PutsInputs : {S L : Type 0} {s : Ghosts S} {l : Widths L} → RunOptions
     → (read : List (List Change)) → (before now : Option (List ℕ)) → (old new : Maker S L s l)
     → Type 0
@@ -273,7 +273,7 @@ pub record AddsBase {S L : Type 0} {s : Ghosts S} {l : Widths L} (w : ℕ) (imag
   pub holds : Holds m records
   pub each : (b : List ℕ) → images b → walk_of w b ≡ record { records = records; damage = None }
 
--- it holds those of a base, or none where there is no base
+-- it holds the records of a base, or no record if there is no base
 abbrev pub HoldsBase : {S L B : Type 0} {s : Ghosts S} {l : Widths L} → ℕ → Ghosts B → Option B
     → Maker S L s l → Type 0
 HoldsBase w s None m = Holds m []

@@ -1,5 +1,5 @@
--- What the making of a file of a text leaves. A text is the bytes of its reader, where they are
--- known, and the rest is what its reader has left.
+-- What the making of a file of a text leaves. A text is the bytes of its reader, if they are known, and
+-- the rest is what its reader has left.
 use Rattle.std.specs.Prelude.{ℕ, ◌≡◌, ◌≢◌, ◌+◌, ◌*◌, ◌^◌, ◌<◌, ◌≤◌, ⊤, take, List, [], ◌∷◌, ◌++◌}
 use Rattle.std.specs.Prelude.{Option, Result, IfSome, OnOk, IfErr}
 use Rattle.std.specs.Io.KnownBytes.{Appends, Keeps}
@@ -18,7 +18,7 @@ use Rattle.cdb_show.specs.Runs.Inputs.{HasFaultBehind}
 use Rattle.cdb_show.specs.declared.fault.Fault.{Fault}
 use Rattle.cdb_show.specs.declared.fault.Fault.TheVariants.{Text, Make, Output, NoMemory}
 
--- nothing was read of it, and its reader may be asked 2^48 times
+-- nothing was read of it, and its reader may get 2^48 requests
 pub record IsNewText {R L : Type 0} (text : TextReader R L) : Type 0 where
   pub going : IsGoing text
   pub taken : taken_of text ≡ 0
@@ -36,9 +36,9 @@ pub record FailsText (w greatest : ℕ) (text : List ℕ) (fault : TextFault) : 
   pub fits : file_size w records ≤ greatest
   pub behind : HasFaultBehind Spells greatest text records fault
 
--- How far the text was read: up to the byte at its fault's place. Where the reader failed, what it
--- gave ends early as a text: behind its whole records, whose file fits, it has neither a record nor
--- the closing newline. It has no end only where it took 2^48 asks, of 1001 a byte at the most.
+-- How far the text was read: up to the byte at its fault's place. If the reader failed, what it gave
+-- ends early as a text: after its whole records, whose file fits, it has neither a record nor the
+-- closing newline. It has no end only if it took 2^48 requests, of 1001 a byte at the most.
 pub record ReadsTo (w greatest : ℕ) (text rest : Option (List ℕ)) (fault : TextFault) : Type 0 where
   pub taken : ℕ
   pub took : Took text rest 0 taken
@@ -82,7 +82,7 @@ pub record MakesPrefix (w greatest : ℕ) (text rest old new : Option (List ℕ)
   pub read : ReadsFitting w greatest text rest records
   pub appended : AppendsPrefix old new (file_bytes w records)
 
--- what a fault leaves: a prefix of the file where the writer failed, else nothing was written
+-- what a fault leaves: a prefix of the file if the writer failed, else nothing was written
 abbrev pub MakeFails : ℕ → ℕ → Option (List ℕ) → Option (List ℕ) → Option (List ℕ)
     → Option (List ℕ) → Fault → Type 0
 MakeFails w greatest text rest old new Output = MakesPrefix w greatest text rest old new

@@ -14,7 +14,7 @@ use Rattle.cdb_show.specs.declared.fault.Fault.{Fault}
 use Rattle.cdb_show.specs.declared.fault.Fault.TheVariants.{Text, Make, Read, Output, NoMemory}
 use Rattle.cdb_show.specs.Runs.Incoming.{Known}
 
--- it came to what was said, and its duplicates were told
+-- it came to what was said, and its duplicates were reported
 pub record MakesSo (w : ℕ) (o : RunOptions) (m : Made) (images : List ℕ → Type 0) (old new : Option (List ℕ)) (result : Result Unit Fault) : Type 0 where
   pub is : result ≡ m.result
   pub lines : TellsEach o.names m.told old new

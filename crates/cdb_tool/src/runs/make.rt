@@ -324,11 +324,11 @@ fn make_unflushed<L: Width, S: Store, B: Store, J: Feeds + Drop, I: Feeds + Drop
 ///
 /// Each record of the base's walk is added, in order; `stop`, `warn` and the mode say nothing of
 /// these. Each input is one text of the style, and with a base a native input may also remove keys,
-/// as an amending text does. A record of an input is put by the mode, or by `Insert` where the run
-/// is to stop at a duplicate; a removal takes out every record of its key. Where duplicates are
-/// told, the line `cdb: input I: record J: duplicate key` goes to `errors` after each put that met
-/// its key, both numbers counted from 1, removals among them. With neither base nor inputs the
-/// database is empty. The run ends at the first of these faults:
+/// as an amending text does. A record of an input is put by the mode, or by `Insert` if the run is
+/// to stop at a duplicate; a removal takes out every record of its key. If duplicates are reported,
+/// the line `cdb: input I: record J: duplicate key` goes to `errors` after each put that met its
+/// key, both numbers counted from 1, removals among them. With neither base nor inputs the database
+/// is empty. The run ends at the first of these faults:
 /// - `Make(TooBig)`: the file would be longer than the limit, already with the records of the base
 ///   or with one of an input;
 /// - `Read(Short)`, `Read(Table(n))`, `Read(Record(place))`: the walk of the base has this damage;

@@ -38,7 +38,7 @@ fn put_mode(options: &MakeOptions) -> Mode
     }
 }
 
-/// Whether a record is told whose key was there already.
+/// Whether a record is reported whose key was there already.
 fn tells(options: &MakeOptions) -> bool
     ensures { result ≡ (options.now.warn || options.now.stop) }
 {
@@ -149,7 +149,7 @@ fn put_record<L: Width, S: Store, E: Sink>(
     tell_put(options, input, number, line, key, put, errors)
 }
 
-/// Removes the records of a key. Nothing is told of it.
+/// Removes the records of a key. Nothing is reported of it.
 fn remove_key<L: Width, S: Store>(maker: &mut Maker<S, L>, key: &[u8]) -> Result<(), Fault>
     ensures ok { (t : Task) (cs : List Incoming) (start now : Option (List ℕ))
         (input number : ℕ) → InCourse t cs start now maker.old
@@ -220,8 +220,8 @@ fn do_item<L: Width, S: Store, E: Sink>(
     }
 }
 
-/// The line of the item that was read last, before which the input was at this line: in a map text
-/// lines may stand between that hold none.
+/// The line of the item that was read last, before which the input was at this line: in a map text,
+/// lines that hold no item may come between.
 fn line_of_last(style: Style, next: u64, lines: &Lines) -> u64 {
     match style {
         Style::Map => lines.last(),

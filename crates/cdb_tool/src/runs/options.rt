@@ -1,4 +1,4 @@
-// What a run that makes a database is told.
+// The options of a run that makes a database.
 use cdb_command::MakeOptions;
 
 /// How a database is made, and what is explained of its duplicates.
