@@ -64,7 +64,7 @@ module _ {J I : Type 0} (own : J → Feed) (shared : I → Feed) (before after :
   built_of_one (Ok done) each bytes agree h = λ b is. h b is each bytes agree
   built_of_one (Err fault) each bytes agree h = tt
 
--- ---- what a builder tells
+-- ---- what a builder reports
 
 module _ {F J I R T : Type 0} (own : J → Feed) (shared : I → Feed) (contents : T → Option (List ℕ)) (failed : T → Type 0) (f : Ghosts F) (r : Raw R) (making : InputsLeft → Making F) (sources : Sources F J I) where
   -- of all inputs that agree, that the readers are in their places, and of the output
@@ -74,7 +74,7 @@ module _ {F J I R T : Type 0} (own : J → Feed) (shared : I → Feed) (contents
       × AreInPlace sources.inputs.readers.items back.inputs.readers.items
       × OutputSays (failed said) made
 
-  -- it tells of what the writer has
+  -- it reports what the writer has
   pub of_contents : (t n : List ℕ) (old new : NameCalls) (back : Sources F J I) (told said : T) (answer : Result Unit (ReplaceFault Fault)) (each : List (Option (List ℕ))) (bytes : List ℕ) → (making (inputs_of each bytes)).base ≡ sources.base → InputsAgree own shared sources.inputs back.inputs each bytes
       → BuilderTells r (λ b. b ≡ sources) Tells t n old new back told said answer
       → BuilderTells r (λ base. base ≡ (making (inputs_of each bytes)).base) (λ base before after images made. IsBufferedRun f (making (inputs_of each bytes)) base images before after made) t n old new back.base (contents told) (contents said) answer

@@ -1,4 +1,4 @@
--- What is asked of the files that are read, input by input.
+-- What is looked up of the files that are read, input by input.
 use Rattle.cdb.proofs.Words.{Err, List, NameCalls, Ok, Result, [], inl, inputs_read, inr, map, refl, subst, sym, ℕ, ◌++◌, ◌∷◌, ◌≡◌}
 use Rattle.std.specs.Prelude.{OnOk, codes}
 use Rattle.cdb.specs.Creating.{AsksEach, AsksOne, FindsInput, MayBeInput}
@@ -7,7 +7,7 @@ pub ok_and : {T E : Type 0} (A B : Type 0) (r : Result T E) → OnOk r A → OnO
 ok_and A B (Ok x) a b = (a, b)
 ok_and A B (Err e) a b = tt
 
--- one file more is asked of
+-- one file more is looked up
 pub asks_more : (name : List ℕ) (files : List (List ℕ)) (file : List ℕ) (was mid now : NameCalls) → AsksEach name files was mid → AsksOne name file mid now → AsksEach name (files ++ file ∷ []) was now
 asks_more name [] file was mid now e one = (now, subst (λ v. AsksOne name file v now) e one, refl)
 asks_more name (f ∷ files) file was mid now e one = (e.0, e.1, asks_more name files file e.0 mid now e.2 one)
@@ -21,7 +21,7 @@ abbrev IsNil : {A : Type 0} → List A → Type 0
 IsNil [] = Unit {0}
 IsNil (x ∷ xs) = ⊥
 
--- no input stands for standard input
+-- without an input, standard input is looked up
 pub asks_standard : {A : Type 0} (f : A → List ℕ) (name : List ℕ) (files : List A) (was now : NameCalls) → files ≡ [] → AsksOne name (codes "-") was now → AsksEach name (inputs_read (map f files)) was now
 asks_standard f name [] was now is one = (now, one, refl)
 asks_standard {A = A} f name (file ∷ files) was now is one = absurd (subst (λ (v : List A). IsNil {A = A} v) (sym is) tt)

@@ -152,7 +152,7 @@ first_is place first held was e h = subst (λ c. MayHave place first c held) e h
 pub last_leaves : (disk after : Disk) (out : Option (List ℕ)) (was now : NameCalls) → AtEachMoment (LeavesAll disk out after) was now → LeavesAll disk out after now
 last_leaves disk after out was now h = last_moment (LeavesAll disk out after) h.since was now h.calls h.each
 
--- nothing was done but ask
+-- nothing was done but look names up
 pub has_first : (disk : Disk) (was now : NameCalls) → was ≡ [] → Asking was now → (other : List ℕ) (held : Option (List ℕ)) → Has (place_of other) (disk other) now held → held ≡ disk other
 has_first disk was now first a other held h =
     first_is (place_of other) (disk other) held was first (asked_kept was now a (place_of other) (disk other) held (has_may (place_of other) (disk other) now held h))

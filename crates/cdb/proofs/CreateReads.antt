@@ -1,4 +1,4 @@
--- What a create reads, and what is asked of its names, by the calls that were noted.
+-- What a create reads, and what is looked up of its names, by the calls that were noted.
 use Rattle.std.proofs.Common.{ℕ, Bool, false, List, [], ◌∷◌, ◌++◌, length, Option, Some, None, IfSome, Result, Ok, Err, ◌≡◌, ◌⊎◌, ◌∙◌, ap, inl, inr, refl, subst, sym, append_assoc, append-nil, bytes_eq, option_map, if◌then◌else◌}
 use Rattle.std.specs.Prelude.{⊤, unwrap_or}
 use Rattle.cdb.proofs.Words.{AllByRecursion, AreBytes, AreInPlace, AtEach, AtEachMoment, Fault, Feed, Ghosts, HandsBack, HonestCreate, InputReader, Inputs, InputsLeft, IsNoAlias, LeavesAll, Left, MayHave, NameCalls, NameEvent, OpenCalls, Standard, append_cancel_right, bytes_eq-Decides, cond-false, cond-true, false_from_ne_true, files_of, or_from, place_of, renames, state_of}
@@ -232,12 +232,12 @@ asked_one name file was now (inr asked) all =
     let here = subst (AllByRecursion IsNoAlias) asked.1 all in
     (cond-false (is_standard file) _ _ (standard_not file asked.0) ∙ no_alias_no name file here.0, here.1, ap renames asked.1, λ place first held h. subst (λ c. MayHave place first c held) asked.1 h)
 
--- standard input, for which no names stand, is no file of a name
+-- standard input, which is read if there are no names, is no file of a name
 pub read_input : (name : List ℕ) (inputs : List (List ℕ)) → is_input name (inputs_read inputs) ≡ is_input name inputs
 read_input name [] = refl
 read_input name (file ∷ files) = refl
 
--- what asking comes to
+-- what looking up comes to
 pub record Asked (is : Bool) (was now : NameCalls) : Type 0 where
   pub other : is ≡ false
   pub all : AllByRecursion IsNoAlias was
@@ -268,7 +268,7 @@ asked_all name base inputs was now (mid, first, more) all =
     let one = asked_base name base was mid first rest.all in
     record { other = or_from _ _ one.other (sym (read_input name inputs) ∙ rest.other); all = one.all; renamed = rest.renamed ∙ one.renamed; kept = λ place f held h. one.kept place f held (rest.kept place f held h) }
 
--- ---- what was asked of names
+-- ---- what was looked up of names
 
 abbrev pub IsQuestion : NameEvent → Type 0
 IsQuestion (name_call.Same said, one, two, file) = ⊤

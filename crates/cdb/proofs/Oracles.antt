@@ -62,7 +62,7 @@ lines_said false status text (Ok done) told said h = nothing_written told said h
 lines_said true status text (Ok done) told said h = ([], nothing_written told said h)
 lines_said explained status text (Err fault) told said h = h
 
--- and so is the line of words that ask for nothing
+-- and so is the line of words that request nothing
 refused_said : (explained : Bool) (refused : Refused) (told said : Option (List ℕ)) (unsaid : Type 0) → (unsaid → ⊥) → SaysLine (refused_lines explained refused) told said unsaid → SaysLines explained (usage_line (usage_of refused)) told said
 refused_said false refused told said unsaid taken h = line_said (usage_line (usage_of refused)) told said unsaid taken h
 refused_said true refused told said unsaid taken h = (refused_line refused, line_said (usage_line (usage_of refused) ++ refused_line refused) told said unsaid taken h)

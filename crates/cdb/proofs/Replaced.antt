@@ -338,7 +338,7 @@ unbuilt_says O t n old new replace.Rename h = tt
 unbuilt_says O t n old new replace.Write h = absurd h
 unbuilt_says O t n old new (replace.Build fault) h = absurd h
 
--- a replacement tells of an output that failed if its builder does
+-- a replacement reports an output that failed if its builder does
 pub replaced_says : {B R T : Type 0} (failed : T → Type 0) (r : Raw R) (gives_up : B → Type 0) (tells : B → T → T → (List ℕ → Type 0) → Result Unit Fault → Type 0) (t n : List ℕ) (old new : NameCalls) (back : B) (told said : T) (answer : Result Unit (ReplaceFault Fault))
     → ((images : List ℕ → Type 0) (made : Result Unit Fault) → tells back told said images made → OutputSays (failed said) made) → BuilderTells r gives_up tells t n old new back told said answer → OutputSays (failed said) (answer_of answer)
 replaced_says failed r gives_up tells t n old new back told said answer says (inl none) = subst (λ a. OutputSays (failed said) (answer_of a)) (sym none.is) (unbuilt_says (failed said) t n old new none.fault none.stops)

@@ -1,4 +1,4 @@
--- A run whose words ask for a create comes to what the oracle says.
+-- A run whose words request a create comes to what the oracle says.
 use Rattle.cdb.proofs.Words.{Appends, Appends-kept, Asked, Bool, Command, Created, Creates, Err, Fault, Feed, Ghosts, HasHandedOn, IsTaken, Keeps, Keeps-refl, Keeps-trans, Left, List, NameCalls, Ok, OnErr, OnOk, OpenCalls, Option, OutputFailed, OutputSays, Refused, Result, RunOptions, SaysLine, Standard, [], ap, append-nil, arith, asked_in, create_of, failed_of, false, fault_line, given_of, has_wide_words, held_by, inl, inr, not_there, option_map, output_bytes, plain_status, prefix_kept, refl, refused_lines, state_of, string_bytes, subst, sym, true, usage_line, usage_of, usage_status, writer_bytes, ℕ, ◌++◌, ◌∙◌, ◌≡◌, ◌⊎◌}
 use Rattle.cdb.proofs.CreateTaken.{MayGiveUpCreate, taken_create}
 use Rattle.cdb_form.proofs.Bytes.WritingLemmas.{appends_then}
@@ -79,7 +79,7 @@ if_done P (Err fault) h e = absurd (not_nothing fault e)
 
 -- ---- the command
 
--- the names of the inputs, with which duplicates are explained, stand beside the options
+-- the names of the inputs, with which duplicates are explained, are beside the options
 shown_make : (explained : Bool) (inputs : List (List ℕ)) (o : MakeOptions) (shown : RunOptions) → IsShown explained inputs o shown → shown.make ≡ o
 shown_make false inputs o shown h = ap (λ (q : RunOptions). q.make) h
 shown_make true inputs o shown h = h.0

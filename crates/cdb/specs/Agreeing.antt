@@ -13,7 +13,7 @@ use Rattle.cdb_system.specs.declared.left.Left.{Left}
 use Rattle.cdb_system.specs.declared.open_trace.OpenCall.{OpenCall}
 use Rattle.cdb_system.specs.declared.open_trace.OpenCall.TheVariants.{AtPlaces, InTurn}
 
--- inputs that have these bytes, where one without bytes of its own begins in the shared ones
+-- inputs that have these bytes; an input without bytes of its own begins in the shared ones
 abbrev pub inputs_of : (each : List (Option (List ℕ))) → (shared : List ℕ) → InputsLeft
 inputs_of each shared = record { each = map one_input each; shared = Some shared }
 

@@ -164,7 +164,7 @@ pub record Ending : Type 0 where
   pub disk : Disk
   pub unsure : Option (List ℕ)
 
--- a fault has its line behind those of duplicates
+-- a fault has its line after those of duplicates
 abbrev pub with_lines : List ℕ → Outcome → Outcome
 with_lines lines outcome =
     record { status = outcome.status; output = outcome.output; lines = lines ++ outcome.lines }

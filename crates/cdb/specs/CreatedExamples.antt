@@ -145,7 +145,7 @@ empty_file = file_bytes 4 []
 abbrev file_calls : Calls
 file_calls = (file_call.Synced, []) ∷ (file_call.Wrote 0, empty_file) ∷ (file_call.Made, []) ∷ []
 
--- the calls on names of a create of empty texts behind these questions, the newest first
+-- the calls on names of a create of empty texts after these questions, the newest first
 abbrev name_calls : (asked : NameCalls) → NameCalls
 name_calls asked =
     (name_call.Synced, its, [], []) ∷ (name_call.Renamed 2048, temporary, its, file_calls)
@@ -262,7 +262,7 @@ file_is : (foretell (Ok of_text) with_text []).disk its ≡ Some empty_file
 unfolding with_text plain text_from empty_file file_bytes file_tables table_slots filled_slots slots_with table_entries entries_from file_pointers pointers_from record_bytes
 file_is = refl
 
--- cdb -c -b b.cdb a.cdb - -, of standard input twice, behind a base: two empty texts came
+-- cdb -c -b b.cdb a.cdb - -, of standard input twice, after a base: two empty texts came
 abbrev of_base : Asked
 of_base = Create its (Some first) (codes "-" ∷ codes "-" ∷ []) None plain false
 

@@ -129,7 +129,7 @@ pub record MakesOnOutput {F : Type 0} (f : Ghosts F) (m : Making F) (back : Opti
 
 -- ---- the files that are read are not the one of a name
 
--- that was asked of an input, or of the file that standard input is
+-- that was looked up of an input, or of the file that standard input is
 abbrev pub AsksOne : (name file : List ℕ) → (was now : NameCalls) → Type 0
 AsksOne name file was now =
     (IsStandard file × (now ≡ (name_call.Input looks.No, name, [], []) ∷ was))
@@ -151,7 +151,7 @@ abbrev pub AsksAll : (name : List ℕ) → (base : Option (List ℕ)) → (input
 AsksAll name base inputs was now =
     (mid : NameCalls) × AsksBase name base was mid × AsksEach name (inputs_read inputs) mid now
 
--- a file may be it, as was asked: it is, or the system did not say
+-- a file may be it, as was looked up: it is, or the system did not say
 abbrev pub MayBeOne : (name file : List ℕ) → (was now : NameCalls) → Type 0
 MayBeOne name file was now =
     (said : Answer) × (said ≢ looks.No) × (now ≡ (name_call.Same said, name, file, []) ∷ was)
@@ -167,7 +167,7 @@ MayBeInput name file was now =
     (IsStandard file × MayBeStandard name was now)
     ⊎ ((IsStandard file → ⊥) × MayBeOne name file was now)
 
--- an input may be it, and those before it are not, as was asked of each
+-- an input may be it, and those before it are not, as was looked up for each
 abbrev pub FindsInput : (name : List ℕ) → (files : List (List ℕ)) → (was now : NameCalls) → Type 0
 FindsInput name [] was now = ⊥
 FindsInput name (file ∷ files) was now =
@@ -199,7 +199,7 @@ pub record Syncs {M : Type 0} (s : Ghosts M) (built left : M) (made result : Res
   pub settled : OnOk result (s.settled left)
 
 -- after a success the system answered last whether the name has the file, and the result is what that comes
--- to; a fault stays, and nothing is asked
+-- to; a fault stays, and nothing is looked up
 abbrev pub SeesName : (name : List ℕ) → (was now : OpenCalls) → (synced result : Result Unit Fault)
     → Type 0
 SeesName name was now (Ok done) result =
@@ -232,7 +232,7 @@ pub record MakesEmptied {F I J M Y : Type 0} (files : Files F I M Y) (m : Making
   pub has : OnOk synced (HasDatabase files.stores m left.read (files.made.image last))
   pub named : SeesName name emptied new.opened synced result
 
--- a file that is read may be the one of the name; or none is, as was asked of each, and then the file of
+-- a file that is read may be the one of the name; or none is, as was looked up for each, and then the file of
 -- the name is not emptied, or it is, once its lock is held. The base is handed back, as it was if nothing
 -- was built
 abbrev pub MakesInPlace : {F I J M Y : Type 0} → Files F I M Y → Making F → Wanted
@@ -286,7 +286,7 @@ pub record Replaces {F R : Type 0} (f : Ghosts F) (r : Raw R) (m : Making F)
       (λ base before after images made. IsBufferedRun f m base images before after made)
       temporary name old.named new.named back old.errors new.errors answer
 
--- a file that is read may have the temporary name; or none has, as was asked of each
+-- a file that is read may have the temporary name; or none has, as was looked up for each
 abbrev pub MakesApart : {F R : Type 0} → Ghosts F → Raw R → Making F → (temporary : List ℕ)
     → Wanted → (old new : State OpenCalls) → (back : Option F) → Result Unit Fault → Type 0
 MakesApart f r m temporary wanted old new back result =
@@ -355,7 +355,7 @@ pub record NotOpened {F I M Y : Type 0} (w : ℕ) (files : Files F I M Y) (base 
       ⊎ ((mid : OpenCalls) × LooksAtBase w files base old mid back (Ok tt)
       × StopsOpening files.system inputs mid new fault)
 
--- the database is made, on standard output or under its name, where standard output stays as it is
+-- the database is made on standard output; or under its name, and then standard output stays as it is
 abbrev pub MakesAt : {F I J M R Y : Type 0} → Files F I M Y → Raw R → Making F → Wanted
     → (old new : State OpenCalls) → Left F M I J → Result Unit Fault → Type 0
 MakesAt files r m wanted old new left result =

@@ -32,7 +32,7 @@ pub record ComesTrue (o : Outcome) (explained : Bool) (start final told said : O
   pub output : Appends start final o.output
   pub lines : SaysLines explained o.lines told said
 
--- a refusal of what the words ask for
+-- a refusal of what the words request
 abbrev pub MayFail : (planned : Result Asked Refused) → Fault → Type 0
 MayFail (Ok command) fault = IsRefusal (reads_in_turn command) fault
 MayFail (Err refused) fault = fault ≡ NoMemory
@@ -52,7 +52,7 @@ abbrev pub IsTaken : {O E : Type 0} → (old new : Writer O) → (errors : Write
 IsTaken old new errors =
     (held_by old ≡ []) × (WriterFailed new → ⊥) × (WriterFailed errors → ⊥)
 
--- the words ask for no create
+-- the words request no create
 abbrev pub AsksNoCreate : Result Asked Refused → Type 0
 AsksNoCreate (Ok (asked.Create name base inputs temporary options wide)) = ⊥
 AsksNoCreate planned = ⊤

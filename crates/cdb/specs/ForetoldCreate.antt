@@ -179,7 +179,7 @@ pub record CreateHolds {M : Type 0} (m : Ghosts M) (x : Expected) (explained : B
   pub moments : AtEachMoment
       (LeavesAll x.disk (passing x.name x.temporary) x.created.disk) old.named new.named
 
--- a run of these words, which ask for a create
+-- a run of these words, which request a create
 abbrev pub IsCreateForetold : {F I J M Y : Type 0} → Files F I M Y → Given (Result Asked Refused) J
     → (old new : State Y) → Left F M I J → (taken : Type 0) → (status : ℕ) → Type 0
 IsCreateForetold files given old new left taken status =

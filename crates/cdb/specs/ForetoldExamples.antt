@@ -1,4 +1,4 @@
--- What is known of runs over readers that tell nothing before they are read: a query with -v of a key without a
+-- What is known of runs over readers that report nothing before they are read: a query with -v of a key without a
 -- value, a dump of a file and one of standard input, and the statistics of standard input.
 use Rattle.std.proofs.Common.{inl, inr, subst}
 use Rattle.std.specs.Fmt.{digits}
@@ -109,7 +109,7 @@ stats_are = refl
 
 -- ---- what is taken as given
 
--- a reader that tells nothing before it is read, and notes what it gave
+-- a reader that reports nothing before it is read, and notes what it gave
 abbrev Reader : Type 0
 Reader = NotedReader Unit
 
@@ -206,7 +206,7 @@ stats_are_honest = record {
 -- ---- what is known then
 
 module _ {R O E : Type 0} (r : Raw R) (was now : NameCalls) (output_old output_new : Writer O) (errors_old errors_new : Writer E) (status : ℕ) where
-  -- these words were run, all that was written was taken, and standard input told nothing
+  -- these words were run, all that was written was taken, and standard input reported nothing
   abbrev Ran : (words : List (List ℕ)) → OpenCalls → Back → Type 0
   Ran words calls left =
       IsTaken output_old output_new errors_new
@@ -229,7 +229,7 @@ module _ {R O E : Type 0} (r : Raw R) (was now : NameCalls) (output_old output_n
         | inr refused ↦ inr (refused.is_status, refused.output)
       ])
 
-  -- if the words ask for these commands, the key is missing, both records are written, and so are the statistics
+  -- if the words request these commands, the key is missing, both records are written, and so are the statistics
   query_is_foretold : (store : MemStore) → plan_of query_words ≡ Ok query → two_file ≡ contents store
       → Ran query_words query_calls (read_left store) → CameTo (record { status = 100; output = []; lines = [] })
   query_is_foretold store asked has ran =

@@ -124,7 +124,7 @@ abbrev pub status_of : Command → Result Unit Fault → ℕ
 status_of command (Ok done) = 0
 status_of command (Err fault) = exit_status command fault
 
--- the words ask for nothing, or memory for them was refused
+-- the words request nothing, or memory for them was refused
 pub record AsksNothing {F I J M Y : Type 0} (given : Given (Result Asked Refused) J) (old new : State Y)
     (left : Left F M I J) (unsaid : Type 0) (status : ℕ) : Type 0 where
   pub refused : Refused
@@ -136,7 +136,7 @@ pub record AsksNothing {F I J M Y : Type 0} (given : Given (Result Asked Refused
   pub kept : Keeps old.output new.output
   pub is_status : status ≡ usage_status (usage_of refused)
 
--- the command that they ask for was performed, and then its fault was said, and explained if it is to be
+-- the command that they request was performed, and then its fault was said, and explained if it is to be
 pub record AsksFor {F I J M R Y : Type 0} (files : Files F I M Y) (r : Raw R)
     (given : Given (Result Asked Refused) J) (old new : State Y) (left : Left F M I J)
     (failed : Failed) (status : ℕ) : Type 0

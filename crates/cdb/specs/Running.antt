@@ -14,7 +14,7 @@ use Rattle.cdb.specs.Performs.{Runs}
 use Rattle.cdb_system.specs.State.{Given, Standard, State, failed_of, given_of, state_of}
 use Rattle.cdb_system.specs.declared.left.Left.{Left}
 
--- what it is given: what its words ask for, and standard input
+-- what it is given: what its words request, and standard input
 abbrev pub given_by : {J : Type 0} → (words : List (List ℕ)) → (input : Standard J)
     → Given (Result Asked Refused) J
 given_by words input = given_of (plan_of words) (explains_in words) input
@@ -37,7 +37,7 @@ written w = state_of w.system w.named (output_bytes w.output) (output_bytes w.er
 abbrev pub taken : {Y O E : Type 0} → World Y O E → State Y
 taken w = state_of w.system w.named (writer_bytes w.output) (writer_bytes w.errors)
 
--- what the words ask for was done, and its output handed on, if no older one was held
+-- what the words request was done, and its output handed on, if no older one was held
 pub record Answers {F I J M R Y O E : Type 0} (files : Files F I M Y) (r : Raw R)
     (given : Given (Result Asked Refused) J) (old new : World Y O E)
     (left : Left F M I J) (status : ℕ) : Type 0 where

@@ -83,7 +83,7 @@ fn may_be_one_of_inputs<N: Names>(names: &mut N, name: &str, inputs: &[String]) 
     false
 }
 
-/// Whether an input may be, if no input stands for standard input.
+/// Whether an input may be; if there are no inputs, whether standard input may be.
 #[tactic(auto, using(crate::proofs::Asks::asks_standard, crate::proofs::Asks::finds_standard, crate::proofs::Asks::asks_named, crate::proofs::Asks::finds_named))]
 fn may_be_one_read<N: Names>(names: &mut N, name: &str, inputs: &[String]) -> bool
     ensures others { result ≡ false → AsksEach name.now (inputs_read (map string_bytes inputs.now))

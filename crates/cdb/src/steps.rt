@@ -17,7 +17,7 @@ use cdb_tool::{Command, DONE, Fault, Lines, Output, explains, plan_explained, st
 use std::alloc::Global;
 use std::io::Write;
 
-/// Does what the words ask for, of which the first is the program's name, hands back what it leaves
+/// Does what the words request, of which the first is the program's name, hands back what it leaves
 /// open, and answers the exit status. A fault has its line on `errors`, unless that fails.
 pub(crate) fn run<Y, N, I, O, E>(
     alloc: Global,
@@ -46,7 +46,7 @@ where
     (left, status)
 }
 
-/// Does what the words ask for, and answers the exit status. What is said stays where `errors`
+/// Does what the words request, and answers the exit status. What is said stays where `errors`
 /// holds it.
 fn answer<Y, N, I, O, E>(
     alloc: Global,
@@ -90,7 +90,7 @@ where
     }
 }
 
-/// What a fault is of and why, if that is asked for and known. `unwritten` says that standard
+/// What a fault is of and why, if that is requested and known. `unwritten` says that standard
 /// output failed.
 #[cold]
 #[inline(never)]

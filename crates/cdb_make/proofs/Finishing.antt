@@ -1,4 +1,4 @@
--- A finished file: its records without those that go, and what is left if that failed.
+-- A finished file: its records without those that go, and what is left if finishing failed.
 use Rattle.cdb_make.proofs.Words.{AreNone, Bool, Ghosts, HeadIsLast, IsFinished, KeepsPart, KeyValue, List, MakeFault, Maker, Roll, SameImages, SameRecords, Sees, WordPair, ap, arith, behind, cond, false, file_bytes, flat_map, found_of, gone_of, head_bytes, head_size, inl, inr, is_gone, joined, left, length, length-map, map, part, places_in, record_bytes, record_size, records_end, refl, roll_tables, subst, sym, table_bytes, true, ℕ, ◌*◌, ◌++◌, ◌+◌, ◌-◌, ◌<◌, ◌∙◌, ◌≡◌, ◌≤◌, ◌⊎◌}
 use Rattle.std.specs.Prelude.{sum, Result, Ok, Err, IfErr, OnOk, OnErr}
 use Rattle.std.proofs.lemmas.List.Sums.{sum-map}
@@ -243,7 +243,7 @@ finish_writes i j store c counts finished written =
       lone = λ lone. omega (arith, written, c.lone lone, c.end, size, made_none j c.none);
     }
 
--- ---- if that failed
+-- ---- if finishing failed
 
 pub head_from : {w end : ℕ} {ls : List (List WordPair)} {i j k : List ℕ → Type 0} → KeepsPart 0 (head_size w) i j → HeadIsLast w end ls j k → HeadIsLast w end ls i k
 head_from keeps h = record { each = λ b is. elim (h.each b is) [ inl a ↦ inl (let g = keeps.each a.0 a.1 in (g.0, g.1, a.2 ∙ g.2)) | inr t ↦ inr t ] }

@@ -1,6 +1,5 @@
 -- What a query of the keys of some inputs came to, of any bytes that agree with the readers of the
--- inputs as they came
--- back: as of inputs that reported these bytes before.
+-- inputs as they came back: as of inputs that reported these bytes before.
 use Rattle.std.proofs.Common.{◌≡◌, ℕ, zero, suc, Bool, List, [], ◌∷◌, ◌++◌, length, map, refl, sym, ap, subst, ◌∙◌, arith, Option, None, Some, Result, Err, IfSome, inl, inr}
 use Rattle.std.specs.Prelude.{⊤, ◌<◌}
 use Rattle.cdb_show.proofs.Words.{Appends, AppendsPrefix, AreAllInputs, AreInputs, BeginsWithItems, Change, Fault, Feed, FirstHas, Ghosts, HasFaults, HasItemFault, InputForm, InputReader, Inputs, InputsLeft, IsInputOf, IsOfText, Keeps, LooksUp, LooksUpAll, LookupsFail, LookupsStop, ReadsOne, SharedWindow, StopsIn, Style, TextFault, append-nil, bytes_of, fault_in, keys_form, keys_of, one_input, stop_of, stopped_parsing}
@@ -264,8 +263,7 @@ module _ {J I S : Type 0} (w g : ℕ) (s : Ghosts S) (number : Option ℕ) (styl
     fails_known old new start now NoMemory to h = stops_known old new start now _ to h
 
   -- for all bytes of the inputs that were reached and of the shared reader that agree with these readers as they came
-  -- back, of which nothing had been read before: what the run left is what it leaves of inputs that
-  -- report these bytes
+  -- back, of which nothing had been read before: what the run left is what it leaves of inputs that report these bytes
   pub fed_looks_up : (old new : S) (start now : Option (List ℕ)) (result : Result Unit Fault) → (h : FedLooksUp w g s number style own shared inputs left old new start now result) → AreUnread own inputs.readers.items → IsUnread (shared inputs.shared) → length each ≡ length inputs.readers.items
       → FirstAgree own AreBytes (reached h.leaves.read h.leaves.stop) each left.readers.items → AgreesWith AreBytes (shared left.shared) whole → LooksUp w g s number style (inputs_of each whole) old new start now result
   fed_looks_up old new start now result h unread first long agree agrees =

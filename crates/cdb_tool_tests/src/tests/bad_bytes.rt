@@ -9,7 +9,7 @@ use std::alloc::Global;
 use std::prelude::*;
 use std::test::Fail;
 
-/// Where the bad bytes of a file stand.
+/// Where the bad bytes of a file are.
 type Bad<'a> = &'a [(u64, u64)];
 
 /// The file of four values, with bad bytes.
@@ -33,8 +33,7 @@ fn answers(
     Ok(answer == want && out.as_slice() == text)
 }
 
-/// A number, the value, and the bytes that are bad: the values before it, and all records behind
-/// it.
+/// A number, the value, and the bytes that are bad: the values before it, and all records after it.
 const NUMBERED: [(u64, &[u8], &[(u64, u64)]); 4] = [
     (1, b"1", &[(2058, 2088)]),
     (2, b"2", &[(2057, 2058), (2068, 2088)]),

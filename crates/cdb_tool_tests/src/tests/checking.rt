@@ -57,7 +57,7 @@ fn sound_files(rt: HostRuntime) -> Result<(), Fail> {
 /// A file with other bytes from a place on, and its first fault.
 type Faulty = (File, usize, &'static [u8], ReadFault);
 
-/// Damages, of which each is told.
+/// Damages, each of which is reported.
 const FAULTY: [Faulty; 10] = [
     // a table at the end, one in the head, and a value that is too long
     (
@@ -83,7 +83,7 @@ const FAULTY: [Faulty; 10] = [
         b"\x29\x60\x87\x0b\x10\x08\0\0",
         ReadFault::Slot(129, 0),
     ),
-    // a slot behind an empty one
+    // a slot after an empty one
     (
         File::EmptyRecord,
         2056,
@@ -100,7 +100,7 @@ const FAULTY: [Faulty; 10] = [
     ),
 ];
 
-/// Whether a file that is cut in its head is told so.
+/// Whether a file that is cut in its head is reported so.
 fn is_cut_short(alloc: Global) -> Result<bool, AllocError> {
     let mut file = File::Two.bytes(alloc)?;
     file.truncate(2047);
@@ -158,21 +158,21 @@ fn faults_of_slots_have_lines(rt: HostRuntime) {
     }
 }
 
-/// A check whose store fails the call behind so many: the answer, and the store.
+/// A check whose store fails the call after so many: the answer, and the store.
 fn fused(alloc: Global, file: Vec<u8>, calls: u64) -> (Answer, FuseStore<MemStore>) {
     let store = FuseStore::new(MemStore::from_vec(file), calls, 0);
     let (store, answer) = check_run::<Narrow, FuseStore<MemStore>>(alloc, store);
     (answer, store)
 }
 
-/// Whether the fault of the store is told, and a check of what it holds answers so.
+/// Whether the fault of the store is reported, and a check of what it holds answers so.
 fn fails_and_goes_again(alloc: Global, file: Vec<u8>, calls: u64, want: Answer) -> bool {
     let (first, store) = fused(alloc, file, calls);
     let again = answer::<Narrow>(alloc, store.into_inner().into_vec());
     first == damaged(ReadFault::Device) && again == want
 }
 
-/// The first call whose failure is not told so, or how many calls there are where they are too few.
+/// The first call whose failure is not reported so, or the number of calls if there are too few.
 fn first_untold(alloc: Global, file: &Vec<u8>, want: Answer) -> Result<Option<u64>, AllocError> {
     let calls = fused(alloc, file.clone()?, u64::MAX).1.calls();
     for fails in 0..calls {
@@ -180,7 +180,7 @@ fn first_untold(alloc: Global, file: &Vec<u8>, want: Answer) -> Result<Option<u6
             return Ok(Some(fails));
         }
     }
-    // The head is read, and what stands behind it.
+    // The head is read, and what follows it.
     Ok(if calls > 1 { None } else { Some(calls) })
 }
 

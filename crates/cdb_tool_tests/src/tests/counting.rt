@@ -67,7 +67,7 @@ distance 9: 0
 distance 10 or more: 0
 ";
 
-/// Those of the file whose slots stand far from where searches begin.
+/// Those of the file whose slots are far from where searches begin.
 const OF_FAR: &[u8] = b"records: 1
 key lengths least/average/greatest: 1/1/1
 value lengths least/average/greatest: 1/1/1
@@ -155,7 +155,7 @@ fn changed_tells(alloc: Global, changed: &Changed) -> Result<bool, AllocError> {
     Ok(tells::<Narrow>(alloc, File::Two.changed(alloc, place, new)?, want, text))
 }
 
-/// Whether a file that is cut in its head is told so.
+/// Whether a file that is cut in its head is reported so.
 fn is_cut_short(alloc: Global) -> Result<bool, AllocError> {
     let mut file = File::Two.bytes(alloc)?;
     file.truncate(2047);
@@ -172,7 +172,7 @@ fn damaged_files(rt: HostRuntime) -> Result<(), Fail> {
     Ok(())
 }
 
-/// A run whose store fails the call behind so many: the answer, what was written, and the store.
+/// A run whose store fails the call after so many: the answer, what was written, and the store.
 fn fused(alloc: Global, file: Vec<u8>, calls: u64) -> (Answer, Vec<u8>, FuseStore<MemStore>) {
     let mut out = Vec::new(alloc);
     let store = FuseStore::new(MemStore::from_vec(file), calls, 0);
@@ -180,7 +180,7 @@ fn fused(alloc: Global, file: Vec<u8>, calls: u64) -> (Answer, Vec<u8>, FuseStor
     (answer, out, store)
 }
 
-/// Whether the fault of the store is told, with nothing written, and the same run over what it
+/// Whether the fault of the store is reported, with nothing written, and the same run over what it
 /// holds writes all.
 fn fails_and_goes_again(alloc: Global, file: Vec<u8>, calls: u64) -> bool {
     let (answer, out, store) = fused(alloc, file, calls);
@@ -188,7 +188,7 @@ fn fails_and_goes_again(alloc: Global, file: Vec<u8>, calls: u64) -> bool {
     is_told && tells::<Narrow>(alloc, store.into_inner().into_vec(), Ok(()), OF_TWO)
 }
 
-/// The first call whose failure is not told so, or how many calls there are where they are too few.
+/// The first call whose failure is not reported so, or the number of calls if there are too few.
 fn first_untold(alloc: Global, file: &Vec<u8>) -> Result<Option<u64>, AllocError> {
     let calls = fused(alloc, file.clone()?, u64::MAX).2.calls();
     for fails in 0..calls {
@@ -196,7 +196,7 @@ fn first_untold(alloc: Global, file: &Vec<u8>) -> Result<Option<u64>, AllocError
             return Ok(Some(fails));
         }
     }
-    // The head is read, and what stands behind it.
+    // The head is read, and what follows it.
     Ok(if calls > 1 { None } else { Some(calls) })
 }
 

@@ -35,7 +35,7 @@ const WHOLE: [(File, &[u8]); 4] = [
     (File::Zeros, b"\n"),
 ];
 
-/// Whether a file with bytes behind its tables is dumped.
+/// Whether a file with bytes after its tables is dumped.
 fn longer_is_dumped(alloc: Global) -> Result<bool, AllocError> {
     let mut longer = File::Two.bytes(alloc)?;
     longer.extend_from_slice(b"12345")?;
@@ -98,7 +98,7 @@ fn changed_files(rt: HostRuntime) -> Result<(), Fail> {
     Ok(())
 }
 
-// What is written of the two-record file where it is cut, and its damage.
+// What is written of the two-record file cut to a length, and its damage.
 fn cut_answer(cut: usize) -> (&'static [u8], Option<WalkFault>) {
     match cut {
         0..=2047 => (b"", Some(WalkFault::Short)),
@@ -183,7 +183,7 @@ fn a_failing_flush_of_a_dump(rt: HostRuntime) -> Result<(), Fail> {
     Ok(())
 }
 
-// A file made of a text, or none where there was a fault.
+// A file made of a text, or none if there was a fault.
 fn made_of<L: Width>(alloc: Global, text: &[u8]) -> Vec<u8> {
     let mut file = Vec::new(alloc);
     if make_bytes::<L, &[u8], Vec<u8>>(alloc, text, &mut file).is_err() {
@@ -211,7 +211,7 @@ fn a_wide_head_cut_one_byte_short(rt: HostRuntime) -> Result<(), Fail> {
     Ok(())
 }
 
-// What is left stands behind the record end, or behind the head and the header of a damaged record.
+// What is left follows the record end, or the head and the header of a damaged record.
 const LEFT: [(usize, &[u8], usize); 4] = [
     (0, b"", 2082),
     // a value too long by one, a table within the head, a key that is far too long

@@ -1,4 +1,4 @@
-// Readers and writers that fail when they are told to.
+// Readers and writers that a test makes fail.
 use cdb_tool::Fault;
 use std::alloc::Global;
 use std::io::{self, ErrorKind, Read, Write};
@@ -25,7 +25,7 @@ impl Read for FakeReader<'_> {
     }
 }
 
-/// Takes so many bytes and then fails, counts its flushes, and fails them where it is told to.
+/// Takes so many bytes and then fails, counts its flushes, and fails them if it is set to.
 #[derive(Drop)]
 pub(super) struct FakeWriter {
     pub(super) held: Vec<u8>,
@@ -187,7 +187,7 @@ impl NotingWriter {
     }
 }
 
-/// Gives a text in pieces of two bytes, and counts how often it is asked.
+/// Gives a text in pieces of two bytes, and counts the requests to it.
 #[derive(Drop)]
 pub(super) struct CountingReader {
     pub(super) text: &'static [u8],

@@ -1,4 +1,4 @@
-// put_inputs: the records that are held and the lines that were written, where a put fails.
+// put_inputs: the records that are held and the lines that were written, if a put fails.
 use super::running::{Duplicates, options, texts};
 use cdb_form::Narrow;
 use cdb_make::{MakeFault, Maker, Mode};

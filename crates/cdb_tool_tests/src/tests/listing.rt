@@ -90,7 +90,7 @@ fn whole_files(rt: HostRuntime) -> Result<(), Fail> {
     Ok(())
 }
 
-/// What is written of the two-record file where it is cut, and its damage.
+/// What is written of the two-record file cut to a length, and its damage.
 fn cut_answer(text: Text, cut: usize) -> (&'static [u8], Option<WalkFault>) {
     match cut {
         0..=2047 => (b"", Some(WalkFault::Short)),

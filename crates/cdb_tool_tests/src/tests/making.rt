@@ -64,7 +64,7 @@ fn wide_files(rt: HostRuntime) -> Result<(), Fail> {
     Ok(())
 }
 
-/// Texts, their faults, and what is left: what stands behind the byte at the fault's place.
+/// Texts, their faults, and what is left: what follows the byte at the fault's place.
 const REFUSED: [(&[u8], TextFault, &[u8]); 8] = [
     (b"", TextFault::Ended(0), b""),
     (b"*rest", TextFault::Syntax(0), b"rest"),

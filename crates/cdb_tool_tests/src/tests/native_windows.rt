@@ -114,7 +114,7 @@ fn is_same(one: &Outcome, other: &Outcome) -> bool {
         && one.rest.as_slice() == other.rest.as_slice()
 }
 
-/// Puts some parts behind others.
+/// Puts some parts after others.
 fn append(parts: [&[u8]; 5], shown: &mut Vec<u8>) -> Result<(), AllocError> {
     for part in parts {
         shown.extend_from_slice(part)?;
@@ -122,12 +122,12 @@ fn append(parts: [&[u8]; 5], shown: &mut Vec<u8>) -> Result<(), AllocError> {
     Ok(())
 }
 
-/// Puts a record as `<key|value>` behind others.
+/// Puts a record as `<key|value>` after others.
 fn show_record(key: &[u8], value: &[u8], shown: &mut Vec<u8>) -> Result<(), AllocError> {
     append([b"<", key, b"|", value, b">"], shown)
 }
 
-/// Puts a record as `<key|value>` behind others, or a removal as `[key]`.
+/// Puts a record as `<key|value>` after others, or a removal as `[key]`.
 fn show(kind: ItemKind, record: &Record, shown: &mut Vec<u8>) -> Result<(), AllocError> {
     match kind {
         ItemKind::Put => show_record(&record.key, &record.value, shown),
@@ -182,7 +182,7 @@ fn show_amending<R: Read, A: AtHand<R>>(
     Ok(true)
 }
 
-/// The records of a native text, shown, and the fault behind them.
+/// The records of a native text, shown, and the fault after them.
 fn read_native<L: Width, R: Read + Drop, A: AtHand<R>>(
     alloc: Global,
     reader: R,
@@ -200,7 +200,7 @@ fn read_native<L: Width, R: Read + Drop, A: AtHand<R>>(
     Ok(None)
 }
 
-/// The items of an amending text, shown, and the fault behind them.
+/// The items of an amending text, shown, and the fault after them.
 fn read_amending<R: Read + Drop, A: AtHand<R>>(
     alloc: Global,
     reader: R,

@@ -19,7 +19,7 @@ const fn damaged(fault: ReadFault) -> Answer {
     Err(Fault::Read(fault))
 }
 
-/// What is asked for: all values of a key, or one by its number, in lines or not.
+/// What is requested: all values of a key, or one by its number, in lines or not.
 #[derive(Clone, Copy, Debug)]
 enum Asked {
     All(&'static [u8]),
@@ -60,7 +60,7 @@ fn answers<L: Width>(
     answer::<L, Vec<u8>>(file, asked, &mut out) == want && out.as_slice() == text
 }
 
-/// A file, what is asked of it, and what comes.
+/// A file, what is requested of it, and what comes.
 type Row = (File, Asked, Answer, &'static [u8]);
 
 const WORKED: [Row; 25] = [
@@ -120,7 +120,7 @@ fn worked_and_foreign_files(rt: HostRuntime) -> Result<(), Fail> {
     Ok(())
 }
 
-/// A file with other bytes from a place on, what is asked of it, and what comes.
+/// A file with other bytes from a place on, what is requested of it, and what comes.
 type Changed = (File, usize, &'static [u8], Asked, Answer, &'static [u8]);
 
 /// Whether a query of a changed file has its answer, and writes its text.
@@ -164,7 +164,7 @@ const TABLES: [Changed; 8] = [
         Err(Fault::Read(ReadFault::Table(129))),
         b"",
     ),
-    // an empty slot, one record in two slots, a record behind an empty slot, slots exchanged
+    // an empty slot, one record in two slots, a record after an empty slot, slots exchanged
     (
         File::Two,
         2106,
@@ -323,7 +323,7 @@ const WIDE: [Changed; 4] = [
     ),
 ];
 
-/// Whether a query of a wide file that is cut is told so.
+/// Whether a query of a wide file that is cut is reported so.
 fn is_cut_short(alloc: Global, cut: usize) -> Result<bool, AllocError> {
     let mut file = File::WideNone.bytes(alloc)?;
     file.truncate(cut);
@@ -346,7 +346,7 @@ fn wide_files(rt: HostRuntime) -> Result<(), Fail> {
     Ok(())
 }
 
-/// What comes of a key of the two-record file where it is cut, whose table ends at a place.
+/// What comes of a key of the two-record file cut to a length, if the key's table ends at a place.
 fn cut_answer(cut: usize, n: u64, end: usize, value: &'static [u8]) -> (Answer, &'static [u8]) {
     if cut < 2048 {
         (damaged(ReadFault::Short), b"")
@@ -357,7 +357,7 @@ fn cut_answer(cut: usize, n: u64, end: usize, value: &'static [u8]) -> (Answer, 
     }
 }
 
-/// Whether both keys of the two-record file have that answer where it is cut.
+/// Whether both keys of the two-record file have that answer if it is cut to a length.
 fn cut_answers(alloc: Global, file: &Vec<u8>, cut: usize) -> Result<bool, AllocError> {
     let mut file = file.clone()?;
     file.truncate(cut);
@@ -377,7 +377,7 @@ fn cut_files(rt: HostRuntime) -> Result<(), Fail> {
     Ok(())
 }
 
-/// A query whose store fails the call behind so many: the answer, what was written, and the store.
+/// A query whose store fails the call after so many: the answer, what was written, and the store.
 fn fused(
     alloc: Global,
     file: Vec<u8>,
@@ -415,7 +415,7 @@ fn fails_and_goes_again(
     (is_told || is_mended) && answers::<Narrow>(alloc, file, asked, Ok(()), text)
 }
 
-/// The first call whose failure is not told so, or how many calls there are where they are too few.
+/// The first call whose failure is not reported so, or the number of calls if there are too few.
 fn first_untold(
     alloc: Global,
     file: &Vec<u8>,

@@ -1,5 +1,5 @@
-// Runs whose asks for memory `tests/faults/calls.py` refuses, each in turn. It reads what a test
-// prints: whether the refusal came to the run, to what the run is made on, or to neither.
+// Runs whose requests for memory `tests/faults/calls.py` refuses, each in turn. It reads what a
+// test prints: whether the refusal came to the run, to what the run is made on, or to neither.
 use super::amending::{LAST_ALONE, ONE_AGAIN, amend_two};
 use super::halting::put_in_memory;
 use super::running::{Duplicates, TWICE, run};
@@ -12,7 +12,7 @@ use std::alloc::{AllocError, Global};
 use std::prelude::*;
 use std::test::Fail;
 
-/// What came of a run, and of the same run again where memory was refused to the first.
+/// What came of a run, and of the same run again if memory was refused to the first.
 #[derive(Clone, Copy, Debug, PartialEq, Eq)]
 enum Came {
     Whole,
@@ -21,7 +21,7 @@ enum Came {
     Wrong,
 }
 
-/// Two records, with no slots behind them where tables begin. The key of the second takes more
+/// Two records, with no slots after them where tables begin. The key of the second takes more
 /// memory.
 const FILE: [Run; 5] = [
     (256, b"\x54\x08\0\0\x02\0\0\0"),

@@ -32,7 +32,7 @@ pub(super) enum Duplicates {
     Last,
 }
 
-/// What a run is told, that may make a file of so many bytes.
+/// The options of a run that may make a file of so many bytes.
 pub(super) fn options(mode: Mode, duplicates: Duplicates, style: Style, limit: u64) -> MakeOptions
     ensures { result.limit ≡ limit }
 {
@@ -116,8 +116,8 @@ pub(super) fn run(
     run_style(alloc, inputs, mode, duplicates, Style::Native)
 }
 
-/// Whether a run that warns of duplicates answers so, with these lines, and with this file where it
-/// fails not.
+/// Whether a run that warns of duplicates answers so, with these lines, and with this file if it
+/// does not fail.
 fn warns(
     alloc: Global,
     inputs: &[&'static [u8]],
@@ -130,7 +130,7 @@ fn warns(
     Ok(is_made && made.answer == answer && made.lines.as_slice() == lines)
 }
 
-/// A run in memory, with the duplicates told, that may make a file of 2100 bytes.
+/// A run in memory, with the duplicates reported, that may make a file of 2100 bytes.
 fn run_within_2100(alloc: Global, inputs: &[&'static [u8]]) -> Result<Made, AllocError> {
     make(
         alloc,
@@ -156,7 +156,7 @@ const PUT: [(Mode, Duplicates, File, &[u8]); 7] = [
     (Mode::Insert, Duplicates::Told, File::FirstValue, LINE),
     (Mode::Replace, Duplicates::Silent, File::SecondValue, b""),
     (Mode::Replace, Duplicates::Told, File::SecondValue, LINE),
-    // `Add` does not look, so it finds none to tell.
+    // `Add` does not look, so it finds none to report.
     (Mode::Add, Duplicates::Told, File::BothValues, b""),
 ];
 
@@ -179,7 +179,7 @@ fn a_run_stops_at_the_first_duplicate_that_it_tells(rt: HostRuntime) -> Result<(
     Ok(())
 }
 
-/// Inputs, what comes of them, the file where none fails, and the lines.
+/// Inputs, what comes of them, the file if none fails, and the lines.
 const INPUTS: [(&[&'static [u8]], Result<(), Fault>, File, &[u8]); 4] = [
     (&[FIRST, SECOND], Ok(()), File::BothValues, OTHER_LINE),
     (
@@ -226,14 +226,14 @@ fn map_texts_are_put_as_native_ones(rt: HostRuntime) -> Result<(), Fail> {
 fn a_run_has_a_limit_of_its_own(rt: HostRuntime) -> Result<(), Fail> {
     let both = File::BothValues.bytes(rt.alloc())?;
     let fits = run_within_2100(rt.alloc(), &[TWICE])?.is(Ok(()), &both, LINE);
-    // The record that is too much is not told.
+    // The record that is too much is not reported.
     let too_big = Fault::Make(MakeFault::TooBig);
     let passes = run_within_2099(rt.alloc(), &[TWICE])?.fails(too_big, b"");
     assert!(rt; fits && passes);
     Ok(())
 }
 
-/// The answer of a run whose duplicates are told to a writer.
+/// The answer of a run whose duplicates are reported to a writer.
 fn told(
     alloc: Global,
     input: &'static [u8],

@@ -20,8 +20,8 @@ fn read_in(alloc: Global, reader: &mut CountingReader, sizes: &[usize]) -> Resul
     Ok(given)
 }
 
-/// Sizes of reads, what they give, and how often the reader is asked. Five bytes in pieces of two
-/// are three asks. A read gives no more than the window has.
+/// Sizes of reads, what they give, and how many requests the reader gets. Five bytes in pieces of
+/// two are three requests. A read gives no more than the window has.
 const READS: [(&[usize], &[u8], u64); 4] = [
     (&[1, 1, 1, 1, 1], b"abcde", 3),
     (&[4], b"ab", 1),
@@ -29,7 +29,7 @@ const READS: [(&[usize], &[u8], u64); 4] = [
     (&[8, 8, 8, 8], b"abcde", 4),
 ];
 
-/// Whether reads of these sizes give a text, with so many asks.
+/// Whether reads of these sizes give a text, with so many requests.
 fn reads(alloc: Global, sizes: &[usize], text: &[u8], asked: u64) -> Result<bool, Fail> {
     let mut reader = CountingReader {
         text: b"abcde",

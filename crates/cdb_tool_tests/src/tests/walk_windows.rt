@@ -15,7 +15,7 @@ use std::test::Fail;
 /// The sizes of the windows: small ones, and those that end at a record's end or beside it.
 const SIZES: [usize; 10] = [1, 2, 3, 7, 16, 2064, 2082, 4096, 4120, 4146];
 
-/// What a walk of a file comes to: its records and its keys, shown, its fault, and the place behind
+/// What a walk of a file comes to: its records and its keys, shown, its fault, and the place after
 /// what was read.
 #[derive(Clone, Copy)]
 struct Wanted {
@@ -96,7 +96,7 @@ const ROWS: [Row; 16] = [
             end: 2082,
         },
     },
-    // a record that ends at the record end, and those that end one byte behind it
+    // a record that ends at the record end, and those that end one byte after it
     Row {
         file: File::Two,
         wide: false,
@@ -234,7 +234,7 @@ const ROWS: [Row; 16] = [
     },
 ];
 
-/// Puts a record as `<key|value>` behind others.
+/// Puts a record as `<key|value>` after others.
 fn show(key: &[u8], value: &[u8], shown: &mut Vec<u8>) -> Result<(), AllocError> {
     let parts: [&[u8]; 5] = [b"<", key, b"|", value, b">"];
     for part in parts {
@@ -286,7 +286,7 @@ fn show_next<L: Width, R: Read, A: AtHand<R>>(
     Ok(given)
 }
 
-/// The fault of a file, whose records are shown. Where keys alone are kept the value stays.
+/// The fault of a file, whose records are shown. If keys alone are kept, the value stays.
 fn walk<L: Width, R: Read + Drop, A: AtHand<R>>(
     alloc: Global,
     reader: R,

@@ -91,7 +91,7 @@ impl Read for Dripping<'_> {
     }
 }
 
-/// Puts a record as `<key|value>` behind others.
+/// Puts a record as `<key|value>` after others.
 fn show(key: &[u8], value: &[u8], shown: &mut Vec<u8>) -> Result<(), AllocError> {
     for part in [b"<", key, b"|", value, b">"] {
         shown.extend_from_slice(part)?;
@@ -162,7 +162,7 @@ fn map_texts_through_windows(rt: HostRuntime) -> Result<(), Fail> {
 /// Two lines of 4 bytes.
 const TWO_LINES: &[u8] = b"a b\nc d\n";
 
-/// Asks, how many records of the two lines they give, and whether the end is found then.
+/// Requests, how many records of the two lines they give, and whether the end is found then.
 const ASKS: [(u64, usize, bool); 5] = [
     (3, 0, false),
     (4, 1, false),
@@ -171,7 +171,7 @@ const ASKS: [(u64, usize, bool); 5] = [
     (9, 2, true),
 ];
 
-/// How many records come through a window for so many asks, and whether then the end does.
+/// How many records come through a window for so many requests, and whether then the end does.
 fn given_for(alloc: Global, asks: u64, size: usize) -> Result<(usize, bool), Fail> {
     let mut reader = Dripping {
         text: TWO_LINES,

@@ -2,7 +2,7 @@
 use std::alloc::{AllocError, Global};
 use std::prelude::*;
 
-/// A piece of a file, and how often it stands there.
+/// A piece of a file, and how often it appears there.
 pub(super) type Run = (usize, &'static [u8]);
 
 /// A file worked out by hand. A table of tests names it: its runs in each row would be proved with
@@ -184,8 +184,8 @@ const FULL_TABLE: [Run; 7] = [
     (1, b"\xc4\xb5\x02\0\0\x08\0\0"),
 ];
 
-/// One record, in a table of 16 slots: its hash, of slot 5, stands in slots 14 and 15. No program
-/// makes such a file. 2186 bytes.
+/// One record, in a table of 16 slots: its hash, of slot 5, is stored in slots 14 and 15. No
+/// program makes such a file. 2186 bytes.
 const FAR: [Run; 8] = [
     (196, b"\0\0\0\0\0\0\0\0"),
     (1, b"\x0a\x08\0\0\x10\0\0\0"),
