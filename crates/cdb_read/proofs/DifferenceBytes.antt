@@ -1,4 +1,4 @@
--- The records that stand after a difference was done are lists of bytes, and so is what it says.
+-- The records that a difference leaves are lists of bytes, and so is what it says.
 use Rattle.cdb_read.proofs.Words.{AllByRecursion, AreBytes, Bool, IsRecord, KeyValue, List, [], after_change, amended, brought_up, bytes_eq, cases_Bool, changed_keys, cond-false, cond-true, difference, filter, first_keys, flat_map, inl, inr, is_changed, map, not, puts_of, record_of, subst, sym, values_of, ℕ, ⊤, ◌++◌, ◌∷◌}
 use Rattle.cdb_form.specs.Text.Amending.{Change, Putting, Removing}
 

@@ -1,4 +1,4 @@
--- The keys of a list of records that grows behind.
+-- The keys of a list of records that grows at its end.
 use Rattle.cdb_read.proofs.Words.{Bool, KeyValue, List, [], ap, bytes_eq, bytes_eq-Decides, cases_Bool, cond, false, filter, filter-append, first_keys, inl, inr, not, not_from_false, not_from_true, refl, sym, true, ℕ, ◌&&◌, ◌++◌, ◌∙◌, ◌∷◌, ◌≡◌}
 use Rattle.cdb_read.proofs.Differences.{cond_nothing, eq_other_way, there}
 
@@ -31,7 +31,7 @@ chosen_one : {X : Type 0} (th p : Bool) (x : X) → cond th [] (cond p (x ∷ []
 chosen_one true p x = refl
 chosen_one false p x = refl
 
--- and is chosen of the first keys if the test tells it
+-- and is chosen of the first keys if it passes the test
 pub chosen_push : (p : List ℕ → Bool) (rs : List KeyValue) (r : KeyValue) → filter p (first_keys (rs ++ r ∷ [])) ≡ filter p (first_keys rs) ++ cond (not (there r.key rs) && p r.key) (r.key ∷ []) []
 chosen_push p rs r =
     ap (filter p) (first_keys_push rs r)

@@ -8,7 +8,7 @@ use Rattle.cdb_read.proofs.WholeFiles.LookupLaws.{finds_values, lookup_of-file_b
 use Rattle.cdb_read.proofs.Bytes.RecordsAt.{all_read}
 use Rattle.cdb_read.proofs.Walked.WalkedLengths.{length_of}
 
--- where the value of a record is read that stands at a place
+-- where the value of the record at a place is read
 span_read : (w : ℕ) (bytes : List ℕ) (at : ℕ) (r : KeyValue) → ReadsAt w bytes at r → value_span w bytes at ≡ span_of w at r
 span_read w bytes at r reads =
     let p = pair_at w (drop at bytes) in
@@ -33,7 +33,7 @@ spans_other w at key r rs f = let others = spans_from w (at + record_size w r) k
 abbrev entry_at : ℕ → KeyValue → WordPair
 entry_at at r = record { first = key_hash r.key; second = at }
 
--- one record more, whose entry is among those of the hash where its key has it
+-- one record more, whose entry is among those of the hash if its key has the hash
 more : (w : ℕ) (bytes key : List ℕ) (at : ℕ) (es : List WordPair) (r : KeyValue) (rs : List KeyValue) → ReadsAt w bytes at r → (found_at w bytes key (places_of es)).spans ≡ spans_from w (at + record_size w r) key rs
     → (found_at w bytes key (places_of (cond (has_hash (key_hash key) (entry_at at r)) (entry_at at r ∷ es) es))).spans ≡ spans_from w at key (r ∷ rs)
 more w bytes key at es r rs reads ih =

@@ -35,7 +35,7 @@ unfoldable pub difference : List KeyValue → List KeyValue → List Change
 difference rs ss =
     map Removing (changed_keys rs ss) ++ flat_map (puts_of ss) (changed_keys ss rs)
 
--- the records after a change: a put adds one behind the others, a removal takes out all of its key
+-- the records after a change: a put adds one after the others, a removal takes out all of its key
 abbrev pub after_change : List KeyValue → Change → List KeyValue
 after_change rs (Putting r) = rs ++ r ∷ []
 after_change rs (Removing key) = filter (λ r. not (bytes_eq r.key key)) rs

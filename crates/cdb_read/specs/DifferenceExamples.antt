@@ -44,7 +44,7 @@ order_is : difference straight turned
 unfolding difference first_keys values_eq pair straight turned
 order_is = refl
 
--- the order of the keys changes nothing, nor where a value is the same
+-- another order of the keys changes nothing if their values are the same
 keys_are : difference (pair [] [] ∷ straight) (straight ++ pair [] [] ∷ []) ≡ []
 unfolding difference first_keys values_eq pair straight
 keys_are = refl

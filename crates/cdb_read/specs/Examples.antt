@@ -39,28 +39,28 @@ narrow_lookups =
     (two_file, codes "two", found (span 2075 7 ∷ []) None) ∷
     -- a key of a table without slots
     (two_file, codes "a", found [] None) ∷
-    -- all values of a key, in order, where the search goes round from the last slot to the first
+    -- all values of a key, in order: the search goes round from the last slot to the first
     (
       file_bytes 4 four_records,
       codes "a",
       found (span 2057 1 ∷ span 2067 1 ∷ span 2077 1 ∷ span 2087 1 ∷ []) None,
     ) ∷
-    -- the same, where the third slot tells no record's place
+    -- the same, but the third slot has no record's place
     (
       put_at 2148 (21 ∷ []) (file_bytes 4 four_records),
       codes "a",
       found (span 2057 1 ∷ span 2067 1 ∷ []) (Some (Record 2069)),
     ) ∷
-    -- the same, where its table passes the end of the file
+    -- the same, but its table passes the end of the file
     (take 2150 (file_bytes 4 four_records), codes "a", found [] (Some (Table 196))) ∷
     -- a key that has the hash of another
     (file_bytes 4 same_hash, codes "cB", found (span 2069 1 ∷ []) None) ∷
     -- another program's file, whose table has no empty slot; `bc` has this table, but not the hash
     (foreign_file, codes "a", found (span 2057 1 ∷ []) None) ∷
     (foreign_file, codes "bc", found [] None) ∷
-    -- a slot that tells no record's place
+    -- a slot that has no record's place
     (put_at 2086 (17 ∷ []) two_file, codes "two", found [] (Some (Record 2065))) ∷
-    -- and one that tells a place within the head
+    -- and one that has a place within the head
     (put_at 2086 (255 ∷ 7 ∷ []) two_file, codes "two", found [] (Some (Record 2047))) ∷
     -- a table within the head
     (put_at 328 (words_of 4 2047 2) two_file, codes "two", found [] (Some (Table 41))) ∷

@@ -1,4 +1,4 @@
--- The first fault of a file, in the order in which faults are told, in words of w bytes.
+-- The first fault of a file, in the order in which faults are reported, in words of w bytes.
 use Rattle.std.specs.Prelude.{ℕ, ◌==◌, ◌&&◌, Bool, not, nat_lt, if◌then◌else◌, List, [], ◌∷◌}
 use Rattle.std.specs.Prelude.{◌++◌, length, take, Option, Some, None}
 use Rattle.std.specs.List.{list_any, range_with_len}
@@ -19,18 +19,18 @@ unfoldable pub first_of : {X : Type 0} → (X → Option Damage) → List X → 
 first_of fault [] = None
 first_of fault (x ∷ xs) = option_or (fault x) (first_of fault xs)
 
--- a fault where there is one
+-- a fault if there is one
 abbrev pub fault_if : Bool → Damage → Option Damage
 fault_if is damage = if is then Some damage else None
 
--- table n has slots, and doesn't lie behind the head and inside the file
+-- table n has slots, and doesn't lie after the head and inside the file
 abbrev pub table_fault : ℕ → List ℕ → ℕ → Option Damage
 table_fault w bytes n =
     let p = nth_pair w bytes n in
     fault_if (has_slots p && not (is_inside w bytes p)) (Table n)
 
 -- whether a slot has the hash and the place of an entry, and whether a slot of table n is right
--- among such entries, where a search comes to it or not; and slot i
+-- among such entries, whether a search comes to it or not; and slot i
 abbrev pub is_same : WordPair → WordPair → Bool
 is_same slot entry = (entry.first == slot.first) && (entry.second == slot.second)
 
@@ -46,14 +46,14 @@ abbrev pub used_fault : List WordPair → Bool → ℕ → ℕ → WordPair → 
 used_fault earlier right n i slot = option_or (fault_if (not right) (Slot n i))
     (fault_if (list_any (has_place slot) earlier) (Twice slot.second))
 
--- the fault of slot i of table n, where some slots stand before the table
+-- the fault of slot i of table n, if these slots lie before the table
 abbrev pub slot_fault : List WordPair → List WordPair → ℕ → List WordPair → ℕ → Option Damage
 slot_fault entries before n slots i =
     let slot = nth_slot slots i in
     if is_used slot
     then used_fault (before ++ take i slots) (is_right entries n slots i) n i slot else None
 
--- the first fault of the slots of a table, behind others
+-- the first fault of the slots of a table, which follow other slots
 abbrev pub faults_behind : List WordPair → List WordPair → ℕ → List WordPair → Option Damage
 faults_behind entries before n slots =
     first_of (slot_fault entries before n slots) (range_with_len 0 (length slots))

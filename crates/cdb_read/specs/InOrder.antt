@@ -8,11 +8,11 @@ use Rattle.cdb_read.specs.Lookup.{bytes_of, lookup_of}
 use Rattle.cdb_read.specs.Values.{values_of}
 use Rattle.cdb_read.specs.declared.span.Span.{Span}
 
--- where the value of a record lies that stands at a place
+-- where the value of the record at a place lies
 abbrev pub span_of : ℕ → ℕ → KeyValue → Span
 span_of w at r = record { place = at + pair_size w + length r.key; len = length r.value }
 
--- where the values of a key lie among records that stand one behind the other from a place on
+-- where the values of a key lie among records that follow each other from a place on
 unfoldable pub spans_from : ℕ → ℕ → List ℕ → List KeyValue → List Span
 spans_from w at key [] = []
 spans_from w at key (r ∷ rs) =

@@ -16,18 +16,18 @@ pub record FindsValues (w : ℕ) (rs : List KeyValue) (key : List ℕ) : Type 0 
       ≡ values_of key rs
   pub sound : (lookup_of w (file_bytes w rs) key).damage ≡ None
 
--- a look-up in a file finds the values that the key has in the walk, each as often as it stands
+-- a look-up in a file finds the values that the key has in the walk, each as often as it occurs
 -- there, and meets no damage
 pub record FindsWalked (w : ℕ) (bytes key : List ℕ) : Type 0 where
   pub values : IsPermutation (values_of key (walk_of w bytes).records)
       (map (bytes_of bytes) (lookup_of w bytes key).spans)
   pub sound : (lookup_of w bytes key).damage ≡ None
 
--- a file is sound exactly where it has no first fault
+-- a file is sound exactly when it has no first fault
 abbrev pub SoundIsNoDamage : ℕ → List ℕ → Type 0
 SoundIsNoDamage w bytes = IsSound w bytes ↔ (first_fault w bytes ≡ None)
 
--- the records that stand after the difference of rs and ss was done to rs
+-- the records that are there after the difference of rs and ss was done to rs
 abbrev pub brought_up : List KeyValue → List KeyValue → List KeyValue
 brought_up rs ss = amended rs (difference rs ss)
 
@@ -37,7 +37,7 @@ pub record FindsAsIn (w : ℕ) (bytes key : List ℕ) (rs : List KeyValue) : Typ
   pub values : map (bytes_of bytes) (lookup_of w bytes key).spans ≡ values_of key rs
   pub sound : (lookup_of w bytes key).damage ≡ None
 
--- nothing differs exactly where every key has the same values in both
+-- nothing differs exactly when every key has the same values in both
 abbrev pub EmptyIsSame : List KeyValue → List KeyValue → Type 0
 EmptyIsSame rs ss =
     (difference rs ss ≡ []) ↔ ((key : List ℕ) → values_of key rs ≡ values_of key ss)

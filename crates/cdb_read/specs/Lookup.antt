@@ -17,7 +17,7 @@ use Rattle.cdb_read.specs.declared.span.Span.{Span}
 abbrev pub bytes_of : List ℕ → Span → List ℕ
 bytes_of bytes s = take s.len (drop s.place bytes)
 
--- whether the record at a place stands behind the head and inside the file
+-- whether the record at a place lies after the head and inside the file
 abbrev pub is_whole : ℕ → List ℕ → ℕ → Bool
 is_whole w bytes place =
     nat_le (head_size w) place && nat_le (place + prefix_size w (drop place bytes)) (length bytes)
@@ -32,7 +32,7 @@ value_span w bytes place =
     let lengths = pair_at w (drop place bytes) in
     record { place = place + pair_size w + lengths.first; len = lengths.second }
 
--- whether a pointer's table lies behind the head and inside the file, and its slots
+-- whether a pointer's table lies after the head and inside the file, and its slots
 abbrev pub is_inside : ℕ → List ℕ → WordPair → Bool
 is_inside w bytes p =
     nat_le (head_size w) p.first && nat_le (p.first + pair_size w * p.second) (length bytes)
@@ -66,7 +66,7 @@ with_span s f = record { spans = s ∷ f.spans; damage = f.damage }
 abbrev pub with_spans : List Span → Found → Found
 with_spans spans f = record { spans = spans ++ f.spans; damage = f.damage }
 
--- the values of a key at some places, up to the first at which no whole record stands
+-- the values of a key at some places, up to the first place that has no whole record
 unfoldable pub found_at : ℕ → List ℕ → List ℕ → List ℕ → Found
 found_at w bytes key places =
     let whole = take_while (is_whole w bytes) places in

@@ -1,4 +1,4 @@
--- When a file is sound, in words of w bytes: its tables and its walk tell the same records.
+-- When a file is sound, in words of w bytes: its tables and its walk have the same records.
 use Rattle.std.specs.Prelude.{ℕ, ◌≡◌, ◌<◌, ◌+◌, ◌-◌, ◌%◌, ◌==◌, Bool, true, List, length, take}
 use Rattle.std.specs.Prelude.{flat_map, get_or, None, All}
 use Rattle.std.specs.List.{Contains, count_by, list_all, range_with_len}
@@ -23,7 +23,7 @@ all_slots w bytes = tables_below w bytes 256
 abbrev pub walk_entries : ℕ → List ℕ → List WordPair
 walk_entries w bytes = file_entries w (walk_of w bytes).records
 
--- slot i, and how far it is behind a home, going round
+-- slot i, and how far it is after a home, going round
 abbrev pub nth_slot : List WordPair → ℕ → WordPair
 nth_slot slots i = get_or slots i empty_slot
 
@@ -49,7 +49,7 @@ has_place entry slot = slot.second == entry.second
 
 -- a file is sound
 pub record IsSound (w : ℕ) (bytes : List ℕ) : Type 0 where
-  -- each table with slots lies behind the head and inside the file
+  -- each table with slots lies after the head and inside the file
   pub inside : (n : ℕ) → n < 256 → has_slots (nth_pair w bytes n) ≡ true
       → is_inside w bytes (nth_pair w bytes n) ≡ true
   -- the walk has no damage

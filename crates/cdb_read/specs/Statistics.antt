@@ -20,7 +20,7 @@ use Rattle.cdb_read.specs.declared.statistics.stats.Stats.{Stats}
 abbrev pub capped : ℕ → ℕ
 capped n = min n 18446744073709551615
 
--- the least, the average and the greatest of some numbers, each 0 where there is none
+-- the least, the average and the greatest of some numbers, each 0 if there is no number
 abbrev pub least_of : List ℕ → ℕ
 least_of ns = unwrap_or (reduce min ns) 0
 
@@ -30,7 +30,7 @@ average_of ns = if length ns == 0 then 0 else sum ns / length ns
 abbrev pub greatest_of : List ℕ → ℕ
 greatest_of ns = unwrap_or (reduce max ns) 0
 
--- slot i of a table, and how far each of its used slots stands behind the home of its hash
+-- slot i of a table, and how far each of its used slots is after the home of its hash
 abbrev pub slot_of : ℕ → List ℕ → WordPair → ℕ → WordPair
 slot_of w bytes p i = nth_pair w (drop p.first bytes) i
 
@@ -87,7 +87,7 @@ statistics_of w bytes =
     stats_of (key_lengths rs) (value_lengths rs) (table_sizes (head_at w bytes))
     (distances_of w bytes (head_at w bytes))
 
--- a table has slots, and doesn't lie behind the head and inside the file; the number of the first one
+-- a table has slots, and doesn't lie after the head and inside the file; the number of the first one
 abbrev pub is_outside : ℕ → List ℕ → WordPair → Bool
 is_outside w bytes p = has_slots p && not (is_inside w bytes p)
 

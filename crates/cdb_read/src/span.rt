@@ -1,4 +1,4 @@
-// Where keys and values stand in a file.
+// Where keys and values lie in a file.
 ghost use Rattle.std.specs.Prelude.{◌≡◌, ◌+◌, ◌<◌, ◌≤◌, MatchOption};
 ghost use Rattle.std.specs.Bool.{Decides};
 ghost use Rattle.cdb_form.specs.Format.Pair.{pair_size};
@@ -34,8 +34,8 @@ pub fn has_bytes(size: u64, place: u64, len: u64) -> bool
     place <= size && len <= size - place
 }
 
-/// Where the key and the value of the record with this header lie, which is at a place before a
-/// limit. There are none if the record passes the limit.
+/// Where the key and the value of the record with this header lie. The record is at a place before
+/// a limit. If it passes the limit, the answer is `None`.
 #[inline(always)]
 pub fn spans<L: Width>(place: u64, header: Header, limit: u64) -> Option<Pair>
     requires { place + pair_size L.WORD ≤ limit }

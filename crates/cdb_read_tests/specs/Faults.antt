@@ -27,7 +27,7 @@ narrow_faults =
     (two_file, None) ∷
     -- four values of one key
     (file_bytes 4 four_records, None) ∷
-    -- five bytes behind the tables
+    -- five bytes after the tables
     (two_file ++ replicate 5 1, None) ∷
     -- another program's file, whose table has no empty slot
     (foreign_file, None) ∷
@@ -35,14 +35,14 @@ narrow_faults =
     (replicate 2048 0, None) ∷
     -- cut within the head
     (take 2047 two_file, Some Short) ∷
-    -- a table behind the end of the file, and one within the head
+    -- a table after the end of the file, and one within the head
     (put_at 56 (words_of 4 2114 1) two_file, Some (Table 7)) ∷
     (put_at 0 (words_of 4 100 1) two_file, Some (Table 0)) ∷
     -- cut within the second record, so that no table is left
     (take 2070 two_file, Some (Table 41)) ∷
-    -- a value that reaches behind the record end
+    -- a value that reaches past the record end
     (put_at 2068 (8 ∷ []) two_file, Some (Record 2064)) ∷
-    -- a slot that tells no record's place
+    -- a slot that has no record's place
     (put_at 2086 (17 ∷ []) two_file, Some (Slot 41 0)) ∷
     -- one whose hash is another
     (put_at 2083 (97 ∷ []) two_file, Some (Slot 41 0)) ∷
@@ -50,7 +50,7 @@ narrow_faults =
     (put_at 2090 (words_of 4 193420161 2048) two_file, Some (Slot 41 1)) ∷
     -- another record's slot, which is wrong there before it is the second of that record
     (put_at 2098 (words_of 4 193421353 2064) two_file, Some (Slot 129 0)) ∷
-    -- a slot behind an empty one
+    -- a slot after an empty one
     (
       put_at 2056 (words_of 4 5381 2048 ++ words_of 4 0 0) (file_bytes 4 empty_record),
       Some (Slot 5 0),

@@ -1,10 +1,10 @@
--- How records that stand in some bytes are read there.
+-- How the records in some bytes are read.
 use Rattle.cdb_read.proofs.Words.{All, All-cons, All-nil, KeyValue, List, PairFits, WordPair, [], and_from, ap, append_assoc, arith, bytes_of, drop, drop-drop, drop_at, entries_from, flat_map, head_size, is_whole, le-leb, length, pair_at, prefix_record, prefix_size, record_bytes, record_size, subst, sum_by, sum_by-cons, sym, take, true, value_span, ℕ, ◌*◌, ◌++◌, ◌+◌, ◌^◌, ◌∙◌, ◌∷◌, ◌≡◌, ◌≤◌}
 use Rattle.cdb_form.proofs.Files.Prefixes.{lengths_of, Begins, prefix_reads}
 use Rattle.cdb_form.proofs.Files.Sizes.{length-record_bytes}
 use Rattle.cdb_form.proofs.Files.Standing.{Begins-record_bytes}
 
--- how a record that stands at a place reads
+-- the record at a place is whole, and reads as this key and this value
 pub record ReadsAt (w : ℕ) (bytes : List ℕ) (at : ℕ) (r : KeyValue) : Type 0 where
   pub whole : is_whole w bytes at ≡ true
   pub key : (prefix_record w (drop at bytes)).key ≡ r.key
@@ -24,7 +24,7 @@ reads_at w top bytes at r rest top_is fit here low high =
       value = ap (take p.second) (sym there) ∙ ap (λ (q : KeyValue). q.value) reads.is;
     }
 
--- and how some that stand one behind the other do
+-- and so does each of some records that follow each other from a place on
 abbrev pub AllRead : ℕ → List ℕ → ℕ → List KeyValue → Type 0
 AllRead w bytes at [] = Unit {0}
 AllRead w bytes at (r ∷ rs) = ReadsAt w bytes at r × AllRead w bytes (at + record_size w r) rs
@@ -41,7 +41,7 @@ all_read w top bytes at (r ∷ rs) rest top_is here low high fits =
       all_read w top bytes (at + record_size w r) rs rest top_is behind (omega arith) (omega arith) (omega arith),
     )
 
--- their entries tell places of whole records
+-- the places in their entries are those of whole records
 abbrev pub TellsWhole : ℕ → List ℕ → WordPair → Type 0
 TellsWhole w bytes e = is_whole w bytes e.second ≡ true
 

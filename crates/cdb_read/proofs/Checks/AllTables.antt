@@ -12,7 +12,7 @@ below_more w b n =
     ap (λ t. tables_below w b n ++ t) (ap (table_at w b) z ∙ sym (append-nil (table_at w b (0 + n))))
     ∙ sym (ap (flat_map (table_at w b)) (range_split 0 n 1) ∙ flat_map-append (table_at w b) (range_with_len 0 n) (range_with_len (0 + n) 1))
 
--- a table, as its pointer tells it
+-- a table, as its pointer gives it
 table_is : (w : ℕ) (b : List ℕ) (ps : List Pointer) (n : ℕ) (d : Pointer) → head_at w b ≡ map pointer_pair ps → n < 256 → slots_at w b (pointer_pair (get_or ps n d)) ≡ table_at w b n
 table_is w b ps n d known l = ap (slots_at w b) (sym (pointer_known w b ps n d known l))
 
@@ -36,7 +36,7 @@ next_fault w b ps n d es known l =
     ∙ faults_in es (tables_below w b n) n (table_at w b n)
     ∙ ap (faults_behind (filter (in_table n) es) (tables_below w b n) n) (sym (table_is w b ps n d known l))
 
--- the marks of each list, where those of table n have all slots of it
+-- the marks of each list, if those of table n are of all its slots
 marks_next : (w : ℕ) (b : List ℕ) (n : ℕ) (mid : List TableRecords) (new : TableRecords) (es : List WordPair) → n < 256 → slots_fault w b es n ≡ None → ListsMark mid es (tables_below w b n)
     → Marks new (filter (in_table n) es) (tables_below w b n ++ table_at w b n) → ListsMark (set mid n new) es (tables_below w b (n + 1))
 marks_next w b n mid new es l none m here = record {

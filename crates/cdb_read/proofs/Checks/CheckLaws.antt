@@ -7,7 +7,7 @@ use Rattle.cdb_read.proofs.WholeFiles.FaultLaws.{first_fault-whole, none_of-all,
 use Rattle.cdb_read.proofs.Checks.FaultSteps.{first_next}
 use Rattle.cdb_read.proofs.Checks.TableChecks.{not_outside}
 
--- table n, as its pointer tells it
+-- table n, as its pointer gives it
 pointer_at : (w n : ℕ) (b : List ℕ) (ps : List Pointer) → length ps ≡ 256 → head_at w b ≡ map pointer_pair ps → n < 256 → get_or (map pointer_pair ps) n (record { first = 0; second = 0 }) ≡ nth_pair w b n
 pointer_at w n b ps many known l =
     let d : Pointer = record { place = 0; slots = 0 } in

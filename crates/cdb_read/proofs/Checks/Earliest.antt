@@ -1,4 +1,4 @@
--- The first record that no slot tells, among those of some tables.
+-- The first record that no slot points to, among the records of some tables.
 use Rattle.std.proofs.Common.{◌≡◌, ℕ, ◌+◌, ◌<◌, ◌≤◌, Bool, true, false, not, List, [], ◌∷◌, length, get_or, refl, sym, ap, ◌∙◌, subst, arith, inl, inr}
 use Rattle.cdb_read.proofs.Words.{Damage, Marks, None, Option, Some, TableRecords, WordPair, fault_if, first_of, if◌then◌else◌, in_table, is_told, lost_fault, min-eq_left, min-eq_right, nat_lt, option_map, table_number}
 use Rattle.std.specs.Option.{option_or, unwrap_or}
@@ -9,7 +9,7 @@ use Rattle.cdb_read.specs.Views.RecordLists.{earlier_of, IsRising, ListsMark}
 use Rattle.cdb_read.proofs.Checks.FaultSteps.{first_of-cons, first_of-nil}
 use Rattle.cdb_read.proofs.Lists.Rising.{rising_filter}
 
--- the place of the first record that some slots don't tell
+-- the place of the first record that no slot of a list points to
 lost_place : List WordPair → List WordPair → Option ℕ
 lost_place slots [] = None
 lost_place slots (e ∷ es) = if is_told slots e then lost_place slots es else Some e.second
@@ -17,7 +17,7 @@ lost_place slots (e ∷ es) = if is_told slots e then lost_place slots es else S
 abbrev pub as_lost : Option ℕ → Option Damage
 as_lost place = option_map (λ p. Unindexed p) place
 
--- by whether its first record is told
+-- by whether a slot points to its first record
 next_told : (slots es : List WordPair) (e : WordPair) → is_told slots e ≡ true → lost_place slots (e ∷ es) ≡ lost_place slots es
 unfolding lost_place
 next_told slots es e t = cond-true (is_told slots e) (lost_place slots es) (Some e.second) t
@@ -92,7 +92,7 @@ earlier_last : (a : ℕ) (other : Option ℕ) → ((b : ℕ) → other ≡ Some 
 earlier_last a None least = refl
 earlier_last a (Some b) least = ap (λ n. Some n) (min-eq_right (least b refl))
 
--- the earlier of two, where no record passes both tests, and those that pass one pass the third
+-- the earlier of two, if no record passes both tests, and each record that passes one passes the third
 record Parts (p q r : WordPair → Bool) : Type 0 where
   left : (e : WordPair) → p e ≡ true → r e ≡ true
   right : (e : WordPair) → q e ≡ true → r e ≡ true
@@ -151,7 +151,7 @@ all_below n (e ∷ es) l =
     cond-true (below_table n e) (e ∷ filter (below_table n) es) (filter (below_table n) es) (lt-ltb (table_number e.first) n (omega arith))
     ∙ ap (λ t. e ∷ t) (all_below n es l)
 
--- the place of the first record of the first n lists that no slot tells
+-- the place of the first record of the first n lists that no slot points to
 pub record IsFirstOf (lists : List TableRecords) (n : ℕ) (first : Option ℕ) : Type 0 where
   lost : (entries slots : List WordPair) → ListsMark lists entries slots → first ≡ lost_in (below_table n) slots entries
 

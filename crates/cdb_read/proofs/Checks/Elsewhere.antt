@@ -1,4 +1,4 @@
--- The slots of a table without a fault tell no record of another table, and are right or wrong by
+-- The slots of a table without a fault point to no record of another table, and are right or wrong by
 -- the records of their own alone.
 use Rattle.std.proofs.Common.{◌≡◌, ℕ, ◌<◌, ◌≤◌, Bool, true, false, ◌&&◌, ◌||◌, List, [], ◌∷◌, ◌++◌, length, take, get_or, refl, sym, ap, ◌∙◌, subst, arith, inl, inr}
 use Rattle.cdb_read.proofs.Words.{All, Damage, IsRising, Marks, None, Option, TableRecords, WordPair, and_left, and_parts, and_right, both_ways, cases_Bool, cond-false, cond-true, empty_slot, eqb-true, faults_behind, first_of, has_place, if◌then◌else◌, in_table, is_reached, is_right_slot, is_same, is_told, is_used, list_any-append, list_any_none, marks_of, ne_eqb, not-false, nth_slot, option_or, slot_fault, slots_fault, table_at, table_number, tables_below, used_fault, ◌==◌}

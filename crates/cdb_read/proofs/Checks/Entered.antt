@@ -1,4 +1,4 @@
--- The records of a walk by their places and hashes, and which of them slots have told.
+-- The records of a walk by their places and hashes, and which of them slots have pointed to.
 use Rattle.std.proofs.Common.{◌≡◌, ℕ, zero, suc, ◌+◌, ◌<◌, ◌≤◌, Bool, true, false, not, ◌&&◌, ◌||◌, List, [], ◌∷◌, ◌++◌, length, get_or, set, drop, refl, sym, ap, ◌∙◌, subst, arith, inl, inr}
 use Rattle.cdb_read.proofs.Words.{All, All-from_get_or, Damage, IsStrictlyIncreasing, Marks, None, Option, Some, TableRecords, WordPair, and_from, and_left, and_right, cases_eq, cases_lt, empty_slot, entries_of, entry_pairs, eq-eqb, fault_if, first_of, has_place, is_right_slot, is_same, is_told, list_any, lost_fault, marks_of, ne_eqb, option_or, table_number, used_fault, ◌==◌}
 use Rattle.std.proofs.lemmas.List.{same_lists, get_or-map, length-map, length-set, get_or-set_same, get_or-set_other, map-append, at_drop_more, drop_all}
@@ -110,7 +110,7 @@ or_some false false h = h
 told_more : (slots : List WordPair) (s : WordPair) (p : ℕ) → place_told (slots ++ s ∷ []) p ≡ (place_told slots p || ((s.second == p) || false))
 told_more slots s p = list_any-append (λ (x : WordPair). x.second == p) slots (s ∷ [])
 
--- one slot more that tells record k
+-- one slot more, which points to record k
 pub marks_set : (ps hs : List ℕ) (slots : List WordPair) (s : WordPair) (k : ℕ) → length hs ≡ length ps → IsStrictlyIncreasing ps → k < length ps → get_or ps k 0 ≡ s.second
     → set (marks_of slots (entries_of ps hs)) k true ≡ marks_of (slots ++ s ∷ []) (entries_of ps hs)
 marks_set ps hs slots s k e up l is =
@@ -129,7 +129,7 @@ marks_set ps hs slots s k e up l is =
           ∙ or_none (place_told slots (get_or ps j 0)) (s.second == get_or ps j 0) (ne_eqb s.second (get_or ps j 0) (λ q. rising_apart ps j k up other (omega arith) l (sym q ∙ sym is)))))
     ])
 
--- one slot more that tells none
+-- one slot more, which points to no record
 pub marks_same : (ps hs : List ℕ) (slots : List WordPair) (s : WordPair) → length hs ≡ length ps → ((j : ℕ) → j < length ps → s.second ≡ get_or ps j 0 → ⊥)
     → marks_of slots (entries_of ps hs) ≡ marks_of (slots ++ s ∷ []) (entries_of ps hs)
 marks_same ps hs slots s e never =
@@ -141,7 +141,7 @@ marks_same ps hs slots s e never =
     ∙ sym (mark_at ps hs (slots ++ s ∷ []) j (get_or ps j 0) d e (omega arith) refl ∙ told_more slots s (get_or ps j 0)
     ∙ or_none (place_told slots (get_or ps j 0)) (s.second == get_or ps j 0) (ne_eqb s.second (get_or ps j 0) (never j (omega arith)))))
 
--- what a used slot that is right tells, where its record has the mark `b`
+-- the fault of a used slot that is right, if its record has the mark `b`
 told_right : (es slots : List WordPair) (n i : ℕ) (s : WordPair) (reached : Bool) → list_any (is_same s) es ≡ true → table_number s.first ≡ n → reached ≡ true → used_fault slots (is_right_slot es n s reached) n i s ≡ fault_if (list_any (has_place s) slots) (Twice s.second)
 told_right es slots n i s reached there table way =
     let right : (list_any (is_same s) es && ((table_number s.first == n) && reached)) ≡ true = and_from _ _ there (and_from _ _ (eq-eqb (table_number s.first) n table) way) in
@@ -168,7 +168,7 @@ marks_told old new es slots k s m l place same_places same_hashes mark =
       positive = subst (All (λ p. 0 < p)) (sym ps) m.positive;
     }
 
--- an empty slot tells no record
+-- an empty slot points to no record
 pub marks_unused : (e : TableRecords) (es slots : List WordPair) (s : WordPair) → s.second ≡ 0 → Marks e es slots → Marks e es (slots ++ s ∷ [])
 marks_unused e es slots s z m =
     let ps = e.places.items in
@@ -182,7 +182,7 @@ marks_unused e es slots s z m =
       positive = m.positive;
     }
 
--- the first record that no slot tells, from record k on
+-- the first record that no slot points to, from record k on
 abbrev pub lost_from : List WordPair → List WordPair → ℕ → Option Damage
 lost_from slots es k = first_of (lost_fault slots) (drop k es)
 

@@ -1,4 +1,4 @@
--- A table that its records fill in their order has no fault, and tells each of them.
+-- A table that its records fill in their order has no fault, and points to each of them.
 use Rattle.cdb_read.proofs.Words.{All-contains, All-contains_itself, All-from_get_or, All-get_or, All-head, All-tail, Bool, Contains, IsRising, IsStrictlyIncreasing, List, Marks, ReadFault, TableIsClear, TableRecords, TellsSame, WordPair, [], ap, append-nil, arith, cases_Bool, count_by, drop, drop-take, empty_slot, entries_of, entry_pairs, false, faults_behind, flat_map, get_or, get_or-map, get_or-map-range_with_len, get_or_default, has_place, inl, inr, is_told, is_used, length, length-map-range_with_len, list_any, list_any-append, map, marks_of, nth_pair, nth_slot, or_right, pair_at, pair_size, range_with_len, refl, replicate, same_lists, same_words, slot_pair, slots_at, slots_in, slots_of, subst, suc, sym, table_number, take, take-take, true, ℕ, ◌*◌, ◌++◌, ◌+◌, ◌-◌, ◌<◌, ◌∙◌, ◌∷◌, ◌≡◌, ◌≤◌, ◌⊎◌}
 use Rattle.std.specs.Prelude.{All, None, ◌||◌, Result, Ok, Err, IfOk}
 use Rattle.std.proofs.Math.Nat.{mul-le-mul_left}
@@ -66,7 +66,7 @@ known e n top es before fresh marks =
           ap (λ (ss : List WordPair). is_told before (get_or ss k empty_slot)) marks.are ∙ sym here ∙ sym mark ∙ fresh.unmarked k low);
     }
 
--- each entry's place stands once among the slots
+-- the place of each entry occurs once among the slots
 once_there : (e : TableRecords) (n : ℕ) (before : List WordPair) (s : WordPair) → Known e n before → Contains (entry_pairs e) s → count_by (has_place s) (slots_of (entry_pairs e)) ≡ 1
 once_there e n before s k c =
     let entries = entry_pairs e in

@@ -18,7 +18,7 @@ slots_more w b p i s l here =
 pub slots_all : (w : ℕ) (b : List ℕ) (p : WordPair) (i : ℕ) → p.second ≤ i → take i (slots_at w b p) ≡ slots_at w b p
 slots_all w b p i past = take_all i (slots_at w b p) (omega (arith, length-slots_at w b p))
 
--- the fault of a slot, by what it tells
+-- the fault of a slot, by what is in it
 slot_fault_used : (es before slots : List WordPair) (n i : ℕ) (s : WordPair) (reached : Bool) → nth_slot slots i ≡ s → is_used s ≡ true → reached ≡ is_reached slots i
     → slot_fault es before n slots i ≡ used_fault (before ++ take i slots) (is_right_slot es n s reached) n i s
 slot_fault_used es before slots n i s reached here used way =

@@ -9,7 +9,7 @@ lies_is_inside w size b p long lies =
     let within = lies.inside in
     and_from _ _ (le-leb (head_size w) p.first lies.behind) (le-leb (p.first + pair_size w * p.second) (length b) (omega arith))
 
--- a table that stands inside isn't outside
+-- a table that is inside isn't outside
 pub not_outside : (w size : ℕ) (b : List ℕ) (p : WordPair) → length b ≡ size → StandsInside w size p → is_outside w b p ≡ false
 not_outside w size b p long stands = elim (cases_Bool (has_slots p)) [
   | inl some ↦
@@ -38,7 +38,7 @@ position_none p xs d all =
     let at = position_or_len_is p xs (length xs) d (omega arith) all (λ past. absurd (omega arith)) in
     ap (λ k. cond (nat_lt k (length xs)) (Some k) None) at ∙ cond-false _ (Some n) None (le-ltb n n (omega arith))
 
--- tables that stand inside, and one more
+-- tables that are inside, and one more
 abbrev pub StandBefore : ℕ → ℕ → ℕ → List WordPair → Type 0
 StandBefore w size n ps = (k : ℕ) (d : WordPair) → k < n → StandsInside w size (get_or ps k d)
 
@@ -51,7 +51,7 @@ stand_more w size n ps d low before here = λ k e less. elim (cases_lt k n) [
       (subst (StandsInside w size) (sym (get_or-map pointer_pair ps n d e low)) here))
 ]
 
--- those before a place stand inside, and the one there doesn't
+-- the tables before table n are inside, and table n isn't
 pub first_outside_is : (w size n : ℕ) (b : List ℕ) (ps : List Pointer) (d : Pointer) → length b ≡ size → n < length ps → StandBefore w size n (map pointer_pair ps) → ((get_or ps n d).slots ≡ 0 → ⊥) → (LiesInside w size (pointer_pair (get_or ps n d)) → ⊥) → Some n ≡ position (is_outside w b) (map pointer_pair ps)
 first_outside_is w size n b ps d long low before some outside =
     let q = pointer_pair d in
@@ -67,7 +67,7 @@ none_outside_is w size n b ps long past all =
     let l = length-map ps pointer_pair in
     sym (position_none (is_outside w b) pairs q (λ k low. not_outside w size b (get_or pairs k q) long (all k q (omega arith))))
 
--- a table of a head whose tables all stand inside
+-- a table of a head whose tables are all inside
 pub stands_at : (w size now n : ℕ) (ps : List Pointer) (d : Pointer) → now ≡ size → n < length ps → All (StandsInside w size) (map pointer_pair ps) → StandsInside w now (pointer_pair (get_or ps n d))
 stands_at w size now n ps d same low all =
     let q = pointer_pair d in

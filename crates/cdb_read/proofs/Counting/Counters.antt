@@ -32,7 +32,7 @@ counted_at ds k low = let at : 0 + k ≡ k = omega arith in get_or-map-range_wit
 long : (ds : List ℕ) → length (distance_counts ds) ≡ 11
 long ds = length-map-range_with_len (at_distance ds) 0 11
 
--- a distance is counted where it belongs
+-- a distance is counted in its class
 pub distances_more : (ds : List ℕ) (d class count : ℕ) → class ≡ min d 10 → class < 11 → count ≡ min (get_or (distance_counts ds) class 0 + 1) 18446744073709551615 → set (distance_counts ds) class count ≡ distance_counts (ds ++ d ∷ [])
 distances_more ds d class count is low more =
     let was = distance_counts ds in
@@ -63,7 +63,7 @@ distances_more ds d class count is low more =
     ] in
     ext_get_or 0 (set was class count) now (omega arith) (λ k inside. step k (omega arith))
 
--- a slot more, where its counters were put up
+-- a slot more, if its counters were raised
 pub counts_more : (old : Distances) (ds : List ℕ) (d class entries collisions count : ℕ) (away : Bool) → Counts old ds → not (d == 0) ≡ away → entries ≡ min (old.entries + 1) 18446744073709551615 → collisions ≡ min (old.collisions + cond away 1 0) 18446744073709551615 → class ≡ min d 10 → class < 11
     → count ≡ min (get_or old.counts class 0 + 1) 18446744073709551615 → Counts (record { entries = entries; collisions = collisions; counts = set old.counts class count }) (ds ++ d ∷ [])
 counts_more old ds d class entries collisions count away h is one more here low put =

@@ -1,4 +1,4 @@
--- What is counted of a file, or the damage that is told.
+-- What is counted of a file, or the damage that is reported.
 use Rattle.cdb_read.proofs.Words.{Counts, Damage, Distances, Ghosts, HasLengths, Lengths, LengthsFail, List, OnlyReads, ReadFault, Spread, Spreads, StandsInside, WordPair, ap, arith, head_at, option_or, pointer_pair, subst, sym, walk_of, ℕ, ◌∙◌, ◌≡◌}
 use Rattle.std.specs.Prelude.{All, map, Option, Some, None, option_map, position}
 use Rattle.cdb_form.specs.declared.damage.Damage.TheVariants as damage
@@ -46,7 +46,7 @@ slots_fail w start old new (Unindexed place) reads fails = fails
 slots_fail w start old new NoMemory reads fails = fails
 slots_fail w start old new Output reads fails = fails
 
--- the tables stand inside after the walk as they did before
+-- the tables are inside after the walk as they were before
 pub still_inside : (w size now : ℕ) (old new : Head) → new ≡ old → now ≡ size → All (StandsInside w size) (map pointer_pair old.pointers) → All (StandsInside w now) (map pointer_pair new.pointers)
 still_inside w size now old new same_head same_size all =
     subst (λ (h : Head). All (StandsInside w now) (map pointer_pair h.pointers)) (sym same_head)

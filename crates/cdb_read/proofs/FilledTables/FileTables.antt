@@ -1,4 +1,4 @@
--- The tables of the file of some records: where they stand, and that they are read back.
+-- The tables of the file of some records: where they lie, and that they are read back.
 use Rattle.cdb_read.proofs.Words.{KeyValue, List, PairFits, [], and_from, ap, arith, drop, drop-drop, drop_at, flat_map, get_or, get_or-map-range_with_len, is_inside, le-leb, length, length-map-range_with_len, map, nth_pair, range_with_len, record_bytes, record_size, records_end, recursion_from_All, refl, slots_at, suc, sum_by, sym, take, true, zero, ℕ, ◌*◌, ◌++◌, ◌+◌, ◌<◌, ◌∙◌, ◌∷◌, ◌≡◌, ◌≤◌}
 use Rattle.std.proofs.lemmas.List.Sums.{sum_by-cons, sum_by_more_le}
 use Rattle.cdb_form.specs.Format.Pair.{WordPair, pair_bytes, head_size}
@@ -22,7 +22,7 @@ get_or-file_tables : (w : ℕ) (rs : List KeyValue) (n : ℕ) → n < 256 → ge
 unfolding file_tables
 get_or-file_tables w rs n low = get_or-map-range_with_len (table_slots w rs) 0 256 n n [] low (plus_none n)
 
--- how many slots stand before table n
+-- how many slots lie before table n
 abbrev pub slots_before : ℕ → List KeyValue → ℕ → ℕ
 slots_before w rs n = slot_count (take n (file_tables w rs))
 
@@ -57,7 +57,7 @@ nth_pair-file_bytes {w = w} {top = top} {rs = rs} n f low =
     ∙ nth_pair-flat_map w top n (file_pointers w rs) empty_slot (flat_map (record_bytes w) rs ++ tables_bytes w rs) f.top_is (omega arith) (Fit-file_pointers w top rs f.width f.room)
     ∙ get_or-file_pointers w rs n low
 
--- table i stands where its pointer tells
+-- table i lies at the place in its pointer
 abbrev bytes_of_tables : ℕ → List (List WordPair) → List ℕ
 bytes_of_tables w ts = flat_map (flat_map (pair_bytes w)) ts
 

@@ -34,7 +34,7 @@ turned-lt home n i h l = elim (cases_lt i home) [
   | inr high ↦ (let e = turned-behind home n i high in omega arith)
 ]
 
--- an element put into a slot stands at that slot's place among the slots from home on
+-- an element put into a slot is at that slot's place among the slots from home on
 pub slots_from-set : (home i : ℕ) (slots : List WordPair) (e : WordPair) → home ≤ length slots → i < length slots → slots_from home (set slots i e) ≡ set (slots_from home slots) (turned home (length slots) i) e
 slots_from-set home i slots e h l = elim (cases_lt i home) [
   | inl low ↦
@@ -87,7 +87,7 @@ count_by-slots_from p home slots =
 abbrev pub used_count : List WordPair → ℕ
 used_count slots = count_by is_used slots
 
--- no entry of hash h stands behind the first empty slot from its home
+-- no entry of hash h is after the first empty slot from its home
 abbrev pub NoneBehind : ℕ → List WordPair → Type 0
 NoneBehind h slots = HasNoneBehind is_used (has_hash h) (slots_from (home_slot h (length slots)) slots)
 
@@ -235,7 +235,7 @@ used_count-empty (suc n) = used_count-empty n
 pub NoneBehind-empty : (h n : ℕ) → NoneBehind h (replicate n empty_slot)
 NoneBehind-empty h n = HasNoneBehind-HasNone is_used (has_hash h) (from_home h (replicate n empty_slot)) (HasNone-home h n)
 
--- the heart: from the home of a hash to the first empty slot stand its entries, in their order
+-- the heart: from the home of a hash to the first empty slot are its entries, in their order
 pub met_slots-filled_slots : (h n : ℕ) (es : List WordPair) → length es ≤ n → AllUsed es → met_slots h (filled_slots n es) ≡ filter (has_hash h) es
 unfolding filled_slots
 met_slots-filled_slots h n es room used =

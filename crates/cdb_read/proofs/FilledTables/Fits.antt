@@ -1,4 +1,4 @@
--- The words of the tables of a file fit where its size does.
+-- The words of the tables of a file fit if its size does.
 use Rattle.cdb_read.proofs.Words.{All-cons, All-filter, All-head, All-nil, All-replicate, All-set, All-tail, AllByRecursion, AreBytes, IsRecord, KeyValue, List, PairFits, WordPair, [], ap, arith, empty_slot, entries_from, file_entries, filled_slots, fold, hash_step, head_size, in_table, inl, inr, key_hash, length, ne_eqb, not_from_false, record_size, records_end, replicate, slots_of, slots_with, suc, sum_by-cons, table_entries, table_slots, true, ℕ, ◌%◌, ◌*◌, ◌+◌, ◌<◌, ◌^◌, ◌∙◌, ◌∷◌, ◌≡◌, ◌≤◌, ◌⊎◌}
 use Rattle.std.specs.Prelude.{◌==◌, not, filter, sum_by, bit_xor, All}
 use Rattle.std.proofs.lemmas.Nat.{xor_lt}

@@ -1,10 +1,10 @@
--- How often a place stands in tables, one behind the other.
+-- How often a place occurs in tables that follow each other.
 use Rattle.cdb_read.proofs.Words.{List, WordPair, ap, append-nil, arith, cases_Bool, cond, count_by, empty_slot, eq-eqb, eqb-true, false, flat_map, has_place, inl, inr, is_used, length, list_any, nth_slot, range_with_len, refl, subst, suc, sym, take, take_all, true, zero, ℕ, ◌++◌, ◌+◌, ◌<◌, ◌==◌, ◌∙◌, ◌≡◌, ◌≤◌}
 use Rattle.std.proofs.lemmas.List.Sums.{count_by_more_yes, count_by_more_no, sum_by-take-le}
 use Rattle.cdb_read.proofs.Lists.Counts.{any_none, count-append, count_lists_part, lists_more, none_any}
 use Rattle.cdb_read.proofs.FilledTables.Fits.{used}
 
--- where no used slot has the place of an earlier one, a place stands once at most
+-- if no used slot has the place of an earlier one, a place occurs once at most
 abbrev pub NoneTwice : List WordPair → List WordPair → Type 0
 NoneTwice before slots = (i : ℕ) → i < length slots → is_used (nth_slot slots i) ≡ true → list_any (has_place (nth_slot slots i)) (before ++ take i slots) ≡ false
 
@@ -40,7 +40,7 @@ once_in_tables f e (suc k) some each =
     ap (λ n. flat_map f (range_with_len 0 n)) next ∙ lists_more f 0 k ∙ ap (λ n. before ++ f n) at ∙ ap (λ t. before ++ t) (sym (take_all (length (f k)) (f k) (omega arith))) in
     subst (λ t. count_by (has_place e) t ≤ 1) (sym same) all
 
--- and a place that stands once, doesn't stand earlier
+-- and a place that occurs once, doesn't occur earlier
 pub none_earlier : (f : ℕ → List WordPair) (k n i : ℕ) → n < k → i < length (f n) → count_by (has_place (nth_slot (f n) i)) (flat_map f (range_with_len 0 k)) ≡ 1
     → list_any (has_place (nth_slot (f n) i)) (flat_map f (range_with_len 0 n) ++ take i (f n)) ≡ false
 none_earlier f k n i l m one =

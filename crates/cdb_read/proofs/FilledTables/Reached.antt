@@ -1,4 +1,4 @@
--- What a search comes to: the used and wanted elements, told by their places and counted.
+-- What a search comes to: the used and wanted elements, by their places and counted.
 use Rattle.cdb_read.proofs.Words.{All, Bool, List, WordPair, [], and_from, and_parts, ap, arith, both_ways, cases_Bool, cases_lt, cond-false, cond-true, count_by, distance, drop, empty_slot, eq-eqb, eqb-true, false, get_or, has_hash, home_slot, inl, inr, is_reached, is_used, length, list_all, mod-eq_of_lt, nth_slot, prefix_len, refl, slots_from, subst, suc, sym, take, true, zero, ℕ, ◌%◌, ◌+◌, ◌-◌, ◌<◌, ◌∙◌, ◌∷◌, ◌≡◌, ◌≤◌}
 use native.Mathlib.Nat.{mod-eq-sub-mod}
 use Rattle.std.proofs.lemmas.List.Elements.{All-nil, All-cons, All-head, All-tail, All-append, All-drop, All-take, All-same}
@@ -25,7 +25,7 @@ all_before u (x ∷ xs) (suc j) l = elim (cases_Bool (u x)) [
   | inr f ↦ (let e = cond-false (u x) (1 + prefix_len u xs) 0 f in absurd (omega arith))
 ]
 
--- by place: each used and wanted element stands before the first that is not used
+-- by place: each used and wanted element is before the first that is not used
 HasNone-at : {X : Type 0} (u g : X → Bool) (xs : List X) (j : ℕ) (d : X) → HasNone u g xs → j < length xs → u (get_or xs j d) ≡ true → g (get_or xs j d) ≡ true → ⊥
 HasNone-at u g [] j d none l a b = omega arith
 HasNone-at u g (x ∷ xs) zero d none l a b = both_ways (g x) (none.0 a) b
@@ -79,7 +79,7 @@ count_none q u g (x ∷ xs) only none = elim (cases_Bool (q x)) [
       omega arith)
 ]
 
--- where none stands behind, as many of those that are met pass it as of all
+-- if no used and wanted element comes later, as many of those that are met pass the test as of all
 pub count-met : {X : Type 0} (q u g : X → Bool) (xs : List X) → All (OnlyWanted q u g) xs → HasNoneBehind u g xs → count_by q (met u g xs) ≡ count_by q xs
 count-met q u g [] only none = ap (count_by q) (met-none u g)
 count-met q u g (x ∷ xs) only none =
@@ -103,7 +103,7 @@ count-met q u g (x ∷ xs) only none =
           ap (count_by q) (met-unused u g x xs f) ∙ omega arith)
     ]
 
--- how far a slot is behind a home is its place among the slots from there
+-- how far a slot is after a home is its place among the slots from there
 pub distance-turned : (home n i : ℕ) → home < n → i < n → distance home n i ≡ turned home n i
 distance-turned home n i h l = elim (cases_lt i home) [
   | inl low ↦ (let e : i + (n - home) < n = omega arith in mod-eq_of_lt e ∙ (let t = turned-before home n i low in omega arith))
@@ -133,7 +133,7 @@ reached-near slots i h l hash used reached =
     (ap (λ k. list_all is_used (take k (from_home h slots))) (sym far) ∙ all)
     (ap is_used (get_or-slots_from home i slots empty_slot (omega arith) l) ∙ used)
 
--- where each used slot is reached, no entry of a hash stands behind the first empty one from its home
+-- if each used slot is reached, no entry of a hash is after the first empty slot from its home
 pub NoneBehind-reached : (h : ℕ) (slots : List WordPair) → ((i : ℕ) → i < length slots → is_used (nth_slot slots i) ≡ true → is_reached slots i ≡ true) → NoneBehind h slots
 NoneBehind-reached h slots reached = HasNoneBehind-from is_used (has_hash h) (from_home h slots) empty_slot (λ j l used wanted.
     (let home = home_slot h (length slots) in
@@ -149,7 +149,7 @@ NoneBehind-reached h slots reached = HasNoneBehind-from is_used (has_hash h) (fr
     let near = reached-near slots there h at_in hash used_there (reached there at_in used_there) in
     subst (λ k. k < prefix_len is_used (from_home h slots)) back near))
 
--- and where none does, each is reached
+-- and if no entry of its hash is after it, each is reached
 pub reached-NoneBehind : (slots : List WordPair) (i : ℕ) → i < length slots → is_used (nth_slot slots i) ≡ true → NoneBehind (nth_slot slots i).first slots → is_reached slots i ≡ true
 reached-NoneBehind slots i l used none =
     let h = (nth_slot slots i).first in

@@ -22,7 +22,7 @@ run_of-used xs s u = let e = run_of-push xs s ∙ cond-true (is_used s) (1 + run
 pub run_of-unused : (xs : List WordPair) (s : WordPair) → is_used s ≡ false → run_of (xs ++ s ∷ []) ≡ 0
 run_of-unused xs s u = run_of-push xs s ∙ cond-false (is_used s) (1 + run_of xs) 0 u
 
--- so many elements at the start pass, exactly where as many or more pass in a row
+-- so many elements at the start pass, exactly when as many or more pass in a row
 run_passes : {X : Type 0} (u : X → Bool) (d : ℕ) (xs : List X) → d ≤ length xs → nat_le d (prefix_len u xs) ≡ list_all u (take d xs)
 run_passes u zero xs l = le-leb 0 (prefix_len u xs) (omega arith)
 run_passes u (suc d) [] l = absurd (omega arith)
@@ -55,7 +55,7 @@ list_all-reverse u (x ∷ xs) =
     ∙ ap (λ b. b && (u x && true)) (list_all-reverse u xs)
     ∙ turned_and (list_all u xs) (u x)
 
--- so many elements at the end pass, exactly where as many or more end it in a row
+-- so many elements at the end pass, exactly when as many or more end it in a row
 reverse_end : {X : Type 0} (m d : ℕ) (xs : List X) → m + d ≡ length xs → take d (reverse xs) ≡ reverse (drop m xs)
 reverse_end m d xs e =
     let long : length (reverse (drop m xs)) ≡ d = omega (arith, length-reverse (drop m xs), length-drop m xs) in
@@ -105,7 +105,7 @@ way_is_run home i slots h l =
           ∙ ap (list_all is_used) (way_behind home i slots l high ∙ ap (λ k. take k (slots_from home slots)) (sym d)))
     ]
 
--- a search comes to slot i exactly where it is no farther from its home than that run is long
+-- a search comes to slot i exactly when it is no farther from its home than that run is long
 pub reached_by_run : (slots : List WordPair) (i n run : ℕ) (s : WordPair) → length slots ≡ n → i < n → nth_slot slots i ≡ s → run ≡ run_of (slots ++ take i slots) → nat_le (distance (home_slot s.first n) n i) run ≡ is_reached slots i
 reached_by_run slots i n run s long l here ran =
     let home : ℕ = home_slot (nth_slot slots i).first (length slots) in

@@ -1,4 +1,4 @@
--- The slots of a filled table: what they tell, that a search comes to each, and how many there are.
+-- The slots of a filled table: what is in them, that a search comes to each, and how many there are.
 use Rattle.cdb_read.proofs.Words.{All, All-head, All-replicate, All-set, All-tail, Bool, List, WordPair, [], ap, arith, both_ways, cond, count_by, empty_slot, false, filled_slots, fold, get_or, is_used, length, length-replicate, length-slots_with, refl, replicate, set, slots_with, sum_by-set, true, ℕ, ◌+◌, ◌<◌, ◌∙◌, ◌∷◌, ◌≡◌, ◌≤◌}
 use Rattle.cdb_read.proofs.Lists.Counts.{count-cons, counts_none, count_zero}
 use Rattle.cdb_read.proofs.FilledTables.Filled.{IsUsed, AllUsed, NoneBehind, NoneBehind-empty, NoneBehind-slots_with, used_count, used_count-slots_with, used_count-empty, free, free_slot, slots_with-set}
@@ -16,7 +16,7 @@ pub told-filled_slots : (P : WordPair → Type 0) (n : ℕ) (es : List WordPair)
 unfolding filled_slots
 told-filled_slots P n es all = told-filled_from P es (replicate n empty_slot) (All-replicate (WhenUsed P) n empty_slot (λ u. absurd (both_ways false refl u))) all
 
--- no entry of a hash stands behind the first empty slot from its home
+-- no entry of a hash is after the first empty slot from its home
 NoneBehind-filled_from : (h : ℕ) (es slots : List WordPair) → used_count slots + length es ≤ length slots → AllUsed es → NoneBehind h slots → NoneBehind h (fold slots_with slots es)
 NoneBehind-filled_from h [] slots room used none = none
 NoneBehind-filled_from h (e ∷ es) slots room used none =

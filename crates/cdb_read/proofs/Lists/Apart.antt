@@ -60,7 +60,7 @@ apart_same (x ∷ xs) s e apart cs ce t =
       ]
     ]
 
--- each stands there once
+-- each occurs there once
 pub count_apart : (xs : List WordPair) (e : WordPair) → AreApart xs → Contains xs e → count_by (has_place e) xs ≡ 1
 count_apart [] e apart (k, l, i) = absurd (omega arith)
 count_apart (x ∷ xs) e apart c =

@@ -13,7 +13,7 @@ abbrev pub HasNone : {X : Type 0} → (X → Bool) → (X → Bool) → List X �
 HasNone used wanted [] = ⊤
 HasNone used wanted (x ∷ xs) = (used x ≡ true → wanted x ≡ false) × HasNone used wanted xs
 
--- no used element behind the first one that is not used is wanted
+-- no used element after the first one that is not used is wanted
 abbrev pub HasNoneBehind : {X : Type 0} → (X → Bool) → (X → Bool) → List X → Type 0
 HasNoneBehind used wanted [] = ⊤
 HasNoneBehind used wanted (x ∷ xs) = (used x ≡ true → HasNoneBehind used wanted xs) × (used x ≡ false → HasNone used wanted xs)
@@ -60,7 +60,7 @@ not_wanted : (b : Bool) → (b ≡ true → ⊥) → b ≡ false
 not_wanted true h = absurd (h refl)
 not_wanted false h = refl
 
--- an element more in an unused place: where it is wanted, in the first one
+-- an element more in an unused place: if it is wanted, in the first one
 pub met-set : {X : Type 0} (u g : X → Bool) (xs : List X) (j : ℕ) (e d : X) → j < length xs → u (get_or xs j d) ≡ false → u e ≡ true → (g e ≡ true → prefix_len u xs ≡ j) → HasNoneBehind u g xs
     → met u g (set xs j e) ≡ met u g xs ++ cond (g e) (e ∷ []) []
 met-set u g [] j e d l free ue first b = absurd (omega arith)

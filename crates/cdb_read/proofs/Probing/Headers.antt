@@ -119,7 +119,7 @@ other_length {w = w} {p = p} {head = head} key h low has ne = record {
       );
 }
 
--- the key that stands there
+-- the key of the record there
 key_here : {w p n : ℕ} {head : Header} {pair : Pair} {images : List ℕ → Type 0} (key : List ℕ) → HasLengths w p head.klen head.vlen n images → HasSpans w p head n pair → pair.key.len ≡ length key → (b : List ℕ) → images b → (prefix_record w (drop p b)).key ≡ part pair.key.place (length key) b
 key_here {w = w} {p = p} key h has same b is = h.key b is ∙ ap (λ v. part (p + 2 * w) v b) (sym has.klen ∙ same) ∙ ap (λ v. part v (length key) b) (sym (key_behind has))
 

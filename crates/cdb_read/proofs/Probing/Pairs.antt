@@ -1,4 +1,4 @@
--- The record that stands at a place, and the walk behind it.
+-- The record at a place, and the walk after it.
 use Rattle.cdb_read.proofs.Words.{Begins, HasSpans, Header, ImagesHold, KeyValue, List, Pair, RecordArea, WordPair, ap, arith, cases_lt, drop, drop-drop, header_pair, inl, inr, length, length-drop, length-part, pair_at, part, prefix_size, record_size, refl, sym, take, take-append-drop, walk_from, with_first, ℕ, ◌*◌, ◌++◌, ◌+◌, ◌-◌, ◌<◌, ◌∙◌, ◌≡◌, ◌≤◌, ◌⊎◌}
 use Rattle.std.proofs.Math.Nat.{le-min, min-le_left, min-le_right}
 use Rattle.cdb_form.proofs.Files.WalkSteps.{walk_from-more, walk_from-no_header, walk_from-no_body}
@@ -6,7 +6,7 @@ use Rattle.cdb_read.proofs.Probing.Headers.{prefix_pair, pair_read}
 use Rattle.cdb_read.specs.Views.Walking.{record_in, behind, LiesAt, StandsAt, StandsWithin}
 use Rattle.std.specs.Prelude.{Option, Some, None, MatchOption, min}
 
--- in each image, of n bytes, the header at a place tells these lengths
+-- in each image, of n bytes, the header at a place gives these lengths
 pub record HeaderTells (w p n : ℕ) (lengths : WordPair) (images : List ℕ → Type 0) : Type 0 where
   pub told : (b : List ℕ) → images b → pair_at w (drop p b) ≡ lengths
   pub long : (b : List ℕ) → images b → length b ≡ n
@@ -40,7 +40,7 @@ no_header {rest = rest} {w = w} some before few long = record {
       (elim few [ inl a ↦ inr (omega arith) | inr a ↦ inl (omega arith) ]);
 }
 
--- no room for what it tells
+-- no room for what the header says
 pub no_body : {rest : RecordArea} {w n k v : ℕ} {images : List ℕ → Type 0} → rest.place < rest.end → rest.place + 2 * w ≤ n → rest.place + 2 * w ≤ rest.end → either n rest.end (rest.place + (2 * w + k + v))
     → HeaderTells w rest.place n (record { first = k; second = v }) images → StandsAt w rest None images
 no_body {rest = rest} {w = w} {k = k} {v = v} before room area few header = record {
@@ -55,14 +55,14 @@ no_body {rest = rest} {w = w} {k = k} {v = v} before room area few header = reco
       (elim few [ inl a ↦ inr (omega arith) | inr a ↦ inl (omega arith) ]);
 }
 
--- some bytes, and those behind them
+-- some bytes, and those after them
 split_at : (n q : ℕ) (b : List ℕ) → drop q b ≡ part q n b ++ drop (q + n) b
 split_at n q b = sym (take-append-drop n (drop q b)) ∙ ap (λ t. part q n b ++ t) (drop-drop n q b)
 
 pair_is : (a b c d : ℕ) → a ≡ c → b ≡ d → (let p : WordPair = record { first = a; second = b } in p) ≡ record { first = c; second = d }
 pair_is a b c d e f = ap (λ x. let p : WordPair = record { first = x; second = b } in p) e ∙ ap (λ y. let p : WordPair = record { first = c; second = y } in p) f
 
--- the record of a pair stands at the start
+-- the record of a pair is at the start
 begins_here : (w p : ℕ) (pair : Pair) (b : List ℕ) → LiesAt w p pair → behind pair ≤ length b → pair_at w (drop p b) ≡ record { first = pair.key.len; second = pair.value.len } → Begins w (drop p b) (record_in b pair) (drop (behind pair) b)
 begins_here w p pair b lies inside told =
     let here = lies.here in

@@ -10,7 +10,7 @@ use Rattle.cdb_read.proofs.Lists.Meeting.{met, met-used, met-unused, met-none}
 abbrev pub ahead : ℕ → ℕ → List WordPair → List WordPair
 ahead slot left slots = take left (slots_from slot slots)
 
--- the slot behind one
+-- the slot after a slot
 abbrev pub next_slot : ℕ → ℕ → ℕ
 next_slot slot n = (slot + 1) % n
 
@@ -36,7 +36,7 @@ behind_other slot left slots d low few =
     ∙ ap (take left) (append_assoc rest front (x ∷ []))
     ∙ ap (λ t. take left (rest ++ t)) (sym (take_more slots slot d (omega arith)))
 
--- the next slot, and those behind it
+-- the next slot, and those after it
 pub ahead-more : (slot left : ℕ) (slots : List WordPair) (d : WordPair) → slot < length slots → left < length slots → ahead slot (suc left) slots ≡ get_or slots slot d ∷ ahead (next_slot slot (length slots)) left slots
 ahead-more slot left slots d low few =
     let n = length slots in
@@ -102,7 +102,7 @@ met_ahead-hash h w b p slot left low few used same =
     ∙ met-used is_used (has_hash h) (slot_at w b p slot) rest used
     ∙ cond-true (has_hash h (slot_at w b p slot)) (slot_at w b p slot ∷ met is_used (has_hash h) rest) (met is_used (has_hash h) rest) same
 
--- a place at which no whole record stands
+-- a place that has no whole record
 pub found_at-broken : (w : ℕ) (bytes key : List ℕ) (place : ℕ) (places : List ℕ) → is_whole w bytes place ≡ false → found_at w bytes key (place ∷ places) ≡ record { spans = []; damage = Some (Record place) }
 unfolding found_at
 found_at-broken w bytes key place places broken =

@@ -1,4 +1,4 @@
--- What a probe of a search tells.
+-- What a probe of a search reports.
 use Rattle.cdb_read.proofs.Words.{Found, List, Probe, Span, WordPair, ap, arith, eq-eqb, false, found_at, has_hash, is_used, key_hash, map, ne_eqb, not_from_false, not_from_true, nothing_found, pointer_pair, refl, slots_at, suc, sym, true, with_span, ℕ, ◌%◌, ◌+◌, ◌-◌, ◌<◌, ◌==◌, ◌∙◌, ◌∷◌, ◌≡◌, ◌≢◌, ◌≤◌}
 use Rattle.cdb_read.specs.Views.Search.{found_ahead, probe_slot, LooksAt, ProbedFrom, Meets}
 use Rattle.cdb_read.specs.Views.Probing.{ProbeInside, next_probe}
@@ -18,7 +18,7 @@ ahead_is : (w : ℕ) (b key : List ℕ) (probe : Probe) → found_ahead w b key 
 unfolding met_of
 ahead_is w b key probe = refl
 
--- a probe has a slot, and those behind it
+-- a probe has a slot, and those after it
 more_left : (left : ℕ) → 0 < left → left ≡ suc (left - 1)
 more_left left some = omega arith
 
@@ -75,7 +75,7 @@ step_other {w = w} key probe slot inside some is_slot used other = record {
       ∙ sym (ahead_is w b key (next_probe probe));
 }
 
--- one with the hash: its record, and then what is behind it
+-- a slot with the hash: its record, and then what follows it
 hash_ahead : (w : ℕ) (b key : List ℕ) (probe : Probe) (slot : WordPair) → probe.slot < probe.table.slots → 0 < probe.left → probe.left ≤ probe.table.slots → slot ≡ probe_slot w b probe → slot.second ≢ 0 → slot.first ≡ key_hash key
     → found_ahead w b key (At probe) ≡ found_at w b key (slot.second ∷ map (λ (s : WordPair). s.second) (met_ahead (key_hash key) ((probe.slot + 1) % probe.table.slots) (probe.left - 1) (slots_at w b (pointer_pair probe.table))))
 hash_ahead w b key probe slot low some within is used same =

@@ -15,7 +15,7 @@ use Rattle.cdb_form.proofs.Files.WalkSteps.{walk_from-is, walk_with, stopped}
 abbrev pub all_size : ℕ → List ℕ → ℕ
 all_size w bytes = sum_by (record_size w) (all_records w bytes)
 
--- a whole record is as long as it tells
+-- a whole record is as long as its header says
 prefix_long : (w : ℕ) (xs : List ℕ) → prefix_size w xs ≤ length xs → record_size w (prefix_record w xs) ≡ prefix_size w xs
 prefix_long w xs fits =
     let k : ℕ = (pair_at w xs).first in
@@ -102,7 +102,7 @@ size_more_records w most xs fits =
     ∙ sum_by-cons (record_size w) (prefix_record w xs) (whole_records w most (drop (prefix_size w xs) xs))
     ∙ ap (λ n. n + sum_by (record_size w) (whole_records w most (drop (prefix_size w xs) xs))) (prefix_long w xs fits)
 
--- where some bytes are whole records, those of more bytes are they and then the others
+-- if some bytes are whole records, the records of more bytes are they and then the others
 prefix_then : (w most : ℕ) (xs ys : List ℕ) → 0 < w → length xs ≤ most → sum_by (record_size w) (whole_records w most xs) ≡ length xs → all_records w (xs ++ ys) ≡ whole_records w most xs ++ all_records w ys
 unfolding whole_records
 prefix_then w zero xs ys some room whole = ap (λ t. all_records w (t ++ ys)) (nil_from_length xs (omega arith))
@@ -181,7 +181,7 @@ walk_past w place end n xs ys some long room whole after =
     ∙ ap (λ k. let v : Walked = record { records = rs ++ qs; damage = stopped k end } in v) stop
     ∙ ap (with_records rs) (sym (walk_from-is w (place + n) end ys))
 
--- where a file ends before them, as many bytes as it has are the same
+-- if a file ends before them, as many bytes as it has are the same
 area_same : (m k place size : ℕ) (b : List ℕ) → k ≡ min m (size - place) → length b ≡ size → take m (drop place b) ≡ take k (drop place b)
 area_same m k place size b least long =
     let left : length (drop place b) ≡ length b - place = length-drop place b in

@@ -16,7 +16,7 @@ pub record WalkedSoFar (w : ℕ) (b : List ℕ) (left : Walked) (key_spread valu
 pub walked_none : (w : ℕ) (b : List ℕ) (left : Walked) (keys values : Spread) → left ≡ walk_of w b → Spreads keys [] → Spreads values [] → WalkedSoFar w b left keys values
 walked_none w b left keys values is no_keys no_values = record { done = []; all = sym is; keys = no_keys; values = no_values }
 
--- the bytes of a span that lies inside are as many as it tells
+-- the bytes of a span that lies inside are as many as its length says
 pub length_of : (b : List ℕ) (span : Span) → span.place + span.len ≤ length b → length (bytes_of b span) ≡ span.len
 length_of b span inside = length-part span.place span.len b inside
 

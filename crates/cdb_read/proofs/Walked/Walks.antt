@@ -28,7 +28,7 @@ walks_from w place end b ps long known is at ordered =
     ∙ ap (λ k. walk_from w (head_size w) k (drop (head_size w) b)) (sym e)
     ∙ sym (walk_of-records w b long (subst (λ k. head_size w ≤ k) (sym e) (subst (λ k. k ≤ end) at ordered)))
 
--- a walk without damage begins behind a whole head
+-- a walk without damage begins after a whole head
 pub walk_head : (w : ℕ) (b : List ℕ) → (walk_of w b).damage ≡ None → HasHead w b
 walk_head w b walked =
     let whole : head_size w ≤ length b = elim (cases_lt (length b) (head_size w)) [

@@ -1,4 +1,4 @@
--- A file is sound exactly where it has no fault.
+-- A file is sound exactly when it has no fault.
 use Rattle.cdb_read.proofs.Words.{All, All-cons, All-contains, All-from_get_or, All-get_or, All-head, All-nil, All-tail, All-weaker, Bool, Contains, Contains-append_right, Damage, IsRight, IsSound, List, None, Option, Some, WordPair, [], all_slots, ap, arith, count_by, false, get_or, has_place, has_slots, head_size, inl, inr, is_inside, is_reached, is_used, length, list_any, nat_lt, not, nth_pair, nth_slot, option_or, range_with_len, refl, same_words, subst, sym, table_at, table_number, tables_below, take, true, walk_entries, walk_of, ℕ, ◌&&◌, ◌++◌, ◌+◌, ◌<◌, ◌==◌, ◌∙◌, ◌∷◌, ◌≡◌, ◌≤◌}
 use Rattle.std.proofs.lemmas.List.FromFn.{length-range_with_len, get_or-range_with_len}
 use Rattle.std.proofs.lemmas.Bool.{cases_Bool, cases_lt, cond-true, cond-false, both_ways, eq-eqb, eqb-true, not-false, not_from_true, not_from_false, and_parts, and_from, and_left, and_right, or_cases, or_left, or_right, le-ltb, lt-ltb}
@@ -10,7 +10,7 @@ use Rattle.cdb_read.proofs.Lists.Counts.{any_none, any_some}
 use Rattle.cdb_read.proofs.FilledTables.Once.{NoneTwice, once_in_tables, none_earlier}
 use Rattle.cdb_read.proofs.Walked.Walks.{walk_head}
 
--- faults in turn: there is none exactly where none of them is
+-- faults in turn: there is none exactly when each of them is none
 option_or-none : (a b : Option Damage) → option_or a b ≡ None → (a ≡ None) × (b ≡ None)
 option_or-none None b h = (refl, h)
 option_or-none (Some x) b h = cc
@@ -122,7 +122,7 @@ clean_slot entries before n slots i clean =
       | inr f ↦ cond-false (is_used s) _ _ f
     ]
 
--- what is told of a file that has a whole head
+-- what is reported of a file that has a whole head
 abbrev pub told_behind : ℕ → List ℕ → Option Damage
 told_behind w bytes =
     option_or (first_of (table_fault w bytes) (range_with_len 0 256))

@@ -83,7 +83,7 @@ entry_at at r = record { first = key_hash r.key; second = at }
 abbrev pub places_of : List WordPair → List ℕ
 places_of es = map (λ (e : WordPair). e.second) es
 
--- one record more, whose entry is among those of the hash where its key has it
+-- one record more, whose entry is among those of the hash if its key has the hash
 answers_more : (w : ℕ) (bytes key : List ℕ) (at : ℕ) (es : List WordPair) (r : KeyValue) (rs : List KeyValue) → ReadsAt w bytes at r → Answers bytes key rs (found_at w bytes key (places_of es))
     → Answers bytes key (r ∷ rs) (found_at w bytes key (places_of (cond (has_hash (key_hash key) (entry_at at r)) (entry_at at r ∷ es) es)))
 answers_more w bytes key at es r rs reads ih =
@@ -105,7 +105,7 @@ answers_more w bytes key at es r rs reads ih =
           ])
     ]
 
--- the entries of a hash, of records that stand in some bytes
+-- the entries of a hash, of the records in some bytes
 pub answers_entries : (w : ℕ) (bytes key : List ℕ) (at : ℕ) (rs : List KeyValue) → AllRead w bytes at rs → Answers bytes key rs (found_at w bytes key (places_of (filter (has_hash (key_hash key)) (entries_from w at rs))))
 unfolding entries_from
 answers_entries w bytes key at [] all =
@@ -140,7 +140,7 @@ pub lookup_of-is : (w : ℕ) (bytes key : List ℕ) → lookup_of w bytes key �
 unfolding lookup_of
 lookup_of-is w bytes key = refl
 
--- where the table lies inside the file, if it has slots, a look-up reads those that are met
+-- if the table lies inside the file, or has no slots, a look-up reads the slots that are met
 pub lookup_of-inside : (w : ℕ) (bytes key : List ℕ) (p : WordPair) → nth_pair w bytes (table_number (key_hash key)) ≡ p → (has_slots p ≡ true → is_inside w bytes p ≡ true)
     → lookup_of w bytes key ≡ found_at w bytes key (places_of (met_slots (key_hash key) (slots_at w bytes p)))
 lookup_of-inside w bytes key p pointer inside =

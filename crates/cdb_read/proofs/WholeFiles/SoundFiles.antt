@@ -43,7 +43,7 @@ right_table w rs n some i l u =
       reached = reached-NoneBehind (table_slots w rs n) i l u (none_behind w rs n (nth_slot (table_slots w rs n) i).first some);
     }
 
--- how often a record's place stands in a table: as often as among its entries
+-- how often a record's place occurs in a table: as often as among its entries
 place_used : (a b : ℕ) → 0 < b → not (a == 0) ≡ false → a ≡ b → ⊥
 place_used a b some f i = both_ways (not (a == 0)) f (used a (omega arith))
 

@@ -12,7 +12,7 @@ use Rattle.cdb_read.proofs.FilledTables.Reached.{All-slots_from, NoneBehind-reac
 use Rattle.cdb_read.proofs.Walked.Walks.{walk_head}
 use Rattle.cdb_read.proofs.Bytes.RecordsAt.{AllRead, TellsWhole, all_read, entries_whole}
 
--- the records of a walk without damage are read where they stand
+-- the records of a walk without damage are read at their places
 walk_reads : (w top : ℕ) (bytes : List ℕ) → 0 < w → top + 1 ≡ 256 ^ w → head_size w ≤ top → AreBytes bytes → (walk_of w bytes).damage ≡ None → AllRead w bytes (head_size w) (walk_of w bytes).records
 walk_reads w top bytes some top_is head are walked =
     let rs = (walk_of w bytes).records in

@@ -8,7 +8,7 @@ use Rattle.cdb_read.specs.declared.fault.ReadFault.{ReadFault}
 use Rattle.cdb_read.specs.declared.fault.ReadFault.TheVariants.{Table, Record, Slot, Twice}
 use Rattle.cdb_read.specs.declared.fault.ReadFault.TheVariants.{Unindexed, Device, NoMemory}
 
--- a fault tells a damage of the file, of which this is known
+-- a fault reports a damage of the file, of which this is known
 abbrev pub FaultTells : (Damage → Type 0) → ReadFault → Type 0
 FaultTells known (Table n) = known (damage.Table n)
 FaultTells known (Record place) = known (damage.Record place)
@@ -21,7 +21,7 @@ FaultTells known fault = ⊥
 abbrev pub InEach : {S : Type 0} → Ghosts S → (List ℕ → Damage → Type 0) → S → Damage → Type 0
 InEach s known new d = (b : List ℕ) → s.image new b → known b d
 
--- the store failed, or a damage of each image is told
+-- the store failed, or a damage of each image is reported
 abbrev pub ReadTells : {S : Type 0} → Ghosts S → (List ℕ → Damage → Type 0) → (old new : S)
     → ReadFault → Type 0
 ReadTells s known old new Device = s.failures old < s.failures new

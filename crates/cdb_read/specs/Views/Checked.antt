@@ -1,4 +1,4 @@
--- What the parts of a check have found, for the slots that some records were told by before.
+-- What the parts of a check have found, if some slots pointed to some records before.
 use Rattle.std.specs.Prelude.{ℕ, ◌≡◌, Bool, List, [], ◌∷◌, ◌++◌, Some, None}
 use Rattle.std.specs.List.{range_with_len}
 use Rattle.cdb_form.specs.Format.Pair.{WordPair}
@@ -34,7 +34,7 @@ abbrev pub TableHas : ℕ → ℕ → WordPair → TableRecords → List ℕ →
 TableHas w n p old b d = (entries slots : List WordPair) → Marks old entries slots
     → faults_behind entries slots n (slots_at w b p) ≡ Some d
 
--- and the slots of all tables, before which none was told
+-- and the slots of all tables, before which no slot pointed to a record
 pub record TablesAreClear (w : ℕ) (b : List ℕ) (old new : List TableRecords) : Type 0 where
   pub none : (entries : List WordPair) → ListsMark old entries []
       → first_of (slots_fault w b entries) (range_with_len 0 256) ≡ None

@@ -1,4 +1,4 @@
--- What counters tell of the numbers that they took.
+-- What counters say of the numbers that they took.
 use Rattle.std.specs.Prelude.{ℕ, ◌≡◌, List, length, sum}
 use Rattle.cdb_read.specs.Statistics.{capped, least_of, greatest_of, collisions_of, distance_counts}
 use Rattle.cdb_read.specs.declared.statistics.distances.Distances.{Distances}

@@ -1,11 +1,11 @@
--- Where a search stands.
+-- Where a search is.
 use Rattle.std.specs.Prelude.{ℕ, ◌≡◌, ◌+◌, ◌-◌, ◌*◌, ◌%◌, ◌<◌, ◌≤◌}
 use Rattle.cdb_form.specs.Format.Pair.{pair_size, head_size}
 use Rattle.cdb_read.specs.declared.lookup.probe.Searching.{Searching}
 use Rattle.cdb_read.specs.declared.lookup.probe.Searching.TheVariants.{At}
 use Rattle.cdb_read.specs.declared.lookup.probe.Probe.{Probe}
 
--- its table lies behind the head and inside a file of this size, and it has no more probes than
+-- its table lies after the head and inside a file of this size, and it has no more probes than
 -- slots
 pub record ProbeInside (w size : ℕ) (probe : Probe) : Type 0 where
   pub behind : head_size w ≤ probe.table.place
@@ -16,7 +16,7 @@ pub record ProbeInside (w size : ℕ) (probe : Probe) : Type 0 where
 abbrev pub IsSearchInside : ℕ → ℕ → Searching → Type 0
 IsSearchInside w size searching = (probe : Probe) → searching ≡ At probe → ProbeInside w size probe
 
--- the probe behind one
+-- the probe after a probe
 abbrev pub next_probe : Probe → Probe
 next_probe probe =
     record {

@@ -19,7 +19,7 @@ read_number Device = 7
 read_number NoMemory = 8
 read_number Output = 9
 
--- what it is, behind the part of the file that it names
+-- the message of a fault, after the part of the file that it names
 abbrev pub read_message : ReadFault → List ℕ
 read_message Short = codes "database shorter than its head"
 read_message (Table n) = codes "outside the file"
@@ -38,7 +38,7 @@ table_text n = codes "table " ++ decimal n ++ codes ": "
 abbrev pub record_text : ℕ → List ℕ
 record_text place = codes "record at " ++ decimal place ++ codes ": "
 
--- what a person reads of a fault: the part that it names, where it names one, and its message
+-- what a person reads of a fault: the part that it names, if it names one, and its message
 abbrev pub read_display : ReadFault → List ℕ
 read_display (Table n) = table_text n ++ read_message (Table n)
 read_display (Record place) = record_text place ++ read_message (Record place)

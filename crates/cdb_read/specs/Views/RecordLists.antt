@@ -11,8 +11,8 @@ abbrev pub IsRising : ℕ → List WordPair → Type 0
 IsRising place [] = Unit {0}
 IsRising place (e ∷ es) = (place ≤ e.second) × IsRising (e.second + 1) es
 
--- each list has those of some records whose hash has its table, in their order, and those are
--- marked that some slots tell
+-- each list has those of some records whose hash has its table, in their order, and marks those
+-- that some slots point to
 pub record ListsMark (lists : List TableRecords) (entries slots : List WordPair) : Type 0 where
   pub many : length lists ≡ 256
   pub rising : IsRising 1 entries
@@ -24,7 +24,7 @@ abbrev pub HasAdded : (old new : List TableRecords) → WordPair → Type 0
 HasAdded old new e = (entries : List WordPair) → ListsMark old entries []
     → IsRising 1 (entries ++ e ∷ []) → ListsMark new (entries ++ e ∷ []) []
 
--- the lesser of two places, where there are any
+-- the lesser of two places, if there are any
 abbrev pub earlier_of : Option ℕ → Option ℕ → Option ℕ
 earlier_of None other = other
 earlier_of (Some a) None = Some a

@@ -1,4 +1,4 @@
--- What a search is still to give, and what each part of it tells of the bytes that it reads.
+-- What a search is still to give, and what each part of it says of the bytes that it reads.
 use Rattle.std.specs.Prelude.{ℕ, ◌≡◌, ◌+◌, ◌*◌, ◌<◌, ◌≤◌, Bool, true, false, List}
 use Rattle.std.specs.Prelude.{length, map, filter, take, drop, take_while}
 use Rattle.std.specs.Bool.{Decides}
@@ -27,7 +27,7 @@ abbrev pub slots_ahead : ℕ → List ℕ → Probe → List WordPair
 slots_ahead w b probe =
     take probe.left (slots_from probe.slot (slots_at w b (pointer_pair probe.table)))
 
--- what a search finds from where it stands
+-- what a search finds from where it is
 abbrev pub found_ahead : ℕ → List ℕ → List ℕ → Searching → Found
 found_ahead w b key (At probe) =
     let used = take_while is_used (slots_ahead w b probe) in
@@ -40,12 +40,12 @@ found_ahead w b key (NoRecord place) = found_damaged (damage.Record place)
 abbrev pub probe_slot : ℕ → List ℕ → Probe → WordPair
 probe_slot w b probe = pair_at w (drop (probe.table.place + pair_size w * probe.slot) b)
 
--- in each image the bytes from a place on are the key exactly where the answer is true
+-- in each image the bytes from a place on are the key exactly when the answer is true
 pub record TellsSame (same : Bool) (place : ℕ) (key : List ℕ) (images : List ℕ → Type 0)
     : Type 0 where
   pub each : (b : List ℕ) → images b → Decides same (part place (length key) b ≡ key)
 
--- what a look at a place tells of some bytes
+-- what a look at a place says of some bytes
 abbrev pub LookTells : ℕ → List ℕ → ℕ → Look → List ℕ → Type 0
 LookTells w key place look.Broken b = is_whole w b place ≡ false
 LookTells w key place look.Other b = (is_whole w b place ≡ true) × (has_key w b key place ≡ false)
@@ -61,7 +61,7 @@ abbrev pub LookWithin : ℕ → Look → Type 0
 LookWithin size (look.Value span) = span.place + span.len ≤ size
 LookWithin size _ = Unit {0}
 
--- what a probe tells of what is left of the look-up
+-- what a probe says of what is left of the look-up
 abbrev pub StepTells : ℕ → List ℕ → Probe → Probed → List ℕ → Type 0
 StepTells w key probe step.Empty b = found_ahead w b key (At probe) ≡ nothing_found
 StepTells w key probe step.Passed b =
@@ -79,7 +79,7 @@ abbrev pub ProbedWithin : ℕ → Probed → Type 0
 ProbedWithin size (step.Value span) = span.place + span.len ≤ size
 ProbedWithin size other = Unit {0}
 
--- what some probes tell
+-- what some probes say
 abbrev pub MetTells : ℕ → List ℕ → Probe → Met → List ℕ → Type 0
 MetTells w key probe met.End b = found_ahead w b key (At probe) ≡ nothing_found
 MetTells w key probe (met.Value span then) b =

@@ -1,4 +1,4 @@
--- What a check keeps of the records of a walk, and which of them slots have told.
+-- What a check keeps of the records of a walk, and which of them slots have pointed to.
 use Rattle.std.specs.Prelude.{ℕ, ◌≡◌, ◌<◌, Bool, false, List, [], ◌∷◌, ◌++◌, map, length, All}
 use Rattle.std.specs.Prelude.{slice_index}
 use Rattle.std.specs.List.{list_any}
@@ -36,7 +36,7 @@ is_told slots e = list_any (has_place e) slots
 unfoldable pub marks_of : List WordPair → List WordPair → List Bool
 marks_of slots entries = map (is_told slots) entries
 
--- the records are these, in the order of their places, and those are marked that some slots tell
+-- the records are these, in the order of their places, and marked if some slots point to them
 pub record Marks (e : TableRecords) (entries slots : List WordPair) : Type 0 where
   pub are : entry_pairs e ≡ entries
   pub marked : e.marks.items ≡ marks_of slots entries

@@ -25,7 +25,7 @@ place_of w t = next_place w t.walking
 abbrev pub bytes_left : {S L : Type 0} {s : Ghosts S} {l : Widths L} → Walk S L s l → ℕ
 bytes_left t = size_ahead t.walking
 
--- it has answered `None`, that a table stands too early, or that a record isn't whole
+-- it has answered `None`, that a table begins too early, or that a record isn't whole
 abbrev pub HasWalked : {S L : Type 0} {s : Ghosts S} {l : Widths L} → Walk S L s l → Type 0
 HasWalked t = t.walking ≡ AtEnd
 

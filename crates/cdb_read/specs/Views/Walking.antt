@@ -1,4 +1,4 @@
--- What a walk is still to give, and what each part of it tells of the bytes that it reads.
+-- What a walk is still to give, and what each part of it says of the bytes that it reads.
 use Rattle.std.specs.Prelude.{ℕ, ◌≡◌, ◌+◌, ◌-◌, ◌≤◌, List, length, take, drop, min, sum_by}
 use Rattle.std.specs.Prelude.{Option, Some, None}
 use Rattle.cdb_form.specs.declared.damage.Damage.TheVariants as damage
@@ -17,18 +17,18 @@ use Rattle.cdb_read.specs.declared.span.Pair.{Pair}
 abbrev pub record_in : List ℕ → Pair → KeyValue
 record_in b pair = record { key = bytes_of b pair.key; value = bytes_of b pair.value }
 
--- the place behind it
+-- the place after it
 abbrev pub behind : Pair → ℕ
 behind pair = pair.value.place + pair.value.len
 
--- what a walk gives from where it stands
+-- what a walk gives from where it is
 abbrev pub walk_ahead : ℕ → List ℕ → Walking → Walked
 walk_ahead w b (At rest) = walk_from w rest.place rest.end (drop rest.place b)
 walk_ahead w b AtEnd = no_walk
 walk_ahead w b (NoTable n) = damaged (damage.Table n)
 walk_ahead w b (NoRecord place) = damaged (damage.Record place)
 
--- the place of the next record, which is the first one behind the head; and how many bytes are left
+-- the place of the next record, which is the first one after the head; and how many bytes are left
 -- from there to the record end
 abbrev pub next_place : ℕ → Walking → ℕ
 next_place w (At rest) = rest.place
@@ -40,13 +40,13 @@ abbrev pub size_ahead : Walking → ℕ
 size_ahead (At rest) = rest.end - rest.place
 size_ahead other = 0
 
--- the key lies behind the header at a place, and the value behind the key
+-- the key lies after the header at a place, and the value after the key
 pub record LiesAt (w place : ℕ) (pair : Pair) : Type 0 where
   pub here : pair.place ≡ place
   pub key : pair.key.place ≡ pair.place + pair_size w
   pub value : pair.value.place ≡ pair.key.place + pair.key.len
 
--- what a look at the next place tells of some bytes
+-- what a look at the next place says of some bytes
 abbrev pub StandsTells : ℕ → RecordArea → Option Pair → List ℕ → Type 0
 StandsTells w rest None b =
     walk_from w rest.place rest.end (drop rest.place b) ≡ damaged (damage.Record rest.place)

@@ -42,7 +42,7 @@ pub struct Finder<'a, S: Store, L: Width> {
 impl<S: Store, L: Width> Reader<S, L> {
     ghost use Rattle.cdb_read.specs.Views.Finder.{left_in};
 
-    /// Where the search of a key begins, which has this hash.
+    /// Where the search of a key with this hash begins.
     fn first_probe(&self, key: &[u8], hash: u64) -> Searching
         requires hash { hash ≡ key_hash key.now }
         ensures inside { IsSearchInside L.WORD (S.size self.now.store) result }

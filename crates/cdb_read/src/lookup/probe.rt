@@ -61,8 +61,8 @@ pub fn lies_inside<L: Width>(table: Pointer, size: u64) -> bool
         && table.slots <= (size - table.place) / slot_size
 }
 
-/// Where the search of a key with this hash begins in its table, which a file of so many bytes
-/// has.
+/// Where the search of a key with this hash begins in its table. The file has so many bytes and has
+/// this table.
 pub fn first_probe<L: Width>(table: Pointer, hash: u64, size: u64) -> Searching
     ensures inside { IsSearchInside L.WORD size result }
     ensures finds { (b key : List ℕ) → size ≡ length b → hash ≡ key_hash key

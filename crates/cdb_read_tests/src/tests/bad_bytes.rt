@@ -9,7 +9,7 @@ use std::alloc::Global;
 use std::prelude::*;
 use std::test::Fail;
 
-/// Where the bad bytes of a file stand.
+/// Where the bad bytes of a file are.
 pub(super) type Bad<'a> = &'a [(u64, u64)];
 
 /// A database in a file with bad bytes.

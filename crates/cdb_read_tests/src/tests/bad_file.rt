@@ -7,7 +7,7 @@ use cdb_store::{Call, RawFault, RawFile, Trace, note_part};
 #[derive(Drop)]
 pub struct BadFile<'a> {
     bytes: Vec<u8>,
-    /// Where the bad bytes stand: each range from its first place up to its second.
+    /// Where the bad bytes are: each range from its first place up to its second.
     bad: &'a [(u64, u64)],
     trace: Trace,
 }

@@ -12,8 +12,8 @@ use std::test::Fail;
 /// What a check answers.
 type Answer = Result<(), ReadFault>;
 
-/// What a check tells of a file whose store fails at most one call: then it is asked again. And how
-/// many calls the store then counted.
+/// What a check reports of a file whose store fails at most one call; after that failure it is
+/// called again. And how many calls the store then counted.
 fn checked<L: Width>(alloc: Global, store: Fused) -> Result<(Answer, u64), ReadFault> {
     let mut reader = opened_again::<L>(store)?;
     let answer = match check(alloc, &mut reader) {
@@ -38,15 +38,16 @@ fn always_answers<L: Width>(
     Ok(same)
 }
 
-/// Whether this is always told of the file of two records with other bytes from a place on.
+/// Whether a check always reports this of the file of two records with other bytes from a place on.
 fn of_two(alloc: Global, at: usize, bytes: &[u8], wanted: Answer) -> Result<bool, ReadFault> {
     always_answers::<Narrow>(alloc, &changed(two_file(alloc)?, at, bytes), wanted)
 }
 
-/// What is told of the file of two records with other bytes from a place on, and of which change.
+/// What a check reports of the file of two records with other bytes from a place on, and of which
+/// change.
 type Row<'a> = (&'a str, usize, &'a [u8], Answer);
 
-/// The first of these rows that is not always told. Empty: each is.
+/// The first of these rows that a check does not always report. Empty if it reports each.
 fn not_told<'a>(alloc: Global, rows: &[Row<'a>]) -> Result<&'a str, ReadFault> {
     for (change, at, bytes, wanted) in rows {
         if !of_two(alloc, *at, bytes, *wanted)? {
@@ -83,7 +84,7 @@ fn worked_files_are_sound(rt: HostRuntime) -> Result<(), Fail> {
     let longer = always_answers::<Narrow>(alloc, &longer, Ok(()))?;
     let zeros = always_answers::<Narrow>(alloc, &vec![in alloc; 0u8; 2048]?, Ok(()))?;
     let wide = of_wide(alloc, 0, b"", Ok(()))?;
-    // Two records; four values of one key; five bytes behind the tables; a head of zeros; and in
+    // Two records; four values of one key; five bytes after the tables; a head of zeros; and in
     // words of 8 bytes.
     assert!(rt; [two, four, longer, zeros, wide] == [true; 5]);
     Ok(())
@@ -140,7 +141,7 @@ const TABLES: [Row<'static>; 8] = [
         b"\x08",
         Err(ReadFault::Record(2064)),
     ),
-    // The records end where the first table stands, so none is whole.
+    // The records end where the first table begins, so none is whole.
     (
         "a table within a record",
         56,
@@ -252,7 +253,7 @@ fn slots_and_records_have_one_another(rt: HostRuntime) -> Result<(), Fail> {
     Ok(())
 }
 
-/// A file of a record of an empty key and an empty value, whose slot stands behind an empty one.
+/// A file of a record of an empty key and an empty value, whose slot is after an empty one.
 fn behind_empty(alloc: Global) -> Result<Vec<u8>, AllocError> {
     let mut file = vec![in alloc; 0u8; 2072]?;
     file = changed(file, 40, b"\x08\x08\0\0\x02\0\0\0");
@@ -286,14 +287,15 @@ fn full_file(alloc: Global, first: u32) -> Result<Vec<u8>, AllocError> {
     Ok(file)
 }
 
-/// What is told of it with other bytes from a place on, and after how many calls of the store.
+/// What a check reports of it with other bytes from a place on, and after how many calls of the
+/// store.
 fn of_full(alloc: Global, first: u32, at: usize, bytes: &[u8]) -> Result<(Answer, u64), ReadFault> {
     let file = changed(full_file(alloc, first)?, at, bytes);
     checked::<Narrow>(alloc, fused(file, u64::MAX))
 }
 
-/// From their home on, the first one behind it, and from slot 0 on. Slot 92, to which a search
-/// comes last, or slot 93, with which it begins, is empty in the other two.
+/// In the first three files the slots begin at their home, at the next slot, and at slot 0. In the
+/// other two slot 92, to which a search comes last, or slot 93, with which it begins, is empty.
 const FULL: [(u32, usize, &[u8], Answer); 5] = [
     (93, 0, b"", Ok(())),
     (94, 0, b"", Ok(())),
@@ -317,7 +319,8 @@ fn a_full_table_is_checked(rt: HostRuntime) -> Result<(), Fail> {
     Ok(())
 }
 
-/// What is told of a file of a record whose key is 5000 bytes long, of which the last is this one.
+/// What a check reports of a file of a record with a key of 5000 bytes, of which the last is this
+/// byte.
 fn of_long_key(alloc: Global, last: u8) -> Result<(Answer, u64), ReadFault> {
     let mut file = vec![in alloc; 0u8; 2048]?;
     file = changed(file, 1064, b"\x90\x1b\0\0\x01\0\0\0");

@@ -10,8 +10,8 @@ use std::test::Fail;
 /// What a count answers.
 type Answer = Result<Stats, ReadFault>;
 
-/// What is counted of a file whose store fails at most one call: then it is asked again. And how
-/// many calls the store then counted.
+/// What `stats` counts of a file whose store fails at most one call; after that failure it is
+/// called again. And how many calls the store then counted.
 fn counted<L: Width>(store: Fused) -> Result<(Answer, u64), ReadFault> {
     let mut reader = opened_again::<L>(store)?;
     let answer = match stats(&mut reader) {

@@ -1,6 +1,6 @@
-// In how many of the runs in which one call of the store fails `Device` is answered. A walk and a
-// value tell each of them. A look-up reads ahead, and if that fails reads again what it wants: of
-// its calls only the one that opens the file is told, if no other fails.
+// In how many runs a reader answers `Device`, if one call of the store fails in each run. A walk
+// and a value report each such failure. A look-up reads ahead, and if that fails it reads again
+// what it wants: of its calls it reports only the one that opens the file, if no other fails.
 use super::counting::four_file;
 use super::files::{Fused, fused, two_file, wide_file};
 use super::reading::lies_inside;
@@ -10,7 +10,7 @@ use std::alloc::{AllocError, Global};
 use std::prelude::*;
 use std::test::Fail;
 
-/// What is asked of a reader.
+/// What a reader is to do.
 #[derive(Clone, Copy, Debug)]
 enum Job {
     /// The values of a key, of which so many answers are taken.
@@ -72,8 +72,8 @@ fn told<L: Width>(alloc: Global, file: Vec<u8>, fails: u64, job: Job) -> (bool, 
     (tells, reader.into_store().calls())
 }
 
-/// Of the calls that a job makes, with the one that opens the file, how many are told if they fail,
-/// and how many they are.
+/// Of the calls that a job makes, with the one that opens the file, how many are reported if they
+/// fail, and how many calls there are.
 fn counted<L: Width>(alloc: Global, file: &Vec<u8>, job: Job) -> Result<(u64, u64), AllocError> {
     let (_, calls) = told::<L>(alloc, file.clone()?, u64::MAX, job);
     let mut tell = 0u64;
@@ -95,7 +95,7 @@ const WIDE_HELLO: Span = Span {
     len: 5,
 };
 
-/// Jobs on the file of two records, the calls that are told, and all calls.
+/// Jobs on the file of two records, the calls that are reported, and all calls.
 const OF_TWO: [(Job, u64, u64); 7] = [
     (Job::Find(b"one", 1), 1, 3),
     (Job::Find(b"one", 2), 1, 4),

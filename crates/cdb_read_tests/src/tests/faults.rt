@@ -30,7 +30,7 @@ fn faults_are_numbered_and_said(rt: HostRuntime) -> Result<(), Fail> {
     Ok(())
 }
 
-/// Damages, and what they are told as.
+/// Damages, and the faults that report them.
 const TOLD: [(Damage, ReadFault); 6] = [
     (Damage::Short, ReadFault::Short),
     (Damage::Table(7), ReadFault::Table(7)),

@@ -1,4 +1,4 @@
-// Files worked out by hand, and what stands over them.
+// Files worked out by hand, and the stores and readers over them.
 use cdb_form::Width;
 use cdb_read::{ReadFault, Reader};
 use cdb_store::{FuseStore, MemStore};
@@ -8,8 +8,8 @@ use std::prelude::*;
 /// A store that fails one of its reads.
 pub(super) type Fused = FuseStore<MemStore>;
 
-/// Behind the head of the file of `one` -> `Hello` and `two` -> `Goodbye`, whose tables 41 and 129
-/// stand at 2082 and 2098.
+/// What follows the head in the file of `one` -> `Hello` and `two` -> `Goodbye`, whose tables 41
+/// and 129 begin at 2082 and 2098.
 const TWO_BODY: &[u8] = b"\x03\0\0\0\x05\0\0\0oneHello\x03\0\0\0\x07\0\0\0twoGoodbye\
     \x29\x60\x87\x0b\x10\x08\0\0\0\0\0\0\0\0\0\0\
     \0\0\0\0\0\0\0\0\x81\x5b\x87\x0b\0\x08\0\0";
@@ -63,7 +63,7 @@ pub(super) fn fused(bytes: Vec<u8>, calls: u64) -> Fused {
     FuseStore::new(MemStore::from_vec(bytes), calls, 0)
 }
 
-/// A reader of a file whose store fails one call, opened again where that was the first one.
+/// A reader of a file whose store fails one call. If the first call failed, it is opened again.
 pub(super) fn opened_again<L: Width>(store: Fused) -> Result<Reader<Fused, L>, ReadFault> {
     match Reader::<Fused, L>::open(store) {
         Ok(reader) => Ok(reader),

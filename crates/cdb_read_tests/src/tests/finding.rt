@@ -10,7 +10,8 @@ use std::test::Fail;
 /// What a call of a finder answers.
 pub(super) type Answer = Result<Option<Span>, ReadFault>;
 
-/// The next answer of a finder whose store fails at most one call: then it is asked again.
+/// The next answer of a finder whose store fails at most one call; after that failure `next` is
+/// called again.
 fn next_again<L: Width>(finder: &mut Finder<'_, Fused, L>) -> Answer {
     match finder.next() {
         Err(ReadFault::Device) => finder.next(),
@@ -59,7 +60,7 @@ fn push_pair(file: &mut Vec<u8>, first: u32, second: u32) -> Result<(), AllocErr
     Ok(())
 }
 
-/// A file whose table 196 has these slots, at 2068, behind the records of `a` with the values 1 and
+/// A file whose table 196 has these slots, at 2068, after the records of `a` with the values 1 and
 /// 2 at 2048 and 2058.
 pub(super) fn two_values(alloc: Global, slots: [(u32, u32); 2]) -> Result<Vec<u8>, AllocError> {
     let mut file = Vec::new(alloc);
@@ -129,7 +130,7 @@ fn a_search_goes_round(rt: HostRuntime) -> Result<(), Fail> {
 
 #[test]
 fn a_damage_is_met_and_stays(rt: HostRuntime) -> Result<(), Fail> {
-    // The slot of `two` tells 2065 in place of 2064.
+    // The slot of `two` has 2065 instead of 2064.
     let file = changed(two_file(rt.alloc())?, 2086, b"\x11");
     let damage = Err(ReadFault::Record(2065));
     let met = [
@@ -164,8 +165,8 @@ fn copy_next(
     Ok(true)
 }
 
-/// All values of a key, copied by a finder whose store fails at most one call: then it is asked
-/// again.
+/// All values of a key, copied by a finder whose store fails at most one call; after that failure
+/// the finder is called again.
 fn all_copied(alloc: Global, store: Fused, key: &[u8]) -> Result<Vec<u8>, ReadFault> {
     let mut out = Vec::new(alloc);
     let mut reader = opened_again::<Narrow>(store)?;

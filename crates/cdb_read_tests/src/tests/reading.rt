@@ -43,7 +43,7 @@ pub(super) fn lies_inside<S: Store, L: Width>(reader: &Reader<S, L>, span: Span)
     span.place <= size && span.len <= size - span.place
 }
 
-/// The value at a span, asked for again where the store failed.
+/// The value at a span, read again if the store failed.
 fn value_again<L: Width>(
     alloc: Global,
     reader: &mut Reader<Fused, L>,

@@ -1,5 +1,5 @@
-// Calls whose asks for memory `tests/faults/calls.py` refuses, each in turn. It reads what the test
-// prints: whether the refusal came to the call.
+// Calls whose requests for memory `tests/faults/calls.py` refuses, each in turn. It reads what the
+// test prints: whether the refusal came to the call.
 use super::files::two_file;
 use super::reading::lies_inside;
 use cdb_form::Narrow;
@@ -9,10 +9,10 @@ use std::alloc::{AllocError, Global};
 use std::prelude::*;
 use std::test::Fail;
 
-/// How long the value is that stands behind the file of two records.
+/// How long the value is that follows the file of two records.
 const LONG: usize = 9000;
 
-/// Where it stands.
+/// Where it lies.
 const SPAN: Span = Span {
     place: 2114,
     len: 9000,

@@ -1,4 +1,4 @@
-//! A caller of a reader, as it stands in CALLING.md.
+//! A caller of a reader, as CALLING.md has it.
 use super::files::two_file;
 use cdb_form::Narrow;
 use cdb_read::{ReadFault, Reader};
@@ -7,7 +7,7 @@ use std::alloc::Global;
 use std::prelude::*;
 use std::test::Fail;
 
-/// All values of a key, one behind the other.
+/// All values of a key, one after the other.
 fn all_values(alloc: Global, file: Vec<u8>, key: &[u8]) -> Result<Vec<u8>, ReadFault> {
     let mut out = Vec::new(alloc);
     let mut reader = match Reader::<MemStore, Narrow>::open(MemStore::from_vec(file)) {

@@ -10,7 +10,8 @@ use std::test::Fail;
 /// What a call of a walk answers.
 pub(super) type Answer = Result<Option<Pair>, ReadFault>;
 
-/// The next answer of a walk whose store fails at most one call: then it is asked again.
+/// The next answer of a walk whose store fails at most one call; after that failure `next` is
+/// called again.
 fn next_again<L: Width>(records: &mut Walk<'_, Fused, L>) -> Answer {
     match records.next() {
         Err(ReadFault::Device) => records.next(),

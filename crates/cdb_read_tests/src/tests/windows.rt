@@ -135,7 +135,7 @@ fn windows_end_before_a_damage(rt: HostRuntime) -> Result<(), Fail> {
     let wide = Err(ReadFault::Record(4096));
     // Table 0 has a slot at place 100; the second record passes the record end by a byte; a key is
     // longer than all, in words of 4 bytes and of 8, and a value; the file ends within the second
-    // record, and behind the head.
+    // record, and after the head.
     let are_told = [
         always_reads::<Narrow>(alloc, &table, 100, &[0], Err(ReadFault::Table(0)))?,
         always_reads::<Narrow>(alloc, &second, 100, &[16, 0], at_second)?,

@@ -2,7 +2,7 @@ use Rattle.cdb_read.proofs.Words.{List, Marks, WordPair, entry_pairs, ◌≡◌}
 use Rattle.cdb_read.proofs.Checks.Entered.{lost_from}
 use Rattle.cdb_read.proofs.checking.table_records.TableRecords.first_unmarked.Given as goal
 
--- the records so far are told
+-- slots point to the records so far
 abbrev pub invariant-loop-k : goal.invariant-loop-k
 invariant-loop-k l =
     record {
