@@ -73,7 +73,7 @@ pub some_left : (c : List ℕ) (left rest : Found) (span : Span) → left ≡ wi
 unfolding values_eq
 some_left c left rest span some = sym (ap (λ (f : Found). values_eq [] (values_in c f.spans)) some)
 
--- ---- the damage that a finder is still to tell
+-- ---- the damage that a finder is still to report
 
 pub record SameDamage {S L : Type 0} {s : Ghosts S} {l : Widths L} (w : ℕ) (old new : Finder S L s l) : Type 0 where
   pub each : (b : List ℕ) → s.image new.reader.now.store b → (left_in w b old).damage ≡ (left_in w b new).damage

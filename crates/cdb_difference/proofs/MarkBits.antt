@@ -60,6 +60,6 @@ unfolding mark_at
 mark_read words hash word long is =
     ap (λ n. n == 1) (shr_and_one word (hash % 4194304 % 64) ∙ ap (λ n. bit_at n (hash % 4194304 % 64)) (get_or_read words (hash % 4194304 / 64) word (omega (arith, long)) is 0))
 
--- what is written where a word was
+-- what is written over a word
 pub with_word : (words : List ℕ) (hash word : ℕ) → length words ≡ 65536 → word ≡ get_or words (hash % 4194304 / 64) word → set words (hash % 4194304 / 64) (bit_or word (1 * 2 ^ (hash % 4194304 % 64) % 18446744073709551616)) ≡ with_bit words (hash % 4194304)
 with_word words hash word long is = ap (λ n. set words (hash % 4194304 / 64) (bit_or n (1 * 2 ^ (hash % 4194304 % 64) % 18446744073709551616))) (get_or_read words (hash % 4194304 / 64) word (omega (arith, long)) is 0)

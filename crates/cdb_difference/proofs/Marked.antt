@@ -32,12 +32,12 @@ agree_grown old new rs ss grows agree key free = agree key (was_unmarked old new
 pub agree_flipped : (words : List ℕ) (rs ss : List KeyValue) → AgreeUnmarked words rs ss → AgreeUnmarked words ss rs
 agree_flipped words rs ss agree key free = sym (agree key free)
 
--- the same record behind both
+-- the same record after both
 pub agree_same : (words : List ℕ) (rs ss : List KeyValue) (r : KeyValue) → AgreeUnmarked words rs ss → AgreeUnmarked words (rs ++ r ∷ []) (ss ++ r ∷ [])
 agree_same words rs ss r agree key free =
     values_of-append key rs (r ∷ []) ∙ ap (λ vs. vs ++ values_of key (r ∷ [])) (agree key free) ∙ sym (values_of-append key ss (r ∷ []))
 
--- marked ones behind one of them
+-- marked ones after one of them
 pub agree_marked : (words : List ℕ) (rs ss more : List KeyValue) → AllMarked words more → AgreeUnmarked words rs ss → AgreeUnmarked words (rs ++ more) ss
 agree_marked words rs ss more all agree key free =
     values_of-append key rs more ∙ ap (λ vs. values_of key rs ++ vs) (all key free) ∙ append-nil (values_of key rs) ∙ agree key free

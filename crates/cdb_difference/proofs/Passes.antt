@@ -16,7 +16,7 @@ use Rattle.cdb_difference.specs.Difference.{changes_at, changes_text, first_at, 
 
 -- ---- the first record of a key
 
--- the value of a record is the first of its key exactly where none before has the key
+-- the value of a record is the first of its key exactly when no record before has the key
 first_is : (w at place : ℕ) (key : List ℕ) (before : List KeyValue) (r : KeyValue) (rest : List KeyValue) → 0 < w → r.key ≡ key → place ≡ at + sum_by (record_size w) before + pair_size w + length key
     → first_at place (spans_from w at key (before ++ r ∷ rest)) ≡ not (there key before)
 unfolding there

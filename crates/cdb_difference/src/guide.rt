@@ -1,4 +1,4 @@
-// Which of two walks goes on where their records differ.
+// Which of two walks goes on if their records differ.
 ghost use Rattle.std.specs.Prelude.{◌≡◌, ◌≢◌, ◌+◌, ◌≤◌, IfErr, IfOk};
 ghost use Rattle.cdb_read.specs.Views.Walking.{record_in};
 ghost use Rattle.cdb_difference.specs.Difference.{InBoth};

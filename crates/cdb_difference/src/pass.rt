@@ -55,9 +55,9 @@ fn is_change<L: Width, S: Store, T: Store>(
 }
 
 /// Writes what the difference says of each key of a database whose values in the other one are
-/// others, where the first record of the key is: removals or puts. A key whose mark is not set has
-/// the same values in both walks, and is not looked up. After a `Stop` the writer holds a prefix of
-/// that.
+/// others: removals or puts. It does so at the first record of the key. A key whose mark is not set
+/// has the same values in both walks, and is not looked up. After a `Stop` the writer holds a
+/// prefix of that.
 pub(crate) fn write_pass<L: Width, S: Store, T: Store, W: Sink>(
     alloc: Global,
     own: &mut Reader<S, L>,

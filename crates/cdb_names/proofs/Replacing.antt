@@ -229,13 +229,13 @@ pub synced : {t n : List ℕ} {whole : List ℕ → Type 0} {old mid : NameCalls
 synced {n = n} new true are is = step new (Synced, n, [], []) are is tt tt
 synced {n = n} new false are is = step new (NotSynced, n, [], []) are is tt tt
 
--- the bits that are wanted were asked, and those of the file
+-- the bits that are wanted were looked up, and those of the file
 pub wanted_seen : {t n : List ℕ} {whole : List ℕ → Type 0} {old : NameCalls} (mid new : NameCalls) (wanted : Option Wanted) (first : Option ℕ) (file : Calls)
     → mid ≡ (Bits wanted, n, [], []) ∷ old → new ≡ (Seen first, t, [], file) ∷ mid → AreSteps t n whole old new
 wanted_seen {t = t} {n = n} {old = old} mid new wanted first file asked seen =
     step new (Seen first, t, [], file) (step mid (Bits wanted, n, [], []) (no_step old) asked tt tt) seen tt tt
 
--- and the system was asked for them, and the file looked at once more
+-- and the system was requested to set them, and the file was looked at once more
 pub set_seen : {t n : List ℕ} {whole : List ℕ → Type 0} {old mid : NameCalls} (set new : NameCalls) (bits : ℕ) (last : Option ℕ) (first file : Calls)
     → AreSteps t n whole old mid → set ≡ (Set bits, t, [], first) ∷ mid → new ≡ (Seen last, t, [], file) ∷ set → AreSteps t n whole old new
 set_seen {t = t} set new bits last first file are asked seen =

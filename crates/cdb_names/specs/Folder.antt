@@ -127,7 +127,7 @@ abbrev pub seen_first : (from to : List ℕ) (wanted : Wanted) (first : ℕ) (fi
 seen_first from to wanted first file calls =
     (Seen (Some first), from, [], file) ∷ (Bits (Some wanted), to, [], []) ∷ calls
 
--- and then the system was asked to give it those that are wanted
+-- and then the system was requested to give it those that are wanted
 abbrev pub asked_for : (from to : List ℕ) (wanted : Wanted) (first : ℕ) (file : Calls)
     → NameCalls → NameCalls
 asked_for from to wanted first file calls =

@@ -217,8 +217,8 @@ StopsUnbuilt temporary name old new Rename = new ≡ (Special answer.Yes, name, 
 StopsUnbuilt temporary name old new Write = ⊥
 StopsUnbuilt temporary name old new (Build fault) = ⊥
 
--- the system was asked, since the old calls, for permission bits with which the file may get the name,
--- and it has others
+-- the system was requested, since the old calls, to give the file permission bits with which it may get
+-- the name, and it has others
 abbrev pub IsNotGiven : (temporary name : List ℕ) (bits : ℕ) (old calls : NameCalls) → Type 0
 IsNotGiven temporary name bits old calls = (wanted : Wanted) × (first : ℕ) × (file : Calls)
     × (before : NameCalls) × GoesOn old before × (Suits wanted bits → ⊥)
@@ -350,7 +350,7 @@ abbrev pub IsOfBuilder : {E : Type 0} → (E → Type 0) → ReplaceFault E → 
 IsOfBuilder P (Build fault) = P fault
 IsOfBuilder P fault = Unit {0}
 
--- what a replacement answers whose builder answered so: a fault is told, and a rename may fail
+-- what a replacement answers whose builder answered so: a fault is reported, and a rename may fail
 abbrev pub BuilderAnswers : {E : Type 0} → Result Unit E → Result Unit (ReplaceFault E) → Type 0
 BuilderAnswers (Ok done) (Ok all) = Unit {0}
 BuilderAnswers (Ok done) (Err fault) = IsOfBuilder (λ _. ⊥) fault

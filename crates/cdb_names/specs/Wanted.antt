@@ -12,7 +12,7 @@ wanted_bits (New bits) = bits
 abbrev pub private_bits : ℕ
 private_bits = 384
 
--- those that are asked for a plain new file, which all may read and write but for what the system takes
+-- those that are requested for a plain new file, which all may read and write but for what the system takes
 abbrev pub plain_bits : ℕ
 plain_bits = 438
 

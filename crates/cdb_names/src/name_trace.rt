@@ -23,7 +23,7 @@ pub enum NameCall {
     Opened,
     /// It was not.
     NotOpened(NameFault),
-    /// A new file was made under the name, for which these permission bits were asked.
+    /// A new file was made under the name, with a request for these permission bits.
     Made(u32),
     /// None was made.
     NotMade(NameFault),
@@ -37,7 +37,7 @@ pub enum NameCall {
     Bits(Option<Wanted>),
     /// The permission bits that the file of the name was seen to have, if the system said.
     Seen(Option<u32>),
-    /// The system was asked to give the file of the name these permission bits.
+    /// The system was requested to give the file of the name these permission bits.
     Set(u32),
     /// The name was taken from its file, or had none.
     Removed,

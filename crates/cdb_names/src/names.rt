@@ -41,7 +41,7 @@ pub struct Unrenamed<F> {
 }
 
 /// The names of files, by the calls on them, each of which notes what it answered in proof-only
-/// data. A call that failed never counts as an answer: who asks decides what follows from it.
+/// data. A call that failed never counts as an answer: the caller decides what follows from it.
 pub trait Names {
     /// A file that was opened or made.
     type File: RawFile + Drop;
@@ -111,9 +111,9 @@ pub trait Names {
         ensures { calls self.new
             ≡ (Seen result, name.now, [], Self.File.calls file.now) ∷ calls self.old };
 
-    /// Asks the system to give an open file of a name these permission bits, whatever the umask.
-    /// Whether it has them then, `bits_of` says. Owner and group stay this user's, and bits beyond
-    /// read, write and execute are not given.
+    /// Requests that the system give an open file of a name these permission bits, whatever the
+    /// umask. `bits_of` reports whether the file has them then. Owner and group stay this user's,
+    /// and bits beyond read, write and execute are not given.
     fn set_bits(&mut self, name: &str, file: &Self::File, bits: u32)
         ensures { calls self.new
             ≡ (Set bits, name.now, [], Self.File.calls file.now) ∷ calls self.old };

@@ -29,7 +29,7 @@ fn leads_into_system<R: Files<File = File> + Alloc>(rt: &R, name: &str) -> Said 
     let Ok(mut at) = PathBuf::from_str(rt.alloc(), name) else {
         return Err(Some(ENOMEM));
     };
-    // Behind the last link that the system follows the name is looked at once more.
+    // After the last link that the system follows, the name is looked at once more.
     for _ in 0..=LINKS {
         if !link_at(rt, at.as_path().as_str())? {
             return Ok(false);

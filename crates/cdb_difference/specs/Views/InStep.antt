@@ -34,7 +34,7 @@ pub record InStep (w : ℕ) (words b c : List ℕ) (left beside : Walked) : Type
   pub other_all : walk_of w c ≡ with_records theirs beside
   pub agree : AgreeUnmarked words mine theirs
 
--- so it is in each image, where two walks are
+-- so it is in each image, when two walks are at these places
 pub record AreInStep {S T : Type 0} (w : ℕ) (s : Ghosts S) (t : Ghosts T) (own : S) (other : T)
     (words : List ℕ) (at : Places) : Type 0 where
   pub own_damage : (b : List ℕ) → s.image own b

@@ -1,4 +1,4 @@
--- What is left of a walk where its bookmark is, and its next record.
+-- What is left of a walk from its bookmark on, and its next record.
 use Rattle.std.specs.Prelude.{ℕ, ◌≡◌, ◌<◌, ◌≤◌, List}
 use Rattle.cdb_store.specs.declared.store.Store.{Ghosts}
 use Rattle.cdb_form.specs.Format.Walk.{Walked, damaged, no_walk, with_first}
