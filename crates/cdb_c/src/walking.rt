@@ -41,8 +41,8 @@ impl Placed {
     }
 }
 
-/// Where the records of a file end, which has at least a head. 0 says that they would end before
-/// the head does. The first record follows the head, at 2048.
+/// Where the records of a file end, which has at least a head. 0 says that the records would end
+/// before the head does. The first record follows the head, at 2048.
 #[unsafe(no_mangle)]
 pub extern "C" fn cdb_c_record_end(file: &[u8]) -> u64
     requires { head_size 4 ≤ length file.now }

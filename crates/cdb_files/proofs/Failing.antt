@@ -31,7 +31,7 @@ first_fit w n records =
     let same : sum_by (whole_size w) (key_values (take n records) ++ key_values (drop n records)) ≡ sum_by (whole_size w) (key_values records) = ap (sum_by (whole_size w)) all in
     omega (arith, sums, same)
 
--- a record was not put behind the first ones
+-- a record was not put after the first ones
 pub puts_fail : {S L : Type 0} {s : Ghosts S} {l : Widths L} (limit before i : ℕ) (records : List Record) (old new : Maker S L s l) (r : KeyValue) (f : MakeFault) → Holds old (key_values (take i records)) → old.limit ≡ limit → s.failures old.store ≡ before
     → key_values (take i records) ++ r ∷ [] ≡ key_values (take (i + 1) records) → FailsPutting old new Add r f → FailsBuilding l.WORD limit records before (s.failures new.store) (s.image new.store) f
 puts_fail limit before i records old new r Broken held same later more fails = fails.cause (key_values (take i records)) held

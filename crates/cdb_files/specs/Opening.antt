@@ -28,7 +28,7 @@ abbrev pub OpensOne : {S L : Type 0} {s : Ghosts S} {l : Widths L} → Result S 
 OpensOne (Err fault) reader = ⊥
 OpensOne (Ok store) reader = Opens store reader
 
--- a reader of a file of which the length was asked and no more
+-- a reader of a file of which the length was read and no more
 pub record OpensFile {F L : Type 0} {file : Raw F} {s : Ghosts (FileStore F file)} {l : Widths L}
     (reader : Reader (FileStore F file) L s l) : Type 0 where
   pub store : FileStore F file

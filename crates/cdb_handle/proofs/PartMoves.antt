@@ -52,7 +52,7 @@ module _ {M : Type 1} {𝓤 : Ura M} (𝓛 : Logic 𝓤) (E : Bx) (From To : Rat
   abbrev asks : (From.Denot → SProp 𝓤) → (From.Denot → To.Denot → Type 0) → Clauses 𝓤 Moves
   asks needed φ κs a = record { ghost = Unit {0}; requires = λ _. needed a.0; ensures = λ _ r _. fact 𝓤 (φ a.0 r) }
 
-  -- where the one owns what a box owns, and the other what that box owns
+  -- if the one owns what a box owns, and the other what that box owns
   pub moved : Silent 𝓛 0 (plain (λ _. From)) yes → ((x : From.Denot) → Last (From.exit yes) x) → (ν μ : Sym) (needed : From.Denot → SProp 𝓤) (φ : From.Denot → To.Denot → Type 0) (𝓜 : Model 𝓤 H) (𝓡 : Running 𝓤 H 𝓜) (k : Callee)
       → Closed 𝓤 H (tables 𝓤 H 𝓜 𝓡 𝓡.env).C (tables 𝓤 H 𝓜 𝓡 𝓡.env).Λ k (moving ν μ (α E.al))
       → ((x : From.Denot) (vs : List Val) (Q : SProp 𝓤) → ((d : D E) (r : To.Denot) → ((w : Val) → ent 𝓤 (sem 𝓛 ((B E).own_val d (w ∷ []))) (sem 𝓛 (To.own_val r (w ∷ [])))) → φ x r → ent 𝓤 (sem 𝓛 ((B E).own_val d vs)) Q)

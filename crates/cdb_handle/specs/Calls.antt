@@ -25,7 +25,7 @@ BetweenCalls (Some Lent) new P = new ≡ Some Lent
 BetweenCalls (Some (Made f)) new P = new ≡ Some (Made f)
 BetweenCalls (Some (Open m)) new P = Follow m new P
 
--- so many records are what a maker holds, and what it tells
+-- a maker holds so many records, and reports so many
 pub record IsCount (m : Making) (n : ℕ) : Type 0 where
   pub holds : (rs : List KeyValue) → Holds m.maker rs
       → WhereHonest (images_of (store_of m.maker)) (n ≡ length rs)
@@ -49,7 +49,7 @@ HasNoMaker (Some (Made f)) = Unit {0}
 HasNoMaker (Some (Open m)) = ⊥
 
 -- there is a maker, and it is new: it holds no records, takes records out later, none goes yet, and
--- its file may have less than 4 GiB; and the system was asked to sync its head
+-- its file may have less than 4 GiB; and the system was requested to sync its head
 pub record IsNew (m : Making) : Type 0 where
   pub holds : Holds m.maker []
   pub head : IsUnfinished 4 (images_of (store_of m.maker))
@@ -69,7 +69,7 @@ pub record FindsKey (there : Bool) (key : List ℕ) (m n : Making) : Type 0 wher
   pub each : (rs : List KeyValue) → Holds m.maker rs
       → IsThere there key rs (images_of (store_of n.maker))
 
--- the finished file is that of the records which the maker held, and the system was asked to sync it
+-- the finished file is that of the records which the maker held, and the system was requested to sync it
 pub record IsFileOfHandle (m : Making) (f : Finished) : Type 0 where
   pub file : (rs : List KeyValue) → Holds m.maker rs → IsFile 4 rs (images_of f.store)
   pub synced : IsSynced (calls_of (inner_of f.store))

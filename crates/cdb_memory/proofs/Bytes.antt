@@ -1,4 +1,4 @@
--- What bytes in memory say of a record and of a table, where they are the only image.
+-- What bytes in memory say of a record and of a table, if they are the only image.
 use Rattle.std.proofs.Common.{◌≡◌, ℕ, ◌+◌, ◌-◌, ◌*◌, ◌<◌, ◌≤◌, Bool, true, false, List, length, take, drop, refl, sym, ap, ◌∙◌, subst, ◌%◌, arith}
 use Rattle.std.specs.Prelude.{bytes_eq, not}
 use Rattle.std.proofs.lemmas.Slice.Eq.{bytes_eq-Decides}
@@ -68,7 +68,7 @@ looked_up w {n = n} {size = size} {hash = hash} file key p long number is read =
     ∙ ap (nth_pair w file) (number ∙ ap table_number is) in
     ap (found_by w file key) at ∙ sym (lookup_of-is w file key)
 
--- what a probe tells, after probes that passed
+-- what a probe reports, after probes that passed
 pub meets_empty : {w : ℕ} {key : List ℕ} {from probe : Probe} {images : List ℕ → Type 0} → SameAhead w key from probe images → ProbedFrom w key probe step.Empty images → Meets w key from met.End images
 meets_empty same steps = record { each = λ b is. same.each b is ∙ steps.each b is }
 

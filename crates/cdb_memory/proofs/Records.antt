@@ -1,4 +1,4 @@
--- The record that stands at a place of bytes in memory.
+-- The record at a place of bytes in memory.
 use Rattle.std.proofs.Common.{◌≡◌, ℕ, ◌+◌, ◌-◌, ◌*◌, ◌<◌, ◌≤◌, List, length, take, drop, refl, sym, ap, ◌∙◌, arith}
 use Rattle.std.proofs.Math.Nat.{min-le_left, min-le_right}
 use Rattle.std.specs.Prelude.{Option, Some, None, MatchOption, min}

@@ -9,7 +9,7 @@ use Rattle.cdb_memory.specs.declared.walk.RecordArea.{RecordArea}
 abbrev pub rest_of : ℕ → List ℕ → RecordArea → Walked
 rest_of w file r = walk_from w r.place r.end (drop r.place file)
 
--- a record stands at a place, before the record end and inside the file, and the walk goes on after it
+-- a record is at a place, before the record end and inside the file, and the walk goes on after it
 pub record StandsRecord (w : ℕ) (file : List ℕ) (place end : ℕ) (pair : Pair) : Type 0 where
   pub first : walk_from w place end (drop place file)
       ≡ with_first (record_in file pair) (walk_from w (behind pair) end (drop (behind pair) file))

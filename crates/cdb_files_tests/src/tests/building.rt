@@ -1,4 +1,4 @@
-// What is asked of a store in which the database of some records is built.
+// Which calls a store gets as the database of some records is built in it.
 use cdb_files::{Builder, Records};
 use cdb_form::{Narrow, Record, hash};
 use cdb_store::{FuseStore, MemStore};

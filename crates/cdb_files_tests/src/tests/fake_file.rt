@@ -39,7 +39,7 @@ impl FakeFile {
         &self.trace
     }
 
-    /// Counts a call, and tells whether it fails.
+    /// Counts a call, and answers whether it fails.
     fn fails(&mut self) -> bool
         ensures { self.new.trace ≡ self.old.trace }
     {
@@ -63,7 +63,7 @@ fn copy_out(bytes: &[u8], pos: u64, into: &mut [u8]) -> Result<usize, RawFault>
     Ok(n)
 }
 
-/// Writes the bytes over what stands there and past the end.
+/// Writes the bytes over what is there and past the end.
 fn copy_in(bytes: &mut Vec<u8>, pos: u64, new: &[u8]) -> Result<usize, RawFault>
     requires { 0 < length new.now }
     ensures { IfOk result (λ n. (0 < n) × (n ≤ length new.now)) }

@@ -79,7 +79,7 @@ impl FakeNames {
         }
     }
 
-    /// Counts a call, and tells whether it fails.
+    /// Counts a call, and answers whether it fails.
     fn fails(&mut self) -> bool
         ensures { self.new.trace ≡ self.old.trace }
     {

@@ -1,4 +1,4 @@
-// Files of the system: made, opened and asked.
+// Files of the system: made, opened and read.
 use super::faults::two_records;
 use cdb_files::{FileFault, RealNames, make_file, make_file_in, open_file};
 use cdb_form::{Narrow, Wide};

@@ -1,4 +1,4 @@
-// Calls on names of the system, one by one: what they leave where another has the name.
+// Calls on names of the system, one by one: what they leave if another has the name.
 use cdb_files::{Answer, Found, Lock, NameFault, Names, RealNames};
 use cdb_store::RealFile;
 use std::fs;

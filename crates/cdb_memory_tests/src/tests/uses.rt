@@ -1,4 +1,4 @@
-//! Callers of `cdb_memory`, as they stand in CALLING.md.
+//! Callers of `cdb_memory`, as CALLING.md has them.
 use super::files::{four_file, two_file};
 use cdb_form::{Damage, Narrow, head_size};
 use cdb_memory::{begin, find, first_record, next, next_record};

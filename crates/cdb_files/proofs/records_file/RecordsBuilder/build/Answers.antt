@@ -6,7 +6,7 @@ use Rattle.cdb_names.specs.Unsynced.{inner_of}
 use Rattle.cdb_files.proofs.Failing.{building_below, building_later}
 use Rattle.cdb_files.proofs.records_file.RecordsBuilder.build.Goals as goal
 
--- what both clauses give where the call answered Ok
+-- what both clauses give if the call answered Ok
 both : {T E P Q R : Type 0} (r : Result T E) → (P → Q → R) → OnOk r P → OnOk r Q → OnOk r R
 both (Ok x) f p q = f p q
 both (Err e) f p q = tt
