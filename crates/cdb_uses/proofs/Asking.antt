@@ -43,7 +43,7 @@ appends_none (Some xs) = sym (append-nil xs)
 pub asked_none : (w : ℕ) (key : List ℕ) (images : List ℕ → Type 0) (left : List ℕ → Found) (start : Option (List ℕ)) → ((b : List ℕ) → images b → left b ≡ lookup_of w b key) → AskedSoFar w key images images left start start
 asked_none w key images left start finds = record { spans = []; images = λ b is. is; first = λ b is. sym (finds b is); written = λ b is. appends_none start }
 
--- what is left stays where key and search do
+-- what is left stays if key and search do
 pub same_left : {S L : Type 0} {s : Ghosts S} {l : Widths L} (w : ℕ) (b : List ℕ) (t u : Finder S L s l) → u.key.now ≡ t.key.now → u.searching ≡ t.searching → left_in w b t ≡ left_in w b u
 same_left w b t u key searching = sym (ap (λ k. found_ahead w b k u.searching) key ∙ ap (found_ahead w b t.key.now) searching)
 
@@ -88,7 +88,7 @@ pub asked_prefix : (w : ℕ) (key : List ℕ) (rs : List KeyValue) (old new : Li
 asked_prefix w key rs old new left start now b h is file law =
     record { front = flat_map (bytes_of b) h.spans; more = flat_map (bytes_of b) (left b).spans; split = values_split w key rs b h.spans (left b) (h.first b is) file law; appended = h.written b is }
 
--- also where the next of them was not written whole
+-- also if the next of them was not written whole
 pub copied_prefix : (w : ℕ) (key : List ℕ) (rs : List KeyValue) (old new : List ℕ → Type 0) (left rest : List ℕ → Found) (start now end : Option (List ℕ)) (b : List ℕ) (span : Span) → AskedSoFar w key old new left start now → new b → left b ≡ with_span span (rest b)
     → AppendsPrefix now end (bytes_of b span) → b ≡ file_bytes w rs → FindsValues w rs key → AppendsPrefix start end (concat (values_of key rs))
 copied_prefix w key rs old new left rest start now end b span h is gives front file law =
@@ -104,7 +104,7 @@ no_damage w key rs old new left start now b d h is damaged file law =
     let no_one : None ≡ Some d = sym none ∙ some in
     cc
 
--- so a finder fails where its store does
+-- so a finder fails only if its store does
 pub finder_fails : {S L : Type 0} {s : Ghosts S} {l : Widths L} (w : ℕ) (key : List ℕ) (rs : List KeyValue) (old : List ℕ → Type 0) (start now : Option (List ℕ)) (first : S) (t u : Finder S L s l) (b : List ℕ) (f : ReadFault)
     → AskedSoFar w key old (s.image t.reader.now.store) (λ x. left_in w x t) start now → OnlyReads s first t.reader.now.store → s.image t.reader.now.store b → s.image u.reader.now.store b → FindingFails w t u f → b ≡ file_bytes w rs → FindsValues w rs key
     → CopyingFails s first u.reader.now.store f

@@ -74,7 +74,7 @@ pub record IsWhole (first steps : List Step) (faults : List (Option MakeFault)) 
   pub runs : (w limit : ℕ) (old new : Stage) → StepsRun w limit [] first faults old new → StepsRun w limit [] steps faults old new
   pub left : (w limit : ℕ) → left_by w limit steps faults ≡ left_by w limit first faults
 
--- where one of them is the finish, or all were made
+-- if one of them is the finish, or all were made
 whole_taken : (first rest steps : List Step) (faults : List (Option MakeFault)) → steps ≡ first ++ kind.Finish ∷ rest → length faults ≡ length first → IsWhole first steps faults
 whole_taken first rest steps faults split same = subst (λ v. IsWhole first v faults) (sym split) (record {
   runs = λ w limit old new run. runs_taken w limit [] first rest faults old new same run;
@@ -121,7 +121,7 @@ ended {s = s} {l = l} store limit first steps faults m step new four so all end 
       };
     }
 
--- where a step was the finish
+-- if a step was the finish
 pub ended_taken : {S L : Type 0} {s : Ghosts S} {l : Widths L} (store : S) (limit i : ℕ) (steps : List Step) (faults : List (Option MakeFault)) (m : Maker S L s l) (step : Step) (new : S) → (l.WORD ≡ 4) ⊎ (l.WORD ≡ 8) → i < length steps → step ≡ get_or steps i step → SoFar store limit (take i steps) faults m
     → Finishes m (left_by l.WORD limit (take i steps) faults) step new → Ended s l store limit steps faults new
 ended_taken store limit i steps faults m step new four lt is so end =
@@ -152,6 +152,6 @@ pub unbuilt : {S L : Type 0} {s : Ghosts S} {l : Widths L} (store : S) (limit i 
     → FailsFinishing m n f → ComesFrom (s.image m.store) (s.image n.store) → WhereHonest (s.image n.store) (NotBuilt l.WORD limit steps faults (s.failures store) (s.failures n.store) f)
 unbuilt store limit i steps faults m n f all so fails comes = unfinished store limit (take i steps) steps faults m n f so (whole_made (take i steps) steps faults (take_all i steps all)) fails comes
 
--- where memory was refused nothing else is owed
+-- if memory was refused nothing else is owed
 pub out_of_memory : {S : Type 0} (s : Ghosts S) (w limit : ℕ) (store : S) (steps : List Step) (u : Unbuilt S) → u.fault ≡ Make NoMemory → IsUnbuilt s w limit store steps u
 out_of_memory s w limit store steps u e = (NoMemory, e, record { each = λ b is. tt })

@@ -225,7 +225,7 @@ answered_more (s ∷ steps) [] step fault same = absurd (omega (arith, same))
 answered_more (s ∷ steps) (f ∷ faults) step fault same =
     ap (λ x. answers_of s f ++ x) (answered_more steps faults step fault (omega (arith, same))) ∙ sym (append_assoc (answers_of s f) (answered steps faults) (answers_of step fault))
 
--- and those behind them count for nothing
+-- and those after them count for nothing
 answered_first : (steps rest : List Step) (faults : List (Option MakeFault)) → length faults ≡ length steps → answered (steps ++ rest) faults ≡ answered steps faults
 answered_first [] rest [] same = answered_none rest
 answered_first [] rest (f ∷ faults) same = absurd (omega (arith, same))

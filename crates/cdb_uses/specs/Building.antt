@@ -1,4 +1,4 @@
--- What is left of a database that is built by steps, and asked for a key.
+-- What is left of a database that is built by steps, and in which a key is looked up.
 use Rattle.std.specs.Prelude.{ℕ, ◌≡◌, ◌<◌, ◌≤◌, ⊤, true, false, List, [], Option}
 use Rattle.std.specs.List.{concat}
 use Rattle.std.specs.Io.KnownBytes.{Appends}
@@ -71,12 +71,12 @@ abbrev pub BuildingFault : {S : Type 0} → Ghosts S → (w limit : ℕ) → S �
 BuildingFault s w limit store steps u fault = WhereHonest (s.image u.store)
     (NotBuilt w limit steps u.faults.items (s.failures store) (s.failures u.store) fault)
 
--- what is left where there is no database
+-- what is left if there is no database
 abbrev pub IsUnbuilt : {S : Type 0} → Ghosts S → (w limit : ℕ) → S → List Step → Unbuilt S → Type 0
 IsUnbuilt s w limit store steps u = (fault : MakeFault) × (u.fault ≡ Make fault)
     × BuildingFault s w limit store steps u fault
 
--- what it says of one that was not built, or not asked
+-- what it says of one that was not built, or in which the key was not looked up
 abbrev pub AskingFault : {S : Type 0} → Ghosts S → (w limit : ℕ) → S → List Step → List ℕ
     → (old new : Option (List ℕ)) → Unbuilt S → AskFault → Type 0
 AskingFault s w limit store steps key old new u (Make fault) =
@@ -84,7 +84,7 @@ AskingFault s w limit store steps key old new u (Make fault) =
 AskingFault s w limit store steps key old new u (Read fault) = WhereHonest (s.image u.store)
     (BuildingNotRead w limit steps u.faults.items key (s.failures store) (s.failures u.store) old new fault)
 
--- what is left where there is none, or its values were not written
+-- what is left if there is no database, or its values were not written
 abbrev pub BuildingFails : {S : Type 0} → Ghosts S → (w limit : ℕ) → S → List Step → List ℕ
     → (old new : Option (List ℕ)) → Unbuilt S → Type 0
 BuildingFails s w limit store steps key old new u =

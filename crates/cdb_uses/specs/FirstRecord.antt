@@ -1,4 +1,4 @@
--- What stands at the start of a text, where its bytes are known.
+-- What is at the start of a text, if its bytes are known.
 use Rattle.std.specs.Prelude.{ℕ, ◌≡◌, List, ◌++◌, codes, Option, IfSome}
 use Rattle.cdb_form.specs.Format.Record.{KeyValue}
 use Rattle.cdb_form.specs.Text.Native.{Spells}

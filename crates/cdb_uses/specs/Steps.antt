@@ -145,7 +145,7 @@ abbrev pub HoldsWhole : {S L : Type 0} {s : Ghosts S} {l : Widths L} → Maker S
     → List KeyValue → Type 0
 HoldsWhole m rs = m.broken ≡ false → Holds m rs
 
--- a maker was told to do something, and did it or met a fault
+-- a maker was to do something, and did it or met a fault
 pub record Tries {S L : Type 0} {s : Ghosts S} {l : Widths L} (old new : Maker S L s l)
     (answers : ℕ → Stage → Type 0) (fault : Option MakeFault) (left : List KeyValue)
     : Type 0 where

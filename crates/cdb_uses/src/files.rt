@@ -1,4 +1,4 @@
-// A caller of cdb_files: a database is made under its name, opened, and asked for a value.
+// A caller of cdb_files: it makes a database under its name, opens it, and looks up a value.
 use cdb_files::{FileFault, RealNames, make_file, open_file};
 use cdb_form::{Narrow, Record};
 use std::fs::File;

@@ -35,7 +35,7 @@ pub struct Built<S> {
     pub faults: Vec<Option<MakeFault>>,
 }
 
-/// A database that was not built, or not asked for a key.
+/// A database that was not built, or in which a key was not looked up.
 #[derive(Drop)]
 pub struct Unbuilt<S> {
     /// What holds what there is of it.

@@ -120,7 +120,7 @@ fn mixed(alloc: Global) -> Result<Vec<Step>, Fail> {
     changes(alloc, &MIXED)
 }
 
-/// What the mixed changes leave: four records, one behind the other.
+/// What the mixed changes leave: four records, one after the other.
 const LEFT: &[u8] = b"\x01\0\0\0\x01\0\0\0a1\x01\0\0\0\x01\0\0\0a2\x01\0\0\0\x01\0\0\0b5\
 \x01\0\0\0\x01\0\0\0a6";
 
@@ -184,7 +184,7 @@ fn checked(alloc: Global, file: Vec<u8>) -> Result<(), ReadFault> {
     }
 }
 
-/// What is told of a file of zeros whose table 0 has a slot at 2048 that names a place.
+/// What a check reports of a file of zeros whose table 0 has a slot at 2048 that names a place.
 fn told_of(alloc: Global, slots: u8, place: u8) -> Result<(), ReadFault> {
     let mut file = vec![in alloc; 0u8; 2056]?;
     for (here, byte) in file.iter_mut().skip(1).zip([8, 0, 0, slots]) {

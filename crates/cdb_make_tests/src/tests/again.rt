@@ -14,7 +14,7 @@ use std::test::Fail;
 pub(super) enum Cause {
     /// A call of the store.
     Device,
-    /// An ask for memory.
+    /// A request for memory.
     Memory,
 }
 
@@ -141,7 +141,7 @@ impl<S: Store, L: Width> Tried<S, L> {
                 takes_out(wanted) || appends(wanted) || step == Step::Append
             }
             (Cause::Device, MakeFault::Writing) => may_fail_at_once(step, wanted, broken),
-            // No other call of a script has to ask.
+            // No other call of a script has to request memory.
             (Cause::Memory, MakeFault::NoMemory) => step == Step::Put(Mode::Add) && !broken,
             _ => false,
         }

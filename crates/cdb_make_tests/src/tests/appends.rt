@@ -114,8 +114,8 @@ fn lengths_past_a_run_are_those_of_no_record(rt: HostRuntime) -> Result<(), Fail
     Ok(())
 }
 
-/// What an append answers, where the file may have so many bytes behind the head, how many records
-/// are held then, and how long their file is.
+/// What an append answers if the file may have so many bytes after the head, how many records are
+/// held then, and how long their file is.
 fn append_within(
     alloc: Global,
     most: u16,

@@ -193,8 +193,8 @@ fn number_of(step: Step) -> u64 {
     }
 }
 
-/// A number for a script, by which two of `KEYS` that differ are told apart: its steps, the first
-/// bytes of its keys, and the lengths of its values.
+/// A number for a script, which distinguishes two scripts of `KEYS` that differ. It is made from
+/// the steps of the script, the first bytes of its keys, and the lengths of its values.
 fn mark_of(calls: &[Call<'_>]) -> u64 {
     let mut mark = SEED;
     for call in calls {

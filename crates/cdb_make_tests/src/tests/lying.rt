@@ -92,7 +92,7 @@ enum End {
     Whole,
     /// A call answered `Broken`, and all later ones did.
     Broken,
-    /// A call answered another fault, or one answered something behind `Broken`.
+    /// A call answered another fault, or a call after `Broken` answered something else.
     Wrong,
 }
 

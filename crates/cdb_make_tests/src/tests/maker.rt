@@ -13,8 +13,8 @@ use std::prelude::*;
 use std::process::Abort;
 use std::test::Fail;
 
-/// Asserts what a script answered, what each call wrote and at last the finish, and which words
-/// stand from a place on.
+/// Asserts what a script answered, what each call wrote and at last the finish, and which words are
+/// stored from a place on.
 fn assert_made(
     rt: &impl Abort,
     made: &Made,

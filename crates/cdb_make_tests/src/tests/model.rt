@@ -15,7 +15,7 @@ pub(super) const RUN: [(&[u8], &[u8]); 2] = [(b"one", b"!"), (b"a", b"")];
 pub(super) struct Wanted {
     /// What its calls should answer.
     pub(super) answers: Vec<Answer>,
-    /// How many records then stand.
+    /// How many records are left then.
     pub(super) count: u64,
     /// Their file, made from scratch.
     pub(super) file: Vec<u8>,
@@ -30,7 +30,7 @@ struct Row<'a> {
     stands: bool,
 }
 
-/// The records of a key that stand.
+/// The records of a key that are left.
 #[derive(Clone, Copy)]
 struct Held {
     /// How many they are.
@@ -39,7 +39,7 @@ struct Held {
     size: u64,
 }
 
-/// The records that were put, in their order, and the size of the file of those that stand.
+/// The records that were put, in their order, and the size of the file of those that are left.
 #[derive(Drop)]
 struct Model<'a> {
     rows: Vec<Row<'a>>,
@@ -57,7 +57,7 @@ impl<'a> Model<'a> {
         self.word.saturating_mul(6).saturating_add(bytes)
     }
 
-    /// The records of a key that stand.
+    /// The records of a key that are left.
     fn of_key(&self, key: &[u8]) -> Held {
         let mut held = Held { count: 0, size: 0 };
         for row in self.rows.iter() {
@@ -142,12 +142,12 @@ impl<'a> Model<'a> {
         }
     }
 
-    /// How many records stand.
+    /// How many records are left.
     fn count(&self) -> u64 {
         self.rows.iter().filter(|row| row.stands).count() as u64
     }
 
-    /// The file of the records that stand, made by adding them.
+    /// The file of the records that are left, made by adding them.
     fn from_scratch<L: Width>(&self, alloc: Global) -> Result<Vec<u8>, MakeFault> {
         let mut maker = maker_in::<MemStore, L>(alloc, MemStore::new(alloc))?;
         for row in self.rows.iter() {

@@ -1,6 +1,6 @@
-// Scripts of which `tests/faults/calls.py` refuses each ask for memory in turn, or counts the asks.
-// It reads what a test prints: whether the refusal came to a call of the script, to what its file
-// is compared with, or to neither.
+// Scripts of which `tests/faults/calls.py` refuses each request for memory in turn, or counts the
+// requests. It reads what a test prints: whether the refusal came to a call of the script, to what
+// its file is compared with, or to neither.
 use super::again::{Cause, play};
 use super::appends::run_of;
 use super::makers::{EAGER, LAZY, Way, finished, maker_in};

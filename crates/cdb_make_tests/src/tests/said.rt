@@ -1,10 +1,10 @@
-// The number of each fault of a maker, its words, and what a fault of a store is told as.
+// The number of each fault of a maker, its words, and how a fault of a store is reported.
 use cdb_make::MakeFault;
 use cdb_store::StoreFault;
 use std::prelude::*;
 use std::test::Fail;
 
-/// What is said where the store failed.
+/// What is said if the store failed.
 const FAILED: &str = "database cannot be read or written";
 
 /// Faults, their numbers and their words.

@@ -134,8 +134,8 @@ fn with_one_more(mut maker: Held) -> Result<Vec<u8>, Fail> {
 
 #[test]
 fn refused_memory_leaves_what_was_held(rt: HostRuntime) -> Result<(), Fail> {
-    // A lazy maker asks for a replacement twice: for its record beside those that go, and without
-    // them.
+    // A lazy maker requests memory for a replacement twice: for its record beside those that go,
+    // and without them.
     for (way, refusals) in [(EAGER, 3), (LAZY, 4)] {
         let mut maker = two_records(rt.alloc(), way, refusals)?;
         assert!(rt; refuses_puts(&mut maker), "{way:?}");

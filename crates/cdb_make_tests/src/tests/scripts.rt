@@ -220,7 +220,7 @@ pub(super) fn all_come_to<L: Width>(
     Ok(answers.filter(|answer| **answer == too_big).count() as u64)
 }
 
-/// Whether these words of 4 bytes stand in a file from a place on, and nothing behind them.
+/// Whether these words of 4 bytes are in a file from a place on, and nothing follows them.
 pub(super) fn words(file: &[u8], place: usize, wanted: &[u32]) -> bool {
     let stands = file.get(place..).unwrap_or(&[]);
     let pairs = stands.chunks_exact(4).zip(wanted.iter());

@@ -15,8 +15,8 @@ fn ones<L: Width>(maker: &Maker<MemStore, L>) -> usize {
     bytes.iter().take_while(|byte| **byte == 0xff).count()
 }
 
-/// How many bytes of all ones stand at the start of a store after each of five calls, and once it
-/// is finished.
+/// How many bytes of all ones are at the start of a store after each of five calls, and once it is
+/// finished.
 fn ones_after_calls<L: Width>(alloc: Global, way: Way) -> Result<[usize; 6], Fail> {
     let mut maker = made_in::<MemStore, L>(alloc, MemStore::new(alloc), way)?;
     let begun = ones(&maker);

@@ -1,4 +1,4 @@
-//! A caller of a maker, as it stands in CALLING.md.
+//! A caller of a maker, as CALLING.md has it.
 use cdb_form::{Narrow, Width};
 use cdb_make::{MakeFault, Maker, Mode};
 use cdb_store::MemStore;

@@ -196,7 +196,7 @@ fn table(file: &[u8], n: u64) -> (u64, u64)
     (u64::from(word(file, at)), u64::from(word(file, at + 4)))
 }
 
-/// The hash and the place that a slot of a table tells.
+/// The hash and the place in a slot of a table.
 fn slot(file: &[u8], n: u64, i: u64) -> (u32, u32) {
     let at = table(file, n).0 + 8 * i.min(1 << 32);
     (word(file, at), word(file, at + 4))
@@ -218,13 +218,13 @@ fn is_reached(file: &[u8], n: u64, hash: u32, i: u64) -> bool {
     false
 }
 
-/// The hash of the key that stands in some bytes of a file.
+/// The hash of the key in some bytes of a file.
 fn hash_at(file: &[u8], key: Span) -> u32 {
     let behind = file.get(key.place as usize..).unwrap_or(b"");
     hash(behind.get(..key.len as usize).unwrap_or(b""))
 }
 
-/// Whether a slot tells a record of a walk, stands in its table, and is reached.
+/// Whether a slot points to a record of a walk, is in its table, and is reached.
 fn is_right(file: &[u8], walked: &Came, n: u64, i: u64) -> bool {
     let (hash, place) = slot(file, n, i);
     let mut told = false;
@@ -245,7 +245,7 @@ fn outside(file: &[u8]) -> Option<ReadFault> {
     None
 }
 
-/// The first fault of the slots of a table, and the places that those before it tell.
+/// The first fault of the slots of a table, and the places in the slots before that one.
 fn slots_checked(
     file: &[u8],
     walked: &Came,
@@ -268,7 +268,7 @@ fn slots_checked(
     Ok(None)
 }
 
-/// The first record that no slot tells.
+/// The first record that no slot points to.
 fn unindexed(walked: &Came, seen: &[u32]) -> Option<ReadFault> {
     for key in walked.spans.iter().step_by(2) {
         let place = key.place.saturating_sub(8);
@@ -319,8 +319,8 @@ fn has_all(file: &[u8], walked: &Came, key: &[u8], found: &Came) -> bool {
     same
 }
 
-/// Whether a check of a file comes to what a plain one does; and where it is sound, each look-up to
-/// the values of the walk.
+/// Whether a check of a file comes to what a plain one does; and if the file is sound, each look-up
+/// to the values of the walk.
 fn checks(alloc: Global, file: &Vec<u8>) -> Result<bool, AllocError> {
     let Ok(mut reader) = Reader::open(MemStore::from_vec(file.clone()?)) else {
         return Ok(file.len() < 2048);
