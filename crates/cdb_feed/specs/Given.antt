@@ -22,7 +22,7 @@ with_input number items (Err fault) next = record {
   fault = Some (record { number = number; fault = fault });
 }
 
--- what inputs say: each has bytes of its own, or begins where the last one ended that has not
+-- what inputs say: each has bytes of its own, or else begins where the last one without its own ended
 abbrev pub given_from : {Item Fault : Type 0} → (parse : List ℕ → Parsed Item Fault) → (number : ℕ)
     → List (Option (List ℕ)) → (shared : List ℕ) → Given Item Fault
 given_from parse number [] shared = record { items = []; fault = None }

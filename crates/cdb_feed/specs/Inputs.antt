@@ -47,7 +47,7 @@ StopsSo own shared p (CutShort items) (reader ∷ before) (left ∷ after) old n
 StopsSo own shared p NotBegun before after old new = Keeps (shared old) (shared new)
 StopsSo own shared p _ _ _ old new = ⊥
 
--- the first inputs were read whole, with these items, and then no more than the stop says; nothing is asked of
+-- the first inputs were read whole, with these items, and then no more than the stop says; nothing is requested of
 -- the readers that were not reached
 abbrev pub AreRead : {R S Item Fault : Type 0} → (own : R → Feed) → (shared : S → Feed)
     → Parsing Item Fault → (read : List (List Item)) → Stop Item Fault

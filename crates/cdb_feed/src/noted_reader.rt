@@ -11,7 +11,7 @@ use std::io::{self, Read};
 /// A reader that notes what it gave, as one of a file or of standard input, of which the standard
 /// library says nothing.
 ///
-/// Once the reader has answered that it is at its end, it is not asked again: a terminal would go
+/// Once the reader has answered that it is at its end, it is not called again: a terminal would go
 /// on after its end.
 #[derive(Drop)]
 pub struct NotedReader<R> {

@@ -1,4 +1,4 @@
--- The file format: what stands where, what bytes read as, and which records a file holds.
+-- The file format: where each part is, what bytes read as, and which records a file holds.
 pub mod Pair
 pub mod Hash
 pub mod Record

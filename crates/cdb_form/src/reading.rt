@@ -15,17 +15,17 @@ use std::io::ErrorKind;
 /// As many bytes as a pipe holds. So many are read or written at once, and make a window.
 pub const PIPE: usize = 65536;
 
-/// How often in a row a reader or a writer is asked again if a signal interrupts it.
+/// How often in a row a reader or a writer is called again if a signal interrupts it.
 pub(crate) const RETRIES: u32 = 1000;
 
-/// Why a reader did not give what it was asked for.
+/// Why a reader did not give the bytes requested.
 #[derive(Clone, Copy)]
 pub(crate) enum ReadStop {
     /// It had no more bytes.
     Ended,
-    /// It failed, or was interrupted more often in a row than it is asked again.
+    /// It failed, or was interrupted more often in a row than it is called again.
     Failed,
-    /// It was asked as often as it may be.
+    /// It got as many requests as it may.
     Spent,
     /// Memory for its bytes was refused.
     NoMemory,
@@ -39,9 +39,9 @@ impl From<AllocError> for ReadStop {
     }
 }
 
-/// Asks for bytes until some come. None come only at the end.
+/// Requests bytes until some come. None come only at the end.
 ///
-/// Each call of the reader takes one of the asks.
+/// Each call of the reader takes one of the requests.
 #[inline(always)]
 pub(crate) fn some_bytes<R: Feeds>(
     reader: &mut R,
@@ -107,7 +107,7 @@ pub(crate) fn all_bytes<R: Feeds>(
     Ok(())
 }
 
-/// Makes a vector so long at least, by zeros. Where memory runs out it stays as it is.
+/// Makes a vector so long at least, by zeros. If memory runs out it stays as it is.
 #[inline(always)]
 fn lengthen(into: &mut Vec<u8>, len: usize) -> Result<(), AllocError>
     ensures front { take (length into.old.items) into.new.items ≡ into.old.items }
@@ -169,7 +169,8 @@ fn some_behind<R: Feeds>(
 
 /// Takes the next `len` bytes into a vector, over what it holds, `piece` at once at most.
 ///
-/// Memory is asked for as they come, a piece ahead. After a fault the vector holds those that came.
+/// It allocates memory as the bytes come, a piece ahead. After a fault the vector holds the bytes
+/// that came.
 #[inline(always)]
 pub(crate) fn vector<R: Feeds>(
     reader: &mut R,

@@ -28,7 +28,7 @@ impl Error for OutFault {}
 
 /// What takes bytes: any `Write`, or a type of its own that also says whether it has failed.
 pub trait Sink {
-    /// The bytes that it holds, where they are known.
+    /// The bytes that it holds, if they are known.
     ghost contents: { Self → Option (List ℕ) };
     /// That it has failed, which stays so. Of a `Write` nobody knows it.
     ghost failed: { Self → Type 0 };
@@ -120,7 +120,7 @@ fn write_rest<W: Sink>(w: &mut W, bytes: &[u8]) -> Result<(), OutFault>
     Ok(())
 }
 
-/// Does what `write_whole` does, where it is called.
+/// Does what `write_whole` does, inlined at the call.
 #[inline(always)]
 pub(crate) fn write_at_once<W: Sink>(w: &mut W, bytes: &[u8]) -> Result<(), OutFault>
     ensures writes { Writes result (W.contents w.old) (W.contents w.new) bytes.now }

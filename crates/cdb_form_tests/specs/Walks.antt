@@ -20,13 +20,13 @@ unfoldable narrow_walks : List (List ℕ × Walked)
 narrow_walks =
     -- two records
     (two_file, walked two_records None) ∷
-    -- no record: every pointer tells the end of the head
+    -- no record: every pointer gives the end of the head
     (file_bytes 4 [], walked [] None) ∷
     -- 2048 zero bytes
     (replicate 2048 0, walked [] None) ∷
     -- cut within the head
     (take 2047 two_file, walked [] (Some Short)) ∷
-    -- nothing behind the head
+    -- nothing after the head
     (take 2048 two_file, walked [] (Some (Record 2048))) ∷
     -- cut within the second record
     (take 2070 two_file, walked (take 1 two_records) (Some (Record 2064))) ∷
@@ -34,13 +34,13 @@ narrow_walks =
     (take 2064 two_file, walked (take 1 two_records) (Some (Record 2064))) ∷
     -- all tables cut away
     (take 2082 two_file, walked two_records None) ∷
-    -- a table behind the end of the file
+    -- a table after the end of the file
     (put_at 56 (words_of 4 2114 1) two_file, walked two_records None) ∷
     -- a pointer of all ones
     (put_at 1032 (words_of 4 4294967295 4294967295) two_file, walked two_records None) ∷
-    -- a slot that tells no record's place
+    -- a slot without a record's place
     (put_at 2086 (17 ∷ []) two_file, walked two_records None) ∷
-    -- a value that reaches behind the record end
+    -- a value that reaches past the record end
     (put_at 2068 (8 ∷ []) two_file, walked (take 1 two_records) (Some (Record 2064))) ∷
     -- a key of the greatest length
     (put_at 2048 (255 ∷ 255 ∷ 255 ∷ 255 ∷ []) two_file, walked [] (Some (Record 2048))) ∷
@@ -50,7 +50,7 @@ narrow_walks =
     (put_at 24 (words_of 4 100 1 ++ words_of 4 100 1) two_file, walked [] (Some (Table 3))) ∷
     -- a table there that has no slots
     (put_at 0 (words_of 4 100 0) two_file, walked two_records None) ∷
-    -- five bytes behind the tables
+    -- five bytes after the tables
     (two_file ++ replicate 5 1, walked two_records None) ∷
     -- another program's file
     (foreign_file, walked (record { key = codes "a"; value = codes "1" } ∷ []) None)

@@ -1,4 +1,4 @@
--- Bytes that stand in each image, as they are compared piece by piece.
+-- Bytes that are in each image, as they are compared piece by piece.
 use Rattle.cdb_store.proofs.Words.{ImagesHold, List, ap, arith, drop, drop-drop, drop-take, length, length-take-le, part, sym, take, take-add, take-take, ℕ, ◌++◌, ◌+◌, ◌-◌, ◌∙◌, ◌≡◌, ◌≤◌}
 use Rattle.cdb_store.proofs.Parts.{part_add}
 
@@ -6,7 +6,7 @@ use Rattle.cdb_store.proofs.Parts.{part_add}
 pub record AgreesSoFar (at : ℕ) (bytes : List ℕ) (images : List ℕ → Type 0) : Type 0 where
   pub each : (b : List ℕ) → images b → part at (length bytes) b ≡ bytes
 
--- a piece of what stands there
+-- a piece of the bytes there
 pub part_inner : (at done n : ℕ) (key b : List ℕ) → done + n ≤ length key → part at (length key) b ≡ key → part (at + done) n b ≡ take n (drop done key)
 part_inner at done n key b inside e =
     let m : ℕ = length key - done in

@@ -1,4 +1,4 @@
--- What a write or a cut that failed leaves of a file's images, once the file was asked for its length.
+-- What a write or a cut that failed leaves of a file's images, once the file's length was requested.
 use Rattle.cdb_store.proofs.Words.{AfterCut, AfterTornPut, AfterTornWrite, AreAtLeast, Calls, FileImage, IsLost, [], arith, file_size, max, ℕ, ◌+◌, ◌∷◌, ◌≡◌, ◌≤◌}
 use Rattle.cdb_store.specs.declared.trace.Call.TheVariants.{Length, NotCut, Refused}
 use Rattle.cdb_store.proofs.Moves.{same_refl, torn_same, cut_nothing, torn_between, cut_between}

@@ -16,7 +16,7 @@ long_same len u long = record { each = λ b is. long.each b (u.same.no_other b i
 pub gave_long : (len pos : ℕ) (bytes : List ℕ) {c d e : Calls} → Untouched c d → e ≡ (Gave pos, bytes) ∷ d → AreAtLeast len c → AreAtLeast len e
 gave_long len pos bytes u e long = rw e (record { each = λ b is. long.each b (u.same.no_other b is.0) })
 
--- the store refused a call without asking the file
+-- the store refused a call without calling the file
 pub refused : {c d : Calls} → d ≡ (Refused, []) ∷ c → Untouched c d
 refused {c = c} e = rw e (record { same = record { no_other = λ b is. is; none_lost = λ b is. is }; syncs = refl; written = refl; later = omega arith; known = refl })
 
@@ -100,7 +100,7 @@ file_torn pos n len left inside longer not_past long w = record {
       (take left h.0, (h.0, h.1, omega arith, refl), subst (λ (z : List ℕ). Torn pos n z (take left h.0)) (sym is.3) (torn_prefix pos n len left is.0 h.0 inside longer not_past h.3));
 }
 
--- the length that is told is one that the images can have
+-- the length that is reported is one that the images can have
 pub file_told : (n : ℕ) (c : Calls) → SameImages (FileImage n c) (FileImage n ((Length n, []) ∷ c))
 file_told n c = record {
   no_other = λ b is. (is.0, is.1.0, is.2, is.3);

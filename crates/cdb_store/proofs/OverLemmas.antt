@@ -59,7 +59,7 @@ taken_more len held items bytes rest more fits inside =
     ∙ ap (take n) (append_assoc (front ++ bytes) rest more)
     ∙ take_at (front ++ bytes) (rest ++ more) n l
 
--- bytes that are put behind those that a buffer holds, in a buffer of so many bytes
+-- bytes that are put after those that a buffer holds, in a buffer of so many bytes
 pub over_put : (len : ℕ) (rest more : List ℕ) {pos next size held n : ℕ} {items now piece bytes : List ℕ} {h i : List ℕ → Type 0} → SameImages h (Over pos (take held items) i) → now ≡ items → piece ≡ bytes
     → n ≡ length bytes → held ≤ length items → held + n ≤ len → next ≡ pos + held → pos ≤ size → AreSized size i
     → AfterWrite next bytes h (Over pos (take (held + n) (take len ((take held now ++ (piece ++ rest)) ++ more))) i)

@@ -1,4 +1,4 @@
--- Raw writes, one behind another.
+-- Raw writes, one after another.
 use Rattle.std.proofs.Common.{◌≡◌, ℕ, ◌+◌, ◌≤◌, ◌<◌, inl, inr, max, List, [], ◌∷◌, ◌++◌, length, take, drop, refl, sym, ap, subst, ◌∙◌, arith, replicate}
 use Rattle.std.proofs.lemmas.List.{take-take, length-replicate, take-append-le, length-take-le}
 use Rattle.cdb_store.proofs.Words.{AfterPut, AfterTornPut, Agrees, AreAtLeast, Asked, AskedInVain, Calls, Torn, failed_syncs, failure_count, interrupted, length-overwrite, lost, overwrite, take-add, take-append-add, written_count}

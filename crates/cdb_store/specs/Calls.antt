@@ -1,4 +1,4 @@
--- What the calls on a file answered, and what that says of its bytes. The newest call stands first.
+-- What the calls on a file answered, and what that says of its bytes. The newest call comes first.
 use Rattle.std.specs.Prelude.{◌≡◌, ℕ, ◌+◌, ◌≤◌, ◌<◌, ◌⊎◌, max, Bool, true, false, List, [], ◌∷◌}
 use Rattle.std.specs.Prelude.{length, take, ◌++◌, zero, suc}
 use Rattle.cdb_store.specs.declared.trace.Call.{Call}
@@ -36,7 +36,7 @@ Agrees ((Interrupted, bytes) ∷ calls) b = Agrees calls b
 Agrees ((Failed, bytes) ∷ calls) b = Agrees calls b
 Agrees ((Refused, bytes) ∷ calls) b = Agrees calls b
 
--- how many calls failed; one that a signal interrupted is asked again
+-- how many calls failed; one that a signal interrupted is made again
 abbrev pub failure_count : Calls → ℕ
 failure_count [] = 0
 failure_count ((NotWritten pos n, bytes) ∷ calls) = failure_count calls + 1
@@ -87,13 +87,13 @@ pub record GivenUp (calls : Calls) : Type 0 where
   pub before : Calls
   pub interrupts : calls ≡ interrupted 1001 before
 
--- it was asked until it answered this, after at most 1000 calls that were interrupted
+-- it was called until it answered this, after at most 1000 calls that were interrupted
 pub record Asked (answer : Call × List ℕ) (old new : Calls) : Type 0 where
   pub times : ℕ
   pub at_most : times ≤ 1000
   pub calls : new ≡ answer ∷ interrupted times old
 
--- it was asked in vain: it failed, or 1001 calls in a row were interrupted
+-- it was called in vain: it failed, or 1001 calls in a row were interrupted
 abbrev pub AskedInVain : (failed given_up : Call) (old new : Calls) → Type 0
 AskedInVain failed given_up old new =
     Asked (failed, []) old new ⊎ (new ≡ (given_up, []) ∷ interrupted 1001 old)
@@ -148,23 +148,23 @@ pub record Untouched (old new : Calls) : Type 0 where
   pub later : failure_count old ≤ failure_count new
   pub known : lost new ≡ lost old
 
--- it was asked for its length, and told none from least to most
+-- its length was requested, and it reported no length from least to most
 pub record IsLost (least most : ℕ) (old new : Calls) : Type 0 where
   pub answer : Call × List ℕ
   pub untold : IsUntold least most (answer ∷ old)
   pub calls : new ≡ (Lost, []) ∷ (answer ∷ old)
 
--- it has just told this length, one from least to most
+-- it has just reported this length, one from least to most
 abbrev pub HasTold : (least most now : ℕ) → Calls → Type 0
 HasTold least most now calls =
     (before : Calls) × (calls ≡ (Length now, []) ∷ before) × (least ≤ now) × (now ≤ most)
 
--- its length was lost before, or was lost now since it told none from least to most
+-- its length was lost before, or was lost now since it reported no length from least to most
 abbrev pub IsUnmeasured : (least most : ℕ) (old calls : Calls) → Type 0
 IsUnmeasured least most old calls =
     (lost old ≡ true) ⊎ ((before : Calls) × IsLost least most before calls)
 
--- the length after a failed call: the one that the file has told, or the one before
+-- the length after a failed call: the one that the file has reported, or the one before
 abbrev pub IsMeasured : (least most before now : ℕ) (old calls : Calls) → Type 0
 IsMeasured least most before now old calls =
     HasTold least most now calls ⊎ (IsUnmeasured least most old calls × (now ≡ before))

@@ -51,7 +51,7 @@ pub record AfterCut (n : ℕ) (old new : List ℕ → Type 0) : Type 0 where
   pub no_other : (b : List ℕ) → new b → (a : List ℕ) × old a × (b ≡ take n a)
   pub none_lost : (a : List ℕ) → old a → new (take n a)
 
--- Device is answered only where the store has failed in the call, and the count doesn't fall
+-- Device is answered only if the store has failed in the call, and the count doesn't fall
 pub record HasCause (before now : ℕ) (result : Result (Unit {0}) StoreFault) : Type 0 where
   pub later : before ≤ now
   pub failed : IsErrOf result Device → before < now
@@ -68,7 +68,7 @@ pub record ImagesHold (pos : ℕ) (bytes : List ℕ) (images : List ℕ → Type
 pub record KeepsPart (pos n : ℕ) (old new : List ℕ → Type 0) : Type 0 where
   pub each : (b : List ℕ) → new b → (a : List ℕ) × old a × (part pos n b ≡ part pos n a)
 
--- each image is an old one, whose n bytes from from on stand at to too, over what was there
+-- each image is an old one, with its n bytes from from on written at to too, over what was there
 pub record Copied (from to n : ℕ) (old new : List ℕ → Type 0) : Type 0 where
   pub each : (b : List ℕ) → new b → (a : List ℕ) × old a × (b ≡ overwrite a to (part from n a))
 

@@ -10,7 +10,7 @@ StaysHeld pos bytes old new = ImagesHold pos bytes old → ImagesHold pos bytes 
 abbrev pub HasNoImage : (List ℕ → Type 0) → Type 0
 HasNoImage images = (b : List ℕ) → images b → ⊥
 
--- each image is an old one with two pieces of it over what stood from to on, one behind the other
+-- each image is an old one with two pieces of it, one after the other, over what was there from to on
 pub record Gathered (from n next m to : ℕ) (old new : List ℕ → Type 0) : Type 0 where
   pub each : (b : List ℕ) → new b
       → (a : List ℕ) × old a × (b ≡ overwrite a to (part from n a ++ part next m a))

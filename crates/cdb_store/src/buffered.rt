@@ -100,7 +100,7 @@ impl<S: Store> BufferedStore<S> {
         (inner, answer)
     }
 
-    /// The inner store, to ask how long it is: it lacks what is in the buffer.
+    /// The inner store, for its length: it lacks what is in the buffer.
     pub fn inner(&self) -> &S
         ensures { result.now ≡ inner_of self.now }
     {

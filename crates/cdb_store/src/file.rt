@@ -23,12 +23,12 @@ const GREATEST_LENGTH: u64 = (1 << 63) - 1;
 
 /// A store in a file.
 ///
-/// It takes no memory. After a write or a cut that failed it requests the file's length. If
-/// that fails too, or the length is none that the call can have left, `len` keeps its value and
-/// every later call but `len` and `reserve` answers `Device`, without asking the file.
+/// It takes no memory. After a write or a cut that failed it requests the file's length. If that
+/// fails too, or the length is none that the call can have left, `len` keeps its value and every
+/// later call but `len` and `reserve` answers `Device`, without calling the file.
 ///
-/// After a flush that failed every later one answers `Device`, without asking the file: the system
-/// may have dropped what it could not write.
+/// After a flush that failed every later flush answers `Device`, without calling the file: the
+/// system may have dropped what it could not write.
 #[derive(Drop)]
 pub struct FileStore<F: RawFile = RealFile> {
     file: F,
@@ -141,7 +141,7 @@ impl<F: RawFile> FileStore<F> {
         FileStore::empty(file)
     }
 
-    /// Its raw file, to ask about it.
+    /// Its raw file, for questions about it.
     pub fn file(&self) -> &F
         ensures { result.now ≡ file_of self.now }
     {
@@ -329,7 +329,7 @@ impl<F: RawFile> Store for FileStore<F> {
     }
 
     /// Has the file synced, so that a loss of power does not take its bytes. After a flush that
-    /// failed it answers `Device`, without asking the file.
+    /// failed it answers `Device`, without calling the file.
     fn flush(&mut self) -> Result<(), StoreFault>
         ensures images { SameImages (images_of self.old) (images_of self.new) }
         ensures size { self.new.len ≡ self.old.len }

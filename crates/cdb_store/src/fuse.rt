@@ -1,4 +1,4 @@
-// A store that fails one call, for tests of what stands on stores.
+// A store that fails one call, for tests of what is built on stores.
 ghost use Rattle.std.specs.Prelude.{◌≡◌, ◌+◌, ◌<◌, ◌≤◌, ◌^◌, ◌↔◌, ◌⊎◌, max, length, take, IsTrue};
 ghost use Rattle.std.specs.Prelude.{OnOk, OnErr, IsErrOf, ◌++◌};
 ghost use Rattle.cdb_store.specs.declared.store.StoreFault.TheVariants.{Device, NoMemory};

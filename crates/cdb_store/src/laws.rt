@@ -63,7 +63,7 @@ pub fn other_bytes_leave_no_image<S: Store>(
         → HasNoImage (S.image _after.now) }
 {}
 
-/// Bytes that were held in a piece that was moved down are held where they were moved to.
+/// Bytes that were held in a piece that was moved down are held at the place they were moved to.
 pub fn moved_bytes_are_held<S: Store>(
     _before: &S,
     _after: &S,

@@ -34,7 +34,7 @@ impl StoreFault {
         }
     }
 
-    /// Its words, by which a program tells a person of it. `Display` writes them.
+    /// Its words, by which a program reports it to a person. `Display` writes them.
     pub fn message(&self) -> &'static str
         ensures { result.now ≡ fault_message self.now }
     {
@@ -77,11 +77,11 @@ impl<T: Drop> From<AllocFailed<T>> for StoreFault {
 /// Bytes at positions, counted from 0, that are read, written and cut.
 ///
 /// A contract speaks of a store by six facts. Its *images* are the byte lists, all of its length,
-/// that agree with all that it was told to write and all that it gave back: a store in memory has
+/// that agree with all that it was given to write and all that it gave back: a store in memory has
 /// exactly one, a file that was opened every list of its length until it is read. Its *failures*
 /// and *bytes written* are counts without a bound. Its *unwritten* count rises with each write that
 /// fails, so a caller that only read cannot answer that a write failed. Its *room* is how far
-/// writes go without taking memory. It is *settled* if all that it was told to write was handed on
+/// writes go without taking memory. It is *settled* if all that it was given to write was handed on
 /// to what holds the bytes.
 //
 // The order of each method's clauses means nothing to a caller. It is the one in which the checker
@@ -90,13 +90,13 @@ pub trait Store {
     /// How many bytes it has.
     ghost size: { Self → ℕ };
 
-    /// The byte lists that agree with all that it was told to write and all that it gave back.
+    /// The byte lists that agree with all that it was given to write and all that it gave back.
     ghost image: { Self → List ℕ → Type 0 };
 
     /// How often it has failed.
     ghost failures: { Self → ℕ };
 
-    /// A count that rises where a write, a cut or a flush fails. It may rise elsewhere too.
+    /// A count that rises if a write, a cut or a flush fails. It may rise elsewhere too.
     ghost unwritten: { Self → ℕ };
 
     /// How many bytes were written by calls that answered Ok, and at most as many by those that
@@ -106,7 +106,7 @@ pub trait Store {
     /// Writes that end at or before it take no memory.
     ghost room: { Self → ℕ };
 
-    /// All that it was told to write was handed on to what holds the bytes.
+    /// All that it was given to write was handed on to what holds the bytes.
     ghost settled: { Self → Type 0 };
 
     /// How many bytes it has.

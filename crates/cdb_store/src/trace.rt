@@ -33,7 +33,7 @@ pub enum Call {
     Interrupted,
     /// A call that changes no byte failed.
     Failed,
-    /// The store refused a call without asking the file again.
+    /// The store refused a call without calling the file again.
     Refused,
     /// The answer before this one is no length that the file can have.
     Lost,

@@ -21,7 +21,7 @@ appends_kept (Some o) None new xs a b = absurd a
 appends_kept (Some o) (Some m) None xs a b = absurd b
 appends_kept (Some o) (Some m) (Some n) xs a b = b ∙ a
 
--- a prefix of the last piece, behind the ones before it
+-- a prefix of the last piece, after the pieces before it
 pub prefix_then : (old mid new : Option (List ℕ)) (xs ys zs all : List ℕ) → Appends old mid xs → AppendsPrefix mid new ys → all ≡ xs ++ (ys ++ zs) → AppendsPrefix old new all
 prefix_then old mid new xs ys zs all a b e =
     record {
@@ -57,7 +57,7 @@ same_appends old new xs ys e a = subst (Appends old new) e a
 pub same_writes : {A E : Type 0} (r : Result A E) (old new : Option (List ℕ)) (xs ys : List ℕ) → xs ≡ ys → Writes r old new xs → Writes r old new ys
 same_writes r old new xs ys e w = subst (Writes r old new) e w
 
--- the last part, behind the ones before it
+-- the last part, after the parts before it
 pub writes_last : {A E : Type 0} (r : Result A E) (old mid new : Option (List ℕ)) (xs ys all : List ℕ) → Appends old mid xs → Writes r mid new ys → all ≡ xs ++ ys → Writes r old new all
 writes_last (Ok x) old mid new xs ys all a w e = record { ok = subst (Appends old new) (sym e) (appends_then old mid new xs ys a w.ok); err = tt }
 writes_last (Err x) old mid new xs ys all a w e = record { ok = tt; err = prefix_then old mid new xs ys [] all a w.err (e ∙ ap (λ t. xs ++ t) (sym (append-nil ys))) }

@@ -48,7 +48,7 @@ from_both a b P Q one p q = record {
 pub from_weaker : (old new : Feed) (P Q : List ℕ → List ℕ → Type 0) → FromTo old new P → ((text rest : List ℕ) → P text rest → Q text rest) → FromTo old new Q
 from_weaker old new P Q f h = record { known = f.known; back = λ k whole rest m. let t = f.back k whole rest m in (t.0, t.1, h t.0 rest t.2) }
 
--- a relation behind bytes that were taken
+-- a relation after bytes that were taken
 pub from_behind : (old mid new : Feed) (bytes : List ℕ) (P : List ℕ → List ℕ → Type 0) → Consumes old mid bytes → FromTo mid new (λ text rest. P (bytes ++ text) rest) → FromTo old new P
 from_behind old mid new bytes P c f = record {
   known = λ k. f.known (c.known k);
@@ -65,7 +65,7 @@ from_kept old new P c h = record { known = c.known; back = λ k whole rest m. (r
 pub from_taken : (old new : Feed) (bytes : List ℕ) (P : List ℕ → List ℕ → Type 0) → Consumes old new bytes → ((rest : List ℕ) → P (bytes ++ rest) rest) → FromTo old new P
 from_taken old new bytes P c h = record { known = c.known; back = λ k whole rest m. (bytes ++ rest, c.back k whole rest m, h rest) }
 
--- and of the bytes taken alone, where none are left
+-- and of the bytes taken alone, if no bytes are left
 pub from_all : (old new : Feed) (bytes : List ℕ) (P : List ℕ → List ℕ → Type 0) → Consumes old new bytes → IsAtEnd new → P bytes [] → FromTo old new P
 from_all old new bytes P c end h = record {
   known = c.known;

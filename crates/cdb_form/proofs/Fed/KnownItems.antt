@@ -1,4 +1,4 @@
--- Readers that tell their bytes: what is said of items by feed says it in the standard library's words.
+-- Readers whose bytes are known: what is said of items by feed says it in the standard library's words.
 use Rattle.cdb_form.proofs.Words.{Feed, FormReader, IfSome_then, KeyValue, List, ListReader, None, Option, Putting, Record, Some, Source, Spells, SpellsChange, SpellsKey, TextFault, reader_feed, refl, ℕ, ◌≢◌}
 use Rattle.std.specs.Option.{is_some}
 use Rattle.std.specs.Prelude.{Bool, MatchBool, MatchOption, true, false}
@@ -16,7 +16,7 @@ use Rattle.cdb_form.specs.declared.reading_whole.Extent.{Extent}
 use Rattle.cdb_form.specs.declared.reading_whole.Extent.TheVariants.{All, More}
 use Rattle.cdb_form.proofs.Fed.KnownReaders.{known_consumes, known_end, known_reader}
 
--- the feed of readers that tell their bytes
+-- the feed of readers whose bytes are known
 abbrev pub feed_of : {R : Type 0} → (R → Option (List ℕ)) → R → Feed
 feed_of remaining r = reader_feed (remaining r)
 

@@ -1,4 +1,4 @@
--- Where the parts of a file stand.
+-- Where the parts of a file begin.
 use Rattle.cdb_form.proofs.Words.{KeyValue, List, WordPair, [], ap, append_assoc, arith, drop, drop_at, file_bytes, file_pointers, file_tables, flat_map, head_size, length, length-map, length-map-range_with_len, map, pair_bytes, range_with_len, record_bytes, records_end, slots_of, sum_by, sum_by-cons, table_entries, ℕ, ◌*◌, ◌++◌, ◌∙◌, ◌∷◌, ◌≡◌}
 use Rattle.cdb_form.proofs.Bytes.HeadLemmas.{length-flat_map_words}
 use Rattle.cdb_form.proofs.Files.Sizes.{length-slots_of, length-pointers_from, sum_by-table_entries, tables_are}
@@ -41,6 +41,6 @@ pub file_of_is : (w : ℕ) (rs : List KeyValue) → file_bytes w rs ≡ head_byt
 unfolding file_bytes
 file_of_is w rs = append_assoc (head_bytes w rs) (flat_map (record_bytes w) rs) (tables_bytes w rs)
 
--- what stands behind the head
+-- what follows the head
 pub drop-head : (w : ℕ) (rs : List KeyValue) → drop (head_size w) (file_bytes w rs) ≡ flat_map (record_bytes w) rs ++ tables_bytes w rs
 drop-head w rs = ap (drop (head_size w)) (file_of_is w rs) ∙ drop_at (head_bytes w rs) (flat_map (record_bytes w) rs ++ tables_bytes w rs) (head_size w) (length-head_bytes w rs)

@@ -9,7 +9,7 @@ use Rattle.cdb_form.proofs.Bytes.WordLemmas.{pair_at-take}
 abbrev pub lengths_of : KeyValue → WordPair
 lengths_of r = record { first = length r.key; second = length r.value }
 
--- a record stands at the start of some bytes, and then the rest
+-- a record is at the start of some bytes, and then the rest
 pub record Begins (w : ℕ) (bytes : List ℕ) (r : KeyValue) (rest : List ℕ) : Type 0 where
   pub header : List ℕ
   pub long : length header ≡ 2 * w
@@ -53,7 +53,7 @@ prefix_reads w bytes r rest b =
       long = long;
     }
 
--- and where the bytes are cut behind it
+-- and if the bytes are cut after it
 pub Begins-take : (w m : ℕ) (bytes : List ℕ) (r : KeyValue) (rest : List ℕ) → Begins w bytes r rest → Begins w (take (record_size w r + m) bytes) r (take m rest)
 Begins-take w m bytes r rest b =
     let join : bytes ≡ (b.header ++ (r.key ++ r.value)) ++ rest =
@@ -70,7 +70,7 @@ Begins-take w m bytes r rest b =
 abbrev pub fits_prefix : ℕ → List ℕ → Bool
 fits_prefix w bytes = nat_le (prefix_size w bytes) (length bytes)
 
--- where no whole record stands, there is none
+-- if no whole record is at the start, there is no record
 pub whole_records-none : (w most : ℕ) (bytes : List ℕ) → length bytes < prefix_size w bytes → whole_records w most bytes ≡ []
 unfolding whole_records
 whole_records-none w zero bytes short = refl

@@ -128,12 +128,12 @@ length-file_bytes w rs =
     let split = size_split w rs in
     omega (arith, a, b, head, tables, records, split)
 
--- a count of slots fits where their bytes do
+-- a count of slots fits if their bytes do
 pub slots_within : (w n : ℕ) → (w ≡ 4) ⊎ (w ≡ 8) → 2 * n ≤ 4 * w * n
 slots_within w n (inl e) = let p : 4 * w * n ≡ 16 * n = ap (λ (k : ℕ). 4 * k * n) e ∙ omega arith in omega arith
 slots_within w n (inr e) = let p : 4 * w * n ≡ 32 * n = ap (λ (k : ℕ). 4 * k * n) e ∙ omega arith in omega arith
 
--- pointers fit where the tables end within the greatest word
+-- pointers fit if the tables end within the greatest word
 pub pointers_fit : (w at top : ℕ) (ls : List (List WordPair)) → (w ≡ 4) ⊎ (w ≡ 8) → at + 4 * w * sum_by length ls ≤ top → All (PairFits top) (pointers_from w at (map slots_of ls))
 unfolding pointers_from
 pointers_fit w at top [] ww h = All-nil (PairFits top)

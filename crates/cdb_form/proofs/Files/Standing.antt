@@ -1,4 +1,4 @@
--- Records that stand at the start of some bytes are those that are read there.
+-- Records that are written at the start of some bytes are the records that are read there.
 use Rattle.cdb_form.proofs.Words.{AllByRecursion, AreBytes, KeyValue, List, PairFits, WordPair, [], ap, append-nil, append_assoc, arith, cond_both, drop, drop-drop, flat_map, leb-true, length, length-drop, length-take, pair_at, pair_bytes, prefix_record, prefix_size, record_bytes, record_size, refl, suc, sum_by, sum_by-cons, sym, take, take-append-drop, whole_records, zero, ℕ, ◌%◌, ◌*◌, ◌++◌, ◌+◌, ◌/◌, ◌<◌, ◌^◌, ◌∙◌, ◌∷◌, ◌≡◌, ◌≤◌}
 use Rattle.std.specs.Int.{byte_at, bytes_low_first}
 use Rattle.std.proofs.Math.Nat.{div-div-eq-div-mul, div-one, pow-succ'}
@@ -27,7 +27,7 @@ all_records-flat_map w top (r ∷ rs) rest some top_is fits =
     ∙ all_records-more w (record_bytes w r ++ (flat_map (record_bytes w) rs ++ rest)) r (flat_map (record_bytes w) rs ++ rest) some (Begins-record_bytes w top r (flat_map (record_bytes w) rs ++ rest) top_is fits.0)
     ∙ ap (λ t. r ∷ t) (all_records-flat_map w top rs rest some top_is fits.1)
 
--- lengths fit where the records do
+-- lengths fit if the records do
 pub lengths_fit : (w top : ℕ) (rs : List KeyValue) → sum_by (record_size w) rs ≤ top → AllByRecursion (λ r. PairFits top (lengths_of r)) rs
 lengths_fit w top [] room = tt
 lengths_fit w top (r ∷ rs) room =
@@ -80,7 +80,7 @@ pair_bytes-pair_at w xs bytes l =
     ∙ ap (λ t. take w xs ++ t) (take-append-drop w (drop w xs))
     ∙ take-append-drop w xs
 
--- a whole record at the start stands there
+-- a record that is whole at the start is written there
 pub prefix_stands : (w : ℕ) (xs : List ℕ) → AreBytes xs → prefix_size w xs ≤ length xs → xs ≡ record_bytes w (prefix_record w xs) ++ drop (prefix_size w xs) xs
 unfolding record_bytes
 prefix_stands w xs bytes h =

@@ -1,4 +1,4 @@
--- The tables that have slots, as the code's pointers tell them.
+-- The tables that have slots, as the code's pointers give them.
 use Rattle.std.proofs.Common.{◌≡◌, ℕ, ◌+◌, Bool, true, false, cond, List, [], ◌∷◌, length, map, refl, ap, ◌∙◌, arith, inl, inr}
 use Rattle.std.specs.Prelude.{◌==◌, not, ◌&&◌, nat_lt, filter, min, position, unwrap_or, Some, None}
 use Rattle.cdb_form.proofs.Words.{Pointer, WordPair, cases_lt, cond-false, cond-true, first_table_at, has_slots, head_at, head_size, le-ltb, least_place, lt-ltb, pointer_pair, position_or_len, prefix_len-le-length, record_end, reduce}
@@ -39,12 +39,12 @@ first_of_words at (p ∷ ps) = ap (λ n. cond (not (is_used_at at p)) (1 + n) 0)
 pub first_used : (at : ℕ) (ps : List Pointer) → unwrap_or (position (is_used_at at) ps) (length ps) ≡ first_table_at at (map pointer_pair ps)
 first_used at ps = position_or (is_used_at at) ps ∙ first_of_words at ps
 
--- where the records of a file end, as the pointers that were read from its head tell
+-- where the records of a file end, by the pointers that were read from its head
 pub end_told : (w result : ℕ) (xs : List ℕ) (ps : List Pointer) → map pointer_pair ps ≡ head_at w xs → result ≡ least_place (head_size w) (map pointer_pair ps) → result ≡ record_end w xs
 unfolding record_end
 end_told w result xs ps told r = r ∙ ap (least_place (head_size w)) told
 
--- and the first table that stands there
+-- and the first table that begins there
 pub table_told : (w end result : ℕ) (xs : List ℕ) (ps : List Pointer) → map pointer_pair ps ≡ head_at w xs → result ≡ first_table_at end (map pointer_pair ps) → end ≡ record_end w xs
     → result ≡ first_table_at (record_end w xs) (head_at w xs)
 table_told w end result xs ps told r at = r ∙ ap (first_table_at end) told ∙ ap (λ (n : ℕ). first_table_at n (head_at w xs)) at

@@ -44,7 +44,7 @@ record_end-le w top bytes are top_is head =
 abbrev pub area_of : ℕ → List ℕ → List ℕ
 area_of w bytes = take (record_end w bytes - head_size w) (drop (head_size w) bytes)
 
--- records that stand are the start of those that are read
+-- records that lie in the file are the start of the records that are read
 pub stand_longest : (w top : ℕ) (bytes : List ℕ) (rs : List KeyValue) → 0 < w → top + 1 ≡ 256 ^ w → record_end w bytes ≤ top → Stand w bytes rs → (more : List KeyValue) × (all_records w (area_of w bytes) ≡ rs ++ more)
 stand_longest w top bytes rs some top_is low s =
     let n = sum_by (record_size w) rs in
@@ -62,7 +62,7 @@ stand_longest w top bytes rs some top_is low s =
       ap (all_records w) area ∙ all_records-flat_map w top rs (take (record_end w bytes - records_end w rs) (drop (sum_by (record_size w) rs) (drop (head_size w) bytes))) some top_is (lengths_fit w top rs (omega arith)),
     )
 
--- and those that are read stand
+-- and the records that are read lie in the file
 pub all_records-stand : (w : ℕ) (bytes : List ℕ) → AreBytes bytes → HasHead w bytes → Stand w bytes (all_records w (area_of w bytes))
 all_records-stand w bytes are head =
     let whole = head.whole in

@@ -21,7 +21,7 @@ pub walk_from-is : (w place end : ℕ) (bytes : List ℕ) → walk_from w place 
 unfolding walk_from
 walk_from-is w place end bytes = refl
 
--- a whole record before the record end, and then the walk behind it
+-- a whole record before the record end, and then the walk after it
 pub walk_from-more : (w place end : ℕ) (bytes : List ℕ) (r : KeyValue) (rest : List ℕ) → 0 < w → Begins w bytes r rest → place + record_size w r ≤ end
     → walk_from w place end bytes ≡ with_first r (walk_from w (place + record_size w r) end rest)
 walk_from-more w place end bytes r rest some b room =
@@ -42,7 +42,7 @@ walk_from-end w place end bytes at =
     ∙ ap (λ k. walk_with w place end (all_records w (take k bytes))) none
     ∙ ap (λ d. let v : Walked = record { records = []; damage = d } in v) (cond-true (place + 0 == end) _ _ (eq-eqb (place + 0) end e))
 
--- before it, where no whole record stands, the walk stops
+-- before it, if no whole record follows, the walk stops
 pub walk_from-stop : (w place end : ℕ) (bytes : List ℕ) → place < end → length (take (end - place) bytes) < prefix_size w (take (end - place) bytes) → walk_from w place end bytes ≡ damaged (Record place)
 walk_from-stop w place end bytes before short =
     let e : place + 0 ≡ place = omega arith in
@@ -57,7 +57,7 @@ pub walk_from-no_header : (w place end : ℕ) (bytes : List ℕ) → place < end
 walk_from-no_header w place end bytes before few =
     walk_from-stop w place end bytes before (let l = length-take (end - place) bytes in elim few [ inl a ↦ omega arith | inr b ↦ omega arith ])
 
--- there is no room for what the header tells, or the file has not got it
+-- there is no room for what the header says, or the file has not got it
 pub walk_from-no_body : (w place end : ℕ) (bytes header more : List ℕ) → place < end → bytes ≡ header ++ more → length header ≡ 2 * w → 2 * w ≤ end - place
     → (end - place < prefix_size w header) ⊎ (length bytes < prefix_size w header) → walk_from w place end bytes ≡ damaged (Record place)
 walk_from-no_body w place end bytes header more before split long room few =

@@ -52,7 +52,7 @@ value_begins behind gap vlen is within =
     prefix_len_is is_blank (take vlen rest) 0 0 (omega arith) (λ k l. absurd (omega (arith, l)))
     (λ some. ap is_blank (get_or-take vlen rest 0 0 (omega (arith, some, length-take vlen rest)) ∙ get_or-drop gap behind 0 0) ∙ ap (λ (k : ℕ). is_blank (get_or behind k 0)) same ∙ stops)
 
--- the byte behind a key, if it is no newline
+-- the byte after a key, if it is no newline
 gap_first : (words : List ℕ) (klen gap vlen : ℕ) → klen ≡ prefix_len (is_of InWord) words → gap ≡ prefix_len is_blank (drop klen words) → klen < length words → 0 < gap + vlen
     → ((k : ℕ) → k < vlen → get_or (drop gap (drop klen words)) k 0 ≢ 10) → is_blank (get_or (drop klen words) 0 0) ≡ true
 gap_first words klen (suc gap) vlen kis gis within both none = prefix_len_passes is_blank (drop klen words) 0 0 (omega (arith, gis))
@@ -62,7 +62,7 @@ gap_first words klen zero vlen kis gis within both none =
     ∙ ap (λ (k : ℕ). is_of InWord (get_or words k 0)) same ∙ prefix_len_stops (is_of InWord) words 0 (omega (arith, kis, within)) in
     word_stop (get_or (drop klen words) 0 0) stops (other_than (get_or (drop klen words) 0 0) 10 (none 0 (omega (arith, both))))
 
--- what is behind a key begins with a blank, or there is nothing
+-- what follows a key begins with a blank, or is empty
 pub gap_begins : (words : List ℕ) (klen gap vlen : ℕ) → klen ≡ prefix_len (is_of InWord) words → gap ≡ prefix_len is_blank (drop klen words) → klen + gap + vlen < length words
     → ((k : ℕ) → k < vlen → get_or (drop gap (drop klen words)) k 0 ≢ 10)
     → position_or_len is_blank (take gap (drop klen words) ++ take vlen (drop gap (drop klen words))) ≡ 0
@@ -152,7 +152,7 @@ plain_prefix bytes klen vlen r key note newline key_is value_is =
     let count : 0 + klen + 1 + vlen + 1 ≡ klen + vlen + 2 = omega arith in
     subst (λ (n : ℕ). BeginsWithLine bytes n r) count line
 
--- a newline behind bytes of a line
+-- a newline after bytes of a line
 pub newline_behind : (bytes : List ℕ) (place : ℕ) → ((k : ℕ) → k < place → is_of InLine (get_or bytes k 0) ≡ true) → get_or bytes place 0 ≡ 10 → place < length bytes → FirstNewline bytes place
 newline_behind bytes place each is within = record {
   before = λ k l. no_newline (get_or bytes k 0) (each k l);
@@ -160,11 +160,11 @@ newline_behind bytes place each is within = record {
   within = within;
 }
 
--- a byte behind the blanks is none
+-- a byte greater than the blanks is no blank
 pub after_blanks : (c : ℕ) → 32 < c → is_blank c ≡ false
 after_blanks c h = grind arith
 
--- what ends behind a byte that is no space is some
+-- a word that begins with another byte than a space, and ends at a space, is not empty
 pub some_word : (bytes : List ℕ) (n : ℕ) → 35 < get_or bytes 0 0 → get_or bytes n 0 ≡ 32 → 0 < n
 some_word bytes zero h space = absurd (omega (arith, h, space))
 some_word bytes (suc n) h space = omega arith

@@ -21,7 +21,7 @@ lacks_pass p xs h k d l = ap not (h k d l)
 pub behind_blanks-run : (bs rest : List ℕ) → AllPass is_blank bs → BeginsOther is_blank rest → behind_blanks (bs ++ rest) ≡ rest
 behind_blanks-run bs rest each other = drop_at bs rest (prefix_len is_blank (bs ++ rest)) (sym (prefix_len-run is_blank bs rest each other))
 
--- a key, and what begins with the blank behind it
+-- a key, and what begins with the blank after it
 pub line_pair-key : (key rest : List ℕ) → Lacks is_blank key → position_or_len is_blank rest ≡ 0 → line_pair (key ++ rest) ≡ record { key = key; value = behind_blanks rest }
 line_pair-key key rest lacks stop =
     let n : ℕ = position_or_len is_blank (key ++ rest) in
@@ -42,7 +42,7 @@ map_lines-line line rest lacks = ap (flat_map line_records) (lines_of-line line 
 pub map_lines-last : (line : List ℕ) → Lacks is_newline line → map_lines line ≡ line_records line
 map_lines-last line lacks = ap (flat_map line_records) (slice_split_none is_newline line lacks) ∙ append-nil (line_records line)
 
--- a line behind whose blanks nothing stands, or what is ignored, or a pair
+-- a line with nothing after its blanks, or what is ignored, or a pair
 pub blank_line : (bs : List ℕ) → AllPass is_blank bs → line_records bs ≡ []
 blank_line bs each =
     let none : behind_blanks bs ≡ [] = ap behind_blanks (sym (append-nil bs)) ∙ behind_blanks-run bs [] each refl in

@@ -82,7 +82,7 @@ kept_at_hand old new bytes more first e so = e ∙ ap (λ t. t ++ more) so
 pub kept_more : (old new bytes : List ℕ) (first b : ℕ) → new ≡ old ++ b ∷ [] → old ≡ first ∷ bytes → new ≡ first ∷ (bytes ++ b ∷ [])
 kept_more old new bytes first b e so = e ∙ ap (λ t. t ++ b ∷ []) so
 
--- the byte behind it
+-- the byte after it
 pub run_stopped : {R : Type 0} (kind : Kind) (feed : R → Feed) (old mid new : Source R) (bytes : List ℕ) (b : ℕ) → RunSoFar kind feed old mid bytes
     → Consumes (feed mid.reader) (feed new.reader) (b ∷ []) → new.taken ≡ mid.taken + 1 → mid.asks ≤ new.asks + 1001 → is_of kind b ≡ false
     → ReadsRun kind feed old new bytes (Some b)
@@ -106,7 +106,7 @@ run_ended kind feed old mid new bytes so kept end counted spends = record {
   spends = omega (arith, so.spends, spends, counted);
 }
 
--- or a fault behind it
+-- or a fault after it
 pub run_left : {R : Type 0} (kind : Kind) (feed : R → Feed) (old new : Source R) (bytes : List ℕ) (f : TextFault) → RunSoFar kind feed old new bytes → (IsOfText f → ⊥) → IsSpent new.asks f
     → LeavesAmid (Lacks is_newline) feed old new f
 run_left kind feed old new bytes f so outside spent = record {
@@ -158,7 +158,7 @@ lacks_append first bytes a b = All-append (λ c. is_newline c ≡ false) first b
 lacks_one : (c : ℕ) → is_newline c ≡ false → Lacks is_newline (c ∷ [])
 lacks_one c h = All-push (λ c. is_newline c ≡ false) [] c (All-nil _) h
 
--- behind a run that stopped at no newline
+-- after a run that did not stop at a newline
 pub leaves_past : {R : Type 0} (kind : Kind) (feed : R → Feed) (old mid new : Source R) (run : List ℕ) (c : ℕ) (f : TextFault) → ReadsRun kind feed old mid run (Some c) → is_newline c ≡ false
     → LeavesAmid (Lacks is_newline) feed mid new f → LeavesAmid (Lacks is_newline) feed old new f
 leaves_past kind feed old mid new run c f reads other l =
@@ -181,7 +181,7 @@ in_line_ending : {R : Type 0} (feed : R → Feed) (old new : Source R) (run : Li
 in_line_ending feed old new run None reads = run_to_end InLine feed old new run reads
 in_line_ending feed old new run (Some c) reads = run_to_newline InLine feed old new run c reads (in_line_stop c reads.other)
 
--- and what is read to the end of its line behind other bytes
+-- and what is read to the end of its line after other bytes
 pub to_ending_behind : {R : Type 0} (feed : R → Feed) (old mid new : Source R) (first text all stop : List ℕ) → Takes feed old mid first → budget old ≤ budget mid → ReadsToEnding feed mid new text stop → all ≡ first ++ text → ReadsToEnding feed old new all stop
 to_ending_behind feed old mid new first text all stop takes spends reads e = record {
   takes = subst (λ t. Takes feed old new t) (sym (ap (λ t. t ++ stop) e ∙ append_assoc first text stop)) (takes_then feed old mid new first (text ++ stop) takes reads.takes);
@@ -189,7 +189,7 @@ to_ending_behind feed old mid new first text all stop takes spends reads e = rec
   spends = omega (arith, spends, reads.spends);
 }
 
--- behind the byte that a run stopped at
+-- after the byte that a run stopped at
 behind_stop : {R : Type 0} (kind : Kind) (feed : R → Feed) (old mid new : Source R) (run text stop : List ℕ) (c : ℕ) → ReadsRun kind feed old mid run (Some c) → ReadsToEnding feed mid new text stop → ReadsToEnding feed old new (run ++ c ∷ text) stop
 behind_stop kind feed old mid new run text stop c a b = to_ending_behind feed old mid new (run ++ c ∷ []) text (run ++ c ∷ text) stop a.takes (omega (arith, a.spends)) b (sym (append_assoc run (c ∷ []) text))
 
@@ -212,7 +212,7 @@ value_some feed old mid new blanks bytes value c stop a h b e =
       reads = behind_stop Blank feed old mid new blanks bytes (line_end (is_some stop)) c a (in_line_ending feed mid new bytes stop b);
     })
 
--- ---- a record behind its first byte
+-- ---- a record after its first byte
 
 first_lacks : (first : ℕ) (word : List ℕ) → is_of InWord first ≡ true → AllPass (is_of InWord) word → Lacks is_blank (first ∷ word)
 first_lacks first word h each = All-append (λ c. is_blank c ≡ false) (first ∷ []) word (All-push (λ c. is_blank c ≡ false) [] first (All-nil _) (word_no_blank first h)) (word_lacks word each)
@@ -319,7 +319,7 @@ lines_fail feed old mid new ignored f so l =
     leaves_behind (Lacks is_newline) IsAmidLines feed old mid new (with_newlines ignored) f so.takes so.spends
     (λ bytes lacks. record { ignored = ignored; part = bytes; are_ignored = so.are; within = lacks; bytes_are = refl }) l
 
--- and behind them the line of a record
+-- and after them the line of a record
 pub lines_found : {R : Type 0} (feed : R → Feed) (old mid new : Source R) (ignored : List (List ℕ)) (line stop : List ℕ) (r : KeyValue) → LinesSoFar feed old mid ignored → IsLineOf r line → ReadsToEnding feed mid new line stop → ReadsLinesOf feed old new r stop
 lines_found feed old mid new ignored line stop r so is reads = record {
   ignored = ignored;

@@ -74,7 +74,7 @@ read_amid text mid rest bytes rs g amid e =
     let here : mid ≡ with_newlines amid.ignored ++ (amid.part ++ rest) = e ∙ ap (λ t. t ++ rest) amid.bytes_are ∙ append_assoc (with_newlines amid.ignored) amid.part rest in
     record { part = amid.part; lines = read_ignored text mid (amid.part ++ rest) rs amid.ignored g amid.are_ignored here; within = amid.within }
 
--- ---- what a reader gave, where its bytes are known
+-- ---- what a reader gave, if its bytes are known
 
 -- it gave these records so far of what was unread at first
 abbrev pub GaveSoFar : Option (List ℕ) → Option (List ℕ) → List KeyValue → Type 0
@@ -116,7 +116,7 @@ amid_known (Some text) (Some mid) (Some rest) rs bytes g amid read = read_amid t
 
 -- ---- what its calls come to
 
--- it goes on behind these records, or its input has ended and they are all
+-- it goes on after these records, or its input has ended and they are all
 abbrev pub Gave : {R : Type 0} → (R → Option (List ℕ)) → Option (List ℕ) → MapReader R → List KeyValue → Type 0
 Gave remaining file t rs = (IsGoing t × GaveSoFar file (unread remaining t) rs) ⊎ (HasEnded t × GaveAll file rs)
 
@@ -159,7 +159,7 @@ gave_ended remaining file t rs g end = elim g [
   | inr ended ↦ ended.1
 ]
 
--- where the reader failed they are those of all whole lines that it gave
+-- if the reader failed, the records are those of all whole lines that it gave
 pub gave_so_far_amid : {R : Type 0} (remaining : R → Option (List ℕ)) (file : Option (List ℕ)) (old new : Source R) (rs : List KeyValue) (f : TextFault)
     → GaveSoFar file (remaining old.reader) rs → LeavesAmid IsAmidLines remaining old new f → f ≢ NoMemory → FromTo file (remaining new.reader) (λ text rest. ReadAmid text rest rs)
 gave_so_far_amid remaining file old new rs f g l other = let part = l.part other in amid_known file (remaining old.reader) (remaining new.reader) rs part.0 g part.1 part.2.read

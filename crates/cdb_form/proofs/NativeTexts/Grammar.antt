@@ -3,7 +3,7 @@ use Rattle.cdb_form.proofs.Words.{AllDigits, AreBytes, IsNumeral, List, [], ap, 
 use Rattle.std.proofs.lemmas.Str.Parse.{digits_value-take-le}
 use Rattle.cdb_form.proofs.Bytes.ByteLemmas.{AreBytes-append, AreBytes-replicate}
 
--- s can go on to a text of L; no prefix of s is one; s with c behind it can't go on to one
+-- s can go on to a text of L; no prefix of s is one; s followed by c can't go on to one
 abbrev pub Prefix : (List ℕ → Type 0) → List ℕ → Type 0
 Prefix L s = (m : List ℕ) × L (s ++ m)
 

@@ -46,7 +46,7 @@ keys = record {
   alone = same_key;
 }
 
--- ---- where it stops behind its plus
+-- ---- where it stops after its plus
 
 -- what follows the plus of a key spells it, and then F
 plus_key : (F : ℕ → List ℕ → Type 0) (g : ℕ) (t : List ℕ) → BehindMinus F g t → (key first more : List ℕ) × SpellsKey g first key × (43 ∷ t ≡ first ++ more) × F g more
@@ -92,7 +92,7 @@ pub key_syntax : (g from c : ℕ) (old new : Feed) → Consumes old new (c ∷ [
 key_syntax g from c old new read newline plus =
     from_taken old new (c ∷ []) (λ t rest. FailsItem SpellsKey g from t (Syntax from)) read (λ rest. listed_syntax g from c rest newline plus)
 
--- where nothing was read, nothing of a text was
+-- if nothing was read, nothing of a text was read
 pub no_key_read : (g from : ℕ) → FailsItem SpellsKey g from [] (Ended from)
 no_key_read g from = ended_item SpellsKey keys g from [] refl
 
@@ -101,7 +101,7 @@ no_key_read g from = ended_item SpellsKey keys g from [] refl
 tails : (x y : ℕ) (s t : List ℕ) → x ∷ s ≡ y ∷ t → s ≡ t
 tails x y s t e = cc
 
--- behind its mark it is spelled as a removal is
+-- after its mark it is spelled as a removal is
 pub key_of_removal : {g : ℕ} {x key : List ℕ} → SpellsRemoval g (45 ∷ x) key → SpellsKey g (43 ∷ x) key
 key_of_removal sp = record { klen = sp.klen; klen_is = sp.klen_is; key_fits = sp.key_fits; bytes = sp.bytes; text_is = ap (λ z. 43 ∷ z) (tails _ _ _ _ sp.text_is) }
 

@@ -146,7 +146,7 @@ number_from g c start at ds (d ∷ text) all fits place =
 number_is : (g c at : ℕ) (text : List ℕ) → PartIs (λ n to rest. Took (IsNumber g c n) at text to rest) (FailsNumber g c at text) (number_part g c at 0 at text)
 number_is g c at text = number_from g c at at [] text tt (omega arith) (omega arith)
 
--- ---- a record behind its plus, from its last part on; F is what is to follow it
+-- ---- a record after its plus, from its last part on; F is what is to follow it
 
 abbrev IsValue : (n : ℕ) → (key : List ℕ) → KeyValue → List ℕ → Type 0
 IsValue n key r x = (r.key ≡ key) × IsField n 10 r.value x
@@ -235,7 +235,7 @@ plus_spells g r x (k, x1, x2, (a, ia, la, ea), (n, x3, x4, (b, ib, lb, eb), (x5,
       text_is = ap (λ z. 43 ∷ z) whole ∙ (let flat : 43 ∷ ((a ++ 44 ∷ []) ++ ((b ++ 58 ∷ []) ++ ((r.key ++ 45 ∷ []) ++ 62 ∷ (r.value ++ 10 ∷ [])))) ≡ codes "+" ++ a ++ codes "," ++ b ++ codes ":" ++ r.key ++ codes "->" ++ r.value ++ codes "\n" = simp append_assoc refl in flat);
     }
 
--- ---- a removal behind its minus
+-- ---- a removal after its minus
 
 abbrev IsBehindMinus : (g : ℕ) → (key x : List ℕ) → Type 0
 IsBehindMinus g key x = (k : ℕ) × (y z : List ℕ) × IsNumber g 58 k y × IsField k 10 key z × (x ≡ y ++ z)
@@ -267,7 +267,7 @@ abbrev ItemIs : {X : Type 0} → (ℕ → List ℕ → X → Type 0) → (X → 
 ItemIs S inject g from text None to rest = text ≡ 10 ∷ rest
 ItemIs {X = X} S inject g from text (Some item) to rest = (x : X) × (item ≡ inject x) × (from < to) × Took (λ first. S g first x) from text to rest
 
--- behind its mark
+-- after its mark
 marked : (A B : List ℕ → Type 0) (c from to : ℕ) (text rest : List ℕ) → Took A (from + 1) text to rest → ((x : List ℕ) → A x → B (c ∷ x)) → (from < to) × Took B from (c ∷ text) to rest
 marked A B c from to text rest t h = (
   omega (arith, t.place),

@@ -90,7 +90,7 @@ longest_ended S g t f = record {
 
 -- ---- where the parts stop
 
--- The text stops being one of K at the place of the fault. Its first byte stands at `from`.
+-- The text stops being one of K at the place of the fault. Its first byte is at `from`.
 abbrev pub StopsAt : (ℕ → List ℕ → Type 0) → ℕ → ℕ → List ℕ → TextFault → Type 0
 StopsAt K g from text (Ended at) = Prefix (K g) text × Bare (K g) text × (at ≡ from + length text)
 StopsAt K g from text (Syntax at) = (s : List ℕ) × (c : ℕ) × (rest : List ℕ) × (text ≡ s ++ c ∷ rest) × (at ≡ from + length s) × Prefix (K g) s × Bare (K g) s × ((g' : ℕ) → g ≤ g' → Never (K g') s c)
@@ -183,7 +183,7 @@ stops_byte K g c from text Input k h = tt
 stops_byte K g c from text Endless k h = tt
 stops_byte K g c from text NoMemory k h = tt
 
--- all the bytes of a field, and nothing behind them
+-- all the bytes of a field, and nothing after them
 bare_field : (n c : ℕ) (K : List ℕ → Type 0) (v : List ℕ) → length v ≤ n → Bare (Bulk n (Lit c K)) v
 bare_field n c K v l u w (v', m, l', are, e, k) h =
     let split : v ≡ v' ++ (m ++ w) = h ∙ ap (λ t. t ++ w) e ∙ append_assoc v' m w in
@@ -257,7 +257,7 @@ Rest2 F k n g = Bulk k (Rest3 F n g)
 abbrev pub Rest1 : (ℕ → List ℕ → Type 0) → ℕ → ℕ → List ℕ → Type 0
 Rest1 F k g = Num g 58 (λ n. Rest2 F k n g)
 
--- the rest of a record behind its plus, and of a removal behind its minus
+-- the rest of a record after its plus, and of a removal after its minus
 abbrev pub Behind : (ℕ → List ℕ → Type 0) → ℕ → List ℕ → Type 0
 Behind F g t = Num g 44 (λ k. Rest1 F k g) t
 
@@ -285,7 +285,7 @@ front2 F k n s g = prefix_bulk_part k (Rest3 F n g) [] (omega arith) AreBytes-ni
 front1 : (F : ℕ → List ℕ → Type 0) (k : ℕ) → Starts F → Starts (Rest1 F k)
 front1 F k s g = prefix_num_part g 58 (λ n. Rest2 F k n g) [] tt (omega arith) (λ n. front2 F k n s g)
 
--- ---- the same of a text: behind its first part, and in it
+-- ---- the same of a text: after its first part, and in it
 
 behind_num : (K : ℕ → ℕ → List ℕ → Type 0) (g c n from at : ℕ) (o m ds : List ℕ) (f : TextFault) → IsNumeral ds n → n ≤ g → 10 ≤ digit_value c → at ≡ from + (length ds + 1) → o ≡ (ds ++ c ∷ []) ++ m
     → StopsAt (λ g. K g n) g at m f → StopsAt (λ g. Num g c (K g)) g from o f
@@ -296,7 +296,7 @@ behind_field K g n c from at o m v f l are counted e h =
     subst (λ t. StopsAt (λ g. Bulk n (Lit c (K g))) g from t f) (sym (e ∙ append_assoc v (c ∷ []) m))
     (stops_bulk (λ g. Lit c (K g)) g n from (from + n) v (c ∷ m) f l are refl (stops_lit K g c (from + n) at m f (omega (arith, counted)) h))
 
--- behind a plus: the first length, the second, the key and its hyphen, the angle, the value and its newline
+-- after a plus: the first length, the second, the key and its hyphen, the angle, the value and its newline
 
 pub behind_klen : (F : ℕ → List ℕ → Type 0) (g k from at : ℕ) (o m ds : List ℕ) (f : TextFault) → IsNumeral ds k → k ≤ g → at ≡ from + (length ds + 1) → o ≡ (ds ++ 44 ∷ []) ++ m → StopsAt (Rest1 F k) g at m f → StopsAt (Behind F) g from o f
 behind_klen F g k from at o m ds f i l counted e h = behind_num (λ g k. Rest1 F k g) g 44 k from at o m ds f i l (lit≤ tt) counted e h
@@ -325,7 +325,7 @@ angle_stops F g n from text f s h = stops_byte (Rest5 F n) g 62 from text f (fro
 pub value_stops : (F : ℕ → List ℕ → Type 0) (g n from : ℕ) (text : List ℕ) (f : TextFault) → Starts F → FailsField n 10 from text f → StopsAt (Rest5 F n) g from text f
 value_stops F g n from text f s h = stops_field F g n 10 from text f s h
 
--- behind a minus: the length, the key and its newline
+-- after a minus: the length, the key and its newline
 
 pub behind_length : (F : ℕ → List ℕ → Type 0) (g k from at : ℕ) (o m ds : List ℕ) (f : TextFault) → IsNumeral ds k → k ≤ g → at ≡ from + (length ds + 1) → o ≡ (ds ++ 58 ∷ []) ++ m → StopsAt (Rest5 F k) g at m f → StopsAt (BehindMinus F) g from o f
 behind_length F g k from at o m ds f i l counted e h = behind_num (λ g k. Rest5 F k g) g 58 k from at o m ds f i l (lit≤ tt) counted e h
@@ -333,7 +333,7 @@ behind_length F g k from at o m ds f i l counted e h = behind_num (λ g k. Rest5
 pub length_stops : (F : ℕ → List ℕ → Type 0) (g from : ℕ) (text : List ℕ) (f : TextFault) → Starts F → FailsNumber g 58 from text f → StopsAt (BehindMinus F) g from text f
 length_stops F g from text f s h = stops_number (λ g k. Rest5 F k g) g 58 from text f (λ g k. front5 F k s g) (lit≤ tt) h
 
--- ---- the same of what a reader has left: behind the bytes that it gave, and of what it gives next
+-- ---- the same of what a reader has left: after the bytes that it gave, and of what it gives next
 
 pub lift_klen : (F : ℕ → List ℕ → Type 0) (g k from at to : ℕ) (old mid new : Feed) (ds : List ℕ) (f : TextFault) → IsNumeral ds k → k ≤ g → at ≡ from + (length ds + 1) → at ≤ to → Consumes old mid (ds ++ 44 ∷ []) → FromTo mid new (λ t rest. StopsAt (Rest1 F k) g at (seen at to f t) (told to f)) → FromTo old new (λ t rest. StopsAt (Behind F) g from (seen from to f t) (told to f))
 lift_klen F g k from at to old mid new ds f i l counted later read h =
@@ -484,7 +484,7 @@ minus_changes = record {
   item = λ g t first rest i sp e. minus_change Any g t first rest i sp e tt;
 }
 
--- ---- where an item stops behind its mark
+-- ---- where an item stops after its mark
 
 prefix_mark : {X : Type 0} (S : ℕ → List ℕ → X → Type 0) (h : ℕ) (B : (ℕ → List ℕ → Type 0) → ℕ → List ℕ → Type 0) → IsMark S h B → (g : ℕ) (s : List ℕ) → Prefix (B (Form S) g) s → Prefix (Form S g) (h ∷ s)
 prefix_mark S h B k g s f = (f.0, k.to g (s ++ f.0) f.1)
@@ -509,7 +509,7 @@ stops_mark S is h B k g from to text Input e p = tt
 stops_mark S is h B k g from to text Endless e p = tt
 stops_mark S is h B k g from to text NoMemory e p = tt
 
--- where an item stops before its end, none is there
+-- if an item stops before its end, there is no item
 no_item_stops : {X : Type 0} (S : ℕ → List ℕ → X → Type 0) (h : ℕ) (B : (ℕ → List ℕ → Type 0) → ℕ → List ℕ → Type 0) → IsMark S h B → (g from : ℕ) (text : List ℕ) (f : TextFault) → StopsAt (B Any) g from text f → IsOfText f → HasNoItem S g (h ∷ text)
 no_item_stops S h B k g from text (Ended at) (f, b, place) is first rest i sp e = b text [] (k.item g text first rest i sp e) (sym (append-nil text))
 no_item_stops S h B k g from text (Syntax at) (s, d, more, split, place, f, b, n) is first rest i sp e = n g (omega arith) more (subst (B Any g) split (k.item g text first rest i sp e))
@@ -523,7 +523,7 @@ pub item_stops : {X : Type 0} (S : ℕ → List ℕ → X → Type 0) → IsSpel
     → StopsAt (B (Form S)) g at text f × StopsAt (B Any) g at text f → FailsItem S g from (h ∷ text) f
 item_stops S is h B k g from at text f e (p, q) = record { fault = stops_mark S is h B k g from at text f e p; no_item = no_item_stops S h B k g at text f q }
 
--- a record, and a removal, stop behind their marks
+-- a record, and a removal, stop after their marks
 pub record_stops : (removals : Bool) (g from at : ℕ) (text : List ℕ) (f : TextFault) → at ≡ from + 1 → ((F : ℕ → List ℕ → Type 0) → Starts F → StopsAt (Behind F) g at text f) → FailsEntry removals g from (43 ∷ text) f
 record_stops true g from at text f e p = item_stops SpellsChange changes 43 Behind plus_changes g from at text f e (p (Form SpellsChange) (prefix_form SpellsChange), p Any prefix_any)
 record_stops false g from at text f e p = item_stops Spells records 43 Behind plus_records g from at text f e (p (Form Spells) (prefix_form Spells), p Any prefix_any)
@@ -589,12 +589,12 @@ ended_first removals g from old new kept end = from_all old new [] (λ t rest. F
 pub syntax_first : (removals : Bool) (g from c : ℕ) (old new : Feed) → Consumes old new (c ∷ []) → c ≢ 10 → c ≢ 43 → (removals ≡ true → c ≢ 45) → FromTo old new (λ t rest. FailsEntry removals g from t (Syntax from))
 syntax_first removals g from c old new read newline plus minus = from_taken old new (c ∷ []) (λ t rest. FailsEntry removals g from t (Syntax from)) read (λ rest. fails_syntax removals g from c (c ∷ rest) rest refl newline plus minus)
 
--- behind the mark that was read
+-- after the mark that was read
 pub mark_first : (P : List ℕ → TextFault → Type 0) (c : ℕ) (old mid new : Feed) (from at to : ℕ) (f : TextFault) → Consumes old mid (c ∷ []) → at ≡ from + 1 → at ≤ to
     → FromTo mid new (λ t rest. P (c ∷ seen at to f t) (told to f)) → FromTo old new (λ t rest. P (seen from to f t) (told to f))
 mark_first P c old mid new from at to f read counted later h = fails_behind (λ t f. P (c ∷ t) f) P old mid new from at to (c ∷ []) f read counted later (λ t p. p) h
 
--- where nothing was read, nothing of a text was
+-- if nothing was read, nothing of a text was read
 pub nothing_read : (removals : Bool) (g from : ℕ) → FailsEntry removals g from [] (Ended from)
 nothing_read removals g from = fails_ended removals g from [] refl
 

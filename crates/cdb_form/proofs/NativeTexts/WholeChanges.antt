@@ -9,7 +9,7 @@ use Rattle.cdb_form.proofs.NativeTexts.WholeForm as form
 pub fault_behind : (g : ℕ) (xs : List Change) (from to : ℕ) (t x : List ℕ) (f : TextFault) → SpelledChanges g xs t x → to + length x ≡ from + length t → HasAmendingFault g to x f → HasAmendingFault g from t f
 fault_behind g xs from to t x f spelled long h = form.fault_behind SpellsChange changes g xs from to t x f spelled long h
 
--- a reader lost the spelling of these changes, where its bytes are known
+-- a reader lost the spelling of these changes, if its bytes are known
 abbrev pub SoFar : ℕ → Option (List ℕ) → Option (List ℕ) → ℕ → List Change → Type 0
 SoFar g old new taken xs = form.SoFar SpellsChange g old new taken xs
 
@@ -25,7 +25,7 @@ pub so_far_fault : (g : ℕ) (o m : Option (List ℕ)) (taken : ℕ) (xs : List 
     → IfSome o (λ t. IsOfText f → ((rest : List ℕ) × WholeChanges g t xs rest) × HasAmendingFault g 0 t f)
 so_far_fault g o m taken xs f a b none = form.so_far_fault SpellsChange changes g o m taken xs f a b none
 
--- what was read of a text whose reader failed is no longer than the text, and ends early behind these changes
+-- what was read of a text whose reader failed is no longer than the text, and ends early after these changes
 pub so_far_part : (g : ℕ) (o m n : Option (List ℕ)) (from to : ℕ) (xs : List Change) (f : TextFault) → SoFar g o m from xs → Took m n from to
     → IfSome m (λ mid. IsReadFault f → StopsAmid g from to mid) → IfSome o (λ t. IsReadFault f → (to ≤ length t) × form.EndsBehind SpellsChange g (take to t) xs to)
 so_far_part g o m n from to xs f a took b = form.so_far_part SpellsChange changes g o m n from to xs f a took b

@@ -41,12 +41,12 @@ lines_read S s line g xs rest each =
     is_read_as S s g xs ((flat_map line xs ++ 10 ∷ []) ++ rest) rest
     (subst (λ t. Spelled S g xs t (10 ∷ rest)) (sym (append_assoc (flat_map line xs) (10 ∷ []) rest)) (spelled_lines S line g xs (10 ∷ rest) each))
 
--- ---- the fault of a text behind an item
+-- ---- the fault of a text after an item
 
 prefix_behind : {X : Type 0} (S : ℕ → List ℕ → X → Type 0) (g : ℕ) (first x : List ℕ) (i : X) → S g first i → IsPrefix S g x → IsPrefix S g (first ++ x)
 prefix_behind S g first x i sp (xs, more, reads) = (i ∷ xs, more, (first, x ++ more, sp, append_assoc first x more, reads))
 
--- what a text of the form goes on with behind an item is one too
+-- what a text of the form goes on with after an item is one too
 reads_inside : {X : Type 0} (S : ℕ → List ℕ → X → Type 0) → IsSpelling S → (g : ℕ) (first x rest : List ℕ) (i : X) (qs : List X) → S g first i → Reads S g qs (first ++ x) rest → (xs : List X) × Reads S g xs x rest
 reads_inside S s g first x rest i [] sp e = absurd (s.newline g first x rest i sp e)
 reads_inside S s g first x rest i (q ∷ qs) sp (first', more', sp', e, reads) =
@@ -110,7 +110,7 @@ fault_behind S s g (i ∷ xs) from to t x f (first, more, sp, e, reads) long h =
     let inside = fault_behind S s g xs (from + length first) to more x f reads (omega (arith, long, all)) h in
     subst (λ u. HasFault S g from u f) (sym e) (fault_behind_one S s g from (from + length first) first more i f sp refl inside)
 
--- ---- what a reader lost, where its bytes are known
+-- ---- what a reader lost, if its bytes are known
 
 -- it lost the spelling of these items
 abbrev pub SoFar : {X : Type 0} → (ℕ → List ℕ → X → Type 0) → ℕ → Option (List ℕ) → Option (List ℕ) → ℕ → List X → Type 0
@@ -157,7 +157,7 @@ prefix_of S g (i ∷ xs) t mid (first, more, sp, e, reads) =
       spelled = λ x. (first, f.front ++ x, sp, append_assoc first f.front x, f.spelled x);
     }
 
--- a part of a text ends early behind these items, all that are whole there
+-- a part of a text ends early after these items, all that are whole there
 pub record EndsBehind {X : Type 0} (S : ℕ → List ℕ → X → Type 0) (g : ℕ) (part : List ℕ) (xs : List X) (at : ℕ) : Type 0 where
   pub rest : List ℕ
   pub whole : WholeItems S g part xs rest

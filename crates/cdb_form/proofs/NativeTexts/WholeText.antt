@@ -9,7 +9,7 @@ use Rattle.cdb_form.proofs.NativeTexts.WholeForm as form
 pub fault_behind : (g : ℕ) (rs : List KeyValue) (from to : ℕ) (t x : List ℕ) (f : TextFault) → Spelled g rs t x → to + length x ≡ from + length t → HasFault g to x f → HasFault g from t f
 fault_behind g rs from to t x f spelled long h = form.fault_behind Spells records g rs from to t x f spelled long h
 
--- a reader lost the spelling of these records, where its bytes are known
+-- a reader lost the spelling of these records, if its bytes are known
 abbrev pub SoFar : ℕ → Option (List ℕ) → Option (List ℕ) → ℕ → List KeyValue → Type 0
 SoFar g old new taken rs = form.SoFar Spells g old new taken rs
 

@@ -44,7 +44,7 @@ pair_fits w size e width = zeros_long size 16 (elim width [ inl a ↦ omega arit
 pub area_short : (w : ℕ) (old new : Feed) (fault : WalkFault) → fault ≡ Short → FromTo old new (λ text rest. length text < head_size w) → FromTo old new (λ text rest. walk_of w text ≡ stopped_by fault)
 area_short w old new fault e h = from_weaker old new _ _ h (λ text rest few. walk_of-short w text few ∙ ap stopped_by (sym e))
 
--- a table stands within the head
+-- a table begins within the head
 pub area_table : (w n : ℕ) (old new : Feed) (xs : List ℕ) → Consumes old new xs → length xs ≡ head_size w → record_end w xs < head_size w → n ≡ first_table_at (record_end w xs) (head_at w xs)
     → FromTo old new (λ text rest. walk_of w text ≡ damaged (Table n))
 area_table w n old new xs read long low e = from_taken old new xs _ read (λ rest.
@@ -55,7 +55,7 @@ area_table w n old new xs read long low e = from_taken old new xs _ read (λ res
     ∙ ap (λ (ps : List WordPair). damaged (Table (first_table_at (record_end w xs) ps))) (head_at-append w xs rest long)
     ∙ ap (λ (k : ℕ). damaged (Table k)) (sym e))
 
--- the bytes of a head, and the records behind it
+-- the bytes of a head, and the records after it
 area_text : (w place end : ℕ) (xs rest : List ℕ) → length xs ≡ head_size w → end ≡ record_end w xs → place ≡ head_size w → place ≤ end
     → (walk_of w (xs ++ rest) ≡ walk_from w place end rest) × (end ≡ record_end w (xs ++ rest)) × (rest ≡ drop (head_size w) (xs ++ rest))
 area_text w place end xs rest long e at low =
@@ -76,7 +76,7 @@ pub area_read : (w place end : ℕ) (old new : Feed) (xs : List ℕ) → Consume
     → FromTo old new (λ text rest. (walk_of w text ≡ walk_from w place end rest) × (end ≡ record_end w text) × (rest ≡ drop (head_size w) text))
 area_read w place end old new xs read long e at low = from_taken old new xs _ read (λ rest. area_text w place end xs rest long e at low)
 
--- whatever stands behind it
+-- whatever follows it
 pub head_cut : (w place end : ℕ) (old new : Feed) (xs : List ℕ) → Consumes old new xs → length xs ≡ head_size w → end ≡ record_end w xs → place ≡ head_size w → place ≤ end → ReadsHead w place end old new
 head_cut w place end old new xs read long e at low = record {
   head = xs;
@@ -91,7 +91,7 @@ none_short w old new l = record { lost = l.lost; taken = l.taken; no_record = ap
 pub none_table : (w : ℕ) (old new : Feed) (xs : List ℕ) → Consumes old new xs → length xs ≡ head_size w → record_end w xs < head_size w → ReadsNoRecord (walk_of w) old new
 none_table w old new xs read long low = record { lost = xs; taken = read; no_record = ap (λ (v : Walked). v.records) (walk_of-table w xs (omega arith) low) }
 
--- nor has it where the head was read, and then nothing of that kind
+-- nor has it if the head was read, and then nothing with a whole record
 pub none_behind_head : (w place end : ℕ) (old mid new : Feed) → ReadsHead w place end old mid → ReadsNoRecord (walk_from w place end) mid new → ReadsNoRecord (walk_of w) old new
 none_behind_head w place end old mid new h p = record {
   lost = h.head ++ p.lost;

@@ -9,7 +9,7 @@ use Rattle.cdb_form.proofs.Files.WalkSteps.{walk_from-no_header, walk_from-no_bo
 abbrev pub StopsAt : ℕ → ℕ → ℕ → WalkFault → Feed → Feed → Type 0
 StopsAt w place end fault old new = FromTo old new (λ text rest. walk_from w place end text ≡ stopped_by fault)
 
--- how long the record at the start is, as its header tells
+-- how long the record at the start is, as its header says
 pub prefix_told : (w : ℕ) (xs : List ℕ) (h : Header) → header_pair h ≡ pair_at w xs → prefix_size w xs ≡ 2 * w + h.klen + h.vlen
 prefix_told w xs h lengths = ap (λ (p : WordPair). 2 * w + p.first + p.second) (sym lengths)
 
@@ -21,7 +21,7 @@ no_room w place end feed before few = from_kept feed feed _ (nothing_taken feed)
 pub header_early : (w place end : ℕ) (old new : Feed) (fault : WalkFault) → place < end → fault ≡ Record place → FromTo old new (λ text rest. length text < 2 * w) → StopsAt w place end fault old new
 header_early w place end old new fault before e h = from_weaker old new _ _ h (λ text rest few. walk_from-no_header w place end text before (inr few) ∙ ap stopped_by (sym e))
 
--- what the header tells doesn't fit before the record end
+-- what the header says doesn't fit before the record end
 pub body_no_room : (w place end : ℕ) (old new : Feed) (header : List ℕ) → place < end → Consumes old new header → length header ≡ 2 * w → 2 * w ≤ end - place → end - place < prefix_size w header
     → StopsAt w place end (Record place) old new
 body_no_room w place end old new header before read long room few = from_taken old new header _ read (λ rest. walk_from-no_body w place end (header ++ rest) header rest before refl long room (inl few))
@@ -33,7 +33,7 @@ body_early w place end n old mid new header fault before e read long room size h
     from_behind old mid new header _ read (from_weaker mid new _ _ h (λ text rest few.
     walk_from-no_body w place end (header ++ text) header text before refl long room (inr (omega (arith, length-append header text))) ∙ ap stopped_by (sym e)))
 
--- the bytes of a whole record, and whatever stands behind them
+-- the bytes of a whole record, and whatever follows them
 pub record_text : (w place end next : ℕ) (header : List ℕ) (r : KeyValue) (rest : List ℕ) → 0 < w → length header ≡ 2 * w → pair_at w header ≡ lengths_of r → next ≡ place + record_size w r → next ≤ end
     → (walk_from w place end ((header ++ (r.key ++ r.value)) ++ rest) ≡ with_first r (walk_from w next end rest)) × (rest ≡ drop (next - place) ((header ++ (r.key ++ r.value)) ++ rest))
 record_text w place end next header r rest some long lengths at room =
@@ -57,7 +57,7 @@ pub record_read : (w place end next : ℕ) (old new : Feed) (header : List ℕ) 
 record_read w place end next old new header r some read long lengths at room =
     from_taken old new (header ++ (r.key ++ r.value)) _ read (λ rest. record_text w place end next header r rest some long lengths at room)
 
--- and whatever stands behind it
+-- and whatever follows it
 pub record_cut : (w place end next : ℕ) (old new : Feed) (header : List ℕ) (r : KeyValue) → 0 < w → Consumes old new (header ++ (r.key ++ r.value))
     → length header ≡ 2 * w → pair_at w header ≡ lengths_of r → next ≡ place + record_size w r → next ≤ end
     → ReadsFirst r (walk_from w place end) (walk_from w next end) old new
@@ -94,7 +94,7 @@ fewer_then old mid new xs n k a b few = record {
   few = omega (arith, length-append xs b.lost, b.few);
 }
 
--- fewer than n bytes were left behind those that were taken
+-- fewer than n bytes were left after the bytes that were taken
 pub short_then : (old mid new : Feed) (xs : List ℕ) (n k : ℕ) → Consumes old mid xs → ReadsShort n mid new → length xs + n ≤ k → ReadsShort k old new
 short_then old mid new xs n k a b most = record {
   few = from_behind old mid new xs _ a (from_weaker mid new _ _ b.few (λ text rest few. (omega (arith, length-append xs text))));
@@ -126,7 +126,7 @@ none_body_no_room w place end old new header before read long room few = record 
   no_record = ap (λ (v : Walked). v.records) (walk_from-no_body w place end header header [] before (sym (append-nil header)) long room (inl few));
 }
 
--- a header and a part of what it tells was
+-- a header was, and a part of the body that it gives the lengths of
 pub none_body : (w place end n : ℕ) (old mid new : Feed) (header : List ℕ) → place < end → Consumes old mid header → LosesFewer mid new n → length header ≡ 2 * w → 2 * w ≤ end - place → 2 * w + n ≤ prefix_size w header
     → ReadsNoRecord (walk_from w place end) old new
 none_body w place end n old mid new header before read l long room size = record {

@@ -28,7 +28,7 @@ loses_still old new n size some l = from_taken old new l.lost _ l.taken (λ rest
     let few = l.few in
     still_from l.lost rest (size (l.lost ++ rest)) (omega arith))
 
--- the damage of the walk, where the fault is one, beside what holds at any fault
+-- the damage of the walk, if the fault is damage, beside what holds at any fault
 pub damage_and : (old new : Feed) (fault : WalkFault) (P Q : List ℕ → List ℕ → Type 0) → ((whole x y : List ℕ) → old.may whole x → old.may whole y → x ≡ y)
     → (IsDamage fault → FromTo old new P) → FromTo old new Q → FromTo old new (λ text rest. (IsDamage fault → P text rest) × Q text rest)
 damage_and old new Short P Q one p q = from_weaker old new _ _ (from_both old new P Q one (p tt) q) (λ text rest h. (λ damage. h.0, h.1))
@@ -37,11 +37,11 @@ damage_and old new (Cut place) P Q one p q = from_weaker old new _ _ (from_both 
 damage_and old new Input P Q one p q = from_weaker old new _ _ q (λ text rest h. (λ damage. elim damage [ ], h))
 damage_and old new NoMemory P Q one p q = from_weaker old new _ _ q (λ text rest h. (λ damage. elim damage [ ], h))
 
--- the head was read, from which on the records stand
+-- the head was read, and the records begin after it
 abbrev pub HeadThen : ℕ → ℕ → ℕ → Feed → Feed → Type 0
 HeadThen w place end old mid = FromTo old mid (λ text rest. (walk_of w text ≡ walk_from w place end rest) × (end ≡ record_end w text) × (rest ≡ drop (head_size w) text))
 
--- behind the head, what stands behind the record end is the same
+-- after the head, what follows the record end is the same
 end_is : (w place end : ℕ) (text mid : List ℕ) → end ≡ record_end w text → mid ≡ drop (head_size w) text → place ≡ head_size w → place ≤ end → drop (end - place) mid ≡ behind_records w text
 end_is w place end text mid is cut at low =
     let n : head_size w + (end - place) ≡ max (head_size w) (record_end w text) = omega arith in

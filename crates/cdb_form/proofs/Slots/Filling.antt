@@ -6,7 +6,7 @@ use Rattle.std.proofs.lemmas.List.Folds.{prefix_len-append}
 use Rattle.cdb_form.specs.Format.Table.{is_used, slots_from, slots_with, filled_slots, empty_slot}
 use Rattle.cdb_form.specs.Format.Hash.{home_slot}
 
--- the first empty slot stands behind home
+-- the first empty slot is at home or after it
 pub first_behind : (p : WordPair → Bool) (xs : List WordPair) (home n b : ℕ) → length xs ≡ n → home < n → b ≡ prefix_len p (drop home xs) → b < n - home → home + b ≡ (home + prefix_len p (slots_from home xs)) % n
 first_behind p xs home n b l h e small =
     let d : length (drop home xs) ≡ n - home = simp length-drop (omega arith) in

@@ -19,7 +19,7 @@ pub run_within : (slots : List WordPair) (at n : ℕ) → at ≤ length slots �
 run_within slots at zero within run = omega (arith, within)
 run_within slots at (suc n) within run = let last = used_within slots (at + n) (run n (omega arith)) in omega (arith, last)
 
--- two runs, one behind the other
+-- two runs, one after the other
 pub run_joined : (slots : List WordPair) (at n m : ℕ) → IsRun at n slots → IsRun (at + n) m slots → IsRun at (n + m) slots
 run_joined slots at n m run more = λ k low. elim (cases_lt k n) [
   | inl first ↦ run k first

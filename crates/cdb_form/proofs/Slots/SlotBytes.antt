@@ -49,7 +49,7 @@ place_word w size at r bytes slot es er low is =
     let whole : pair_at w slot ≡ nth_pair w bytes at = ap (pair_at w) is ∙ pair_at_part w at (size * at) ((size * at + size) - size * at) bytes (ap (λ (s : ℕ). s * at) es) (omega (arith, es)) in
     ap (λ xs. (pair_at w xs).first) rest ∙ ap (λ (p : WordPair). p.second) (whole ∙ sym (get_or-slots_in w at bytes low))
 
--- two words that stand in the same bytes
+-- two words that are stored in the same bytes
 same_pair : (w i : ℕ) (xs ys : List ℕ) → take (w + w) (drop i xs) ≡ take (w + w) (drop i ys) → pair_at w (drop i xs) ≡ pair_at w (drop i ys)
 same_pair w i xs ys e = sym (pair_at-take w (drop i xs)) ∙ ap (pair_at w) e ∙ pair_at-take w (drop i ys)
 
@@ -58,7 +58,7 @@ take_before : (i m a : ℕ) (xs ys : List ℕ) → i + m ≤ a → take a xs ≡
 take_before i m a xs ys low e =
     sym (drop-take i m xs) ∙ ap (drop i) (sym (take-take (i + m) a xs low) ∙ ap (take (i + m)) e ∙ take-take (i + m) a ys low) ∙ drop-take i m ys
 
--- the bytes behind a part
+-- the bytes after a part
 drop_behind : (i e : ℕ) (xs ys : List ℕ) → e ≤ i → drop e xs ≡ drop e ys → drop i xs ≡ drop i ys
 drop_behind i e xs ys high same =
     let sum : e + (i - e) ≡ i = omega arith in

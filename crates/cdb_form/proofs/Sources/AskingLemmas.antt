@@ -1,4 +1,4 @@
--- What a reader gave, ask after ask.
+-- What a reader gave, request after request.
 use Rattle.cdb_form.proofs.Words.{AreBytes, Consumes, Feed, List, ap, append_assoc, arith, length, length-append, length-replicate, length-take-le, replicate, sym, take, take-append-le, take-take, ℕ, ◌++◌, ◌+◌, ◌∙◌, ◌≡◌, ◌≤◌}
 use borrow.Rule.Slice.PartMut.{put_mid, post_of}
 use Rattle.cdb_form.proofs.Bytes.ByteLemmas.{AreBytes-append, AreBytes-take}
@@ -32,7 +32,7 @@ zeros_long size room small = length-take-le size (replicate {A = ℕ} room 0) (o
 pub same_prefix : (held : ℕ) (old longer : List ℕ) → held ≤ length old → take (length old) longer ≡ old → take held longer ≡ take held old
 same_prefix held old longer within front = sym (take-take held (length old) longer within) ∙ ap (take held) front
 
--- n bytes came behind a prefix
+-- n bytes came after a prefix
 pub came_behind : (held n len : ℕ) (front ys post rest : List ℕ) → length front ≡ held → n ≤ length ys → held + n ≤ len → take (held + n) (take len (front ++ (ys ++ post) ++ rest)) ≡ front ++ take n ys
 came_behind held n len front ys post rest long few within =
     take-take (held + n) len (front ++ (ys ++ post) ++ rest) within

@@ -11,7 +11,7 @@ use Rattle.cdb_form.specs.Views.TextFault.{IsReadFault, IsSpent, LastRead, unrea
 use Rattle.cdb_form.specs.Fed.FormReader.{ReadsItem}
 use Rattle.cdb_form.specs.Views.NativeParser.{FailsBytes, FailsField, seen, told}
 
--- digits were read that stand for a value
+-- digits were read that spell a value
 pub record DigitsSoFar (old new : Feed) (greatest start taken value : ℕ) : Type 0 where
   pub digits : List ℕ
   pub read : Consumes old new digits
@@ -20,7 +20,7 @@ pub record DigitsSoFar (old new : Feed) (greatest start taken value : ℕ) : Typ
   pub fits : value ≤ greatest
   pub taken_is : taken ≡ start + length digits
 
--- A fault of the reader is told of what was read.
+-- A fault of the reader is reported for what was read.
 pub part_seen : (P : List ℕ → TextFault → Type 0) (old new : Feed) (from to : ℕ) (lost : List ℕ) (f : TextFault) → IsReadFault f → Consumes old new lost → to ≡ from + length lost → P lost (Ended to)
     → FromTo old new (λ text rest. P (seen from to f text) (told to f))
 part_seen P old new from to lost (Syntax at) h read counted p = absurd h
@@ -30,7 +30,7 @@ part_seen P old new from to lost NoMemory h read counted p = absurd h
 part_seen P old new from to lost Input h read counted p = from_taken old new lost _ read (λ rest. subst (λ t. P t (Ended to)) (sym (take_at lost rest (to - from) (omega (arith, counted)))) p)
 part_seen P old new from to lost Endless h read counted p = from_taken old new lost _ read (λ rest. subst (λ t. P t (Ended to)) (sym (take_at lost rest (to - from) (omega (arith, counted)))) p)
 
--- what is told of behind some bytes that were read
+-- the text that a fault is reported for, after some bytes that were read
 take_behind : (from at to : ℕ) (first text : List ℕ) → at ≡ from + length first → at ≤ to → take (to - from) (first ++ text) ≡ first ++ take (to - at) text
 take_behind from at to first text counted later =
     let count : to - from ≡ length first + (to - at) = omega (arith, counted, later) in
@@ -44,7 +44,7 @@ seen_behind from at to first text NoMemory counted later = refl
 seen_behind from at to first text Input counted later = take_behind from at to first text counted later
 seen_behind from at to first text Endless counted later = take_behind from at to first text counted later
 
--- What a fault says of the text behind some bytes says it of these bytes and that text.
+-- What a fault says of the text after some bytes, it says of these bytes and that text.
 pub fails_behind : (P Q : List ℕ → TextFault → Type 0) (old mid new : Feed) (from at to : ℕ) (first : List ℕ) (f : TextFault) → Consumes old mid first → at ≡ from + length first → at ≤ to
     → ((text : List ℕ) → P text (told to f) → Q (first ++ text) (told to f))
     → FromTo mid new (λ text rest. P (seen at to f text) (told to f)) → FromTo old new (λ text rest. Q (seen from to f text) (told to f))
@@ -60,7 +60,7 @@ took_behind old mid new from at to first read counted t = record {
   counted = omega (arith, length-append first t.bytes, t.counted);
 }
 
--- the same behind some bytes and the byte that ends them
+-- the same after some bytes and the byte that ends them
 pub leaves_past : {R : Type 0} (feed : R → Feed) (old mid new : Source R) (bytes : List ℕ) (c : ℕ) (f : TextFault)
     → Consumes (feed old.reader) (feed mid.reader) (bytes ++ c ∷ []) → mid.taken ≡ old.taken + (length bytes + 1) → budget old ≤ budget mid → Leaves feed mid new f → Leaves feed old new f
 leaves_past feed old mid new bytes c f read counted spends l = record {
@@ -93,7 +93,7 @@ pub digits_took : (old mid new : Feed) (greatest start at value byte from to : �
 digits_took old mid new greatest start at value byte from to s read begin counted =
     took_these old new from to (s.digits ++ byte ∷ []) (consumes_then old mid new s.digits (byte ∷ []) s.read read) (omega (arith, s.taken_is, length-append s.digits (byte ∷ [])))
 
--- what a fault at the byte behind the digits leaves
+-- what a fault at the byte after the digits leaves
 pub digits_leave : {R : Type 0} (feed : R → Feed) (old mid new : Source R) (greatest start value byte : ℕ) (f : TextFault)
     → DigitsSoFar (feed old.reader) (feed mid.reader) greatest start mid.taken value → start ≡ old.taken → budget old ≤ budget mid
     → Consumes (feed mid.reader) (feed new.reader) (byte ∷ []) → new.taken ≡ mid.taken + 1 → mid.asks ≤ new.asks + 1001
@@ -105,7 +105,7 @@ digits_leave feed old mid new greatest start value byte f so_far begin spent rea
   spends = omega (arith, spent, spends, counted);
 }
 
--- a whole record behind a plus
+-- a whole record after a plus
 pub record_behind : (o m₁ m₂ m₃ m₄ n : Feed) (greatest from to : ℕ) (a b : List ℕ) (r : KeyValue)
     → IsNumeral a (length r.key) → IsNumeral b (length r.value) → length r.key ≤ greatest → length r.value ≤ greatest → IsRecord r
     → Consumes o m₁ (a ++ 44 ∷ []) → Consumes m₁ m₂ (b ++ 58 ∷ []) → Consumes m₂ m₃ (r.key ++ 45 ∷ []) → Consumes m₃ m₄ (62 ∷ [])
@@ -121,7 +121,7 @@ record_behind o m₁ m₂ m₃ m₄ n greatest from to a b r ia ib fk fv bytes c
       counted = simp length-append (omega (arith, counted));
     }
 
--- a whole removal behind a minus
+-- a whole removal after a minus
 pub removal_behind : (o m n : Feed) (greatest from to : ℕ) (a key : List ℕ)
     → IsNumeral a (length key) → length key ≤ greatest → AreBytes key
     → Consumes o m (a ++ 58 ∷ []) → Consumes m n (key ++ 10 ∷ []) → to ≡ from + (length a + 1) + (length key + 1)
@@ -146,7 +146,7 @@ item_whole S T c o m n greatest from at to x y k read counted b = record {
   counted = omega (arith, counted, b.counted);
 }
 
--- the bytes read are all that there were, where the reader has no more; else they are what was read
+-- the bytes read are all that there were, if the reader has no more; else they are what was read
 pub bytes_fail : (o n : Feed) (len from to : ℕ) (bytes : List ℕ) (u : ReadStop) → Consumes o n bytes → (u ≡ unread.Ended → IsAtEnd n) → AreBytes bytes → length bytes < len → to ≡ from + length bytes
     → FromTo o n (λ text rest. FailsBytes len from (seen from to (unread_fault to u) text) (told to (unread_fault to u)))
 bytes_fail o n len from to bytes unread.Ended read end are short counted = from_all o n bytes _ read (end refl) (are, short, counted)
@@ -154,7 +154,7 @@ bytes_fail o n len from to bytes unread.Failed read end are short counted = part
 bytes_fail o n len from to bytes unread.Spent read end are short counted = part_seen (λ text f. FailsBytes len from text f) o n from to bytes Endless tt read counted (are, short, counted)
 bytes_fail o n len from to bytes unread.NoMemory read end are short counted = from_taken o n bytes _ read (λ rest. tt)
 
--- the byte behind a field is another one
+-- the byte after a field is another one
 pub other_last : (o n : Feed) (len stop from : ℕ) (bytes items : List ℕ) (last : ℕ) → Consumes o n bytes → AreBytes bytes → length bytes ≡ len + 1 → bytes ≡ items ++ last ∷ [] → last ≢ stop
     → FromTo o n (λ text rest. FailsField len stop from text (Syntax (from + len)))
 other_last o n len stop from bytes items last a are long e other = from_taken o n bytes _ a (λ rest. (

@@ -28,7 +28,7 @@ hash_bc = refl
 hash_cB : key_hash (codes "cB") ≡ 5861060
 hash_cB = refl
 
--- the empty database: every table stands behind the head, and has no slot
+-- the empty database: every table begins after the head, and has no slot
 empty_is : file_bytes 4 [] ≡ repeat 256 (words_of 4 2048 0)
 unfolding file_bytes file_tables table_slots filled_slots slots_with table_entries entries_from file_pointers pointers_from record_bytes words_of repeat
 empty_is = refl

@@ -28,7 +28,7 @@ odd_bytes : map_lines (codes "a  # b \t\r\n\r\nc\r d")
     ∷ record { key = codes "c\r"; value = codes "d" } ∷ []
 odd_bytes = refl
 
--- a key with blanks behind it alone
+-- a key with blanks alone after it
 no_value : map_lines (codes "key \t\n") ≡ record { key = codes "key"; value = [] } ∷ []
 no_value = refl
 

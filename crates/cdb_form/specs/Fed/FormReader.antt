@@ -20,7 +20,7 @@ pub record ReadsItem {X : Type 0} (spelling : ℕ → List ℕ → X → Type 0)
   pub read : Consumes old new text
   pub counted : to ≡ from + length text
 
--- A fault is one of a text, from the count `from` on; or the reader failed or was asked too often,
+-- A fault is one of a text, from the count `from` on; or the reader failed or got too many requests,
 -- and what was read up to the count `to` is the start of a text. No whole item is there.
 pub record IsFaultOf {X : Type 0} (spelling : ℕ → List ℕ → X → Type 0) (greatest from to : ℕ)
     (text : List ℕ) (fault : TextFault) : Type 0 where
@@ -47,7 +47,7 @@ pub record GivesItem {R L X : Type 0} (spelling : ℕ → List ℕ → X → Typ
   pub fewer : asks_left new < asks_left old
   pub spends : budget old.source ≤ budget new.source
 
--- a call told the end: the first such call took the newline that ends the text
+-- a call reported the end: the first such call took the newline that ends the text
 pub record Ends {R : Type 0} (feed : R → Feed) (Going Ended : Type 0) (old new : Source R) :
     Type 0 where
   pub ended : Ended
@@ -64,7 +64,7 @@ pub record Fails {R L X : Type 0} (spelling : ℕ → List ℕ → X → Type 0)
   pub failed : HasFailed new fault
   pub meets : IsGoing old → MeetsFault spelling greatest feed old.source new.source fault
 
--- the same of an amending text, where removals are taken, or else of a native one
+-- the same of an amending text, if removals are taken, or else of a native one
 abbrev pub FailsAs : Bool → {R L : Type 0} → ℕ → (R → Feed) → FormReader R L → FormReader R L
     → TextFault → Type 0
 FailsAs true greatest feed old new fault = Fails SpellsChange greatest feed old new fault

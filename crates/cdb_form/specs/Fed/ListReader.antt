@@ -18,7 +18,7 @@ pub record GivesKey {R L : Type 0} (greatest : ℕ) (feed : R → Feed) (old new
   pub fewer : asks_left new < asks_left old
   pub spends : budget old.source ≤ budget new.source
 
--- a call told the end: the first such call took the newline that ends the text
+-- a call reported the end: the first such call took the newline that ends the text
 abbrev pub GivesEnd : {R L : Type 0} → (R → Feed) → ListReader R L → ListReader R L → Type 0
 GivesEnd feed old new = Ends feed (IsGoing old) (HasEnded new) old.source new.source
 

@@ -15,8 +15,8 @@ use Rattle.cdb_form.specs.declared.text.map_parser.LineRead.TheVariants.{Ignored
 use Rattle.cdb_form.specs.declared.text.map_parser.LineRead.TheVariants.{Pair}
 use Rattle.cdb_form.specs.declared.text.source.Source.{Source}
 
--- Bytes of a kind went from the start of what was left behind what was held. They were counted,
--- and took an ask each at most.
+-- Bytes of a kind, the first that were left, were put after what was held. They were counted,
+-- and took at most one request each.
 pub record MovesRun {R : Type 0} (kind : Kind) (feed : R → Feed)
     (old new : Source R) (held holds : List ℕ) : Type 0 where
   pub bytes : List ℕ
@@ -41,7 +41,7 @@ abbrev pub EndsLine : List ℕ → Feed → Type 0
 EndsLine [] left = IsAtEnd left
 EndsLine (c ∷ bytes) left = c ∷ bytes ≡ codes "\n"
 
--- A text was read, and how its line ends. The end of the input takes as many asks as a byte.
+-- A text was read, and how its line ends. The end of the input takes as many requests as a byte.
 pub record ReadsToEnding {R : Type 0} (feed : R → Feed) (old new : Source R)
     (text ending : List ℕ) : Type 0 where
   pub takes : Takes feed old new (text ++ ending)
@@ -57,7 +57,7 @@ pub record ReadsValue {R : Type 0} (feed : R → Feed) (old new : Source R)
   pub whole : Lacks is_newline value
   pub reads : ReadsToEnding feed old new (blanks ++ value) ending
 
--- behind its first byte a record was read, up to the end of its line
+-- after its first byte a record was read, up to the end of its line
 pub record ReadsPair {R : Type 0} (feed : R → Feed) (old new : Source R)
     (first : ℕ) (r : KeyValue) (ending : List ℕ) : Type 0 where
   pub tail : List ℕ

@@ -47,7 +47,7 @@ pub record GivesRecord {R : Type 0} (feed : R → Feed) (old new : MapReader R)
   pub going : GoesOn ending new
   pub fewer : asks_left new < asks_left old
 
--- a call told the end: the first such call read ignored lines alone, unless the last record came
+-- a call reported the end: the first such call read ignored lines alone, unless the last record came
 -- with the end; then nothing is read
 pub record GivesEnd {R : Type 0} (feed : R → Feed) (old new : MapReader R) :
     Type 0 where

@@ -9,7 +9,7 @@ use Rattle.cdb_form.specs.Views.TextFault.{IsSpent, LastRead}
 use Rattle.cdb_form.specs.declared.text.fault.TextFault.{TextFault}
 use Rattle.cdb_form.specs.declared.text.source.Source.{Source}
 
--- a reader lost a spelling of the item from the bytes behind its mark on
+-- a reader lost a spelling of the item from the bytes after its mark on
 pub record ReadsBehind {X : Type 0} (spelling : ℕ → List ℕ → X → Type 0) (mark : List ℕ)
     (greatest : ℕ) (old new : Feed) (from to : ℕ) (x : X) : Type 0 where
   pub text : List ℕ
@@ -24,7 +24,7 @@ FailsIn feed old new P f = FromTo (feed old.reader) (feed new.reader)
     (λ text rest. P (seen old.taken new.taken f text) (told new.taken f))
 
 -- What a fault leaves: what was taken is gone from the reader and was counted, and ends with the
--- byte at the fault's place. Asks last for 1001 a byte.
+-- byte at the fault's place. Requests suffice for 1001 a byte.
 pub record Leaves {R : Type 0} (feed : R → Feed) (old new : Source R) (f : TextFault) : Type 0
   where
     pub took : Took (feed old.reader) (feed new.reader) old.taken new.taken

@@ -19,8 +19,8 @@ abbrev pub Between : {R L : Type 0} → (R → Feed) → (old new : RecordReader
     → (List ℕ → List ℕ → Type 0) → Type 0
 Between feed old new P = FromTo (feed old.reader) (feed new.reader) P
 
--- a call gave a record: the first of the walk that was left, whatever stands behind what was taken.
--- What stands behind the record end is still left.
+-- a call gave a record: the first of the walk that was left, whatever follows what was taken.
+-- What follows the record end is still left.
 pub record GivesRecord {R L : Type 0} (w : ℕ) (feed : R → Feed) (old new : RecordReader R L)
     (r : KeyValue) : Type 0 where
   pub walk : Between feed old new
@@ -40,7 +40,7 @@ abbrev pub GivesKey : {R L : Type 0} → ℕ → (R → Feed) → (old new : Rec
     → List ℕ → Type 0
 GivesKey w feed old new key = (r : KeyValue) × (r.key ≡ key) × GivesRecord w feed old new r
 
--- a call told the end: the walk that was left has no record and no damage. What stands behind the
+-- a call reported the end: the walk that was left has no record and no damage. What follows the
 -- record end is all that is left.
 pub record GivesEnd {R L : Type 0} (w : ℕ) (feed : R → Feed) (old new : RecordReader R L) : Type 0
   where

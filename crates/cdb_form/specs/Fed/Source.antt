@@ -12,8 +12,8 @@ pub record Takes {R : Type 0} (feed : R → Feed) (old new : Source R) (bytes : 
     pub read : Consumes (feed old.reader) (feed new.reader) bytes
     pub counted : new.taken ≡ old.taken + length bytes
 
--- What a fault leaves that is not one of the text: bytes with the property P were taken. Asks last
--- for 1001 a byte.
+-- What a fault leaves that is not one of the text: bytes with the property P were taken. Requests
+-- suffice for 1001 a byte.
 pub record LeavesAmid {R : Type 0} (P : List ℕ → Type 0) (feed : R → Feed) (old new : Source R)
     (f : TextFault) : Type 0 where
   pub outside : IsOfText f → ⊥

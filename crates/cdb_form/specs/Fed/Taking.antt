@@ -62,7 +62,7 @@ Gives n old new bytes More = GivesMore n old new bytes
 abbrev pub ReadsNoFurther : ℕ → Feed → Feed → Type 0
 ReadsNoFurther n old new = LosesAtMost old new n ⊎ IsAtEnd new
 
--- bytes were taken: whatever stands behind them, the walk of both is a record and then that of the
+-- bytes were taken: whatever follows them, the walk of both is a record and then that of the
 -- rest
 pub record ReadsFirst (r : KeyValue) (walk rest : List ℕ → Walked) (old new : Feed) : Type 0 where
   pub bytes : List ℕ
@@ -75,7 +75,7 @@ pub record ReadsNoRecord (walk : List ℕ → Walked) (old new : Feed) : Type 0 
   pub taken : Consumes old new lost
   pub no_record : (walk lost).records ≡ []
 
--- a head was taken: whatever stands behind it, the records stand from one place to another
+-- a head was taken: whatever follows it, the records lie from one place to another
 pub record ReadsHead (w place end : ℕ) (old new : Feed) : Type 0 where
   pub head : List ℕ
   pub read : Consumes old new head
@@ -102,7 +102,7 @@ pub record ValueRead (keeping : Keeping) (n : ℕ) (old new : Feed) (into : List
   pub read : Consumes old new bytes
   pub long : length bytes ≡ n
 
--- the key and the value of a record were taken, with the lengths that its header tells
+-- the key and the value of a record were taken, with the lengths in its header
 pub record BodyRead (old new : Feed) (header : Header) (r : KeyValue) : Type 0 where
   pub read : Consumes old new (r.key ++ r.value)
   pub klen : length r.key ≡ header.klen

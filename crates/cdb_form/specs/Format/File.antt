@@ -12,7 +12,7 @@ whole_size w r = record_size w r + 4 * w
 abbrev pub file_size : ℕ → List KeyValue → ℕ
 file_size w rs = head_size w + sum_by (whole_size w) rs
 
--- the place and the number of slots of each table, where the first stands at `at`
+-- the place and the number of slots of each table, if the first begins at `at`
 unfoldable pub pointers_from : ℕ → ℕ → List (List WordPair) → List WordPair
 pointers_from w at [] = []
 pointers_from w at (t ∷ ts) =

@@ -1,4 +1,4 @@
--- Records and where they stand, in words of w bytes.
+-- Records and where they begin, in words of w bytes.
 use Rattle.std.specs.Prelude.{ℕ, ◌+◌, ◌<◌, List, ◌++◌, length, sum_by}
 use Rattle.std.specs.List.{slice_index}
 use Rattle.cdb_form.specs.Format.Pair.{pair_bytes, pair_size, head_size}
@@ -7,7 +7,7 @@ use Rattle.cdb_form.specs.Format.Pair.{pair_bytes, pair_size, head_size}
 abbrev pub AreBytes : List ℕ → Type 0
 AreBytes bytes = (k : ℕ) → slice_index bytes k < 256
 
--- a key with its value: a record, where both are bytes
+-- a key with its value: a record, if both are bytes
 pub record KeyValue : Type 0 where
   pub key : List ℕ
   pub value : List ℕ
@@ -29,6 +29,6 @@ record_bytes w r = pair_bytes w (record { first = length r.key; second = length 
 abbrev pub record_size : ℕ → KeyValue → ℕ
 record_size w r = pair_size w + length r.key + length r.value
 
--- the place behind the last record
+-- the place after the last record
 abbrev pub records_end : ℕ → List KeyValue → ℕ
 records_end w rs = head_size w + sum_by (record_size w) rs

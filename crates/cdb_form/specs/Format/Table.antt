@@ -6,7 +6,7 @@ use Rattle.cdb_form.specs.Format.Pair.{WordPair, head_size}
 use Rattle.cdb_form.specs.Format.Hash.{key_hash, table_number, home_slot}
 use Rattle.cdb_form.specs.Format.Record.{KeyValue, record_size}
 
--- the hash and the place of each record, in order, where the first stands at `at`
+-- the hash and the place of each record, in order, if the first begins at `at`
 unfoldable pub entries_from : ℕ → ℕ → List KeyValue → List WordPair
 entries_from w at [] = []
 entries_from w at (r ∷ rs) =

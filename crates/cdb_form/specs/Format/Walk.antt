@@ -13,7 +13,7 @@ use Rattle.cdb_form.specs.declared.damage.Damage.TheVariants.{Short, Table, Reco
 abbrev pub has_slots : WordPair → Bool
 has_slots p = not (p.second == 0)
 
--- the least place of a table that has slots, or `none` where none has
+-- the least place of a table that has slots, or `none` if no table has slots
 abbrev pub least_place : ℕ → List WordPair → ℕ
 least_place none ps = unwrap_or (reduce min (map (λ p. p.first) (filter has_slots ps))) none
 
@@ -21,11 +21,11 @@ least_place none ps = unwrap_or (reduce min (map (λ p. p.first) (filter has_slo
 unfoldable pub record_end : ℕ → List ℕ → ℕ
 record_end w bytes = least_place (head_size w) (head_at w bytes)
 
--- the number of the first table that has slots and stands at a place
+-- the number of the first table that has slots and begins at a place
 abbrev pub first_table_at : ℕ → List WordPair → ℕ
 first_table_at place ps = position_or_len (λ p. has_slots p && (p.first == place)) ps
 
--- how many bytes the record at the start of some bytes takes, by the lengths that it tells
+-- how many bytes the record at the start of some bytes takes, by the lengths in its header
 abbrev pub prefix_size : ℕ → List ℕ → ℕ
 prefix_size w bytes = 2 * w + (pair_at w bytes).first + (pair_at w bytes).second
 
@@ -50,7 +50,7 @@ pub record Walked : Type 0 where
   pub records : List KeyValue
   pub damage : Option Damage
 
--- the walk from a place on, where the records end at `end` and these bytes are the rest of the file
+-- the walk from a place on, if the records end at `end` and these bytes are the rest of the file
 unfoldable pub walk_from : ℕ → ℕ → ℕ → List ℕ → Walked
 walk_from w place end bytes =
     let area = take (end - place) bytes in

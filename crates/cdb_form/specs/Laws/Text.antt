@@ -38,7 +38,7 @@ abbrev pub ChangesReadBack : ℕ → List Change → List ℕ → Type 0
 ChangesReadBack greatest changes rest =
     IsReadAs SpellsChange greatest changes (amending_text changes ++ rest) rest
 
--- a text is a native one of some records exactly where it is an amending one of their puts, and
+-- a text is a native one of some records exactly if it is an amending one of their puts, and
 -- then it is one of no other changes
 pub record AmendsByPuts (greatest : ℕ) (text : List ℕ) : Type 0 where
   pub puts : (rs : List KeyValue) (rest : List ℕ) → Reads greatest rs text rest

@@ -8,25 +8,25 @@ use Rattle.cdb_form.specs.Format.Record.{KeyValue, record_bytes, record_size, re
 use Rattle.cdb_form.specs.Format.Walk.{Walked, walk_of, record_end, damaged, first_table_at}
 use Rattle.cdb_form.specs.declared.damage.Damage.TheVariants.{Short, Table, Record}
 
--- some records stand behind the head of a file, inside both the record end and the file
+-- some records follow the head of a file, inside both the record end and the file
 pub record Stand (w : ℕ) (bytes : List ℕ) (rs : List KeyValue) : Type 0 where
   pub inside : records_end w rs ≤ length bytes
   pub before_end : records_end w rs ≤ record_end w bytes
   pub bytes_are : take (sum_by (record_size w) rs) (drop (head_size w) bytes) ≡ flat_map
       (record_bytes w) rs
 
--- they are the longest list of records that stands there
+-- they are the longest list of records there
 pub record StandLongest (w : ℕ) (bytes : List ℕ) (rs : List KeyValue) : Type 0 where
   pub stand : Stand w bytes rs
   pub longest : (others : List KeyValue) → Stand w bytes others → (more : List KeyValue)
       × (rs ≡ others ++ more)
 
--- a file has a whole head, and no table that has slots stands within it
+-- a file has a whole head, and no table that has slots begins within it
 pub record HasHead (w : ℕ) (bytes : List ℕ) : Type 0 where
   pub whole : head_size w ≤ length bytes
   pub behind : head_size w ≤ record_end w bytes
 
--- a walk of a file gives the longest list of records that stands in it, and the damage behind them,
+-- a walk of a file gives the longest list of records that lies in it, and the damage after them,
 -- if any
 pub record IsWalk (w : ℕ) (bytes : List ℕ) (walk : Walked) : Type 0 where
   pub short : length bytes < head_size w → walk ≡ damaged Short

@@ -36,7 +36,7 @@ ReadsChanges greatest changes text rest = form.Reads SpellsChange greatest chang
 abbrev pub HasNoChange : ℕ → List ℕ → Type 0
 HasNoChange greatest input = form.HasNoItem SpellsChange greatest input
 
--- the spelled changes at the start of the input, all of them, and the rest behind them
+-- the spelled changes at the start of the input, all of them, and the rest after them
 abbrev pub WholeChanges : ℕ → List ℕ → List Change → List ℕ → Type 0
 WholeChanges greatest input changes rest =
     form.WholeItems SpellsChange greatest input changes rest

@@ -24,7 +24,7 @@ abbrev pub HasNoItem : {X : Type 0} → (ℕ → List ℕ → X → Type 0) → 
 HasNoItem {X} spelling greatest input =
     (first rest : List ℕ) (x : X) → spelling greatest first x → input ≡ first ++ rest → ⊥
 
--- the spelled items at the start of the input, all of them, and the rest behind them
+-- the spelled items at the start of the input, all of them, and the rest after them
 pub record WholeItems {X : Type 0} (spelling : ℕ → List ℕ → X → Type 0) (greatest : ℕ)
     (input : List ℕ) (xs : List X) (rest : List ℕ) : Type 0 where
   pub spelled : Spelled spelling greatest xs input rest
@@ -54,7 +54,7 @@ LiftsLength spelling greatest input p =
     (digit_value (get_or input p 0) < 10)
     × ((greater : ℕ) × (greatest ≤ greater) × IsPrefix spelling greater (take (p + 1) input))
 
--- the fault of an input whose first byte is at `from`: the place behind its longest prefix
+-- the fault of an input whose first byte is at `from`: the place after its longest prefix
 abbrev pub HasFault : {X : Type 0} → (ℕ → List ℕ → X → Type 0) → ℕ → ℕ → List ℕ → TextFault
     → Type 0
 HasFault spelling greatest from input (Ended at) =

@@ -11,7 +11,7 @@ is_blank c = (c == 32) || (c == 9)
 abbrev pub is_newline : ℕ → Bool
 is_newline c = c == 10
 
--- what is left of a line behind the blanks at its start
+-- what is left of a line after the blanks at its start
 abbrev pub behind_blanks : List ℕ → List ℕ
 behind_blanks line = drop (prefix_len is_blank line) line
 
@@ -26,7 +26,7 @@ from_blank line = drop (position_or_len is_blank line) line
 abbrev pub line_pair : List ℕ → KeyValue
 line_pair words = record { key = before_blank words; value = behind_blanks (from_blank words) }
 
--- a line is ignored that is empty behind its first blanks, or has a number sign there
+-- a line is ignored that is empty after its first blanks, or has a number sign there
 abbrev pub is_ignored : List ℕ → Bool
 is_ignored [] = true
 is_ignored (c ∷ words) = c == 35
@@ -35,7 +35,7 @@ abbrev pub line_records : List ℕ → List KeyValue
 line_records line =
     if is_ignored (behind_blanks line) then [] else line_pair (behind_blanks line) ∷ []
 
--- a text is cut at its newlines: behind the last one stands one more line, which may be empty
+-- a text is cut at its newlines: after the last newline there is one more line, which may be empty
 abbrev pub lines_of : List ℕ → List (List ℕ)
 lines_of text = slice_split is_newline text
 
@@ -50,11 +50,11 @@ map_line r = r.key ++ codes " " ++ r.value ++ codes "\n"
 abbrev pub map_text : List KeyValue → List ℕ
 map_text rs = flat_map map_line rs
 
--- no byte is one that the test tells
+-- no byte passes the test
 abbrev pub Lacks : (ℕ → Bool) → List ℕ → Type 0
 Lacks test bytes = All (λ c. test c ≡ false) bytes
 
--- the bytes do not begin with one that the test tells
+-- the first byte, if any, does not pass the test
 abbrev pub BeginsOther : (ℕ → Bool) → List ℕ → Type 0
 BeginsOther test bytes = prefix_len test bytes ≡ 0
 

@@ -37,7 +37,7 @@ Reads greatest rs text rest = form.Reads Spells greatest rs text rest
 abbrev pub HasNoRecord : ℕ → List ℕ → Type 0
 HasNoRecord greatest input = form.HasNoItem Spells greatest input
 
--- the spelled records at the start of the input, all of them, and the rest behind them
+-- the spelled records at the start of the input, all of them, and the rest after them
 abbrev pub WholeRecords : ℕ → List ℕ → List KeyValue → List ℕ → Type 0
 WholeRecords greatest input rs rest = form.WholeItems Spells greatest input rs rest
 

@@ -55,7 +55,7 @@ abbrev pub removal_part : (g at : ℕ) → List ℕ → Part (List ℕ)
 removal_part g at text =
     followed (number_part g 58 at 0 at text) (λ klen at text. field_part klen 10 at text)
 
--- an item, behind its plus or its minus; or none, at the newline that ends the text
+-- an item, after its plus or its minus; or none, at the newline that ends the text
 abbrev pub item_part : (removals : Bool) → (g at : ℕ) → List ℕ → Part (Option Change)
 item_part removals g at [] = Stuck (Ended at)
 item_part removals g at (c ∷ text) =
@@ -71,11 +71,11 @@ pub record Parsed : Type 0 where
   pub items : List Change
   pub ends : Result (List ℕ) TextFault
 
--- a key of a list text stands for a put of it without a value
+-- a key of a list text means a put of it without a value
 abbrev pub listed : List ℕ → Change
 listed key = Putting (record_of key [])
 
--- a key, behind its plus; or none, at the newline that ends the text
+-- a key, after its plus; or none, at the newline that ends the text
 abbrev pub key_part : (g at : ℕ) → List ℕ → Part (Option Change)
 key_part g at [] = Stuck (Ended at)
 key_part g at (c ∷ text) =

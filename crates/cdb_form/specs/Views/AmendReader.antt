@@ -6,7 +6,7 @@ use Rattle.cdb_form.specs.Views.FormReader as form
 use Rattle.cdb_form.specs.declared.text.fault.TextFault.{TextFault}
 use Rattle.cdb_form.specs.declared.text.amend_reader.AmendReader.{AmendReader}
 
--- the bytes that its reader has left, where they are known
+-- the bytes that its reader has left, if they are known
 abbrev pub unread : {R L : Type 0} → (R → Option (List ℕ)) → AmendReader R L → Option (List ℕ)
 unread remaining t = form.unread remaining t.items
 
@@ -14,7 +14,7 @@ unread remaining t = form.unread remaining t.items
 abbrev pub taken_of : {R L : Type 0} → AmendReader R L → ℕ
 taken_of t = form.taken_of t.items
 
--- how often its reader may still be asked
+-- how many requests its reader may still get
 abbrev pub asks_left : {R L : Type 0} → AmendReader R L → ℕ
 asks_left t = form.asks_left t.items
 
@@ -44,7 +44,7 @@ abbrev pub ReadsChange : ℕ → Option (List ℕ) → Option (List ℕ) → ℕ
 ReadsChange greatest old new from to change =
     form.ReadsItem SpellsChange greatest old new from to change
 
--- Each byte takes at most 1001 asks: as many as are asked in a row where signals interrupt them.
+-- Each byte takes at most 1001 requests: as many as are made in a row if signals interrupt them.
 abbrev pub budget : {R L : Type 0} → AmendReader R L → ℕ
 budget t = asks_left t + 1001 * taken_of t
 
@@ -54,7 +54,7 @@ abbrev pub GivesChange : {R L : Type 0} → ℕ → (R → Option (List ℕ)) �
 GivesChange greatest remaining old new change =
     form.GivesItem SpellsChange greatest remaining old.items new.items change
 
--- a call told the end: the first such call took the newline that ends the text
+-- a call reported the end: the first such call took the newline that ends the text
 abbrev pub GivesEnd : {R L : Type 0} → (R → Option (List ℕ)) → AmendReader R L
     → AmendReader R L → Type 0
 GivesEnd remaining old new = form.GivesEnd remaining old.items new.items

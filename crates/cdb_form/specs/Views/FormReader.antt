@@ -16,7 +16,7 @@ use Rattle.cdb_form.specs.declared.text.form_reader.FormReader.{FormReader}
 use Rattle.cdb_form.specs.declared.text.going.Going.TheVariants.{On, AtEnd, Failed}
 use Rattle.cdb_form.specs.declared.text.source.Source.{Source}
 
--- the bytes that its reader has left, where they are known
+-- the bytes that its reader has left, if they are known
 abbrev pub unread : {R L : Type 0} → (R → Option (List ℕ)) → FormReader R L → Option (List ℕ)
 unread remaining t = remaining t.source.reader
 
@@ -28,7 +28,7 @@ reader_of t = t.source.reader
 abbrev pub taken_of : {R L : Type 0} → FormReader R L → ℕ
 taken_of t = t.source.taken
 
--- how often its reader may still be asked
+-- how many requests its reader may still get
 abbrev pub asks_left : {R L : Type 0} → FormReader R L → ℕ
 asks_left t = t.source.asks
 
@@ -65,8 +65,8 @@ pub record ReadsItem {X : Type 0} (spelling : ℕ → List ℕ → X → Type 0)
   pub read : Consumes old new text
   pub counted : to ≡ from + length text
 
--- A reader met a fault: one of the text, in all that was unread; or it failed or was asked too
--- often, and what it gave is the start of a text. No whole item is there. What was read ends with
+-- A reader met a fault: one of the text, in all that was unread; or it failed or got too many
+-- requests, and what it gave is the start of a text. No whole item is there. What was read ends with
 -- the byte at the fault's place, and is gone.
 pub record MeetsFault {R X : Type 0} (spelling : ℕ → List ℕ → X → Type 0) (greatest : ℕ)
     (remaining : R → Option (List ℕ)) (old new : Source R) (fault : TextFault) : Type 0 where
@@ -90,7 +90,7 @@ pub record GivesItem {R L X : Type 0} (spelling : ℕ → List ℕ → X → Typ
   pub fewer : asks_left new < asks_left old
   pub spends : budget old.source ≤ budget new.source
 
--- a call told the end: the first such call took the newline that ends the text
+-- a call reported the end: the first such call took the newline that ends the text
 pub record Ends {R : Type 0} (remaining : R → Option (List ℕ)) (Going Ended : Type 0) (old new : Source R) :
     Type 0 where
   pub ended : Ended
@@ -107,7 +107,7 @@ pub record Fails {R L X : Type 0} (spelling : ℕ → List ℕ → X → Type 0)
   pub failed : HasFailed new fault
   pub meets : IsGoing old → MeetsFault spelling greatest remaining old.source new.source fault
 
--- the same of an amending text, where removals are taken, or else of a native one
+-- the same of an amending text, if removals are taken, or else of a native one
 abbrev pub FailsAs : Bool → {R L : Type 0} → ℕ → (R → Option (List ℕ)) → FormReader R L
     → FormReader R L → TextFault → Type 0
 FailsAs true greatest remaining old new fault = Fails SpellsChange greatest remaining old new fault

@@ -1,4 +1,4 @@
--- What a call does to the bytes that a reader has left or a writer holds, where they are known.
+-- What a call does to the bytes that a reader has left or a writer holds, if they are known.
 use Rattle.std.specs.Io.KnownBytes.{Consumes, Appends}
 use Rattle.std.specs.Prelude.{drop, ◌+◌, ℕ, List, ◌++◌, length, ◌<◌, ◌≤◌, Option, ◌≡◌, ⊤, Some, None}
 use Rattle.std.specs.Prelude.{Result, OnOk, OnErr}
@@ -21,7 +21,7 @@ FromTo None new P = ⊤
 FromTo (Some text) None P = ⊥
 FromTo (Some text) (Some rest) P = P text rest
 
--- all bytes from place n on are still there, and no others behind them
+-- all bytes from place n on are still there, and no others after them
 abbrev pub StillFrom : ℕ → List ℕ → List ℕ → Type 0
 StillFrom n text rest = (more : List ℕ) × (rest ≡ more ++ drop n text)
 

@@ -7,7 +7,7 @@ use Rattle.cdb_form.specs.declared.text.fault.TextFault.{TextFault}
 use Rattle.cdb_form.specs.declared.text.going.Going.TheVariants.{On, AtEnd, Failed}
 use Rattle.cdb_form.specs.declared.text.list_reader.ListReader.{ListReader}
 
--- the bytes that its reader has left, where they are known
+-- the bytes that its reader has left, if they are known
 abbrev pub unread : {R L : Type 0} → (R → Option (List ℕ)) → ListReader R L → Option (List ℕ)
 unread remaining t = remaining t.source.reader
 
@@ -19,7 +19,7 @@ reader_of t = t.source.reader
 abbrev pub taken_of : {R L : Type 0} → ListReader R L → ℕ
 taken_of t = t.source.taken
 
--- how often its reader may still be asked
+-- how many requests its reader may still get
 abbrev pub asks_left : {R L : Type 0} → ListReader R L → ℕ
 asks_left t = t.source.asks
 
@@ -45,7 +45,7 @@ pub record GivesKey {R L : Type 0} (greatest : ℕ) (remaining : R → Option (L
   pub fewer : asks_left new < asks_left old
   pub spends : budget old.source ≤ budget new.source
 
--- a call told the end: the first such call took the newline that ends the text
+-- a call reported the end: the first such call took the newline that ends the text
 abbrev pub GivesEnd : {R L : Type 0} → (R → Option (List ℕ)) → ListReader R L → ListReader R L → Type 0
 GivesEnd remaining old new = Ends remaining (IsGoing old) (HasEnded new) old.source new.source
 

@@ -14,7 +14,7 @@ is_of Blank c = is_blank c
 is_of InWord c = not (is_blank c || is_newline c)
 is_of InLine c = not (is_newline c)
 
--- the byte that was read behind a run, where there is one
+-- the byte that was read after a run, if there is one
 abbrev pub stop_bytes : Option ℕ → List ℕ
 stop_bytes None = []
 stop_bytes (Some c) = c ∷ []
@@ -28,7 +28,7 @@ abbrev pub EndsLine : List ℕ → Option (List ℕ) → Type 0
 EndsLine [] unread = IsAtEnd unread
 EndsLine (c ∷ bytes) unread = c ∷ bytes ≡ codes "\n"
 
--- A text was read, and how its line ends. The end of the input takes as many asks as a byte.
+-- A text was read, and how its line ends. The end of the input takes as many requests as a byte.
 pub record ReadsToEnding {R : Type 0} (remaining : R → Option (List ℕ)) (old new : Source R)
     (text ending : List ℕ) : Type 0 where
   pub takes : Takes remaining old new (text ++ ending)

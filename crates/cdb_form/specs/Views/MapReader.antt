@@ -11,7 +11,7 @@ use Rattle.cdb_form.specs.declared.text.going.Going.TheVariants.{AtEnd, Failed, 
 use Rattle.cdb_form.specs.declared.text.map_reader.MapReader.{MapReader}
 use Rattle.cdb_form.specs.declared.text.source.Source.{Source}
 
--- the bytes that its reader has left, where they are known
+-- the bytes that its reader has left, if they are known
 abbrev pub unread : {R : Type 0} → (R → Option (List ℕ)) → MapReader R → Option (List ℕ)
 unread remaining t = remaining t.source.reader
 
@@ -23,7 +23,7 @@ reader_of t = t.source.reader
 abbrev pub taken_of : {R : Type 0} → MapReader R → ℕ
 taken_of t = t.source.taken
 
--- how often its reader may still be asked
+-- how many requests its reader may still get
 abbrev pub asks_left : {R : Type 0} → MapReader R → ℕ
 asks_left t = t.source.asks
 
@@ -98,7 +98,7 @@ pub record GivesRecord {R : Type 0} (remaining : R → Option (List ℕ)) (old n
   pub going : GoesOn ending new
   pub fewer : asks_left new < asks_left old
 
--- a call told the end: the first such call read ignored lines alone, unless the last record came
+-- a call reported the end: the first such call read ignored lines alone, unless the last record came
 -- with the end; then nothing is read
 pub record GivesEnd {R : Type 0} (remaining : R → Option (List ℕ)) (old new : MapReader R) :
     Type 0 where

@@ -13,20 +13,20 @@ use Rattle.cdb_form.specs.declared.text.fault.TextFault.{TextFault}
 use Rattle.cdb_form.specs.declared.text.fault.TextFault.TheVariants.{Syntax, Ended, Large, Input}
 use Rattle.cdb_form.specs.declared.text.fault.TextFault.TheVariants.{Endless}
 
--- the text that a fault is one of: all that was unread, or what was read of it where the reader
+-- the text that has the fault: all that was unread, or what was read of it if the reader
 -- failed
 abbrev pub seen : ℕ → ℕ → TextFault → List ℕ → List ℕ
 seen from to Input text = take (to - from) text
 seen from to Endless text = take (to - from) text
 seen from to _ text = text
 
--- and the fault of that text: where the reader failed, it is as though the text had ended there
+-- and the fault of that text: if the reader failed, it is as though the text had ended there
 abbrev pub told : ℕ → TextFault → TextFault
 told to Input = Ended to
 told to Endless = Ended to
 told to fault = fault
 
--- digits of a number of at most `greatest` stand at the start of the text, and then c
+-- digits of a number of at most `greatest` are at the start of the text, and then c
 pub record DigitsThen (greatest : ℕ) (text : List ℕ) (c count : ℕ) : Type 0 where
   pub digits : List ℕ
   pub rest : List ℕ
@@ -36,7 +36,7 @@ pub record DigitsThen (greatest : ℕ) (text : List ℕ) (c count : ℕ) : Type 
   pub text_is : text ≡ digits ++ c ∷ rest
   pub lifts : digit_value c < 10 → greatest < digits_value 10 digits * 10 + digit_value c
 
--- no numeral of at most `greatest` with `stop` behind it is at the start of the text
+-- no numeral of at most `greatest`, followed by `stop`, is at the start of the text
 abbrev pub FailsNumber : ℕ → ℕ → ℕ → List ℕ → TextFault → Type 0
 FailsNumber greatest stop from text (Syntax at) =
     (c n : ℕ) × DigitsThen greatest text c n × (at ≡ from + n) × (10 ≤ digit_value c)
@@ -62,7 +62,7 @@ FailsBytes n from text (Large at) = ⊥
 FailsBytes n from text (Ended at) = AreBytes text × (length text < n) × (at ≡ from + length text)
 FailsBytes n from text _ = ⊤
 
--- n bytes and then another byte than `stop` stand at the start of the text
+-- n bytes and then another byte than `stop` are at the start of the text
 pub record BytesThenOther (n stop : ℕ) (text : List ℕ) : Type 0 where
   pub bytes : List ℕ
   pub other : ℕ
@@ -72,7 +72,7 @@ pub record BytesThenOther (n stop : ℕ) (text : List ℕ) : Type 0 where
   pub text_is : text ≡ bytes ++ other ∷ rest
   pub differs : other ≢ stop
 
--- n bytes with `stop` behind them aren't at the start of the text
+-- n bytes followed by `stop` aren't at the start of the text
 abbrev pub FailsField : ℕ → ℕ → ℕ → List ℕ → TextFault → Type 0
 FailsField n stop from text (Syntax at) = BytesThenOther n stop text × (at ≡ from + n)
 FailsField n stop from text (Large at) = ⊥
@@ -86,7 +86,7 @@ pub record FailsItem {X : Type 0} (spelling : ℕ → List ℕ → X → Type 0)
   pub fault : form.HasFault spelling greatest from text f
   pub no_item : IsOfText f → form.HasNoItem spelling greatest text
 
--- the same of an amending text, where removals are taken, or else of a native one
+-- the same of an amending text, if removals are taken, or else of a native one
 abbrev pub FailsEntry : Bool → ℕ → ℕ → List ℕ → TextFault → Type 0
 FailsEntry true greatest from text f = FailsItem SpellsChange greatest from text f
 FailsEntry false greatest from text f = FailsItem Spells greatest from text f

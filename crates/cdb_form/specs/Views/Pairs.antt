@@ -14,14 +14,14 @@ use Rattle.cdb_form.specs.declared.pair.TwoWords.{TwoWords}
 use Rattle.cdb_form.specs.declared.record.Record.{Record}
 use Rattle.cdb_form.specs.declared.slot.Slot.{Slot}
 
--- a record without where it lies in memory
+-- a record without its place in memory
 abbrev pub key_value : Record → KeyValue
 key_value r = record { key = r.key.items; value = r.value.items }
 
 abbrev pub key_values : List Record → List KeyValue
 key_values rs = map key_value rs
 
--- an item without where it lies in memory
+-- an item without its place in memory
 abbrev pub change_of : Item → Change
 change_of (Put r) = Putting (key_value r)
 change_of (Remove key) = Removing key.items

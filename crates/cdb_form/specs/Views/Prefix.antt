@@ -8,14 +8,14 @@ use Rattle.cdb_form.specs.declared.text.prefix.PrefixLengths.{PrefixLengths}
 use Rattle.cdb_form.specs.declared.text.prefix.PrefixNumeral.{PrefixNumeral}
 use Rattle.cdb_form.specs.declared.text.prefix.PeekedRecord.{PeekedRecord}
 
--- a numeral with `stop` behind it
+-- a numeral followed by `stop`
 pub record BeginsWithNumeral (stop : ℕ) (bytes : List ℕ) (n : PrefixNumeral) : Type 0 where
   pub digits : List ℕ
   pub is : IsNumeral digits n.value
   pub front : take n.end bytes ≡ digits ++ stop ∷ []
   pub within : n.end ≤ length bytes
 
--- what stands before the key of a record, whose lengths are at most `greatest`
+-- what precedes the key of a record, whose lengths are at most `greatest`
 pub record BeginsWithLengths (greatest : ℕ) (bytes : List ℕ) (l : PrefixLengths) : Type 0 where
   pub klen : List ℕ
   pub vlen : List ℕ
@@ -26,7 +26,7 @@ pub record BeginsWithLengths (greatest : ℕ) (bytes : List ℕ) (l : PrefixLeng
   pub front : take l.end bytes ≡ codes "+" ++ klen ++ codes "," ++ vlen ++ codes ":"
   pub within : l.end ≤ length bytes
 
--- a key and a value of these lengths, with what stands behind each
+-- a key and a value of these lengths, with what follows each
 pub record BeginsWithBody (klen vlen : ℕ) (bytes : List ℕ) : Type 0 where
   pub front : take (klen + vlen + 3) bytes ≡ take klen bytes ++ codes "->"
       ++ take vlen (drop (klen + 2) bytes) ++ codes "\n"
@@ -47,7 +47,7 @@ pub record IsStored (w : ℕ) (bytes : List ℕ) (n : ℕ) (r : KeyValue) : Type
   pub is : prefix_record w (take n bytes) ≡ r
   pub within : n ≤ length bytes
 
--- how many bytes the record at the start of some bytes has, where it is whole there
+-- how many bytes the record at the start of some bytes has, if it is whole there
 abbrev pub PrefixTells : ℕ → List ℕ → Option ℕ → Type 0
 PrefixTells w bytes None = length bytes < prefix_size w bytes
 PrefixTells w bytes (Some n) = (n ≡ prefix_size w bytes) × (n ≤ length bytes)

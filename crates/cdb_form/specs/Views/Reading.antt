@@ -1,4 +1,4 @@
--- What a clause says of a reader that did not give what it was asked for.
+-- What a clause says of a reader that did not give the bytes requested.
 use Rattle.std.specs.Prelude.{ℕ, ◌≡◌, ◌+◌, ◌≤◌, ◌⊎◌, ◌++◌, List, [], length, Option, ⊤}
 use Rattle.std.specs.Io.KnownBytes.{Consumes, IsAtEnd}
 use Rattle.cdb_form.specs.Format.Record.{KeyValue}
@@ -12,7 +12,7 @@ use Rattle.cdb_form.specs.declared.reading_whole.Extent.TheVariants.{All, More}
 use Rattle.cdb_form.specs.declared.reading.ReadStop.{ReadStop}
 use Rattle.cdb_form.specs.declared.reading.ReadStop.TheVariants.{Ended, Failed, Spent, NoMemory}
 
--- the reader itself failed, or was asked as often as it may be
+-- the reader itself failed, or got as many requests as it may
 abbrev pub IsOfReader : ReadStop → Type 0
 IsOfReader Failed = ⊤
 IsOfReader Spent = ⊤
@@ -39,7 +39,7 @@ Gives n old new bytes More = GivesMore n old new bytes
 abbrev pub ReadsNoFurther : ℕ → Option (List ℕ) → Option (List ℕ) → Type 0
 ReadsNoFurther n old new = LosesAtMost old new n ⊎ IsAtEnd new
 
--- bytes were read: whatever stands behind them, the walk of both is a record and then that of the
+-- bytes were read: whatever follows them, the walk of both is a record and then that of the
 -- rest
 pub record ReadsFirst (r : KeyValue) (walk rest : List ℕ → Walked) (old new : Option (List ℕ))
     : Type 0 where

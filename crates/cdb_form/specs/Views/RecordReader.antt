@@ -25,7 +25,7 @@ walk_of_rest w (At area) text = walk_from w area.place area.end text
 walk_of_rest w AtEnd text = no_walk
 walk_of_rest w (Failed fault) text = stopped_by fault
 
--- how many of the unread bytes stand before the record end, or in the head
+-- how many of the unread bytes precede the record end, or lie in the head
 abbrev pub size_of_rest : ℕ → Progress → List ℕ → ℕ
 size_of_rest w AtHead text = max (head_size w) (record_end w text)
 size_of_rest w (At area) text = area.end - area.place
@@ -45,7 +45,7 @@ is_going (At area) = ⊤
 is_going AtEnd = ⊥
 is_going (Failed fault) = ⊥
 
--- the bytes that its reader has left, where they are known
+-- the bytes that its reader has left, if they are known
 abbrev pub unread : {R L : Type 0} → (R → Option (List ℕ)) → RecordReader R L → Option (List ℕ)
 unread remaining t = remaining t.reader
 
@@ -58,11 +58,11 @@ abbrev pub Between : {R L : Type 0} → (R → Option (List ℕ)) → (old new :
     → (List ℕ → List ℕ → Type 0) → Type 0
 Between remaining old new P = FromTo (unread remaining old) (unread remaining new) P
 
--- the walk that it is still to give, where these bytes are unread
+-- the walk that it is still to give, if these bytes are unread
 abbrev pub walk_left : {R L : Type 0} → ℕ → RecordReader R L → List ℕ → Walked
 walk_left w t text = walk_of_rest w t.walking text
 
--- what of the unread bytes stands behind the record end
+-- which of the unread bytes follow the record end
 abbrev pub behind_end : {R L : Type 0} → ℕ → RecordReader R L → List ℕ → List ℕ
 behind_end w t text = drop (size_of_rest w t.walking text) text
 
@@ -93,13 +93,13 @@ pub record HasPeeked {R L : Type 0} (w : ℕ) (held : R → List ℕ) (t : Recor
   pub going : t.walking ≡ At area
   pub begins : IsStored w (take (area.end - area.place) (held t.reader)) n r
 
--- what of a file stands behind its head and its records
+-- which bytes of a file follow its head and its records
 abbrev pub behind_records : ℕ → List ℕ → List ℕ
 behind_records w text = drop (max (head_size w) (record_end w text)) text
 
 -- a reader of a file gave these records so far: the walk of the file is these records and then the
 -- walk that is left,
--- and what stands behind the record end is still unread
+-- and what follows the record end is still unread
 abbrev pub GaveSoFar : {R L : Type 0} → ℕ → (R → Option (List ℕ)) → Option (List ℕ)
     → RecordReader R L → List KeyValue → Type 0
 GaveSoFar w remaining file t rs =
@@ -112,8 +112,8 @@ abbrev pub headers_left : ℕ → Progress → ℕ
 headers_left w AtHead = head_size w + pair_size w
 headers_left w _ = pair_size w
 
--- a call gave a record: the first of the walk that was left, whatever stands behind what was read.
--- What stands behind the record end is still unread.
+-- a call gave a record: the first of the walk that was left, whatever follows what was read.
+-- What follows the record end is still unread.
 pub record GivesRecord {R L : Type 0} (w : ℕ) (remaining : R → Option (List ℕ))
     (old new : RecordReader R L) (r : KeyValue) : Type 0 where
   pub walk : Between remaining old new
@@ -136,7 +136,7 @@ abbrev pub GivesKey : {R L : Type 0} → ℕ → (R → Option (List ℕ)) → (
 GivesKey w remaining old new key =
     (r : KeyValue) × (r.key ≡ key) × GivesRecord w remaining old new r
 
--- a call told the end: the walk that was left has no record and no damage. What stands behind the
+-- a call reported the end: the walk that was left has no record and no damage. What follows the
 -- record end is all that is unread.
 pub record GivesEnd {R L : Type 0} (w : ℕ) (remaining : R → Option (List ℕ))
     (old new : RecordReader R L) : Type 0 where

@@ -1,4 +1,4 @@
--- What a source gave of a text, and how often it may still be asked.
+-- What a source gave of a text, and how many requests it may still get.
 use Rattle.std.specs.Io.KnownBytes.{Consumes}
 use Rattle.std.specs.Prelude.{List, Option, length, take, ◌*◌, ◌+◌, ◌≡◌, ◌≢◌, ◌≤◌, ℕ}
 use Rattle.cdb_form.specs.Views.TextFault.{IsOfText, IsSpent}
@@ -6,11 +6,11 @@ use Rattle.cdb_form.specs.declared.text.fault.TextFault.{TextFault}
 use Rattle.cdb_form.specs.declared.text.fault.TextFault.TheVariants.{NoMemory}
 use Rattle.cdb_form.specs.declared.text.source.Source.{Source}
 
--- each byte that a source gave took at most 1001 asks
+-- each byte that a source gave took at most 1001 requests
 abbrev pub budget : {R : Type 0} → Source R → ℕ
 budget s = s.asks + 1001 * s.taken
 
--- the bytes that a source has at hand, as many at most as it has asks left
+-- the bytes that a source has at hand, as many at most as it has requests left
 abbrev pub at_hand : {R : Type 0} → (R → List ℕ) → Source R → List ℕ
 at_hand held s = take s.asks (held s.reader)
 
@@ -20,8 +20,8 @@ pub record Takes {R : Type 0} (remaining : R → Option (List ℕ)) (old new : S
   pub read : Consumes (remaining old.reader) (remaining new.reader) bytes
   pub counted : new.taken ≡ old.taken + length bytes
 
--- What a fault leaves that is not one of the text: bytes with the property P were read. Asks last
--- for 1001 a byte.
+-- What a fault leaves that is not one of the text: bytes with the property P were read. Requests
+-- suffice for 1001 a byte.
 pub record LeavesAmid {R : Type 0} (P : List ℕ → Type 0) (remaining : R → Option (List ℕ))
     (old new : Source R) (f : TextFault) : Type 0 where
   pub outside : IsOfText f → ⊥

@@ -13,13 +13,13 @@ IsOfText (Ended at) = ⊤
 IsOfText (Large at) = ⊤
 IsOfText _ = ⊥
 
--- the reader itself failed, or was asked too often
+-- the reader itself failed, or got too many requests
 abbrev pub IsReadFault : TextFault → Type 0
 IsReadFault Input = ⊤
 IsReadFault Endless = ⊤
 IsReadFault _ = ⊥
 
--- `Endless` comes only where no ask is left
+-- `Endless` comes only if no request is left
 abbrev pub IsSpent : ℕ → TextFault → Type 0
 IsSpent asks fault = fault ≡ Endless → asks ≡ 0
 
@@ -32,14 +32,14 @@ text_number Input = 4
 text_number Endless = 5
 text_number NoMemory = 6
 
--- the fault of a text whose reader, after so many bytes, did not give what it was asked for
+-- the fault of a text whose reader, after so many bytes, did not give the bytes requested
 abbrev pub unread_fault : ℕ → ReadStop → TextFault
 unread_fault at unread.Ended = Ended at
 unread_fault at unread.Failed = Input
 unread_fault at unread.Spent = Endless
 unread_fault at unread.NoMemory = NoMemory
 
--- what stands beside the place of a fault, and the place
+-- what is written beside the place of a fault, and the place
 abbrev pub text_message : TextFault → List ℕ
 text_message (Syntax at) = codes "not a record"
 text_message (Ended at) = codes "text ends early"
@@ -54,14 +54,14 @@ text_place (Ended at) = Some at
 text_place (Large at) = Some at
 text_place _ = None
 
--- what a person reads of a fault: its place, where it has one, and its message
+-- what a person reads of a fault: its place, if it has one, and its message
 abbrev pub text_display : TextFault → List ℕ
 text_display (Syntax at) = codes "byte " ++ decimal at ++ codes ": " ++ text_message (Syntax at)
 text_display (Ended at) = codes "byte " ++ decimal at ++ codes ": " ++ text_message (Ended at)
 text_display (Large at) = codes "byte " ++ decimal at ++ codes ": " ++ text_message (Large at)
 text_display fault = text_message fault
 
--- how many bytes were read in all, where the text has this fault: the byte at its place was the
+-- how many bytes were read in all, if the text has this fault: the byte at its place was the
 -- last one
 abbrev pub LastRead : ℕ → TextFault → Type 0
 LastRead taken (Syntax at) = taken ≡ at + 1

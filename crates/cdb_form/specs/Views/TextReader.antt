@@ -6,7 +6,7 @@ use Rattle.cdb_form.specs.Views.FormReader as form
 use Rattle.cdb_form.specs.declared.text.fault.TextFault.{TextFault}
 use Rattle.cdb_form.specs.declared.text.native_reader.TextReader.{TextReader}
 
--- the bytes that its reader has left, where they are known
+-- the bytes that its reader has left, if they are known
 abbrev pub unread : {R L : Type 0} → (R → Option (List ℕ)) → TextReader R L → Option (List ℕ)
 unread remaining t = form.unread remaining t.items
 
@@ -14,7 +14,7 @@ unread remaining t = form.unread remaining t.items
 abbrev pub taken_of : {R L : Type 0} → TextReader R L → ℕ
 taken_of t = form.taken_of t.items
 
--- how often its reader may still be asked
+-- how many requests its reader may still get
 abbrev pub asks_left : {R L : Type 0} → TextReader R L → ℕ
 asks_left t = form.asks_left t.items
 
@@ -43,7 +43,7 @@ StopsAmid greatest from to text = form.StopsAmid Spells greatest from to text
 abbrev pub ReadsRecord : ℕ → Option (List ℕ) → Option (List ℕ) → ℕ → ℕ → KeyValue → Type 0
 ReadsRecord greatest old new from to r = form.ReadsItem Spells greatest old new from to r
 
--- Each byte takes at most 1001 asks: as many as are asked in a row where signals interrupt them.
+-- Each byte takes at most 1001 requests: as many as are made in a row if signals interrupt them.
 abbrev pub budget : {R L : Type 0} → TextReader R L → ℕ
 budget t = asks_left t + 1001 * taken_of t
 
@@ -53,7 +53,7 @@ abbrev pub GivesRecord : {R L : Type 0} → ℕ → (R → Option (List ℕ)) �
 GivesRecord greatest remaining old new r =
     form.GivesItem Spells greatest remaining old.items new.items r
 
--- a call told the end: the first such call took the newline that ends the text
+-- a call reported the end: the first such call took the newline that ends the text
 abbrev pub GivesEnd : {R L : Type 0} → (R → Option (List ℕ)) → TextReader R L
     → TextReader R L → Type 0
 GivesEnd remaining old new = form.GivesEnd remaining old.items new.items

@@ -35,7 +35,7 @@ walk_number (Record place) = 3
 walk_number Input = 4
 walk_number NoMemory = 5
 
--- the fault of a walk whose reader did not give what it was asked for, where it is `early` that it
+-- the fault of a walk whose reader did not give the bytes requested, if it is `early` that it
 -- had no more
 abbrev pub unread_walk : WalkFault → ReadStop → WalkFault
 unread_walk early unread.Ended = early
@@ -43,7 +43,7 @@ unread_walk early unread.Failed = Input
 unread_walk early unread.Spent = Input
 unread_walk early unread.NoMemory = NoMemory
 
--- what stands beside the numbered part of a file that a fault names, and the part with its number
+-- what is written beside the numbered part of a file that a fault names, and the part with its number
 abbrev pub walk_message : WalkFault → List ℕ
 walk_message Short = codes "database shorter than its head"
 walk_message (Table n) = codes "outside the file"
@@ -56,7 +56,7 @@ walk_part (Table n) = Some (codes "table ", n)
 walk_part (Record place) = Some (codes "record at ", place)
 walk_part _ = None
 
--- what a person reads of a fault: the part that it names, where it names one, and its message
+-- what a person reads of a fault: the part that it names, if it names one, and its message
 abbrev pub walk_display : WalkFault → List ℕ
 walk_display (Table n) = codes "table " ++ decimal n ++ codes ": " ++ walk_message (Table n)
 walk_display (Record place) =

@@ -19,7 +19,7 @@ use std::io::Read;
 /// Reads the items of an amending text, one after the other: the puts of a native text, and
 /// removals of keys.
 ///
-/// Its reader is asked for no byte past those that the answer needs, and for at most 4096 at once.
+/// It requests no byte past those that the answer needs, and at most 4096 at once.
 /// What follows the newline that ends the text stays unread.
 #[derive(Drop)]
 pub struct AmendReader<R, L> {
@@ -31,7 +31,7 @@ impl<R: Read, L: Width> AmendReader<R, L> {
     ghost use Rattle.cdb_form.specs.Views.AmendReader.{unread, taken_of, asks_left, IsGoing};
     ghost use Rattle.cdb_form.specs.Views.AmendReader.{HasEnded, HasFailed, HasPeeked, GivesChange};
     ghost use Rattle.cdb_form.specs.Views.AmendReader.{GivesEnd, Fails};
-    /// A reader of the text that `reader` gives, which may be asked 2^48 times.
+    /// A reader of the text that `reader` gives. It may request bytes 2^48 times.
     pub fn new(alloc: Global, reader: R) -> AmendReader<R, L>
         ensures unread { unread R.remaining result ≡ R.remaining reader }
         ensures taken { taken_of result ≡ 0 }
@@ -41,7 +41,7 @@ impl<R: Read, L: Width> AmendReader<R, L> {
         AmendReader::with_bound(alloc, reader, 1 << 48)
     }
 
-    /// A reader of the text that `reader` gives, which may be asked so many times.
+    /// A reader of the text that `reader` gives. It may request bytes `asks` times.
     pub fn with_bound(alloc: Global, reader: R, asks: u64) -> AmendReader<R, L>
         requires { asks ≤ 2 ^ 48 }
         ensures unread { unread R.remaining result ≡ R.remaining reader }
@@ -109,7 +109,8 @@ impl<R: Read, L: Width> AmendReader<R, L> {
         self.items.peek::<A>()
     }
 
-    /// Takes the record that `peek` shows, whose `len` this is. Each of its bytes counts as an ask.
+    /// Takes the record that `peek` shows, whose `len` this is. Each of its bytes counts as a
+    /// request.
     #[inline(always)]
     pub fn take_peeked<A: AtHand<R>>(&mut self, len: usize)
         requires { (r : KeyValue) × HasPeeked A.held L.GREATEST self.old len r }

@@ -1,10 +1,10 @@
-// The bytes that a reader can give without an ask.
+// The bytes that a reader can give without a request.
 ghost use Rattle.std.specs.Prelude.{◌≡◌, ◌≤◌, ℕ, List, [], length, take};
 ghost use Rattle.cdb_form.specs.Fed.Feed.{Consumes};
 
 use crate::feeds::Feeds;
 
-/// Which bytes a reader has at hand: its next ones, for which nothing is asked.
+/// Which bytes a reader has at hand: its next ones, which need no request.
 pub trait AtHand<R: Feeds> {
     /// The bytes at hand.
     ghost held: { R → List ℕ };
@@ -20,7 +20,7 @@ pub trait AtHand<R: Feeds> {
             (take n (held reader.old)) };
 }
 
-/// No byte is at hand: each is asked for.
+/// No byte is at hand: each is requested.
 #[derive(Clone, Copy, Debug)]
 pub struct NoneAtHand;
 

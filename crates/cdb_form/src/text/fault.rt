@@ -19,7 +19,7 @@ pub enum TextFault {
     Large(u64),
     /// The reader failed.
     Input,
-    /// The reader was asked as often as it may be, and more is needed.
+    /// The reader got as many requests as it may, and more is needed.
     Endless,
     /// Memory ran out.
     NoMemory,
@@ -40,7 +40,7 @@ impl TextFault {
         }
     }
 
-    /// The fault of a text whose reader, after so many bytes, did not give what it was asked for.
+    /// The fault of a text whose reader, after so many bytes, did not give the bytes requested.
     pub(crate) fn of_reader(unread: ReadStop, at: u64) -> TextFault
         ensures { result ≡ unread_fault at unread }
     {

@@ -32,7 +32,7 @@ impl<R: Feeds, L: Width> FormReader<R, L> {
     ghost use Rattle.cdb_form.specs.Views.FormReader.{HasEnded, HasFailed, HasPeeked, IsGoing};
     ghost use Rattle.cdb_form.specs.Views.FormReader.{asks_left, reader_of, taken_of};
 
-    /// A reader of the text that `reader` gives, which may be asked so many times.
+    /// A reader of the text that `reader` gives. It may request bytes `asks` times.
     pub fn new(reader: R, asks: u64) -> FormReader<R, L>
         requires { asks ≤ 2 ^ 48 }
         ensures reader { reader_of result ≡ reader }
@@ -66,7 +66,7 @@ impl<R: Feeds, L: Width> FormReader<R, L> {
         }
     }
 
-    /// Takes the record that `peek` shows. Each of its bytes counts as an ask.
+    /// Takes the record that `peek` shows. Each of its bytes counts as a request.
     #[inline(always)]
     pub fn take_peeked<A: AtHand<R>>(&mut self, len: usize)
         requires { (r : KeyValue) × HasPeeked A.held L.GREATEST self.old len r }

@@ -5,7 +5,7 @@ ghost use Rattle.cdb_form.specs.Views.MapParser.{is_of};
 
 use memchr::{memchr, memchr3};
 
-/// A kind of bytes that stand in a row.
+/// A kind of bytes that follow one another.
 #[derive(Clone, Copy)]
 pub(crate) enum Kind {
     /// A space or a tab.

@@ -13,7 +13,7 @@ use std::marker::PhantomData;
 
 /// Reads the keys of a list text, one after the other.
 ///
-/// Its reader is asked for no byte past those that the answer needs, and for at most 4096 at once.
+/// It requests no byte past those that the answer needs, and at most 4096 at once.
 /// What follows the newline that ends the text stays unread.
 #[derive(Drop)]
 pub struct ListReader<R, L> {
@@ -26,7 +26,7 @@ impl<R: Read, L: Width> ListReader<R, L> {
     ghost use Rattle.cdb_form.specs.Views.ListReader.{unread, taken_of, asks_left, IsGoing};
     ghost use Rattle.cdb_form.specs.Views.ListReader.{HasEnded, HasFailed, GivesKey, GivesEnd, Fails};
 
-    /// A reader of the text that `reader` gives, which may be asked 2^48 times.
+    /// A reader of the text that `reader` gives. It may request bytes 2^48 times.
     pub fn new(reader: R) -> ListReader<R, L>
         ensures unread { unread R.remaining result ≡ R.remaining reader }
         ensures taken { taken_of result ≡ 0 }
@@ -36,7 +36,7 @@ impl<R: Read, L: Width> ListReader<R, L> {
         ListReader::with_bound(reader, 1 << 48)
     }
 
-    /// A reader of the text that `reader` gives, which may be asked so many times.
+    /// A reader of the text that `reader` gives. It may request bytes `asks` times.
     pub fn with_bound(reader: R, asks: u64) -> ListReader<R, L>
         requires { asks ≤ 2 ^ 48 }
         ensures unread { unread R.remaining result ≡ R.remaining reader }
@@ -79,7 +79,7 @@ impl<R: Feeds, L: Width> ListReader<R, L> {
     ghost use Rattle.cdb_form.specs.Views.ListReader.{HasEnded, HasFailed, IsGoing, asks_left, reader_of};
     ghost use Rattle.cdb_form.specs.Views.ListReader.{taken_of};
 
-    /// A reader of the text that `reader` gives, which may be asked so many times.
+    /// A reader of the text that `reader` gives. It may request bytes `asks` times.
     pub fn fed(reader: R, asks: u64) -> ListReader<R, L>
         requires { asks ≤ 2 ^ 48 }
         ensures reader { reader_of result ≡ reader }

@@ -63,8 +63,8 @@ impl<R: Feeds> Source<R> {
         }
     }
 
-    /// Puts bytes of a kind that are at hand after what `into` holds. Each counts as an ask, as if
-    /// it had been asked for.
+    /// Puts bytes of a kind that are at hand after what `into` holds. Each counts as a request, as
+    /// if it had been requested.
     #[inline(always)]
     fn keep_at_hand<A: AtHand<R>>(
         &mut self,
@@ -181,7 +181,7 @@ impl<R: Feeds> Source<R> {
     }
 
     /// Takes a line as `line` does, a record's that is at hand by one step. Then each of its bytes
-    /// counts as an ask.
+    /// counts as a request.
     #[inline(always)]
     fn line_buffered<A: AtHand<R>>(&mut self, into: &mut Record) -> Result<LineRead, TextFault>
         ensures reads { IfOk result (ReadsLine R.feed self.old self.new

@@ -19,9 +19,9 @@ use std::io::Read;
 
 /// Reads the records of a map text, one after the other.
 ///
-/// Every input is a map text, so `Input`, `Endless` and `NoMemory` are its only faults. Its reader
-/// is asked for one byte at once, and for none after the newline of the record that it gives, nor
-/// after the end of the input.
+/// Every input is a map text, so `Input`, `Endless` and `NoMemory` are its only faults. It requests
+/// one byte at a time, and none after the newline of the record that it gives, nor after the end of
+/// the input.
 #[derive(Drop)]
 pub struct MapReader<R> {
     alloc: Global,
@@ -33,7 +33,7 @@ impl<R: Read> MapReader<R> {
     ghost use Rattle.cdb_form.specs.Views.MapReader.{unread, taken_of, asks_left, IsGoing};
     ghost use Rattle.cdb_form.specs.Views.MapReader.{HasEnded, HasFailed, HasPeeked, GivesRecord};
     ghost use Rattle.cdb_form.specs.Views.MapReader.{GivesEnd, Fails};
-    /// A reader of the text that `reader` gives, which may be asked 2^48 times.
+    /// A reader of the text that `reader` gives. It may request bytes 2^48 times.
     pub fn new(alloc: Global, reader: R) -> MapReader<R>
         ensures unread { unread R.remaining result ≡ R.remaining reader }
         ensures taken { taken_of result ≡ 0 }
@@ -43,7 +43,7 @@ impl<R: Read> MapReader<R> {
         MapReader::with_bound(alloc, reader, 1 << 48)
     }
 
-    /// A reader of the text that `reader` gives, which may be asked so many times.
+    /// A reader of the text that `reader` gives. It may request bytes `asks` times.
     pub fn with_bound(alloc: Global, reader: R, asks: u64) -> MapReader<R>
         requires { asks ≤ 2 ^ 48 }
         ensures unread { unread R.remaining result ≡ R.remaining reader }
@@ -65,7 +65,7 @@ impl<R: Read> MapReader<R> {
     ///
     /// After the end it answers `Ok(None)` for good, and after a fault that fault. If the last line
     /// has no newline, its record comes with the end. `Input` comes if the reader failed, or was
-    /// interrupted more than 1000 times in a row; `Endless` if no ask is left; `NoMemory` if an
+    /// interrupted more than 1000 times in a row; `Endless` if no request is left; `NoMemory` if an
     /// allocation failed.
     pub fn next(&mut self) -> Result<Option<Record>, TextFault>
         ensures gives { IfOk result (λ found. MatchOption found
@@ -95,7 +95,8 @@ impl<R: Read> MapReader<R> {
         self.read_buffered::<NoneAtHand>(into)
     }
 
-    /// Does what `read_into` does, and takes bytes at hand without an ask. Each counts as an ask.
+    /// Does what `read_into` does, and takes bytes at hand without a request. Each counts as a
+    /// request.
     pub fn read_buffered<A: AtHand<R>>(&mut self, into: &mut Record) -> Result<bool, TextFault>
         ensures gives { IfOk result (λ given. MatchBool given
             (GivesRecord R.remaining self.old self.new (key_value into.new))
@@ -108,7 +109,8 @@ impl<R: Read> MapReader<R> {
         self.read_fed::<A>(into)
     }
 
-    /// Takes the record that `peek` shows, whose `len` this is. Each of its bytes counts as an ask.
+    /// Takes the record that `peek` shows, whose `len` this is. Each of its bytes counts as a
+    /// request.
     #[inline(always)]
     pub fn take_peeked<A: AtHand<R>>(&mut self, len: usize)
         requires { (r : KeyValue) × HasPeeked A.held self.old len r }
@@ -124,7 +126,7 @@ impl<R: Feeds> MapReader<R> {
     ghost use Rattle.cdb_form.specs.Views.MapReader.{HasEnded, HasFailed, HasPeeked, IsGoing, asks_left};
     ghost use Rattle.cdb_form.specs.Views.MapReader.{reader_of, taken_of};
 
-    /// A reader of the text that `reader` gives, which may be asked so many times.
+    /// A reader of the text that `reader` gives. It may request bytes `asks` times.
     pub fn fed(alloc: Global, reader: R, asks: u64) -> MapReader<R>
         requires { asks ≤ 2 ^ 48 }
         ensures reader { reader_of result ≡ reader }

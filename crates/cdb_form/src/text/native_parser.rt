@@ -97,7 +97,7 @@ impl<R: Feeds> Source<R> {
     }
 
     /// Takes the next `len` bytes, and `stop` after them: the text goes on with `len + 1` bytes of
-    /// any kind or ends early, so they are asked for together.
+    /// any kind or ends early, so they are requested together.
     #[inline(always)]
     fn field(&mut self, into: &mut Vec<u8>, len: u64, stop: u8) -> Result<(), TextFault>
         requires { len < 2 ^ 63 }

@@ -16,7 +16,7 @@ use std::io::Read;
 
 /// Reads the records of a native text, one after the other.
 ///
-/// Its reader is asked for no byte past those that the answer needs, and for at most 4096 at once.
+/// It requests no byte past those that the answer needs, and at most 4096 at once.
 /// What follows the newline that ends the text stays unread.
 #[derive(Drop)]
 pub struct TextReader<R, L> {
@@ -28,7 +28,7 @@ impl<R: Read, L: Width> TextReader<R, L> {
     ghost use Rattle.cdb_form.specs.Views.TextReader.{unread, taken_of, asks_left, IsGoing};
     ghost use Rattle.cdb_form.specs.Views.TextReader.{HasEnded, HasFailed, HasPeeked, GivesRecord};
     ghost use Rattle.cdb_form.specs.Views.TextReader.{GivesEnd, Fails};
-    /// A reader of the text that `reader` gives, which may be asked 2^48 times.
+    /// A reader of the text that `reader` gives. It may request bytes 2^48 times.
     pub fn new(alloc: Global, reader: R) -> TextReader<R, L>
         ensures unread { unread R.remaining result ≡ R.remaining reader }
         ensures taken { taken_of result ≡ 0 }
@@ -38,7 +38,7 @@ impl<R: Read, L: Width> TextReader<R, L> {
         TextReader::with_bound(alloc, reader, 1 << 48)
     }
 
-    /// A reader of the text that `reader` gives, which may be asked so many times.
+    /// A reader of the text that `reader` gives. It may request bytes `asks` times.
     pub fn with_bound(alloc: Global, reader: R, asks: u64) -> TextReader<R, L>
         requires { asks ≤ 2 ^ 48 }
         ensures unread { unread R.remaining result ≡ R.remaining reader }
@@ -63,8 +63,8 @@ impl<R: Read, L: Width> TextReader<R, L> {
     ///
     /// After the end it answers `Ok(None)` for good, and after a fault that fault. `Syntax`,
     /// `Ended` and `Large` are the fault of the text, with its place in bytes from the reader's
-    /// first one; `Input` comes if the reader failed, or was interrupted more than 1000 times
-    /// in a row; `Endless` if no ask is left; `NoMemory` if an allocation failed.
+    /// first one; `Input` comes if the reader failed, or was interrupted more than 1000 times in a
+    /// row; `Endless` if no request is left; `NoMemory` if an allocation failed.
     pub fn next(&mut self) -> Result<Option<Record>, TextFault>
         ensures gives { IfOk result (λ found. MatchOption found
             (GivesEnd R.remaining self.old self.new)
@@ -104,7 +104,8 @@ impl<R: Read, L: Width> TextReader<R, L> {
         self.items.peek::<A>()
     }
 
-    /// Takes the record that `peek` shows, whose `len` this is. Each of its bytes counts as an ask.
+    /// Takes the record that `peek` shows, whose `len` this is. Each of its bytes counts as a
+    /// request.
     #[inline(always)]
     pub fn take_peeked<A: AtHand<R>>(&mut self, len: usize)
         requires { (r : KeyValue) × HasPeeked A.held L.GREATEST self.old len r }

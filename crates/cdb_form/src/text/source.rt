@@ -1,4 +1,4 @@
-// A reader of a text, with the count of what it gave and of how often it may still be asked.
+// A reader of a text, with the count of what it gave and of the requests that it may still get.
 ghost use Rattle.std.specs.Prelude.{◌≡◌, ◌+◌, ◌*◌, ◌^◌, ◌<◌, ◌≤◌, [], ◌∷◌, length, take};
 ghost use Rattle.std.specs.Prelude.{OnOk, OnErr, IfOk, IfErr, MatchOption};
 ghost use Rattle.cdb_form.specs.Fed.Feed.{Consumes, IsAtEnd, Keeps};
@@ -8,10 +8,10 @@ use crate::reading::{some_bytes, vector};
 use crate::text::at_hand::{AtHand, window_within};
 use crate::text::fault::TextFault;
 
-/// How many bytes of a key or value are asked for at once.
+/// How many bytes of a key or value are requested at once.
 const PIECE: u64 = 4096;
 
-/// A reader with the count of the bytes that it gave, and of the asks that it has left.
+/// A reader with the count of the bytes that it gave, and of the requests that it has left.
 #[derive(Drop)]
 pub(crate) struct Source<R> {
     pub(crate) reader: R,
@@ -28,7 +28,7 @@ impl<R: Feeds> Source<R> {
     ghost use Rattle.cdb_form.specs.Views.Source.{at_hand, budget};
     ghost use Rattle.cdb_form.specs.Views.TextFault.{IsReadFault, IsSpent};
 
-    /// A reader that gave nothing yet, and may be asked so often.
+    /// A reader that gave nothing yet, and may get `asks` requests.
     pub(crate) fn new(reader: R, asks: u64) -> Source<R>
         requires { asks ≤ 2 ^ 48 }
         ensures reader { result.reader ≡ reader }
@@ -73,7 +73,7 @@ impl<R: Feeds> Source<R> {
         Ok(Some(one[0]))
     }
 
-    /// The bytes at hand, as many at most as there are asks left.
+    /// The bytes at hand, as many at most as there are requests left.
     #[inline(always)]
     pub(crate) fn at_hand<A: AtHand<R>>(&self) -> &[u8]
         ensures { result.now ≡ at_hand A.held self.now }
@@ -81,7 +81,7 @@ impl<R: Feeds> Source<R> {
         window_within::<R, A>(&self.reader, self.asks)
     }
 
-    /// Takes the first `n` of the bytes at hand. Each counts as an ask.
+    /// Takes the first `n` of the bytes at hand. Each counts as a request.
     #[inline(always)]
     pub(crate) fn take_at_hand<A: AtHand<R>>(&mut self, n: usize)
         requires { n ≤ length (at_hand A.held self.old) }
@@ -94,8 +94,8 @@ impl<R: Feeds> Source<R> {
         self.taken += n as u64;
     }
 
-    /// The next byte, or `None` at the end. One that is at hand is taken without an ask, and counts
-    /// as one.
+    /// The next byte, or `None` at the end. A byte at hand is taken without a request, and counts
+    /// as a request.
     #[inline(always)]
     pub(crate) fn next_byte<A: AtHand<R>>(&mut self) -> Result<Option<u8>, TextFault>
         ensures bytes { IfOk result (λ found. MatchOption found
@@ -121,7 +121,7 @@ impl<R: Feeds> Source<R> {
         Ok(Some(byte))
     }
 
-    /// Takes the next `len` bytes. Memory is asked for as they come, a piece ahead.
+    /// Takes the next `len` bytes. It allocates memory as they come, a piece ahead.
     #[inline(always)]
     pub(crate) fn bytes(&mut self, into: &mut Vec<u8>, len: u64) -> Result<(), TextFault>
         requires { len ≤ 2 ^ 63 }

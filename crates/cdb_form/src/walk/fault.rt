@@ -37,8 +37,8 @@ impl WalkFault {
         }
     }
 
-    /// The fault of a walk whose reader did not give what it was asked for, if it is `early`
-    /// that it had no more.
+    /// The fault of a walk whose reader did not give the bytes requested, if it is `early` that it
+    /// had no more.
     pub(crate) fn of_reader(unread: ReadStop, early: WalkFault) -> WalkFault
         ensures { result ≡ unread_walk early unread }
     {

@@ -39,8 +39,7 @@ pub(crate) enum Progress {
 
 /// Reads the records of a database file, one after the other, in one pass.
 ///
-/// Its reader is asked for no byte past those that the answer needs. What follows the record
-/// end stays unread.
+/// It requests no byte past those that the answer needs. What follows the record end stays unread.
 #[derive(Drop)]
 pub struct RecordReader<R, L> {
     alloc: Global,

@@ -20,8 +20,9 @@ use crate::walk::fault::WalkFault;
 use crate::walk::keeping::Keeping;
 use crate::width::Width;
 
-/// How often a reader may be asked for the bytes of one vector: each ask gives a byte or is one of
-/// at most 1000 in a row that signals interrupt, so no vector that memory can hold takes as many.
+/// How many requests a reader may get for the bytes of one vector: each request gives a byte or is
+/// one of at most 1000 in a row that signals interrupt, so no vector that memory can hold takes as
+/// many.
 const ASKS: u64 = u64::MAX;
 
 /// How many bytes of a value that is passed over are requested at once.

@@ -12,7 +12,7 @@ use std::test::Fail;
 
 const MIXED: &[u8] = b"+3,5:one->Hello\n-3:one\n-0:\n+0,0:->\n-003:two\n\n";
 
-/// Puts a record as `<key|value>` behind others, or a removal as `[key]`.
+/// Puts a record as `<key|value>` after others, or a removal as `[key]`.
 fn show(kind: ItemKind, record: &Record, shown: &mut Vec<u8>) -> Result<(), AllocError> {
     let parts: [&[u8]; 5] = match kind {
         ItemKind::Put => [b"<", &record.key, b"|", &record.value, b">"],
@@ -24,7 +24,7 @@ fn show(kind: ItemKind, record: &Record, shown: &mut Vec<u8>) -> Result<(), Allo
     Ok(())
 }
 
-/// The items, shown, and the fault behind them. No more than 2^48 asks are allowed.
+/// The items, shown, and the fault after them. No more than 2^48 requests are allowed.
 fn read_all<L: Width, R: Read + Drop>(
     alloc: Global,
     reader: R,
@@ -85,7 +85,7 @@ const READ: [(&[u8], &[u8], Option<TextFault>); 15] = [
 const WIDE: [(&[u8], &[u8], Option<TextFault>); 4] = [
     (b"-3:one\n\n", b"[one]", None),
     (b"-4294967296:", b"", Some(TextFault::Ended(12))),
-    // Memory is asked for only as bytes come.
+    // Memory is allocated only as bytes come.
     (b"-9223372036854775807:", b"", Some(TextFault::Ended(21))),
     (b"-9223372036854775808:", b"", Some(TextFault::Large(19))),
 ];

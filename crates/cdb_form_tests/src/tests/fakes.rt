@@ -1,10 +1,10 @@
-// Readers and writers that fail when they are told to.
+// Readers and writers that fail on command.
 use cdb_form::OutFault;
 use std::alloc::Global;
 use std::io::{self, ErrorKind, Read, Write};
 use std::prelude::*;
 
-/// What a reader does behind its text.
+/// What a reader does after its text.
 #[derive(Clone, Copy, PartialEq, Eq)]
 pub(super) enum Behind {
     End,
@@ -12,8 +12,8 @@ pub(super) enum Behind {
     ForEver(u8),
 }
 
-/// Gives a text in pieces, and counts the calls and notes the greatest ask. Before each piece it is
-/// interrupted so often.
+/// Gives a text in pieces, and counts the calls and notes the greatest request. Before each piece
+/// it is interrupted so often.
 #[derive(Drop)]
 pub(super) struct FakeReader<'a> {
     pub(super) text: &'a [u8],

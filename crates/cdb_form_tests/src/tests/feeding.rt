@@ -18,7 +18,7 @@ fn is_same(given: &Record, wanted: &Record) -> bool {
         && given.value.as_slice() == wanted.value.as_slice()
 }
 
-/// How many keys a list has, if both readers give the same ones, the same end or fault behind them,
+/// How many keys a list has, if both readers give the same ones, the same end or fault after them,
 /// and leave the same bytes.
 fn keys(alloc: Global, text: &[u8], behind: Behind) -> Option<usize> {
     let mut old: ListReader<FakeReader<'_>, Narrow> = ListReader::new(FakeReader::new(
@@ -133,7 +133,7 @@ fn bytes(alloc: Global, text: &[u8], behind: Behind) -> Option<usize> {
     (is_same && fed.text == old.text).then_some(given.len())
 }
 
-/// List texts, what their reader does behind them, and how many keys they have.
+/// List texts, what their reader does after them, and how many keys they have.
 const KEYS: [(&[u8], Behind, usize); 5] = [
     (b"+3:one\n+5:three\n\nrest", Behind::End, 2),
     (b"+3:one\n+5:th", Behind::End, 1),

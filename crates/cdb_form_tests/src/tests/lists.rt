@@ -5,8 +5,8 @@ use std::alloc::Global;
 use std::prelude::*;
 use std::test::Fail;
 
-// How many keys the list has and how long they are together, and its fault. No more than 2^48 asks
-// are allowed.
+// How many keys the list has and how long they are together, and its fault. No more than 2^48
+// requests are allowed.
 fn read_all<L: Width>(
     alloc: Global,
     reader: FakeReader<'_>,

@@ -20,7 +20,7 @@ use std::test::Fail;
 
 const SIX_LINES: &[u8] = b"  one Hello\n# note\n\n  # more\n \t\nkey\ntwo\t \tGood bye";
 
-/// Puts a record as `<key|value>` behind others.
+/// Puts a record as `<key|value>` after others.
 fn show(record: &Record, shown: &mut Vec<u8>) -> Result<(), AllocError> {
     let parts: [&[u8]; 5] = [b"<", &record.key, b"|", &record.value, b">"];
     for part in parts {
@@ -29,7 +29,7 @@ fn show(record: &Record, shown: &mut Vec<u8>) -> Result<(), AllocError> {
     Ok(())
 }
 
-/// Each record as `<key|value>`, and the fault behind them. No more than 2^48 asks are allowed.
+/// Each record as `<key|value>`, and the fault after them. No more than 2^48 requests are allowed.
 fn read_all<R: Read + Drop>(
     alloc: Global,
     reader: R,

@@ -1,5 +1,5 @@
-// Readers whose asks for memory `tests/faults/calls.py` refuses, each in turn. It reads what a
-// test prints: whether the refusal came to the reader.
+// Readers whose allocations `tests/faults/calls.py` refuses, each in turn. It reads what a test
+// prints: whether the refusal came to the reader.
 use super::changes::is_removal;
 use cdb_form::{AmendReader, MapReader, Narrow, TextFault};
 use std::alloc::Global;

@@ -8,7 +8,7 @@ use std::test::Fail;
 
 const TWO: &[u8] = b"+3,5:one->Hello\n+3,7:two->Goodbye\n\n";
 
-// How many records the text has, and its fault. No more than 2^48 asks are allowed.
+// How many records the text has, and its fault. No more than 2^48 requests are allowed.
 fn read_all<L: Width, R: Read + Drop>(
     alloc: Global,
     reader: R,
@@ -59,7 +59,7 @@ fn records_and_refused_texts(rt: HostRuntime) {
 /// Texts in wide words, and their faults.
 const WIDE: [(&[u8], TextFault); 3] = [
     (b"+4294967296,0:", TextFault::Ended(14)),
-    // Memory is asked for only as bytes come.
+    // Memory is allocated only as bytes come.
     (b"+9223372036854775807,0:", TextFault::Ended(23)),
     (b"+9223372036854775808,0:", TextFault::Large(19)),
 ];

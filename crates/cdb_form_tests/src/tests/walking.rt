@@ -66,7 +66,7 @@ const TWO_BODY: &[u8] = b"\x03\0\0\0\x05\0\0\0oneHello\x03\0\0\0\x07\0\0\0twoGoo
     \x29\x60\x87\x0b\x10\x08\0\0\0\0\0\0\0\0\0\0\
     \0\0\0\0\0\0\0\0\x81\x5b\x87\x0b\0\x08\0\0";
 
-// The file of two records, whose tables stand at 2082 and 2098.
+// The file of two records, whose tables begin at 2082 and 2098.
 pub(super) fn two_file(alloc: Global) -> Result<Vec<u8>, AllocError> {
     let mut file = Vec::new(alloc);
     for n in 0..256usize {
@@ -170,12 +170,12 @@ fn a_longer_file(rt: HostRuntime) -> Result<(), Fail> {
 type Changed = (usize, &'static [u8], usize, Option<WalkFault>);
 
 const CHANGED: [Changed; 9] = [
-    // a table behind the end, and a pointer of all ones
+    // a table after the end, and a pointer of all ones
     (56, b"\x42\x08\0\0\x01\0\0\0", 2, None),
     (1032, b"\xff\xff\xff\xff\xff\xff\xff\xff", 2, None),
-    // a slot that tells no record's place
+    // a slot without a record's place
     (2086, b"\x11", 2, None),
-    // a value that reaches behind the record end, and lengths that reach behind every file
+    // a value that reaches past the record end, and lengths that reach past the end of every file
     (2068, b"\x08", 1, Some(WalkFault::Record(2064))),
     (2048, b"\xff\xff\xff\xff", 0, Some(WalkFault::Record(2048))),
     (
@@ -184,7 +184,7 @@ const CHANGED: [Changed; 9] = [
         0,
         Some(WalkFault::Record(2048)),
     ),
-    // tables that stand within the head: the first one is told, and one of no slots is none
+    // tables that begin within the head: the first is reported; one without slots does not count
     (0, b"\x64\0\0\0\x01\0\0\0", 0, Some(WalkFault::Table(0))),
     (
         24,
@@ -263,7 +263,7 @@ fn wide_files(rt: HostRuntime) -> Result<(), Fail> {
     Ok(())
 }
 
-/// A wide file whose tables lie far behind it: a header of these lengths, and ten bytes.
+/// A wide file whose tables lie far past its end: a header of these lengths, and ten bytes.
 fn far_file(alloc: Global, klen: u64, vlen: u64) -> Result<Vec<u8>, AllocError> {
     let mut file = Vec::new(alloc);
     for _ in 0..256usize {

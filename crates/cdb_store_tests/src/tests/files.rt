@@ -23,7 +23,7 @@ fn has_two<S: Store>(store: &mut S) -> bool {
     store.len() == 2 && store.read_at(0, &mut into).is_ok() && into == *b"xy"
 }
 
-/// Whether a store is `xy`, and stays so where a write and a cut fail.
+/// Whether a store is `xy`, and stays so when a write and a cut fail.
 fn only_gives_two<S: Store>(store: &mut S) -> bool {
     let failed = Err(StoreFault::Device);
     let is_there = has_two(store);
@@ -39,7 +39,7 @@ fn a_file_is_made_written_cut_and_read(rt: HostRuntime) -> Result<(), Fail> {
     Ok(())
 }
 
-/// Whether a name is told as a device that failed.
+/// Whether a name is reported as a device that failed.
 fn opening_fails(rt: &HostRuntime, name: &str) -> bool {
     match FileStore::open(rt, name) {
         Ok(_) => false,
@@ -164,7 +164,7 @@ fn a_full_device(rt: HostRuntime) -> Result<(), Fail> {
     Ok(())
 }
 
-/// Leaves a file of 5 GiB of which the last two bytes alone are written, where there is room.
+/// Leaves a file of 5 GiB of which the last two bytes alone are written, if there is room.
 fn leave_long(rt: &HostRuntime, name: &str) -> Result<bool, Fail> {
     let file = File::create(rt, name)?;
     match file.write_at(b"xy", (5 << 30) - 2) {

@@ -5,7 +5,7 @@ use cdb_store::{FuseStore, MemStore, Store, StoreFault};
 use std::alloc::Global;
 use std::test::Fail;
 
-/// What a write at the end of a store answers, if that is where the store ends.
+/// What a write at `pos` answers, if the store ends there.
 fn append<S: Store>(store: &mut S, pos: u64, bytes: &[u8]) -> Option<Result<(), StoreFault>> {
     if store.len() != pos || pos > 9 || bytes.len() > 9 {
         return None;
@@ -53,8 +53,8 @@ fn other_calls_fail_and_do_nothing(rt: HostRuntime) -> Result<(), Fail> {
     Ok(())
 }
 
-/// How many calls of the script fail over a buffer whose inner store fails the call behind so
-/// many, where each that is made again goes well and the bytes are right at last.
+/// How many calls of the script fail over a buffer whose inner store fails the call after so many,
+/// if each call that is made again succeeds and the bytes are right at last.
 fn faults_below(alloc: Global, capacity: usize, limit: u64) -> Result<Option<u64>, Fail> {
     let inner = FuseStore::new(MemStore::new(alloc), limit, 1);
     let mut store = buffered(alloc, inner, capacity)?;

@@ -3,14 +3,14 @@ use cdb_store::{BufferedStore, MemStore, Store, StoreFault};
 use std::alloc::Global;
 use std::test::Fail;
 
-/// Whether writes in a new store, over what is there and behind it, leave `aXYd`.
+/// Whether writes in a new store, over what is there and after it, leave `aXYd`.
 fn writes(store: &mut MemStore) -> bool {
     let is_written = store.write_at(0, b"abc").is_ok() && store.write_at(1, b"XY").is_ok();
     let is_longer = store.len() == 3 && store.write_at(3, b"d").is_ok();
     is_written && is_longer && store.bytes() == b"aXYd".as_slice() && store.len() == 4
 }
 
-/// Whether a store of `aXYd` gives what stands in its middle, and leaves its first two bytes.
+/// Whether a store of `aXYd` gives the bytes in its middle, and leaves its first two bytes.
 fn reads_and_cuts(store: &mut MemStore) -> bool {
     let mut into = [0; 2];
     let is_read = store.len() >= 4 && store.read_at(1, &mut into).is_ok() && into == *b"XY";

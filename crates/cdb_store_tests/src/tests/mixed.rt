@@ -83,7 +83,7 @@ fn write<S: Store>(store: &mut S, pos: u64, bytes: &[u8], in_parts: bool) -> boo
     store.write_parts(pos, first, second, third).is_ok()
 }
 
-/// Makes a call, and tells whether it answered Ok, and the sum over the bytes that it read.
+/// Makes a call, and says whether it answered Ok, and the sum over the bytes that it read.
 fn make<S: Store>(
     store: &mut S,
     step: Step,

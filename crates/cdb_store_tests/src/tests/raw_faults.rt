@@ -4,7 +4,7 @@ use super::support::fake::{FakeFile, Trouble};
 use cdb_store::{FileStore, Store, StoreFault};
 use std::test::Fail;
 
-/// The last raw call of the script where none is in trouble. Its first is 1: raw call 0 asks for
+/// The last raw call of the script if no call is in trouble. Its first is 1: raw call 0 requests
 /// the length as the file is opened.
 const LAST: u64 = 9;
 
@@ -19,7 +19,7 @@ fn parts_and_interrupts_change_nothing(rt: HostRuntime) -> Result<(), Fail> {
             let file = FakeFile::new(Vec::new(rt.alloc()), first, count, trouble);
             let mut store = FileStore::over(file)?;
             let outcome = script(&mut store, false);
-            // a cut and a sync aren't asked again: std does so by itself
+            // a cut and a sync aren't made again: std does so by itself
             let is_once = (first == 7 || first == 8) && matches!(trouble, Trouble::Interrupted);
             assert!(rt;
                 outcome.is_right && outcome.failed == is_once as u64,
@@ -46,7 +46,7 @@ fn reads_and_writes_are_asked_1001_times(rt: HostRuntime) -> Result<(), Fail> {
     Ok(())
 }
 
-/// Of a store of `abc`, whether a read answered Ok and gave that, and whether a write behind it
+/// Of a store of `abc`, whether a read answered Ok and gave that, and whether a write after it
 /// answered Ok and the store is longer then.
 fn reads_and_writes<S: Store>(store: &mut S) -> [bool; 4] {
     let mut into = [0; 3];
@@ -92,7 +92,7 @@ fn each_other_call<S: Store>(store: &mut S) -> [bool; 4] {
 
 #[test]
 fn the_length_is_asked_after_a_failed_write(rt: HostRuntime) -> Result<(), Fail> {
-    // what the file tells, the length then, and whether the store goes on
+    // what length the file reports, the length then, and whether the store goes on
     for (told, len, goes_on) in [
         (5, 6, false),
         (6, 6, true),

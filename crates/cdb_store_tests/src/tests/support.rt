@@ -1,4 +1,4 @@
-// What several tests stand on.
+// What several tests use.
 pub mod again;
 pub mod buffered;
 pub mod fake;

@@ -8,7 +8,7 @@ use super::support::buffered::buffered;
 use cdb_store::{FileStore, MemStore, Store, StoreFault};
 use std::test::Fail;
 
-/// Writes some bytes at the end of a store, and answers where they stand.
+/// Writes some bytes at the end of a store, and answers their place.
 ///
 /// Whatever the answer, what the store held it still holds.
 fn append<S: Store>(store: &mut S, bytes: &[u8]) -> Result<u64, StoreFault>

@@ -1,7 +1,7 @@
 use Rattle.cdb_form.proofs.Words.{drop, flat_map, length, map, pair_bytes, pointer_pair, take, ◌*◌, ◌++◌, ◌≡◌}
 use Rattle.cdb_form.proofs.head.write_head.Given as goal
 
--- what is written so far, and what stands behind it
+-- what is written so far, and what follows it
 abbrev pub invariant-loop-n : goal.invariant-loop-n
 invariant-loop-n g l =
     record {

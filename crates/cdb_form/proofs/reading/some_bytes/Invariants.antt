@@ -1,7 +1,7 @@
 use Rattle.cdb_form.proofs.Words.{Keeps, length, ◌+◌, ◌≡◌, ◌≤◌}
 use Rattle.cdb_form.proofs.reading.some_bytes.Given as goal
 
--- nothing was read yet, and each call took an ask
+-- nothing was read yet, and each call took a request
 abbrev pub invariant-loop : goal.invariant-loop
 invariant-loop g l =
     record {

@@ -1,7 +1,7 @@
 use Rattle.cdb_form.proofs.Words.{AreBytes, Consumes, length, take, ◌*◌, ◌+◌, ◌-◌, ◌≤◌}
 use Rattle.cdb_form.proofs.reading.vector.Given as goal
 
--- the bytes so far, each of which took an ask at least and 1001 at most
+-- the bytes so far, each of which took at least one request and at most 1001
 abbrev pub invariant-loop-done : goal.invariant-loop-done
 invariant-loop-done g l =
     record {

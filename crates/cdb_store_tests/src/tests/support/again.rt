@@ -1,4 +1,4 @@
-// A script of calls, each of which is called once again where it fails.
+// A script of calls, each of which is called once again if it fails.
 use cdb_store::{Store, StoreFault};
 
 /// What a script met.
@@ -21,7 +21,7 @@ impl Outcome {
     }
 }
 
-/// Writes, and again where that fails.
+/// Writes, and again if that fails.
 fn write<S: Store>(store: &mut S, pos: u64, bytes: &[u8], outcome: &mut Outcome) {
     if pos > store.len() || pos > 1 << 32 || bytes.len() > 4096 {
         outcome.is_right = false;
@@ -32,7 +32,7 @@ fn write<S: Store>(store: &mut S, pos: u64, bytes: &[u8], outcome: &mut Outcome)
     outcome.note(first, is_right);
 }
 
-/// Reads from the start, and again where that fails.
+/// Reads from the start, and again if that fails.
 fn read<S: Store>(store: &mut S, want: &[u8], outcome: &mut Outcome) {
     let mut into = [0; 64];
     let n = want.len();
@@ -45,7 +45,7 @@ fn read<S: Store>(store: &mut S, want: &[u8], outcome: &mut Outcome) {
     outcome.note(first, is_right && &into[..n] == want);
 }
 
-/// Cuts, and again where that fails.
+/// Cuts, and again if that fails.
 fn cut<S: Store>(store: &mut S, len: u64, outcome: &mut Outcome) {
     if len > store.len() {
         outcome.is_right = false;
@@ -56,7 +56,7 @@ fn cut<S: Store>(store: &mut S, len: u64, outcome: &mut Outcome) {
     outcome.note(first, is_right && store.len() == len);
 }
 
-/// Flushes, and again where that fails: then a flush succeeds if a failed one can be made good.
+/// Flushes, and again if that fails: then a flush succeeds if a failed one can be made good.
 fn flush<S: Store>(store: &mut S, heals: bool, outcome: &mut Outcome) {
     let first = store.flush();
     let is_right = first.is_ok() || store.flush().is_ok() == heals;

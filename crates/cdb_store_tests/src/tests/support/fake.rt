@@ -12,7 +12,7 @@ pub enum Trouble {
     OneByte,
     /// A signal interrupts it.
     Interrupted,
-    /// It fails, but one that asks for the length is told this.
+    /// It fails, but a call that requests the length gets this.
     Tells(u64),
     /// It is interrupted, and so are those after it; the one after so many reads or writes one
     /// byte.
@@ -46,7 +46,7 @@ impl FakeFile {
         }
     }
 
-    /// Counts a call, and tells the trouble that it is in.
+    /// Counts a call, and answers the trouble that it is in.
     fn meet(&mut self) -> Option<Trouble>
         ensures { self.new.trace ≡ self.old.trace }
     {
@@ -64,7 +64,7 @@ impl FakeFile {
     }
 }
 
-/// How many bytes a call does that is asked for `n`.
+/// How many bytes a call of `n` bytes reads or writes.
 fn share(trouble: Option<Trouble>, n: usize) -> Result<usize, RawFault>
     requires { 0 < n }
     ensures { IfOk result (λ k. (0 < k) × (k ≤ n)) }
@@ -91,7 +91,7 @@ fn copy_out(bytes: &[u8], pos: u64, into: &mut [u8]) -> Result<usize, RawFault>
     Ok(n)
 }
 
-/// Writes the bytes over what stands there and past the end.
+/// Writes the bytes over what is there and past the end.
 fn copy_in(bytes: &mut Vec<u8>, pos: u64, new: &[u8]) -> Result<(), RawFault> {
     if pos > bytes.len() as u64 || new.len() > 4096 || pos > 1 << 32 {
         return Err(RawFault::Failed);

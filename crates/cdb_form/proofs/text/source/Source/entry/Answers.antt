@@ -49,7 +49,7 @@ returns-in-Some-2-clause-fails g c =
     let h = c.in-Some.field-0-test in
     syntax_first c.args.removals _ _ c.in-Some.field-0 _ _ (rw c.in-Some.is at c.in_ok-byte.ensures.bytes) h.0.0.1 h.0.1 (λ e. h.1)
 
--- a minus where no removals are taken
+-- a minus if no removals are taken
 pub returns-in-Some-clause-fails : goal.returns-in-Some-clause-fails
 returns-in-Some-clause-fails g c =
     let minus : c.in-Some-eq45.field-0 ≡ 45 = omega arith in
