@@ -12,15 +12,12 @@ duplicate is left out of what is compared, and where such lines take more writes
 """
 
 import errno
-import os
 import re
-import sys
 import tempfile
-from concurrent.futures import ProcessPoolExecutor
 
 import names
 from commands import COMMANDS, Command
-from refusing import Refusing
+from refusing import Refusing, try_each
 
 CALLS = "look,open,lock,allow,remove,rename,sync,read,write,pread,pwrite,cut"
 WORDS = {
@@ -138,17 +135,7 @@ def refuse_each(path, library, name):
 
 
 def main():
-    if len(sys.argv) != 3:
-        sys.exit(__doc__)
-    path, library = map(os.path.abspath, sys.argv[1:])
-    passed = failed = 0
-    with ProcessPoolExecutor(len(os.sched_getaffinity(0))) as processors:
-        for count, wrong in processors.map(refuse_each, [path] * len(RUNS), [library] * len(RUNS), RUNS):
-            for line in wrong[:5]:
-                print(line)
-            passed, failed = passed + count - len(wrong), failed + len(wrong)
-    print(f"{passed} passed, {failed} failed")
-    sys.exit(1 if failed else 0)
+    try_each(__doc__, refuse_each, list(RUNS))
 
 
 if __name__ == "__main__":

@@ -11,13 +11,11 @@ follows leaves the new database, and no other file.
 
 import os
 import signal
-import sys
 import tempfile
-from concurrent.futures import ProcessPoolExecutor
 
 import commands  # noqa: F401, which makes the files of tests/cli known
 from files import HUGE, ONE_FILE, file_of, text_of
-from refusing import Refusing
+from refusing import Refusing, try_each
 
 TEXT, FILE = text_of(HUGE), file_of(HUGE)
 PRIVATE = 0o600
@@ -89,23 +87,16 @@ def kill_each(path, library, state):
     return number, wrong
 
 
+def line_of(state, count, wrong):
+    """How many kills there were of a create, and how many are wrong."""
+    mode, mask, temporary = state
+    old = "no old database" if mode is None else f"an old one of mode {mode:o}"
+    beside = "" if temporary is None else ", beside a temporary file"
+    return f"{old}, by {mask:o}{beside}: {count} kills, {wrong} wrong"
+
+
 def main():
-    if len(sys.argv) != 3:
-        sys.exit(__doc__)
-    path, library = map(os.path.abspath, sys.argv[1:])
-    passed = failed = 0
-    with ProcessPoolExecutor(len(os.sched_getaffinity(0))) as processors:
-        each = states()
-        ended = processors.map(kill_each, [path] * len(each), [library] * len(each), each)
-        for (mode, mask, temporary), (count, wrong) in zip(each, ended):
-            old = "no old database" if mode is None else f"an old one of mode {mode:o}"
-            beside = "" if temporary is None else ", beside a temporary file"
-            print(f"{old}, by {mask:o}{beside}: {count} kills, {len(wrong)} wrong")
-            for line in wrong[:5]:
-                print(line)
-            passed, failed = passed + count - len(wrong), failed + len(wrong)
-    print(f"{passed} passed, {failed} failed")
-    sys.exit(1 if failed else 0)
+    try_each(__doc__, kill_each, states(), line_of)
 
 
 if __name__ == "__main__":

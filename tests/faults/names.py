@@ -16,15 +16,13 @@ empty one with the permissions of a new database, if no old one has any.
 import errno
 import os
 import stat
-import sys
 import tempfile
-from concurrent.futures import ProcessPoolExecutor
 from dataclasses import dataclass, field
 
 import commands  # noqa: F401, which makes the files of tests/cli known
 from files import ONE_FILE, TWO_FILE, TWO_TEXT
 from places import FOLDER, Link
-from refusing import Refusing
+from refusing import Refusing, try_each
 
 ERRORS = (errno.EIO, errno.EACCES, errno.ENOMEM, errno.ELOOP)
 CALLS = "look,open,lock,allow,remove,rename,sync"
@@ -270,19 +268,7 @@ def refuse_each(path, library, name):
 
 
 def main():
-    if len(sys.argv) != 3:
-        sys.exit(__doc__)
-    path, library = map(os.path.abspath, sys.argv[1:])
-    passed = failed = 0
-    with ProcessPoolExecutor(len(os.sched_getaffinity(0))) as processors:
-        ended = processors.map(refuse_each, [path] * len(CREATES), [library] * len(CREATES), CREATES)
-        for name, (count, wrong) in zip(CREATES, ended):
-            print(f"{name}: {count} runs, {len(wrong)} wrong")
-            for line in wrong[:5]:
-                print(line)
-            passed, failed = passed + count - len(wrong), failed + len(wrong)
-    print(f"{passed} passed, {failed} failed")
-    sys.exit(1 if failed else 0)
+    try_each(__doc__, refuse_each, list(CREATES), lambda name, count, wrong: f"{name}: {count} runs, {wrong} wrong")
 
 
 if __name__ == "__main__":

@@ -9,12 +9,10 @@ the same as with whole reads and writes: its status, its output and its lines, a
 
 import errno
 import os
-import sys
 import tempfile
-from concurrent.futures import ProcessPoolExecutor
 
 from commands import COMMANDS, KEPT, Command
-from refusing import Refusing
+from refusing import Refusing, try_each
 
 from files import FOUR_FILE, TWO_FILE, TWO_TEXT
 
@@ -75,17 +73,7 @@ def run_each(path, library, name):
 
 
 def main():
-    if len(sys.argv) != 3:
-        sys.exit(__doc__)
-    path, library = map(os.path.abspath, sys.argv[1:])
-    passed = failed = 0
-    with ProcessPoolExecutor(len(os.sched_getaffinity(0))) as processors:
-        for count, wrong in processors.map(run_each, [path] * len(RUNS), [library] * len(RUNS), RUNS):
-            for line in wrong[:5]:
-                print(line)
-            passed, failed = passed + count - len(wrong), failed + len(wrong)
-    print(f"{passed} passed, {failed} failed")
-    sys.exit(1 if failed else 0)
+    try_each(__doc__, run_each, list(RUNS))
 
 
 if __name__ == "__main__":

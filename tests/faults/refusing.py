@@ -3,7 +3,9 @@
 import os
 import struct
 import subprocess
+import sys
 import tempfile
+from concurrent.futures import ProcessPoolExecutor
 from dataclasses import dataclass
 
 
@@ -98,3 +100,26 @@ class Refusing:
                 preexec_fn=prepare,
                 timeout=60,
             )
+
+
+def try_each(usage, attempt, runs, line=None):
+    """Makes runs of a program side by side, with the library of refuse.c: the words of the command line.
+
+    `attempt` answers for a run how many there were of it, and what is wrong of each. The first five of
+    these are printed, after the line that `line` gives of the run, and in the end how many passed and
+    failed. Without the two words the usage is said.
+    """
+    if len(sys.argv) != 3:
+        sys.exit(usage)
+    path, library = map(os.path.abspath, sys.argv[1:])
+    passed = failed = 0
+    with ProcessPoolExecutor(len(os.sched_getaffinity(0))) as processors:
+        ended = processors.map(attempt, [path] * len(runs), [library] * len(runs), runs)
+        for made, (count, wrong) in zip(runs, ended):
+            if line is not None:
+                print(line(made, count, len(wrong)))
+            for fault in wrong[:5]:
+                print(fault)
+            passed, failed = passed + count - len(wrong), failed + len(wrong)
+    print(f"{passed} passed, {failed} failed")
+    sys.exit(1 if failed else 0)

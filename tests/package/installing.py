@@ -18,6 +18,8 @@ import subprocess
 import sys
 import tempfile
 
+from held import tell
+
 TOP = os.path.join(os.path.dirname(os.path.abspath(__file__)), "..", "..")
 INSTALLED = {
     "bin/cdb": 0o755,
@@ -177,11 +179,7 @@ def main():
     held += [] if os.environ.get("LINKED") else is_linked(program)
     for library in sys.argv[2:]:
         held += is_shared(library)
-    wrong = [what for what, holds in held if not holds]
-    for what in wrong:
-        print(f"not so: {what}")
-    print(f"{len(held) - len(wrong)} passed, {len(wrong)} failed")
-    sys.exit(1 if wrong else 0)
+    tell(held)
 
 
 if __name__ == "__main__":

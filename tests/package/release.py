@@ -19,6 +19,7 @@ import subprocess
 import sys
 import tempfile
 
+from held import tell
 from run import TOP, is_checkout, runs_example
 
 TOOL = os.path.join(TOP, "tools", "release.py")
@@ -275,11 +276,7 @@ def main():
             held += part(release)
     if not release.tarball:
         held.append((f"a tarball of these objects: {release.said}", False))
-    wrong = [what for what, holds in held if not holds]
-    for what in wrong:
-        print(f"not so: {what}")
-    print(f"{len(held) - len(wrong)} passed, {len(wrong)} failed")
-    sys.exit(1 if wrong else 0)
+    tell(held)
 
 
 if __name__ == "__main__":

@@ -22,6 +22,7 @@ TOP = os.path.join(HERE, "..", "..")
 sys.path.insert(0, os.path.join(HERE, "..", "cli"))
 
 from files import TWO_FILE, TWO_TEXT
+from held import tell
 
 TOOL = os.path.join(TOP, "tools", "package.py")
 # What the package holds, with the permissions of each.
@@ -177,11 +178,7 @@ def main():
         return
     with tempfile.TemporaryDirectory() as folder:
         held = tests_of(os.path.abspath(sys.argv[1]), folder)
-    wrong = [what for what, holds in held.items() if not holds]
-    for what in wrong:
-        print(f"not so: {what}")
-    print(f"{len(held) - len(wrong)} passed, {len(wrong)} failed")
-    sys.exit(1 if wrong else 0)
+    tell(held.items())
 
 
 if __name__ == "__main__":

@@ -10,6 +10,8 @@ import os
 import re
 import sys
 
+from held import tell
+
 TOP = os.path.join(os.path.dirname(os.path.abspath(__file__)), "..", "..")
 # A file of a release, as pages name it.
 # Three numbers, and what a version has that comes before a release.
@@ -63,11 +65,7 @@ def main():
     held["CHANGELOG.md"] = heads_changelog(version)
     held["crates/cdb_command"] = is_in_program(version)
     held |= named_in_pages(version) | named_in_texts(version)
-    wrong = [place for place, holds in held.items() if not holds]
-    for place in wrong:
-        print(f"{place}: another version than {version}, or none")
-    print(f"{len(held) - len(wrong)} passed, {len(wrong)} failed")
-    sys.exit(1 if wrong else 0)
+    tell(held.items(), f"{{}}: another version than {version}, or none".format)
 
 
 if __name__ == "__main__":
