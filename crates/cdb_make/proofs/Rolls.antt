@@ -10,7 +10,7 @@ use Rattle.cdb_store.specs.declared.store.StoreFault.TheVariants.{Device}
 use Rattle.cdb_store.specs.declared.store.StoreFault.TheVariants.{NoMemory as Refused}
 use Rattle.cdb_store.specs.declared.make_fault.MakeFault.TheVariants.{Broken, Lookup, TooBig, NoMemory, Writing}
 use Rattle.cdb_store.specs.MakeFault.{fault_of}
-use Rattle.cdb_make.specs.Views.Maker.{Goes, ComesFrom, AddFails, Follows, Stays, IsMarked, FailsExchanging, FailsCompacting, FailsLooking, HasStoreFailed, gone_in, found_in, is_foreign, look_fault}
+use Rattle.cdb_make.specs.Views.Maker.{Goes, ComesFrom, AddFails, Follows, Stays, IsMarked, FailsExchanging, FailsCompacting, FailsLooking, DoesNothing, PassesRoom, HasStoreFailed, gone_in, found_in, is_foreign, look_fault}
 use Rattle.cdb_make.proofs.Spans.{left-map, joined_more, joined_end, kept_then}
 use Rattle.cdb_make.proofs.Looking.{sizes_of, sees_long, sees_same, same_self}
 use Rattle.cdb_make.proofs.Picking.{left_sum, left_number, end_sum}
@@ -235,6 +235,12 @@ exchange_fails i j k (Err Writing) wants room whole none follows goes stays fail
 pub torn_fails : {S L : Type 0} {s : Ghosts S} {l : Widths L} (i k : Maker S L s l) (result : Result (Unit {0}) MakeFault) (f : MakeFault) → f ≡ Writing → k.broken ≡ true → HasStoreFailed i k → IsMarked k → IsErrAnd result (λ v. v ≡ f) → IfErr result (FailsExchanging i k)
 torn_fails i k (Ok x) f is broken failed marked e = tt
 torn_fails i k (Err v) f is broken failed marked e = subst (FailsExchanging i k) (sym (e ∙ is)) (inl (broken, failed, marked))
+
+-- no room was made for a record
+pub room_fails : {S L : Type 0} {s : Ghosts S} {l : Widths L} (i k : Maker S L s l) (result : Result (Unit {0}) MakeFault) (e : StoreFault) (r : KeyValue) → IsErrAnd result (λ v. v ≡ fault_of e) → (e ≡ Device → ⊥) → DoesNothing i k → PassesRoom i r → IfErr result (FailsCompacting i k r)
+room_fails i k (Ok x) e r is device nothing past = tt
+room_fails i k (Err v) Device r is device nothing past = absurd (device refl)
+room_fails i k (Err v) Refused r is device nothing past = subst (FailsCompacting i k r) (sym is) (nothing, past)
 
 -- ---- what a maker holds
 

@@ -4,6 +4,7 @@
 
 mod answer;
 mod append;
+mod candidate;
 mod chains;
 mod compact;
 mod finish;

@@ -1,13 +1,12 @@
 // A maker of a database: a store, and the roll of its records.
 ghost use Rattle.std.specs.Prelude.{◌≡◌, ℕ, ◌+◌, ◌*◌, ◌<◌, ◌≤◌, ◌⊎◌, true, false, length, OnOk, OnErr, IfOk, IfErr};
 ghost use Rattle.cdb_form.specs.Format.File.{whole_size};
-ghost use Rattle.cdb_form.specs.Format.Hash.{key_hash};
-ghost use Rattle.cdb_form.specs.Format.Record.{record_of, record_size};
+ghost use Rattle.cdb_form.specs.Format.Record.{record_size};
 ghost use Rattle.cdb_make.specs.Marks.{gone_of, found_of, AreNone, HaveHash};
-ghost use Rattle.cdb_make.specs.Tags.{second_hash};
 ghost use Rattle.cdb_make.specs.Views.Roll.{searched, HasRoom, SameRecords};
 ghost use Rattle.cdb_store.specs.declared.make_fault.MakeFault.TheVariants.{Writing};
 
+use crate::candidate::Candidate;
 use crate::compact::compact_bytes;
 use crate::roll::Roll;
 use crate::write::append_record;
@@ -53,7 +52,7 @@ pub struct Maker<S: Store, L: Width> {
 }
 
 impl<S: Store, L: Width> Maker<S, L> {
-    ghost use Rattle.cdb_make.specs.Views.Maker.{Adds, AddFails, Stays, Compacts, Exchanges, Follows, HasNotFailed};
+    ghost use Rattle.cdb_make.specs.Views.Maker.{record_in, IsCandidate, Adds, AddFails, Stays, Compacts, Exchanges, Follows, HasNotFailed};
     ghost use Rattle.cdb_make.specs.Views.Maker.{FailsExchanging, HasStoreFailed, SameCounts, TellsCounts, told_count, told_size};
 
     /// One more record, after the others.
@@ -61,18 +60,12 @@ impl<S: Store, L: Width> Maker<S, L> {
     /// `NoMemory`: nothing was written. `Writing`: the store failed. The records are what they
     /// were.
     #[inline(always)]
-    pub(crate) fn add(
-        &mut self,
-        hash: u32,
-        sought: u32,
-        key: &[u8],
-        value: &[u8],
-    ) -> Result<(), MakeFault>
-        requires hash { hash ≡ key_hash key.now }
-        requires tag { self.old.roll.tagged ≡ true → sought ≡ second_hash key.now }
-        requires fits { self.old.roll.end + whole_size L.WORD (record_of key.now value.now)
+    pub(crate) fn add(&mut self, candidate: Candidate<'_>) -> Result<(), MakeFault>
+        requires candidate { IsCandidate self.old.roll candidate }
+        requires fits { self.old.roll.end + whole_size L.WORD (record_in candidate)
             + 4 * L.WORD * length self.old.roll.hashes.items ≤ self.old.limit }
-        ensures adds { OnOk result (Adds self.old self.new hash (record_of key.now value.now)) }
+        ensures adds { OnOk result
+            (Adds self.old self.new candidate.entry.hash (record_in candidate.entry)) }
         ensures fine { OnOk result (HasNotFailed self.old self.new) }
         ensures stays { OnErr result (Stays self.old self.new) }
         ensures counts { OnErr result (SameCounts self.old self.new) }
@@ -83,13 +76,14 @@ impl<S: Store, L: Width> Maker<S, L> {
             (S.failures self.old.store) (S.failures self.new.store)
             (S.unwritten self.old.store) (S.unwritten self.new.store)
             ((HasRoom self.old.roll → ⊥) ⊎ (S.room self.old.store
-            < self.old.roll.end + record_size L.WORD (record_of key.now value.now)))) }
+            < self.old.roll.end + record_size L.WORD (record_in candidate.entry)))) }
         ensures follows { Follows self.old self.new }
     {
+        let (key, value) = (candidate.key, candidate.value);
         self.roll.reserve()?;
         append_record::<S, L>(&mut self.store, self.roll.end, key, value)?;
         let size = pair_size::<L>() as u64 + key.len() as u64 + value.len() as u64;
-        self.roll.push(hash, sought, size);
+        self.roll.push(candidate.hash, candidate.number, size);
         Ok(())
     }
 
@@ -133,25 +127,18 @@ impl<S: Store, L: Width> Maker<S, L> {
     ///
     /// `Writing`: the store failed. Amid the pass that breaks the maker, else the records are gone.
     #[inline(never)]
-    pub(crate) fn exchange(
-        &mut self,
-        hash: u32,
-        sought: u32,
-        key: &[u8],
-        value: &[u8],
-    ) -> Result<(), MakeFault>
-        requires hash { hash ≡ key_hash key.now }
-        requires tag { self.old.roll.tagged ≡ true → sought ≡ second_hash key.now }
-        requires have { HaveHash sought (searched self.old.roll) self.old.roll.marks.items }
+    pub(crate) fn exchange(&mut self, candidate: Candidate<'_>) -> Result<(), MakeFault>
+        requires candidate { IsCandidate self.old.roll candidate }
+        requires have { HaveHash candidate.number (searched self.old.roll)
+            self.old.roll.marks.items }
         requires some { 0 < self.old.roll.gone.count + self.old.roll.found.count }
-        requires fits { self.old.roll.end + whole_size L.WORD (record_of key.now value.now)
+        requires fits { self.old.roll.end + whole_size L.WORD (record_in candidate)
             + 4 * L.WORD * length self.old.roll.hashes.items
             ≤ self.old.limit + (self.old.roll.gone.size + self.old.roll.found.size)
             + 4 * L.WORD * (self.old.roll.gone.count + self.old.roll.found.count) }
-        requires room { self.old.roll.end + record_size L.WORD (record_of key.now value.now)
+        requires room { self.old.roll.end + record_size L.WORD (record_in candidate)
             ≤ S.room self.old.store + (self.old.roll.gone.size + self.old.roll.found.size) }
-        ensures exchanges { OnOk result
-            (Exchanges self.old self.new (record_of key.now value.now)) }
+        ensures exchanges { OnOk result (Exchanges self.old self.new (record_in candidate.entry)) }
         ensures fails { IfErr result (FailsExchanging self.old self.new) }
         ensures fine { OnOk result (HasNotFailed self.old self.new) }
         ensures counts { OnErr result (TellsCounts self.old self.new) }
@@ -159,8 +146,8 @@ impl<S: Store, L: Width> Maker<S, L> {
     {
         self.counted = self.counts();
         self.broken = true;
-        self.roll.take(sought);
+        self.roll.take(candidate.number);
         self.pass()?;
-        self.add(hash, sought, key, value)
+        self.add(candidate)
     }
 }

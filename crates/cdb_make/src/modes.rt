@@ -8,6 +8,7 @@ ghost use Rattle.cdb_make.specs.Tags.{second_hash};
 ghost use Rattle.cdb_make.specs.Views.Roll.{IsSought, HasRoom};
 
 use crate::answer::Put;
+use crate::candidate::Candidate;
 use crate::maker::Maker;
 use cdb_form::{Mode, Width, hash};
 use cdb_store::{MakeFault, Store};
@@ -95,7 +96,12 @@ impl<S: Store, L: Width> Maker<S, L> {
         let sought = self.roll.sought_by_look(hash, key);
         let put = self.meet(mode, sought, key)?;
         if !put.is_present() {
-            self.admit(hash, sought, key, value)?;
+            self.admit(Candidate {
+                key,
+                value,
+                hash,
+                number: sought,
+            })?;
         }
         Ok(put)
     }
@@ -119,7 +125,12 @@ impl<S: Store, L: Width> Maker<S, L> {
     {
         let hash = hash(key);
         if self.only_adds(mode) {
-            self.add_alone(hash, hash, key, value)?;
+            self.add_alone(Candidate {
+                key,
+                value,
+                hash,
+                number: hash,
+            })?;
             return Ok(Put::Added);
         }
         self.put_by_mode(mode, hash, key, value)

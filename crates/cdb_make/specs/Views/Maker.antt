@@ -6,19 +6,23 @@ use Rattle.cdb_store.specs.Laws.{HasNoImage}
 use Rattle.cdb_store.specs.Reads.{OnlyReads}
 use Rattle.cdb_form.specs.declared.width.Width.{Ghosts as Widths}
 use Rattle.cdb_form.specs.Format.File.{file_bytes, file_size, whole_size}
+use Rattle.cdb_form.specs.Format.Hash.{key_hash}
 use Rattle.cdb_form.specs.Format.Pair.{head_size}
-use Rattle.cdb_form.specs.Format.Record.{KeyValue, record_size, records_end}
+use Rattle.cdb_form.specs.Format.Record.{KeyValue, record_of, record_size, records_end}
 use Rattle.cdb_store.specs.declared.make_fault.MakeFault.{MakeFault}
 use Rattle.cdb_store.specs.declared.make_fault.MakeFault.TheVariants.{Broken, Lookup, TooBig, NoMemory, Writing}
+use Rattle.cdb_make.specs.declared.candidate.Candidate.{Candidate}
 use Rattle.cdb_make.specs.declared.key_at.LookFault.{LookFault}
 use Rattle.cdb_make.specs.declared.key_at.LookFault.TheVariants.{Failed, Foreign}
 use Rattle.cdb_make.specs.declared.maker.Maker.{Maker}
+use Rattle.cdb_make.specs.declared.roll.Roll.{Roll}
 use Rattle.cdb_make.specs.Finished.{HeadIsLast}
 use Rattle.cdb_make.specs.Tables.{roll_tables}
 use Rattle.cdb_make.specs.Unfinished.{IsUnfinished}
 use Rattle.cdb_make.specs.Marks.{gone_of, found_of, AreNone, HaveHash}
 use Rattle.cdb_make.specs.Rolls.{Sees, LooksAll, fresh}
 use Rattle.cdb_make.specs.Spans.{left, picked, behind, or_each}
+use Rattle.cdb_make.specs.Tags.{second_hash}
 use Rattle.cdb_make.specs.Survivors.{has_key, is_there, count_of, without, behind_first, put_list, put_answer}
 use Rattle.cdb_form.specs.declared.mode.Mode.{Mode}
 use Rattle.cdb_form.specs.declared.mode.Mode.TheVariants.{Add, Warn, Insert, Replace}
@@ -46,6 +50,14 @@ gone_in m = gone_of m.roll.marks.items
 
 abbrev pub found_in : {S L : Type 0} {s : Ghosts S} {l : Widths L} → Maker S L s l → List Bool
 found_in m = found_of m.roll.marks.items
+
+-- the record of a candidate; and its numbers are those by which a roll will find it
+abbrev pub record_in : Candidate → KeyValue
+record_in c = record_of c.key.now c.value.now
+
+pub record IsCandidate {L : Type 0} {l : Widths L} (m : Roll L l) (c : Candidate) : Type 0 where
+  pub hash : c.hash ≡ key_hash c.key.now
+  pub tag : m.tagged ≡ true → c.number ≡ second_hash c.key.now
 
 -- its store failed; and so that a write failed; and no failure of it was counted
 abbrev pub HasStoreFailed : {S L : Type 0} {s : Ghosts S} {l : Widths L} → Maker S L s l

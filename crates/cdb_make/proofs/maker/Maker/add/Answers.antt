@@ -1,4 +1,4 @@
-use Rattle.cdb_make.proofs.Words.{AreNone, AreOf, Bool, Err, IsRecord, KeyValue, List, [], ap, arith, common_steps, cond, false, found_of, gone_of, head_size, inl, inr, kept_torn, length, length-record_bytes, length_push, places_in, record_size, refl, searched, sought_by, subst, sym, take, ℕ, ◌*◌, ◌++◌, ◌+◌, ◌∙◌, ◌∷◌, ◌≡◌}
+use Rattle.cdb_make.proofs.Words.{AreNone, AreOf, Bool, Err, KeyValue, List, [], ap, arith, common_steps, cond, false, found_of, gone_of, head_size, inl, inr, kept_torn, length, length-record_bytes, length_push, places_in, record_size, refl, searched, sought_by, subst, sym, take, ℕ, ◌*◌, ◌++◌, ◌+◌, ◌∙◌, ◌∷◌, ◌≡◌}
 use Rattle.cdb_make.proofs.Bytes.Written.{on_any_err}
 use Rattle.cdb_make.proofs.Looking.{sees_same}
 use Rattle.cdb_make.proofs.Spans.{spans_of, place_low}
@@ -83,11 +83,10 @@ pub returns-clause-adds : goal.returns-clause-adds
 returns-clause-adds g c =
     let m = c.args.self.now in
     let w : ℕ = g.L.Width.WORD in
-    let r : KeyValue = record { key = c.args.key.now; value = c.args.value.now } in
+    let r : KeyValue = record { key = c.args.candidate.key.now; value = c.args.candidate.value.now } in
     let same = c.reserve.ensures.same in
-    let size : c.pair_size.result + length c.args.key.now + length c.args.value.now ≡ record_size w r = omega (arith, c.pair_size.ensures) in
-    let number : cond c.reserve.new.self.tagged c.args.sought c.args.hash ≡ sought_by c.reserve.new.self.tagged r.key = number_is c.reserve.new.self.tagged r.key c.args.hash c.args.sought c.requires.hash (λ e. c.requires.tag (sym c.reserve.ensures.tagged ∙ e)) in
-    let is_record : IsRecord r = record { key = λ k. omega (arith, c.type_inv.key k); value = λ k. omega (arith, c.type_inv.value k) } in
+    let size : c.pair_size.result + length c.args.candidate.key.now + length c.args.candidate.value.now ≡ record_size w r = omega (arith, c.pair_size.ensures) in
+    let number : cond c.reserve.new.self.tagged c.args.candidate.number c.args.candidate.hash ≡ sought_by c.reserve.new.self.tagged r.key = number_is c.reserve.new.self.tagged r.key c.args.candidate.hash c.args.candidate.number c.requires.candidate.hash (λ e. c.requires.candidate.tag (sym c.reserve.ensures.tagged ∙ e)) in
     record {
       goes = record {
         each = λ b is.
@@ -97,7 +96,7 @@ returns-clause-adds g c =
               h.1,
               λ all sees. (
                 all ++ r ∷ [],
-                sees_added c.reserve.new.self c.push.new.self r all h.0 b is_record (omega (arith, m.inside, same.end)) (c.push.ensures.hashes ∙ ap (λ (v : ℕ). c.reserve.new.self.hashes.items ++ v ∷ []) c.requires.hash) c.push.ensures.tagged (c.push.ensures.searched ∙ ap (λ (v : ℕ). searched c.reserve.new.self ++ v ∷ []) number)
+                sees_added c.reserve.new.self c.push.new.self r all h.0 b c.args.candidate.is_record (omega (arith, m.inside, same.end)) (c.push.ensures.hashes ∙ ap (λ (v : ℕ). c.reserve.new.self.hashes.items ++ v ∷ []) c.requires.candidate.hash) c.push.ensures.tagged (c.push.ensures.searched ∙ ap (λ (v : ℕ). searched c.reserve.new.self ++ v ∷ []) number)
                     (λ sizes of. subst (λ (n : ℕ). AreOf (head_size w) (places_in c.push.new.self.places) c.push.new.self.end (sizes ++ n ∷ [])) size (c.push.ensures.of sizes of)) h.2
                     (sees_same m.roll c.reserve.new.self all h.0 same sees),
                 refl,
@@ -106,8 +105,8 @@ returns-clause-adds g c =
       };
       gone = c.push.ensures.gone ∙ ap (λ v. gone_of v ++ _) c.reserve.ensures.marks;
       found = c.push.ensures.found ∙ ap (λ v. found_of v ++ _) c.reserve.ensures.marks;
-      hashes = c.push.ensures.hashes ∙ ap (λ (v : List ℕ). v ++ c.args.hash ∷ []) same.hashes;
-      searched = c.push.ensures.searched ∙ ap (λ (v : List ℕ). v ++ cond c.reserve.new.self.tagged c.args.sought c.args.hash ∷ []) same.searched ∙ ap (λ (v : ℕ). searched m.roll ++ v ∷ []) (number ∙ ap (λ (v : Bool). sought_by v r.key) c.reserve.ensures.tagged);
+      hashes = c.push.ensures.hashes ∙ ap (λ (v : List ℕ). v ++ c.args.candidate.hash ∷ []) same.hashes;
+      searched = c.push.ensures.searched ∙ ap (λ (v : List ℕ). v ++ cond c.reserve.new.self.tagged c.args.candidate.number c.args.candidate.hash ∷ []) same.searched ∙ ap (λ (v : ℕ). searched m.roll ++ v ∷ []) (number ∙ ap (λ (v : Bool). sought_by v r.key) c.reserve.ensures.tagged);
       gone_size = c.push.ensures.size ∙ ap (λ q. q.size) c.reserve.ensures.gone;
       found_size = c.push.ensures.found_size ∙ ap (λ q. q.size) c.reserve.ensures.found;
       end = omega (arith, c.push.ensures.end, size, same.end);
@@ -117,7 +116,7 @@ returns-clause-adds g c =
 
 pub invariant_of-self-2-clause-inside : goal.invariant_of-self-2-clause-inside
 invariant_of-self-2-clause-inside g c =
-    let r : KeyValue = record { key = c.args.key.now; value = c.args.value.now } in
+    let r : KeyValue = record { key = c.args.candidate.key.now; value = c.args.candidate.value.now } in
     omega (arith, c.push.ensures.end, c.pair_size.ensures, c.in_ok-append_record.ensures.ok.size, length-record_bytes g.L.Width.WORD r)
 
 pub invariant_of-self-2-clause-within : goal.invariant_of-self-2-clause-within
@@ -126,7 +125,7 @@ invariant_of-self-2-clause-within g c =
     let w : ℕ = g.L.Width.WORD in
     let n : ℕ = length m.roll.hashes.items in
     let same = c.reserve.ensures.same in
-    let len : length c.push.new.self.hashes.items ≡ n + 1 = ap length c.push.ensures.hashes ∙ length_push c.reserve.new.self.hashes.items c.args.hash ∙ ap (λ (v : List ℕ). length v + 1) same.hashes in
+    let len : length c.push.new.self.hashes.items ≡ n + 1 = ap length c.push.ensures.hashes ∙ length_push c.reserve.new.self.hashes.items c.args.candidate.hash ∙ ap (λ (v : List ℕ). length v + 1) same.hashes in
     let all : 4 * w * length c.push.new.self.hashes.items ≡ 4 * w * (n + 1) = ap (λ (v : ℕ). 4 * w * v) len in
     omega (arith, all, more_slots w n g.met.L.Width.four_or_eight, c.requires.fits, c.push.ensures.end, c.pair_size.ensures, same.end)
 

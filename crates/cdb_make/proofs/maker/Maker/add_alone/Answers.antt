@@ -1,12 +1,11 @@
-use Rattle.cdb_make.proofs.Words.{KeyValue, ap, arith, on_ok_weaker, refl, ℕ, ◌*◌, ◌+◌, ◌≡◌}
+use Rattle.cdb_make.proofs.Words.{ap, arith, on_ok_weaker, refl, ℕ, ◌*◌, ◌+◌, ◌≡◌}
 use Rattle.cdb_make.proofs.Finishing.{found_size, none_size}
 use Rattle.cdb_make.proofs.Admitting.{admits_alone, stays_self}
 use Rattle.cdb_make.proofs.maker.Maker.add_alone.Goals as goal
 
 pub returns-clause-admits : goal.returns-clause-admits
 returns-clause-admits g c =
-    let r : KeyValue = record { key = c.args.key.now; value = c.args.value.now } in
-    on_ok_weaker c.add.result (admits_alone c.args.self.now c.add.new.self c.args.hash r c.requires.none c.requires.whole) c.add.ensures.adds
+    on_ok_weaker c.add.result (admits_alone c.args.self.now c.add.new.self c.args.candidate.hash _ c.requires.none c.requires.whole) c.add.ensures.adds
 
 pub add-requires-clause-fits : goal.add-requires-clause-fits
 add-requires-clause-fits g c = omega (arith, c.has_room.ensures.room c.if-not-has_room.false, c.full_size.ensures.is)

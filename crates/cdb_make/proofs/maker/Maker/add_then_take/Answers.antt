@@ -1,4 +1,4 @@
-use Rattle.cdb_make.proofs.Words.{AreNone, KeyValue, ap, arith, common_steps, inl, inr, on_ok_weaker, refl, searched, subst, sym, ◌∙◌}
+use Rattle.cdb_make.proofs.Words.{AreNone, ap, arith, common_steps, inl, inr, on_ok_weaker, refl, searched, subst, sym, ◌∙◌}
 use Rattle.cdb_make.proofs.Bytes.Written.{on_any_ok}
 use Rattle.cdb_make.proofs.Rolls.{follows_then, if_err_weaker}
 use Rattle.cdb_make.proofs.Admitting.{have_more, taken_clear, admits_later, admits_after, fails_after}
@@ -8,28 +8,24 @@ pub take-requires : goal.take-requires
 take-requires g c =
     let m = c.args.self.now.roll in
     let a = c.in_ok-add_before.ensures.done c.if-branch.true in
-    record { hash = have_more c.args.sought _ (searched m) (searched c.add_before.new.self.roll) m.marks.items c.add_before.new.self.roll.marks.items a.searched a.found (m.marked ∙ sym m.numbered) c.requires.have }
+    record { hash = have_more c.args.candidate.number _ (searched m) (searched c.add_before.new.self.roll) m.marks.items c.add_before.new.self.roll.marks.items a.searched a.found (m.marked ∙ sym m.numbered) c.requires.have }
 
 pub invariant_of-self-clause-eager : goal.invariant_of-self-clause-eager
 invariant_of-self-clause-eager g c = λ eager whole.
-    let r : KeyValue = record { key = c.args.key.now; value = c.args.value.now } in
     let a = c.in_ok-add_before.ensures.done c.if-branch.true in
-    subst AreNone (sym c.take.ensures.gone) (taken_clear c.args.self.now c.add_before.new.self c.args.hash r (inl c.requires.lazy) c.requires.whole a (sym c.add_before.ensures.follows.lazy ∙ eager))
+    subst AreNone (sym c.take.ensures.gone) (taken_clear c.args.self.now c.add_before.new.self c.args.candidate.hash _ (inl c.requires.lazy) c.requires.whole a (sym c.add_before.ensures.follows.lazy ∙ eager))
 
 pub returns-then-branch-clause-admits : goal.returns-then-branch-clause-admits
 returns-then-branch-clause-admits g c =
-    let r : KeyValue = record { key = c.args.key.now; value = c.args.value.now } in
-    admits_later c.args.self.now c.add_before.new.self _ c.args.hash r (inl c.requires.lazy) c.requires.whole (c.in_ok-add_before.ensures.done c.if-branch.true) refl refl c.take.ensures.same c.take.ensures.gone
+    admits_later c.args.self.now c.add_before.new.self _ c.args.candidate.hash _ (inl c.requires.lazy) c.requires.whole (c.in_ok-add_before.ensures.done c.if-branch.true) refl refl c.take.ensures.same c.take.ensures.gone
 
 pub returns-clause-admits : goal.returns-clause-admits
 returns-clause-admits g c =
-    let r : KeyValue = record { key = c.args.key.now; value = c.args.value.now } in
-    on_ok_weaker c.compact_and_add.result (admits_after c.args.self.now c.add_before.new.self c.compact_and_add.new.self r (c.in_ok-add_before.ensures.waits c.if-branch.false) c.add_before.ensures.follows.lazy) c.compact_and_add.ensures.admits
+    on_ok_weaker c.compact_and_add.result (admits_after c.args.self.now c.add_before.new.self c.compact_and_add.new.self _ (c.in_ok-add_before.ensures.waits c.if-branch.false) c.add_before.ensures.follows.lazy) c.compact_and_add.ensures.admits
 
 pub returns-clause-fails : goal.returns-clause-fails
 returns-clause-fails g c =
-    let r : KeyValue = record { key = c.args.key.now; value = c.args.value.now } in
-    if_err_weaker c.compact_and_add.result (λ fault. fails_after c.args.self.now c.add_before.new.self c.compact_and_add.new.self r fault (c.in_ok-add_before.ensures.waits c.if-branch.false) c.add_before.ensures.follows.room c.add_before.ensures.follows.unwritten c.requires.fits (let w = c.in_ok-add_before.ensures.waits c.if-branch.false in omega (arith, c.requires.some, ap (λ q. q.count) w.stays.gone, ap (λ q. q.count) w.stays.found))) c.compact_and_add.ensures.fails
+    if_err_weaker c.compact_and_add.result (λ fault. fails_after c.args.self.now c.add_before.new.self c.compact_and_add.new.self _ fault (c.in_ok-add_before.ensures.waits c.if-branch.false) c.add_before.ensures.follows.room c.add_before.ensures.follows.unwritten c.requires.fits (let w = c.in_ok-add_before.ensures.waits c.if-branch.false in omega (arith, c.requires.some, ap (λ q. q.count) w.stays.gone, ap (λ q. q.count) w.stays.found))) c.compact_and_add.ensures.fails
 
 pub returns-clause-follows : goal.returns-clause-follows
 returns-clause-follows g c = follows_then c.args.self.now c.add_before.new.self c.compact_and_add.new.self c.add_before.ensures.follows c.compact_and_add.ensures.follows

@@ -1,17 +1,8 @@
 use Rattle.cdb_make.proofs.Words.{arith, common_steps}
 use Rattle.cdb_make.proofs.maker.Maker.admit.Goals as goal
 
-pub compact_and_add-requires-clause-tag : goal.compact_and_add-requires-clause-tag
-compact_and_add-requires-clause-tag g c = grind (arith, common_steps)
-
 pub add_alone-requires-clause-none : goal.add_alone-requires-clause-none
 add_alone-requires-clause-none g c = grind (arith, common_steps)
-
-pub add_alone-requires-clause-tag : goal.add_alone-requires-clause-tag
-add_alone-requires-clause-tag g c = grind (arith, common_steps)
-
-pub add_then_take-requires-clause-tag : goal.add_then_take-requires-clause-tag
-add_then_take-requires-clause-tag g c = grind (arith, common_steps)
 
 pub add_then_take-requires-clause-fits : goal.add_then_take-requires-clause-fits
 add_then_take-requires-clause-fits g c = grind (arith, common_steps)

@@ -1,7 +1,7 @@
-use Rattle.cdb_make.proofs.Words.{KeyValue, arith, common_steps, false, false_from_ne_true, gone_in, inr, is_gone, length, length-map, refl, sym, true, ◌+◌, ◌∙◌, ◌≡◌}
-use Rattle.cdb_make.proofs.Looking.{sees_long}
+use Rattle.cdb_make.proofs.Words.{Err, ap, arith, common_steps, false, false_from_ne_true, gone_in, inr, is_gone, length, length-map, refl, sym, true, ◌+◌, ◌∙◌, ◌≡◌}
+use Rattle.cdb_make.proofs.Looking.{same_self, sees_long}
 use Rattle.cdb_make.proofs.Picking.{left_all_stay, both_few, both_within}
-use Rattle.cdb_make.proofs.Rolls.{follows_then, follows_room, compacting_fails, fewer_slots}
+use Rattle.cdb_make.proofs.Rolls.{follows_then, follows_room, compacting_fails, fewer_slots, room_fails}
 use Rattle.cdb_make.proofs.maker.Maker.compact_and_add.Goals as goal
 
 -- the record is within the limit by itself
@@ -23,6 +23,24 @@ reserve-requires g c =
 pub returns-in_err-reserve-clause-follows : goal.returns-in_err-reserve-clause-follows
 returns-in_err-reserve-clause-follows g c = follows_room c.args.self.now _ refl refl c.reserve.ensures.images c.reserve.ensures.room c.reserve.ensures.failures c.reserve.ensures.unwritten
 
+pub returns-in_err-reserve-clause-fails : goal.returns-in_err-reserve-clause-fails
+returns-in_err-reserve-clause-fails g c =
+    let h = c.in_err-reserve.ensures in
+    room_fails c.args.self.now _ c.from_residual.result c.in_err-reserve.field-0.0 _ c.from_residual.ensures.1 (λ is. h.device (ap Err is))
+    (record {
+      stays = record {
+        same = same_self c.args.self.now.roll;
+        marks = refl;
+        gone = refl;
+        found = refl;
+        broken = refl;
+        goes = record { each = λ b is. (b, h.images.no_other b is, λ all sees. (all, sees, refl)) };
+      };
+      written = h.written;
+      fine = h.err_failures;
+    })
+    (omega (arith, h.past_room, c.kept_end.ensures, c.pair_size.ensures))
+
 pub returns-in-Ok-clause-follows : goal.returns-in-Ok-clause-follows
 returns-in-Ok-clause-follows g c = follows_then c.args.self.now _ c.exchange.new.self (follows_room c.args.self.now _ refl refl c.reserve.ensures.images c.reserve.ensures.room c.reserve.ensures.failures c.reserve.ensures.unwritten) c.exchange.ensures.follows
 
@@ -33,9 +51,8 @@ returns-in-Err-clause-follows g c =
 
 pub returns-in-Err-clause-fails : goal.returns-in-Err-clause-fails
 returns-in-Err-clause-fails g c =
-    let r : KeyValue = record { key = c.args.key.now; value = c.args.value.now } in
     let h = c.is_lost-self.ensures in
-    compacting_fails c.args.self.now _ c.exchange.new.self _ r c.in-Err.fault refl c.reserve.ensures.images.no_other refl refl c.in_ok-reserve.ensures.ok_failures c.reserve.ensures.unwritten h.torn h.found h.none c.in-Err.ensures.fails
+    compacting_fails c.args.self.now _ c.exchange.new.self _ _ c.in-Err.fault refl c.reserve.ensures.images.no_other refl refl c.in_ok-reserve.ensures.ok_failures c.reserve.ensures.unwritten h.torn h.found h.none c.in-Err.ensures.fails
 
 pub returns-in-Ok-clause-admits : goal.returns-in-Ok-clause-admits
 returns-in-Ok-clause-admits g c =

@@ -17,7 +17,7 @@ pub returns-clause-exchanges : goal.returns-clause-exchanges
 returns-clause-exchanges g c =
     let old = c.args.self.now in
     let w : ℕ = g.L.Width.WORD in
-    let r : KeyValue = record { key = c.args.key.now; value = c.args.value.now } in
+    let r : KeyValue = record { key = c.args.candidate.key.now; value = c.args.candidate.value.now } in
     let ms : List Bool = or_each (gone_in old) (found_in old) in
     let compacts = c.in_ok-pass.ensures.compacts in
     on_ok_weaker c.add.result
@@ -90,6 +90,3 @@ returns-clause-counts g c =
 
 pub returns-clause-fine : goal.returns-clause-fine
 returns-clause-fine g c = grind (arith, common_steps)
-
-pub add-requires-clause-tag : goal.add-requires-clause-tag
-add-requires-clause-tag g c = grind (arith, common_steps)
