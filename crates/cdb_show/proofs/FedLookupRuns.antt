@@ -4,13 +4,16 @@ use Rattle.cdb_read.specs.declared.fault.ReadFault.TheVariants as damage
 use Rattle.cdb_feed.specs.declared.input_reader.InputReader.TheVariants.{Own, Shared}
 use Rattle.cdb_form.specs.Fed.Feed.{Feed, Consumes, FromTo, Keeps}
 use Rattle.cdb_form.specs.declared.text.fault.TextFault.TheVariants as kind
+use Rattle.cdb_form.specs.declared.width.Width.{Ghosts as Widths}
 use Rattle.cdb_form.proofs.Fed.FeedLemmas.{from_behind, from_both, from_kept, from_weaker, nothing_taken}
 use Rattle.cdb_show.specs.Runs.FedLookups.{FedLookupsFail, FedLookupsLeave, LooksFurther, StopsFurther, StopsInNext, StopsTurn}
 use Rattle.cdb_show.specs.Runs.Parsing.{IsFaultOf, StopsIn, fault_in, stop_of, stopped_parsing}
 use Rattle.cdb_show.specs.Views.Inputs.{AreReadTo, reader_of, shared_feed}
+use Rattle.cdb_show.specs.Views.LookUps.{GoesOn}
 use Rattle.cdb_show.specs.Views.WindowRests.{same_held}
 use Rattle.cdb_show.specs.declared.fault.Fault.TheVariants.{Text, Make, Duplicate, Missing, Read, Walk, Output, Long, Open, Rename, NoMemory, Old, New, NoOldTables, NoNewTables, NoBaseTables}
 use Rattle.cdb_show.specs.declared.inputs.SharedWindow.TheVariants.{InHand, Unread}
+use Rattle.cdb_show.specs.declared.runs.lookups.LookUps.{LookUps}
 use Rattle.cdb_show.specs.declared.window.Window.{Window}
 use Rattle.cdb_show.proofs.FedTurns.{SoFar, one_more, one_stops, all_read, others_same, reached_all, reached_more}
 use Rattle.cdb_show.proofs.LookupRuns.{each_more, stops_later}
@@ -176,6 +179,9 @@ one_shared shared (InHand w) one whole x y a b = same_held (one w.reader whole) 
 
 -- ---- the inputs so far
 
+pub goes_further : {S L : Type 0} {s : Ghosts S} {l : Widths L} {a b c : LookUps S L s l} → GoesOn a b → GoesOn b c → GoesOn a c
+goes_further f g = record { number = g.number ∙ f.number; style = g.style ∙ f.style; reads = reads_more f.reads g.reads }
+
 -- the parsing of the inputs of a run that will stop so
 abbrev pub keys_parsing : Style → ℕ → Option TextFault → Parsing Change TextFault
 keys_parsing style g fault = stopped_parsing (keys_form style) g fault
@@ -194,34 +200,32 @@ module _ {J I S : Type 0} (w g : ℕ) (s : Ghosts S) (number : Option ℕ) (styl
   -- the keys of all were looked up
   pub record LookedFed (now : List (InputReader J)) (window : SharedWindow I) (i : ℕ) (store : S) (written : Option (List ℕ)) (missing : Bool) : Type 0 where
     pub so_far : SoFar own (shared_feed shared) (keys_parsing style g) before now start window i
-    pub reads : OnlyReads s first store
     pub looked : (begun : Option (List ℕ)) → HasLooked w s number style [] first begun out was → HasLooked w s number style (keys_of_each so_far.read) store begun written missing
 
   pub fed_none : LookedFed before start 0 first out was
-  fed_none = record { so_far = record { read = []; are = λ fault. nothing_taken (shared_feed shared start); count = refl; within = omega arith; same = refl; long = refl }; reads = reads_none s first; looked = λ begun h. h }
+  fed_none = record { so_far = record { read = []; are = λ fault. nothing_taken (shared_feed shared start); count = refl; within = omega arith; same = refl; long = refl }; looked = λ begun h. h }
 
-  module _ (now : List (InputReader J)) (it left : InputReader J) (window further : SharedWindow I) (i : ℕ) (store next : S) (mid written : Option (List ℕ)) (missing : Bool) (h : LookedFed now window i store mid missing) (within : i < length now) (e : it ≡ slice_index_or now i it) (reads : OnlyReads s store next) where
+  module _ (now : List (InputReader J)) (it left : InputReader J) (window further : SharedWindow I) (i : ℕ) (store next : S) (mid written : Option (List ℕ)) (missing : Bool) (h : LookedFed now window i store mid missing) (within : i < length now) (e : it ≡ slice_index_or now i it) where
     pub fed_more : (after : Bool) → (last : List Change) × TakesOne own (shared_feed shared) (IsInputOf (keys_form style) g last) it left window further × LooksFurther w s number style last store next mid written missing after
         → LookedFed (slice_set now i left) further (i + 1) next written after
     fed_more after (last, takes, looks) =
         let more = one_more own (shared_feed shared) (keys_parsing style g) before now it left start window further i last h.so_far within e (λ fault. takes) in
         record {
           so_far = more.0;
-          reads = reads_more h.reads reads;
           looked = λ begun k. subst (λ v. HasLooked w s number style v next begun written after) (sym (ap keys_of_each more.1 ∙ each_more h.so_far.read last)) (looks (keys_of_each h.so_far.read) begun (h.looked begun k));
         }
 
-    pub fed_stops : (fault : Fault) → (last : List Change) × StopsTurn style g own shared (fault_in (Err fault)) last it left window further × IsFaultOf (keys_form style) (i + 1) fault × StopsFurther w s number style last store next mid written missing fault
+    pub fed_stops : (fault : Fault) → OnlyReads s first store → (last : List Change) × StopsTurn style g own shared (fault_in (Err fault)) last it left window further × IsFaultOf (keys_form style) (i + 1) fault × StopsFurther w s number style last store next mid written missing fault
         → (read : List (List Change)) × (last : List Change) × AreRead own (shared_feed shared) (keys_parsing style g (fault_in (Err fault))) read (stop_of (fault_in (Err fault)) last) before (slice_set now i left) start further
         × (drop (length read + 1) (slice_set now i left) ≡ drop (length read + 1) before) × IsFaultOf (keys_form style) (length read + 1) fault
         × ((begun : Option (List ℕ)) → HasLooked w s number style [] first begun out was → LookupsStopAt w s number style (keys_of_each read ++ keys_of last) first next begun written fault)
-    fed_stops fault (last, stop, is, stops) = (
+    fed_stops fault reads (last, stop, is, stops) = (
       h.so_far.read,
       last,
       one_stops own (shared_feed shared) (keys_parsing style g) before now it left start window further i (stop_of (fault_in (Err fault)) last) (fault_in (Err fault)) h.so_far within e (λ others rest. stops_on style g own shared (fault_in (Err fault)) last it left others rest window further stop),
       others_same own (shared_feed shared) (keys_parsing style g) before now it left start window i h.so_far within e,
       subst (λ n. IsFaultOf (keys_form style) (n + 1) fault) (sym h.so_far.count) is,
-      λ begun k. stops_later w s number style _ first store next begun written fault h.reads (stops (keys_of_each h.so_far.read) begun (h.looked begun k)),
+      λ begun k. stops_later w s number style _ first store next begun written fault reads (stops (keys_of_each h.so_far.read) begun (h.looked begun k)),
     )
 
   pub fed_all : (now : List (InputReader J)) (window : SharedWindow I) (i : ℕ) (store : S) (written : Option (List ℕ)) (missing : Bool) → LookedFed now window i store written missing → length now ≤ i

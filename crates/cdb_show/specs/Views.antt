@@ -7,3 +7,4 @@ pub mod Noted
 pub mod Output
 pub mod ItemReader
 pub mod KeyReader
+pub mod LookUps

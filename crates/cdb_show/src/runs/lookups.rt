@@ -1,16 +1,17 @@
 // The records of the keys that one input gives.
-ghost use Rattle.std.specs.Prelude.{◌≤◌, ◌++◌, ℕ, List, Option, IfSome, IfErr, OnOk};
+ghost use Rattle.std.specs.Prelude.{◌≤◌, List, IfSome, IfErr, OnOk};
+ghost use Rattle.std.proofs.Props.{props};
 ghost use Rattle.cdb_show.specs.Views.Output.{OutputSays};
 ghost use Rattle.cdb_form.specs.Fed.Feed as fed;
 ghost use Rattle.cdb_form.specs.Text.Amending.{Change};
-ghost use Rattle.cdb_store.specs.Reads.{OnlyReads};
-ghost use Rattle.cdb_show.specs.Runs.Inputs.{IsInputOf, keys_of};
+ghost use Rattle.cdb_show.specs.Runs.Inputs.{IsInputOf};
 ghost use Rattle.cdb_show.specs.Runs.LookedUp.{key_query};
-ghost use Rattle.cdb_show.specs.Runs.Lookups.{HasLooked, LookupsStopAt, StopsBehind};
+ghost use Rattle.cdb_show.specs.Runs.Lookups.{StopsBehind};
 ghost use Rattle.cdb_show.specs.Runs.Query.{Queries};
 ghost use Rattle.cdb_show.specs.Views.KeyReader.{form_of, reader_of, IsNew};
 
 use crate::fault::Fault;
+use crate::lines::Lines;
 use crate::runs::key_reader::KeyReader;
 use crate::runs::query::look_up;
 use crate::runs::shown::Shown;
@@ -37,55 +38,63 @@ fn look_up_record<L: Width, S: Store, W: Sink>(
     look_up(reader, key, number, Shown::Record { key, style }, w)
 }
 
-/// Writes the records of the keys of an input, whose number is counted from 1, up to the end of its
-/// text. `missing` is set if a key had no value.
-pub(crate) fn look_up_input<L: Width, S: Store, F: Feeds, W: Sink, A: AtHand<F>>(
-    alloc: Global,
-    reader: &mut Reader<S, L>,
-    number: Option<u64>,
-    style: Style,
-    input: u64,
-    keys: &mut KeyReader<F, L>,
-    missing: &mut bool,
-    w: &mut W,
-) -> Result<(), Fault>
-    requires counted { IfSome number (λ j. 1 ≤ j) }
-    requires fresh { IsNew keys.old }
-    ensures reads { OnlyReads S.Store reader.old.store reader.new.store }
-    ensures ok { OnOk result ((last : List Change)
-        × fed.FromTo (F.feed (reader_of keys.old)) (F.feed (reader_of keys.new))
-        (IsInputOf (form_of keys.old) L.GREATEST last)
-        × ((before : List (List ℕ)) (start : Option (List ℕ))
-        → HasLooked L.WORD S.Store number style before reader.old.store start
-        (W.contents w.old) missing.old
-        → HasLooked L.WORD S.Store number style (before ++ keys_of last) reader.new.store start
-        (W.contents w.new) missing.new)) }
-    ensures fails { IfErr result (λ fault. (last : List Change)
-        × StopsBehind (form_of keys.old) L.GREATEST input last
-        (F.feed (reader_of keys.old)) (F.feed (reader_of keys.new)) fault
-        × ((before : List (List ℕ)) (start : Option (List ℕ))
-        → HasLooked L.WORD S.Store number style before reader.old.store start
-        (W.contents w.old) missing.old
-        → LookupsStopAt L.WORD S.Store number style (before ++ keys_of last)
-        reader.old.store reader.new.store start (W.contents w.new) fault)) }
-    ensures output { OutputSays (W.failed w.new) result }
-{
-    let mut item = Record {
-        key: Vec::new(alloc),
-        value: Vec::new(alloc),
-    };
-    loop {
-        match keys.read_into::<A>(&mut item) {
-            Err(fault) => return Err(Fault::of_text(input, fault)),
-            Ok(false) => return Ok(()),
-            Ok(true) => {}
-        }
-        match look_up_record(reader, &item.key, number, style, w) {
-            Ok(()) => {}
-            Err(fault) => match fault {
-                Fault::Missing => *missing = true,
-                _ => return Err(fault),
-            },
+/// Look-ups of the keys of some inputs, in one database.
+#[derive(Drop)]
+pub(crate) struct LookUps<'a, S: Store, L: Width> {
+    pub(crate) alloc: Global,
+    /// The database.
+    pub(crate) reader: Reader<S, L>,
+    /// The number of the record of each key that is written alone, counted from 1.
+    pub(crate) number: Option<u64>,
+    /// The form of the inputs and of the records.
+    pub(crate) style: Style,
+    /// Whether some key had no value.
+    pub(crate) missing: bool,
+    /// What may count the lines of the inputs.
+    pub(crate) lines: &'a Lines,
+    ghost counted: { IfSome number (λ j. 1 ≤ j) } by { Prim.hlevel props },
+}
+
+impl<'a, S: Store, L: Width> LookUps<'a, S, L> {
+    ghost use Rattle.cdb_show.specs.Views.LookUps.{GoesOn, Looks, StopsLooking};
+
+    /// Writes the records of the keys of an input, whose number is counted from 1, up to the end of
+    /// its text.
+    pub(crate) fn look_up_input<F: Feeds, W: Sink, A: AtHand<F>>(
+        &mut self,
+        input: u64,
+        keys: &mut KeyReader<F, L>,
+        w: &mut W,
+    ) -> Result<(), Fault>
+        requires { IsNew keys.old }
+        ensures goes_on { GoesOn self.old self.new }
+        ensures ok { OnOk result ((last : List Change)
+            × fed.FromTo (F.feed (reader_of keys.old)) (F.feed (reader_of keys.new))
+            (IsInputOf (form_of keys.old) L.GREATEST last)
+            × Looks last self.old self.new (W.contents w.old) (W.contents w.new)) }
+        ensures fails { IfErr result (λ fault. (last : List Change)
+            × StopsBehind (form_of keys.old) L.GREATEST input last
+            (F.feed (reader_of keys.old)) (F.feed (reader_of keys.new)) fault
+            × StopsLooking last self.old self.new (W.contents w.old) (W.contents w.new) fault) }
+        ensures output { OutputSays (W.failed w.new) result }
+    {
+        let mut item = Record {
+            key: Vec::new(self.alloc),
+            value: Vec::new(self.alloc),
+        };
+        loop {
+            match keys.read_into::<A>(&mut item) {
+                Err(fault) => return Err(Fault::of_text(input, fault)),
+                Ok(false) => return Ok(()),
+                Ok(true) => {}
+            }
+            match look_up_record(&mut self.reader, &item.key, self.number, self.style, w) {
+                Ok(()) => {}
+                Err(fault) => match fault {
+                    Fault::Missing => self.missing = true,
+                    _ => return Err(fault),
+                },
+            }
         }
     }
 }
