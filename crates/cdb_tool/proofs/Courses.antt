@@ -10,7 +10,7 @@ use Rattle.cdb_make.specs.declared.answer.Put.TheVariants.{Added, AddedAgain, Pr
 use Rattle.cdb_make.proofs.Callers.{holds_count, holds_fits}
 use Rattle.cdb_make.proofs.Finishing.{rests_nothing}
 use Rattle.cdb_tool.specs.Runs.Course.{Task, Course, mode_of, told, ends, is_going, with_put, with_change, with_next, at_start, course_of, TellFails, Goes, StopsSo}
-use Rattle.cdb_tool.specs.Runs.Make.{InCourse, PutStops, IsOfStore, MakeStandsAt, IsHalt, TakesNext}
+use Rattle.cdb_tool.specs.Runs.Make.{DoesItem, InCourse, PutStops, IsOfStore, MakeStandsAt, IsHalt, TakesNext}
 use Rattle.cdb_show.specs.declared.fault.Fault.TheVariants.{Text, Make, Duplicate, Missing, Read, Walk, Output, Long, Open, Rename, NoMemory, Old, New, NoOldTables, NoNewTables, NoBaseTables}
 use Rattle.cdb_tool.proofs.ToldLines.{part_then, tells_none, tells_then}
 
@@ -191,11 +191,7 @@ put_halted t cs r start mid old new make.Writing h x comes count is = elim x.0 [
   | inr torn ↦ stands_broken t cs start mid old new h comes count torn.0.broken
 ]
 
-pub put_halted_so : {S L : Type 0} {s : Ghosts S} {l : Widths L} (t : Task) (o : RunOptions) (cs : List Incoming) (r : KeyValue) (start mid : Option (List ℕ)) (old new : Maker S L s l) (f : MakeFault) → t.options ≡ o → InCourse t cs start mid old → FailsPutting old new (mode_of o.make) r f
-    → ComesFrom (s.image old.store) (s.image new.store) → told_count new ≡ told_count old → IsHalt (make_fault f) → MakeStandsAt t cs start mid new
-put_halted_so t o cs r start mid old new f same h x comes count is = put_halted t cs r start mid old new f h (subst (λ v. FailsPutting old new (mode_of v.make) r f) (sym same) x) comes count is
-
-pub removal_halted : {S L : Type 0} {s : Ghosts S} {l : Widths L} (t : Task) (cs : List Incoming) (key : List ℕ) (start now : Option (List ℕ)) (old new : Maker S L s l) (f : MakeFault) → InCourse t cs start now old → FailsRemoving old new key f
+removal_halted : {S L : Type 0} {s : Ghosts S} {l : Widths L} (t : Task) (cs : List Incoming) (key : List ℕ) (start now : Option (List ℕ)) (old new : Maker S L s l) (f : MakeFault) → InCourse t cs start now old → FailsRemoving old new key f
     → ComesFrom (s.image old.store) (s.image new.store) → told_count new ≡ told_count old → IsHalt (make_fault f) → MakeStandsAt t cs start now new
 removal_halted t cs key start now old new make.Broken h x comes count is = absurd is
 removal_halted t cs key start now old new make.Lookup h x comes count is = stands_whole t cs start now old new h comes count (rests_nothing old new x.0).stays
@@ -204,7 +200,7 @@ removal_halted t cs key start now old new make.NoMemory h x comes count is = abs
 removal_halted t cs key start now old new make.Writing h x comes count is = stands_broken t cs start now old new h comes count x.broken
 
 -- what a teller answers does not halt a run
-pub told_halts : (o : RunOptions) (i j : ℕ) (key : List ℕ) (put : Put) (old new : Option (List ℕ)) (f : Fault) → TellFails o i j key put old new f → IsHalt f → ⊥
+told_halts : (o : RunOptions) (i j : ℕ) (key : List ℕ) (put : Put) (old new : Option (List ℕ)) (f : Fault) → TellFails o i j key put old new f → IsHalt f → ⊥
 told_halts o i j key put old new (Text n f) x is = absurd is
 told_halts o i j key put old new (Make f) x is = absurd x
 told_halts o i j key put old new (Walk f) x is = absurd is
@@ -244,37 +240,41 @@ would_take {l = l} t cs i n r start mid old new h would comes = record {
       ap (λ v. v.ended) (course_next l.WORD t cs (putting i n r) goes.going ∙ put_fits l.WORD o s i n r (put_answer (mode_of o.make) r s.records) fit refl) ∙ goes_on o (put_answer (mode_of o.make) r s.records) w.0;
 }
 
-memory_taken : {S L : Type 0} {s : Ghosts S} {l : Widths L} (t : Task) (cs : List Incoming) (i n : ℕ) (r : KeyValue) (start mid : Option (List ℕ)) (old new : Maker S L s l) (f : MakeFault) → InCourse t cs start mid old → FailsPutting old new (mode_of t.options.make) r f
-    → ComesFrom (s.image old.store) (s.image new.store) → make_fault f ≡ NoMemory → WhereHonest (s.image new.store) (TakesNext l.WORD t cs (putting i n r))
-memory_taken t cs i n r start mid old new make.NoMemory h x comes e = would_take t cs i n r start mid old new h x.2 comes
-memory_taken t cs i n r start mid old new make.Broken h x comes e = absurd (let k : Make make.Broken ≡ NoMemory = e in cc)
-memory_taken t cs i n r start mid old new make.Lookup h x comes e = absurd (let k : Make make.Lookup ≡ NoMemory = e in cc)
-memory_taken t cs i n r start mid old new make.TooBig h x comes e = absurd (let k : Make make.TooBig ≡ NoMemory = e in cc)
-memory_taken t cs i n r start mid old new make.Writing h x comes e = absurd (let k : Make make.Writing ≡ NoMemory = e in cc)
+no_memory : (f : MakeFault) → make_fault f ≡ NoMemory → f ≡ make.NoMemory
+no_memory make.NoMemory e = refl
+no_memory make.Broken e = absurd (let k : Make make.Broken ≡ NoMemory = e in cc)
+no_memory make.Lookup e = absurd (let k : Make make.Lookup ≡ NoMemory = e in cc)
+no_memory make.TooBig e = absurd (let k : Make make.TooBig ≡ NoMemory = e in cc)
+no_memory make.Writing e = absurd (let k : Make make.Writing ≡ NoMemory = e in cc)
 
-pub memory_taken_so : {S L : Type 0} {s : Ghosts S} {l : Widths L} (t : Task) (o : RunOptions) (cs : List Incoming) (i n : ℕ) (r : KeyValue) (start mid : Option (List ℕ)) (old new : Maker S L s l) (f : MakeFault) → t.options ≡ o → InCourse t cs start mid old → FailsPutting old new (mode_of o.make) r f
-    → ComesFrom (s.image old.store) (s.image new.store) → make_fault f ≡ NoMemory → WhereHonest (s.image new.store) (TakesNext l.WORD t cs (putting i n r))
-memory_taken_so t o cs i n r start mid old new f same h x comes e = memory_taken t cs i n r start mid old new f h (subst (λ v. FailsPutting old new (mode_of v.make) r f) (sym same) x) comes e
+-- ---- the same of each run that has these options
 
-pub told_memory : (o : RunOptions) (i j : ℕ) (key : List ℕ) (put : Put) (old new : Option (List ℕ)) (f : Fault) → TellFails o i j key put old new f → f ≡ NoMemory → ⊥
-told_memory o i j key put old new f x e = told_halts o i j key put old new f x (subst IsHalt (sym e) tt)
+pub put_done : {S L : Type 0} {s : Ghosts S} {l : Widths L} (o : RunOptions) (m : Mode) (i n : ℕ) (r : KeyValue) (mid end : Option (List ℕ)) (old new : Maker S L s l) (put : Put) (result : Result Unit Fault) → m ≡ mode_of o.make → (l.WORD ≡ 4) ⊎ (l.WORD ≡ 8) → Puts old new m r put → ComesFrom (s.image old.store) (s.image new.store)
+    → limit_of new ≡ limit_of old → OnOk result (TellsEach o.names (told o.make i n r.key (Ok put)) mid end) → OnOk result (ends o.make (Ok put) ≡ None) → IfErr result (TellFails o i n r.key put mid end) → DoesItem o i n (Putting r) mid end old new result
+put_done o m i n r mid end old new put (Ok u) mode wide puts comes limit tells going x = λ t cs start same h. record {
+  ok = put_goes t cs i n r start mid end old new put h wide (subst (λ v. Puts old new v r put) (mode ∙ ap (λ v. mode_of v.make) (sym same)) puts) comes limit
+      (subst (λ v. TellsEach v.names (told v.make i n r.key (Ok put)) mid end) (sym same) tells) (subst (λ v. ends v.make (Ok put) ≡ None) (sym same) going);
+  fails = tt;
+  stands = tt;
+  takes = tt;
+}
+put_done o m i n r mid end old new put (Err f) mode wide puts comes limit tells going x = λ t cs start same h. record {
+  ok = tt;
+  fails = put_told t cs i n r start mid end old new put f h wide (subst (λ v. Puts old new v r put) (mode ∙ ap (λ v. mode_of v.make) (sym same)) puts) comes limit (subst (λ v. TellFails v i n r.key put mid end f) (sym same) x);
+  stands = λ is. absurd (told_halts o i n r.key put mid end f x is);
+  takes = λ e. absurd (told_halts o i n r.key put mid end f x (subst IsHalt (sym e) tt));
+}
 
--- ---- the same of a run that has these options
-
-pub put_goes_so : {S L : Type 0} {s : Ghosts S} {l : Widths L} (t : Task) (o : RunOptions) (cs : List Incoming) (i n : ℕ) (r : KeyValue) (start mid end : Option (List ℕ)) (old new : Maker S L s l) (put : Put) → t.options ≡ o → InCourse t cs start mid old → (l.WORD ≡ 4) ⊎ (l.WORD ≡ 8) → Puts old new (mode_of o.make) r put
-    → ComesFrom (s.image old.store) (s.image new.store) → limit_of new ≡ limit_of old → TellsEach o.names (told o.make i n r.key (Ok put)) mid end → ends o.make (Ok put) ≡ None → InCourse t (cs ++ putting i n r ∷ []) start end new
-put_goes_so t o cs i n r start mid end old new put same h wide puts comes limit tells going =
-    put_goes t cs i n r start mid end old new put h wide (subst (λ v. Puts old new (mode_of v.make) r put) (sym same) puts) comes limit
-    (subst (λ v. TellsEach v.names (told v.make i n r.key (Ok put)) mid end) (sym same) tells) (subst (λ v. ends v.make (Ok put) ≡ None) (sym same) going)
-
-pub put_told_so : {S L : Type 0} {s : Ghosts S} {l : Widths L} (t : Task) (o : RunOptions) (cs : List Incoming) (i n : ℕ) (r : KeyValue) (start mid end : Option (List ℕ)) (old new : Maker S L s l) (put : Put) (f : Fault) → t.options ≡ o → InCourse t cs start mid old → (l.WORD ≡ 4) ⊎ (l.WORD ≡ 8) → Puts old new (mode_of o.make) r put
-    → ComesFrom (s.image old.store) (s.image new.store) → limit_of new ≡ limit_of old → TellFails o i n r.key put mid end f → WhereHonest (s.image new.store) (PutStops l.WORD t cs (putting i n r) start end f)
-put_told_so t o cs i n r start mid end old new put f same h wide puts comes limit x =
-    put_told t cs i n r start mid end old new put f h wide (subst (λ v. Puts old new (mode_of v.make) r put) (sym same) puts) comes limit (subst (λ v. TellFails v i n r.key put mid end f) (sym same) x)
-
-pub put_refused_so : {S L : Type 0} {s : Ghosts S} {l : Widths L} (t : Task) (o : RunOptions) (cs : List Incoming) (i n : ℕ) (r : KeyValue) (start mid : Option (List ℕ)) (old new : Maker S L s l) (f : MakeFault) → t.options ≡ o → InCourse t cs start mid old → FailsPutting old new (mode_of o.make) r f
-    → ComesFrom (s.image old.store) (s.image new.store) → WhereHonest (s.image new.store) (PutStops l.WORD t cs (putting i n r) start mid (make_fault f))
-put_refused_so t o cs i n r start mid old new f same h x comes = put_refused t cs i n r start mid old new f h (subst (λ v. FailsPutting old new (mode_of v.make) r f) (sym same) x) comes
+pub put_failed : {S L : Type 0} {s : Ghosts S} {l : Widths L} (o : RunOptions) (m : Mode) (i n : ℕ) (r : KeyValue) (mid : Option (List ℕ)) (old new : Maker S L s l) (f : MakeFault) → m ≡ mode_of o.make → FailsPutting old new m r f → ComesFrom (s.image old.store) (s.image new.store)
+    → told_count new ≡ told_count old → DoesItem o i n (Putting r) mid mid old new (Err (make_fault f))
+put_failed o m i n r mid old new f mode x comes count = λ t cs start same h.
+    let fails = subst (λ v. FailsPutting old new v r f) (mode ∙ ap (λ v. mode_of v.make) (sym same)) x in
+    record {
+      ok = tt;
+      fails = put_refused t cs i n r start mid old new f h fails comes;
+      stands = put_halted t cs r start mid old new f h fails comes count;
+      takes = λ e. would_take t cs i n r start mid old new h (subst (FailsPutting old new (mode_of t.options.make) r) (no_memory f e) fails).2 comes;
+    }
 
 -- ---- a removal
 
@@ -282,7 +282,7 @@ put_refused_so t o cs i n r start mid old new f same h x comes = put_refused t c
 abbrev pub removing : ℕ → ℕ → List ℕ → Incoming
 removing i n key = record { input = i; number = n; it = Removing key }
 
-pub removed_goes : {S L : Type 0} {s : Ghosts S} {l : Widths L} (t : Task) (cs : List Incoming) (i n : ℕ) (key : List ℕ) (count : ℕ) (start now : Option (List ℕ)) (old new : Maker S L s l) → InCourse t cs start now old → Removes old new key count
+removed_goes : {S L : Type 0} {s : Ghosts S} {l : Widths L} (t : Task) (cs : List Incoming) (i n : ℕ) (key : List ℕ) (count : ℕ) (start now : Option (List ℕ)) (old new : Maker S L s l) → InCourse t cs start now old → Removes old new key count
     → ComesFrom (s.image old.store) (s.image new.store) → limit_of new ≡ limit_of old → InCourse t (cs ++ removing i n key ∷ []) start now new
 removed_goes {l = l} t cs i n key count start now old new h removes comes limit =
     let rs = (course_of l.WORD t cs).records in
@@ -318,6 +318,19 @@ unremoved_so t cs key start now old new make.NoMemory h x comes b is = absurd x
 pub unremoved : {S L : Type 0} {s : Ghosts S} {l : Widths L} (t : Task) (cs : List Incoming) (key : List ℕ) (start now : Option (List ℕ)) (old new : Maker S L s l) (f : MakeFault) → InCourse t cs start now old → FailsRemoving old new key f
     → ComesFrom (s.image old.store) (s.image new.store) → WhereHonest (s.image new.store) (StopsSo l.WORD t cs start now (make_fault f))
 unremoved t cs key start now old new f h x comes = record { each = λ b is. unremoved_so t cs key start now old new f h x comes b is }
+
+pub removal_done : {S L : Type 0} {s : Ghosts S} {l : Widths L} (o : RunOptions) (i n : ℕ) (key : List ℕ) (count : ℕ) (now : Option (List ℕ)) (old new : Maker S L s l) → Removes old new key count → ComesFrom (s.image old.store) (s.image new.store) → limit_of new ≡ limit_of old
+    → DoesItem o i n (Removing key) now now old new (Ok tt)
+removal_done o i n key count now old new removes comes limit = λ t cs start same h. record { ok = removed_goes t cs i n key count start now old new h removes comes limit; fails = tt; stands = tt; takes = tt }
+
+pub removal_failed : {S L : Type 0} {s : Ghosts S} {l : Widths L} (o : RunOptions) (i n : ℕ) (key : List ℕ) (now : Option (List ℕ)) (old new : Maker S L s l) (f : MakeFault) → FailsRemoving old new key f → ComesFrom (s.image old.store) (s.image new.store) → told_count new ≡ told_count old
+    → DoesItem o i n (Removing key) now now old new (Err (make_fault f))
+removal_failed o i n key now old new f x comes count = λ t cs start same h. record {
+  ok = tt;
+  fails = record { each = λ b is. inl (unremoved_so t cs key start now old new f h x comes b is) };
+  stands = removal_halted t cs key start now old new f h x comes count;
+  takes = λ e. absurd (subst (FailsRemoving old new key) (no_memory f e) x);
+}
 
 -- ---- the start
 
@@ -357,10 +370,6 @@ came_none read = inputs_none 1 read
 pub as_told : (P : Mode → KeyValue → Type 0) (m n : Mode) (k v : List ℕ) (r : KeyValue) → m ≡ n → k ≡ r.key → v ≡ r.value → P m (record { key = k; value = v }) → P n r
 as_told P m n k v r a b d p =
     subst (λ x. P x r) a (subst (λ x. P m (record { key = r.key; value = x })) d (subst (λ x. P m (record { key = x; value = v })) b p))
-
-pub ok_both : {T E P Q X : Type 0} (r : Result T E) → (P → Q → X) → OnOk r P → OnOk r Q → OnOk r X
-ok_both (Ok x) f p q = f p q
-ok_both (Err e) f p q = tt
 
 pub err_each : {T E : Type 0} {P Q : E → Type 0} (r : Result T E) → ((e : E) → P e → Q e) → IfErr r P → IfErr r Q
 err_each (Ok x) f p = tt

@@ -1,5 +1,5 @@
 -- A run over the items of an input, whatever bytes agree with it.
-use Rattle.cdb_tool.proofs.Words.{BeginsWithItems, Bool, Change, ComesFrom, Consumes, EndsSo, Fault, Feed, FromTo, Ghosts, Incoming, InputForm, List, Maker, None, Option, Putting, RunOptions, Some, Task, TellsPart, TextFault, WhereHonest, [], ap, came, course_of, false, from_inputs, inl, input_form, inr, is_some, length, subst, sym, true, with_newlines, ℕ, ◌++◌, ◌+◌, ◌∙◌, ◌∷◌, ◌≡◌, ◌≢◌, ◌⊎◌}
+use Rattle.cdb_tool.proofs.Words.{BeginsWithItems, Bool, Change, ComesFrom, Consumes, EndsSo, Err, Fault, Feed, FromTo, Ghosts, Incoming, InputForm, List, Maker, None, Option, Putting, RunOptions, Some, Task, TellsPart, TextFault, WhereHonest, [], ap, came, course_of, false, from_inputs, inl, input_form, inr, is_some, length, subst, sym, true, with_newlines, ℕ, ◌++◌, ◌+◌, ◌∙◌, ◌∷◌, ◌≡◌, ◌≢◌, ◌⊎◌}
 use Rattle.cdb_store.specs.declared.make_fault.MakeFault.TheVariants as make
 use Rattle.cdb_form.specs.declared.text.fault.TextFault.TheVariants as text
 use Rattle.cdb_form.specs.declared.width.Width.{Ghosts as Widths}
@@ -11,7 +11,7 @@ use Rattle.cdb_show.specs.declared.runs.item_reader.ItemReader.{ItemReader}
 use Rattle.cdb_show.specs.declared.runs.item_reader.ItemReader.TheVariants.{Form, Map}
 use Rattle.cdb_show.proofs.ItemInputs.{GaveItems, items_begin, items_fault, items_form, items_more, items_own, items_still}
 use Rattle.cdb_show.proofs.SpelledInputs.{from_lost}
-use Rattle.cdb_tool.specs.Runs.Make.{InCourse, IsHalt, IsNoText, MakeStandsAt, PutStops, StoppedAt}
+use Rattle.cdb_tool.specs.Runs.Make.{InCourse, IsNoText, ItemDone, PutStops, StoppedAt}
 use Rattle.cdb_tool.specs.Runs.Make.{form_of as task_form}
 use Rattle.cdb_tool.proofs.Courses.{came_more, came_none, course_stands}
 use Rattle.cdb_tool.proofs.MadeOf.{course_more, told_grow}
@@ -142,11 +142,11 @@ module _ {S L : Type 0} {s : Ghosts S} {l : Widths L} (t : Task) (read : List (L
   never : {P : Type 0} → WhereHonest (s.image new.store) (⊥ ⊎ ⊥) → WhereHonest (s.image new.store) P
   never stops = record { each = λ b is. elim (stops.each b is) [ inl x ↦ absurd x | inr x ↦ absurd x ] }
 
-  pub item_stopped : (f : Fault) → InCourse t (came read last) start mid old → WhereHonest (s.image new.store) (PutStops l.WORD t (came read last) c start now f) → (IsHalt f → MakeStandsAt t (came read last) start now new) → StoppedAt t (came read (last_by f last c.it)) start now new f
-  item_stopped (Make make.Lookup) h stops stands = record { stops = (stands tt).goes; stands = stands }
-  item_stopped (Make make.Writing) h stops stands = record { stops = (stands tt).goes; stands = stands }
-  item_stopped NoMemory h stops stands = record { stops = (stands tt).goes; stands = stands }
-  item_stopped (Make make.TooBig) h stops stands = record { stops = ended_with (Make make.TooBig) h stops; stands = λ is. absurd is }
-  item_stopped Duplicate h stops stands = record { stops = ended_with Duplicate h stops; stands = λ is. absurd is }
-  item_stopped Output h stops stands = record { stops = part_of stops; stands = λ is. absurd is }
-  item_stopped f h stops stands = record { stops = never stops; stands = λ is. absurd is }
+  pub item_stopped : (f : Fault) → InCourse t (came read last) start mid old → ItemDone t (came read last) c start now new (Err f) → StoppedAt t (came read (last_by f last c.it)) start now new f
+  item_stopped (Make make.Lookup) h done = record { stops = (done.stands tt).goes; stands = done.stands }
+  item_stopped (Make make.Writing) h done = record { stops = (done.stands tt).goes; stands = done.stands }
+  item_stopped NoMemory h done = record { stops = (done.stands tt).goes; stands = done.stands }
+  item_stopped (Make make.TooBig) h done = record { stops = ended_with (Make make.TooBig) h done.fails; stands = λ is. absurd is }
+  item_stopped Duplicate h done = record { stops = ended_with Duplicate h done.fails; stands = λ is. absurd is }
+  item_stopped Output h done = record { stops = part_of done.fails; stands = λ is. absurd is }
+  item_stopped f h done = record { stops = never done.fails; stands = λ is. absurd is }

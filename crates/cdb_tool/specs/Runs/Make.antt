@@ -209,6 +209,24 @@ abbrev pub PutStops : ℕ → Task → List Incoming → Incoming → Option (Li
 PutStops w t cs c old new fault =
     StopsSo w t cs old new fault ⊎ StopsSo w t (cs ++ c ∷ []) old new fault
 
+-- what an item leaves of a run that came to it: the run goes on with it done, or stopped at it. Where
+-- memory was refused, the item would not have ended it
+pub record ItemDone {S L : Type 0} {s : Ghosts S} {l : Widths L} (t : Task) (cs : List Incoming)
+    (c : Incoming) (start now : Option (List ℕ)) (m : Maker S L s l) (result : Result Unit Fault)
+    : Type 0 where
+  pub ok : OnOk result (InCourse t (cs ++ c ∷ []) start now m)
+  pub fails : IfErr result (λ f. WhereHonest (s.image m.store) (PutStops l.WORD t cs c start now f))
+  pub stands : IfErr result (λ f. IsHalt f → MakeStandsAt t cs start now m)
+  pub takes : IfErr result (λ f. f ≡ NoMemory → WhereHonest (s.image m.store) (TakesNext l.WORD t cs c))
+
+-- an item of these numbers leaves so each run that has these options and came to it
+abbrev pub DoesItem : {S L : Type 0} {s : Ghosts S} {l : Widths L} → RunOptions → (input number : ℕ)
+    → Change → (before now : Option (List ℕ)) → (old new : Maker S L s l) → Result Unit Fault → Type 0
+DoesItem o input number it before now old new result =
+    (t : Task) (cs : List Incoming) (start : Option (List ℕ)) → t.options ≡ o
+    → InCourse t cs start before old
+    → ItemDone t cs (record { input = input; number = number; it = it }) start now new result
+
 -- the fault is none of an input
 abbrev pub IsNoText : Fault → Type 0
 IsNoText (Text number fault) = ⊥

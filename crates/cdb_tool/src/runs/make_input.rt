@@ -15,9 +15,9 @@ ghost use Rattle.cdb_show.specs.Views.Output.{OutputSays};
 ghost use Rattle.cdb_show.specs.declared.fault.Fault.TheVariants.{NoMemory};
 ghost use Rattle.cdb_tool.specs.Runs.Course.{mode_of, meets_key, told};
 ghost use Rattle.cdb_tool.specs.Runs.Course.{StopsSo, Task, ends, TellFails};
-ghost use Rattle.cdb_tool.specs.Runs.Make.{InCourse, StepsOn, PutStops, IsOfStore, IsOfBase};
-ghost use Rattle.cdb_tool.specs.Runs.Make.{MakeStandsAt, IsHalt, IsNoText, TakesNext};
-ghost use Rattle.cdb_tool.specs.Runs.Make.{PutsItems, PutsStop};
+ghost use Rattle.cdb_tool.specs.Runs.Make.{DoesItem, InCourse, StepsOn, IsOfStore, IsOfBase};
+ghost use Rattle.cdb_tool.specs.Runs.Make.{IsHalt, IsNoText, PutsItems, PutsStop};
+ghost use Rattle.cdb_tool.specs.declared.runs.options.RunOptions.{RunOptions};
 
 use crate::runs::options::RunOptions;
 use cdb_command::{MakeOptions, Style};
@@ -55,26 +55,36 @@ fn meets_key(put: Put) -> bool
     }
 }
 
-/// Reports a put that met its key, if the options say so. Its record begins at this line of its
-/// input.
-#[inline(always)]
-fn write_put<E: Sink>(
-    options: &RunOptions<'_>,
+/// An item of an input, as a run meets it.
+#[derive(Clone, Copy)]
+struct Met<'a> {
+    /// How the run goes.
+    options: &'a RunOptions<'a>,
+    /// How its records are put.
+    mode: Mode,
+    /// The number of the input, counted from 1.
     input: u64,
+    /// The number of the item in its input, counted from 1.
     number: u64,
+    /// The line of its input at which it begins.
     line: u64,
-    key: &[u8],
-    put: Put,
-    errors: &mut E,
-) -> Result<(), OutFault>
-    ensures ok { OnOk result (TellsEach options.now.names (told options.now.make input number key.now (Ok put))
+}
+
+/// Reports a put that met its key, if the options say so.
+#[inline(always)]
+fn write_put<E: Sink>(met: Met<'_>, key: &[u8], put: Put, errors: &mut E) -> Result<(), OutFault>
+    ensures ok { OnOk result (TellsEach met.entry.options.now.names
+        (told met.entry.options.now.make met.entry.input met.entry.number key.now (Ok put))
         (E.contents errors.old) (E.contents errors.new)) }
-    ensures err { OnErr result (TellsPart options.now.names (told options.now.make input number key.now (Ok put))
+    ensures err { OnErr result (TellsPart met.entry.options.now.names
+        (told met.entry.options.now.make met.entry.input met.entry.number key.now (Ok put))
         (E.contents errors.old) (E.contents errors.new)) }
     ensures failed { OnErr result (E.failed errors.new) }
 {
-    if tells(&options.make) && meets_key(put) {
-        write_duplicates(options.names, input, number, line, key, errors)
+    if tells(&met.options.make) && meets_key(put) {
+        write_duplicates(
+            met.options.names, met.input, met.number, met.line, key, errors,
+        )
     } else {
         Ok(())
     }
@@ -82,87 +92,50 @@ fn write_put<E: Sink>(
 
 /// Reports such a put, and stops the run if the options say so.
 #[inline(always)]
-fn tell_put<E: Sink>(
-    options: &RunOptions<'_>,
-    input: u64,
-    number: u64,
-    line: u64,
-    key: &[u8],
-    put: Put,
-    errors: &mut E,
-) -> Result<(), Fault>
-    ensures ok { OnOk result (TellsEach options.now.names (told options.now.make input number key.now (Ok put))
+fn tell_put<E: Sink>(met: Met<'_>, key: &[u8], put: Put, errors: &mut E) -> Result<(), Fault>
+    ensures ok { OnOk result (TellsEach met.entry.options.now.names
+        (told met.entry.options.now.make met.entry.input met.entry.number key.now (Ok put))
         (E.contents errors.old) (E.contents errors.new)) }
-    ensures goes { OnOk result (ends options.now.make (Ok put) ≡ None) }
-    ensures fails { IfErr result (TellFails options.now input number key.now put
-        (E.contents errors.old) (E.contents errors.new)) }
+    ensures goes { OnOk result (ends met.entry.options.now.make (Ok put) ≡ None) }
+    ensures fails { IfErr result (TellFails met.entry.options.now met.entry.input met.entry.number
+        key.now put (E.contents errors.old) (E.contents errors.new)) }
     ensures output { OutputSays (E.failed errors.new) result }
 {
-    write_put(options, input, number, line, key, put, errors)?;
-    if options.make.stop && put == Put::Present {
+    write_put(met, key, put, errors)?;
+    if met.options.make.stop && put == Put::Present {
         return Err(Fault::Duplicate);
     }
     Ok(())
 }
 
-/// Puts a record of an input, both counted from 1, and then reports it.
+/// Puts a record of an input, and then reports it.
 #[inline(always)]
 fn put_record<L: Width, S: Store, E: Sink>(
     maker: &mut Maker<S, L>,
-    options: &RunOptions<'_>,
-    mode: Mode,
-    input: u64,
-    number: u64,
-    line: u64,
+    met: Met<'_>,
     key: &[u8],
     value: &[u8],
     errors: &mut E,
 ) -> Result<(), Fault>
-    requires mode { mode ≡ mode_of options.now.make }
-    ensures ok { (t : Task) (cs : List Incoming) (start : Option (List ℕ))
-        → t.options ≡ options.now
-        → InCourse t cs start (E.contents errors.old) maker.old
-        → OnOk result (InCourse t
-        (cs ++ record { input = input; number = number; it = Putting (record { key = key.now; value = value.now }) } ∷ [])
-        start (E.contents errors.new) maker.new) }
-    ensures fails { (t : Task) (cs : List Incoming) (start : Option (List ℕ))
-        → t.options ≡ options.now
-        → InCourse t cs start (E.contents errors.old) maker.old
-        → IfErr result (λ f. WhereHonest (S.image (store_of maker.new)) (PutStops L.WORD t cs
-        (record { input = input; number = number; it = Putting (record { key = key.now; value = value.now }) })
-        start (E.contents errors.new) f)) }
-    ensures stands { (t : Task) (cs : List Incoming) (start : Option (List ℕ))
-        → t.options ≡ options.now
-        → InCourse t cs start (E.contents errors.old) maker.old
-        → IfErr result (λ f. IsHalt f
-        → MakeStandsAt t cs start (E.contents errors.new) maker.new) }
-    ensures takes { (t : Task) (cs : List Incoming) (start : Option (List ℕ))
-        → t.options ≡ options.now
-        → InCourse t cs start (E.contents errors.old) maker.old
-        → IfErr result (λ f. f ≡ NoMemory → WhereHonest (S.image (store_of maker.new))
-        (TakesNext L.WORD t cs
-        (record { input = input; number = number; it = Putting (record { key = key.now; value = value.now }) }))) }
+    requires mode { met.mode ≡ mode_of met.options.now.make }
+    ensures does { DoesItem met.entry.options.now met.entry.input met.entry.number
+        (Putting (record { key = key.now; value = value.now }))
+        (E.contents errors.old) (E.contents errors.new) maker.old maker.new result }
     ensures own { IfErr result IsNoText }
     ensures step { StepsOn maker.old maker.new ⊥ (E.failed errors.new) result }
 {
-    let put = maker.put(mode, key, value)?;
-    tell_put(options, input, number, line, key, put, errors)
+    let put = maker.put(met.mode, key, value)?;
+    tell_put(met, key, put, errors)
 }
 
 /// Removes the records of a key. Nothing is reported of it.
 fn remove_key<L: Width, S: Store>(maker: &mut Maker<S, L>, key: &[u8]) -> Result<(), Fault>
-    ensures ok { (t : Task) (cs : List Incoming) (start now : Option (List ℕ))
-        (input number : ℕ) → InCourse t cs start now maker.old
-        → OnOk result (InCourse t
-        (cs ++ record { input = input; number = number; it = Removing key.now } ∷ [])
-        start now maker.new) }
+    ensures does { (options : RunOptions) (input number : ℕ) (now : Option (List ℕ))
+        → DoesItem options input number (Removing key.now) now now maker.old maker.new result }
     ensures fails { (t : Task) (cs : List Incoming) (start now : Option (List ℕ))
         → InCourse t cs start now maker.old
         → IfErr result (λ f. WhereHonest (S.image (store_of maker.new))
         (StopsSo L.WORD t cs start now f)) }
-    ensures stands { (t : Task) (cs : List Incoming) (start now : Option (List ℕ))
-        → InCourse t cs start now maker.old
-        → IfErr result (λ f. IsHalt f → MakeStandsAt t cs start now maker.new) }
     ensures own { IfErr result IsNoText }
     ensures step { StepsOn maker.old maker.new ⊥ ⊥ result }
 {
@@ -170,52 +143,24 @@ fn remove_key<L: Width, S: Store>(maker: &mut Maker<S, L>, key: &[u8]) -> Result
     Ok(())
 }
 
-/// Does what an item of an input says, both counted from 1.
+/// Does what an item of an input says.
 #[inline(always)]
 fn do_item<L: Width, S: Store, E: Sink>(
     maker: &mut Maker<S, L>,
-    options: &RunOptions<'_>,
-    mode: Mode,
-    input: u64,
-    number: u64,
-    line: u64,
+    met: Met<'_>,
     kind: ItemKind,
     item: &Record,
     errors: &mut E,
 ) -> Result<(), Fault>
-    requires mode { mode ≡ mode_of options.now.make }
-    ensures ok { (t : Task) (cs : List Incoming) (start : Option (List ℕ))
-        → t.options ≡ options.now
-        → InCourse t cs start (E.contents errors.old) maker.old
-        → OnOk result (InCourse t
-        (cs ++ record { input = input; number = number; it = change_in kind item.now } ∷ [])
-        start (E.contents errors.new) maker.new) }
-    ensures fails { (t : Task) (cs : List Incoming) (start : Option (List ℕ))
-        → t.options ≡ options.now
-        → InCourse t cs start (E.contents errors.old) maker.old
-        → IfErr result (λ f. WhereHonest (S.image (store_of maker.new)) (PutStops L.WORD t cs
-        (record { input = input; number = number; it = change_in kind item.now })
-        start (E.contents errors.new) f)) }
-    ensures stands { (t : Task) (cs : List Incoming) (start : Option (List ℕ))
-        → t.options ≡ options.now
-        → InCourse t cs start (E.contents errors.old) maker.old
-        → IfErr result (λ f. IsHalt f
-        → MakeStandsAt t cs start (E.contents errors.new) maker.new) }
+    requires mode { met.mode ≡ mode_of met.options.now.make }
+    ensures does { DoesItem met.entry.options.now met.entry.input met.entry.number
+        (change_in kind item.now)
+        (E.contents errors.old) (E.contents errors.new) maker.old maker.new result }
     ensures own { IfErr result IsNoText }
     ensures step { StepsOn maker.old maker.new ⊥ (E.failed errors.new) result }
 {
     match kind {
-        ItemKind::Put => put_record(
-            maker,
-            options,
-            mode,
-            input,
-            number,
-            line,
-            &item.key,
-            &item.value,
-            errors,
-        ),
+        ItemKind::Put => put_record(maker, met, &item.key, &item.value, errors),
         ItemKind::Remove => remove_key(maker, &item.key),
     }
 }
@@ -262,19 +207,16 @@ pub(crate) fn put_input<L: Width, S: Store, F: Feeds, E: Sink, A: AtHand<F>>(
     loop {
         number += 1;
         let next = lines.next();
+        let met = Met {
+            options,
+            mode,
+            input,
+            number,
+            line: next,
+        };
         if let Some(peeked) = items.peek::<A>() {
             let len = peeked.len;
-            let put = put_record(
-                maker,
-                options,
-                mode,
-                input,
-                number,
-                next,
-                peeked.key,
-                peeked.value,
-                errors,
-            );
+            let put = put_record(maker, met, peeked.key, peeked.value, errors);
             items.take_peeked::<A>(len);
             put?;
         } else {
@@ -284,9 +226,7 @@ pub(crate) fn put_input<L: Width, S: Store, F: Feeds, E: Sink, A: AtHand<F>>(
                 Ok(Some(kind)) => kind,
             };
             let line = line_of_last(options.make.style, next, lines);
-            do_item(
-                maker, options, mode, input, number, line, kind, &item, errors,
-            )?;
+            do_item(maker, Met { line, ..met }, kind, &item, errors)?;
         }
     }
 }

@@ -58,7 +58,7 @@ loop-peeked-preserved g c =
       course = λ t read start o n h.
           subst (λ cs. InCourse {s = g.S.Store} {l = g.L.Width} t cs start (g.E.Sink.contents c.do_item.new.errors) c.do_item.new.maker)
           (sym (came_more c.args.input (c.loop-peeked.number + 1) read inv.last item n (ap (λ (n : ℕ). n + 1) inv.number)))
-          (c.in_ok-do_item.ensures.ok t _ start o (inv.course t read start o n h));
+          (c.in_ok-do_item.ensures.does t _ start o (inv.course t read start o n h)).ok;
       follows = follows_then _ _ _ inv.follows c.do_item.ensures.step.follows;
       fine = c.in_ok-do_item.ensures.step.fine ∙ inv.fine;
     }
@@ -81,7 +81,7 @@ loop-peeked-preserved-in-Continue-1 g c =
       course = λ t read start o n h.
           subst (λ cs. InCourse {s = g.S.Store} {l = g.L.Width} t cs start (g.E.Sink.contents c.put_record-put.new.errors) c.put_record-put.new.maker)
           (sym (came_more c.args.input (c.loop-peeked.number + 1) read inv.last item n (ap (λ (n : ℕ). n + 1) inv.number)))
-          (c.in_ok-put.ensures.ok t _ start o (inv.course t read start o n h));
+          (c.in_ok-put.ensures.does t _ start o (inv.course t read start o n h)).ok;
       follows = follows_then _ _ _ inv.follows c.put_record-put.ensures.step.follows;
       fine = c.in_ok-put.ensures.step.fine ∙ inv.fine;
     }
@@ -99,7 +99,7 @@ returns-in_err-do_item-clause-fails g c =
       λ t read start o n h.
           let course = inv.course t read start o n h in
           item_stopped {s = g.S.Store} {l = g.L.Width} t read inv.last (record { input = c.args.input; number = c.loop-peeked.number + 1; it = item }) start _ _ c.loop-peeked.maker c.do_item.new.maker n (ap (λ (n : ℕ). n + 1) inv.number) c.do_item.ensures.step.follows.comes fault course
-          (c.in_err-do_item.ensures.fails t _ start o course) (c.in_err-do_item.ensures.stands t _ start o course),
+          (c.in_err-do_item.ensures.does t _ start o course),
     )
 
 pub returns-in_err-put-clause-fails : goal.returns-in_err-put-clause-fails
@@ -115,7 +115,7 @@ returns-in_err-put-clause-fails g c =
       λ t read start o n h.
           let course = inv.course t read start o n h in
           item_stopped {s = g.S.Store} {l = g.L.Width} t read inv.last (record { input = c.args.input; number = c.loop-peeked.number + 1; it = item }) start _ _ c.loop-peeked.maker c.put_record-put.new.maker n (ap (λ (n : ℕ). n + 1) inv.number) c.put_record-put.ensures.step.follows.comes fault course
-          (c.in_err-put.ensures.fails t _ start o course) (c.in_err-put.ensures.stands t _ start o course),
+          (c.in_err-put.ensures.does t _ start o course),
     )
 
 pub loop-peeked-smaller-in-Continue-1 : goal.loop-peeked-smaller-in-Continue-1
