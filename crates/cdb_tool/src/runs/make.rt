@@ -21,7 +21,7 @@ ghost use Rattle.cdb_tool.specs.Runs.Make.{OfBase, HandsBack, BaseHasFailed};
 ghost use Rattle.cdb_tool.specs.Runs.Make.{PutsInputs, PutsInputsStop, PutsItems, PutsStop};
 
 use crate::runs::make_base::add_base;
-use crate::runs::make_input::put_input;
+use crate::runs::make_input::{Turn, put_input};
 use crate::runs::options::RunOptions;
 use cdb_command::MakeOptions;
 use cdb_feed::InputReader;
@@ -35,112 +35,99 @@ use std::alloc::Global;
 use std::io::Read;
 use std::mem::replace;
 
-/// Does what an input says from here on, whose number is counted from 1, and hands its window back,
-/// which goes on after its text. Its lines are counted if duplicates are explained.
+/// Does what an input says from here on, and hands its window back, which goes on after its text.
+/// Its lines are counted if duplicates are explained.
 fn put_text<L: Width, S: Store, F: Feeds + Drop, E: Sink>(
     alloc: Global,
     maker: &mut Maker<S, L>,
-    options: &RunOptions<'_>,
-    amends: bool,
-    number: u64,
+    turn: Turn<'_>,
     window: Window<F>,
-    lines: &Lines,
     errors: &mut E,
 ) -> (Window<F>, Result<(), Fault>)
     ensures ok { OnOk result.1 ((last : List Change)
         × FromTo (feed_of F.feed window) (feed_of F.feed result.0)
-        (IsInputOf (input_form options.now.make.style amends) L.GREATEST last)
-        × PutsItems options.now number last (E.contents errors.old) (E.contents errors.new)
-        maker.old maker.new) }
+        (IsInputOf (input_form turn.entry.options.now.make.style turn.entry.amends) L.GREATEST last)
+        × PutsItems turn.entry.options.now turn.entry.number last
+        (E.contents errors.old) (E.contents errors.new) maker.old maker.new) }
     ensures fails { IfErr result.1 (λ fault. (last : List Change)
-        × StopsBehind (input_form options.now.make.style amends) L.GREATEST number last
-        (feed_of F.feed window) (feed_of F.feed result.0) fault
-        × PutsStop options.now number last (E.contents errors.old) (E.contents errors.new)
-        maker.old maker.new fault) }
+        × StopsBehind (input_form turn.entry.options.now.make.style turn.entry.amends) L.GREATEST
+        turn.entry.number last (feed_of F.feed window) (feed_of F.feed result.0) fault
+        × PutsStop turn.entry.options.now turn.entry.number last
+        (E.contents errors.old) (E.contents errors.new) maker.old maker.new fault) }
     ensures step { StepsOn maker.old maker.new ⊥ (E.failed errors.new) result.1 }
 {
-    if options.names.is_some() {
-        let lined = Lined::new(window, lines);
-        let mut items = ItemReader::new(alloc, options.make.style, amends, lined);
-        let put = put_input::<L, S, _, E, InLined>(
-            alloc, maker, options, number, &mut items, lines, errors,
-        );
+    if turn.options.names.is_some() {
+        let lined = Lined::new(window, turn.lines);
+        let mut items = ItemReader::new(alloc, turn.options.make.style, turn.amends, lined);
+        let put = put_input::<L, S, _, E, InLined>(alloc, maker, turn, &mut items, errors);
         return (items.into_reader().into_window(), put);
     }
-    let mut items = ItemReader::new(alloc, options.make.style, amends, window);
-    let put = put_input::<L, S, _, E, InWindow>(
-        alloc, maker, options, number, &mut items, lines, errors,
-    );
+    let mut items = ItemReader::new(alloc, turn.options.make.style, turn.amends, window);
+    let put = put_input::<L, S, _, E, InWindow>(alloc, maker, turn, &mut items, errors);
     (items.into_reader(), put)
 }
 
-/// Does what an input says, whose number is counted from 1, and hands back what the inputs share.
-/// The input keeps its reader; what a window took of it past the text is lost.
+/// Does what an input says, and hands back what the inputs share. The input keeps its reader; what
+/// a window took of it past the text is lost.
 fn put_turn<L: Width, S: Store, J: Feeds + Drop, I: Feeds + Drop, E: Sink>(
     alloc: Global,
     maker: &mut Maker<S, L>,
-    options: &RunOptions<'_>,
-    amends: bool,
-    number: u64,
-    turn: &mut InputReader<J>,
+    turn: Turn<'_>,
+    input: &mut InputReader<J>,
     shared: SharedWindow<I>,
-    lines: &Lines,
     errors: &mut E,
 ) -> (SharedWindow<I>, Result<(), Fault>)
     ensures ok { OnOk result.1 ((last : List Change)
         × TakesOne J.feed (shared_feed I.feed)
-        (IsInputOf (input_form options.now.make.style amends) L.GREATEST last)
-        turn.old turn.new shared result.0
-        × PutsItems options.now number last (E.contents errors.old) (E.contents errors.new)
-        maker.old maker.new) }
+        (IsInputOf (input_form turn.entry.options.now.make.style turn.entry.amends) L.GREATEST last)
+        input.old input.new shared result.0
+        × PutsItems turn.entry.options.now turn.entry.number last
+        (E.contents errors.old) (E.contents errors.new) maker.old maker.new) }
     ensures fails { IfErr result.1 (λ fault. (last : List Change)
-        × StopsInput J.feed (shared_feed I.feed) (input_form options.now.make.style amends) L.GREATEST
-        number last fault turn.old turn.new shared result.0
-        × PutsStop options.now number last (E.contents errors.old) (E.contents errors.new)
-        maker.old maker.new fault) }
+        × StopsInput J.feed (shared_feed I.feed)
+        (input_form turn.entry.options.now.make.style turn.entry.amends) L.GREATEST
+        turn.entry.number last fault input.old input.new shared result.0
+        × PutsStop turn.entry.options.now turn.entry.number last
+        (E.contents errors.old) (E.contents errors.new) maker.old maker.new fault) }
     ensures step { StepsOn maker.old maker.new ⊥ (E.failed errors.new) result.1 }
 {
-    match replace(turn, InputReader::Shared) {
+    match replace(input, InputReader::Shared) {
         InputReader::Own(reader) => {
-            lines.begin(false);
+            turn.lines.begin(false);
             let window = match Window::growing(alloc, reader) {
                 Ok(window) => window,
                 Err(refused) => {
-                    *turn = InputReader::Own(refused.reader);
+                    *input = InputReader::Own(refused.reader);
                     return (shared, Err(Fault::NoMemory));
                 }
             };
-            let (window, put) = put_text(
-                alloc, maker, options, amends, number, window, lines, errors,
-            );
-            *turn = InputReader::Own(window.into_reader());
+            let (window, put) = put_text(alloc, maker, turn, window, errors);
+            *input = InputReader::Own(window.into_reader());
             (shared, put)
         }
         InputReader::Shared => {
-            lines.begin(true);
+            turn.lines.begin(true);
             let window = match shared.in_hand(alloc) {
                 Ok(window) => window,
                 Err(refused) => {
                     return (SharedWindow::Unread(refused.reader), Err(Fault::NoMemory));
                 }
             };
-            let (window, put) = put_text(
-                alloc, maker, options, amends, number, window, lines, errors,
-            );
+            let (window, put) = put_text(alloc, maker, turn, window, errors);
             (SharedWindow::InHand(window), put)
         }
     }
 }
 
 /// Does what some inputs say, one after the other, and hands back what they share.
-fn put_turns<L: Width, S: Store, J: Feeds + Drop, I: Feeds + Drop, E: Sink>(
+fn put_turns<'x, L: Width, S: Store, J: Feeds + Drop, I: Feeds + Drop, E: Sink>(
     alloc: Global,
     maker: &mut Maker<S, L>,
-    options: &RunOptions<'_>,
+    options: &'x RunOptions<'x>,
     amends: bool,
     readers: &mut [InputReader<J>],
     shared: SharedWindow<I>,
-    lines: &Lines,
+    lines: &'x Lines,
     errors: &mut E,
 ) -> (SharedWindow<I>, Result<(), Fault>)
     ensures ok { OnOk result.1 ((read : List (List Change))
@@ -164,15 +151,18 @@ fn put_turns<L: Width, S: Store, J: Feeds + Drop, I: Feeds + Drop, E: Sink>(
     let mut i = 0;
     while i < readers.len() {
         let number = i as u64 + 1;
-        let (left, put) = put_turn::<L, S, J, I, E>(
-            alloc,
-            maker,
+        let turn = Turn {
             options,
             amends,
             number,
+            lines,
+        };
+        let (left, put) = put_turn::<L, S, J, I, E>(
+            alloc,
+            maker,
+            turn,
             &mut readers[i],
             shared,
-            lines,
             errors,
         );
         shared = left;

@@ -55,6 +55,19 @@ fn meets_key(put: Put) -> bool
     }
 }
 
+/// Which input of a run, and how it is done.
+#[derive(Clone, Copy)]
+pub(crate) struct Turn<'a> {
+    /// How the run goes.
+    pub(crate) options: &'a RunOptions<'a>,
+    /// Whether native inputs may remove keys.
+    pub(crate) amends: bool,
+    /// The number of the input, counted from 1.
+    pub(crate) number: u64,
+    /// The lines of the inputs, counted if duplicates are explained.
+    pub(crate) lines: &'a Lines,
+}
+
 /// An item of an input, as a run meets it.
 #[derive(Clone, Copy)]
 struct Met<'a> {
@@ -83,7 +96,12 @@ fn write_put<E: Sink>(met: Met<'_>, key: &[u8], put: Put, errors: &mut E) -> Res
 {
     if tells(&met.options.make) && meets_key(put) {
         write_duplicates(
-            met.options.names, met.input, met.number, met.line, key, errors,
+            met.options.names,
+            met.input,
+            met.number,
+            met.line,
+            key,
+            errors,
         )
     } else {
         Ok(())
@@ -174,43 +192,41 @@ fn line_of_last(style: Style, next: u64, lines: &Lines) -> u64 {
     }
 }
 
-/// Does what the items of an input say, whose number is counted from 1, up to the end of its text.
-/// The lines are those of the reader.
+/// Does what the items of an input say, up to the end of its text. The lines are those of the
+/// reader.
 pub(crate) fn put_input<L: Width, S: Store, F: Feeds, E: Sink, A: AtHand<F>>(
     alloc: Global,
     maker: &mut Maker<S, L>,
-    options: &RunOptions<'_>,
-    input: u64,
+    turn: Turn<'_>,
     items: &mut ItemReader<F, L>,
-    lines: &Lines,
     errors: &mut E,
 ) -> Result<(), Fault>
     requires fresh { IsNew items.old }
     ensures ok { OnOk result ((last : List Change)
         × FromTo (F.feed (reader_of items.old)) (F.feed (reader_of items.new))
         (IsInputOf (form_of items.old) L.GREATEST last)
-        × PutsItems options.now input last (E.contents errors.old) (E.contents errors.new)
-        maker.old maker.new) }
+        × PutsItems turn.entry.options.now turn.entry.number last
+        (E.contents errors.old) (E.contents errors.new) maker.old maker.new) }
     ensures fails { IfErr result (λ fault. (last : List Change)
-        × StopsBehind (form_of items.old) L.GREATEST input last
+        × StopsBehind (form_of items.old) L.GREATEST turn.entry.number last
         (F.feed (reader_of items.old)) (F.feed (reader_of items.new)) fault
-        × PutsStop options.now input last (E.contents errors.old) (E.contents errors.new)
-        maker.old maker.new fault) }
+        × PutsStop turn.entry.options.now turn.entry.number last
+        (E.contents errors.old) (E.contents errors.new) maker.old maker.new fault) }
     ensures step { StepsOn maker.old maker.new ⊥ (E.failed errors.new) result }
 {
     let mut item = Record {
         key: Vec::new(alloc),
         value: Vec::new(alloc),
     };
-    let mode = put_mode(&options.make);
+    let mode = put_mode(&turn.options.make);
     let mut number = 0;
     loop {
         number += 1;
-        let next = lines.next();
+        let next = turn.lines.next();
         let met = Met {
-            options,
+            options: turn.options,
             mode,
-            input,
+            input: turn.number,
             number,
             line: next,
         };
@@ -221,11 +237,11 @@ pub(crate) fn put_input<L: Width, S: Store, F: Feeds, E: Sink, A: AtHand<F>>(
             put?;
         } else {
             let kind = match items.read_into::<A>(&mut item) {
-                Err(fault) => return Err(Fault::of_text(input, fault)),
+                Err(fault) => return Err(Fault::of_text(turn.number, fault)),
                 Ok(None) => return Ok(()),
                 Ok(Some(kind)) => kind,
             };
-            let line = line_of_last(options.make.style, next, lines);
+            let line = line_of_last(turn.options.make.style, next, turn.lines);
             do_item(maker, Met { line, ..met }, kind, &item, errors)?;
         }
     }

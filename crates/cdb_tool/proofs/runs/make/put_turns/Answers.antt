@@ -24,7 +24,7 @@ pub returns-in-Err-clause-fails : goal.returns-in-Err-clause-fails
 returns-in-Err-clause-fails g c =
     let inv = c.loop-i.invariant in
     let e = rw c.in-Err.is at c.put_turn-left.ensures.fails in
-    stopped_here {s = g.S.Store} {l = g.L.Width} g.J.Feeds.feed (shared_feed g.I.Feeds.feed) _ _ _ _ c.index-readers-i.result c.put_turn-left.new.turn _ _ _ c.loop-i.i inv.read c.args.options.now _ _ _ _ _ _ c.in-Err.fault inv.far c.loop-i-test.true c.index-readers-i.is inv.course e
+    stopped_here {s = g.S.Store} {l = g.L.Width} g.J.Feeds.feed (shared_feed g.I.Feeds.feed) _ _ _ _ c.index-readers-i.result c.put_turn-left.new.input _ _ _ c.loop-i.i inv.read c.args.options.now _ _ _ _ _ _ c.in-Err.fault inv.far c.loop-i-test.true c.index-readers-i.is inv.course e
 
 pub returns-in-Err-clause-step : goal.returns-in-Err-clause-step
 returns-in-Err-clause-step g c =
@@ -38,7 +38,7 @@ loop-i-preserved g c =
     let step = rw c.in_default.is at c.put_turn-left.ensures.step in
     record {
       read = inv.read ++ e.0 ∷ [];
-      far = turn_more g.J.Feeds.feed (shared_feed g.I.Feeds.feed) _ _ _ _ c.index-readers-i.result c.put_turn-left.new.turn _ _ _ c.loop-i.i inv.read c.loop-i-test.true c.index-readers-i.is e.0 inv.far e.1;
+      far = turn_more g.J.Feeds.feed (shared_feed g.I.Feeds.feed) _ _ _ _ c.index-readers-i.result c.put_turn-left.new.input _ _ _ c.loop-i.i inv.read c.loop-i-test.true c.index-readers-i.is e.0 inv.far e.1;
       course = λ t start same h. e.2 t inv.read start same (ap (λ (n : ℕ). n + 1) (sym inv.far.count)) (inv.course t start same h);
       follows = follows_then _ _ _ inv.follows step.follows;
       fine = step.fine ∙ inv.fine;

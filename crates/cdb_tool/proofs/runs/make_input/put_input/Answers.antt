@@ -25,8 +25,8 @@ returns-in-Err-clause-fails g c =
     let inv = c.loop-peeked.invariant in
     rw c.of_text.ensures (
       inv.last,
-      text_stops g.L.Width.GREATEST g.F.Feeds.feed c.args.input _ c.loop-peeked.items c.read_into.new.self (form_of c.args.items.now) inv.last c.in-Err.fault (λ it. g.met.F.Feeds.one_rest it) inv.form inv.gave c.in-Err.ensures.fails,
-      λ t read start o n h. text_stopped {s = g.S.Store} {l = g.L.Width} t _ start _ c.loop-peeked.maker c.args.input c.in-Err.fault (inv.course t read start o n h),
+      text_stops g.L.Width.GREATEST g.F.Feeds.feed c.args.turn.number _ c.loop-peeked.items c.read_into.new.self (form_of c.args.items.now) inv.last c.in-Err.fault (λ it. g.met.F.Feeds.one_rest it) inv.form inv.gave c.in-Err.ensures.fails,
+      λ t read start o n h. text_stopped {s = g.S.Store} {l = g.L.Width} t _ start _ c.loop-peeked.maker c.args.turn.number c.in-Err.fault (inv.course t read start o n h),
     )
 
 pub returns-in-Ok-None-clause-ok : goal.returns-in-Ok-None-clause-ok
@@ -57,7 +57,7 @@ loop-peeked-preserved g c =
       asks = omega (arith, inv.asks, items_fewer greatest feed old new item one);
       course = λ t read start o n h.
           subst (λ cs. InCourse {s = g.S.Store} {l = g.L.Width} t cs start (g.E.Sink.contents c.do_item.new.errors) c.do_item.new.maker)
-          (sym (came_more c.args.input (c.loop-peeked.number + 1) read inv.last item n (ap (λ (n : ℕ). n + 1) inv.number)))
+          (sym (came_more c.args.turn.number (c.loop-peeked.number + 1) read inv.last item n (ap (λ (n : ℕ). n + 1) inv.number)))
           (c.in_ok-do_item.ensures.does t _ start o (inv.course t read start o n h)).ok;
       follows = follows_then _ _ _ inv.follows c.do_item.ensures.step.follows;
       fine = c.in_ok-do_item.ensures.step.fine ∙ inv.fine;
@@ -80,7 +80,7 @@ loop-peeked-preserved-in-Continue-1 g c =
       asks = omega (arith, inv.asks, items_fewer greatest feed old new item one);
       course = λ t read start o n h.
           subst (λ cs. InCourse {s = g.S.Store} {l = g.L.Width} t cs start (g.E.Sink.contents c.put_record-put.new.errors) c.put_record-put.new.maker)
-          (sym (came_more c.args.input (c.loop-peeked.number + 1) read inv.last item n (ap (λ (n : ℕ). n + 1) inv.number)))
+          (sym (came_more c.args.turn.number (c.loop-peeked.number + 1) read inv.last item n (ap (λ (n : ℕ). n + 1) inv.number)))
           (c.in_ok-put.ensures.does t _ start o (inv.course t read start o n h)).ok;
       follows = follows_then _ _ _ inv.follows c.put_record-put.ensures.step.follows;
       fine = c.in_ok-put.ensures.step.fine ∙ inv.fine;
@@ -95,10 +95,10 @@ returns-in_err-do_item-clause-fails g c =
     let fault = c.in_err-do_item.field-0.0 in
     rw (p.1, p.2) (
       last_by fault inv.last item,
-      item_stops g.L.Width.GREATEST g.F.Feeds.feed c.args.input _ c.loop-peeked.items c.read_into.new.self (form_of c.args.items.now) inv.last item fault inv.form inv.gave one c.in_err-do_item.ensures.own,
+      item_stops g.L.Width.GREATEST g.F.Feeds.feed c.args.turn.number _ c.loop-peeked.items c.read_into.new.self (form_of c.args.items.now) inv.last item fault inv.form inv.gave one c.in_err-do_item.ensures.own,
       λ t read start o n h.
           let course = inv.course t read start o n h in
-          item_stopped {s = g.S.Store} {l = g.L.Width} t read inv.last (record { input = c.args.input; number = c.loop-peeked.number + 1; it = item }) start _ _ c.loop-peeked.maker c.do_item.new.maker n (ap (λ (n : ℕ). n + 1) inv.number) c.do_item.ensures.step.follows.comes fault course
+          item_stopped {s = g.S.Store} {l = g.L.Width} t read inv.last (record { input = c.args.turn.number; number = c.loop-peeked.number + 1; it = item }) start _ _ c.loop-peeked.maker c.do_item.new.maker n (ap (λ (n : ℕ). n + 1) inv.number) c.do_item.ensures.step.follows.comes fault course
           (c.in_err-do_item.ensures.does t _ start o course),
     )
 
@@ -111,10 +111,10 @@ returns-in_err-put-clause-fails g c =
     let fault = c.in_err-put.field-0.0 in
     rw (p.1, p.2) (
       last_by fault inv.last item,
-      item_stops g.L.Width.GREATEST g.F.Feeds.feed c.args.input _ c.loop-peeked.items c.take_peeked.new.self (form_of c.args.items.now) inv.last item fault inv.form inv.gave one c.in_err-put.ensures.own,
+      item_stops g.L.Width.GREATEST g.F.Feeds.feed c.args.turn.number _ c.loop-peeked.items c.take_peeked.new.self (form_of c.args.items.now) inv.last item fault inv.form inv.gave one c.in_err-put.ensures.own,
       λ t read start o n h.
           let course = inv.course t read start o n h in
-          item_stopped {s = g.S.Store} {l = g.L.Width} t read inv.last (record { input = c.args.input; number = c.loop-peeked.number + 1; it = item }) start _ _ c.loop-peeked.maker c.put_record-put.new.maker n (ap (λ (n : ℕ). n + 1) inv.number) c.put_record-put.ensures.step.follows.comes fault course
+          item_stopped {s = g.S.Store} {l = g.L.Width} t read inv.last (record { input = c.args.turn.number; number = c.loop-peeked.number + 1; it = item }) start _ _ c.loop-peeked.maker c.put_record-put.new.maker n (ap (λ (n : ℕ). n + 1) inv.number) c.put_record-put.ensures.step.follows.comes fault course
           (c.in_err-put.ensures.does t _ start o course),
     )
 
