@@ -1,23 +1,22 @@
 -- The words that most proofs here name.
-pub use Rattle.cdb.specs.Agreeing.{HandsInputs, InputsAgree, OpensNoMore, inputs_of}
+pub use Rattle.cdb.specs.Agreeing.{HandsInputs, OpensNoMore, inputs_of}
 pub use Rattle.cdb.specs.Contents.{making_of}
-pub use Rattle.cdb.specs.Created.{Created, base_in, base_of, create_of, in_place, in_temporary, is_base, is_in_place, is_input, is_no_name, is_read, placed, unopened}
-pub use Rattle.cdb.specs.Creating.{AsksAll, AsksBase, AsksEach, AsksOne, Creates, FindsBase, FindsInput, FindsOne, HandsBase, HasDatabase, IsBufferedRun, IsDatabase, IsMakeRun, LooksAtBase, Making, Replaces, SeesName, Syncs, WritesAll, answer_of}
+pub use Rattle.cdb.specs.Created.{Created, create_of, in_place, in_temporary, is_in_place, is_no_name, is_read, placed, unopened}
+pub use Rattle.cdb.specs.Creating.{AsksAll, AsksEach, Creates, HandsBase, HasDatabase, IsBufferedRun, IsDatabase, IsMakeRun, Making, Replaces, SeesName, Syncs, WritesAll, answer_of}
 pub use Rattle.cdb.specs.Foretold.{IsTaken}
 pub use Rattle.cdb.specs.ForetoldCreate.{HadBytes, HoldsAll, HonestCreate, IsNoAlias, IsNoFailedRemoval, IsNoFailedRename, KeepsAll, LeavesAll, passing, place_of}
-pub use Rattle.cdb.specs.Performs.{PerformsIn, Runs, status_of}
+pub use Rattle.cdb.specs.Performs.{PerformsIn, Runs}
 pub use Rattle.cdb.specs.declared.contents.Sources.{Sources}
 pub use Rattle.cdb_command.specs.Asked.{Asked, asked_in, has_wide_words}
 pub use Rattle.cdb_command.specs.Refused.{Refused, usage_of}
 pub use Rattle.cdb_command.specs.declared.command.Command.{Command}
-pub use Rattle.cdb_feed.specs.Inputs.{FirstAgree}
 pub use Rattle.cdb_feed.specs.declared.input_reader.InputReader.{InputReader}
 pub use Rattle.cdb_form.specs.Fed.Feed.{Feed}
 pub use Rattle.cdb_form.specs.Format.Record.{AreBytes}
 pub use Rattle.cdb_form.specs.Views.KnownBytes.{AppendsPrefix}
 pub use Rattle.cdb_make.specs.Views.Maker.{WhereHonest}
 pub use Rattle.cdb_names.specs.Folder.{Has, MayHave, NameCalls}
-pub use Rattle.cdb_names.specs.Replacing.{AtEach, AtEachMoment, BuilderTells, ClearsFile, IsNew, IsRenamed, NameEvent, renames}
+pub use Rattle.cdb_names.specs.Replacing.{AtEach, AtEachMoment, BuilderTells, IsNew, NameEvent, renames}
 pub use Rattle.cdb_names.specs.declared.answer.Answer.{Answer}
 pub use Rattle.cdb_names.specs.declared.name_fault.NameFault.{NameFault}
 pub use Rattle.cdb_names.specs.declared.name_trace.NameCall.{NameCall}
@@ -36,12 +35,12 @@ pub use Rattle.cdb_show.specs.declared.inputs.Inputs.{Inputs}
 pub use Rattle.cdb_store.specs.Calls.{Calls}
 pub use Rattle.cdb_store.specs.FileStore.{calls_of}
 pub use Rattle.cdb_store.specs.declared.store.Store.{Ghosts}
-pub use Rattle.cdb_system.proofs.InputsKnown.{answered_before, opened_since, standard_is, standard_not}
-pub use Rattle.cdb_system.specs.Answered.{AreAnswered, if_some, stores_in, streams_in}
+pub use Rattle.cdb_system.proofs.InputsKnown.{standard_is, standard_not}
+pub use Rattle.cdb_system.specs.Answered.{AreAnswered, stores_in}
 pub use Rattle.cdb_system.specs.Files.{files_of}
 pub use Rattle.cdb_system.specs.Inputs.{inputs_read}
-pub use Rattle.cdb_system.specs.Opening.{Empties, MissesEmptying, OpenCalls}
-pub use Rattle.cdb_system.specs.Oracle.{Disk, ended, is_standard}
+pub use Rattle.cdb_system.specs.Opening.{OpenCalls}
+pub use Rattle.cdb_system.specs.Oracle.{Disk, is_standard}
 pub use Rattle.cdb_system.specs.Places.{temporary_of}
 pub use Rattle.cdb_system.specs.State.{Standard, State, failed_of, given_of, state_of}
 pub use Rattle.cdb_system.specs.Telling.{SaysLine, refused_lines, usage_line, usage_status}

@@ -1,5 +1,5 @@
 -- The words that most proofs here name.
-pub use Rattle.cdb_difference.specs.Difference.{DifferenceStops, IsOneDamaged, WalkHasKey, WritesPass, WritesPassPrefix, changes_at, changes_text, is_first_changed, key_changes, pass_of}
+pub use Rattle.cdb_difference.specs.Difference.{DifferenceStops, WritesPass, WritesPassPrefix, changes_at, changes_text, is_first_changed}
 pub use Rattle.cdb_difference.specs.Views.InStep.{AllMarked, AreInStep}
 pub use Rattle.cdb_difference.specs.Views.Looking.{LooksOn, ReadBoth, StaysAt}
 pub use Rattle.cdb_difference.specs.Views.Marks.{Grows, KeepsOthers, is_marked, mark_hash, mark_step}
@@ -32,7 +32,7 @@ pub use Rattle.cdb_store.specs.Images.{part}
 pub use Rattle.cdb_store.specs.Reads.{OnlyReads}
 pub use Rattle.cdb_store.specs.declared.store.Store.{Ghosts}
 pub use Rattle.std.proofs.Common.{Bool, List, Option, [], ap, append_assoc, arith, codes, cond, false, flat_map, fold, inl, inr, length, length-append, map, refl, rules, subst, sym, true, ℕ, ◌++◌, ◌+◌, ◌-◌, ◌<◌, ◌∙◌, ◌∷◌, ◌≡◌, ◌≢◌, ◌≤◌}
-pub use Rattle.std.proofs.lemmas.Bool.{cases_Bool, eq-eqb}
+pub use Rattle.std.proofs.lemmas.Bool.{cases_Bool}
 pub use Rattle.std.proofs.lemmas.Grind.{common_steps}
 pub use Rattle.std.proofs.lemmas.List.{append-nil}
 pub use Rattle.std.proofs.lemmas.List.Concat.{flat_map-append}

@@ -14,19 +14,18 @@ unfoldable pub use Rattle.cdb_form.specs.Format.Reading.{head_at}
 pub use Rattle.cdb_form.specs.Format.Record.{AreBytes, IsRecord, KeyValue, record_size, records_end}
 unfoldable pub use Rattle.cdb_form.specs.Format.Record.{record_bytes}
 pub use Rattle.cdb_form.specs.Format.Table.{empty_slot, is_used, slots_of}
-unfoldable pub use Rattle.cdb_form.specs.Format.Table.{file_tables, filled_slots, slots_with, table_entries}
+unfoldable pub use Rattle.cdb_form.specs.Format.Table.{file_tables, table_entries}
 pub use Rattle.cdb_form.specs.Format.Walk.{Walked, damaged, first_table_at, has_slots, least_place, no_walk, prefix_record, prefix_size, with_first}
 unfoldable pub use Rattle.cdb_form.specs.Format.Walk.{record_end, walk_from, walk_of, whole_records}
 pub use Rattle.cdb_form.specs.Laws.Text.{ChangeFits, LengthsFit}
-pub use Rattle.cdb_form.specs.Text.Amending.{Change, Putting, Removing, SpelledChanges, SpellsChange, SpellsRemoval}
-pub use Rattle.cdb_form.specs.Text.Form.{HasFault, HasNoItem, HasNoText, IsPrefix, LiftsLength, LongestPrefix, Reads, WholeItems}
+pub use Rattle.cdb_form.specs.Text.Amending.{Change, Putting, Removing, SpellsChange, SpellsRemoval}
+pub use Rattle.cdb_form.specs.Text.Form.{HasFault, HasNoItem, HasNoText, IsPrefix, LongestPrefix, Reads}
 pub use Rattle.cdb_form.specs.Text.List.{SpellsKey}
 pub use Rattle.cdb_form.specs.Text.Map.{BeginsOther, IsIgnoredLine, IsLineOf, Lacks, behind_blanks, is_blank, is_ignored, is_newline, line_pair, line_records, map_lines, with_newlines}
-pub use Rattle.cdb_form.specs.Text.Native.{IsNumeral, Spelled, Spells}
-pub use Rattle.cdb_form.specs.Views.FormReader.{ReadsItem}
+pub use Rattle.cdb_form.specs.Text.Native.{IsNumeral, Spells}
 pub use Rattle.cdb_form.specs.Views.KnownBytes.{Took}
 pub use Rattle.cdb_form.specs.Views.MapParser.{EndsLine, is_of, line_end}
-pub use Rattle.cdb_form.specs.Views.MapReader.{Fails, GivesEnd, GivesRecord, IsAmidLines}
+pub use Rattle.cdb_form.specs.Views.MapReader.{IsAmidLines}
 pub use Rattle.cdb_form.specs.Views.NativeParser.{FailsByte, FailsEntry, FailsField, FailsItem, FailsNumber, seen, told}
 pub use Rattle.cdb_form.specs.Views.Pairs.{PairFits, changes_of, header_pair, key_value, key_values, pointer_pair}
 pub use Rattle.cdb_form.specs.Views.Prefix.{BeginsWithBody, BeginsWithNumeral, IsStored}
@@ -49,7 +48,7 @@ pub use Rattle.cdb_form.specs.declared.text.map_reader.MapReader.{MapReader}
 pub use Rattle.cdb_form.specs.declared.text.source.Source.{Source}
 pub use Rattle.cdb_form.specs.declared.walk.fault.WalkFault.{WalkFault}
 pub use Rattle.cdb_form.specs.declared.walk.record_reader.RecordReader.{RecordReader}
-pub use Rattle.std.proofs.Common.{All, IfSome, List, None, Option, Some, [], ap, append_assoc, arith, cond, decimal, drop, eqb, false, flat_map, fold, get_or, inl, inr, leb, length, length-append, length-drop, length-take, lit<, lit≤, map, not, refl, replicate, rules, slice_set, subst, suc, sym, take, true, w8, zero, ℕ, ◌%◌, ◌*◌, ◌++◌, ◌+◌, ◌-◌, ◌/◌, ◌<◌, ◌^◌, ◌∙◌, ◌∷◌, ◌≡◌, ◌≢◌, ◌≤◌, ◌⊎◌}
+pub use Rattle.std.proofs.Common.{All, IfSome, List, None, Option, Some, [], ap, append_assoc, arith, decimal, drop, eqb, false, flat_map, fold, get_or, inl, inr, leb, length, length-append, length-drop, length-take, lit<, lit≤, map, not, refl, replicate, rules, slice_set, subst, suc, sym, take, true, w8, zero, ℕ, ◌%◌, ◌*◌, ◌++◌, ◌+◌, ◌-◌, ◌/◌, ◌<◌, ◌^◌, ◌∙◌, ◌∷◌, ◌≡◌, ◌≢◌, ◌≤◌, ◌⊎◌}
 pub use Rattle.std.proofs.Math.Nat.{mul-le-mul_left}
 pub use Rattle.std.proofs.Math.Seq.{take-add}
 pub use Rattle.std.proofs.lemmas.Bool.{cases_eq, cases_lt, cond-false, cond-true, cond_both, eq-eqb, eqb-true, le-ltb, leb-true, lt-ltb, ne_eqb}
@@ -68,6 +67,6 @@ pub use Rattle.std.specs.Char.{digit_value}
 pub use Rattle.std.specs.Int.{bytes_low_first}
 pub use Rattle.std.specs.Io.KnownBytes.{Appends}
 pub use Rattle.std.specs.List.{AllByRecursion, AllPass, position_or_len, prefix_len, range_with_len, reduce}
-pub use Rattle.std.specs.Prelude.{Bool, Err, IfOk, MatchBool, Ok, Result, codes, filter, if◌then◌else◌, max, min, nat_lt, sum_by, unwrap_or, ⊤, ◌==◌}
+pub use Rattle.std.specs.Prelude.{codes, if◌then◌else◌, max, nat_lt, sum_by, unwrap_or, ⊤, ◌==◌}
 pub use Rattle.std.specs.Simd.Lanes.{mask_l}
 pub use Rattle.std.specs.Str.Parse.{AllDigits, digits_value}

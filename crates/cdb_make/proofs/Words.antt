@@ -20,7 +20,6 @@ pub use Rattle.cdb_make.specs.Finished.{HeadIsLast, IsFinished}
 pub use Rattle.cdb_make.specs.Gathering.{is_among}
 pub use Rattle.cdb_make.specs.Laws.{lowered}
 pub use Rattle.cdb_make.specs.Looks.{HasLengthsInImages, LooksAtImages, NoNewImage, TellsSameInImages}
-unfoldable pub use Rattle.cdb_make.specs.Looks.{key_at, size_at}
 pub use Rattle.cdb_make.specs.Marks.{AreNone, HaveHash, IsFirstMarked, IsPutBackFrom, IsTakenFrom, found_of, gone_of, is_found, is_gone, put_back, taken}
 pub use Rattle.cdb_make.specs.Parts.{head_bytes, table_bytes}
 pub use Rattle.cdb_make.specs.Rolls.{IsFreshRecord, Sees, SeesNone, fresh}
@@ -30,7 +29,7 @@ pub use Rattle.cdb_make.specs.Tables.{all_gathered, entries_in, entries_of, gath
 unfoldable pub use Rattle.cdb_make.specs.Tables.{tables_of}
 pub use Rattle.cdb_make.specs.Tags.{searched_by, sought_by, tag_step}
 pub use Rattle.cdb_make.specs.Views.Appending.{AreFirst, Enters, FailsAppending, KeepsLimit, PassesLimit, full_size, records_at}
-pub use Rattle.cdb_make.specs.Views.Maker.{Admits, ComesFrom, CompactsAll, FailsAdmitting, FailsCompacting, FailsLooking, Follows, Goes, HasGone, HasNotFailed, HasStoreFailed, Holds, IsFile, IsMarked, IsWithin, Meets, Rests, SameCounts, Seeks, Stays, StaysWhole, WhereHonest, WritesNothing, count_in, found_in, gone_in, made_size, told_count}
+pub use Rattle.cdb_make.specs.Views.Maker.{ComesFrom, CompactsAll, FailsLooking, HasGone, HasNotFailed, Holds, IsFile, Meets, SameCounts, StaysWhole, count_in, found_in, gone_in, made_size}
 pub use Rattle.cdb_make.specs.Views.Places.{of_halves, places_in}
 pub use Rattle.cdb_make.specs.Views.Roll.{HasRoom, SameRecords, searched, sought_in}
 pub use Rattle.cdb_make.specs.declared.key_at.LookFault.{LookFault}
@@ -51,15 +50,14 @@ pub use Rattle.std.proofs.Math.Seq.{map-set_same}
 pub use Rattle.std.proofs.lemmas.Bool.{cases_eq, cases_lt, false_from_ne_true}
 pub use Rattle.std.proofs.lemmas.Bool.Decides.{nat_tests}
 pub use Rattle.std.proofs.lemmas.Grind.{common_steps, get_or_default_zero}
-pub use Rattle.std.proofs.lemmas.List.{append-nil, drop-drop, drop-take, ext_get_or, get_or-map, get_or-set_other, get_or-set_same, get_or-take, get_or_append_left, get_or_default, get_or_past, get_or_push, length-map, length-replicate, length-take-le, length_push, map-append, map-set, map_push, take-append-drop, take-map, take-take, take_all, take_at, take_more, take_more_set}
+pub use Rattle.std.proofs.lemmas.List.{append-nil, drop-drop, drop-take, ext_get_or, get_or-map, get_or-set_other, get_or-set_same, get_or_append_left, get_or_default, get_or_past, get_or_push, length-map, length-replicate, length-take-le, length_push, map-append, map-set, map_push, take-append-drop, take-map, take-take, take_all, take_at, take_more, take_more_set}
 pub use Rattle.std.proofs.lemmas.List.Concat.{flat_map-append}
 pub use Rattle.std.proofs.lemmas.List.Elements.{All-same}
 pub use Rattle.std.proofs.lemmas.List.Sums.{sum_by-append, sum_by-cons, sum_by_more, sum_by_more_le, sum_by_push}
 pub use Rattle.std.proofs.lemmas.Result.{err_from_is_err_and, on_err_weaker, on_ok_weaker}
-pub use Rattle.std.proofs.lemmas.Simd.{map-map}
 pub use Rattle.std.proofs.lemmas.Slice.Eq.{bytes_eq-Decides}
 pub use Rattle.std.specs.Int.Count.{count_trailing_zeros}
 pub use Rattle.std.specs.List.{range_with_len}
-pub use Rattle.std.specs.Prelude.{All, IfErr, Ok, OnErr, OnOk, Result, bytes_eq, slice_index, sum, vec_capacity, ◌||◌}
+pub use Rattle.std.specs.Prelude.{All, bytes_eq, slice_index, sum, vec_capacity}
 pub use Rattle.std.specs.Result.{IsErrAnd}
 pub use Rattle.std.specs.Simd.Lanes.{mask_l, zip2}

@@ -8,7 +8,6 @@ pub use Rattle.cdb_form.proofs.Files.Sizes.{length-file_bytes, length-slots_with
 pub use Rattle.cdb_form.proofs.Files.WalkLaws.{walk_of-file_bytes}
 pub use Rattle.cdb_form.proofs.Files.WalkSteps.{walk_of-records, walk_of-short}
 pub use Rattle.cdb_form.proofs.NativeTexts.RecordLemmas.{are_records}
-pub use Rattle.cdb_form.proofs.Slots.SlotBytes.{count_slots}
 unfoldable pub use Rattle.cdb_form.specs.Format.File.{file_bytes}
 pub use Rattle.cdb_form.specs.Format.Hash.{hash_step, home_slot, key_hash, table_number}
 pub use Rattle.cdb_form.specs.Format.Pair.{WordPair, head_size, pair_size}
@@ -71,9 +70,9 @@ pub use Rattle.cdb_store.specs.Reads.{OnlyReads}
 pub use Rattle.cdb_store.specs.declared.store.Store.{Ghosts}
 pub use Rattle.std.proofs.Common.{Bool, Err, List, Ok, [], ap, append_assoc, arith, cond, drop, false, flat_map, fold, get_or, inl, inr, length, length-append, length-drop, length-take, map, mod-eq_of_lt, refl, replicate, rules, set, subst, suc, sym, take, true, zero, ℕ, ◌%◌, ◌*◌, ◌++◌, ◌+◌, ◌-◌, ◌<◌, ◌^◌, ◌∙◌, ◌∷◌, ◌≡◌, ◌≢◌, ◌≤◌, ◌⊎◌}
 pub use Rattle.std.proofs.Math.Nat.{min-eq_left, min-eq_right, min-le_right}
-pub use Rattle.std.proofs.lemmas.Bool.{OnTrue_at, and_from, and_left, and_parts, and_right, both_ways, cases_Bool, cases_eq, cases_lt, cond-false, cond-true, eq-eqb, eqb-false, eqb-true, le-leb, le-ltb, leb-true, lt-ltb, ltb-true, ne_eqb, not-false, not_from_false, not_from_true, or_cases, or_right}
+pub use Rattle.std.proofs.lemmas.Bool.{OnTrue_at, and_from, and_left, and_parts, and_right, both_ways, cases_Bool, cases_eq, cases_lt, cond-false, cond-true, eq-eqb, eqb-false, eqb-true, le-leb, le-ltb, leb-true, lt-ltb, ltb-true, ne_eqb, not-false, not_from_false, not_from_true, or_right}
 pub use Rattle.std.proofs.lemmas.Grind.{common_steps, flat_map-append}
-pub use Rattle.std.proofs.lemmas.List.{append-nil, drop-append-le, drop-drop, drop-take, drop_at, get_or-drop, get_or-map, get_or-set_other, get_or-set_same, get_or-take, get_or_default, length-map, length-replicate, length-set, length-take-le, map-append, nil_from_length, same_lists, take-append-drop, take-append-le, take-take, take_all, take_at, take_more}
+pub use Rattle.std.proofs.lemmas.List.{append-nil, drop-append-le, drop-drop, drop-take, drop_at, get_or-map, get_or-set_other, get_or-set_same, get_or_default, length-map, length-replicate, length-set, length-take-le, map-append, nil_from_length, same_lists, take-append-drop, take-append-le, take-take, take_all, take_at, take_more}
 pub use Rattle.std.proofs.lemmas.List.Elements.{All-cons, All-contains, All-contains_itself, All-filter, All-from_get_or, All-get_or, All-head, All-nil, All-replicate, All-same, All-set, All-tail, All-weaker, Contains-append_right, filter-append, filter_passes, recursion_from_All}
 pub use Rattle.std.proofs.lemmas.List.Folds.{list_any-append, list_any_none}
 pub use Rattle.std.proofs.lemmas.List.FromFn.{get_or-map-range_with_len, length-map-range_with_len}

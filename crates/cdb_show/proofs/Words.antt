@@ -19,7 +19,6 @@ pub use Rattle.cdb_form.specs.Text.Amending.{Change, Putting}
 pub use Rattle.cdb_form.specs.Text.Map.{map_lines, with_newlines}
 pub use Rattle.cdb_form.specs.Text.Native.{Spells}
 pub use Rattle.cdb_form.specs.Views.KnownBytes.{AppendsPrefix}
-pub use Rattle.cdb_form.specs.Views.RecordReader.{IsFresh, behind_records}
 pub use Rattle.cdb_form.specs.Views.Source.{budget}
 pub use Rattle.cdb_form.specs.Views.TextFault.{IsOfText}
 pub use Rattle.cdb_form.specs.Views.WalkFault.{IsDamage, damage_of}
@@ -35,21 +34,20 @@ pub use Rattle.cdb_read.specs.Views.Reads.{OpeningFails}
 pub use Rattle.cdb_read.specs.declared.fault.ReadFault.{ReadFault}
 pub use Rattle.cdb_show.specs.Lines.{newlines}
 pub use Rattle.cdb_show.specs.Message.{duplicate_line, numbered}
-pub use Rattle.cdb_show.specs.Runs.FedLookups.{FedLookupsFail, StopsFurther, StopsInNext}
-pub use Rattle.cdb_show.specs.Runs.FedText.{KeepsBehind}
+pub use Rattle.cdb_show.specs.Runs.FedLookups.{StopsFurther}
 pub use Rattle.cdb_show.specs.Runs.Flushed.{Flushed}
 pub use Rattle.cdb_show.specs.Runs.Form.{Form, end_of}
 pub use Rattle.cdb_show.specs.Runs.Given.{Given, given_from}
 pub use Rattle.cdb_show.specs.Runs.Incoming.{Incoming, Known, came, from_input, from_inputs, one_input}
-pub use Rattle.cdb_show.specs.Runs.Inputs.{AreAllInputs, AreInputs, BeginsWithItems, FirstBegins, FirstHas, HasFaultBehind, HasFaults, HasInputFault, HasItemFault, InputForm, InputsBeginWith, InputsLeft, IsInput, IsInputOf, Lists, OneBegins, OneInput, Puts, ReadsOne, bytes_of, key_of, keys_form, keys_of, keys_of_each}
-pub use Rattle.cdb_show.specs.Runs.LookedUp.{Looked, looked_up, with_key}
+pub use Rattle.cdb_show.specs.Runs.Inputs.{AreAllInputs, AreInputs, BeginsWithItems, FirstBegins, FirstHas, HasFaultBehind, HasFaults, HasInputFault, HasItemFault, InputForm, InputsBeginWith, InputsLeft, IsInput, IsInputOf, OneBegins, OneInput, Puts, ReadsOne, bytes_of, key_of, keys_form, keys_of, keys_of_each}
+pub use Rattle.cdb_show.specs.Runs.LookedUp.{looked_up}
 pub use Rattle.cdb_show.specs.Runs.Lookups.{FaultBehind, HasLooked, LooksUp, LooksUpAll, LookupsFail, LookupsStop, LookupsStopAt, StopsBehind, missing_answer}
 pub use Rattle.cdb_show.specs.Runs.Parsing.{StopsIn, fault_in, stop_of, stopped_parsing}
 pub use Rattle.cdb_show.specs.Runs.Query.{Queries, Query, QueryAnswers, QueryFails, WritesQueryPrefix, query_answer, query_text}
 pub use Rattle.cdb_show.specs.Runs.StatsText.{keys_line, records_line, sizes_line, tables_line, values_line}
 unfoldable pub use Rattle.cdb_show.specs.Runs.StatsText.{distance_lines}
 pub use Rattle.cdb_show.specs.Views.Fault.{read_fault}
-pub use Rattle.cdb_show.specs.Views.Inputs.{AreReadTo, one_of, shared_feed}
+pub use Rattle.cdb_show.specs.Views.Inputs.{one_of, shared_feed}
 pub use Rattle.cdb_show.specs.Views.KeyReader.{form_of, reader_of}
 pub use Rattle.cdb_show.specs.Views.Noted.{noted_by}
 pub use Rattle.cdb_show.specs.Views.Output.{output_bytes, writer_bytes}
@@ -61,8 +59,7 @@ pub use Rattle.cdb_show.specs.declared.runs.key_reader.KeyReader.{KeyReader}
 pub use Rattle.cdb_store.proofs.Reading.{reads_more}
 pub use Rattle.cdb_store.specs.Reads.{OnlyReads}
 pub use Rattle.cdb_store.specs.declared.store.Store.{Ghosts}
-pub use Rattle.std.proofs.Common.{Bool, Err, IfErr, IfOk, IfSome, List, None, Ok, OnOk, Option, Result, Some, [], ap, append_assoc, arith, codes, drop, false, flat_map, fold, get_or, inl, inr, length, length-append, map, refl, rules, slice_index_or, slice_set, subst, suc, sym, take, true, ℕ, ◌++◌, ◌+◌, ◌-◌, ◌<◌, ◌==◌, ◌^◌, ◌∙◌, ◌∷◌, ◌≡◌, ◌≢◌, ◌≤◌, ◌⊎◌}
-pub use Rattle.std.proofs.lemmas.Bool.{cond-true}
+pub use Rattle.std.proofs.Common.{Bool, Err, IfErr, IfOk, IfSome, List, None, Ok, OnOk, Option, Result, Some, [], ap, append_assoc, arith, codes, drop, false, flat_map, fold, get_or, inl, inr, length, length-append, map, refl, rules, slice_index_or, slice_set, subst, suc, sym, take, true, ℕ, ◌++◌, ◌+◌, ◌-◌, ◌<◌, ◌^◌, ◌∙◌, ◌∷◌, ◌≡◌, ◌≢◌, ◌≤◌, ◌⊎◌}
 pub use Rattle.std.proofs.lemmas.Grind.{common_steps}
 pub use Rattle.std.proofs.lemmas.List.{append-nil, drop-drop, length-take, length-take-le, map-append, take-append-drop, take-take}
 pub use Rattle.std.proofs.lemmas.List.Concat.{flat_map-append}

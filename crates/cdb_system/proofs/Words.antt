@@ -4,7 +4,7 @@ pub use Rattle.cdb_command.specs.Refused.{parts_line}
 pub use Rattle.cdb_command.specs.Shown.{shown}
 pub use Rattle.cdb_feed.specs.Inputs.{AreUnread, IsUnread}
 pub use Rattle.cdb_feed.specs.declared.input_reader.InputReader.{InputReader}
-pub use Rattle.cdb_form.proofs.Bytes.WritingLemmas.{prefix_in, same_appends, same_writes, writes_prefix}
+pub use Rattle.cdb_form.proofs.Bytes.WritingLemmas.{same_appends, same_writes}
 pub use Rattle.cdb_form.specs.Fed.Feed.{Feed, FromTo}
 pub use Rattle.cdb_form.specs.Format.Pair.{head_size}
 unfoldable pub use Rattle.cdb_form.specs.Format.Walk.{walk_of}
@@ -22,21 +22,21 @@ pub use Rattle.cdb_store.specs.Contents.{contents}
 pub use Rattle.cdb_store.specs.Images.{ImagesHold, part}
 pub use Rattle.cdb_store.specs.declared.memory.MemStore.{MemStore}
 pub use Rattle.cdb_store.specs.declared.store.Store.{Ghosts}
-pub use Rattle.cdb_system.specs.Answered.{AreAnswered, IsAnswered, IsThere, Nothing, Reading, Shows, stores_in, streams_in}
+pub use Rattle.cdb_system.specs.Answered.{AreAnswered, IsAnswered, Reading, Shows}
 pub use Rattle.cdb_system.specs.CauseLine.{name_ending, reason_name}
 pub use Rattle.cdb_system.specs.Files.{files_of}
 pub use Rattle.cdb_system.specs.Given.{AgreeAll}
 pub use Rattle.cdb_system.specs.Inputs.{OpensEach, OpensInputs, inputs_read}
 pub use Rattle.cdb_system.specs.Opening.{OpenCalls, unopened}
-pub use Rattle.cdb_system.specs.Oracle.{Disk, Outcome, ended, inputs_of, of_file}
-pub use Rattle.cdb_system.specs.Reading.{IsNotLoaded, IsWhole, Lookups, PerformsLookups, PerformsOn, PerformsText, ReadsText}
+pub use Rattle.cdb_system.specs.Oracle.{Disk, Outcome, ended, of_file}
+pub use Rattle.cdb_system.specs.Reading.{IsWhole}
 pub use Rattle.cdb_system.specs.State.{Standard, State}
 pub use Rattle.cdb_system.specs.Streams.{AgreeInTurn, Agrees, names_in_turn, own_readers}
 pub use Rattle.cdb_system.specs.Telling.{Says, SaysLine}
 pub use Rattle.cdb_system.specs.declared.left.Left.{Left}
 pub use Rattle.cdb_system.specs.declared.open_trace.OpenCall.{OpenCall}
 pub use Rattle.cdb_system.specs.declared.open_trace.OpenTrace.{OpenTrace}
-pub use Rattle.std.proofs.Common.{Bool, Err, IfOk, IfSome, List, None, Ok, Option, Result, Some, [], ap, append_assoc, arith, codes, false, inl, inr, length, map, option_map, refl, rules, string_bytes, subst, sym, take, true, ℕ, ◌++◌, ◌+◌, ◌<◌, ◌∙◌, ◌∷◌, ◌≡◌, ◌≤◌}
+pub use Rattle.std.proofs.Common.{Bool, Err, IfOk, IfSome, List, None, Ok, Option, Result, Some, [], ap, append_assoc, arith, codes, false, inl, inr, length, map, refl, rules, string_bytes, subst, sym, take, true, ℕ, ◌++◌, ◌+◌, ◌<◌, ◌∙◌, ◌∷◌, ◌≡◌, ◌≤◌}
 pub use Rattle.std.proofs.lemmas.Bool.{cond-false, cond-true, le-ltb, lt-ltb}
 pub use Rattle.std.proofs.lemmas.List.{append-nil}
 pub use Rattle.std.proofs.lemmas.Result.{err_from_is_err_and}

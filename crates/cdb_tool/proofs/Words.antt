@@ -10,7 +10,6 @@ pub use Rattle.cdb_form.specs.Format.Walk.{Walked, with_first}
 unfoldable pub use Rattle.cdb_form.specs.Format.Walk.{walk_of}
 pub use Rattle.cdb_form.specs.Text.Amending.{Change, Putting, Removing}
 pub use Rattle.cdb_form.specs.Text.Map.{with_newlines}
-pub use Rattle.cdb_form.specs.Views.KnownBytes.{AppendsPrefix}
 pub use Rattle.cdb_form.specs.Views.Pairs.{key_values}
 pub use Rattle.cdb_form.specs.Views.TextFault.{IsOfText, IsReadFault}
 pub use Rattle.cdb_form.specs.Views.TextReader.{unread}
@@ -25,7 +24,7 @@ pub use Rattle.cdb_make.specs.declared.maker.Maker.{Maker}
 pub use Rattle.cdb_read.specs.Views.Walk.{left_of}
 pub use Rattle.cdb_read.specs.Views.Walking.{record_in}
 pub use Rattle.cdb_read.specs.declared.fault.ReadFault.{ReadFault}
-pub use Rattle.cdb_show.proofs.ItemInputs.{GaveItems, items_form, items_more}
+pub use Rattle.cdb_show.proofs.ItemInputs.{GaveItems}
 pub use Rattle.cdb_show.proofs.NativeInputs.{some_weaker}
 pub use Rattle.cdb_show.proofs.Writers.{not_ok, prefix_kept, whole_prefix}
 pub use Rattle.cdb_show.specs.Message.{TellsEach, TellsPart, Told}
@@ -45,14 +44,14 @@ pub use Rattle.cdb_store.specs.Reads.{OnlyReads}
 pub use Rattle.cdb_store.specs.declared.make_fault.MakeFault.{MakeFault}
 pub use Rattle.cdb_store.specs.declared.store.Store.{Ghosts}
 pub use Rattle.cdb_tool.specs.Runs.Base.{NotAdded}
-pub use Rattle.cdb_tool.specs.Runs.Course.{Course, EndsSo, Goes, Task, at_start, course_of, ends, is_going, mode_of, task_of, told, with_change, with_next}
+pub use Rattle.cdb_tool.specs.Runs.Course.{Course, EndsSo, Task, course_of, ends, is_going, mode_of, with_change, with_next}
 pub use Rattle.cdb_tool.specs.Runs.FormParsing.{BeginsSo, FailsSo, parsing}
 pub use Rattle.cdb_tool.specs.Runs.InputsRead.{HasRead, IsFaultAt, RunsRead, StopsInput, WereRead, stop_by}
 pub use Rattle.cdb_tool.specs.Runs.Made.{made_of}
-pub use Rattle.cdb_tool.specs.Runs.Make.{BaseFails, HoldsBase, InCourse, InputsFail, IsHalt, IsOfStore, IsSomeBase, MakeRuns, MakeStandsAt, MakeStops, OfBase, PutStops, PutsInputs, PutsInputsStop, PutsStop, RunFails, StoppedAt, records_of}
+pub use Rattle.cdb_tool.specs.Runs.Make.{InCourse, MakeRuns, OfBase, PutsInputs, PutsInputsStop, PutsStop}
 pub use Rattle.cdb_tool.specs.Runs.MakesSo.{ComesOf}
 pub use Rattle.cdb_tool.specs.declared.runs.options.RunOptions.{RunOptions}
-pub use Rattle.std.proofs.Common.{Bool, Err, IfSome, List, None, Ok, Option, Result, Some, [], ap, append_assoc, arith, drop, false, if◌then◌else◌, inl, inr, is_some, length, length-append, map, refl, rules, subst, sym, take, true, true≢false, ℕ, ◌*◌, ◌++◌, ◌+◌, ◌<◌, ◌^◌, ◌∙◌, ◌∷◌, ◌≡◌, ◌≢◌, ◌≤◌, ◌⊎◌}
+pub use Rattle.std.proofs.Common.{Bool, Err, List, None, Ok, Option, Result, Some, [], ap, append_assoc, arith, drop, false, if◌then◌else◌, inl, inr, is_some, length, length-append, map, refl, rules, subst, sym, take, true, true≢false, ℕ, ◌*◌, ◌++◌, ◌+◌, ◌<◌, ◌^◌, ◌∙◌, ◌∷◌, ◌≡◌, ◌≢◌, ◌≤◌, ◌⊎◌}
 pub use Rattle.std.proofs.Math.Seq.{drop-length}
 pub use Rattle.std.proofs.lemmas.Bool.{cond-true, le-leb}
 pub use Rattle.std.proofs.lemmas.Grind.{common_steps}

@@ -209,7 +209,7 @@ abbrev pub PutStops : ℕ → Task → List Incoming → Incoming → Option (Li
 PutStops w t cs c old new fault =
     StopsSo w t cs old new fault ⊎ StopsSo w t (cs ++ c ∷ []) old new fault
 
--- what an item leaves of a run that came to it: the run goes on with it done, or stopped at it. Where
+-- what an item leaves of a run that came to it: the run goes on with it done, or stopped at it. If
 -- memory was refused, the item would not have ended it
 pub record ItemDone {S L : Type 0} {s : Ghosts S} {l : Widths L} (t : Task) (cs : List Incoming)
     (c : Incoming) (start now : Option (List ℕ)) (m : Maker S L s l) (result : Result Unit Fault)
