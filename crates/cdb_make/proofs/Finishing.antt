@@ -1,10 +1,10 @@
 -- A finished file: its records without those that go, and what is left if finishing failed.
-use Rattle.cdb_make.proofs.Words.{AreNone, Bool, Ghosts, HeadIsLast, IsFinished, KeepsPart, KeyValue, List, MakeFault, Maker, Roll, SameImages, SameRecords, Sees, WordPair, ap, arith, behind, cond, false, file_bytes, flat_map, found_of, gone_of, head_bytes, head_size, inl, inr, is_gone, joined, left, length, length-map, map, part, places_in, record_bytes, record_size, records_end, refl, roll_tables, subst, sym, table_bytes, true, ℕ, ◌*◌, ◌++◌, ◌+◌, ◌-◌, ◌<◌, ◌∙◌, ◌≡◌, ◌≤◌, ◌⊎◌}
+use Rattle.cdb_make.proofs.Words.{AreNone, Bool, Ghosts, HeadIsLast, IsErrAnd, IsFinished, KeepsPart, KeyValue, List, MakeFault, Maker, Roll, SameImages, SameRecords, Sees, WordPair, ap, arith, behind, cond, false, file_bytes, flat_map, found_of, gone_of, head_bytes, head_size, inl, inr, is_gone, joined, left, length, length-map, map, part, places_in, record_bytes, record_size, records_end, refl, roll_tables, subst, sym, table_bytes, true, ℕ, ◌*◌, ◌++◌, ◌+◌, ◌-◌, ◌<◌, ◌∙◌, ◌≡◌, ◌≤◌, ◌⊎◌, AfterTornWrite, kept_torn}
 use Rattle.std.specs.Prelude.{sum, Result, Ok, Err, IfErr, OnOk, OnErr}
 use Rattle.std.proofs.lemmas.List.Sums.{sum-map}
 use Rattle.cdb_form.specs.declared.width.Width.{Ghosts as Widths}
 use Rattle.cdb_store.specs.declared.make_fault.MakeFault.TheVariants.{Broken, Lookup, TooBig, NoMemory, Writing}
-use Rattle.cdb_make.specs.Views.Maker.{gone_in, count_in, made_size, Holds, Goes, Passes, HasNotFailed, Compacts, CompactsAll, FailsCompactingAll, FailsFinishing, FinishWrites, IsFile, SameCounts, StaysWhole, told_count, told_size, HasStoreFailed, Rests, Stays, TellsCounts, WritesNothing}
+use Rattle.cdb_make.specs.Views.Maker.{gone_in, count_in, made_size, Holds, Goes, Passes, HasNotFailed, Compacts, CompactsAll, FailsCompactingAll, FailsFinishing, FinishWrites, IsFile, SameCounts, StaysWhole, told_count, told_size, HasStoreFailed, Rests, Stays, Steps, TellsCounts, WritesNothing, Follows}
 use Rattle.cdb_make.proofs.Bytes.Written.{flat_map-map}
 use Rattle.cdb_make.proofs.FinishedFile.{file_of_parts}
 use Rattle.cdb_make.proofs.Looking.{sees_long, sees_same}
@@ -164,6 +164,17 @@ whole_counts i j was whole same limit = record {
 pub counts_then : {S L : Type 0} {s : Ghosts S} {l : Widths L} (i j k : Maker S L s l) → SameCounts i j → SameCounts j k → SameCounts i k
 counts_then i j k f h = record { count = h.count ∙ f.count; size = h.size ∙ f.size; limit = h.limit ∙ f.limit }
 
+-- a call that failed leaves what it counts and what it came of
+pub fails_so : {S L T E : Type 0} {s : Ghosts S} {l : Widths L} (i j : Maker S L s l) (r : Result T E) (P : E → Type 0) → IsErrAnd r P → SameCounts i j → Follows i j → Steps i j r
+fails_so i j (Ok x) P is counts follows = absurd is
+fails_so i j (Err e) P is counts follows = record { fine = tt; counts = counts; follows = follows }
+
+-- an exchange that failed may leave the maker broken
+pub lost_counts : {S L : Type 0} {s : Ghosts S} {l : Widths L} (i j : Maker S L s l) (lost : Bool) → i.broken ≡ false → (lost ≡ false → j.broken ≡ false) → (lost ≡ false → i.roll.found.count ≡ 0) → TellsCounts i j
+    → (cond lost j.counted.count (count_in j) ≡ told_count i) × (cond lost j.counted.size (made_size j) ≡ told_size i)
+lost_counts i j true was whole none told = (told.count, told.size)
+lost_counts i j false was whole none told = (told.left (whole refl) (none refl) ∙ sym (told_whole i was).0, told.left_size (whole refl) (none refl) ∙ sym (told_whole i was).1)
+
 -- after a pass
 pub compacted_counts : {S L T E : Type 0} {s : Ghosts S} {l : Widths L} (i j : Maker S L s l) (r : Result T E) → i.broken ≡ false → OnOk r (Compacts i j) → OnOk r (j.roll.gone.count ≡ 0) → OnOk r (j.roll.gone.size ≡ 0) → OnOk r (j.roll.end + i.roll.gone.size ≡ i.roll.end)
     → OnOk r (length j.roll.hashes.items + i.roll.gone.count ≡ length i.roll.hashes.items) → j.limit ≡ i.limit → OnErr r (SameCounts i j) → SameCounts i j
@@ -260,7 +271,7 @@ sees_part {l = l} m all a b same h =
       of = h.of;
     }
 
-pub stays_kept : {S L : Type 0} {s : Ghosts S} {l : Widths L} (j k : Maker S L s l) → j.broken ≡ false → k.broken ≡ false → k.roll ≡ j.roll → KeepsPart (head_size l.WORD) (j.roll.end - head_size l.WORD) (s.image j.store) (s.image k.store) → StaysWhole j k
+stays_kept : {S L : Type 0} {s : Ghosts S} {l : Widths L} (j k : Maker S L s l) → j.broken ≡ false → k.broken ≡ false → k.roll ≡ j.roll → KeepsPart (head_size l.WORD) (j.roll.end - head_size l.WORD) (s.image j.store) (s.image k.store) → StaysWhole j k
 stays_kept j k was whole roll keeps = record {
   was = was;
   whole = whole;
@@ -312,6 +323,10 @@ compacting_fails i j Lookup h = h
 compacting_fails i j TooBig h = h
 compacting_fails i j NoMemory h = absurd h
 compacting_fails i j Writing h = inr h
+
+-- what is written after the records leaves them
+pub stays_written : {S L : Type 0} {s : Ghosts S} {l : Widths L} (j k : Maker S L s l) {n : ℕ} → j.broken ≡ false → k.broken ≡ false → k.roll ≡ j.roll → AfterTornWrite j.roll.end n (s.image j.store) (s.image k.store) → StaysWhole j k
+stays_written {l = l} j k was whole roll torn = stays_kept j k was whole roll (kept_torn (head_size l.WORD) (j.roll.end - head_size l.WORD) (inl (omega (arith, end_behind j.roll))) torn)
 
 -- what holds of a fault that a result is
 pub on_fault_is : {T E : Type 0} {P Q : E → Type 0} (r : Result T E) → ((e : E) → r ≡ Err e → P e → Q e) → IfErr r P → IfErr r Q

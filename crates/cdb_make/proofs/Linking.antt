@@ -1,5 +1,5 @@
 -- Chains of entries: one entry more, one less, and a search.
-use Rattle.cdb_make.proofs.Words.{AreChained, Bool, Has, IsIn, IsLast, List, Reaches, [], ap, arith, bucket_of, cases_eq, cases_lt, false, get_or, inl, inr, length, set, subst, sym, take, true, ℕ, ◌++◌, ◌+◌, ◌-◌, ◌<◌, ◌∙◌, ◌∷◌, ◌≡◌, ◌≤◌}
+use Rattle.cdb_make.proofs.Words.{AreChained, Bool, IsIn, IsLast, List, Reaches, [], ap, arith, bucket_of, cases_eq, cases_lt, false, get_or, inl, inr, length, set, subst, sym, take, true, ℕ, ◌++◌, ◌+◌, ◌-◌, ◌<◌, ◌∙◌, ◌∷◌, ◌≡◌, ◌≤◌}
 use Rattle.std.specs.Prelude.{slice_index, ◌≢◌}
 use Rattle.std.proofs.lemmas.List.{get_or-set_same, get_or-set_other, get_or_append_left, get_or_push, get_or-take, get_or_past, length-set, length_push, length-take-le}
 
@@ -299,6 +299,3 @@ reaches_step heads before hs ms hash end at h some other r =
       },
       omega (arith, step.within),
     )
-
-pub found : (count hash : ℕ) (hs : List ℕ) (ms : List Bool) (long end at : ℕ) → at ≤ end → (0 < at → slice_index hs (at - 1) ≡ hash) → Reaches count hash hs ms long end at → IsLast (Has hash hs ms) end at
-found count hash hs ms long end at low same r = record { within = low; here = λ some. record { same = same some; stays = (r.here some).stays }; none = r.none }

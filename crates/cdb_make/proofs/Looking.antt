@@ -1,6 +1,6 @@
 -- Records that a roll notes, as a look at their places sees them.
 use Rattle.std.proofs.Common.{◌≡◌, ℕ, zero, suc, ◌+◌, ◌<◌, ◌≤◌, ◌^◌, Bool, true, false, cond, List, [], ◌∷◌, ◌++◌, length, map, drop, take, get_or, refl, sym, ap, subst, ◌∙◌, arith, Ok, Option, Some, None, is_some}
-use Rattle.cdb_make.proofs.Words.{Has, IsFreshRecord, KeyValue, PairFits, Roll, SameRecords, Sees, Stand, bytes_eq, bytes_eq-Decides, fresh, get_or-map, get_or_default, gone_of, has_key, head_size, key_hash, length-map, length-record_bytes, part, places_in, record_bytes, record_size, searched, slice_index, sought_by, sought_in, take-append-drop}
+use Rattle.cdb_make.proofs.Words.{Has, cases_lt, inl, inr, is_gone, IsFreshRecord, KeyValue, PairFits, Roll, SameRecords, Sees, bytes_eq, bytes_eq-Decides, fresh, get_or-map, get_or_default, gone_of, has_key, head_size, key_hash, length-map, length-record_bytes, part, places_in, record_bytes, record_size, searched, slice_index, sought_by, sought_in, take-append-drop}
 use Rattle.cdb_form.specs.declared.width.Width.{Ghosts as Widths}
 use Rattle.cdb_form.proofs.Files.Prefixes.{lengths_of, Begins, Reads, prefix_reads}
 use Rattle.cdb_form.proofs.Files.Standing.{Begins-record_bytes}
@@ -74,6 +74,17 @@ fresh_has {l = l} m all b key number k is_sought lt long h is =
       same = ap (λ (v : List ℕ). slice_index v k) h.searched ∙ get_or-map (λ r. sought_in m r.key) all k d 0 lt ∙ ap (sought_in m) same ∙ sym is_sought;
       stays = both.0;
     }
+
+-- no record has the key if none has the number up to some place, and none has the key from there on
+pub none_fresh : {L : Type 0} {l : Widths L} (m : Roll L l) (all : List KeyValue) (b key : List ℕ) (number from before end : ℕ) → number ≡ sought_in m key → before ≤ end → end ≤ length m.hashes.items → Sees m all b
+    → ((k : ℕ) → from ≤ k → k < before → Has number (searched m) (gone_of m.marks.items) k → ⊥) → ((k : ℕ) → before ≤ k → k < end → IsFreshRecord key (gone_of m.marks.items) all k → ⊥)
+    → (k : ℕ) → from ≤ k → k < end → IsFreshRecord key (gone_of m.marks.items) all k → ⊥
+none_fresh m all b key number from before end is_sought low high h no_number none k above below is =
+    let long = sees_long m all b h in
+    elim (cases_lt k before) [
+      | inl lt ↦ no_number k above lt (fresh_has m all b key number k is_sought (omega (arith, long)) (omega (arith, long, length-map m.marks.items is_gone, m.marked)) h is)
+      | inr past ↦ none k past below is
+    ]
 
 -- a look at its place
 pub looked_none : {L : Type 0} {l : Widths L} (m : Roll L l) (all : List KeyValue) (b key : List ℕ) (k place : ℕ) → l.TOP + 1 ≡ 256 ^ l.WORD → l.GREATEST ≤ l.TOP → k < length all → length (gone_of m.marks.items) ≡ length all → place ≡ get_or (places_in m.places) k m.end → Sees m all b

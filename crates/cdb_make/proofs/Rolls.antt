@@ -1,5 +1,5 @@
 -- What a roll says of an image, step by step.
-use Rattle.cdb_make.proofs.Words.{AfterTornWrite, AreNone, AreOf, Bool, Ghosts, IsErrAnd, IsRecord, KeepsPart, KeyValue, List, LookFault, MakeFault, Maker, OnlyReads, Roll, SameImages, SameRecords, Sees, SeesNone, Stand, [], ap, arith, cases_eq, cases_lt, cond, end_from, false, file_size, found_of, fresh, get_or, get_or_append_left, get_or_past, get_or_push, gone_of, has_key, head_size, inl, inr, joined, key_hash, left, length, length-append, length-map, length_push, map, map-append, not, number, or_each, overwrite, part, part-overwrite, part_add, part_from_take, picked, places_in, record_bytes, record_size, refl, searched, sought_in, subst, sum_by, sum_by-cons, sum_by_push, sym, take, take-overwrite, true, whole_size, without, ℕ, ◌*◌, ◌++◌, ◌+◌, ◌<◌, ◌∙◌, ◌∷◌, ◌≡◌, ◌≤◌, ◌⊎◌}
+use Rattle.cdb_make.proofs.Words.{AfterTornWrite, AreNone, AreOf, Bool, Ghosts, IsErrAnd, IsRecord, KeepsPart, KeyValue, List, LookFault, MakeFault, Maker, OnlyReads, Roll, SameImages, SameRecords, Sees, SeesNone, Stand, [], ap, arith, cases_eq, cases_lt, cond, end_from, false, file_size, found_of, fresh, get_or, get_or_append_left, get_or_past, get_or_push, gone_of, has_key, head_size, inl, inr, joined, key_hash, left, length, length-append, length-map, length_push, map, map-append, not, number, or_each, overwrite, part, part-overwrite, part_add, part_from_take, picked, places_in, record_bytes, record_size, refl, searched, sought_in, subst, sum_by, sum_by-cons, sum_by_push, sym, take, take-overwrite, true, whole_size, without, ℕ, ◌*◌, ◌++◌, ◌+◌, ◌<◌, ◌∙◌, ◌∷◌, ◌≡◌, ◌≤◌, ◌⊎◌, kept_torn}
 use Rattle.std.specs.Prelude.{All, sum, Result, Ok, Err, IfErr, OnOk, OnErr}
 use Rattle.std.proofs.lemmas.List.Elements.{All-append, All-cons, All-nil, All-head, All-tail}
 use Rattle.cdb_form.specs.declared.width.Width.{Ghosts as Widths}
@@ -108,6 +108,12 @@ more_slots w n (inr e) =
     let a : 4 * w * (n + 1) ≡ 32 * (n + 1) = ap (λ (v : ℕ). 4 * v * (n + 1)) e in
     let b : 4 * w * n ≡ 32 * n = ap (λ (v : ℕ). 4 * v * n) e in
     omega arith
+
+-- the slots of one record more
+pub slots_push : (w hash : ℕ) (old was new : List ℕ) → (w ≡ 4) ⊎ (w ≡ 8) → was ≡ old → new ≡ was ++ hash ∷ [] → 4 * w * length new ≡ 4 * w * length old + 4 * w
+slots_push w hash old was new wide same push =
+    let long : length new ≡ length old + 1 = ap length push ∙ length_push was hash ∙ ap (λ (v : List ℕ). length v + 1) same in
+    ap (λ (v : ℕ). 4 * w * v) long ∙ more_slots w (length old) wide
 
 pub fewer_slots : (w few n : ℕ) → (w ≡ 4) ⊎ (w ≡ 8) → few ≤ n → 4 * w * few ≤ 4 * w * n
 fewer_slots w few n (inl e) le =
@@ -244,14 +250,23 @@ room_fails i k (Err v) Refused r is device nothing past = subst (FailsCompacting
 
 -- ---- what a maker holds
 
-pub look_fails : {S L : Type 0} {s : Ghosts S} {l : Widths L} (i k : Maker S L s l) (fault : LookFault) → i.broken ≡ false → SameRecords i.roll k.roll → gone_in k ≡ gone_in i → k.roll.gone ≡ i.roll.gone → k.limit ≡ i.limit → k.lazy ≡ i.lazy → k.broken ≡ is_foreign fault → OnlyReads s i.store k.store
+look_fails_so : {S L : Type 0} {s : Ghosts S} {l : Widths L} (i k : Maker S L s l) (fault : LookFault) → i.broken ≡ false → SameRecords i.roll k.roll → gone_in k ≡ gone_in i → k.roll.gone ≡ i.roll.gone → k.limit ≡ i.limit → k.lazy ≡ i.lazy → k.broken ≡ is_foreign fault → OnlyReads s i.store k.store
     → (fault ≡ Foreign → SeesNone k.roll (s.image k.store)) → (fault ≡ Failed → s.failures i.store < s.failures k.store) → FailsLooking i k (look_fault fault)
-look_fails i k Failed was same gone picked limit lazy broken reads none failed = (record { was = was; whole = broken; same = same; gone = gone; picked = picked; limit = limit; lazy = lazy; reads = reads }, failed refl)
-look_fails i k Foreign was same gone picked limit lazy broken reads none failed = record {
+look_fails_so i k Failed was same gone picked limit lazy broken reads none failed = (record { was = was; whole = broken; same = same; gone = gone; picked = picked; limit = limit; lazy = lazy; reads = reads }, failed refl)
+look_fails_so i k Foreign was same gone picked limit lazy broken reads none failed = record {
   broken = broken;
   same = λ e. absurd (let t : true ≡ false = sym e ∙ was in cc);
   cause = λ rs h b is. (let held = h.each b (reads.images b is) in (none refl).each b is held.all (sees_same i.roll k.roll held.all b same held.sees));
 }
+
+-- a look ended so with this roll and store, and then its maker noted why
+pub look_fails : {S L : Type 0} {s : Ghosts S} {l : Widths L} (i k : Maker S L s l) (roll : Roll L l) (store : S) (fault : LookFault) (told : MakeFault) → i.broken ≡ false → SameRecords i.roll roll → gone_of roll.marks.items ≡ gone_in i → roll.gone ≡ i.roll.gone → OnlyReads s i.store store
+    → (fault ≡ Foreign → SeesNone roll (s.image store)) → (fault ≡ Failed → s.failures i.store < s.failures store) → told ≡ look_fault fault → k.broken ≡ is_foreign fault → k.store ≡ store → k.roll ≡ roll → k.limit ≡ i.limit → k.lazy ≡ i.lazy → FailsLooking i k told
+look_fails {s = s} i k roll store fault told was same gone picked reads none failed is broken on of limit lazy =
+    subst (FailsLooking i k) (sym is)
+    (look_fails_so i k fault was (subst (λ v. SameRecords i.roll v) (sym of) same) (ap (λ v. gone_of v.marks.items) of ∙ gone) (ap (λ v. v.gone) of ∙ picked) limit lazy broken (subst (λ v. OnlyReads s i.store v) (sym on) reads)
+    (λ e. subst (λ v. SeesNone v (s.image k.store)) (sym of) (subst (λ v. SeesNone roll (s.image v)) (sym on) (none e)))
+    (λ e. subst (λ v. s.failures i.store < s.failures v) (sym on) (failed e)))
 
 pub two_slots : (w p n : ℕ) → p ≡ 2 * w → (w ≡ 4) ⊎ (w ≡ 8) → 2 * p * n ≡ 4 * w * n
 two_slots w p n e (inl f) =
@@ -262,6 +277,10 @@ two_slots w p n e (inr f) =
     let x : 2 * p * n ≡ 2 * 16 * n = ap (λ (v : ℕ). 2 * v * n) (let t : p ≡ 16 = omega arith in t) in
     let y : 4 * w * n ≡ 4 * 8 * n = ap (λ (v : ℕ). 4 * v * n) f in
     omega arith
+
+-- two slots for each of so many records, which are no more than n
+pub slots_fit : (w p few n : ℕ) → p ≡ 2 * w → (w ≡ 4) ⊎ (w ≡ 8) → few ≤ n → 2 * p * few ≤ 4 * w * n
+slots_fit w p few n pair wide le = omega (arith, two_slots w p few pair wide, fewer_slots w few n wide le)
 
 pub on_ok_both : {T E A B C : Type 0} (r : Result T E) → (A → B → C) → OnOk r A → OnOk r B → OnOk r C
 on_ok_both (Ok x) f a b = f a b
@@ -333,4 +352,16 @@ follows_read i j limit lazy reads = record {
   room = reads.room;
   failures = reads.failures;
   unwritten = reads.unwritten;
+}
+
+-- a write after the head
+pub follows_write : {S L : Type 0} {s : Ghosts S} {l : Widths L} (i j : Maker S L s l) {at n : ℕ} → j.limit ≡ i.limit → j.lazy ≡ i.lazy → head_size l.WORD ≤ at → AfterTornWrite at n (s.image i.store) (s.image j.store) → s.room i.store ≤ s.room j.store → s.failures i.store ≤ s.failures j.store → s.unwritten i.store ≤ s.unwritten j.store → Follows i j
+follows_write {l = l} i j limit lazy behind torn room failures unwritten = record {
+  comes = comes_write torn;
+  head = kept_torn 0 (head_size l.WORD) (inl (omega (arith, behind))) torn;
+  limit = limit;
+  lazy = lazy;
+  room = room;
+  failures = failures;
+  unwritten = unwritten;
 }

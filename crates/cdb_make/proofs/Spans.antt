@@ -1,6 +1,6 @@
 -- Pieces that lie one after another: step by step, and closed.
 use Rattle.std.proofs.Common.{◌≡◌, ℕ, zero, suc, ◌+◌, ◌-◌, ◌<◌, ◌≤◌, Bool, true, false, cond, List, [], ◌∷◌, ◌++◌, length, map, take, drop, get_or, refl, sym, ap, subst, ◌∙◌, arith, add-one, append_assoc, length-append, length-take}
-use Rattle.cdb_make.proofs.Words.{AreOf, AreRising, AreSized, AreSpans, Copied, KeepsPart, Stand, Turns, behind, end_from, joined, left, or_each, overwrite, part, places_from, sum}
+use Rattle.cdb_make.proofs.Words.{AreOf, AreRising, AreSized, AreSpans, Copied, KeepsPart, Stand, Turns, behind, end_from, joined, left, or_each, overwrite, part, places_from}
 use Rattle.std.proofs.lemmas.List.{append-nil, take_at, drop_at, drop-take, take-take, drop-drop, take_more, length-take-le, get_or-take, length-map, take_all, take-map, get_or-map}
 use Rattle.cdb_store.proofs.Parts.{part_add, part_from_take, length-part, part-overwrite, take-overwrite, drop-overwrite}
 

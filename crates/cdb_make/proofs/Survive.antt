@@ -1,6 +1,6 @@
 -- The records of a key, among those that do not go.
-use Rattle.cdb_make.proofs.Words.{AreNone, Bool, IsFreshRecord, IsLast, KeyValue, List, [], ap, arith, cases_lt, cond, count_of, false, false_from_ne_true, fresh, has_key, inl, inr, is_there, left, length, nat_tests, number, or_each, refl, suc, sum_by-cons, sym, true, zero, ℕ, ◌+◌, ◌-◌, ◌<◌, ◌∙◌, ◌∷◌, ◌≡◌, ◌≤◌}
-use Rattle.std.specs.Prelude.{nat_lt, ◌||◌}
+use Rattle.cdb_make.proofs.Words.{AreNone, Bool, FindsLast, IsFreshRecord, KeyValue, List, None, Option, Some, [], ap, arith, cases_lt, cond, count_of, false, false_from_ne_true, fresh, has_key, inl, inr, is_some, is_there, left, length, number, or_each, refl, suc, sum_by-cons, sym, true, zero, ℕ, ◌+◌, ◌<◌, ◌∙◌, ◌∷◌, ◌≡◌, ◌≤◌}
+use Rattle.std.specs.Prelude.{◌||◌}
 
 there_at : (key : List ℕ) (ms : List Bool) (rs : List KeyValue) (k : ℕ) → IsFreshRecord key ms rs k → is_there key (left ms rs) ≡ true
 there_at key [] rs k is = absurd (let t : false ≡ true = is in cc)
@@ -25,21 +25,13 @@ fresh_past key (m ∷ ms) [] k le is = (let t : false ≡ true = is in cc)
 fresh_past key (m ∷ ms) (r ∷ rs) zero le is = absurd (omega arith)
 fresh_past key (m ∷ ms) (r ∷ rs) (suc k) le is = fresh_past key ms rs k (omega arith) is
 
-some_test : (n : ℕ) → 0 < n → nat_lt 0 n ≡ true
-some_test n h = grind (arith, nat_tests)
-
-none_test : (n : ℕ) → n ≤ 0 → nat_lt 0 n ≡ false
-none_test n h = grind (arith, nat_tests)
-
 -- whether a search for the last one has found one
-pub last_there : (key : List ℕ) (ms : List Bool) (rs : List KeyValue) (end n : ℕ) → length ms ≡ length rs → length rs ≤ end → IsLast (IsFreshRecord key ms rs) end n → nat_lt 0 n ≡ is_there key (left ms rs)
-last_there key ms rs end n long all h = elim (cases_lt 0 n) [
-  | inl some ↦ some_test n some ∙ sym (there_at key ms rs (n - 1) (h.here some))
-  | inr le ↦ none_test n le ∙ sym (there_none key ms rs long (λ k is. elim (cases_lt k end) [
-    | inl lt ↦ h.none k (omega arith) lt is
-    | inr past ↦ fresh_past key ms rs k (omega arith) is
-  ]))
-]
+pub last_there : (key : List ℕ) (ms : List Bool) (rs : List KeyValue) (end : ℕ) (last : Option ℕ) → length ms ≡ length rs → length rs ≤ end → FindsLast (IsFreshRecord key ms rs) end last → is_some last ≡ is_there key (left ms rs)
+last_there key ms rs end (Some n) long all h = sym (there_at key ms rs n h.here)
+last_there key ms rs end None long all h = sym (there_none key ms rs long (λ k is. elim (cases_lt k end) [
+  | inl lt ↦ h k lt is
+  | inr past ↦ fresh_past key ms rs k (omega arith) is
+]))
 
 -- how many have no mark yet
 pub fresh_count : (key : List ℕ) (ms : List Bool) (rs : List KeyValue) → length ms ≡ length rs → number (fresh key ms rs) ≡ count_of key (left ms rs)

@@ -1,5 +1,5 @@
 -- The entries of a roll, by their tables.
-use Rattle.cdb_make.proofs.Words.{All, KeyValue, List, Roll, Sees, WordPair, [], ap, arith, cases_eq, entries_from, entries_in, entries_of, get_or, head_size, in_table, inl, inr, key_hash, length, length-append, length-set, map, mul-le-mul_left, nat_tests, places_from, places_in, record_size, refl, replicate, roll_entries, roll_tables, slice_set, subst, suc, sum_by, sum_by-append, sym, table_entries, table_number, tables_of, take, zero, ℕ, ◌*◌, ◌++◌, ◌+◌, ◌-◌, ◌<◌, ◌∙◌, ◌∷◌, ◌≡◌, ◌≤◌, ◌⊎◌}
+use Rattle.cdb_make.proofs.Words.{All, KeyValue, List, Roll, Sees, WordPair, [], ap, arith, cases_eq, entries_from, entries_in, entries_of, get_or, head_size, in_table, inl, inr, key_hash, length, length-append, length-set, map, mul-le-mul_left, nat_tests, places_from, places_in, record_size, refl, replicate, roll_entries, roll_tables, slice_set, suc, sum_by, sum_by-append, sym, table_entries, table_number, tables_of, take, zero, ℕ, ◌*◌, ◌++◌, ◌+◌, ◌-◌, ◌<◌, ◌∙◌, ◌∷◌, ◌≡◌, ◌≤◌}
 use Rattle.std.specs.List.{range_with_len, filter}
 use Rattle.std.proofs.lemmas.List.{ext_get_or, get_or-set_same, get_or-set_other, append-nil, length-map, get_or-map, map-set, length-replicate, get_or-replicate, get_or_default}
 use Rattle.std.proofs.lemmas.List.Elements.{filter-append}

@@ -15,7 +15,7 @@ pub use Rattle.cdb_form.specs.Format.Walk.{prefix_record, prefix_size}
 unfoldable pub use Rattle.cdb_form.specs.Format.Walk.{whole_records}
 pub use Rattle.cdb_form.specs.Views.Pairs.{PairFits, header_pair, pointer_pair}
 unfoldable pub use Rattle.cdb_form.specs.Views.SlotBytes.{slots_in}
-pub use Rattle.cdb_make.specs.Chains.{AreChained, Has, IsIn, IsLast, Reaches, bucket_of}
+pub use Rattle.cdb_make.specs.Chains.{AreChained, FindsLast, Has, IsIn, IsLast, Reaches, bucket_of}
 pub use Rattle.cdb_make.specs.Finished.{HeadIsLast, IsFinished}
 pub use Rattle.cdb_make.specs.Gathering.{is_among}
 pub use Rattle.cdb_make.specs.Laws.{lowered}
@@ -44,7 +44,7 @@ pub use Rattle.cdb_store.specs.Images.{AfterRead, AfterTornWrite, AfterWrite, Ar
 pub use Rattle.cdb_store.specs.Reads.{OnlyReads}
 pub use Rattle.cdb_store.specs.declared.make_fault.MakeFault.{MakeFault}
 pub use Rattle.cdb_store.specs.declared.store.Store.{Ghosts}
-pub use Rattle.std.proofs.Common.{Bool, Err, List, None, Some, [], ap, append_assoc, arith, cond, drop, false, flat_map, fold, get_or, inl, inr, length, length-append, length-drop, length-set, length-take, map, max, min, not, refl, replicate, rules, set, slice_set, subst, suc, sum_by, sym, take, true, zero, ℕ, ◌%◌, ◌*◌, ◌++◌, ◌+◌, ◌-◌, ◌/◌, ◌<◌, ◌^◌, ◌∙◌, ◌∷◌, ◌≡◌, ◌≢◌, ◌≤◌, ◌⊎◌}
+pub use Rattle.std.proofs.Common.{Bool, Err, List, None, Option, Some, [], ap, append_assoc, arith, cond, drop, false, flat_map, fold, get_or, inl, inr, is_some, length, length-append, length-drop, length-set, length-take, map, max, min, not, refl, replicate, rules, set, slice_set, subst, suc, sum_by, sym, take, true, zero, ℕ, ◌%◌, ◌*◌, ◌++◌, ◌+◌, ◌-◌, ◌/◌, ◌<◌, ◌^◌, ◌∙◌, ◌∷◌, ◌≡◌, ◌≢◌, ◌≤◌, ◌⊎◌}
 pub use Rattle.std.proofs.Math.Nat.{mul-le-mul_left}
 pub use Rattle.std.proofs.Math.Seq.{map-set_same}
 pub use Rattle.std.proofs.lemmas.Bool.{cases_eq, cases_lt, false_from_ne_true}

@@ -1,5 +1,5 @@
 -- The entries of a roll in chains, by the buckets of their hashes, from the last back.
-use Rattle.std.specs.Prelude.{ℕ, ◌≡◌, ◌-◌, ◌%◌, ◌<◌, ◌≤◌, Bool, true, false, List, length, slice_index, get_or}
+use Rattle.std.specs.Prelude.{ℕ, ◌≡◌, ◌-◌, ◌%◌, ◌<◌, ◌≤◌, Bool, true, false, List, length, slice_index, get_or, Option, Some, None}
 
 -- the bucket of a hash among so many
 abbrev pub bucket_of : ℕ → ℕ → ℕ
@@ -19,6 +19,17 @@ pub record IsLast (P : ℕ → Type 0) (end n : ℕ) : Type 0 where
   pub within : n ≤ end
   pub here : 0 < n → P (n - 1)
   pub none : (k : ℕ) → n ≤ k → k < end → P k → ⊥
+
+-- n is the last of the first `end` entries for which this holds
+pub record IsLastOne (P : ℕ → Type 0) (end n : ℕ) : Type 0 where
+  pub within : n < end
+  pub here : P n
+  pub none : (k : ℕ) → n < k → k < end → P k → ⊥
+
+-- a search finds it, or there is none
+abbrev pub FindsLast : (ℕ → Type 0) → ℕ → Option ℕ → Type 0
+FindsLast P end None = (k : ℕ) → k < end → P k → ⊥
+FindsLast P end (Some n) = IsLastOne P end n
 
 -- each bucket leads to its last entry, and each entry without a mark to the one before it
 pub record AreChained (heads before hashes : List ℕ) (marks : List Bool) : Type 0 where

@@ -1,10 +1,10 @@
 -- What a roll says of an image, and what a look at a key finds.
-use Rattle.std.specs.Prelude.{ℕ, ◌≡◌, Bool, true, false, cond, List, [], ◌∷◌, map, get_or, All}
+use Rattle.std.specs.Prelude.{ℕ, ◌≡◌, Bool, true, false, cond, List, [], ◌∷◌, map, get_or, All, Option}
 use Rattle.cdb_form.specs.declared.width.Width.{Ghosts as Widths}
 use Rattle.cdb_form.specs.Format.Hash.{key_hash}
 use Rattle.cdb_form.specs.Format.Pair.{head_size}
 use Rattle.cdb_form.specs.Format.Record.{KeyValue, IsRecord, record_bytes, record_size}
-use Rattle.cdb_make.specs.Chains.{IsLast}
+use Rattle.cdb_make.specs.Chains.{FindsLast}
 use Rattle.cdb_make.specs.Marks.{gone_of, found_of}
 use Rattle.cdb_make.specs.Spans.{AreOf, Stand}
 use Rattle.cdb_make.specs.Survivors.{has_key}
@@ -36,12 +36,11 @@ fresh k (m ∷ ms) (r ∷ rs) = cond m false (has_key k r) ∷ fresh k ms rs
 abbrev pub IsFreshRecord : List ℕ → List Bool → List KeyValue → ℕ → Type 0
 IsFreshRecord k ms rs n = get_or (fresh k ms rs) n false ≡ true
 
--- in each image, n is the number after the last of the first `end` records that has the key and does
--- not go, or 0
-pub record LooksLast {L : Type 0} {l : Widths L} (key : List ℕ) (m : Roll L l) (end n : ℕ)
-    (images : List ℕ → Type 0) : Type 0 where
+-- in each image, this is the last of the first `end` records that has the key and does not go
+pub record LooksLast {L : Type 0} {l : Widths L} (key : List ℕ) (m : Roll L l) (end : ℕ)
+    (last : Option ℕ) (images : List ℕ → Type 0) : Type 0 where
   pub each : (b : List ℕ) → images b → (all : List KeyValue) → Sees m all b
-      → IsLast (IsFreshRecord key (gone_of m.marks.items) all) end n
+      → FindsLast (IsFreshRecord key (gone_of m.marks.items) all) end last
 
 -- in each image, those are found that have the key and do not go
 pub record LooksAll {L : Type 0} {l : Widths L} (key : List ℕ) (m : Roll L l)

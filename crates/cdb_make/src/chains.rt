@@ -3,7 +3,7 @@ ghost use Rattle.std.specs.Prelude.{◌≡◌, ℕ, List, [], ◌+◌, ◌-◌, 
 ghost use Rattle.std.specs.Prelude.{slice_index, slice_set, get_or, vec_capacity, true, false, OnOk, OnErr};
 ghost use Rattle.std.specs.Bool.{Decides};
 ghost use Rattle.cdb_make.specs.Marks.{gone_of, taken, HaveHash, IsTakenFrom};
-ghost use Rattle.cdb_make.specs.Chains.{AreChained, IsLast, IsIn, Has, Reaches, bucket_of};
+ghost use Rattle.cdb_make.specs.Chains.{AreChained, FindsLast, IsLast, IsIn, Has, Reaches, bucket_of};
 
 use crate::mark::{Mark, is_found_at, is_gone_at};
 use std::alloc::{AllocError, Global};
@@ -71,20 +71,26 @@ impl Chains {
         hash as usize % self.heads.len()
     }
 
-    /// The number after the last entry below `end` that has the hash and no mark, or 0. If `end` is
-    /// the number of such an entry, the search goes on from it.
-    pub(crate) fn last(&self, hashes: &[u32], marks: &[Mark], hash: u32, end: usize) -> usize
+    /// The last entry below `end` that has the hash and no mark. If `end` is the number of such an
+    /// entry, the search goes on from it.
+    pub(crate) fn last(
+        &self,
+        hashes: &[u32],
+        marks: &[Mark],
+        hash: u32,
+        end: usize,
+    ) -> Option<usize>
         requires chained { AreChained self.now.heads.items self.now.before.items hashes.now (gone_of marks.now) }
         requires long { length marks.now ≡ length hashes.now }
         requires end { end ≤ length hashes.now }
-        ensures { IsLast (Has hash hashes.now (gone_of marks.now)) end result }
+        ensures { FindsLast (Has hash hashes.now (gone_of marks.now)) end result }
     {
         let mut at = end;
         while at > self.before.len() {
-            if is_left(hashes, marks, hash, at - 1) {
-                return at;
-            }
             at -= 1;
+            if is_left(hashes, marks, hash, at) {
+                return Some(at);
+            }
         }
         self.last_linked(hashes, marks, hash, at)
     }
@@ -105,23 +111,23 @@ impl Chains {
     }
 
     /// The same among the entries that are in chains.
-    fn last_linked(&self, hashes: &[u32], marks: &[Mark], hash: u32, end: usize) -> usize
+    fn last_linked(&self, hashes: &[u32], marks: &[Mark], hash: u32, end: usize) -> Option<usize>
         requires chained { AreChained self.now.heads.items self.now.before.items hashes.now (gone_of marks.now) }
         requires long { length marks.now ≡ length hashes.now }
         requires end { end ≤ length self.now.before.items }
-        ensures { IsLast (Has hash hashes.now (gone_of marks.now)) end result }
+        ensures { FindsLast (Has hash hashes.now (gone_of marks.now)) end result }
     {
         if end == 0 {
-            return 0;
+            return None;
         }
         let mut at = self.start(hashes, marks, hash, end);
         while at > 0 {
             if at <= end && hashes[at - 1] == hash {
-                return at;
+                return Some(at - 1);
             }
             at = self.before[at - 1] as usize;
         }
-        0
+        None
     }
 
     /// Puts the first entry that is in no chain into that of its bucket.

@@ -1,5 +1,5 @@
 // The records of a key, found in a roll.
-ghost use Rattle.std.specs.Prelude.{◌≡◌, ℕ, ◌+◌, ◌-◌, ◌<◌, ◌≤◌, ◌^◌, length, IfOk, OnOk, OnErr, Err};
+ghost use Rattle.std.specs.Prelude.{◌≡◌, ℕ, ◌+◌, ◌-◌, ◌<◌, ◌≤◌, ◌^◌, length, IfOk, IfSome, OnOk, OnErr, Err};
 ghost use Rattle.cdb_store.specs.Reads.{OnlyReads};
 ghost use Rattle.cdb_make.specs.declared.key_at.LookFault.TheVariants.{Failed, Foreign};
 ghost use Rattle.cdb_make.specs.Chains.{Has};
@@ -13,7 +13,7 @@ use crate::roll::Roll;
 use cdb_form::Width;
 use cdb_store::Store;
 
-/// The number after the last of the first `end` records that has a key and does not go, or 0.
+/// The last of the first `end` records that has a key and does not go.
 ///
 /// Nothing is written, and no memory is taken. `Failed`: the store failed. `Foreign`: it gave back
 /// other bytes than were written.
@@ -23,29 +23,29 @@ pub(crate) fn last_with_key<S: Store, L: Width>(
     sought: u32,
     key: &[u8],
     end: usize,
-) -> Result<usize, LookFault>
+) -> Result<Option<usize>, LookFault>
     requires hash { sought ≡ sought_in roll.now key.now }
     requires inside { roll.now.end ≤ S.size store.old }
     requires end { end ≤ length roll.now.hashes.items }
-    ensures last { IfOk result (λ n. LooksLast key.now roll.now end n (S.image store.new)) }
-    ensures within { IfOk result (λ n. n ≤ end) }
-    ensures here { IfOk result (λ n. 0 < n
-        → Has sought (searched roll.now) (gone_of roll.now.marks.items) (n - 1)) }
+    ensures last { IfOk result (λ last. LooksLast key.now roll.now end last (S.image store.new)) }
+    ensures within { IfOk result (λ last. IfSome last (λ n. n < end)) }
+    ensures here { IfOk result (λ last. IfSome last
+        (Has sought (searched roll.now) (gone_of roll.now.marks.items))) }
     ensures foreign { result ≡ Err Foreign → SeesNone roll.now (S.image store.new) }
     ensures ok_failures { OnOk result (S.failures store.new ≡ S.failures store.old) }
     ensures failed { result ≡ Err Failed → S.failures store.old < S.failures store.new }
     ensures reads { OnlyReads S.Store store.old store.new }
 {
-    let mut at = roll.last(sought, end);
-    while at > 0 {
-        let place = roll.places.at(at - 1);
-        let next = place_at(&roll.places, at, roll.end);
+    let mut before = end;
+    while let Some(n) = roll.last(sought, before) {
+        let place = roll.places.at(n);
+        let next = place_at(&roll.places, n + 1, roll.end);
         if look_at::<S, L>(store, place, next, key)?.is_some() {
-            return Ok(at);
+            return Ok(Some(n));
         }
-        at = roll.last(sought, at - 1);
+        before = n;
     }
-    Ok(0)
+    Ok(None)
 }
 
 /// Leaves the records of a key that do not go noted as found, and no others.
@@ -72,10 +72,10 @@ pub(crate) fn find<S: Store, L: Width>(
     ensures reads { OnlyReads S.Store store.old store.new }
 {
     roll.put_back();
-    let mut at = last_with_key::<S, L>(store, roll, sought, key, roll.len())?;
-    while at > 0 {
-        roll.find(at - 1);
-        at = last_with_key::<S, L>(store, roll, sought, key, at - 1)?;
+    let mut end = roll.len();
+    while let Some(n) = last_with_key::<S, L>(store, roll, sought, key, end)? {
+        roll.find(n);
+        end = n;
     }
     Ok(())
 }

@@ -14,7 +14,7 @@ use cdb_form::{Mode, Width, hash};
 use cdb_store::{MakeFault, Store};
 
 impl<S: Store, L: Width> Maker<S, L> {
-    ghost use Rattle.cdb_make.specs.Views.Maker.{Meets, FailsLooking, Puts, FailsPutting, Follows, HasNotFailed, SameCounts};
+    ghost use Rattle.cdb_make.specs.Views.Maker.{Meets, FailsLooking, Puts, FailsPutting, Follows, HasNotFailed, SameCounts, Steps};
 
     /// Looks at the key of a record that is to be put, and answers what the put will answer unless
     /// it fails. The records that are to be taken out are noted as found, and no others.
@@ -26,10 +26,8 @@ impl<S: Store, L: Width> Maker<S, L> {
         ensures tagged { OnOk result (self.new.roll.tagged ≡ true → sought ≡ second_hash key.now) }
         ensures fails { IfErr result (FailsLooking self.old self.new) }
         ensures looks { IfErr result (λ f. f ≡ Lookup → mode ≢ Add) }
-        ensures follows { Follows self.old self.new }
-        ensures fine { OnOk result (HasNotFailed self.old self.new) }
         ensures room { OnOk result (HasRoom self.old.roll → HasRoom self.new.roll) }
-        ensures counts { OnErr result (SameCounts self.old self.new) }
+        ensures steps { Steps self.old self.new result }
     {
         match mode {
             Mode::Add => {
@@ -89,9 +87,7 @@ impl<S: Store, L: Width> Maker<S, L> {
             (Puts self.old self.new mode (record_of key.now value.now)) }
         ensures fails { IfErr result
             (FailsPutting self.old self.new mode (record_of key.now value.now)) }
-        ensures follows { Follows self.old self.new }
-        ensures fine { OnOk result (HasNotFailed self.old self.new) }
-        ensures counts { OnErr result (SameCounts self.old self.new) }
+        ensures steps { Steps self.old self.new result }
     {
         let sought = self.roll.sought_by_look(hash, key);
         let put = self.meet(mode, sought, key)?;

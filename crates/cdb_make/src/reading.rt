@@ -159,7 +159,7 @@ impl<S: Store, L: Width> Maker<S, L> {
         self.roll.link();
         self.roll.put_back();
         match last_with_key::<S, L>(&mut self.store, &self.roll, sought, key, self.roll.len()) {
-            Ok(last) => Ok(last > 0),
+            Ok(last) => Ok(last.is_some()),
             Err(fault) => Err(self.failed_look(fault)),
         }
     }

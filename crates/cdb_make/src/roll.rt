@@ -3,7 +3,7 @@ ghost use Rattle.std.specs.Prelude.{◌≡◌, ℕ, ◌+◌, ◌-◌, ◌<◌, �
 ghost use Rattle.cdb_form.specs.Format.Pair.{head_size};
 ghost use Rattle.cdb_form.specs.Format.Hash.{key_hash};
 ghost use Rattle.cdb_make.specs.Tags.{second_hash, searched_by};
-ghost use Rattle.cdb_make.specs.Chains.{AreChained, Has, IsLast};
+ghost use Rattle.cdb_make.specs.Chains.{AreChained, FindsLast, Has};
 ghost use Rattle.cdb_make.specs.Marks.{gone_of, found_of, HaveHash, IsFirstMarked, IsPutBackFrom, AreNone};
 ghost use Rattle.cdb_make.specs.declared.mark.Mark.TheVariants.{Stays, Gone};
 ghost use Rattle.cdb_make.specs.Spans.{AreRising, AreOf, IsPicked, left, or_each};
@@ -231,12 +231,12 @@ impl<L: Width> Roll<L> {
         }
     }
 
-    /// The number after the last of the first `end` records that has a number and does not go, or
-    /// 0. If `end` is the number of such a record, the search goes on from it.
+    /// The last of the first `end` records that has a number and does not go. If `end` is the
+    /// number of such a record, the search goes on from it.
     #[inline(always)]
-    pub(crate) fn last(&self, sought: u32, end: usize) -> usize
+    pub(crate) fn last(&self, sought: u32, end: usize) -> Option<usize>
         requires { end ≤ length self.now.hashes.items }
-        ensures { IsLast (Has sought (searched self.now) (gone_of self.now.marks.items)) end result }
+        ensures { FindsLast (Has sought (searched self.now) (gone_of self.now.marks.items)) end result }
     {
         let searched = searched(self.tagged, &self.tags, &self.hashes);
         self.chains.last(searched, &self.marks, sought, end)

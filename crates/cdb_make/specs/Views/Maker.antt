@@ -1,5 +1,5 @@
 -- What a maker holds, and what its calls leave.
-use Rattle.std.specs.Prelude.{ℕ, ◌≡◌, ◌≢◌, ◌+◌, ◌-◌, ◌*◌, ◌<◌, ◌≤◌, ◌⊎◌, Bool, true, false, cond, List, [], ◌∷◌, ◌++◌, length, map, sum, sum_by}
+use Rattle.std.specs.Prelude.{ℕ, ◌≡◌, ◌≢◌, ◌+◌, ◌-◌, ◌*◌, ◌<◌, ◌≤◌, ◌⊎◌, Bool, true, false, cond, List, [], ◌∷◌, ◌++◌, length, map, sum, sum_by, Result, OnOk, OnErr}
 use Rattle.cdb_store.specs.declared.store.Store.{Ghosts}
 use Rattle.cdb_store.specs.Images.{KeepsPart}
 use Rattle.cdb_store.specs.Laws.{HasNoImage}
@@ -265,6 +265,14 @@ pub record SameCounts {S L : Type 0} {s : Ghosts S} {l : Widths L} (old new : Ma
   pub count : told_count new ≡ told_count old
   pub size : told_size new ≡ told_size old
   pub limit : new.limit ≡ old.limit
+
+-- whatever a call is for: it came of the other, and what it counts and whether its store failed are as
+-- the call answers
+pub record Steps {S L T E : Type 0} {s : Ghosts S} {l : Widths L} (old new : Maker S L s l)
+    (result : Result T E) : Type 0 where
+  pub fine : OnOk result (HasNotFailed old new)
+  pub counts : OnErr result (SameCounts old new)
+  pub follows : Follows old new
 
 -- they are, if it is broken or no record was found
 pub record TellsCounts {S L : Type 0} {s : Ghosts S} {l : Widths L} (old new : Maker S L s l)

@@ -1,34 +1,30 @@
-use Rattle.cdb_make.proofs.Words.{AfterWrite, KeyValue, List, ap, arith, length, length-record_bytes, record_bytes, record_size, refl, subst, torn_wider, ℕ, ◌++◌, ◌∙◌, ◌≡◌}
+use Rattle.cdb_make.proofs.Words.{AfterWrite, List, ap, arith, length, length-record_bytes, record_bytes, refl, subst, torn_wider, ℕ, ◌++◌, ◌∙◌, ◌≡◌}
 use Rattle.cdb_make.proofs.Bytes.Written.{pieces_are, on_ok_of}
+use Rattle.cdb_make.proofs.write.append_record.Goals.{After-write_parts}
 use Rattle.cdb_make.proofs.write.append_record.Goals as goal
+
+-- the three parts are the record's bytes
+written : (g : _) (c : After-write_parts g) → c.write_header.new.into ++ (c.args.key.now ++ c.args.value.now) ≡ record_bytes g.L.Width.WORD (record { key = c.args.key.now; value = c.args.value.now })
+written g c = pieces_are g.L.Width.WORD (record { key = c.args.key.now; value = c.args.value.now }) (length c.args.key.now) (length c.args.value.now) c.write_header.new.into refl refl c.write_header.ensures.written
 
 pub returns-clause-ok : goal.returns-clause-ok
 returns-clause-ok g c =
-    let w : ℕ = g.L.Width.WORD in
-    let key : List ℕ = c.args.key.now in
-    let value : List ℕ = c.args.value.now in
-    let header : List ℕ = c.write_header.new.into in
-    let r : KeyValue = record { key = key; value = value } in
     let f = c.write_parts.ensures in
-    let is : header ++ (key ++ value) ≡ record_bytes w r = pieces_are w r (length key) (length value) header refl refl c.write_header.ensures.written in
-    let long : length (header ++ (key ++ value)) ≡ record_size w r = ap length is ∙ length-record_bytes w r in
-    on_ok_of c.write_parts.result (λ ok size written. record {
+    let is = written g (goal.at.returns-clause-ok g c).After-write_parts in
+    let size = length-record_bytes g.L.Width.WORD (record { key = c.args.key.now; value = c.args.value.now }) in
+    let long = ap length is ∙ size in
+    on_ok_of c.write_parts.result (λ ok ends more. record {
       images = subst (λ (v : List ℕ). AfterWrite c.args.pos v (g.S.Store.image c.args.store.now) (g.S.Store.image c.write_parts.new.self)) is ok;
-      size = omega (arith, long, length-record_bytes w r, size);
-      written = omega (arith, long, length-record_bytes w r, written);
+      size = omega (arith, long, size, ends);
+      written = omega (arith, long, size, more);
     })
     f.ok f.ok_size f.ok_written
 
 pub returns-clause-within : goal.returns-clause-within
 returns-clause-within g c =
-    let w : ℕ = g.L.Width.WORD in
-    let key : List ℕ = c.args.key.now in
-    let value : List ℕ = c.args.value.now in
-    let header : List ℕ = c.write_header.new.into in
-    let r : KeyValue = record { key = key; value = value } in
     let f = c.write_parts.ensures in
-    let is : header ++ (key ++ value) ≡ record_bytes w r = pieces_are w r (length key) (length value) header refl refl c.write_header.ensures.written in
-    let long : length (header ++ (key ++ value)) ≡ record_size w r = ap length is ∙ length-record_bytes w r in
+    let is = written g (goal.at.returns-clause-within g c).After-write_parts in
+    let long = ap length is ∙ length-record_bytes g.L.Width.WORD (record { key = c.args.key.now; value = c.args.value.now }) in
     record {
       torn = torn_wider c.args.pos _ _ _ _ (omega (arith, long)) f.torn;
       longer = f.longer;

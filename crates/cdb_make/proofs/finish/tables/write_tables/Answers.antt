@@ -1,4 +1,4 @@
-use Rattle.cdb_make.proofs.Words.{AfterTornWrite, AfterWrite, AreSized, List, WordPair, [], all_gathered, ap, arith, common_steps, flat_map, flat_map-append, length, max, refl, roll_entries, roll_tables, subst, sum_by, sym, table_bytes, tables_of, torn_behind, torn_from_write, torn_wider, write_more, ℕ, ◌*◌, ◌++◌, ◌+◌, ◌<◌, ◌∙◌, ◌≡◌, ◌≤◌}
+use Rattle.cdb_make.proofs.Words.{AfterTornWrite, AfterWrite, AreSized, List, WordPair, [], all_gathered, ap, arith, common_steps, flat_map, flat_map-append, length, refl, roll_entries, roll_tables, subst, sum_by, sym, table_bytes, tables_of, torn_behind, torn_from_write, torn_wider, write_more, ℕ, ◌*◌, ◌++◌, ◌+◌, ◌∙◌, ◌≡◌, ◌≤◌}
 use Rattle.cdb_make.proofs.Slots.TableBytes.{length-tables, all_written}
 use Rattle.cdb_make.proofs.Tables.{group_room, group_runs, group_next, group_sum, no_tables}
 use Rattle.cdb_make.proofs.finish.tables.write_tables.Goals as goal

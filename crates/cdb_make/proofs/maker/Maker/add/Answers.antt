@@ -1,8 +1,8 @@
-use Rattle.cdb_make.proofs.Words.{AreNone, AreOf, Bool, Err, KeyValue, List, [], ap, arith, common_steps, cond, false, found_of, gone_of, head_size, inl, inr, kept_torn, length, length-record_bytes, length_push, places_in, record_size, refl, searched, sought_by, subst, sym, take, ℕ, ◌*◌, ◌++◌, ◌+◌, ◌∙◌, ◌∷◌, ◌≡◌}
+use Rattle.cdb_make.proofs.Words.{AreNone, AreOf, Bool, Err, KeyValue, List, [], ap, arith, common_steps, cond, false, found_of, gone_of, head_size, inr, length, length-record_bytes, places_in, record_size, refl, searched, sought_by, subst, sym, take, ℕ, ◌*◌, ◌++◌, ◌+◌, ◌∙◌, ◌∷◌, ◌≡◌}
 use Rattle.cdb_make.proofs.Bytes.Written.{on_any_err}
 use Rattle.cdb_make.proofs.Looking.{sees_same}
-use Rattle.cdb_make.proofs.Spans.{spans_of, place_low}
-use Rattle.cdb_make.proofs.Rolls.{add_fails, number_is, none_more, sees_kept, sees_added, more_slots, comes_write}
+use Rattle.cdb_make.proofs.Rolls.{add_fails, number_is, none_more, sees_kept, sees_added, follows_write, slots_push}
+use Rattle.cdb_make.proofs.Finishing.{end_behind}
 use Rattle.cdb_make.proofs.maker.Maker.add.Goals as goal
 
 pub returns-in_err-reserve-clause-stays : goal.returns-in_err-reserve-clause-stays
@@ -51,33 +51,13 @@ returns-in_err-append_record-clause-stays g c =
 
 pub returns-in_err-append_record-clause-follows : goal.returns-in_err-append_record-clause-follows
 returns-in_err-append_record-clause-follows g c =
-    let m = c.args.self.now.roll in
     let h = c.append_record.ensures.within in
-    let spans = spans_of (head_size g.L.Width.WORD) m.end (places_in m.places) m.spans in
-    record {
-      comes = comes_write h.torn;
-      head = kept_torn 0 (head_size g.L.Width.WORD) (inl (omega (arith, c.reserve.ensures.same.end, Rattle.cdb_make.proofs.Spans.end_low (head_size g.L.Width.WORD) spans.sizes, spans.of.ends))) h.torn;
-      limit = refl;
-      lazy = refl;
-      room = h.room;
-      failures = h.cause.later;
-      unwritten = h.unwritten.later;
-    }
+    follows_write c.args.self.now _ refl refl (omega (arith, c.reserve.ensures.same.end, end_behind c.args.self.now.roll)) h.torn h.room h.cause.later h.unwritten.later
 
 pub returns-clause-follows : goal.returns-clause-follows
 returns-clause-follows g c =
-    let m = c.args.self.now.roll in
     let h = c.append_record.ensures.within in
-    let spans = spans_of (head_size g.L.Width.WORD) m.end (places_in m.places) m.spans in
-    record {
-      comes = comes_write h.torn;
-      head = kept_torn 0 (head_size g.L.Width.WORD) (inl (omega (arith, c.reserve.ensures.same.end, Rattle.cdb_make.proofs.Spans.end_low (head_size g.L.Width.WORD) spans.sizes, spans.of.ends))) h.torn;
-      limit = refl;
-      lazy = refl;
-      room = h.room;
-      failures = h.cause.later;
-      unwritten = h.unwritten.later;
-    }
+    follows_write c.args.self.now _ refl refl (omega (arith, c.reserve.ensures.same.end, end_behind c.args.self.now.roll)) h.torn h.room h.cause.later h.unwritten.later
 
 pub returns-clause-adds : goal.returns-clause-adds
 returns-clause-adds g c =
@@ -121,13 +101,9 @@ invariant_of-self-2-clause-inside g c =
 
 pub invariant_of-self-2-clause-within : goal.invariant_of-self-2-clause-within
 invariant_of-self-2-clause-within g c =
-    let m = c.args.self.now in
-    let w : ℕ = g.L.Width.WORD in
-    let n : ℕ = length m.roll.hashes.items in
     let same = c.reserve.ensures.same in
-    let len : length c.push.new.self.hashes.items ≡ n + 1 = ap length c.push.ensures.hashes ∙ length_push c.reserve.new.self.hashes.items c.args.candidate.hash ∙ ap (λ (v : List ℕ). length v + 1) same.hashes in
-    let all : 4 * w * length c.push.new.self.hashes.items ≡ 4 * w * (n + 1) = ap (λ (v : ℕ). 4 * w * v) len in
-    omega (arith, all, more_slots w n g.met.L.Width.four_or_eight, c.requires.fits, c.push.ensures.end, c.pair_size.ensures, same.end)
+    let all = slots_push g.L.Width.WORD c.args.candidate.hash c.args.self.now.roll.hashes.items c.reserve.new.self.hashes.items c.push.new.self.hashes.items g.met.L.Width.four_or_eight same.hashes c.push.ensures.hashes in
+    omega (arith, all, c.requires.fits, c.push.ensures.end, c.pair_size.ensures, same.end)
 
 pub invariant_of-self-2-clause-eager : goal.invariant_of-self-2-clause-eager
 invariant_of-self-2-clause-eager g c = λ eager whole.

@@ -8,9 +8,6 @@ returns-in-Err-NoMemory-clause-done g c = grind (arith, common_steps)
 pub returns-in-Ok-clause-waits : goal.returns-in-Ok-clause-waits
 returns-in-Ok-clause-waits g c = grind (arith, common_steps)
 
-pub returns-in-Ok-clause-fine : goal.returns-in-Ok-clause-fine
-returns-in-Ok-clause-fine g c = grind (arith, common_steps)
-
 pub returns-then-not-has_room-clause-done : goal.returns-then-not-has_room-clause-done
 returns-then-not-has_room-clause-done g c = grind (arith, common_steps)
 
@@ -19,9 +16,6 @@ returns-in-Err-NoMemory-clause-tagged g c = grind (arith, common_steps)
 
 pub returns-in-Ok-clause-done : goal.returns-in-Ok-clause-done
 returns-in-Ok-clause-done g c = grind (arith, common_steps)
-
-pub returns-in-Err-NoMemory-clause-fine : goal.returns-in-Err-NoMemory-clause-fine
-returns-in-Err-NoMemory-clause-fine g c = grind (arith, common_steps)
 
 pub returns-then-not-has_room-clause-waits : goal.returns-then-not-has_room-clause-waits
 returns-then-not-has_room-clause-waits g c = λ e. record {
@@ -33,3 +27,9 @@ returns-then-not-has_room-clause-waits g c = λ e. record {
 
 pub returns-in-Err-clause-counted : goal.returns-in-Err-clause-counted
 returns-in-Err-clause-counted g c = c.add.ensures.counted
+
+pub returns-in-Ok-clause-steps : goal.returns-in-Ok-clause-steps
+returns-in-Ok-clause-steps g c = record { fine = c.in-Ok.ensures.fine; counts = tt; follows = c.add.ensures.follows }
+
+pub returns-in-Err-NoMemory-clause-steps : goal.returns-in-Err-NoMemory-clause-steps
+returns-in-Err-NoMemory-clause-steps g c = record { fine = grind (arith, common_steps); counts = tt; follows = c.add.ensures.follows }

@@ -1,4 +1,4 @@
-use Rattle.cdb_make.proofs.Words.{AreNone, ap, arith, common_steps, inl, inr, on_ok_weaker, refl, searched, subst, sym, ◌∙◌}
+use Rattle.cdb_make.proofs.Words.{AreNone, ap, arith, common_steps, inl, inr, on_ok_weaker, refl, searched, subst, sym, ◌∙◌, rules}
 use Rattle.cdb_make.proofs.Bytes.Written.{on_any_ok}
 use Rattle.cdb_make.proofs.Rolls.{follows_then, if_err_weaker}
 use Rattle.cdb_make.proofs.Admitting.{have_more, taken_clear, admits_later, admits_after, fails_after}
@@ -13,7 +13,7 @@ take-requires g c =
 pub invariant_of-self-clause-eager : goal.invariant_of-self-clause-eager
 invariant_of-self-clause-eager g c = λ eager whole.
     let a = c.in_ok-add_before.ensures.done c.if-branch.true in
-    subst AreNone (sym c.take.ensures.gone) (taken_clear c.args.self.now c.add_before.new.self c.args.candidate.hash _ (inl c.requires.lazy) c.requires.whole a (sym c.add_before.ensures.follows.lazy ∙ eager))
+    subst AreNone (sym c.take.ensures.gone) (taken_clear c.args.self.now c.add_before.new.self c.args.candidate.hash _ (inl c.requires.lazy) c.requires.whole a (sym c.add_before.ensures.steps.follows.lazy ∙ eager))
 
 pub returns-then-branch-clause-admits : goal.returns-then-branch-clause-admits
 returns-then-branch-clause-admits g c =
@@ -21,14 +21,18 @@ returns-then-branch-clause-admits g c =
 
 pub returns-clause-admits : goal.returns-clause-admits
 returns-clause-admits g c =
-    on_ok_weaker c.compact_and_add.result (admits_after c.args.self.now c.add_before.new.self c.compact_and_add.new.self _ (c.in_ok-add_before.ensures.waits c.if-branch.false) c.add_before.ensures.follows.lazy) c.compact_and_add.ensures.admits
+    on_ok_weaker c.compact_and_add.result (admits_after c.args.self.now c.add_before.new.self c.compact_and_add.new.self _ (c.in_ok-add_before.ensures.waits c.if-branch.false) c.add_before.ensures.steps.follows.lazy) c.compact_and_add.ensures.admits
 
 pub returns-clause-fails : goal.returns-clause-fails
 returns-clause-fails g c =
-    if_err_weaker c.compact_and_add.result (λ fault. fails_after c.args.self.now c.add_before.new.self c.compact_and_add.new.self _ fault (c.in_ok-add_before.ensures.waits c.if-branch.false) c.add_before.ensures.follows.room c.add_before.ensures.follows.unwritten c.requires.fits (let w = c.in_ok-add_before.ensures.waits c.if-branch.false in omega (arith, c.requires.some, ap (λ q. q.count) w.stays.gone, ap (λ q. q.count) w.stays.found))) c.compact_and_add.ensures.fails
+    if_err_weaker c.compact_and_add.result (λ fault. fails_after c.args.self.now c.add_before.new.self c.compact_and_add.new.self _ fault (c.in_ok-add_before.ensures.waits c.if-branch.false) c.add_before.ensures.steps.follows.room c.add_before.ensures.steps.follows.unwritten c.requires.fits (let w = c.in_ok-add_before.ensures.waits c.if-branch.false in omega (arith, c.requires.some, ap (λ q. q.count) w.stays.gone, ap (λ q. q.count) w.stays.found))) c.compact_and_add.ensures.fails
 
-pub returns-clause-follows : goal.returns-clause-follows
-returns-clause-follows g c = follows_then c.args.self.now c.add_before.new.self c.compact_and_add.new.self c.add_before.ensures.follows c.compact_and_add.ensures.follows
+pub returns-clause-steps : goal.returns-clause-steps
+returns-clause-steps g c = record {
+  fine = on_ok_weaker c.compact_and_add.result (λ e. e ∙ c.in_ok-add_before.ensures.steps.fine) c.compact_and_add.ensures.steps.fine;
+  counts = search rules;
+  follows = follows_then c.args.self.now c.add_before.new.self c.compact_and_add.new.self c.add_before.ensures.steps.follows c.compact_and_add.ensures.steps.follows;
+}
 
 pub invariant_of-self-clause-spare : goal.invariant_of-self-clause-spare
 invariant_of-self-clause-spare g c = λ whole. (let a = c.in_ok-add_before.ensures.done c.if-branch.true in omega (arith, c.requires.spare, a.gone_size, a.found_size, a.end, c.take.ensures.size, c.take.ensures.same.end))
@@ -41,9 +45,6 @@ returns-clause-alone g c = on_any_ok c.compact_and_add.result (inr (λ lazy. inr
 
 pub invariant_of-self-clause-within : goal.invariant_of-self-clause-within
 invariant_of-self-clause-within g c = grind (arith, common_steps)
-
-pub returns-clause-fine : goal.returns-clause-fine
-returns-clause-fine g c = grind (arith, common_steps)
 
 pub compact_and_add-requires-clause-have : goal.compact_and_add-requires-clause-have
 compact_and_add-requires-clause-have g c = grind (arith, common_steps)

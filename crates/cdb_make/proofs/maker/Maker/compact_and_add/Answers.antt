@@ -1,7 +1,8 @@
-use Rattle.cdb_make.proofs.Words.{Err, ap, arith, common_steps, false, false_from_ne_true, gone_in, inr, is_gone, length, length-map, refl, sym, true, ◌+◌, ◌∙◌, ◌≡◌}
+use Rattle.cdb_make.proofs.Words.{Err, ap, arith, common_steps, false, false_from_ne_true, gone_in, inr, is_gone, length, length-map, refl, sym, true, ◌+◌, ◌∙◌, ◌≡◌, cases_lt, inl, ℕ}
 use Rattle.cdb_make.proofs.Looking.{same_self, sees_long}
 use Rattle.cdb_make.proofs.Picking.{left_all_stay, both_few, both_within}
 use Rattle.cdb_make.proofs.Rolls.{follows_then, follows_room, compacting_fails, fewer_slots, room_fails}
+use Rattle.cdb_make.proofs.Finishing.{fails_so, lost_counts}
 use Rattle.cdb_make.proofs.maker.Maker.compact_and_add.Goals as goal
 
 -- the record is within the limit by itself
@@ -20,8 +21,10 @@ reserve-requires g c =
     let m = c.args.self.now in
     omega (arith, c.requires.fits, both_within m.roll, fewer_slots g.L.Width.WORD (m.roll.gone.count + m.roll.found.count) (length m.roll.hashes.items) g.met.L.Width.four_or_eight (both_few m.roll), m.limited, g.met.L.Width.greatest_fits, c.pair_size.ensures, c.kept_end.ensures)
 
-pub returns-in_err-reserve-clause-follows : goal.returns-in_err-reserve-clause-follows
-returns-in_err-reserve-clause-follows g c = follows_room c.args.self.now _ refl refl c.reserve.ensures.images c.reserve.ensures.room c.reserve.ensures.failures c.reserve.ensures.unwritten
+pub returns-in_err-reserve-clause-steps : goal.returns-in_err-reserve-clause-steps
+returns-in_err-reserve-clause-steps g c =
+    let r = c.reserve.ensures in
+    fails_so c.args.self.now _ c.from_residual.result _ c.from_residual.ensures.1 (record { count = refl; size = refl; limit = refl }) (follows_room c.args.self.now _ refl refl r.images r.room r.failures r.unwritten)
 
 pub returns-in_err-reserve-clause-fails : goal.returns-in_err-reserve-clause-fails
 returns-in_err-reserve-clause-fails g c =
@@ -41,13 +44,28 @@ returns-in_err-reserve-clause-fails g c =
     })
     (omega (arith, h.past_room, c.kept_end.ensures, c.pair_size.ensures))
 
-pub returns-in-Ok-clause-follows : goal.returns-in-Ok-clause-follows
-returns-in-Ok-clause-follows g c = follows_then c.args.self.now _ c.exchange.new.self (follows_room c.args.self.now _ refl refl c.reserve.ensures.images c.reserve.ensures.room c.reserve.ensures.failures c.reserve.ensures.unwritten) c.exchange.ensures.follows
+pub returns-in-Ok-clause-steps : goal.returns-in-Ok-clause-steps
+returns-in-Ok-clause-steps g c =
+    let r = c.reserve.ensures in
+    record {
+      fine = c.in-Ok.ensures.fine ∙ c.in_ok-reserve.ensures.ok_failures;
+      counts = tt;
+      follows = follows_then c.args.self.now _ c.exchange.new.self (follows_room c.args.self.now _ refl refl r.images r.room r.failures r.unwritten) c.exchange.ensures.follows;
+    }
 
-pub returns-in-Err-clause-follows : goal.returns-in-Err-clause-follows
-returns-in-Err-clause-follows g c =
-    let f = follows_then c.args.self.now _ c.exchange.new.self (follows_room c.args.self.now _ refl refl c.reserve.ensures.images c.reserve.ensures.room c.reserve.ensures.failures c.reserve.ensures.unwritten) c.exchange.ensures.follows in
-    record { comes = f.comes; head = f.head; limit = f.limit; lazy = f.lazy; room = f.room; failures = f.failures; unwritten = f.unwritten }
+pub returns-in-Err-clause-steps : goal.returns-in-Err-clause-steps
+returns-in-Err-clause-steps g c =
+    let r = c.reserve.ensures in
+    let f = follows_then c.args.self.now _ c.exchange.new.self (follows_room c.args.self.now _ refl refl r.images r.room r.failures r.unwritten) c.exchange.ensures.follows in
+    let h = c.is_lost-self.ensures in
+    let k = c.exchange.new.self in
+    let found : ℕ = c.args.self.now.roll.found.count in
+    let told = lost_counts _ k c.is_lost-self.result c.requires.whole (λ e. false_from_ne_true k.broken (λ torn. let t : true ≡ false = sym (h.torn torn) ∙ e in cc)) (λ e. elim (cases_lt 0 found) [ inl some ↦ absurd (let t : true ≡ false = sym (h.found some) ∙ e in cc) | inr none ↦ omega arith ]) c.in-Err.ensures.counts in
+    record {
+      fine = tt;
+      counts = record { count = told.0; size = told.1; limit = f.limit };
+      follows = record { comes = f.comes; head = f.head; limit = f.limit; lazy = f.lazy; room = f.room; failures = f.failures; unwritten = f.unwritten };
+    }
 
 pub returns-in-Err-clause-fails : goal.returns-in-Err-clause-fails
 returns-in-Err-clause-fails g c =

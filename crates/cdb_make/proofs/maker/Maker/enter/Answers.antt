@@ -1,7 +1,7 @@
-use Rattle.cdb_make.proofs.Words.{AreNone, AreOf, List, [], ap, arith, common_steps, false, gone_of, head_size, length, length_push, places_in, refl, searched, subst, sym, ℕ, ◌*◌, ◌++◌, ◌+◌, ◌∙◌, ◌∷◌, ◌≡◌}
+use Rattle.cdb_make.proofs.Words.{AreNone, AreOf, List, [], ap, arith, common_steps, false, gone_of, head_size, length, places_in, refl, searched, subst, sym, ℕ, ◌*◌, ◌++◌, ◌∙◌, ◌∷◌}
 use Rattle.cdb_make.proofs.Bytes.Written.{on_any_err}
 use Rattle.cdb_make.proofs.Appends.{entered, stays_noted}
-use Rattle.cdb_make.proofs.Rolls.{number_is, more_slots, none_more}
+use Rattle.cdb_make.proofs.Rolls.{number_is, none_more, slots_push}
 use Rattle.cdb_make.proofs.maker.Maker.enter.Goals as goal
 
 pub returns-in_err-reserve-clause-stays : goal.returns-in_err-reserve-clause-stays
@@ -30,13 +30,9 @@ invariant_of-self-2-clause-inside g c = omega (arith, c.push.ensures.end, c.rese
 
 pub invariant_of-self-2-clause-within : goal.invariant_of-self-2-clause-within
 invariant_of-self-2-clause-within g c =
-    let m = c.args.self.now in
-    let w : ℕ = g.L.Width.WORD in
-    let n : ℕ = length m.roll.hashes.items in
     let same = c.reserve.ensures.same in
-    let len : length c.push.new.self.hashes.items ≡ n + 1 = ap length c.push.ensures.hashes ∙ length_push c.reserve.new.self.hashes.items c.args.hash ∙ ap (λ (v : List ℕ). length v + 1) same.hashes in
-    let all : 4 * w * length c.push.new.self.hashes.items ≡ 4 * w * (n + 1) = ap (λ (v : ℕ). 4 * w * v) len in
-    omega (arith, all, more_slots w n g.met.L.Width.four_or_eight, c.requires.within, c.push.ensures.end, same.end)
+    let all = slots_push g.L.Width.WORD c.args.hash c.args.self.now.roll.hashes.items c.reserve.new.self.hashes.items c.push.new.self.hashes.items g.met.L.Width.four_or_eight same.hashes c.push.ensures.hashes in
+    omega (arith, all, c.requires.within, c.push.ensures.end, same.end)
 
 pub invariant_of-self-2-clause-eager : goal.invariant_of-self-2-clause-eager
 invariant_of-self-2-clause-eager g c = λ eager whole.

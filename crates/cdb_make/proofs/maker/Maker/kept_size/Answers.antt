@@ -1,20 +1,18 @@
 use Rattle.std.proofs.Common.{length, arith, ◌≡◌, ◌+◌, ◌*◌, ℕ, ap, sym, ◌∙◌}
-use Rattle.cdb_make.proofs.Rolls.{fewer_slots, two_slots, slots_add}
+use Rattle.cdb_make.proofs.Rolls.{slots_fit, two_slots, slots_add}
 use Rattle.cdb_make.proofs.maker.Maker.kept_size.Goals as goal
 
 pub overflow_mul-result-2 : goal.overflow_mul-result-2
 overflow_mul-result-2 g c =
     let m = c.args.self.now in
-    let few = fewer_slots g.L.Width.WORD c.kept_count.result (length m.roll.hashes.items) g.met.L.Width.four_or_eight (omega (arith, c.kept_count.ensures)) in
-    let slots = two_slots g.L.Width.WORD c.pair_size.result c.kept_count.result c.pair_size.ensures g.met.L.Width.four_or_eight in
-    omega (arith, few, slots, m.within, m.limited, g.met.L.Width.greatest_fits)
+    let slots = slots_fit g.L.Width.WORD c.pair_size.result c.kept_count.result (length m.roll.hashes.items) c.pair_size.ensures g.met.L.Width.four_or_eight (omega (arith, c.kept_count.ensures)) in
+    omega (arith, slots, m.within, m.limited, g.met.L.Width.greatest_fits)
 
 pub overflow_add-result : goal.overflow_add-result
 overflow_add-result g c =
     let m = c.args.self.now in
-    let few = fewer_slots g.L.Width.WORD c.kept_count.result (length m.roll.hashes.items) g.met.L.Width.four_or_eight (omega (arith, c.kept_count.ensures)) in
-    let slots = two_slots g.L.Width.WORD c.pair_size.result c.kept_count.result c.pair_size.ensures g.met.L.Width.four_or_eight in
-    omega (arith, few, slots, c.kept_end.ensures, m.within, m.limited, g.met.L.Width.greatest_fits)
+    let slots = slots_fit g.L.Width.WORD c.pair_size.result c.kept_count.result (length m.roll.hashes.items) c.pair_size.ensures g.met.L.Width.four_or_eight (omega (arith, c.kept_count.ensures)) in
+    omega (arith, slots, c.kept_end.ensures, m.within, m.limited, g.met.L.Width.greatest_fits)
 
 pub returns-clause-is : goal.returns-clause-is
 returns-clause-is g c =
@@ -27,6 +25,5 @@ returns-clause-is g c =
 pub returns-clause-within : goal.returns-clause-within
 returns-clause-within g c =
     let m = c.args.self.now in
-    let few = fewer_slots g.L.Width.WORD c.kept_count.result (length m.roll.hashes.items) g.met.L.Width.four_or_eight (omega (arith, c.kept_count.ensures)) in
-    let slots = two_slots g.L.Width.WORD c.pair_size.result c.kept_count.result c.pair_size.ensures g.met.L.Width.four_or_eight in
-    omega (arith, few, slots, c.kept_end.ensures, m.within)
+    let slots = slots_fit g.L.Width.WORD c.pair_size.result c.kept_count.result (length m.roll.hashes.items) c.pair_size.ensures g.met.L.Width.four_or_eight (omega (arith, c.kept_count.ensures)) in
+    omega (arith, slots, c.kept_end.ensures, m.within)

@@ -1,4 +1,4 @@
-use Rattle.cdb_make.proofs.Words.{AreNone, Bool, Err, FailsLooking, List, OnlyReads, SameRecords, SeesNone, ap, arith, common_steps, gone_of, is_gone, is_there, left, length, length-map, reads_nothing, refl, sought_by, subst, sym, ◌<◌, ◌∙◌, ◌≡◌}
+use Rattle.cdb_make.proofs.Words.{AreNone, Bool, Err, List, ap, arith, common_steps, gone_of, is_gone, is_there, left, length, length-map, reads_nothing, refl, sought_by, subst, sym, ◌∙◌, ◌≡◌}
 use Rattle.cdb_make.proofs.Looking.{sees_long, sees_same, same_then}
 use Rattle.cdb_make.proofs.Survive.{last_there}
 use Rattle.cdb_make.proofs.Rolls.{look_fails, follows_read}
@@ -29,7 +29,7 @@ returns-in-Ok-clause-looks g c =
             let last = c.in-Ok.ensures.last.each b is held.all sees in
             let long = sees_long m held.all b sees in
             let many : length (gone_of m.marks.items) ≡ length held.all = omega (arith, long, length-map m.marks.items is_gone, m.marked) in
-            last_there c.args.key.now (gone_of m.marks.items) held.all c.len.result c.in-Ok.last many (omega (arith, long, c.len.ensures)) last
+            c.is_some.ensures ∙ last_there c.args.key.now (gone_of m.marks.items) held.all c.len.result c.in-Ok.last many (omega (arith, long, c.len.ensures)) last
             ∙ ap (is_there c.args.key.now) (ap (λ (v : List Bool). left v held.all) gone ∙ sym held.left);
       };
     }
@@ -37,16 +37,13 @@ returns-in-Ok-clause-looks g c =
 pub returns-in-Err-clause-fails : goal.returns-in-Err-clause-fails
 returns-in-Err-clause-fails g c =
     let i = c.args.self.now in
-    let k = c.failed_look.new.self in
-    let f = c.failed_look.ensures in
-    let h = c.in-Err.ensures in
     let roll = c.put_back.new.self in
-    subst (FailsLooking i k) (sym f.fault)
-    (look_fails i k c.in-Err.fault c.if-self.false (subst (λ v. SameRecords i.roll v) (sym f.roll) (same_then i.roll c.link.new.self roll c.link.ensures.same c.put_back.ensures.same))
-    (ap (λ v. gone_of v.marks.items) f.roll ∙ c.put_back.ensures.gone ∙ ap (λ v. gone_of v.items) c.link.ensures.marks) (ap (λ v. v.gone) f.roll ∙ c.put_back.ensures.picked ∙ c.link.ensures.gone) f.limit f.lazy f.broken
-    (subst (λ v. OnlyReads g.S.Store i.store v) (sym f.store) c.last_with_key.ensures.reads)
-    (λ e. subst (λ v. SeesNone v (g.S.Store.image k.store)) (sym f.roll) (subst (λ v. SeesNone roll (g.S.Store.image v)) (sym f.store) (h.foreign (ap Err e))))
-    (λ e. subst (λ v. g.S.Store.failures i.store < g.S.Store.failures v) (sym f.store) (h.failed (ap Err e))))
+    let was = c.link.ensures in
+    let put = c.put_back.ensures in
+    let h = c.in-Err.ensures in
+    let f = c.failed_look.ensures in
+    look_fails i c.failed_look.new.self roll c.last_with_key.new.store c.in-Err.fault c.failed_look.result c.if-self.false (same_then i.roll c.link.new.self roll was.same put.same) (put.gone ∙ ap (λ v. gone_of v.items) was.marks) (put.picked ∙ was.gone) h.reads
+    (λ e. h.foreign (ap Err e)) (λ e. h.failed (ap Err e)) f.fault f.broken f.store f.roll f.limit f.lazy
 
 pub returns-then-self-clause-follows : goal.returns-then-self-clause-follows
 returns-then-self-clause-follows g c = follows_read c.args.self.now _ refl refl (reads_nothing _ _ refl)
@@ -57,7 +54,7 @@ returns-in-Ok-clause-follows g c = follows_read c.args.self.now _ refl refl c.la
 pub returns-in-Err-clause-follows : goal.returns-in-Err-clause-follows
 returns-in-Err-clause-follows g c =
     let f = c.failed_look.ensures in
-    follows_read c.args.self.now c.failed_look.new.self f.limit f.lazy (subst (λ v. OnlyReads g.S.Store c.args.self.now.store v) (sym f.store) c.last_with_key.ensures.reads)
+    follows_read c.args.self.now c.failed_look.new.self f.limit f.lazy (rw f.store c.last_with_key.ensures.reads)
 
 pub returns-in-Err-clause-counts : goal.returns-in-Err-clause-counts
 returns-in-Err-clause-counts g c = grind (arith, common_steps)

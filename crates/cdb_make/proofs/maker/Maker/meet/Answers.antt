@@ -2,6 +2,7 @@ use Rattle.cdb_make.proofs.Words.{AreNone, KeyValue, Meets, arith, common_steps,
 use Rattle.cdb_form.specs.declared.mode.Mode.TheVariants.{Warn, Insert, Replace}
 use Rattle.cdb_make.specs.declared.answer.Put.TheVariants.{Added, AddedAgain, Present, Replaced}
 use Rattle.cdb_make.proofs.Meeting.{meets_add, meets_by, meets_found, plain_again, plain_warn, plain_present, plain_insert, answers_none, answers_some}
+use Rattle.cdb_make.proofs.Finishing.{fails_so}
 use Rattle.cdb_make.proofs.maker.Maker.meet.Goals as goal
 
 pub returns-else-self-clause-meets : goal.returns-else-self-clause-meets
@@ -90,3 +91,12 @@ invariant_of-self-clause-told g c = c.args.self.now.told
 
 pub invariant_of-self-clause-eager : goal.invariant_of-self-clause-eager
 invariant_of-self-clause-eager g c = λ eager whole. subst AreNone (sym c.put_back.ensures.gone) (c.args.self.now.eager eager whole)
+
+pub returns-in_err-look-in-Warn-clause-steps : goal.returns-in_err-look-in-Warn-clause-steps
+returns-in_err-look-in-Warn-clause-steps g c = fails_so c.args.self.now _ c.from_residual.result _ c.from_residual.ensures.1 c.look.ensures.counts c.look.ensures.follows
+
+pub returns-in_err-look-in-Insert-clause-steps : goal.returns-in_err-look-in-Insert-clause-steps
+returns-in_err-look-in-Insert-clause-steps g c = fails_so c.args.self.now _ c.from_residual-in_err-look-in-Insert.result _ c.from_residual-in_err-look-in-Insert.ensures.1 c.look-in-Insert.ensures.counts c.look-in-Insert.ensures.follows
+
+pub returns-in_err-taken-in-Replace-clause-steps : goal.returns-in_err-taken-in-Replace-clause-steps
+returns-in_err-taken-in-Replace-clause-steps g c = fails_so c.args.self.now _ c.from_residual-in_err-taken-in-Replace.result _ c.from_residual-in_err-taken-in-Replace.ensures.1 c.seek.ensures.counts c.seek.ensures.follows

@@ -9,7 +9,7 @@ returns-in_err-add_alone-clause-fails g c =
     let r : KeyValue = record { key = c.args.key.now; value = c.args.value.now } in
     let f = c.if-only_adds.ensures in
     put_failed i i c.add_alone.new.self c.hash-hash.result c.args.mode r Added c.from_residual.result c.in_err-add_alone.field-0.0 g.met.L.Width.four_or_eight refl (meets_alone i c.hash-hash.result c.args.mode r (f.add refl) (f.whole refl) (f.none refl)) refl
-    c.add_alone.ensures.follows c.in_err-add_alone.ensures.fails c.from_residual.ensures.1
+    c.add_alone.ensures.steps.follows c.in_err-add_alone.ensures.fails c.from_residual.ensures.1
 
 pub returns-then-only_adds-clause-puts : goal.returns-then-only_adds-clause-puts
 returns-then-only_adds-clause-puts g c =

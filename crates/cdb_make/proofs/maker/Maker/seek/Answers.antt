@@ -1,4 +1,4 @@
-use Rattle.cdb_make.proofs.Words.{AreNone, Err, FailsLooking, OnlyReads, SameRecords, SeesNone, ap, arith, common_steps, gone_of, reads_nothing, refl, sought_by, subst, sym, ◌<◌, ◌∙◌}
+use Rattle.cdb_make.proofs.Words.{AreNone, Err, ap, arith, common_steps, gone_of, reads_nothing, refl, sought_by, subst, sym, ◌∙◌}
 use Rattle.cdb_make.proofs.Looking.{same_then}
 use Rattle.cdb_make.proofs.Rolls.{look_fails, follows_read}
 use Rattle.cdb_make.proofs.maker.Maker.seek.Goals as goal
@@ -6,16 +6,12 @@ use Rattle.cdb_make.proofs.maker.Maker.seek.Goals as goal
 pub returns-in-Err-clause-fails : goal.returns-in-Err-clause-fails
 returns-in-Err-clause-fails g c =
     let i = c.args.self.now in
-    let k = c.failed_look.new.self in
-    let f = c.failed_look.ensures in
-    let h = c.in-Err.ensures in
     let roll = c.find.new.roll in
-    subst (FailsLooking i k) (sym f.fault)
-    (look_fails i k c.in-Err.fault c.if-self.false (subst (λ v. SameRecords i.roll v) (sym f.roll) (same_then i.roll c.link.new.self roll c.link.ensures.same c.find.ensures.same))
-    (ap (λ v. gone_of v.marks.items) f.roll ∙ c.find.ensures.gone ∙ ap (λ v. gone_of v.items) c.link.ensures.marks) (ap (λ v. v.gone) f.roll ∙ c.find.ensures.kept ∙ c.link.ensures.gone) f.limit f.lazy f.broken
-    (subst (λ v. OnlyReads g.S.Store i.store v) (sym f.store) c.find.ensures.reads)
-    (λ e. subst (λ v. SeesNone v (g.S.Store.image k.store)) (sym f.roll) (subst (λ v. SeesNone roll (g.S.Store.image v)) (sym f.store) (h.foreign (ap Err e))))
-    (λ e. subst (λ v. g.S.Store.failures i.store < g.S.Store.failures v) (sym f.store) (h.failed (ap Err e))))
+    let was = c.link.ensures in
+    let h = c.in-Err.ensures in
+    let f = c.failed_look.ensures in
+    look_fails i c.failed_look.new.self roll c.find.new.store c.in-Err.fault c.failed_look.result c.if-self.false (same_then i.roll c.link.new.self roll was.same h.same) (h.gone ∙ ap (λ v. gone_of v.items) was.marks) (h.kept ∙ was.gone) h.reads
+    (λ e. h.foreign (ap Err e)) (λ e. h.failed (ap Err e)) f.fault f.broken f.store f.roll f.limit f.lazy
 
 pub returns-then-self-clause-follows : goal.returns-then-self-clause-follows
 returns-then-self-clause-follows g c = follows_read c.args.self.now _ refl refl (reads_nothing _ _ refl)
@@ -26,7 +22,7 @@ returns-in-Ok-clause-follows g c = follows_read c.args.self.now _ refl refl c.fi
 pub returns-in-Err-clause-follows : goal.returns-in-Err-clause-follows
 returns-in-Err-clause-follows g c =
     let f = c.failed_look.ensures in
-    follows_read c.args.self.now c.failed_look.new.self f.limit f.lazy (subst (λ v. OnlyReads g.S.Store c.args.self.now.store v) (sym f.store) c.find.ensures.reads)
+    follows_read c.args.self.now c.failed_look.new.self f.limit f.lazy (rw f.store c.find.ensures.reads)
 
 pub returns-in-Ok-clause-room : goal.returns-in-Ok-clause-room
 returns-in-Ok-clause-room g c = grind (arith, common_steps)

@@ -1,6 +1,6 @@
 use Rattle.cdb_make.proofs.Words.{ap, arith, file_size, gone_in, is_gone, length, length-map, sym, ◌+◌, ◌∙◌, ◌≡◌}
 use Rattle.cdb_make.proofs.Looking.{sees_long}
-use Rattle.cdb_make.proofs.Rolls.{fewer_slots, left_file, two_slots}
+use Rattle.cdb_make.proofs.Rolls.{left_file, slots_fit, two_slots}
 use Rattle.cdb_make.proofs.maker.Maker.size.Goals as goal
 
 pub returns-clause-holds : goal.returns-clause-holds
@@ -17,20 +17,17 @@ returns-clause-holds g c = λ rs h. record {
 pub overflow_mul-result-2 : goal.overflow_mul-result-2
 overflow_mul-result-2 g c =
     let m = c.args.self.now in
-    let few = fewer_slots g.L.Width.WORD c.left_count.result (length m.roll.hashes.items) g.met.L.Width.four_or_eight (omega (arith, c.left_count.ensures)) in
-    let slots = two_slots g.L.Width.WORD c.pair_size.result c.left_count.result c.pair_size.ensures g.met.L.Width.four_or_eight in
-    omega (arith, few, slots, m.within, m.limited, g.met.L.Width.greatest_fits)
+    let slots = slots_fit g.L.Width.WORD c.pair_size.result c.left_count.result (length m.roll.hashes.items) c.pair_size.ensures g.met.L.Width.four_or_eight (omega (arith, c.left_count.ensures)) in
+    omega (arith, slots, m.within, m.limited, g.met.L.Width.greatest_fits)
 
 pub overflow_add-result : goal.overflow_add-result
 overflow_add-result g c =
     let m = c.args.self.now in
-    let few = fewer_slots g.L.Width.WORD c.left_count.result (length m.roll.hashes.items) g.met.L.Width.four_or_eight (omega (arith, c.left_count.ensures)) in
-    let slots = two_slots g.L.Width.WORD c.pair_size.result c.left_count.result c.pair_size.ensures g.met.L.Width.four_or_eight in
-    omega (arith, few, slots, c.left_end.ensures, m.within, m.limited, g.met.L.Width.greatest_fits)
+    let slots = slots_fit g.L.Width.WORD c.pair_size.result c.left_count.result (length m.roll.hashes.items) c.pair_size.ensures g.met.L.Width.four_or_eight (omega (arith, c.left_count.ensures)) in
+    omega (arith, slots, c.left_end.ensures, m.within, m.limited, g.met.L.Width.greatest_fits)
 
 pub returns-clause-within : goal.returns-clause-within
 returns-clause-within g c =
     let m = c.args.self.now in
-    let few = fewer_slots g.L.Width.WORD c.left_count.result (length m.roll.hashes.items) g.met.L.Width.four_or_eight (omega (arith, c.left_count.ensures)) in
-    let slots = two_slots g.L.Width.WORD c.pair_size.result c.left_count.result c.pair_size.ensures g.met.L.Width.four_or_eight in
-    omega (arith, few, slots, c.left_end.ensures, m.within)
+    let slots = slots_fit g.L.Width.WORD c.pair_size.result c.left_count.result (length m.roll.hashes.items) c.pair_size.ensures g.met.L.Width.four_or_eight (omega (arith, c.left_count.ensures)) in
+    omega (arith, slots, c.left_end.ensures, m.within)

@@ -2,6 +2,7 @@ use Rattle.cdb_make.proofs.Words.{AreChained, AreOf, AreRising, AreSpans, Bool, 
 use Rattle.cdb_make.proofs.Spans.{rising_of, spans_of}
 use Rattle.cdb_make.proofs.Linking.{chained_same}
 use Rattle.cdb_make.proofs.Picking.{picks_none, left_front, stays_at, none_gone, none_found, left_number, end_left}
+use Rattle.cdb_make.proofs.roll.Roll.compact.Goals.{After-compact_entries-kept}
 use Rattle.cdb_make.proofs.roll.Roll.compact.Goals as goal
 
 pub compact_entries-kept-requires-clause-spans : goal.compact_entries-kept-requires-clause-spans
@@ -128,15 +129,22 @@ kept_count : (ms : List Mark) (hs news : List ℕ) (count gone : ℕ) → length
 kept_count ms hs news count gone long within is many =
     omega (arith, ap length is, length-take-le count news within, left_number (gone_of ms) hs (length-map ms is_gone ∙ long), many)
 
+counted : (g : _) (c : After-compact_entries-kept g) → c.compact_entries-kept.result.count + c.put_back.new.self.gone.count ≡ length c.put_back.new.self.hashes.items
+counted g c =
+    let m = c.put_back.new.self in
+    let kept = c.compact_entries-kept in
+    let n : ℕ = kept.result.count in
+    let is : take n kept.new.hashes ≡ left (gone_of m.marks.items) m.hashes.items =
+    kept.ensures.hashes ∙ ap (λ (v : List Mark). left (gone_of v) c.deref_mut.result.now) c.deref-5.ensures.value ∙ ap (left (gone_of m.marks.items)) c.deref_mut.ensures.value in
+    kept_count m.marks.items m.hashes.items kept.new.hashes n m.gone.count m.marked (omega (arith, kept.ensures.long, ap length c.deref_mut.ensures.value, kept.ensures.within, m.paired)) is m.picked.count
+
 pub returns-clause-count : goal.returns-clause-count
 returns-clause-count g c =
     let m = c.put_back.new.self in
     let kept = c.compact_entries-kept in
     let n : ℕ = kept.result.count in
     let long : length kept.new.hashes ≡ length m.hashes.items = omega (arith, kept.ensures.long, ap length c.deref_mut.ensures.value) in
-    let is : take n kept.new.hashes ≡ left (gone_of m.marks.items) m.hashes.items =
-    kept.ensures.hashes ∙ ap (λ (v : List Mark). left (gone_of v) c.deref_mut.result.now) c.deref-5.ensures.value ∙ ap (left (gone_of m.marks.items)) c.deref_mut.ensures.value in
-    let all : n + m.gone.count ≡ length m.hashes.items = kept_count m.marks.items m.hashes.items kept.new.hashes n m.gone.count m.marked (omega (arith, long, kept.ensures.within, m.paired)) is m.picked.count in
+    let all = counted g (goal.at.returns-clause-count g c).After-compact_entries-kept in
     omega (arith, all, long, c.truncate.ensures.len, c.truncate.new.self.ok.0, m.hashes.ok.0, kept.ensures.within, m.paired, ap length c.put_back.ensures.same.hashes, ap (λ (p : Picked). p.count) c.put_back.ensures.picked)
 
 pub returns-clause-room : goal.returns-clause-room
@@ -145,9 +153,7 @@ returns-clause-room g c = λ some.
     let kept = c.compact_entries-kept in
     let n : ℕ = kept.result.count in
     let long : length kept.new.hashes ≡ length m.hashes.items = omega (arith, kept.ensures.long, ap length c.deref_mut.ensures.value) in
-    let is : take n kept.new.hashes ≡ left (gone_of m.marks.items) m.hashes.items =
-    kept.ensures.hashes ∙ ap (λ (v : List Mark). left (gone_of v) c.deref_mut.result.now) c.deref-5.ensures.value ∙ ap (left (gone_of m.marks.items)) c.deref_mut.ensures.value in
-    let all : n + m.gone.count ≡ length m.hashes.items = kept_count m.marks.items m.hashes.items kept.new.hashes n m.gone.count m.marked (omega (arith, long, kept.ensures.within, m.paired)) is m.picked.count in
+    let all = counted g (goal.at.returns-clause-room g c).After-compact_entries-kept in
     let fewer : n < length m.hashes.items = omega (arith, all, some, ap (λ (p : Picked). p.count) c.put_back.ensures.picked) in
     let places : length (places_in c.truncate-2.new.self) ≡ n = ap length c.truncate-2.ensures.places ∙ length-take-le n (places_in kept.new.places) (omega (arith, kept.ensures.places, kept.ensures.within)) in
     record {

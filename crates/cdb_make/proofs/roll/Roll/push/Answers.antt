@@ -1,8 +1,9 @@
-use Rattle.cdb_make.proofs.Words.{Bool, IsPicked, List, [], ap, arith, common_steps, cond, false, found_of, get_or, get_or_append_left, gone_of, head_size, is_found, is_gone, length, length-map, length_push, map-append, places_in, searched, searched_by, slice_index, subst, sym, true, ℕ, ◌++◌, ◌+◌, ◌∙◌, ◌∷◌, ◌≡◌}
+use Rattle.cdb_make.proofs.Words.{Bool, IsPicked, List, Mark, Picked, [], ap, arith, common_steps, cond, false, get_or, get_or_append_left, gone_of, head_size, is_found, is_gone, length, length-map, length_push, map, map-append, refl, places_in, searched, searched_by, slice_index, subst, sym, true, ℕ, ◌++◌, ◌+◌, ◌∙◌, ◌∷◌, ◌≡◌}
 use Rattle.cdb_make.specs.declared.mark.Mark.TheVariants.{Stays}
 use Rattle.cdb_make.proofs.Linking.{chained_same}
 use Rattle.cdb_make.proofs.Picking.{picks_push}
 use Rattle.cdb_make.proofs.Spans.{long_as, pushed_of, rising_of, spans_of}
+use Rattle.cdb_make.proofs.roll.Roll.push.Goals.{After-push_reserved-2}
 use Rattle.cdb_make.proofs.roll.Roll.push.Goals as goal
 
 pub returns-clause-of : goal.returns-clause-of
@@ -13,15 +14,22 @@ invariant_of-self-clause-spans g c =
     let m = c.args.self.now in
     rising_of (pushed_of c.args.size c.push.ensures.places (spans_of (head_size g.L.Width.WORD) m.end (places_in m.places) m.spans).of)
 
-pub invariant_of-self-clause-picked : goal.invariant_of-self-clause-picked
-invariant_of-self-clause-picked g c =
+-- the records that are picked are the same, with one more that is not
+picks : (g : _) (c : After-push_reserved-2 g) (test : Mark → Bool) (p : Picked) → test Stays ≡ false → IsPicked (head_size g.L.Width.WORD) (places_in c.args.self.now.places) c.args.self.now.end (map test c.args.self.now.marks.items) p
+    → IsPicked (head_size g.L.Width.WORD) (places_in c.push.new.self) (c.args.self.now.end + c.args.size) (map test c.push_reserved-2.new.self.items) p
+picks g c test p stays picked =
     let m = c.args.self.now in
-    let ms : List Bool = gone_of m.marks.items in
+    let ms : List Bool = map test m.marks.items in
     let spans = spans_of (head_size g.L.Width.WORD) m.end (places_in m.places) m.spans in
-    let items : gone_of c.push_reserved-2.new.self.items ≡ ms ++ false ∷ [] = ap gone_of c.push_reserved-2.ensures.items ∙ map-append is_gone m.marks.items (Stays ∷ []) in
-    subst (λ (v : List Bool). IsPicked (head_size g.L.Width.WORD) (places_in c.push.new.self) (m.end + c.args.size) v m.gone) (sym items)
-    (picks_push ms m.gone c.args.size
-    (omega (arith, length-map m.marks.items is_gone, m.marked, m.paired, long_as spans.of)) spans.of (pushed_of c.args.size c.push.ensures.places spans.of) m.picked)
+    let items : map test c.push_reserved-2.new.self.items ≡ ms ++ false ∷ [] = ap (map test) c.push_reserved-2.ensures.items ∙ map-append test m.marks.items (Stays ∷ []) ∙ ap (λ (v : Bool). ms ++ v ∷ []) stays in
+    subst (λ (v : List Bool). IsPicked (head_size g.L.Width.WORD) (places_in c.push.new.self) (m.end + c.args.size) v p) (sym items)
+    (picks_push ms p c.args.size (omega (arith, length-map m.marks.items test, m.marked, m.paired, long_as spans.of)) spans.of (pushed_of c.args.size c.push.ensures.places spans.of) picked)
+
+pub invariant_of-self-clause-picked : goal.invariant_of-self-clause-picked
+invariant_of-self-clause-picked g c = picks g (goal.at.invariant_of-self-clause-picked g c).After-push_reserved-2 is_gone c.args.self.now.gone refl c.args.self.now.picked
+
+pub invariant_of-self-clause-sought : goal.invariant_of-self-clause-sought
+invariant_of-self-clause-sought g c = picks g (goal.at.invariant_of-self-clause-sought g c).After-push_reserved-2 is_found c.args.self.now.found refl c.args.self.now.sought
 
 pub invariant_of-self-clause-chained : goal.invariant_of-self-clause-chained
 invariant_of-self-clause-chained g c =
@@ -44,16 +52,6 @@ invariant_of-self-clause-numbered g c =
     let m = c.args.self.now in
     let more = ap (searched_by m.tagged c.push_tag.new.tags.items) c.push_reserved.ensures.items ∙ c.push_tag.ensures.more m.hashes.items c.args.hash in
     omega (arith, ap length more, length_push (searched m) (cond m.tagged c.args.tag c.args.hash), m.numbered, ap length c.push_reserved.ensures.items, length_push m.hashes.items c.args.hash)
-
-pub invariant_of-self-clause-sought : goal.invariant_of-self-clause-sought
-invariant_of-self-clause-sought g c =
-    let m = c.args.self.now in
-    let ms : List Bool = found_of m.marks.items in
-    let spans = spans_of (head_size g.L.Width.WORD) m.end (places_in m.places) m.spans in
-    let items : found_of c.push_reserved-2.new.self.items ≡ ms ++ false ∷ [] = ap found_of c.push_reserved-2.ensures.items ∙ map-append is_found m.marks.items (Stays ∷ []) in
-    subst (λ (v : List Bool). IsPicked (head_size g.L.Width.WORD) (places_in c.push.new.self) (m.end + c.args.size) v m.found) (sym items)
-    (picks_push ms m.found c.args.size
-    (omega (arith, length-map m.marks.items is_found, m.marked, m.paired, long_as spans.of)) spans.of (pushed_of c.args.size c.push.ensures.places spans.of) m.sought)
 
 pub invariant_of-self-clause-paired : goal.invariant_of-self-clause-paired
 invariant_of-self-clause-paired g c = grind (arith, common_steps)
