@@ -1,6 +1,6 @@
 -- How a run that writes a difference ends.
 use Rattle.cdb_show.proofs.Words.{Err, Fault, Flushed, Ghosts, IsOk, Keeps, List, None, Ok, OnlyReads, OpeningFails, Option, ReadFault, Result, Some, ap, appends_kept, arith, false, head_size, inl, inr, reads_none, same_appends, subst, sym, true, ℕ, ◌≡◌, ◌≤◌}
-use Rattle.cdb_store.proofs.Reading.{reads_more, reads_nothing}
+use Rattle.cdb_store.proofs.Reading.{reads_more}
 use Rattle.cdb_form.specs.Text.Amending.{amending_text}
 use Rattle.cdb_read.specs.declared.fault.ReadFault.TheVariants as read
 use Rattle.cdb_read.proofs.TablesInside.{lookup_meets_no_table, walk_meets_no_table}
@@ -8,11 +8,12 @@ use Rattle.cdb_read.specs.Statistics.{outside_table}
 use Rattle.cdb_form.specs.declared.damage.Damage.TheVariants as damage
 use Rattle.cdb_difference.specs.Difference.{HasDamage, IsOneDamaged, ReadingStops, SaysDifference, DifferenceStops, WritesDifference, WritesDifferencePrefix}
 use Rattle.cdb_difference.proofs.WholeDifferences.{nothing_written}
-use Rattle.cdb_show.specs.Runs.Difference.{ComesAfter, DifferenceFails, DifferenceLacks, DifferenceNotRead, DifferenceOutside, HaveHeads, HaveTables, HaveTablesInside, TellsDifference}
+use Rattle.cdb_show.specs.Runs.Difference.{ComesAfter, DifferenceFails, DifferenceLacks, DifferenceNotRead, DifferenceOutside, HaveHeads, HaveTables, HaveTablesInside, TellsDifference, difference_state, difference_task}
 use Rattle.cdb_show.specs.Views.Fault.{old_fault, new_fault, stop_fault}
 use Rattle.cdb_show.specs.declared.fault.Fault.TheVariants.{Text, Make, Duplicate, Missing, Read, Walk, Output, Long, Open, Rename, NoMemory, Old, New, NoOldTables, NoNewTables, NoBaseTables}
 use Rattle.cdb_difference.specs.declared.stop.Stop.{Stop}
 use Rattle.cdb_difference.specs.declared.stop.Stop.TheVariants.{Own, Other}
+use Rattle.cdb_show.proofs.Openings.{opening_reads, unopened_by}
 use Rattle.cdb_show.proofs.Writers.{keeps_self, keeps_then, not_ok, prefix_kept, whole_prefix}
 
 -- ---- why it failed
@@ -23,7 +24,7 @@ no_table w n b c inside (inl walked) = walk_meets_no_table w n b inside walked
 no_table w n b c inside (inr looked) = lookup_meets_no_table w n b looked.0 inside looked.2
 
 module _ {S T : Type 0} (w : ℕ) (s : Ghosts S) (t : Ghosts T) (old old_now : S) (new new_now : T) (start now : Option (List ℕ)) (O : Type 0) (looked : HaveTablesInside w s t old_now new_now) where
-  old_fails : (f : ReadFault) → ReadingStops s old old_now (IsOneDamaged w s t old_now new_now) O f → DifferenceFails w s t old old_now new new_now start now (old_fault f)
+  old_fails : (f : ReadFault) → ReadingStops s old old_now (IsOneDamaged w s t old_now new_now) O f → DifferenceFails (difference_task w s t) (difference_state old new start) (difference_state old_now new_now now) (old_fault f)
   old_fails read.Device fails = fails
   old_fails (read.Table n) fails = λ b c is it. absurd (no_table w n b c (looked.of_old b is) (fails b c is it))
   old_fails (read.Record place) fails = fails
@@ -34,7 +35,7 @@ module _ {S T : Type 0} (w : ℕ) (s : Ghosts S) (t : Ghosts T) (old old_now : S
   old_fails (read.Twice place) fails = absurd fails
   old_fails (read.Unindexed place) fails = absurd fails
 
-  new_fails : (f : ReadFault) → ReadingStops t new new_now (IsOneDamaged w t s new_now old_now) O f → DifferenceFails w s t old old_now new new_now start now (new_fault f)
+  new_fails : (f : ReadFault) → ReadingStops t new new_now (IsOneDamaged w t s new_now old_now) O f → DifferenceFails (difference_task w s t) (difference_state old new start) (difference_state old_now new_now now) (new_fault f)
   new_fails read.Device fails = fails
   new_fails (read.Table n) fails = λ c b it is. absurd (no_table w n c b (looked.of_new c it) (fails c b it is))
   new_fails (read.Record place) fails = fails
@@ -45,7 +46,7 @@ module _ {S T : Type 0} (w : ℕ) (s : Ghosts S) (t : Ghosts T) (old old_now : S
   new_fails (read.Twice place) fails = absurd fails
   new_fails (read.Unindexed place) fails = absurd fails
 
-  pub writing_fails : (stop : Stop) → DifferenceStops w s t old old_now new new_now O stop → DifferenceFails w s t old old_now new new_now start now (stop_fault stop)
+  pub writing_fails : (stop : Stop) → DifferenceStops w s t old old_now new new_now O stop → DifferenceFails (difference_task w s t) (difference_state old new start) (difference_state old_now new_now now) (stop_fault stop)
   writing_fails (Own f) fails = old_fails f fails
   writing_fails (Other f) fails = new_fails f fails
 
@@ -77,86 +78,33 @@ module _ {S T : Type 0} (w : ℕ) (s : Ghosts S) (t : Ghosts T) (old old_now : S
 
 -- ---- a database that was not opened
 
-opening_reads : {S : Type 0} (w : ℕ) (s : Ghosts S) (old now : S) (f : ReadFault) → OpeningFails w s old now f → OnlyReads s old now
-opening_reads w s old now read.Short fails = reads_nothing {s = s} old now fails.1
-opening_reads w s old now read.Device fails = fails.0
-opening_reads w s old now (read.Table n) fails = absurd fails
-opening_reads w s old now (read.Record place) fails = absurd fails
-opening_reads w s old now (read.Slot n i) fails = absurd fails
-opening_reads w s old now (read.Twice place) fails = absurd fails
-opening_reads w s old now (read.Unindexed place) fails = absurd fails
-opening_reads w s old now read.NoMemory fails = absurd fails
-opening_reads w s old now read.Output fails = absurd fails
-
-pub old_unopened : {S T : Type 0} (w : ℕ) (s : Ghosts S) (t : Ghosts T) (old old_now : S) (new : T) (start : Option (List ℕ)) (f : ReadFault) → OpeningFails w s old old_now f → TellsDifference w s t old old_now new new start start (Err (old_fault f))
+pub old_unopened : {S T : Type 0} (w : ℕ) (s : Ghosts S) (t : Ghosts T) (old old_now : S) (new : T) (start : Option (List ℕ)) (f : ReadFault) → OpeningFails w s old old_now f → TellsDifference (difference_task w s t) (difference_state old new start) (difference_state old_now new start) (Err (old_fault f))
 old_unopened w s t old old_now new start f fails = record {
   old_reads = opening_reads w s old old_now f fails;
   new_reads = reads_none t new;
   ok = tt;
-  err = by f fails;
+  err = unopened_by w s old old_now (λ f. DifferenceFails (difference_task w s t) (difference_state old new start) (difference_state old_now new start) (old_fault f))
+      (λ short same. record { short = short; unread = same; kept = keeps_self start }) (λ reads failed. failed) f fails;
   ok_looks = tt;
-  err_looks = first f fails;
+  err_looks = unopened_by w s old old_now (λ f. ComesAfter w s t old_now new (old_fault f)) (λ short same. tt) (λ reads failed. tt) f fails;
   front = λ b c is it. nothing_written w b c start;
 }
-  where
-    first : (f : ReadFault) → OpeningFails w s old old_now f → ComesAfter w s t old_now new (old_fault f)
-    first read.Short fails = tt
-    first read.Device fails = tt
-    first (read.Table n) fails = absurd fails
-    first (read.Record place) fails = absurd fails
-    first (read.Slot n i) fails = absurd fails
-    first (read.Twice place) fails = absurd fails
-    first (read.Unindexed place) fails = absurd fails
-    first read.NoMemory fails = absurd fails
-    first read.Output fails = absurd fails
 
-    by : (f : ReadFault) → OpeningFails w s old old_now f → DifferenceFails w s t old old_now new new start start (old_fault f)
-    by read.Short fails = record { short = fails.0; unread = fails.1; kept = keeps_self start }
-    by read.Device fails = fails.1
-    by (read.Table n) fails = absurd fails
-    by (read.Record place) fails = absurd fails
-    by (read.Slot n i) fails = absurd fails
-    by (read.Twice place) fails = absurd fails
-    by (read.Unindexed place) fails = absurd fails
-    by read.NoMemory fails = absurd fails
-    by read.Output fails = absurd fails
-
-pub new_unopened : {S T : Type 0} (w : ℕ) (s : Ghosts S) (t : Ghosts T) (old old_now : S) (new new_now : T) (start : Option (List ℕ)) (f : ReadFault) → OnlyReads s old old_now → head_size w ≤ s.size old_now → OpeningFails w t new new_now f → TellsDifference w s t old old_now new new_now start start (Err (new_fault f))
+pub new_unopened : {S T : Type 0} (w : ℕ) (s : Ghosts S) (t : Ghosts T) (old old_now : S) (new new_now : T) (start : Option (List ℕ)) (f : ReadFault) → OnlyReads s old old_now → head_size w ≤ s.size old_now → OpeningFails w t new new_now f → TellsDifference (difference_task w s t) (difference_state old new start) (difference_state old_now new_now start) (Err (new_fault f))
 new_unopened w s t old old_now new new_now start f reads long fails = record {
   old_reads = reads;
   new_reads = opening_reads w t new new_now f fails;
   ok = tt;
-  err = by f fails;
+  err = unopened_by w t new new_now (λ f. DifferenceFails (difference_task w s t) (difference_state old new start) (difference_state old_now new_now start) (new_fault f))
+      (λ short same. record { short = short; unread = same; kept = keeps_self start }) (λ reads failed. failed) f fails;
   ok_looks = tt;
-  err_looks = second f fails;
+  err_looks = unopened_by w t new new_now (λ f. ComesAfter w s t old_now new_now (new_fault f)) (λ short same. long) (λ reads failed. long) f fails;
   front = λ b c is it. nothing_written w b c start;
 }
-  where
-    second : (f : ReadFault) → OpeningFails w t new new_now f → ComesAfter w s t old_now new_now (new_fault f)
-    second read.Short fails = long
-    second read.Device fails = long
-    second (read.Table n) fails = absurd fails
-    second (read.Record place) fails = absurd fails
-    second (read.Slot n i) fails = absurd fails
-    second (read.Twice place) fails = absurd fails
-    second (read.Unindexed place) fails = absurd fails
-    second read.NoMemory fails = absurd fails
-    second read.Output fails = absurd fails
-
-    by : (f : ReadFault) → OpeningFails w t new new_now f → DifferenceFails w s t old old_now new new_now start start (new_fault f)
-    by read.Short fails = record { short = fails.0; unread = fails.1; kept = keeps_self start }
-    by read.Device fails = fails.1
-    by (read.Table n) fails = absurd fails
-    by (read.Record place) fails = absurd fails
-    by (read.Slot n i) fails = absurd fails
-    by (read.Twice place) fails = absurd fails
-    by (read.Unindexed place) fails = absurd fails
-    by read.NoMemory fails = absurd fails
-    by read.Output fails = absurd fails
 
 -- ---- two that were opened
 
-since : {S T : Type 0} (w : ℕ) (s : Ghosts S) (t : Ghosts T) (old mid now : S) (beside : T) (start end : Option (List ℕ)) (f : ReadFault) → OnlyReads s old mid → head_size w ≤ s.size mid → DifferenceNotRead w s t mid now beside start end f → DifferenceNotRead w s t old now beside start end f
+since : {S T : Type 0} (w : ℕ) (s : Ghosts S) (t : Ghosts T) (old mid now : S) (beside : T) (start end : Option (List ℕ)) (f : ReadFault) → OnlyReads s old mid → head_size w ≤ s.size mid → DifferenceNotRead (difference_task w s t) (difference_state mid beside start) (difference_state now beside end) f → DifferenceNotRead (difference_task w s t) (difference_state old beside start) (difference_state now beside end) f
 since w s t old mid now beside start end read.Short reads long fails = absurd (let short = fails.short in omega (arith, short, long))
 since w s t old mid now beside start end read.Device reads long fails = let p = reads.failures in omega (arith, p, fails)
 since w s t old mid now beside start end (read.Table n) reads long fails = fails
@@ -168,7 +116,7 @@ since w s t old mid now beside start end read.NoMemory reads long fails = absurd
 since w s t old mid now beside start end read.Output reads long fails = absurd fails
 
 module _ {S T : Type 0} (w : ℕ) (s : Ghosts S) (t : Ghosts T) (old mid now : S) (new mid_new now_new : T) (start end : Option (List ℕ)) (first : OnlyReads s old mid) (second : OnlyReads t new mid_new) (long : head_size w ≤ s.size mid) (long_new : head_size w ≤ t.size mid_new) where
-  fails_since : (f : Fault) → DifferenceFails w s t mid now mid_new now_new start end f → DifferenceFails w s t old now new now_new start end f
+  fails_since : (f : Fault) → DifferenceFails (difference_task w s t) (difference_state mid mid_new start) (difference_state now now_new end) f → DifferenceFails (difference_task w s t) (difference_state old new start) (difference_state now now_new end) f
   fails_since (Old f) fails = since w s t old mid now now_new start end f first long fails
   fails_since (New f) fails = since w t s new mid_new now_new now start end f second long_new fails
   fails_since Output fails = tt
@@ -186,13 +134,13 @@ module _ {S T : Type 0} (w : ℕ) (s : Ghosts S) (t : Ghosts T) (old mid now : S
   fails_since NoNewTables fails = fails
   fails_since NoBaseTables fails = fails
 
-  pub tells_since : (result : Result Unit Fault) → TellsDifference w s t mid now mid_new now_new start end result → TellsDifference w s t old now new now_new start end result
+  pub tells_since : (result : Result Unit Fault) → TellsDifference (difference_task w s t) (difference_state mid mid_new start) (difference_state now now_new end) result → TellsDifference (difference_task w s t) (difference_state old new start) (difference_state now now_new end) result
   tells_since (Ok tt) h = record { old_reads = reads_more first h.old_reads; new_reads = reads_more second h.new_reads; ok = h.ok; err = tt; ok_looks = h.ok_looks; err_looks = tt; front = tt }
   tells_since (Err f) h = record { old_reads = reads_more first h.old_reads; new_reads = reads_more second h.new_reads; ok = tt; err = fails_since f h.err; ok_looks = tt; err_looks = h.err_looks; front = h.front }
 
 -- what the looks at two opened files find
 module _ {S T : Type 0} (w : ℕ) (s : Ghosts S) (t : Ghosts T) (old old_now : S) (new new_now : T) (start end : Option (List ℕ)) where
-  pub old_lacks : HaveHeads w s t old new → DifferenceLacks w s old true → TellsDifference w s t old old new new start start (Err NoOldTables)
+  pub old_lacks : HaveHeads w s t old new → DifferenceLacks w s old true → TellsDifference (difference_task w s t) (difference_state old new start) (difference_state old new start) (Err NoOldTables)
   old_lacks heads lacks = record {
     old_reads = reads_none s old;
     new_reads = reads_none t new;
@@ -203,7 +151,7 @@ module _ {S T : Type 0} (w : ℕ) (s : Ghosts S) (t : Ghosts T) (old old_now : S
     front = λ b c is it. nothing_written w b c start;
   }
 
-  pub new_lacks : HaveHeads w s t old new → DifferenceLacks w s old false → DifferenceLacks w t new true → TellsDifference w s t old old new new start start (Err NoNewTables)
+  pub new_lacks : HaveHeads w s t old new → DifferenceLacks w s old false → DifferenceLacks w t new true → TellsDifference (difference_task w s t) (difference_state old new start) (difference_state old new start) (Err NoNewTables)
   new_lacks heads has lacks = record {
     old_reads = reads_none s old;
     new_reads = reads_none t new;
@@ -214,7 +162,7 @@ module _ {S T : Type 0} (w : ℕ) (s : Ghosts S) (t : Ghosts T) (old old_now : S
     front = λ b c is it. nothing_written w b c start;
   }
 
-  pub old_outside : (n : ℕ) → HaveTables w s t old new → DifferenceOutside w s old (Some n) → TellsDifference w s t old old new new start start (Err (Old (read.Table n)))
+  pub old_outside : (n : ℕ) → HaveTables w s t old new → DifferenceOutside w s old (Some n) → TellsDifference (difference_task w s t) (difference_state old new start) (difference_state old new start) (Err (Old (read.Table n)))
   old_outside n tables outside = record {
     old_reads = reads_none s old;
     new_reads = reads_none t new;
@@ -225,7 +173,7 @@ module _ {S T : Type 0} (w : ℕ) (s : Ghosts S) (t : Ghosts T) (old old_now : S
     front = λ b c is it. nothing_written w b c start;
   }
 
-  pub new_outside : (n : ℕ) → HaveTables w s t old new → DifferenceOutside w s old None → DifferenceOutside w t new (Some n) → TellsDifference w s t old old new new start start (Err (New (read.Table n)))
+  pub new_outside : (n : ℕ) → HaveTables w s t old new → DifferenceOutside w s old None → DifferenceOutside w t new (Some n) → TellsDifference (difference_task w s t) (difference_state old new start) (difference_state old new start) (Err (New (read.Table n)))
   new_outside n tables inside outside = record {
     old_reads = reads_none s old;
     new_reads = reads_none t new;
@@ -250,10 +198,10 @@ module _ {S T : Type 0} (w : ℕ) (s : Ghosts S) (t : Ghosts T) (old old_now : S
     of_new = λ c it. looked.of_new c (second.images c it);
   }
 
-  pub tells_written : {O : Type 0} → HaveTablesInside w s t old new → SaysDifference w s t old old_now new new_now start end O (Ok tt) → TellsDifference w s t old old_now new new_now start end (Ok tt)
+  pub tells_written : {O : Type 0} → HaveTablesInside w s t old new → SaysDifference w s t old old_now new new_now start end O (Ok tt) → TellsDifference (difference_task w s t) (difference_state old new start) (difference_state old_now new_now end) (Ok tt)
   tells_written looked h = record { old_reads = h.old_reads; new_reads = h.new_reads; ok = h.ok; err = tt; ok_looks = still h.old_reads h.new_reads looked; err_looks = tt; front = tt }
 
-  pub tells_stopped : {O : Type 0} → HaveTablesInside w s t old new → (stop : Stop) → SaysDifference w s t old old_now new new_now start end O (Err stop) → TellsDifference w s t old old_now new new_now start end (Err (stop_fault stop))
+  pub tells_stopped : {O : Type 0} → HaveTablesInside w s t old new → (stop : Stop) → SaysDifference w s t old old_now new new_now start end O (Err stop) → TellsDifference (difference_task w s t) (difference_state old new start) (difference_state old_now new_now end) (Err (stop_fault stop))
   tells_stopped {O} looked stop h = record {
     old_reads = h.old_reads;
     new_reads = h.new_reads;
@@ -280,7 +228,7 @@ module _ {S T : Type 0} (w : ℕ) (s : Ghosts S) (t : Ghosts T) (old now : S) (n
     are = λ one two. whole_prefix start end _ (same_appends start end _ _ (ap amending_text (h.are one two)) h.written);
   }
 
-  short_kept : {X Z : Type 0} (x : Ghosts X) (z : Ghosts Z) (before after : X) (beside : Z) (f : ReadFault) → DifferenceNotRead w x z before after beside start mid f → DifferenceNotRead w x z before after beside start end f
+  short_kept : {X Z : Type 0} (x : Ghosts X) (z : Ghosts Z) (before after : X) (beside : Z) (f : ReadFault) → DifferenceNotRead (difference_task w x z) (difference_state before beside start) (difference_state after beside mid) f → DifferenceNotRead (difference_task w x z) (difference_state before beside start) (difference_state after beside end) f
   short_kept x z before after beside read.Short h = record { short = h.short; unread = h.unread; kept = keeps_then start mid end h.kept kept }
   short_kept x z before after beside read.Device h = h
   short_kept x z before after beside (read.Table n) h = λ b c is it. (let out = h b c is it in (out.0, keeps_then start mid end out.1 kept))
@@ -291,7 +239,7 @@ module _ {S T : Type 0} (w : ℕ) (s : Ghosts S) (t : Ghosts T) (old now : S) (n
   short_kept x z before after beside read.NoMemory h = absurd h
   short_kept x z before after beside read.Output h = absurd h
 
-  fault_kept : (f : Fault) → DifferenceFails w s t old now new now_new start mid f → DifferenceFails w s t old now new now_new start end f
+  fault_kept : (f : Fault) → DifferenceFails (difference_task w s t) (difference_state old new start) (difference_state now now_new mid) f → DifferenceFails (difference_task w s t) (difference_state old new start) (difference_state now now_new end) f
   fault_kept (Old f) h = short_kept s t old now now_new f h
   fault_kept (New f) h = short_kept t s new now_new now f h
   fault_kept Output h = tt
@@ -309,16 +257,16 @@ module _ {S T : Type 0} (w : ℕ) (s : Ghosts S) (t : Ghosts T) (old now : S) (n
   fault_kept NoNewTables h = record { lacks = h.lacks; kept = keeps_then start mid end h.kept kept }
   fault_kept NoBaseTables h = absurd h
 
-  same_answer : (answer : Result Unit Fault) → TellsDifference w s t old now new now_new start mid answer → TellsDifference w s t old now new now_new start end answer
+  same_answer : (answer : Result Unit Fault) → TellsDifference (difference_task w s t) (difference_state old new start) (difference_state now now_new mid) answer → TellsDifference (difference_task w s t) (difference_state old new start) (difference_state now now_new end) answer
   same_answer (Ok tt) h = record { old_reads = h.old_reads; new_reads = h.new_reads; ok = λ b c is it. written_kept b c (h.ok b c is it); err = tt; ok_looks = h.ok_looks; err_looks = tt; front = tt }
   same_answer (Err f) h = record { old_reads = h.old_reads; new_reads = h.new_reads; ok = tt; err = fault_kept f h.err; ok_looks = tt; err_looks = h.err_looks; front = λ b c is it. front_kept b c (h.front b c is it) }
 
-  not_flushed : (answer : Result Unit Fault) → IsOk answer → TellsDifference w s t old now new now_new start mid answer → TellsDifference w s t old now new now_new start end (Err Output)
+  not_flushed : (answer : Result Unit Fault) → IsOk answer → TellsDifference (difference_task w s t) (difference_state old new start) (difference_state now now_new mid) answer → TellsDifference (difference_task w s t) (difference_state old new start) (difference_state now now_new end) (Err Output)
   not_flushed (Ok tt) ok h = record { old_reads = h.old_reads; new_reads = h.new_reads; ok = tt; err = tt; ok_looks = tt; err_looks = h.ok_looks; front = λ b c is it. written_front b c (written_kept b c (h.ok b c is it)) }
   not_flushed (Err f) ok h = absurd (not_ok ok)
 
-  pub tells_flushed : (answer result : Result Unit Fault) → TellsDifference w s t old now new now_new start mid answer → Flushed mid end answer result → TellsDifference w s t old now new now_new start end result
+  pub tells_flushed : (answer result : Result Unit Fault) → TellsDifference (difference_task w s t) (difference_state old new start) (difference_state now now_new mid) answer → Flushed mid end answer result → TellsDifference (difference_task w s t) (difference_state old new start) (difference_state now now_new end) result
   tells_flushed answer result h f = elim f.answered [
-    | inl same ↦ subst (TellsDifference w s t old now new now_new start end) (sym same) (same_answer answer h)
-    | inr failed ↦ subst (TellsDifference w s t old now new now_new start end) (sym failed.1) (not_flushed answer failed.0 h)
+    | inl same ↦ subst (TellsDifference (difference_task w s t) (difference_state old new start) (difference_state now now_new end)) (sym same) (same_answer answer h)
+    | inr failed ↦ subst (TellsDifference (difference_task w s t) (difference_state old new start) (difference_state now now_new end)) (sym failed.1) (not_flushed answer failed.0 h)
   ]

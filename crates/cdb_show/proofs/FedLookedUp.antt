@@ -2,7 +2,7 @@
 -- inputs as they came back: as of inputs that reported these bytes before.
 use Rattle.std.proofs.Common.{◌≡◌, ℕ, zero, suc, Bool, List, [], ◌∷◌, ◌++◌, length, map, refl, sym, ap, subst, ◌∙◌, arith, Option, None, Some, Result, Err, IfSome, inl, inr}
 use Rattle.std.specs.Prelude.{⊤, ◌<◌}
-use Rattle.cdb_show.proofs.Words.{Appends, AppendsPrefix, AreAllInputs, AreInputs, BeginsWithItems, Change, Fault, Feed, FirstHas, Ghosts, HasFaults, HasItemFault, InputForm, InputReader, Inputs, InputsLeft, IsInputOf, IsOfText, Keeps, LooksUp, LooksUpAll, LookupsFail, LookupsStop, ReadsOne, SharedWindow, StopsIn, Style, TextFault, append-nil, bytes_of, fault_in, keys_form, keys_of, one_input, stop_of, stopped_parsing}
+use Rattle.cdb_show.proofs.Words.{Appends, AppendsPrefix, AreAllInputs, AreInputs, BeginsWithItems, Change, Fault, Feed, FirstHas, HasFaults, HasItemFault, InputForm, InputReader, Inputs, InputsLeft, IsInputOf, IsOfText, Keeps, LooksUp, LooksUpAll, LookupTask, LookupsFail, LookupsStop, ReadsOne, SharedWindow, StopsIn, TextFault, append-nil, bytes_of, fault_in, keys_form, keys_of, lookup_state, one_input, stop_of, stopped_parsing}
 use Rattle.cdb_feed.specs.Inputs.{AgreesWith, AreRead, AreUnread, FirstAgree, IsUnread, Stop, NoMore, HasFault, CutShort, NotBegun, TakesOne, reached}
 use Rattle.cdb_feed.specs.declared.input_reader.InputReader.TheVariants as reader
 use Rattle.cdb_form.specs.Format.Record.{AreBytes}
@@ -180,61 +180,61 @@ window_may : {I : Type 0} (shared : I → Feed) (w : SharedWindow I) (whole rest
 window_may shared (Unread reader) whole rest may = may
 window_may shared (InHand w) whole rest may = record { behind = rest; may = may; is = refl }
 
-module _ {J I S : Type 0} (w g : ℕ) (s : Ghosts S) (number : Option ℕ) (style : Style) (own : J → Feed) (shared : I → Feed) (inputs left : Inputs J I) (each : List (Option (List ℕ))) (whole : List ℕ) where
+module _ {J I S : Type 0} (task : LookupTask S) (own : J → Feed) (shared : I → Feed) (inputs left : Inputs J I) (each : List (Option (List ℕ))) (whole : List ℕ) where
   -- the inputs that were read have these bytes, and these are left
   record GoesTo (fault : Option TextFault) (read : List (List Change)) (stop : Stop Change TextFault) : Type 0 where
     rest : InputsLeft
-    are : AreInputs (keys_form style) g read (inputs_of each whole) rest
-    stops : LeftAt (keys_form style) g fault stop rest
+    are : AreInputs (keys_form task.options.style) task.greatest read (inputs_of each whole) rest
+    stops : LeftAt (keys_form task.options.style) task.greatest fault stop rest
 
-  goes_to : (fault : Option TextFault) (read : List (List Change)) (stop : Stop Change TextFault) → AreReadTo own shared (stopped_parsing (keys_form style) g fault) read stop inputs left → length each ≡ length inputs.readers.items → AreUnread own inputs.readers.items → IsUnread (shared inputs.shared)
+  goes_to : (fault : Option TextFault) (read : List (List Change)) (stop : Stop Change TextFault) → AreReadTo own shared (stopped_parsing (keys_form task.options.style) task.greatest fault) read stop inputs left → length each ≡ length inputs.readers.items → AreUnread own inputs.readers.items → IsUnread (shared inputs.shared)
       → FirstAgree own AreBytes (reached read stop) each left.readers.items → AgreesWith AreBytes (shared left.shared) whole → GoesTo fault read stop
   goes_to fault read stop h long unread first agree agrees =
       let may = window_may shared h.window whole agrees.rest (subst (λ r. (shared r).may whole agrees.rest) h.handed agrees.may) in
-      let v = walked (keys_form style) g own (shared_feed shared) fault whole read stop inputs.readers.items left.readers.items each (Unread inputs.shared) h.window (held_of h.window ++ agrees.rest) first.known unread agree long h.are may in
-      record { rest = v.rest; are = subst (λ t. AreInputs (keys_form style) g read (inputs_of each t) v.rest) (first.all whole v.text v.may) v.are; stops = v.stops }
+      let v = walked (keys_form task.options.style) task.greatest own (shared_feed shared) fault whole read stop inputs.readers.items left.readers.items each (Unread inputs.shared) h.window (held_of h.window ++ agrees.rest) first.known unread agree long h.are may in
+      record { rest = v.rest; are = subst (λ t. AreInputs (keys_form task.options.style) task.greatest read (inputs_of each t) v.rest) (first.all whole v.text v.may) v.are; stops = v.stops }
 
   module _ (read : List (List Change)) (stop : Stop Change TextFault) where
-    stops_known : (old new : S) (start now : Option (List ℕ)) (f : Fault) → GoesTo (fault_in (Err f)) read stop → StopsInNext w s number style read stop old new start now f → LookupsStop w g s number style (inputs_of each whole) old new start now f
+    stops_known : (old new : S) (start now : Option (List ℕ)) (f : Fault) → GoesTo (fault_in (Err f)) read stop → StopsInNext task read stop (lookup_state inputs old start) (lookup_state left new now) f → LookupsStop task (inputs_of each whole) old new start now f
     stops_known old new start now f to h =
-        let first = stops_first (keys_form style) g (fault_in (Err f)) h.last to.rest (subst (λ x. LeftAt (keys_form style) g (fault_in (Err f)) x to.rest) h.is_stop to.stops) in record {
+        let first = stops_first (keys_form task.options.style) task.greatest (fault_in (Err f)) h.last to.rest (subst (λ x. LeftAt (keys_form task.options.style) task.greatest (fault_in (Err f)) x to.rest) h.is_stop to.stops) in record {
           read = read;
           last = h.last;
           rest = to.rest;
           are = to.are;
-          begins = first_begins (keys_form style) g h.last to.rest (Some first.bytes) first.first first.begins;
+          begins = first_begins (keys_form task.options.style) task.greatest h.last to.rest (Some first.bytes) first.first first.begins;
           stops = h.stops;
           of_text = λ n v e. (
             h.is_fault.number n v e,
             record {
               input = Some first.bytes;
               first = first.first;
-              has = record { has = subst (λ t. IfSome t (λ f. HasItemFault (keys_form style) g h.last f first.bytes)) (ap (λ x. fault_in (Err x)) e) first.has; own = h.is_fault.own n v e; memory = h.is_fault.memory n v e };
+              has = record { has = subst (λ t. IfSome t (λ f. HasItemFault (keys_form task.options.style) task.greatest h.last f first.bytes)) (ap (λ x. fault_in (Err x)) e) first.has; own = h.is_fault.own n v e; memory = h.is_fault.memory n v e };
             },
           );
         }
 
-    all_known : (fault : Option TextFault) (store : S) (missing : Bool) (Writes : List ℕ → Type 0) → GoesTo fault read stop → stop ≡ NoMore → LooksUpRead w s number style read store missing Writes → LooksUpAll w g s number style (inputs_of each whole) store missing Writes
+    all_known : (fault : Option TextFault) (store : S) (missing : Bool) (Writes : List ℕ → Type 0) → GoesTo fault read stop → stop ≡ NoMore → LooksUpRead task read store missing Writes → LooksUpAll task (inputs_of each whole) store missing Writes
     all_known fault store missing Writes to no_more h = record {
       read = read;
-      are = record { rest = to.rest; are = to.are; none = subst (λ x. LeftAt (keys_form style) g fault x to.rest) no_more to.stops };
+      are = record { rest = to.rest; are = to.are; none = subst (λ x. LeftAt (keys_form task.options.style) task.greatest fault x to.rest) no_more to.stops };
       long = h.long;
       answered = h.answered;
       written = h.written;
     }
 
-    unopened_known : (old new : S) (start now : Option (List ℕ)) → s.failures old < s.failures new → Keeps start now → LookupsStop w g s number style (inputs_of each whole) old new start now (Read damage.Device)
+    unopened_known : (old new : S) (start now : Option (List ℕ)) → task.store.failures old < task.store.failures new → Keeps start now → LookupsStop task (inputs_of each whole) old new start now (Read damage.Device)
     unopened_known old new start now failed kept = record {
       read = [];
       last = [];
       rest = inputs_of each whole;
       are = refl;
-      begins = first_none (keys_form style) g (inputs_of each whole);
+      begins = first_none (keys_form task.options.style) task.greatest (inputs_of each whole);
       stops = (failed, λ b is. none_prefix start now _ (keeps_appends start now kept));
       of_text = λ n v e. absurd (let no : ⊥ = cc in no);
     }
 
-    fails_known : (old new : S) (start now : Option (List ℕ)) (f : Fault) → GoesTo (fault_in (Err f)) read stop → FedLookupsFail w s number style inputs left read stop old new start now f → LookupsFail w g s number style (inputs_of each whole) old new start now f
+    fails_known : (old new : S) (start now : Option (List ℕ)) (f : Fault) → GoesTo (fault_in (Err f)) read stop → FedLookupsFail task read stop (lookup_state inputs old start) (lookup_state left new now) f → LookupsFail task (inputs_of each whole) old new start now f
     fails_known old new start now (Read damage.Short) to h = record { short = h.why.0; unread = h.why.1; kept = h.kept }
     fails_known old new start now (Read damage.Device) to (inl h) = stops_known old new start now _ to h
     fails_known old new start now (Read damage.Device) to (inr h) = unopened_known old new start now h.why h.kept
@@ -264,8 +264,8 @@ module _ {J I S : Type 0} (w g : ℕ) (s : Ghosts S) (number : Option ℕ) (styl
 
   -- for all bytes of the inputs that were reached and of the shared reader that agree with these readers as they came
   -- back, of which nothing had been read before: what the run left is what it leaves of inputs that report these bytes
-  pub fed_looks_up : (old new : S) (start now : Option (List ℕ)) (result : Result Unit Fault) → (h : FedLooksUp w g s number style own shared inputs left old new start now result) → AreUnread own inputs.readers.items → IsUnread (shared inputs.shared) → length each ≡ length inputs.readers.items
-      → FirstAgree own AreBytes (reached h.leaves.read h.leaves.stop) each left.readers.items → AgreesWith AreBytes (shared left.shared) whole → LooksUp w g s number style (inputs_of each whole) old new start now result
+  pub fed_looks_up : (old new : S) (start now : Option (List ℕ)) (result : Result Unit Fault) → (h : FedLooksUp task own shared (lookup_state inputs old start) (lookup_state left new now) result) → AreUnread own inputs.readers.items → IsUnread (shared inputs.shared) → length each ≡ length inputs.readers.items
+      → FirstAgree own AreBytes (reached h.leaves.read h.leaves.stop) each left.readers.items → AgreesWith AreBytes (shared left.shared) whole → LooksUp task (inputs_of each whole) old new start now result
   fed_looks_up old new start now result h unread first long agree agrees =
       let l = h.leaves in
       let to = goes_to (fault_in h.answer) l.read l.stop l.are long unread first agree agrees in record {

@@ -1,15 +1,15 @@
 -- What a query of the keys of some inputs came to, by the readers of the inputs as they come back.
-use Rattle.cdb_show.proofs.Words.{Appends, AppendsPrefix, AreRead, BeginsWithItems, Bool, Change, Err, Fault, FaultBehind, Ghosts, HasItemFault, HasLooked, IfErr, InputForm, InputReader, Inputs, IsInputOf, List, LookupsStopAt, NoMore, None, NotBegun, Ok, OnOk, OnlyReads, OpeningFails, Option, Parsing, ReadFault, Result, SharedWindow, Some, Stop, StopsBehind, StopsSo, Style, TakesOne, TextFault, [], ap, append-nil, appends_then, arith, drop, end_of, false, feed_of, head_size, inl, inr, keys_form, keys_of, keys_of_each, length, looked_up, missing_answer, prefix_last, reached, read_fault, reads_more, reads_none, refl, slice_index_or, slice_set, subst, sym, true, ℕ, ⊤, ◌++◌, ◌+◌, ◌<◌, ◌∙◌, ◌∷◌, ◌≡◌, ◌≤◌}
+use Rattle.cdb_show.proofs.Words.{Appends, AppendsPrefix, AreRead, BeginsWithItems, Bool, Change, Err, Fault, FaultBehind, Ghosts, HasItemFault, HasLooked, IfErr, InputForm, InputReader, Inputs, IsInputOf, List, LookupState, LookupTask, LookupsStopAt, NoMore, None, NotBegun, Ok, OnOk, OnlyReads, OpeningFails, Option, Parsing, ReadFault, Result, SharedWindow, Some, Stop, StopsBehind, StopsSo, Style, TakesOne, TextFault, [], ap, append-nil, appends_then, arith, drop, end_of, false, feed_of, head_size, inl, inr, keys_form, keys_of, keys_of_each, length, looked_up, lookup_state, missing_answer, prefix_last, reached, read_fault, reads_more, reads_none, refl, slice_index_or, slice_set, subst, sym, true, ℕ, ⊤, ◌++◌, ◌+◌, ◌<◌, ◌∙◌, ◌∷◌, ◌≡◌, ◌≤◌}
 use Rattle.cdb_read.specs.declared.fault.ReadFault.TheVariants as damage
 use Rattle.cdb_feed.specs.declared.input_reader.InputReader.TheVariants.{Own, Shared}
 use Rattle.cdb_form.specs.Fed.Feed.{Feed, Consumes, FromTo, Keeps}
 use Rattle.cdb_form.specs.declared.text.fault.TextFault.TheVariants as kind
 use Rattle.cdb_form.specs.declared.width.Width.{Ghosts as Widths}
 use Rattle.cdb_form.proofs.Fed.FeedLemmas.{from_behind, from_both, from_kept, from_weaker, nothing_taken}
-use Rattle.cdb_show.specs.Runs.FedLookups.{FedLookupsFail, FedLookupsLeave, LooksFurther, StopsFurther, StopsInNext, StopsTurn}
+use Rattle.cdb_show.specs.Runs.FedLookups.{FedLookupsFail, FedLookupsLeave, StopsInNext}
 use Rattle.cdb_show.specs.Runs.Parsing.{IsFaultOf, StopsIn, fault_in, stop_of, stopped_parsing}
 use Rattle.cdb_show.specs.Views.Inputs.{AreReadTo, reader_of, shared_feed}
-use Rattle.cdb_show.specs.Views.LookUps.{GoesOn}
+use Rattle.cdb_show.specs.Views.LookUps.{GoesOn, LooksFurther, StopsFurther}
 use Rattle.cdb_show.specs.Views.WindowRests.{same_held}
 use Rattle.cdb_show.specs.declared.fault.Fault.TheVariants.{Text, Make, Duplicate, Missing, Read, Walk, Output, Long, Open, Rename, NoMemory, Old, New, NoOldTables, NoNewTables, NoBaseTables}
 use Rattle.cdb_show.specs.declared.inputs.SharedWindow.TheVariants.{InHand, Unread}
@@ -18,6 +18,7 @@ use Rattle.cdb_show.specs.declared.window.Window.{Window}
 use Rattle.cdb_show.proofs.FedTurns.{SoFar, one_more, one_stops, all_read, others_same, reached_all, reached_more}
 use Rattle.cdb_show.proofs.LookupRuns.{each_more, stops_later}
 use Rattle.cdb_show.proofs.NextInputs.{begins_none}
+use Rattle.cdb_show.proofs.Openings.{unopened_by}
 use Rattle.cdb_show.proofs.Writers.{keeps_self}
 
 -- ---- bytes of a window that are lost, and a reader that is kept
@@ -116,14 +117,18 @@ module _ (form : InputForm) (g n : ℕ) (Looks : List Change → Type 0) (Stops 
   own_fails start a b c held (Ok done) kept lost h = tt
   own_fails start a b c held (Err fault) kept lost h = (h.0, stops_kept form g n h.0 start a c fault kept (stops_lost form g n h.0 a b c held fault h.1 lost), h.2)
 
-pub own_unread : {S : Type 0} (w g : ℕ) (s : Ghosts S) (number : Option ℕ) (style : Style) (n : ℕ) (a b : Feed) (store : S) (mid : Option (List ℕ)) (was : Bool) → Keeps a b → (last : List Change) × StopsBehind (keys_form style) g n last a b NoMemory × StopsFurther w s number style last store store mid mid was NoMemory
-own_unread w g s number style n a b store mid was kept = (
+pub own_unread : {S L : Type 0} {s : Ghosts S} {l : Widths L} (task : LookupTask S) (n : ℕ) (a b : Feed) (looking : LookUps S L s l) (mid : Option (List ℕ)) → Keeps a b → (last : List Change) × StopsBehind (keys_form task.options.style) task.greatest n last a b NoMemory × StopsFurther task last looking looking mid mid NoMemory
+own_unread task n a b looking mid kept = (
   [],
-  stops_unread (keys_form style) g n a b kept,
-  λ before start h. (was, subst (λ k. HasLooked w s number style k store start mid was) (sym (append-nil before)) h),
+  stops_unread (keys_form task.options.style) task.greatest n a b kept,
+  λ before start h. (looking.missing, subst (λ k. HasLooked task k looking.reader.store start mid looking.missing) (sym (append-nil before)) h),
 )
 
 -- ---- an input in its turn
+
+-- the run stopped in it
+abbrev StopsTurn : {J I : Type 0} → Style → ℕ → (J → Feed) → (I → Feed) → Option TextFault → List Change → (before after : InputReader J) → (old new : SharedWindow I) → Type 0
+StopsTurn style g own shared fault last before after old new = TakesOne own (shared_feed shared) (λ text rest. InText (keys_form style) g fault last text) before after old new
 
 module _ {J I : Type 0} (style : Style) (g n : ℕ) (own : J → Feed) (shared : I → Feed) (Looks : List Change → Type 0) (Stops : List Change → Fault → Type 0) where
   abbrev TurnFails : (before after : InputReader J) → (old new : SharedWindow I) → Fault → Type 0
@@ -180,7 +185,7 @@ one_shared shared (InHand w) one whole x y a b = same_held (one w.reader whole) 
 -- ---- the inputs so far
 
 pub goes_further : {S L : Type 0} {s : Ghosts S} {l : Widths L} {a b c : LookUps S L s l} → GoesOn a b → GoesOn b c → GoesOn a c
-goes_further f g = record { number = g.number ∙ f.number; style = g.style ∙ f.style; reads = reads_more f.reads g.reads }
+goes_further f g = record { options = g.options ∙ f.options; reads = reads_more f.reads g.reads }
 
 -- the parsing of the inputs of a run that will stop so
 abbrev pub keys_parsing : Style → ℕ → Option TextFault → Parsing Change TextFault
@@ -196,71 +201,71 @@ stops_on style g own shared (Some kind.Input) last reader left others rest old n
 stops_on style g own shared (Some kind.Endless) last reader left others rest old new h = h
 stops_on style g own shared (Some kind.NoMemory) last reader left others rest old new h = h
 
-module _ {J I S : Type 0} (w g : ℕ) (s : Ghosts S) (number : Option ℕ) (style : Style) (own : J → Feed) (shared : I → Feed) (before : List (InputReader J)) (start : SharedWindow I) (first : S) (out : Option (List ℕ)) (was : Bool) where
+module _ {J I S L : Type 0} {s : Ghosts S} {l : Widths L} (task : LookupTask S) (own : J → Feed) (shared : I → Feed) (before : List (InputReader J)) (start : SharedWindow I) (first : LookUps S L s l) (out : Option (List ℕ)) where
   -- the keys of all were looked up
-  pub record LookedFed (now : List (InputReader J)) (window : SharedWindow I) (i : ℕ) (store : S) (written : Option (List ℕ)) (missing : Bool) : Type 0 where
-    pub so_far : SoFar own (shared_feed shared) (keys_parsing style g) before now start window i
-    pub looked : (begun : Option (List ℕ)) → HasLooked w s number style [] first begun out was → HasLooked w s number style (keys_of_each so_far.read) store begun written missing
+  pub record LookedFed (now : List (InputReader J)) (window : SharedWindow I) (i : ℕ) (at : LookUps S L s l) (written : Option (List ℕ)) : Type 0 where
+    pub so_far : SoFar own (shared_feed shared) (keys_parsing task.options.style task.greatest) before now start window i
+    pub looked : (begun : Option (List ℕ)) → HasLooked task [] first.reader.store begun out first.missing → HasLooked task (keys_of_each so_far.read) at.reader.store begun written at.missing
 
-  pub fed_none : LookedFed before start 0 first out was
+  pub fed_none : LookedFed before start 0 first out
   fed_none = record { so_far = record { read = []; are = λ fault. nothing_taken (shared_feed shared start); count = refl; within = omega arith; same = refl; long = refl }; looked = λ begun h. h }
 
-  module _ (now : List (InputReader J)) (it left : InputReader J) (window further : SharedWindow I) (i : ℕ) (store next : S) (mid written : Option (List ℕ)) (missing : Bool) (h : LookedFed now window i store mid missing) (within : i < length now) (e : it ≡ slice_index_or now i it) where
-    pub fed_more : (after : Bool) → (last : List Change) × TakesOne own (shared_feed shared) (IsInputOf (keys_form style) g last) it left window further × LooksFurther w s number style last store next mid written missing after
-        → LookedFed (slice_set now i left) further (i + 1) next written after
-    fed_more after (last, takes, looks) =
-        let more = one_more own (shared_feed shared) (keys_parsing style g) before now it left start window further i last h.so_far within e (λ fault. takes) in
+  module _ (now : List (InputReader J)) (it left : InputReader J) (window further : SharedWindow I) (i : ℕ) (at next : LookUps S L s l) (mid written : Option (List ℕ)) (h : LookedFed now window i at mid) (within : i < length now) (e : it ≡ slice_index_or now i it) where
+    pub fed_more : (last : List Change) × TakesOne own (shared_feed shared) (IsInputOf (keys_form task.options.style) task.greatest last) it left window further × LooksFurther task last at next mid written
+        → LookedFed (slice_set now i left) further (i + 1) next written
+    fed_more (last, takes, looks) =
+        let more = one_more own (shared_feed shared) (keys_parsing task.options.style task.greatest) before now it left start window further i last h.so_far within e (λ fault. takes) in
         record {
           so_far = more.0;
-          looked = λ begun k. subst (λ v. HasLooked w s number style v next begun written after) (sym (ap keys_of_each more.1 ∙ each_more h.so_far.read last)) (looks (keys_of_each h.so_far.read) begun (h.looked begun k));
+          looked = λ begun k. subst (λ v. HasLooked task v next.reader.store begun written next.missing) (sym (ap keys_of_each more.1 ∙ each_more h.so_far.read last)) (looks (keys_of_each h.so_far.read) begun (h.looked begun k));
         }
 
-    pub fed_stops : (fault : Fault) → OnlyReads s first store → (last : List Change) × StopsTurn style g own shared (fault_in (Err fault)) last it left window further × IsFaultOf (keys_form style) (i + 1) fault × StopsFurther w s number style last store next mid written missing fault
-        → (read : List (List Change)) × (last : List Change) × AreRead own (shared_feed shared) (keys_parsing style g (fault_in (Err fault))) read (stop_of (fault_in (Err fault)) last) before (slice_set now i left) start further
-        × (drop (length read + 1) (slice_set now i left) ≡ drop (length read + 1) before) × IsFaultOf (keys_form style) (length read + 1) fault
-        × ((begun : Option (List ℕ)) → HasLooked w s number style [] first begun out was → LookupsStopAt w s number style (keys_of_each read ++ keys_of last) first next begun written fault)
+    pub fed_stops : (fault : Fault) → OnlyReads task.store first.reader.store at.reader.store → (last : List Change) × StopsTurn task.options.style task.greatest own shared (fault_in (Err fault)) last it left window further × IsFaultOf (keys_form task.options.style) (i + 1) fault × StopsFurther task last at next mid written fault
+        → (read : List (List Change)) × (last : List Change) × AreRead own (shared_feed shared) (keys_parsing task.options.style task.greatest (fault_in (Err fault))) read (stop_of (fault_in (Err fault)) last) before (slice_set now i left) start further
+        × (drop (length read + 1) (slice_set now i left) ≡ drop (length read + 1) before) × IsFaultOf (keys_form task.options.style) (length read + 1) fault
+        × ((begun : Option (List ℕ)) → HasLooked task [] first.reader.store begun out first.missing → LookupsStopAt task (keys_of_each read ++ keys_of last) first.reader.store next.reader.store begun written fault)
     fed_stops fault reads (last, stop, is, stops) = (
       h.so_far.read,
       last,
-      one_stops own (shared_feed shared) (keys_parsing style g) before now it left start window further i (stop_of (fault_in (Err fault)) last) (fault_in (Err fault)) h.so_far within e (λ others rest. stops_on style g own shared (fault_in (Err fault)) last it left others rest window further stop),
-      others_same own (shared_feed shared) (keys_parsing style g) before now it left start window i h.so_far within e,
-      subst (λ n. IsFaultOf (keys_form style) (n + 1) fault) (sym h.so_far.count) is,
-      λ begun k. stops_later w s number style _ first store next begun written fault reads (stops (keys_of_each h.so_far.read) begun (h.looked begun k)),
+      one_stops own (shared_feed shared) (keys_parsing task.options.style task.greatest) before now it left start window further i (stop_of (fault_in (Err fault)) last) (fault_in (Err fault)) h.so_far within e (λ others rest. stops_on task.options.style task.greatest own shared (fault_in (Err fault)) last it left others rest window further stop),
+      others_same own (shared_feed shared) (keys_parsing task.options.style task.greatest) before now it left start window i h.so_far within e,
+      subst (λ n. IsFaultOf (keys_form task.options.style) (n + 1) fault) (sym h.so_far.count) is,
+      λ begun k. stops_later task _ first.reader.store at.reader.store next.reader.store begun written fault reads (stops (keys_of_each h.so_far.read) begun (h.looked begun k)),
     )
 
-  pub fed_all : (now : List (InputReader J)) (window : SharedWindow I) (i : ℕ) (store : S) (written : Option (List ℕ)) (missing : Bool) → LookedFed now window i store written missing → length now ≤ i
-      → (read : List (List Change)) × AreRead own (shared_feed shared) (keys_parsing style g None) read NoMore before now start window × (drop (length read) now ≡ drop (length read) before)
-      × ((begun : Option (List ℕ)) → HasLooked w s number style [] first begun out was → HasLooked w s number style (keys_of_each read) store begun written missing)
-  fed_all now window i store written missing h end = (h.so_far.read, all_read own (shared_feed shared) (keys_parsing style g) before now start window i None h.so_far end, subst (λ n. drop n now ≡ drop n before) (sym h.so_far.count) h.so_far.same, h.looked)
+  pub fed_all : (now : List (InputReader J)) (window : SharedWindow I) (i : ℕ) (at : LookUps S L s l) (written : Option (List ℕ)) → LookedFed now window i at written → length now ≤ i
+      → (read : List (List Change)) × AreRead own (shared_feed shared) (keys_parsing task.options.style task.greatest None) read NoMore before now start window × (drop (length read) now ≡ drop (length read) before)
+      × ((begun : Option (List ℕ)) → HasLooked task [] first.reader.store begun out first.missing → HasLooked task (keys_of_each read) at.reader.store begun written at.missing)
+  fed_all now window i at written h end = (h.so_far.read, all_read own (shared_feed shared) (keys_parsing task.options.style task.greatest) before now start window i None h.so_far end, subst (λ n. drop n now ≡ drop n before) (sym h.so_far.count) h.so_far.same, h.looked)
 
 -- ---- the end
 
 -- a fault that stopped it in an input is neither a missing value nor a store without a head
-fails_in : {J I S : Type 0} (w : ℕ) (s : Ghosts S) (number : Option ℕ) (style : Style) (inputs left : Inputs J I) (read : List (List Change)) (stop : Stop Change TextFault) (old new : S) (start now : Option (List ℕ)) (f : Fault) → StopsInNext w s number style read stop old new start now f → FedLookupsFail w s number style inputs left read stop old new start now f
-fails_in w s number style inputs left read stop old new start now (Read damage.Short) h = absurd h.stops
-fails_in w s number style inputs left read stop old new start now (Read (damage.Table n)) h = h
-fails_in w s number style inputs left read stop old new start now (Read (damage.Record place)) h = h
-fails_in w s number style inputs left read stop old new start now (Read (damage.Slot n i)) h = h
-fails_in w s number style inputs left read stop old new start now (Read (damage.Twice place)) h = h
-fails_in w s number style inputs left read stop old new start now (Read (damage.Unindexed place)) h = h
-fails_in w s number style inputs left read stop old new start now (Read damage.Device) h = inl h
-fails_in w s number style inputs left read stop old new start now (Read damage.NoMemory) h = h
-fails_in w s number style inputs left read stop old new start now (Read damage.Output) h = h
-fails_in w s number style inputs left read stop old new start now (Text n f) h = h
-fails_in w s number style inputs left read stop old new start now (Make f) h = h
-fails_in w s number style inputs left read stop old new start now Duplicate h = h
-fails_in w s number style inputs left read stop old new start now Missing h = h
-fails_in w s number style inputs left read stop old new start now (Walk f) h = h
-fails_in w s number style inputs left read stop old new start now Output h = inl h
-fails_in w s number style inputs left read stop old new start now Long h = h
-fails_in w s number style inputs left read stop old new start now Open h = h
-fails_in w s number style inputs left read stop old new start now Rename h = h
-fails_in w s number style inputs left read stop old new start now (Old side) h = h
-fails_in w s number style inputs left read stop old new start now (New side) h = h
-fails_in w s number style inputs left read stop old new start now NoOldTables h = h
-fails_in w s number style inputs left read stop old new start now NoNewTables h = h
-fails_in w s number style inputs left read stop old new start now NoBaseTables h = h
-fails_in w s number style inputs left read stop old new start now NoMemory h = h
+fails_in : {J I S : Type 0} (task : LookupTask S) (read : List (List Change)) (stop : Stop Change TextFault) (old new : LookupState J I S) (f : Fault) → StopsInNext task read stop old new f → FedLookupsFail task read stop old new f
+fails_in task read stop old new (Read damage.Short) h = absurd h.stops
+fails_in task read stop old new (Read (damage.Table n)) h = h
+fails_in task read stop old new (Read (damage.Record place)) h = h
+fails_in task read stop old new (Read (damage.Slot n i)) h = h
+fails_in task read stop old new (Read (damage.Twice place)) h = h
+fails_in task read stop old new (Read (damage.Unindexed place)) h = h
+fails_in task read stop old new (Read damage.Device) h = inl h
+fails_in task read stop old new (Read damage.NoMemory) h = h
+fails_in task read stop old new (Read damage.Output) h = h
+fails_in task read stop old new (Text n f) h = h
+fails_in task read stop old new (Make f) h = h
+fails_in task read stop old new Duplicate h = h
+fails_in task read stop old new Missing h = h
+fails_in task read stop old new (Walk f) h = h
+fails_in task read stop old new Output h = inl h
+fails_in task read stop old new Long h = h
+fails_in task read stop old new Open h = h
+fails_in task read stop old new Rename h = h
+fails_in task read stop old new (Old side) h = h
+fails_in task read stop old new (New side) h = h
+fails_in task read stop old new NoOldTables h = h
+fails_in task read stop old new NoNewTables h = h
+fails_in task read stop old new NoBaseTables h = h
+fails_in task read stop old new NoMemory h = h
 
 one_reached : (fault : Option TextFault) (last : List Change) → reached {Item = Change} [] (stop_of fault last) ≡ 1
 one_reached None last = refl
@@ -279,43 +284,43 @@ no_fault : (missing : Bool) → fault_in (missing_answer missing) ≡ None
 no_fault true = refl
 no_fault false = refl
 
-module _ {J I S : Type 0} (w g : ℕ) (s : Ghosts S) (number : Option ℕ) (style : Style) (own : J → Feed) (shared : I → Feed) (inputs left : Inputs J I) (window : SharedWindow I) (old new : S) (start : Option (List ℕ)) (now : List (InputReader J)) (same : left.readers.items ≡ now) (handed : left.shared ≡ reader_of window) (reads : OnlyReads s old new) where
-  handed_back : (fault : Option TextFault) (read : List (List Change)) (stop : Stop Change TextFault) → AreRead own (shared_feed shared) (keys_parsing style g fault) read stop inputs.readers.items now (Unread inputs.shared) window → drop (reached read stop) now ≡ drop (reached read stop) inputs.readers.items → AreReadTo own shared (keys_parsing style g fault) read stop inputs left
-  handed_back fault read stop are others = record { window = window; are = subst (λ xs. AreRead own (shared_feed shared) (keys_parsing style g fault) read stop inputs.readers.items xs (Unread inputs.shared) window) (sym same) are; handed = handed; others = subst (λ xs. drop (reached read stop) xs ≡ drop (reached read stop) inputs.readers.items) (sym same) others }
+module _ {J I S : Type 0} (task : LookupTask S) (own : J → Feed) (shared : I → Feed) (inputs left : Inputs J I) (window : SharedWindow I) (old new : S) (start : Option (List ℕ)) (now : List (InputReader J)) (same : left.readers.items ≡ now) (handed : left.shared ≡ reader_of window) (reads : OnlyReads task.store old new) where
+  handed_back : (fault : Option TextFault) (read : List (List Change)) (stop : Stop Change TextFault) → AreRead own (shared_feed shared) (keys_parsing task.options.style task.greatest fault) read stop inputs.readers.items now (Unread inputs.shared) window → drop (reached read stop) now ≡ drop (reached read stop) inputs.readers.items → AreReadTo own shared (keys_parsing task.options.style task.greatest fault) read stop inputs left
+  handed_back fault read stop are others = record { window = window; are = subst (λ xs. AreRead own (shared_feed shared) (keys_parsing task.options.style task.greatest fault) read stop inputs.readers.items xs (Unread inputs.shared) window) (sym same) are; handed = handed; others = subst (λ xs. drop (reached read stop) xs ≡ drop (reached read stop) inputs.readers.items) (sym same) others }
 
   -- it stopped in an input
-  pub fed_stopped : (end : Option (List ℕ)) (f : Fault) → (read : List (List Change)) × (last : List Change) × AreRead own (shared_feed shared) (keys_parsing style g (fault_in (Err f))) read (stop_of (fault_in (Err f)) last) inputs.readers.items now (Unread inputs.shared) window
-      × (drop (length read + 1) now ≡ drop (length read + 1) inputs.readers.items) × IsFaultOf (keys_form style) (length read + 1) f × LookupsStopAt w s number style (keys_of_each read ++ keys_of last) old new start end f
-      → FedLookupsLeave w g s number style own shared inputs left old new start end (Err f)
+  pub fed_stopped : (end : Option (List ℕ)) (f : Fault) → (read : List (List Change)) × (last : List Change) × AreRead own (shared_feed shared) (keys_parsing task.options.style task.greatest (fault_in (Err f))) read (stop_of (fault_in (Err f)) last) inputs.readers.items now (Unread inputs.shared) window
+      × (drop (length read + 1) now ≡ drop (length read + 1) inputs.readers.items) × IsFaultOf (keys_form task.options.style) (length read + 1) f × LookupsStopAt task (keys_of_each read ++ keys_of last) old new start end f
+      → FedLookupsLeave task own shared (lookup_state inputs old start) (lookup_state left new end) (Err f)
   fed_stopped end f (read, last, are, others, is, stops) = record {
     reads = reads;
     read = read;
     stop = stop_of (fault_in (Err f)) last;
     are = handed_back (fault_in (Err f)) read (stop_of (fault_in (Err f)) last) are (subst (λ n. drop n now ≡ drop n inputs.readers.items) (sym (reached_more read (stop_of (fault_in (Err f)) last) (one_reached (fault_in (Err f)) last))) others);
-    all = λ missing e. absurd (subst (λ x. LookupsStopAt w s number style (keys_of_each read ++ keys_of last) old new start end x) (not_missing missing f e) stops);
+    all = λ missing e. absurd (subst (λ x. LookupsStopAt task (keys_of_each read ++ keys_of last) old new start end x) (not_missing missing f e) stops);
     fails = λ v e other.
         let k : f ≡ v = cc in
-        subst (FedLookupsFail w s number style inputs left read (stop_of (fault_in (Err f)) last) old new start end) k
-        (fails_in w s number style inputs left read (stop_of (fault_in (Err f)) last) old new start end f (record { last = last; is_stop = refl; stops = stops; is_fault = is }));
+        subst (FedLookupsFail task read (stop_of (fault_in (Err f)) last) (lookup_state inputs old start) (lookup_state left new end)) k
+        (fails_in task read (stop_of (fault_in (Err f)) last) (lookup_state inputs old start) (lookup_state left new end) f (record { last = last; is_stop = refl; stops = stops; is_fault = is }));
   }
 
-  module _ (read : List (List Change)) (mid end : Option (List ℕ)) (missing : Bool) (are : AreRead own (shared_feed shared) (keys_parsing style g None) read NoMore inputs.readers.items now (Unread inputs.shared) window) (others : drop (length read) now ≡ drop (length read) inputs.readers.items) (h : HasLooked w s number style (keys_of_each read) new start mid missing) where
+  module _ (read : List (List Change)) (mid end : Option (List ℕ)) (missing : Bool) (are : AreRead own (shared_feed shared) (keys_parsing task.options.style task.greatest None) read NoMore inputs.readers.items now (Unread inputs.shared) window) (others : drop (length read) now ≡ drop (length read) inputs.readers.items) (h : HasLooked task (keys_of_each read) new start mid missing) where
     unreached : drop (reached {Fault = TextFault} read NoMore) now ≡ drop (reached {Fault = TextFault} read NoMore) inputs.readers.items
     unreached = subst (λ n. drop n now ≡ drop n inputs.readers.items) (sym (reached_all TextFault read)) others
 
     -- all keys were looked up
-    pub fed_whole : (result : Result Unit Fault) → result ≡ missing_answer missing → Appends mid end (end_of style) → FedLookupsLeave w g s number style own shared inputs left old new start end result
+    pub fed_whole : (result : Result Unit Fault) → result ≡ missing_answer missing → Appends mid end (end_of task.options.style) → FedLookupsLeave task own shared (lookup_state inputs old start) (lookup_state left new end) result
     fed_whole result is last = record {
       reads = reads;
       read = read;
       stop = NoMore;
-      are = handed_back (fault_in result) read NoMore (subst (λ f. AreRead own (shared_feed shared) (keys_parsing style g f) read NoMore inputs.readers.items now (Unread inputs.shared) window) (sym (ap fault_in is ∙ no_fault missing)) are) unreached;
+      are = handed_back (fault_in result) read NoMore (subst (λ f. AreRead own (shared_feed shared) (keys_parsing task.options.style task.greatest f) read NoMore inputs.readers.items now (Unread inputs.shared) window) (sym (ap fault_in is ∙ no_fault missing)) are) unreached;
       all = λ other e. (refl, record { long = h.long; answered = λ b at. h.answered b at ∙ sym is ∙ e; written = λ b at. appends_then start mid end _ _ (h.written b at) last });
       fails = λ f e other. absurd (other (not_missing missing f (sym e ∙ is)));
     }
 
     -- the end of the text was not written whole
-    pub fed_unended : AppendsPrefix mid end (end_of style) → FedLookupsLeave w g s number style own shared inputs left old new start end (Err Output)
+    pub fed_unended : AppendsPrefix mid end (end_of task.options.style) → FedLookupsLeave task own shared (lookup_state inputs old start) (lookup_state left new end) (Err Output)
     fed_unended front = record {
       reads = reads;
       read = read;
@@ -324,83 +329,72 @@ module _ {J I S : Type 0} (w g : ℕ) (s : Ghosts S) (number : Option ℕ) (styl
       all = λ other e. absurd (let k = not_missing other Output e in let no : ⊥ = cc in no);
       fails = λ f e other.
           let k : Output ≡ f = cc in
-          subst (FedLookupsFail w s number style inputs left read NoMore old new start end) k
-          (inr (missing, refl, record { long = h.long; answered = h.answered; written = λ b is. prefix_last start mid end (looked_up w b number style (keys_of_each read)).text (end_of style) _ (h.written b is) front refl }));
+          subst (FedLookupsFail task read NoMore (lookup_state inputs old start) (lookup_state left new end)) k
+          (inr (missing, refl, record { long = h.long; answered = h.answered; written = λ b is. prefix_last start mid end (looked_up task.word b task.options (keys_of_each read)).text (end_of task.options.style) _ (h.written b is) front refl }));
     }
 
 -- ---- the store
 
 -- it was not opened
-pub fed_unopened : {J I S : Type 0} (w g : ℕ) (s : Ghosts S) (number : Option ℕ) (style : Style) (own : J → Feed) (shared : I → Feed) (inputs : Inputs J I) (old new : S) (start : Option (List ℕ)) (f : ReadFault) → OpeningFails w s old new f
-    → FedLookupsLeave w g s number style own shared inputs inputs old new start start (Err (read_fault f))
-fed_unopened w g s number style own shared inputs old new start damage.Short h = record {
-  reads = subst (OnlyReads s old) (sym h.1) (reads_none s old);
+unopened_leaves : {J I S : Type 0} (task : LookupTask S) (own : J → Feed) (shared : I → Feed) (inputs : Inputs J I) (old new : S) (start : Option (List ℕ)) (f : ReadFault) → OnlyReads task.store old new → FedLookupsFail task [] NotBegun (lookup_state inputs old start) (lookup_state inputs new start) (Read f)
+    → FedLookupsLeave task own shared (lookup_state inputs old start) (lookup_state inputs new start) (Err (Read f))
+unopened_leaves task own shared inputs old new start f reads fails = record {
+  reads = reads;
   read = [];
   stop = NotBegun;
   are = record { window = Unread inputs.shared; are = nothing_taken (shared inputs.shared); handed = refl; others = refl };
-  all = λ missing e. absurd (let k = not_missing missing (Read damage.Short) e in let no : ⊥ = cc in no);
+  all = λ missing e. absurd (let k = not_missing missing (Read f) e in let no : ⊥ = cc in no);
   fails = λ v e other.
-      let k : Read damage.Short ≡ v = cc in
-      subst (FedLookupsFail w s number style inputs inputs [] NotBegun old new start start) k (record { none = refl; is_stop = refl; same = refl; kept = keeps_self start; why = h });
+      let k : Read f ≡ v = cc in
+      subst (FedLookupsFail task [] NotBegun (lookup_state inputs old start) (lookup_state inputs new start)) k fails;
 }
-fed_unopened w g s number style own shared inputs old new start damage.Device h = record {
-  reads = h.0;
-  read = [];
-  stop = NotBegun;
-  are = record { window = Unread inputs.shared; are = nothing_taken (shared inputs.shared); handed = refl; others = refl };
-  all = λ missing e. absurd (let k = not_missing missing (Read damage.Device) e in let no : ⊥ = cc in no);
-  fails = λ v e other.
-      let k : Read damage.Device ≡ v = cc in
-      subst (FedLookupsFail w s number style inputs inputs [] NotBegun old new start start) k (inr (record { none = refl; is_stop = refl; same = refl; kept = keeps_self start; why = h.1 }));
-}
-fed_unopened w g s number style own shared inputs old new start (damage.Table n) h = absurd h
-fed_unopened w g s number style own shared inputs old new start (damage.Record place) h = absurd h
-fed_unopened w g s number style own shared inputs old new start (damage.Slot n i) h = absurd h
-fed_unopened w g s number style own shared inputs old new start (damage.Twice place) h = absurd h
-fed_unopened w g s number style own shared inputs old new start (damage.Unindexed place) h = absurd h
-fed_unopened w g s number style own shared inputs old new start damage.NoMemory h = absurd h
-fed_unopened w g s number style own shared inputs old new start damage.Output h = absurd h
+
+pub fed_unopened : {J I S : Type 0} (task : LookupTask S) (own : J → Feed) (shared : I → Feed) (inputs : Inputs J I) (old new : S) (start : Option (List ℕ)) (f : ReadFault) → OpeningFails task.word task.store old new f
+    → FedLookupsLeave task own shared (lookup_state inputs old start) (lookup_state inputs new start) (Err (read_fault f))
+fed_unopened task own shared inputs old new start f h = unopened_by task.word task.store old new (λ f. FedLookupsLeave task own shared (lookup_state inputs old start) (lookup_state inputs new start) (Err (read_fault f)))
+    (λ short same. unopened_leaves task own shared inputs old new start damage.Short (subst (OnlyReads task.store old) (sym same) (reads_none task.store old)) (record { none = refl; is_stop = refl; same = refl; kept = keeps_self start; why = (short, same) }))
+    (λ reads failed. unopened_leaves task own shared inputs old new start damage.Device reads (inr (record { none = refl; is_stop = refl; same = refl; kept = keeps_self start; why = failed }))) f h
 
 -- it was
-in_next : {S : Type 0} (w : ℕ) (s : Ghosts S) (number : Option ℕ) (style : Style) (read : List (List Change)) (stop : Stop Change TextFault) (old mid new : S) (start now : Option (List ℕ)) (f : Fault) → OnlyReads s old mid → StopsInNext w s number style read stop mid new start now f → StopsInNext w s number style read stop old new start now f
-in_next w s number style read stop old mid new start now f reads h = record { last = h.last; is_stop = h.is_stop; stops = stops_later w s number style _ old mid new start now f reads h.stops; is_fault = h.is_fault }
+in_next : {J I S : Type 0} (task : LookupTask S) (read : List (List Change)) (stop : Stop Change TextFault) (old : S) (mid new : LookupState J I S) (f : Fault) → OnlyReads task.store old mid.store → StopsInNext task read stop mid new f → StopsInNext task read stop (lookup_state mid.inputs old mid.output) new f
+in_next task read stop old mid new f reads h = record { last = h.last; is_stop = h.is_stop; stops = stops_later task _ old mid.store new.store mid.output new.output f reads h.stops; is_fault = h.is_fault }
 
-begun_fails : {J I S : Type 0} (w : ℕ) (s : Ghosts S) (number : Option ℕ) (style : Style) (inputs left : Inputs J I) (read : List (List Change)) (stop : Stop Change TextFault) (old mid new : S) (start now : Option (List ℕ)) (f : Fault) → OnlyReads s old mid → head_size w ≤ s.size mid
-    → FedLookupsFail w s number style inputs left read stop mid new start now f → FedLookupsFail w s number style inputs left read stop old new start now f
-begun_fails w s number style inputs left read stop old mid new start now (Read damage.Short) reads long h = let short = h.why.0 in absurd (let no : ⊥ = omega (arith, long, short) in no)
-begun_fails w s number style inputs left read stop old mid new start now (Read damage.Device) reads long (inl h) = inl (in_next w s number style read stop old mid new start now _ reads h)
-begun_fails w s number style inputs left read stop old mid new start now (Read damage.Device) reads long (inr h) = inr (record { none = h.none; is_stop = h.is_stop; same = h.same; kept = h.kept; why = let k = reads.failures in let more = h.why in omega (arith, k, more) })
-begun_fails w s number style inputs left read stop old mid new start now Output reads long (inl h) = inl (in_next w s number style read stop old mid new start now _ reads h)
-begun_fails w s number style inputs left read stop old mid new start now Output reads long (inr h) = inr h
-begun_fails w s number style inputs left read stop old mid new start now (Read (damage.Table n)) reads long h = in_next w s number style read stop old mid new start now _ reads h
-begun_fails w s number style inputs left read stop old mid new start now (Read (damage.Record place)) reads long h = in_next w s number style read stop old mid new start now _ reads h
-begun_fails w s number style inputs left read stop old mid new start now (Read (damage.Slot n i)) reads long h = in_next w s number style read stop old mid new start now _ reads h
-begun_fails w s number style inputs left read stop old mid new start now (Read (damage.Twice place)) reads long h = in_next w s number style read stop old mid new start now _ reads h
-begun_fails w s number style inputs left read stop old mid new start now (Read (damage.Unindexed place)) reads long h = in_next w s number style read stop old mid new start now _ reads h
-begun_fails w s number style inputs left read stop old mid new start now (Read damage.NoMemory) reads long h = in_next w s number style read stop old mid new start now _ reads h
-begun_fails w s number style inputs left read stop old mid new start now (Read damage.Output) reads long h = in_next w s number style read stop old mid new start now _ reads h
-begun_fails w s number style inputs left read stop old mid new start now (Text n f) reads long h = in_next w s number style read stop old mid new start now _ reads h
-begun_fails w s number style inputs left read stop old mid new start now (Make f) reads long h = in_next w s number style read stop old mid new start now _ reads h
-begun_fails w s number style inputs left read stop old mid new start now Duplicate reads long h = in_next w s number style read stop old mid new start now _ reads h
-begun_fails w s number style inputs left read stop old mid new start now Missing reads long h = in_next w s number style read stop old mid new start now _ reads h
-begun_fails w s number style inputs left read stop old mid new start now (Walk f) reads long h = in_next w s number style read stop old mid new start now _ reads h
-begun_fails w s number style inputs left read stop old mid new start now Long reads long h = in_next w s number style read stop old mid new start now _ reads h
-begun_fails w s number style inputs left read stop old mid new start now Open reads long h = in_next w s number style read stop old mid new start now _ reads h
-begun_fails w s number style inputs left read stop old mid new start now Rename reads long h = in_next w s number style read stop old mid new start now _ reads h
-begun_fails w s number style inputs left read stop old mid new start now (Old side) reads long h = in_next w s number style read stop old mid new start now _ reads h
-begun_fails w s number style inputs left read stop old mid new start now (New side) reads long h = in_next w s number style read stop old mid new start now _ reads h
-begun_fails w s number style inputs left read stop old mid new start now NoOldTables reads long h = in_next w s number style read stop old mid new start now _ reads h
-begun_fails w s number style inputs left read stop old mid new start now NoNewTables reads long h = in_next w s number style read stop old mid new start now _ reads h
-begun_fails w s number style inputs left read stop old mid new start now NoBaseTables reads long h = in_next w s number style read stop old mid new start now _ reads h
-begun_fails w s number style inputs left read stop old mid new start now NoMemory reads long h = in_next w s number style read stop old mid new start now _ reads h
+begun_fails : {J I S : Type 0} (task : LookupTask S) (read : List (List Change)) (stop : Stop Change TextFault) (old : S) (mid new : LookupState J I S) (f : Fault) → OnlyReads task.store old mid.store → head_size task.word ≤ task.store.size mid.store
+    → FedLookupsFail task read stop mid new f → FedLookupsFail task read stop (lookup_state mid.inputs old mid.output) new f
+begun_fails task read stop old mid new (Read damage.Short) reads long h = let short = h.why.0 in absurd (let no : ⊥ = omega (arith, long, short) in no)
+begun_fails task read stop old mid new (Read damage.Device) reads long (inl h) = inl (in_next task read stop old mid new _ reads h)
+begun_fails task read stop old mid new (Read damage.Device) reads long (inr h) = inr (record { none = h.none; is_stop = h.is_stop; same = h.same; kept = h.kept; why = let k = reads.failures in let more = h.why in omega (arith, k, more) })
+begun_fails task read stop old mid new Output reads long (inl h) = inl (in_next task read stop old mid new _ reads h)
+begun_fails task read stop old mid new Output reads long (inr h) = inr h
+begun_fails task read stop old mid new (Read (damage.Table n)) reads long h = in_next task read stop old mid new _ reads h
+begun_fails task read stop old mid new (Read (damage.Record place)) reads long h = in_next task read stop old mid new _ reads h
+begun_fails task read stop old mid new (Read (damage.Slot n i)) reads long h = in_next task read stop old mid new _ reads h
+begun_fails task read stop old mid new (Read (damage.Twice place)) reads long h = in_next task read stop old mid new _ reads h
+begun_fails task read stop old mid new (Read (damage.Unindexed place)) reads long h = in_next task read stop old mid new _ reads h
+begun_fails task read stop old mid new (Read damage.NoMemory) reads long h = in_next task read stop old mid new _ reads h
+begun_fails task read stop old mid new (Read damage.Output) reads long h = in_next task read stop old mid new _ reads h
+begun_fails task read stop old mid new (Text n f) reads long h = in_next task read stop old mid new _ reads h
+begun_fails task read stop old mid new (Make f) reads long h = in_next task read stop old mid new _ reads h
+begun_fails task read stop old mid new Duplicate reads long h = in_next task read stop old mid new _ reads h
+begun_fails task read stop old mid new Missing reads long h = in_next task read stop old mid new _ reads h
+begun_fails task read stop old mid new (Walk f) reads long h = in_next task read stop old mid new _ reads h
+begun_fails task read stop old mid new Long reads long h = in_next task read stop old mid new _ reads h
+begun_fails task read stop old mid new Open reads long h = in_next task read stop old mid new _ reads h
+begun_fails task read stop old mid new Rename reads long h = in_next task read stop old mid new _ reads h
+begun_fails task read stop old mid new (Old side) reads long h = in_next task read stop old mid new _ reads h
+begun_fails task read stop old mid new (New side) reads long h = in_next task read stop old mid new _ reads h
+begun_fails task read stop old mid new NoOldTables reads long h = in_next task read stop old mid new _ reads h
+begun_fails task read stop old mid new NoNewTables reads long h = in_next task read stop old mid new _ reads h
+begun_fails task read stop old mid new NoBaseTables reads long h = in_next task read stop old mid new _ reads h
+begun_fails task read stop old mid new NoMemory reads long h = in_next task read stop old mid new _ reads h
 
-pub fed_begun : {J I S : Type 0} (w g : ℕ) (s : Ghosts S) (number : Option ℕ) (style : Style) (own : J → Feed) (shared : I → Feed) (inputs left : Inputs J I) (old mid new last : S) (start now : Option (List ℕ)) (result : Result Unit Fault) → OnlyReads s old mid → head_size w ≤ s.size mid → last ≡ new
-    → FedLookupsLeave w g s number style own shared inputs left mid new start now result → FedLookupsLeave w g s number style own shared inputs left old last start now result
-fed_begun w g s number style own shared inputs left old mid new last start now result reads long same h = subst (λ v. FedLookupsLeave w g s number style own shared inputs left old v start now result) (sym same) (record {
+pub fed_begun : {J I S : Type 0} (task : LookupTask S) (own : J → Feed) (shared : I → Feed) (inputs left : Inputs J I) (old mid new last : S) (start now : Option (List ℕ)) (result : Result Unit Fault) → OnlyReads task.store old mid → head_size task.word ≤ task.store.size mid → last ≡ new
+    → FedLookupsLeave task own shared (lookup_state inputs mid start) (lookup_state left new now) result → FedLookupsLeave task own shared (lookup_state inputs old start) (lookup_state left last now) result
+fed_begun task own shared inputs left old mid new last start now result reads long same h = subst (λ v. FedLookupsLeave task own shared (lookup_state inputs old start) (lookup_state left v now) result) (sym same) (record {
   reads = reads_more reads h.reads;
   read = h.read;
   stop = h.stop;
   are = h.are;
   all = h.all;
-  fails = λ f e other. begun_fails w s number style inputs left h.read h.stop old mid new start now f reads long (h.fails f e other);
+  fails = λ f e other. begun_fails task h.read h.stop old (lookup_state inputs mid start) (lookup_state left new now) f reads long (h.fails f e other);
 })

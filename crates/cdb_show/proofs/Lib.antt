@@ -1,4 +1,5 @@
 pub mod Queries
+pub mod Openings
 pub mod QueryEnds
 pub mod StatsTexts
 pub mod Checks

@@ -1,7 +1,7 @@
 -- A query of the keys that some inputs give comes to what the function of their bytes says, or to a
 -- refusal.
 use Rattle.std.proofs.Common.{◌≡◌, ◌⊎◌, ◌+◌, ◌≤◌, true, false, Bool, ℕ, inl, inr, List, [], ◌∷◌, ◌++◌, length, map, fold, refl, sym, ap, subst, ◌∙◌, arith, append_assoc, append-nil, Option, Some, None, Result, Ok, Err, if◌then◌else◌}
-use Rattle.cdb_show.proofs.Words.{Appends, AppendsPrefix, Change, Fault, Ghosts, Given, Incoming, InputsLeft, IsOfText, Keeps, Known, Style, TextFault, came, end_of, from_input, from_inputs, given_from, head_size, key_of, keys_form, keys_of, keys_of_each, map-append, prefix_in, ⊤}
+use Rattle.cdb_show.proofs.Words.{Appends, AppendsPrefix, Change, Fault, Ghosts, Given, Incoming, InputsLeft, IsOfText, Keeps, Known, LookupOptions, LookupTask, Style, TextFault, came, end_of, from_input, from_inputs, given_from, head_size, key_of, keys_form, keys_of, keys_of_each, map-append, prefix_in, ⊤}
 use Rattle.std.proofs.lemmas.Bool.{cond-true, cond-false}
 use Rattle.std.proofs.lemmas.List.Sums.{fold-append}
 use Rattle.std.proofs.KnownBytes.{Appends-kept, Keeps-trans}
@@ -76,21 +76,21 @@ ends_or : (b : Bool) (s : Looked) (text : List ℕ) (answer : Result Unit Fault)
 ends_or true s text answer = ([], sym (append-nil s.text))
 ends_or false s text answer = (text, refl)
 
-keys_grow : (w : ℕ) (b : List ℕ) (number : Option ℕ) (style : Style) (s : Looked) (keys : List (List ℕ)) → (x : List ℕ) × ((fold (with_key w b number style) s keys).text ≡ s.text ++ x)
-keys_grow w b number style s [] = ([], sym (append-nil s.text))
-keys_grow w b number style s (key ∷ keys) =
+keys_grow : (w : ℕ) (b : List ℕ) (o : LookupOptions) (s : Looked) (keys : List (List ℕ)) → (x : List ℕ) × ((fold (with_key w b o) s keys).text ≡ s.text ++ x)
+keys_grow w b o s [] = ([], sym (append-nil s.text))
+keys_grow w b o s (key ∷ keys) =
     let one = ends_or (has_ended s.answer) s _ _ in
-    let rest = keys_grow w b number style (with_key w b number style s key) keys in
+    let rest = keys_grow w b o (with_key w b o s key) keys in
     (one.0 ++ rest.0, rest.1 ∙ ap (λ t. t ++ rest.0) one.1 ∙ append_assoc s.text one.0 rest.0)
 
 -- a damage ends it
-keys_stay : (w : ℕ) (b : List ℕ) (number : Option ℕ) (style : Style) (s : Looked) (keys : List (List ℕ)) → has_ended s.answer ≡ true → fold (with_key w b number style) s keys ≡ s
-keys_stay w b number style s [] e = refl
-keys_stay w b number style s (key ∷ keys) e =
-    ap (λ v. fold (with_key w b number style) v keys) (cond-true (has_ended s.answer) s _ e) ∙ keys_stay w b number style s keys e
+keys_stay : (w : ℕ) (b : List ℕ) (o : LookupOptions) (s : Looked) (keys : List (List ℕ)) → has_ended s.answer ≡ true → fold (with_key w b o) s keys ≡ s
+keys_stay w b o s [] e = refl
+keys_stay w b o s (key ∷ keys) e =
+    ap (λ v. fold (with_key w b o) v keys) (cond-true (has_ended s.answer) s _ e) ∙ keys_stay w b o s keys e
 
-looked_more : (w : ℕ) (b : List ℕ) (number : Option ℕ) (style : Style) (keys more : List (List ℕ)) → looked_up w b number style (keys ++ more) ≡ fold (with_key w b number style) (looked_up w b number style keys) more
-looked_more w b number style keys more = fold-append (with_key w b number style) _ keys more
+looked_more : (w : ℕ) (b : List ℕ) (o : LookupOptions) (keys more : List (List ℕ)) → looked_up w b o (keys ++ more) ≡ fold (with_key w b o) (looked_up w b o keys) more
+looked_more w b o keys more = fold-append (with_key w b o) _ keys more
 
 end_grows : (style : Style) (s : Looked) (fault : Option Fault) → (x : List ℕ) × ((with_end style s fault).text ≡ s.text ++ x)
 end_grows style s (Some fault) = ([], sym (append-nil s.text))
@@ -107,62 +107,62 @@ not_ended true = refl
 not_ended false = refl
 
 -- what follows the keys, if no damage was met
-unended : (w : ℕ) (b : List ℕ) (number : Option ℕ) (style : Style) (given : Given) (missing : Bool) → (looked_up w b number style (keys_of_each given.items)).answer ≡ missing_answer missing
-    → with_given w b number style given ≡ with_end style (looked_up w b number style (keys_of_each given.items)) given.fault
-unended w b number style given missing e = cond-false (has_ended (looked_up w b number style (keys_of_each given.items)).answer) _ _ (ap has_ended e ∙ not_ended missing)
+unended : (w : ℕ) (b : List ℕ) (o : LookupOptions) (given : Given) (missing : Bool) → (looked_up w b o (keys_of_each given.items)).answer ≡ missing_answer missing
+    → with_given w b o given ≡ with_end o.style (looked_up w b o (keys_of_each given.items)) given.fault
+unended w b o given missing e = cond-false (has_ended (looked_up w b o (keys_of_each given.items)).answer) _ _ (ap has_ended e ∙ not_ended missing)
 
-pub all_asked : {S : Type 0} (w g : ℕ) (s : Ghosts S) (number : Option ℕ) (style : Style) (inputs : List (Option (List ℕ))) (shared : List ℕ) (left : InputsLeft) (store : S) (bytes : List ℕ) (missing : Bool) (Writes : List ℕ → Type 0) → Known inputs shared left → s.image store bytes
-    → LooksUpAll w g s number style left store missing Writes → ((records_asked w g number style inputs shared bytes).answer ≡ missing_answer missing) × Writes (records_asked w g number style inputs shared bytes).text
-all_asked w g s number style inputs shared left store bytes missing Writes known is h =
-    let given = all_given (keys_form style) g h.read inputs shared left known h.are in
+pub all_asked : {S : Type 0} (task : LookupTask S) (inputs : List (Option (List ℕ))) (shared : List ℕ) (left : InputsLeft) (store : S) (bytes : List ℕ) (missing : Bool) (Writes : List ℕ → Type 0) → Known inputs shared left → task.store.image store bytes
+    → LooksUpAll task left store missing Writes → ((records_asked task.word task.greatest task.options inputs shared bytes).answer ≡ missing_answer missing) × Writes (records_asked task.word task.greatest task.options inputs shared bytes).text
+all_asked task inputs shared left store bytes missing Writes known is h =
+    let given = all_given (keys_form task.options.style) task.greatest h.read inputs shared left known h.are in
     let answered = h.answered bytes is in
-    let same : records_asked w g number style inputs shared bytes ≡ with_end style (looked_up w bytes number style (keys_of_each h.read)) None =
-    ap (with_given w bytes number style) given ∙ unended w bytes number style (record { items = h.read; fault = None }) missing answered in
+    let same : records_asked task.word task.greatest task.options inputs shared bytes ≡ with_end task.options.style (looked_up task.word bytes task.options (keys_of_each h.read)) None =
+    ap (with_given task.word bytes task.options) given ∙ unended task.word bytes task.options (record { items = h.read; fault = None }) missing answered in
     (ap (λ (l : Looked). l.answer) same ∙ answered, subst Writes (sym (ap (λ (l : Looked). l.text) same)) (h.written bytes is))
 
 -- ---- it stopped in an input
 
 -- of the keys so far a prefix was written
-part_asked : (w g : ℕ) (number : Option ℕ) (style : Style) (inputs : List (Option (List ℕ))) (shared bytes : List ℕ) (keys more : List (List ℕ)) (start end : Option (List ℕ)) → keys_of_each (given_from (keys_form style) g 1 inputs shared).items ≡ keys ++ more
-    → AppendsPrefix start end (looked_up w bytes number style keys).text → AppendsPrefix start end (records_asked w g number style inputs shared bytes).text
-part_asked w g number style inputs shared bytes keys more start end e p =
-    let given = given_from (keys_form style) g 1 inputs shared in
-    let all = looked_up w bytes number style (keys_of_each given.items) in
-    let same : all ≡ fold (with_key w bytes number style) (looked_up w bytes number style keys) more = ap (looked_up w bytes number style) e ∙ looked_more w bytes number style keys more in
-    let grow = keys_grow w bytes number style (looked_up w bytes number style keys) more in
-    let last = given_grows (has_ended all.answer) style all given.fault in
-    prefix_in start end (looked_up w bytes number style keys).text (grow.0 ++ last.0) _ p
-    (last.1 ∙ ap (λ t. t ++ last.0) (ap (λ (l : Looked). l.text) same ∙ grow.1) ∙ append_assoc (looked_up w bytes number style keys).text grow.0 last.0)
+part_asked : (w g : ℕ) (o : LookupOptions) (inputs : List (Option (List ℕ))) (shared bytes : List ℕ) (keys more : List (List ℕ)) (start end : Option (List ℕ)) → keys_of_each (given_from (keys_form o.style) g 1 inputs shared).items ≡ keys ++ more
+    → AppendsPrefix start end (looked_up w bytes o keys).text → AppendsPrefix start end (records_asked w g o inputs shared bytes).text
+part_asked w g o inputs shared bytes keys more start end e p =
+    let given = given_from (keys_form o.style) g 1 inputs shared in
+    let all = looked_up w bytes o (keys_of_each given.items) in
+    let same : all ≡ fold (with_key w bytes o) (looked_up w bytes o keys) more = ap (looked_up w bytes o) e ∙ looked_more w bytes o keys more in
+    let grow = keys_grow w bytes o (looked_up w bytes o keys) more in
+    let last = given_grows (has_ended all.answer) o.style all given.fault in
+    prefix_in start end (looked_up w bytes o keys).text (grow.0 ++ last.0) _ p
+    (last.1 ∙ ap (λ t. t ++ last.0) (ap (λ (l : Looked). l.text) same ∙ grow.1) ∙ append_assoc (looked_up w bytes o keys).text grow.0 last.0)
 
 -- the last of these keys met a damage
-damage_asked : (w g : ℕ) (number : Option ℕ) (style : Style) (inputs : List (Option (List ℕ))) (shared bytes : List ℕ) (keys more : List (List ℕ)) (start end : Option (List ℕ)) (f : Fault) → keys_of_each (given_from (keys_form style) g 1 inputs shared).items ≡ keys ++ more
-    → has_ended (Err f) ≡ true → (looked_up w bytes number style keys).answer ≡ Err f → Appends start end (looked_up w bytes number style keys).text → ComesOf (records_asked w g number style inputs shared bytes) start end (Err f)
-damage_asked w g number style inputs shared bytes keys more start end f e ends answered written =
-    let given = given_from (keys_form style) g 1 inputs shared in
-    let here = looked_up w bytes number style keys in
-    let all : looked_up w bytes number style (keys_of_each given.items) ≡ here =
-    ap (looked_up w bytes number style) e ∙ looked_more w bytes number style keys more ∙ keys_stay w bytes number style here more (ap has_ended answered ∙ ends) in
-    let same : records_asked w g number style inputs shared bytes ≡ here =
-    ap (λ (l : Looked). if has_ended l.answer then l else with_end style l given.fault) all ∙ cond-true (has_ended here.answer) _ _ (ap has_ended answered ∙ ends) in
+damage_asked : (w g : ℕ) (o : LookupOptions) (inputs : List (Option (List ℕ))) (shared bytes : List ℕ) (keys more : List (List ℕ)) (start end : Option (List ℕ)) (f : Fault) → keys_of_each (given_from (keys_form o.style) g 1 inputs shared).items ≡ keys ++ more
+    → has_ended (Err f) ≡ true → (looked_up w bytes o keys).answer ≡ Err f → Appends start end (looked_up w bytes o keys).text → ComesOf (records_asked w g o inputs shared bytes) start end (Err f)
+damage_asked w g o inputs shared bytes keys more start end f e ends answered written =
+    let given = given_from (keys_form o.style) g 1 inputs shared in
+    let here = looked_up w bytes o keys in
+    let all : looked_up w bytes o (keys_of_each given.items) ≡ here =
+    ap (looked_up w bytes o) e ∙ looked_more w bytes o keys more ∙ keys_stay w bytes o here more (ap has_ended answered ∙ ends) in
+    let same : records_asked w g o inputs shared bytes ≡ here =
+    ap (λ (l : Looked). if has_ended l.answer then l else with_end o.style l given.fault) all ∙ cond-true (has_ended here.answer) _ _ (ap has_ended answered ∙ ends) in
     subst (λ l. ComesOf l start end (Err f)) (sym same) (inl (record { is = sym answered; written = written }))
 
 -- the text of an input has a fault
-text_asked : {S : Type 0} (w g : ℕ) (s : Ghosts S) (number : Option ℕ) (style : Style) (inputs : List (Option (List ℕ))) (shared : List ℕ) (left : InputsLeft) (old new : S) (bytes : List ℕ) (start end : Option (List ℕ)) (n : ℕ) (f : TextFault) → Known inputs shared left → s.image new bytes → IsOfText f
-    → (h : LookupsStop w g s number style left old new start end (Text n f)) → (missing : Bool) → HasLooked w s number style (keys_of_each h.read ++ keys_of h.last) new start end missing → ComesOf (records_asked w g number style inputs shared bytes) start end (Err (Text n f))
-text_asked w g s number style inputs shared left old new bytes start end n f known is of h missing looked =
-    let form = keys_form style in
+text_asked : {S : Type 0} (task : LookupTask S) (inputs : List (Option (List ℕ))) (shared : List ℕ) (left : InputsLeft) (old new : S) (bytes : List ℕ) (start end : Option (List ℕ)) (n : ℕ) (f : TextFault) → Known inputs shared left → task.store.image new bytes → IsOfText f
+    → (h : LookupsStop task left old new start end (Text n f)) → (missing : Bool) → HasLooked task (keys_of_each h.read ++ keys_of h.last) new start end missing → ComesOf (records_asked task.word task.greatest task.options inputs shared bytes) start end (Err (Text n f))
+text_asked task inputs shared left old new bytes start end n f known is of h missing looked =
+    let form = keys_form task.options.style in
     let at = h.of_text n f refl in
-    let rest = left_known form g 1 h.read inputs shared left h.rest known h.are in
-    let fails = first_fails form g (1 + length h.read) h.last rest.more rest.left h.rest at.1.input f (at.1.has.own of) of rest.is_known at.1.first at.1.has.has in
+    let rest = left_known form task.greatest 1 h.read inputs shared left h.rest known h.are in
+    let fails = first_fails form task.greatest (1 + length h.read) h.last rest.more rest.left h.rest at.1.input f (at.1.has.own of) of rest.is_known at.1.first at.1.has.has in
     let whole : Given = record { items = h.read ++ h.last ∷ []; fault = Some (Text n f) } in
-    let given : given_from form g 1 inputs shared ≡ whole =
+    let given : given_from form task.greatest 1 inputs shared ≡ whole =
     rest.given ∙ ap (after h.read) fails ∙ ap (λ (m : ℕ). let v : Given = record { items = h.read ++ h.last ∷ []; fault = Some (Text m f) } in v) (omega (arith, at.0)) in
     let keys : keys_of_each (h.read ++ h.last ∷ []) ≡ keys_of_each h.read ++ keys_of h.last = each_more h.read h.last in
-    let answered : (looked_up w bytes number style (keys_of_each (h.read ++ h.last ∷ []))).answer ≡ missing_answer missing =
-    ap (λ k. (looked_up w bytes number style k).answer) keys ∙ looked.answered bytes is in
-    let same : records_asked w g number style inputs shared bytes ≡ record { text = (looked_up w bytes number style (keys_of_each h.read ++ keys_of h.last)).text; answer = Err (Text n f) } =
-    ap (with_given w bytes number style) given ∙ unended w bytes number style whole missing answered
-    ∙ ap (λ k. with_end style (looked_up w bytes number style k) (Some (Text n f))) keys in
+    let answered : (looked_up task.word bytes task.options (keys_of_each (h.read ++ h.last ∷ []))).answer ≡ missing_answer missing =
+    ap (λ k. (looked_up task.word bytes task.options k).answer) keys ∙ looked.answered bytes is in
+    let same : records_asked task.word task.greatest task.options inputs shared bytes ≡ record { text = (looked_up task.word bytes task.options (keys_of_each h.read ++ keys_of h.last)).text; answer = Err (Text n f) } =
+    ap (with_given task.word bytes task.options) given ∙ unended task.word bytes task.options whole missing answered
+    ∙ ap (λ k. with_end task.options.style (looked_up task.word bytes task.options k) (Some (Text n f))) keys in
     subst (λ l. ComesOf l start end (Err (Text n f))) (sym same) (inl (record { is = refl; written = looked.written bytes is }))
 
 -- what the run stopped at
@@ -170,103 +170,103 @@ pub record StopsSo {S : Type 0} (w : ℕ) (s : Ghosts S) (l : Looked) (new : S) 
   pub long : head_size w ≤ s.size new
   pub comes : ComesOf l start end (Err f)
 
-stops_asked : {S : Type 0} (w g : ℕ) (s : Ghosts S) (number : Option ℕ) (style : Style) (inputs : List (Option (List ℕ))) (shared : List ℕ) (left : InputsLeft) (old new : S) (bytes : List ℕ) (start end : Option (List ℕ)) (f : Fault) (more : List (List ℕ)) → Known inputs shared left → s.image new bytes → s.failures new ≡ 0
-    → (h : LookupsStop w g s number style left old new start end f) → keys_of_each (given_from (keys_form style) g 1 inputs shared).items ≡ (keys_of_each h.read ++ keys_of h.last) ++ more → StopsSo w s (records_asked w g number style inputs shared bytes) new start end f
-stops_asked w g s number style inputs shared left old new bytes start end (Read (read.Table n)) more known is works h keys =
-    record { long = h.stops.long; comes = damage_asked w g number style inputs shared bytes _ more start end _ keys refl (h.stops.answered bytes is) (h.stops.written bytes is) }
-stops_asked w g s number style inputs shared left old new bytes start end (Read (read.Record place)) more known is works h keys =
-    record { long = h.stops.long; comes = damage_asked w g number style inputs shared bytes _ more start end _ keys refl (h.stops.answered bytes is) (h.stops.written bytes is) }
-stops_asked w g s number style inputs shared left old new bytes start end (Read read.Device) more known is works h keys = absurd (let failed = h.stops.0 in let no : ⊥ = omega (arith, failed, works) in no)
-stops_asked w g s number style inputs shared left old new bytes start end Output more known is works h keys =
-    record { long = h.stops.0; comes = refused _ start end Output tt (part_asked w g number style inputs shared bytes _ more start end keys (h.stops.1 bytes is)) }
-stops_asked w g s number style inputs shared left old new bytes start end NoMemory more known is works h keys =
-    record { long = h.stops.1.long; comes = refused _ start end NoMemory tt (part_asked w g number style inputs shared bytes _ more start end keys (whole_prefix start end _ (h.stops.1.written bytes is))) }
-stops_asked w g s number style inputs shared left old new bytes start end (Text n (text.Syntax at)) more known is works h keys =
-    record { long = h.stops.1.long; comes = text_asked w g s number style inputs shared left old new bytes start end n _ known is tt h h.stops.0 h.stops.1 }
-stops_asked w g s number style inputs shared left old new bytes start end (Text n (text.Ended at)) more known is works h keys =
-    record { long = h.stops.1.long; comes = text_asked w g s number style inputs shared left old new bytes start end n _ known is tt h h.stops.0 h.stops.1 }
-stops_asked w g s number style inputs shared left old new bytes start end (Text n (text.Large at)) more known is works h keys =
-    record { long = h.stops.1.long; comes = text_asked w g s number style inputs shared left old new bytes start end n _ known is tt h h.stops.0 h.stops.1 }
-stops_asked w g s number style inputs shared left old new bytes start end (Text n text.Input) more known is works h keys =
-    record { long = h.stops.1.long; comes = refused _ start end _ tt (part_asked w g number style inputs shared bytes _ more start end keys (whole_prefix start end _ (h.stops.1.written bytes is))) }
-stops_asked w g s number style inputs shared left old new bytes start end (Text n text.Endless) more known is works h keys =
-    record { long = h.stops.1.long; comes = refused _ start end _ tt (part_asked w g number style inputs shared bytes _ more start end keys (whole_prefix start end _ (h.stops.1.written bytes is))) }
-stops_asked w g s number style inputs shared left old new bytes start end (Text n text.NoMemory) more known is works h keys = absurd ((h.of_text n text.NoMemory refl).1.has.memory refl)
-stops_asked w g s number style inputs shared left old new bytes start end (Read read.Short) more known is works h keys = absurd h.stops
-stops_asked w g s number style inputs shared left old new bytes start end (Read (read.Slot n i)) more known is works h keys = absurd h.stops
-stops_asked w g s number style inputs shared left old new bytes start end (Read (read.Twice place)) more known is works h keys = absurd h.stops
-stops_asked w g s number style inputs shared left old new bytes start end (Read (read.Unindexed place)) more known is works h keys = absurd h.stops
-stops_asked w g s number style inputs shared left old new bytes start end (Read read.NoMemory) more known is works h keys = absurd h.stops
-stops_asked w g s number style inputs shared left old new bytes start end (Read read.Output) more known is works h keys = absurd h.stops
-stops_asked w g s number style inputs shared left old new bytes start end Missing more known is works h keys = absurd h.stops
-stops_asked w g s number style inputs shared left old new bytes start end (Make f) more known is works h keys = absurd h.stops
-stops_asked w g s number style inputs shared left old new bytes start end Duplicate more known is works h keys = absurd h.stops
-stops_asked w g s number style inputs shared left old new bytes start end (Walk f) more known is works h keys = absurd h.stops
-stops_asked w g s number style inputs shared left old new bytes start end Long more known is works h keys = absurd h.stops
-stops_asked w g s number style inputs shared left old new bytes start end Open more known is works h keys = absurd h.stops
-stops_asked w g s number style inputs shared left old new bytes start end Rename more known is works h keys = absurd h.stops
-stops_asked w g s number style inputs shared left old new bytes start end NoOldTables more known is works h keys = absurd h.stops
-stops_asked w g s number style inputs shared left old new bytes start end NoNewTables more known is works h keys = absurd h.stops
-stops_asked w g s number style inputs shared left old new bytes start end NoBaseTables more known is works h keys = absurd h.stops
-stops_asked w g s number style inputs shared left old new bytes start end (Old side) more known is works h keys = absurd h.stops
-stops_asked w g s number style inputs shared left old new bytes start end (New side) more known is works h keys = absurd h.stops
+stops_asked : {S : Type 0} (task : LookupTask S) (inputs : List (Option (List ℕ))) (shared : List ℕ) (left : InputsLeft) (old new : S) (bytes : List ℕ) (start end : Option (List ℕ)) (f : Fault) (more : List (List ℕ)) → Known inputs shared left → task.store.image new bytes → task.store.failures new ≡ 0
+    → (h : LookupsStop task left old new start end f) → keys_of_each (given_from (keys_form task.options.style) task.greatest 1 inputs shared).items ≡ (keys_of_each h.read ++ keys_of h.last) ++ more → StopsSo task.word task.store (records_asked task.word task.greatest task.options inputs shared bytes) new start end f
+stops_asked task inputs shared left old new bytes start end (Read (read.Table n)) more known is works h keys =
+    record { long = h.stops.long; comes = damage_asked task.word task.greatest task.options inputs shared bytes _ more start end _ keys refl (h.stops.answered bytes is) (h.stops.written bytes is) }
+stops_asked task inputs shared left old new bytes start end (Read (read.Record place)) more known is works h keys =
+    record { long = h.stops.long; comes = damage_asked task.word task.greatest task.options inputs shared bytes _ more start end _ keys refl (h.stops.answered bytes is) (h.stops.written bytes is) }
+stops_asked task inputs shared left old new bytes start end (Read read.Device) more known is works h keys = absurd (let failed = h.stops.0 in let no : ⊥ = omega (arith, failed, works) in no)
+stops_asked task inputs shared left old new bytes start end Output more known is works h keys =
+    record { long = h.stops.0; comes = refused _ start end Output tt (part_asked task.word task.greatest task.options inputs shared bytes _ more start end keys (h.stops.1 bytes is)) }
+stops_asked task inputs shared left old new bytes start end NoMemory more known is works h keys =
+    record { long = h.stops.1.long; comes = refused _ start end NoMemory tt (part_asked task.word task.greatest task.options inputs shared bytes _ more start end keys (whole_prefix start end _ (h.stops.1.written bytes is))) }
+stops_asked task inputs shared left old new bytes start end (Text n (text.Syntax at)) more known is works h keys =
+    record { long = h.stops.1.long; comes = text_asked task inputs shared left old new bytes start end n _ known is tt h h.stops.0 h.stops.1 }
+stops_asked task inputs shared left old new bytes start end (Text n (text.Ended at)) more known is works h keys =
+    record { long = h.stops.1.long; comes = text_asked task inputs shared left old new bytes start end n _ known is tt h h.stops.0 h.stops.1 }
+stops_asked task inputs shared left old new bytes start end (Text n (text.Large at)) more known is works h keys =
+    record { long = h.stops.1.long; comes = text_asked task inputs shared left old new bytes start end n _ known is tt h h.stops.0 h.stops.1 }
+stops_asked task inputs shared left old new bytes start end (Text n text.Input) more known is works h keys =
+    record { long = h.stops.1.long; comes = refused _ start end _ tt (part_asked task.word task.greatest task.options inputs shared bytes _ more start end keys (whole_prefix start end _ (h.stops.1.written bytes is))) }
+stops_asked task inputs shared left old new bytes start end (Text n text.Endless) more known is works h keys =
+    record { long = h.stops.1.long; comes = refused _ start end _ tt (part_asked task.word task.greatest task.options inputs shared bytes _ more start end keys (whole_prefix start end _ (h.stops.1.written bytes is))) }
+stops_asked task inputs shared left old new bytes start end (Text n text.NoMemory) more known is works h keys = absurd ((h.of_text n text.NoMemory refl).1.has.memory refl)
+stops_asked task inputs shared left old new bytes start end (Read read.Short) more known is works h keys = absurd h.stops
+stops_asked task inputs shared left old new bytes start end (Read (read.Slot n i)) more known is works h keys = absurd h.stops
+stops_asked task inputs shared left old new bytes start end (Read (read.Twice place)) more known is works h keys = absurd h.stops
+stops_asked task inputs shared left old new bytes start end (Read (read.Unindexed place)) more known is works h keys = absurd h.stops
+stops_asked task inputs shared left old new bytes start end (Read read.NoMemory) more known is works h keys = absurd h.stops
+stops_asked task inputs shared left old new bytes start end (Read read.Output) more known is works h keys = absurd h.stops
+stops_asked task inputs shared left old new bytes start end Missing more known is works h keys = absurd h.stops
+stops_asked task inputs shared left old new bytes start end (Make f) more known is works h keys = absurd h.stops
+stops_asked task inputs shared left old new bytes start end Duplicate more known is works h keys = absurd h.stops
+stops_asked task inputs shared left old new bytes start end (Walk f) more known is works h keys = absurd h.stops
+stops_asked task inputs shared left old new bytes start end Long more known is works h keys = absurd h.stops
+stops_asked task inputs shared left old new bytes start end Open more known is works h keys = absurd h.stops
+stops_asked task inputs shared left old new bytes start end Rename more known is works h keys = absurd h.stops
+stops_asked task inputs shared left old new bytes start end NoOldTables more known is works h keys = absurd h.stops
+stops_asked task inputs shared left old new bytes start end NoNewTables more known is works h keys = absurd h.stops
+stops_asked task inputs shared left old new bytes start end NoBaseTables more known is works h keys = absurd h.stops
+stops_asked task inputs shared left old new bytes start end (Old side) more known is works h keys = absurd h.stops
+stops_asked task inputs shared left old new bytes start end (New side) more known is works h keys = absurd h.stops
 
-pub stopped_asked : {S : Type 0} (w g : ℕ) (s : Ghosts S) (number : Option ℕ) (style : Style) (inputs : List (Option (List ℕ))) (shared : List ℕ) (left : InputsLeft) (old new : S) (bytes : List ℕ) (start end : Option (List ℕ)) (f : Fault) → Known inputs shared left → s.image new bytes → s.failures new ≡ 0
-    → LookupsStop w g s number style left old new start end f → StopsSo w s (records_asked w g number style inputs shared bytes) new start end f
-stopped_asked w g s number style inputs shared left old new bytes start end f known is works h =
-    let begins = begins_given (keys_form style) g h.read h.last inputs shared left h.rest known h.are h.begins in
-    stops_asked w g s number style inputs shared left old new bytes start end f (map incoming_key begins.0) known is works h
-    (keys_begin (given_from (keys_form style) g 1 inputs shared).items h.read h.last begins.0 begins.1)
+pub stopped_asked : {S : Type 0} (task : LookupTask S) (inputs : List (Option (List ℕ))) (shared : List ℕ) (left : InputsLeft) (old new : S) (bytes : List ℕ) (start end : Option (List ℕ)) (f : Fault) → Known inputs shared left → task.store.image new bytes → task.store.failures new ≡ 0
+    → LookupsStop task left old new start end f → StopsSo task.word task.store (records_asked task.word task.greatest task.options inputs shared bytes) new start end f
+stopped_asked task inputs shared left old new bytes start end f known is works h =
+    let begins = begins_given (keys_form task.options.style) task.greatest h.read h.last inputs shared left h.rest known h.are h.begins in
+    stops_asked task inputs shared left old new bytes start end f (map incoming_key begins.0) known is works h
+    (keys_begin (given_from (keys_form task.options.style) task.greatest 1 inputs shared).items h.read h.last begins.0 begins.1)
 
 -- ---- the run
 
 stopped_or : {S : Type 0} (w : ℕ) (s : Ghosts S) (l : Looked) (old new : S) (start end : Option (List ℕ)) (f : Fault) → StopsSo w s l new start end f → LooksOrShort w s l old new start end (Err f)
 stopped_or w s l old new start end f h = record { comes = inr (h.long, h.comes) }
 
-fault_asked : {S : Type 0} (w g : ℕ) (s : Ghosts S) (number : Option ℕ) (style : Style) (inputs : List (Option (List ℕ))) (shared : List ℕ) (left : InputsLeft) (old new : S) (bytes : List ℕ) (start end : Option (List ℕ)) (f : Fault) → Known inputs shared left → s.image new bytes → s.failures new ≡ 0
-    → LookupsStop w g s number style left old new start end f → LooksOrShort w s (records_asked w g number style inputs shared bytes) old new start end (Err f)
-fault_asked w g s number style inputs shared left old new bytes start end f known is works h =
-    stopped_or w s _ old new start end f (stopped_asked w g s number style inputs shared left old new bytes start end f known is works h)
+fault_asked : {S : Type 0} (task : LookupTask S) (inputs : List (Option (List ℕ))) (shared : List ℕ) (left : InputsLeft) (old new : S) (bytes : List ℕ) (start end : Option (List ℕ)) (f : Fault) → Known inputs shared left → task.store.image new bytes → task.store.failures new ≡ 0
+    → LookupsStop task left old new start end f → LooksOrShort task.word task.store (records_asked task.word task.greatest task.options inputs shared bytes) old new start end (Err f)
+fault_asked task inputs shared left old new bytes start end f known is works h =
+    stopped_or task.word task.store _ old new start end f (stopped_asked task inputs shared left old new bytes start end f known is works h)
 
-unwritten_asked : {S : Type 0} (w g : ℕ) (s : Ghosts S) (number : Option ℕ) (style : Style) (inputs : List (Option (List ℕ))) (shared : List ℕ) (left : InputsLeft) (old new : S) (bytes : List ℕ) (start end : Option (List ℕ)) → Known inputs shared left → s.image new bytes → s.failures new ≡ 0
-    → LookupsFail w g s number style left old new start end Output → LooksOrShort w s (records_asked w g number style inputs shared bytes) old new start end (Err Output)
-unwritten_asked w g s number style inputs shared left old new bytes start end known is works (inl h) = fault_asked w g s number style inputs shared left old new bytes start end Output known is works h
-unwritten_asked w g s number style inputs shared left old new bytes start end known is works (inr (missing, h)) =
-    record { comes = inr (h.long, refused _ start end Output tt (all_asked w g s number style inputs shared left new bytes missing (AppendsPrefix start end) known is h).1) }
+unwritten_asked : {S : Type 0} (task : LookupTask S) (inputs : List (Option (List ℕ))) (shared : List ℕ) (left : InputsLeft) (old new : S) (bytes : List ℕ) (start end : Option (List ℕ)) → Known inputs shared left → task.store.image new bytes → task.store.failures new ≡ 0
+    → LookupsFail task left old new start end Output → LooksOrShort task.word task.store (records_asked task.word task.greatest task.options inputs shared bytes) old new start end (Err Output)
+unwritten_asked task inputs shared left old new bytes start end known is works (inl h) = fault_asked task inputs shared left old new bytes start end Output known is works h
+unwritten_asked task inputs shared left old new bytes start end known is works (inr (missing, h)) =
+    record { comes = inr (h.long, refused _ start end Output tt (all_asked task inputs shared left new bytes missing (AppendsPrefix start end) known is h).1) }
 
-answer_asked : {S : Type 0} (w g : ℕ) (s : Ghosts S) (number : Option ℕ) (style : Style) (inputs : List (Option (List ℕ))) (shared : List ℕ) (left : InputsLeft) (old new : S) (bytes : List ℕ) (start end : Option (List ℕ)) (missing : Bool) → Known inputs shared left → s.image new bytes
-    → LooksUpAll w g s number style left new missing (Appends start end) → LooksOrShort w s (records_asked w g number style inputs shared bytes) old new start end (missing_answer missing)
-answer_asked w g s number style inputs shared left old new bytes start end missing known is h =
-    let all = all_asked w g s number style inputs shared left new bytes missing (Appends start end) known is h in
+answer_asked : {S : Type 0} (task : LookupTask S) (inputs : List (Option (List ℕ))) (shared : List ℕ) (left : InputsLeft) (old new : S) (bytes : List ℕ) (start end : Option (List ℕ)) (missing : Bool) → Known inputs shared left → task.store.image new bytes
+    → LooksUpAll task left new missing (Appends start end) → LooksOrShort task.word task.store (records_asked task.word task.greatest task.options inputs shared bytes) old new start end (missing_answer missing)
+answer_asked task inputs shared left old new bytes start end missing known is h =
+    let all = all_asked task inputs shared left new bytes missing (Appends start end) known is h in
     record { comes = inr (h.long, inl (record { is = sym all.0; written = all.1 })) }
 
-leaves_asked : {S : Type 0} (w g : ℕ) (s : Ghosts S) (number : Option ℕ) (style : Style) (inputs : List (Option (List ℕ))) (shared : List ℕ) (left : InputsLeft) (old new : S) (bytes : List ℕ) (start end : Option (List ℕ)) (result : Result Unit Fault) → Known inputs shared left → s.image new bytes → s.failures new ≡ 0
-    → LookupsLeave w g s number style left old new start end result → LooksOrShort w s (records_asked w g number style inputs shared bytes) old new start end result
-leaves_asked w g s number style inputs shared left old new bytes start end (Ok done) known is works h = answer_asked w g s number style inputs shared left old new bytes start end false known is (h.all false refl)
-leaves_asked w g s number style inputs shared left old new bytes start end (Err Missing) known is works h = answer_asked w g s number style inputs shared left old new bytes start end true known is (h.all true refl)
-leaves_asked w g s number style inputs shared left old new bytes start end (Err (Read read.Short)) known is works h = record { comes = inl (refl, h.fails (Read read.Short) refl (λ e. cc)) }
-leaves_asked w g s number style inputs shared left old new bytes start end (Err Output) known is works h = unwritten_asked w g s number style inputs shared left old new bytes start end known is works (h.fails Output refl (λ e. cc))
-leaves_asked w g s number style inputs shared left old new bytes start end (Err (Read (read.Table n))) known is works h = fault_asked w g s number style inputs shared left old new bytes start end _ known is works (h.fails _ refl (λ e. cc))
-leaves_asked w g s number style inputs shared left old new bytes start end (Err (Read (read.Record place))) known is works h = fault_asked w g s number style inputs shared left old new bytes start end _ known is works (h.fails _ refl (λ e. cc))
-leaves_asked w g s number style inputs shared left old new bytes start end (Err (Read (read.Slot n i))) known is works h = fault_asked w g s number style inputs shared left old new bytes start end _ known is works (h.fails _ refl (λ e. cc))
-leaves_asked w g s number style inputs shared left old new bytes start end (Err (Read (read.Twice place))) known is works h = fault_asked w g s number style inputs shared left old new bytes start end _ known is works (h.fails _ refl (λ e. cc))
-leaves_asked w g s number style inputs shared left old new bytes start end (Err (Read (read.Unindexed place))) known is works h = fault_asked w g s number style inputs shared left old new bytes start end _ known is works (h.fails _ refl (λ e. cc))
-leaves_asked w g s number style inputs shared left old new bytes start end (Err (Read read.Device)) known is works h = fault_asked w g s number style inputs shared left old new bytes start end _ known is works (h.fails _ refl (λ e. cc))
-leaves_asked w g s number style inputs shared left old new bytes start end (Err (Read read.NoMemory)) known is works h = fault_asked w g s number style inputs shared left old new bytes start end _ known is works (h.fails _ refl (λ e. cc))
-leaves_asked w g s number style inputs shared left old new bytes start end (Err (Read read.Output)) known is works h = fault_asked w g s number style inputs shared left old new bytes start end _ known is works (h.fails _ refl (λ e. cc))
-leaves_asked w g s number style inputs shared left old new bytes start end (Err (Text n f)) known is works h = fault_asked w g s number style inputs shared left old new bytes start end _ known is works (h.fails _ refl (λ e. cc))
-leaves_asked w g s number style inputs shared left old new bytes start end (Err (Make f)) known is works h = fault_asked w g s number style inputs shared left old new bytes start end _ known is works (h.fails _ refl (λ e. cc))
-leaves_asked w g s number style inputs shared left old new bytes start end (Err Duplicate) known is works h = fault_asked w g s number style inputs shared left old new bytes start end _ known is works (h.fails _ refl (λ e. cc))
-leaves_asked w g s number style inputs shared left old new bytes start end (Err (Walk f)) known is works h = fault_asked w g s number style inputs shared left old new bytes start end _ known is works (h.fails _ refl (λ e. cc))
-leaves_asked w g s number style inputs shared left old new bytes start end (Err Long) known is works h = fault_asked w g s number style inputs shared left old new bytes start end _ known is works (h.fails _ refl (λ e. cc))
-leaves_asked w g s number style inputs shared left old new bytes start end (Err Open) known is works h = fault_asked w g s number style inputs shared left old new bytes start end _ known is works (h.fails _ refl (λ e. cc))
-leaves_asked w g s number style inputs shared left old new bytes start end (Err Rename) known is works h = fault_asked w g s number style inputs shared left old new bytes start end _ known is works (h.fails _ refl (λ e. cc))
-leaves_asked w g s number style inputs shared left old new bytes start end (Err NoMemory) known is works h = fault_asked w g s number style inputs shared left old new bytes start end _ known is works (h.fails _ refl (λ e. cc))
-leaves_asked w g s number style inputs shared left old new bytes start end (Err (Old side)) known is works h = fault_asked w g s number style inputs shared left old new bytes start end _ known is works (h.fails _ refl (λ e. cc))
-leaves_asked w g s number style inputs shared left old new bytes start end (Err (New side)) known is works h = fault_asked w g s number style inputs shared left old new bytes start end _ known is works (h.fails _ refl (λ e. cc))
-leaves_asked w g s number style inputs shared left old new bytes start end (Err NoOldTables) known is works h = fault_asked w g s number style inputs shared left old new bytes start end _ known is works (h.fails _ refl (λ e. cc))
-leaves_asked w g s number style inputs shared left old new bytes start end (Err NoNewTables) known is works h = fault_asked w g s number style inputs shared left old new bytes start end _ known is works (h.fails _ refl (λ e. cc))
-leaves_asked w g s number style inputs shared left old new bytes start end (Err NoBaseTables) known is works h = fault_asked w g s number style inputs shared left old new bytes start end _ known is works (h.fails _ refl (λ e. cc))
+leaves_asked : {S : Type 0} (task : LookupTask S) (inputs : List (Option (List ℕ))) (shared : List ℕ) (left : InputsLeft) (old new : S) (bytes : List ℕ) (start end : Option (List ℕ)) (result : Result Unit Fault) → Known inputs shared left → task.store.image new bytes → task.store.failures new ≡ 0
+    → LookupsLeave task left old new start end result → LooksOrShort task.word task.store (records_asked task.word task.greatest task.options inputs shared bytes) old new start end result
+leaves_asked task inputs shared left old new bytes start end (Ok done) known is works h = answer_asked task inputs shared left old new bytes start end false known is (h.all false refl)
+leaves_asked task inputs shared left old new bytes start end (Err Missing) known is works h = answer_asked task inputs shared left old new bytes start end true known is (h.all true refl)
+leaves_asked task inputs shared left old new bytes start end (Err (Read read.Short)) known is works h = record { comes = inl (refl, h.fails (Read read.Short) refl (λ e. cc)) }
+leaves_asked task inputs shared left old new bytes start end (Err Output) known is works h = unwritten_asked task inputs shared left old new bytes start end known is works (h.fails Output refl (λ e. cc))
+leaves_asked task inputs shared left old new bytes start end (Err (Read (read.Table n))) known is works h = fault_asked task inputs shared left old new bytes start end _ known is works (h.fails _ refl (λ e. cc))
+leaves_asked task inputs shared left old new bytes start end (Err (Read (read.Record place))) known is works h = fault_asked task inputs shared left old new bytes start end _ known is works (h.fails _ refl (λ e. cc))
+leaves_asked task inputs shared left old new bytes start end (Err (Read (read.Slot n i))) known is works h = fault_asked task inputs shared left old new bytes start end _ known is works (h.fails _ refl (λ e. cc))
+leaves_asked task inputs shared left old new bytes start end (Err (Read (read.Twice place))) known is works h = fault_asked task inputs shared left old new bytes start end _ known is works (h.fails _ refl (λ e. cc))
+leaves_asked task inputs shared left old new bytes start end (Err (Read (read.Unindexed place))) known is works h = fault_asked task inputs shared left old new bytes start end _ known is works (h.fails _ refl (λ e. cc))
+leaves_asked task inputs shared left old new bytes start end (Err (Read read.Device)) known is works h = fault_asked task inputs shared left old new bytes start end _ known is works (h.fails _ refl (λ e. cc))
+leaves_asked task inputs shared left old new bytes start end (Err (Read read.NoMemory)) known is works h = fault_asked task inputs shared left old new bytes start end _ known is works (h.fails _ refl (λ e. cc))
+leaves_asked task inputs shared left old new bytes start end (Err (Read read.Output)) known is works h = fault_asked task inputs shared left old new bytes start end _ known is works (h.fails _ refl (λ e. cc))
+leaves_asked task inputs shared left old new bytes start end (Err (Text n f)) known is works h = fault_asked task inputs shared left old new bytes start end _ known is works (h.fails _ refl (λ e. cc))
+leaves_asked task inputs shared left old new bytes start end (Err (Make f)) known is works h = fault_asked task inputs shared left old new bytes start end _ known is works (h.fails _ refl (λ e. cc))
+leaves_asked task inputs shared left old new bytes start end (Err Duplicate) known is works h = fault_asked task inputs shared left old new bytes start end _ known is works (h.fails _ refl (λ e. cc))
+leaves_asked task inputs shared left old new bytes start end (Err (Walk f)) known is works h = fault_asked task inputs shared left old new bytes start end _ known is works (h.fails _ refl (λ e. cc))
+leaves_asked task inputs shared left old new bytes start end (Err Long) known is works h = fault_asked task inputs shared left old new bytes start end _ known is works (h.fails _ refl (λ e. cc))
+leaves_asked task inputs shared left old new bytes start end (Err Open) known is works h = fault_asked task inputs shared left old new bytes start end _ known is works (h.fails _ refl (λ e. cc))
+leaves_asked task inputs shared left old new bytes start end (Err Rename) known is works h = fault_asked task inputs shared left old new bytes start end _ known is works (h.fails _ refl (λ e. cc))
+leaves_asked task inputs shared left old new bytes start end (Err NoMemory) known is works h = fault_asked task inputs shared left old new bytes start end _ known is works (h.fails _ refl (λ e. cc))
+leaves_asked task inputs shared left old new bytes start end (Err (Old side)) known is works h = fault_asked task inputs shared left old new bytes start end _ known is works (h.fails _ refl (λ e. cc))
+leaves_asked task inputs shared left old new bytes start end (Err (New side)) known is works h = fault_asked task inputs shared left old new bytes start end _ known is works (h.fails _ refl (λ e. cc))
+leaves_asked task inputs shared left old new bytes start end (Err NoOldTables) known is works h = fault_asked task inputs shared left old new bytes start end _ known is works (h.fails _ refl (λ e. cc))
+leaves_asked task inputs shared left old new bytes start end (Err NoNewTables) known is works h = fault_asked task inputs shared left old new bytes start end _ known is works (h.fails _ refl (λ e. cc))
+leaves_asked task inputs shared left old new bytes start end (Err NoBaseTables) known is works h = fault_asked task inputs shared left old new bytes start end _ known is works (h.fails _ refl (λ e. cc))
 
 -- ---- its flush
 
@@ -294,7 +294,7 @@ flushed_or w s l old new start mid end answer result f h = elim h.comes [
   ]
 ]
 
-pub lookups_asked : {S : Type 0} (w g : ℕ) (s : Ghosts S) (number : Option ℕ) (style : Style) (inputs : List (Option (List ℕ))) (shared : List ℕ) (left : InputsLeft) (old new : S) (bytes : List ℕ) (start end : Option (List ℕ)) (result : Result Unit Fault) → Known inputs shared left → s.image new bytes → s.failures new ≡ 0
-    → LooksUp w g s number style left old new start end result → LooksOrShort w s (records_asked w g number style inputs shared bytes) old new start end result
-lookups_asked w g s number style inputs shared left old new bytes start end result known is works h =
-    flushed_or w s _ old new start h.mid end h.answer result h.flushed (leaves_asked w g s number style inputs shared left old new bytes start h.mid h.answer known is works h.leaves)
+pub lookups_asked : {S : Type 0} (task : LookupTask S) (inputs : List (Option (List ℕ))) (shared : List ℕ) (left : InputsLeft) (old new : S) (bytes : List ℕ) (start end : Option (List ℕ)) (result : Result Unit Fault) → Known inputs shared left → task.store.image new bytes → task.store.failures new ≡ 0
+    → LooksUp task left old new start end result → LooksOrShort task.word task.store (records_asked task.word task.greatest task.options inputs shared bytes) old new start end result
+lookups_asked task inputs shared left old new bytes start end result known is works h =
+    flushed_or task.word task.store _ old new start h.mid end h.answer result h.flushed (leaves_asked task inputs shared left old new bytes start h.mid h.answer known is works h.leaves)

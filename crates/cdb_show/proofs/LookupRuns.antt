@@ -1,5 +1,5 @@
 -- The keys that were looked up so far, and how their query ends.
-use Rattle.cdb_show.proofs.Words.{Appends, AppendsPrefix, BeginsWithItems, Bool, Change, Err, Fault, Feed, Ghosts, InputForm, KeyReader, List, Ok, OnlyReads, Option, Queries, Result, Style, TextFault, [], ap, append-nil, appends_none, appends_then, arith, false, flat_map-append, fold, form_of, head_size, keys_of, keys_of_each, prefix_last, query_answer, query_text, reader_of, refl, subst, sym, true, ℕ, ◌++◌, ◌∙◌, ◌∷◌, ◌≡◌, ◌≢◌, ◌≤◌}
+use Rattle.cdb_show.proofs.Words.{Appends, AppendsPrefix, BeginsWithItems, Bool, Change, Err, Fault, Feed, Ghosts, InputForm, KeyReader, List, LookupOptions, LookupTask, Ok, OnlyReads, Option, Queries, Result, TextFault, [], ap, append-nil, appends_none, appends_then, arith, false, flat_map-append, fold, form_of, head_size, keys_of, keys_of_each, prefix_last, query_answer, query_text, reader_of, refl, subst, sym, true, ℕ, ◌++◌, ◌∙◌, ◌∷◌, ◌≡◌, ◌≢◌, ◌≤◌}
 use Rattle.cdb_form.specs.Fed.Feed as fed
 use Rattle.cdb_form.specs.declared.text.fault.TextFault.TheVariants as text
 use Rattle.cdb_read.specs.declared.fault.ReadFault.TheVariants as read
@@ -25,99 +25,99 @@ next_answer l more now true e = rw e refl
 next_answer l more now false e = rw e refl
 
 -- the text with one key more, and its answer
-text_more : (w : ℕ) (b : List ℕ) (number : Option ℕ) (style : Style) (listed : List (List ℕ)) (key : List ℕ) (missing : Bool) → (looked_up w b number style listed).answer ≡ missing_answer missing
-    → (looked_up w b number style (listed ++ key ∷ [])).text ≡ (looked_up w b number style listed).text ++ query_text w b (key_query number style key)
-text_more w b number style listed key missing e = ap (λ (l : Looked). l.text) (pushed (with_key w b number style) _ listed key) ∙ next_text _ _ _ missing e
+text_more : (w : ℕ) (b : List ℕ) (o : LookupOptions) (listed : List (List ℕ)) (key : List ℕ) (missing : Bool) → (looked_up w b o listed).answer ≡ missing_answer missing
+    → (looked_up w b o (listed ++ key ∷ [])).text ≡ (looked_up w b o listed).text ++ query_text w b (key_query o key)
+text_more w b o listed key missing e = ap (λ (l : Looked). l.text) (pushed (with_key w b o) _ listed key) ∙ next_text _ _ _ missing e
 
-answer_more : (w : ℕ) (b : List ℕ) (number : Option ℕ) (style : Style) (listed : List (List ℕ)) (key : List ℕ) (missing : Bool) → (looked_up w b number style listed).answer ≡ missing_answer missing
-    → (looked_up w b number style (listed ++ key ∷ [])).answer ≡ joined (missing_answer missing) (query_answer w b (key_query number style key))
-answer_more w b number style listed key missing e = ap (λ (l : Looked). l.answer) (pushed (with_key w b number style) _ listed key) ∙ next_answer _ _ _ missing e
+answer_more : (w : ℕ) (b : List ℕ) (o : LookupOptions) (listed : List (List ℕ)) (key : List ℕ) (missing : Bool) → (looked_up w b o listed).answer ≡ missing_answer missing
+    → (looked_up w b o (listed ++ key ∷ [])).answer ≡ joined (missing_answer missing) (query_answer w b (key_query o key))
+answer_more w b o listed key missing e = ap (λ (l : Looked). l.answer) (pushed (with_key w b o) _ listed key) ∙ next_answer _ _ _ missing e
 
-comes_more : {S : Type 0} (w : ℕ) (s : Ghosts S) (number : Option ℕ) (style : Style) (listed : List (List ℕ)) (key : List ℕ) (old new : S) (start mid now : Option (List ℕ)) (missing : Bool) (answer : Result Unit Fault) → HasLooked w s number style listed old start mid missing → OnlyReads s old new
-    → ((b : List ℕ) → s.image new b → answer ≡ query_answer w b (key_query number style key)) → ((b : List ℕ) → s.image new b → Appends mid now (query_text w b (key_query number style key)))
-    → ComesTo w s number style (listed ++ key ∷ []) new start now (joined (missing_answer missing) answer)
-comes_more w s number style listed key old new start mid now missing answer h reads answered written = record {
+comes_more : {S : Type 0} (task : LookupTask S) (listed : List (List ℕ)) (key : List ℕ) (old new : S) (start mid now : Option (List ℕ)) (missing : Bool) (answer : Result Unit Fault) → HasLooked task listed old start mid missing → OnlyReads task.store old new
+    → ((b : List ℕ) → task.store.image new b → answer ≡ query_answer task.word b (key_query task.options key)) → ((b : List ℕ) → task.store.image new b → Appends mid now (query_text task.word b (key_query task.options key)))
+    → ComesTo task (listed ++ key ∷ []) new start now (joined (missing_answer missing) answer)
+comes_more task listed key old new start mid now missing answer h reads answered written = record {
   long = let long = h.long in let size = reads.size in omega (arith, long, size);
-  answered = λ b is. answer_more w b number style listed key missing (h.answered b (reads.images b is)) ∙ ap (joined (missing_answer missing)) (sym (answered b is));
-  written = λ b is. subst (Appends start now) (sym (text_more w b number style listed key missing (h.answered b (reads.images b is)))) (appends_then start mid now _ _ (h.written b (reads.images b is)) (written b is));
+  answered = λ b is. answer_more task.word b task.options listed key missing (h.answered b (reads.images b is)) ∙ ap (joined (missing_answer missing)) (sym (answered b is));
+  written = λ b is. subst (Appends start now) (sym (text_more task.word b task.options listed key missing (h.answered b (reads.images b is)))) (appends_then start mid now _ _ (h.written b (reads.images b is)) (written b is));
 }
 
-pub found_more : {S : Type 0} (w : ℕ) (s : Ghosts S) (number : Option ℕ) (style : Style) (listed : List (List ℕ)) (key : List ℕ) (old new : S) (start mid now : Option (List ℕ)) (missing : Bool) → HasLooked w s number style listed old start mid missing
-    → Queries w s (key_query number style key) old new mid now (Ok tt) → HasLooked w s number style (listed ++ key ∷ []) new start now missing
-found_more w s number style listed key old new start mid now missing h q = comes_more w s number style listed key old new start mid now missing (Ok tt) h q.reads q.ok.answered q.ok.written
+pub found_more : {S : Type 0} (task : LookupTask S) (listed : List (List ℕ)) (key : List ℕ) (old new : S) (start mid now : Option (List ℕ)) (missing : Bool) → HasLooked task listed old start mid missing
+    → Queries task.word task.store (key_query task.options key) old new mid now (Ok tt) → HasLooked task (listed ++ key ∷ []) new start now missing
+found_more task listed key old new start mid now missing h q = comes_more task listed key old new start mid now missing (Ok tt) h q.reads q.ok.answered q.ok.written
 
-pub missing_more : {S : Type 0} (w : ℕ) (s : Ghosts S) (number : Option ℕ) (style : Style) (listed : List (List ℕ)) (key : List ℕ) (old new : S) (start mid now : Option (List ℕ)) (missing : Bool) → HasLooked w s number style listed old start mid missing
-    → Queries w s (key_query number style key) old new mid now (Err Missing) → HasLooked w s number style (listed ++ key ∷ []) new start now true
-missing_more w s number style listed key old new start mid now missing h q = comes_more w s number style listed key old new start mid now missing (Err Missing) h q.reads q.err.answered q.err.written
+pub missing_more : {S : Type 0} (task : LookupTask S) (listed : List (List ℕ)) (key : List ℕ) (old new : S) (start mid now : Option (List ℕ)) (missing : Bool) → HasLooked task listed old start mid missing
+    → Queries task.word task.store (key_query task.options key) old new mid now (Err Missing) → HasLooked task (listed ++ key ∷ []) new start now true
+missing_more task listed key old new start mid now missing h q = comes_more task listed key old new start mid now missing (Err Missing) h q.reads q.err.answered q.err.written
 
 -- a prefix of the text of the last key
-prefix_more : {S : Type 0} (w : ℕ) (s : Ghosts S) (number : Option ℕ) (style : Style) (listed : List (List ℕ)) (key : List ℕ) (old new : S) (start mid now : Option (List ℕ)) (missing : Bool) → HasLooked w s number style listed old start mid missing → OnlyReads s old new
-    → ((b : List ℕ) → s.image new b → AppendsPrefix mid now (query_text w b (key_query number style key)))
-    → (b : List ℕ) → s.image new b → AppendsPrefix start now (looked_up w b number style (listed ++ key ∷ [])).text
-prefix_more w s number style listed key old new start mid now missing h reads front b is =
-    let l = looked_up w b number style listed in
-    let q = query_text w b (key_query number style key) in
+prefix_more : {S : Type 0} (task : LookupTask S) (listed : List (List ℕ)) (key : List ℕ) (old new : S) (start mid now : Option (List ℕ)) (missing : Bool) → HasLooked task listed old start mid missing → OnlyReads task.store old new
+    → ((b : List ℕ) → task.store.image new b → AppendsPrefix mid now (query_text task.word b (key_query task.options key)))
+    → (b : List ℕ) → task.store.image new b → AppendsPrefix start now (looked_up task.word b task.options (listed ++ key ∷ [])).text
+prefix_more task listed key old new start mid now missing h reads front b is =
+    let l = looked_up task.word b task.options listed in
+    let q = query_text task.word b (key_query task.options key) in
     prefix_last start mid now l.text q _ (h.written b (reads.images b is)) (front b is)
-    (text_more w b number style listed key missing (h.answered b (reads.images b is)))
+    (text_more task.word b task.options listed key missing (h.answered b (reads.images b is)))
 
-pub stops_more : {S : Type 0} (w : ℕ) (s : Ghosts S) (number : Option ℕ) (style : Style) (listed : List (List ℕ)) (key : List ℕ) (old new : S) (start mid now : Option (List ℕ)) (missing : Bool) (f : Fault) → HasLooked w s number style listed old start mid missing
-    → head_size w ≤ s.size old → Queries w s (key_query number style key) old new mid now (Err f) → f ≢ Missing → LookupsStopAt w s number style (listed ++ key ∷ []) old new start now f
-stops_more w s number style listed key old new start mid now missing (Read (read.Table n)) h long q other = comes_more w s number style listed key old new start mid now missing _ h q.reads q.err.answered q.err.written
-stops_more w s number style listed key old new start mid now missing (Read (read.Record place)) h long q other = comes_more w s number style listed key old new start mid now missing _ h q.reads q.err.answered q.err.written
-stops_more w s number style listed key old new start mid now missing (Read read.Device) h long q other = (q.err.0, prefix_more w s number style listed key old new start mid now missing h q.reads q.err.1.written)
-stops_more w s number style listed key old new start mid now missing Output h long q other = (q.err.0, prefix_more w s number style listed key old new start mid now missing h q.reads q.err.1.written)
-stops_more w s number style listed key old new start mid now missing (Read read.Short) h long q other = let short = q.err.short in absurd (let no : ⊥ = omega (arith, long, short) in no)
-stops_more w s number style listed key old new start mid now missing Missing h long q other = absurd (other refl)
-stops_more w s number style listed key old new start mid now missing (Read (read.Slot n i)) h long q other = absurd q.err
-stops_more w s number style listed key old new start mid now missing (Read (read.Twice place)) h long q other = absurd q.err
-stops_more w s number style listed key old new start mid now missing (Read (read.Unindexed place)) h long q other = absurd q.err
-stops_more w s number style listed key old new start mid now missing (Read read.NoMemory) h long q other = absurd q.err
-stops_more w s number style listed key old new start mid now missing (Read read.Output) h long q other = absurd q.err
-stops_more w s number style listed key old new start mid now missing (Text n f) h long q other = absurd q.err
-stops_more w s number style listed key old new start mid now missing (Make f) h long q other = absurd q.err
-stops_more w s number style listed key old new start mid now missing Duplicate h long q other = absurd q.err
-stops_more w s number style listed key old new start mid now missing (Walk f) h long q other = absurd q.err
-stops_more w s number style listed key old new start mid now missing Long h long q other = absurd q.err
-stops_more w s number style listed key old new start mid now missing Open h long q other = absurd q.err
-stops_more w s number style listed key old new start mid now missing Rename h long q other = absurd q.err
-stops_more w s number style listed key old new start mid now missing NoOldTables h long q other = absurd q.err
-stops_more w s number style listed key old new start mid now missing NoNewTables h long q other = absurd q.err
-stops_more w s number style listed key old new start mid now missing NoBaseTables h long q other = absurd q.err
-stops_more w s number style listed key old new start mid now missing (Old side) h long q other = absurd q.err
-stops_more w s number style listed key old new start mid now missing (New side) h long q other = absurd q.err
-stops_more w s number style listed key old new start mid now missing NoMemory h long q other = absurd q.err
+pub stops_more : {S : Type 0} (task : LookupTask S) (listed : List (List ℕ)) (key : List ℕ) (old new : S) (start mid now : Option (List ℕ)) (missing : Bool) (f : Fault) → HasLooked task listed old start mid missing
+    → head_size task.word ≤ task.store.size old → Queries task.word task.store (key_query task.options key) old new mid now (Err f) → f ≢ Missing → LookupsStopAt task (listed ++ key ∷ []) old new start now f
+stops_more task listed key old new start mid now missing (Read (read.Table n)) h long q other = comes_more task listed key old new start mid now missing _ h q.reads q.err.answered q.err.written
+stops_more task listed key old new start mid now missing (Read (read.Record place)) h long q other = comes_more task listed key old new start mid now missing _ h q.reads q.err.answered q.err.written
+stops_more task listed key old new start mid now missing (Read read.Device) h long q other = (q.err.0, prefix_more task listed key old new start mid now missing h q.reads q.err.1.written)
+stops_more task listed key old new start mid now missing Output h long q other = (q.err.0, prefix_more task listed key old new start mid now missing h q.reads q.err.1.written)
+stops_more task listed key old new start mid now missing (Read read.Short) h long q other = let short = q.err.short in absurd (let no : ⊥ = omega (arith, long, short) in no)
+stops_more task listed key old new start mid now missing Missing h long q other = absurd (other refl)
+stops_more task listed key old new start mid now missing (Read (read.Slot n i)) h long q other = absurd q.err
+stops_more task listed key old new start mid now missing (Read (read.Twice place)) h long q other = absurd q.err
+stops_more task listed key old new start mid now missing (Read (read.Unindexed place)) h long q other = absurd q.err
+stops_more task listed key old new start mid now missing (Read read.NoMemory) h long q other = absurd q.err
+stops_more task listed key old new start mid now missing (Read read.Output) h long q other = absurd q.err
+stops_more task listed key old new start mid now missing (Text n f) h long q other = absurd q.err
+stops_more task listed key old new start mid now missing (Make f) h long q other = absurd q.err
+stops_more task listed key old new start mid now missing Duplicate h long q other = absurd q.err
+stops_more task listed key old new start mid now missing (Walk f) h long q other = absurd q.err
+stops_more task listed key old new start mid now missing Long h long q other = absurd q.err
+stops_more task listed key old new start mid now missing Open h long q other = absurd q.err
+stops_more task listed key old new start mid now missing Rename h long q other = absurd q.err
+stops_more task listed key old new start mid now missing NoOldTables h long q other = absurd q.err
+stops_more task listed key old new start mid now missing NoNewTables h long q other = absurd q.err
+stops_more task listed key old new start mid now missing NoBaseTables h long q other = absurd q.err
+stops_more task listed key old new start mid now missing (Old side) h long q other = absurd q.err
+stops_more task listed key old new start mid now missing (New side) h long q other = absurd q.err
+stops_more task listed key old new start mid now missing NoMemory h long q other = absurd q.err
 
 -- ---- nothing yet
 
-pub looked_none : {S : Type 0} (w : ℕ) (s : Ghosts S) (number : Option ℕ) (style : Style) (store : S) (start : Option (List ℕ)) → head_size w ≤ s.size store → HasLooked w s number style [] store start start false
-looked_none w s number style store start long = record { long = long; answered = λ b is. refl; written = λ b is. appends_none start }
+pub looked_none : {S : Type 0} (task : LookupTask S) (store : S) (start : Option (List ℕ)) → head_size task.word ≤ task.store.size store → HasLooked task [] store start start false
+looked_none task store start long = record { long = long; answered = λ b is. refl; written = λ b is. appends_none start }
 
 -- it stopped later in the reading of the same store
-pub stops_later : {S : Type 0} (w : ℕ) (s : Ghosts S) (number : Option ℕ) (style : Style) (listed : List (List ℕ)) (old mid new : S) (start now : Option (List ℕ)) (f : Fault) → OnlyReads s old mid → LookupsStopAt w s number style listed mid new start now f → LookupsStopAt w s number style listed old new start now f
-stops_later w s number style listed old mid new start now (Read (read.Table n)) reads h = h
-stops_later w s number style listed old mid new start now (Read (read.Record place)) reads h = h
-stops_later w s number style listed old mid new start now (Read read.Device) reads h = (let k = reads.failures in omega (arith, k, h.0), h.1)
-stops_later w s number style listed old mid new start now Output reads h = h
-stops_later w s number style listed old mid new start now (Text n f) reads h = h
-stops_later w s number style listed old mid new start now NoMemory reads h = h
-stops_later w s number style listed old mid new start now (Read read.Short) reads h = absurd h
-stops_later w s number style listed old mid new start now Missing reads h = absurd h
-stops_later w s number style listed old mid new start now (Read (read.Slot n i)) reads h = absurd h
-stops_later w s number style listed old mid new start now (Read (read.Twice place)) reads h = absurd h
-stops_later w s number style listed old mid new start now (Read (read.Unindexed place)) reads h = absurd h
-stops_later w s number style listed old mid new start now (Read read.NoMemory) reads h = absurd h
-stops_later w s number style listed old mid new start now (Read read.Output) reads h = absurd h
-stops_later w s number style listed old mid new start now (Make f) reads h = absurd h
-stops_later w s number style listed old mid new start now Duplicate reads h = absurd h
-stops_later w s number style listed old mid new start now (Walk f) reads h = absurd h
-stops_later w s number style listed old mid new start now Long reads h = absurd h
-stops_later w s number style listed old mid new start now Open reads h = absurd h
-stops_later w s number style listed old mid new start now Rename reads h = absurd h
-stops_later w s number style listed old mid new start now NoOldTables reads h = absurd h
-stops_later w s number style listed old mid new start now NoNewTables reads h = absurd h
-stops_later w s number style listed old mid new start now NoBaseTables reads h = absurd h
-stops_later w s number style listed old mid new start now (Old side) reads h = absurd h
-stops_later w s number style listed old mid new start now (New side) reads h = absurd h
+pub stops_later : {S : Type 0} (task : LookupTask S) (listed : List (List ℕ)) (old mid new : S) (start now : Option (List ℕ)) (f : Fault) → OnlyReads task.store old mid → LookupsStopAt task listed mid new start now f → LookupsStopAt task listed old new start now f
+stops_later task listed old mid new start now (Read (read.Table n)) reads h = h
+stops_later task listed old mid new start now (Read (read.Record place)) reads h = h
+stops_later task listed old mid new start now (Read read.Device) reads h = (let k = reads.failures in omega (arith, k, h.0), h.1)
+stops_later task listed old mid new start now Output reads h = h
+stops_later task listed old mid new start now (Text n f) reads h = h
+stops_later task listed old mid new start now NoMemory reads h = h
+stops_later task listed old mid new start now (Read read.Short) reads h = absurd h
+stops_later task listed old mid new start now Missing reads h = absurd h
+stops_later task listed old mid new start now (Read (read.Slot n i)) reads h = absurd h
+stops_later task listed old mid new start now (Read (read.Twice place)) reads h = absurd h
+stops_later task listed old mid new start now (Read (read.Unindexed place)) reads h = absurd h
+stops_later task listed old mid new start now (Read read.NoMemory) reads h = absurd h
+stops_later task listed old mid new start now (Read read.Output) reads h = absurd h
+stops_later task listed old mid new start now (Make f) reads h = absurd h
+stops_later task listed old mid new start now Duplicate reads h = absurd h
+stops_later task listed old mid new start now (Walk f) reads h = absurd h
+stops_later task listed old mid new start now Long reads h = absurd h
+stops_later task listed old mid new start now Open reads h = absurd h
+stops_later task listed old mid new start now Rename reads h = absurd h
+stops_later task listed old mid new start now NoOldTables reads h = absurd h
+stops_later task listed old mid new start now NoNewTables reads h = absurd h
+stops_later task listed old mid new start now NoBaseTables reads h = absurd h
+stops_later task listed old mid new start now (Old side) reads h = absurd h
+stops_later task listed old mid new start now (New side) reads h = absurd h
 
 -- ---- a fault of an input
 
@@ -134,13 +134,13 @@ same_text n i text.Input g e = record { input = cc; fault = cc; other = λ h. cc
 same_text n i text.Endless g e = record { input = cc; fault = cc; other = λ h. cc }
 same_text n i text.NoMemory g e = absurd (let no : ⊥ = cc in no)
 
-pub stops_text : {S : Type 0} (w : ℕ) (s : Ghosts S) (number : Option ℕ) (style : Style) (listed : List (List ℕ)) (old new : S) (start now : Option (List ℕ)) (missing : Bool) (n : ℕ) (f : TextFault) → HasLooked w s number style listed new start now missing → LookupsStopAt w s number style listed old new start now (text_fault n f)
-stops_text w s number style listed old new start now missing n (text.Syntax at) h = (missing, h)
-stops_text w s number style listed old new start now missing n (text.Ended at) h = (missing, h)
-stops_text w s number style listed old new start now missing n (text.Large at) h = (missing, h)
-stops_text w s number style listed old new start now missing n text.Input h = (missing, h)
-stops_text w s number style listed old new start now missing n text.Endless h = (missing, h)
-stops_text w s number style listed old new start now missing n text.NoMemory h = (missing, h)
+pub stops_text : {S : Type 0} (task : LookupTask S) (listed : List (List ℕ)) (old new : S) (start now : Option (List ℕ)) (missing : Bool) (n : ℕ) (f : TextFault) → HasLooked task listed new start now missing → LookupsStopAt task listed old new start now (text_fault n f)
+stops_text task listed old new start now missing n (text.Syntax at) h = (missing, h)
+stops_text task listed old new start now missing n (text.Ended at) h = (missing, h)
+stops_text task listed old new start now missing n (text.Large at) h = (missing, h)
+stops_text task listed old new start now missing n text.Input h = (missing, h)
+stops_text task listed old new start now missing n text.Endless h = (missing, h)
+stops_text task listed old new start now missing n text.NoMemory h = (missing, h)
 
 pub text_stops : {F L : Type 0} (g : ℕ) (feed : F → Feed) (n : ℕ) (start : Feed) (t u : KeyReader F L) (form : InputForm) (last : List Change) (f : TextFault) → ((it : F) (whole a b : List ℕ) → (feed it).may whole a → (feed it).may whole b → a ≡ b)
     → form_of t ≡ form → GaveKeys g feed start t last → views.Fails g feed t u f → StopsBehind form g n last start (feed (reader_of u)) (text_fault n f)
@@ -169,11 +169,11 @@ key_stops w g s q n form last start end old new mid now f begins query = record 
 }
 
 -- after the keys up to the last one
-pub key_stops_at : {S : Type 0} (w : ℕ) (s : Ghosts S) (number : Option ℕ) (style : Style) (before listed : List (List ℕ)) (key : List ℕ) (last : List Change) (first old new : S) (start mid now : Option (List ℕ)) (missing : Bool) (f : Fault)
-    → listed ++ key ∷ [] ≡ before ++ keys_of last → HasLooked w s number style listed old start mid missing → OnlyReads s first old → head_size w ≤ s.size old → Queries w s (key_query number style key) old new mid now (Err f) → f ≢ Missing
-    → LookupsStopAt w s number style (before ++ keys_of last) first new start now f
-key_stops_at w s number style before listed key last first old new start mid now missing f same h reads long q other =
-    subst (λ k. LookupsStopAt w s number style k first new start now f) same (stops_later w s number style _ first old new start now f reads (stops_more w s number style listed key old new start mid now missing f h long q other))
+pub key_stops_at : {S : Type 0} (task : LookupTask S) (before listed : List (List ℕ)) (key : List ℕ) (last : List Change) (first old new : S) (start mid now : Option (List ℕ)) (missing : Bool) (f : Fault)
+    → listed ++ key ∷ [] ≡ before ++ keys_of last → HasLooked task listed old start mid missing → OnlyReads task.store first old → head_size task.word ≤ task.store.size old → Queries task.word task.store (key_query task.options key) old new mid now (Err f) → f ≢ Missing
+    → LookupsStopAt task (before ++ keys_of last) first new start now f
+key_stops_at task before listed key last first old new start mid now missing f same h reads long q other =
+    subst (λ k. LookupsStopAt task k first new start now f) same (stops_later task _ first old new start now f reads (stops_more task listed key old new start mid now missing f h long q other))
 
 -- ---- one input more
 

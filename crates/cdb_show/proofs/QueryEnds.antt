@@ -2,22 +2,16 @@
 use Rattle.cdb_show.proofs.Words.{Err, Fault, Flushed, Ghosts, IsOk, Keeps, List, Ok, OnlyReads, OpeningFails, Option, Queries, Query, QueryAnswers, QueryFails, ReadFault, Result, WritesQueryPrefix, appends_kept, appends_none, inl, inr, query_text, read_fault, reads_none, subst, sym, ℕ}
 use Rattle.cdb_read.specs.declared.fault.ReadFault.TheVariants as read
 use Rattle.cdb_show.specs.declared.fault.Fault.TheVariants.{Text, Make, Duplicate, Missing, Read, Walk, Output, Long, Open, Rename, NoMemory, Old, New, NoOldTables, NoNewTables, NoBaseTables}
+use Rattle.cdb_show.proofs.Openings.{unopened_by}
 use Rattle.cdb_show.proofs.Queries.{none_prefix}
 use Rattle.cdb_show.proofs.Writers.{keeps_self, keeps_then, prefix_kept, whole_prefix, not_ok}
 
 -- ---- the store was not opened
 
 pub opening_fails : {S : Type 0} (w : ℕ) (s : Ghosts S) (q : Query) (old new : S) (start : Option (List ℕ)) (f : ReadFault) → OpeningFails w s old new f → Queries w s q old new start start (Err (read_fault f))
-opening_fails w s q old new start read.Short h =
-    record { reads = subst (OnlyReads s old) (sym h.1) (reads_none s old); ok = tt; err = record { short = h.0; unread = h.1; kept = keeps_self start } }
-opening_fails w s q old new start read.Device h = record { reads = h.0; ok = tt; err = (h.1, record { written = λ b is. none_prefix start start _ (appends_none start) }) }
-opening_fails w s q old new start (read.Table n) h = absurd h
-opening_fails w s q old new start (read.Record place) h = absurd h
-opening_fails w s q old new start (read.Slot n i) h = absurd h
-opening_fails w s q old new start (read.Twice place) h = absurd h
-opening_fails w s q old new start (read.Unindexed place) h = absurd h
-opening_fails w s q old new start read.NoMemory h = absurd h
-opening_fails w s q old new start read.Output h = absurd h
+opening_fails w s q old new start f h = unopened_by w s old new (λ f. Queries w s q old new start start (Err (read_fault f)))
+    (λ short same. record { reads = subst (OnlyReads s old) (sym same) (reads_none s old); ok = tt; err = record { short = short; unread = same; kept = keeps_self start } })
+    (λ reads failed. record { reads = reads; ok = tt; err = (failed, record { written = λ b is. none_prefix start start _ (appends_none start) }) }) f h
 
 -- ---- the flush
 

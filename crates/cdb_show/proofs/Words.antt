@@ -34,13 +34,13 @@ pub use Rattle.cdb_read.specs.Views.Reads.{OpeningFails}
 pub use Rattle.cdb_read.specs.declared.fault.ReadFault.{ReadFault}
 pub use Rattle.cdb_show.specs.Lines.{newlines}
 pub use Rattle.cdb_show.specs.Message.{duplicate_line, numbered}
-pub use Rattle.cdb_show.specs.Runs.FedLookups.{StopsFurther}
 pub use Rattle.cdb_show.specs.Runs.Flushed.{Flushed}
 pub use Rattle.cdb_show.specs.Runs.Form.{Form, end_of}
 pub use Rattle.cdb_show.specs.Runs.Given.{Given, given_from}
 pub use Rattle.cdb_show.specs.Runs.Incoming.{Incoming, Known, came, from_input, from_inputs, one_input}
 pub use Rattle.cdb_show.specs.Runs.Inputs.{AreAllInputs, AreInputs, BeginsWithItems, FirstBegins, FirstHas, HasFaultBehind, HasFaults, HasInputFault, HasItemFault, InputForm, InputsBeginWith, InputsLeft, IsInput, IsInputOf, OneBegins, OneInput, Puts, ReadsOne, bytes_of, key_of, keys_form, keys_of, keys_of_each}
 pub use Rattle.cdb_show.specs.Runs.LookedUp.{looked_up}
+pub use Rattle.cdb_show.specs.Runs.LookupTask.{LookupState, LookupTask, lookup_state}
 pub use Rattle.cdb_show.specs.Runs.Lookups.{FaultBehind, HasLooked, LooksUp, LooksUpAll, LookupsFail, LookupsStop, LookupsStopAt, StopsBehind, missing_answer}
 pub use Rattle.cdb_show.specs.Runs.Parsing.{StopsIn, fault_in, stop_of, stopped_parsing}
 pub use Rattle.cdb_show.specs.Runs.Query.{Queries, Query, QueryAnswers, QueryFails, WritesQueryPrefix, query_answer, query_text}
@@ -56,6 +56,7 @@ pub use Rattle.cdb_show.specs.declared.fault.Fault.{Fault}
 pub use Rattle.cdb_show.specs.declared.inputs.Inputs.{Inputs}
 pub use Rattle.cdb_show.specs.declared.inputs.SharedWindow.{SharedWindow}
 pub use Rattle.cdb_show.specs.declared.runs.key_reader.KeyReader.{KeyReader}
+pub use Rattle.cdb_show.specs.declared.runs.lookup_options.LookupOptions.{LookupOptions}
 pub use Rattle.cdb_store.proofs.Reading.{reads_more}
 pub use Rattle.cdb_store.specs.Reads.{OnlyReads}
 pub use Rattle.cdb_store.specs.declared.store.Store.{Ghosts}

@@ -10,6 +10,7 @@ pub mod FedText
 pub mod Load
 pub mod FedLoad
 pub mod Query
+pub mod LookupTask
 pub mod LookedUp
 pub mod Lookups
 pub mod FedLookups

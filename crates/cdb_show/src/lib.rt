@@ -32,6 +32,7 @@ pub use runs::difference::difference_run;
 pub use runs::flushed::flushed;
 pub use runs::item_reader::ItemReader;
 pub use runs::load::{load, load_fed, load_from};
+pub use runs::lookup_options::LookupOptions;
 pub use runs::lookups_of_inputs::lookups_run;
 pub use runs::query::{query_from, query_run};
 pub use runs::shown::Shown;

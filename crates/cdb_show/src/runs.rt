@@ -6,6 +6,7 @@ pub mod flushed;
 pub mod item_reader;
 mod key_reader;
 pub mod load;
+pub mod lookup_options;
 pub mod lookups;
 pub mod lookups_of_inputs;
 pub mod query;

@@ -18,6 +18,33 @@ use Rattle.cdb_show.specs.declared.fault.Fault.{Fault}
 use Rattle.cdb_show.specs.declared.fault.Fault.TheVariants.{Old, New, Output, NoMemory}
 use Rattle.cdb_show.specs.declared.fault.Fault.TheVariants.{NoOldTables, NoNewTables}
 
+-- ---- what is compared
+
+-- how many bytes a word has, and what is known of such stores
+pub record DifferenceTask (S T : Type 0) : Type 1 where
+  pub word : ℕ
+  pub old : Ghosts S
+  pub new : Ghosts T
+
+abbrev pub difference_task : {S T : Type 0} → (word : ℕ) → Ghosts S → Ghosts T → DifferenceTask S T
+difference_task word old new = record { word = word; old = old; new = new }
+
+-- both stores, and what was written, before a run or after it
+pub record DifferenceState (S T : Type 0) : Type 0 where
+  pub old : S
+  pub new : T
+  pub output : Option (List ℕ)
+
+abbrev pub difference_state : {S T : Type 0} → S → T → (output : Option (List ℕ)) → DifferenceState S T
+difference_state old new output = record { old = old; new = new; output = output }
+
+-- the other way round
+abbrev pub turned : {S T : Type 0} → DifferenceTask S T → DifferenceTask T S
+turned d = difference_task d.word d.new d.old
+
+abbrev pub turned_state : {S T : Type 0} → DifferenceState S T → DifferenceState T S
+turned_state state = difference_state state.new state.old state.output
+
 -- ---- what the heads of two files say
 
 -- why they are not compared: one is shorter than its head, or has no table with slots though bytes
@@ -80,22 +107,22 @@ pub record IsShortForDifference {S : Type 0} (w : ℕ) (s : Ghosts S) (old new :
   pub unread : new ≡ old
   pub kept : Keeps start end
 
--- the first table outside of the first of two files has this number, and nothing was written
-abbrev pub IsOutsideForDifference : {S T : Type 0} → ℕ → Ghosts S → Ghosts T → (now : S)
-    → (beside : T) → ℕ → (start end : Option (List ℕ)) → Type 0
-IsOutsideForDifference w s t now beside n start end =
-    InBoth s t now beside (λ b c. (outside_table w b ≡ Some n) × Keeps start end)
+-- the first table outside of the old one of two files has this number, and nothing was written
+abbrev pub IsOutsideForDifference : {S T : Type 0} → DifferenceTask S T
+    → (before after : DifferenceState S T) → ℕ → Type 0
+IsOutsideForDifference d before after n = InBoth d.old d.new after.old after.new
+    (λ b c. (outside_table d.word b ≡ Some n) × Keeps before.output after.output)
 
--- why one of the two was not read
-abbrev pub DifferenceNotRead : {S T : Type 0} → ℕ → Ghosts S → Ghosts T → (old new : S) → (beside : T)
-    → (start end : Option (List ℕ)) → ReadFault → Type 0
-DifferenceNotRead w s t old new beside start end read.Short = IsShortForDifference w s old new start end
-DifferenceNotRead w s t old new beside start end read.Device = s.failures old < s.failures new
-DifferenceNotRead w s t old new beside start end (read.Table n) =
-    IsOutsideForDifference w s t new beside n start end
-DifferenceNotRead w s t old new beside start end (read.Record place) =
-    IsOneDamaged w s t new beside (damage.Record place)
-DifferenceNotRead w s t old new beside start end fault = ⊥
+-- why the old one of the two was not read
+abbrev pub DifferenceNotRead : {S T : Type 0} → DifferenceTask S T
+    → (before after : DifferenceState S T) → ReadFault → Type 0
+DifferenceNotRead d before after read.Short =
+    IsShortForDifference d.word d.old before.old after.old before.output after.output
+DifferenceNotRead d before after read.Device = d.old.failures before.old < d.old.failures after.old
+DifferenceNotRead d before after (read.Table n) = IsOutsideForDifference d before after n
+DifferenceNotRead d before after (read.Record place) =
+    IsOneDamaged d.word d.old d.new after.old after.new (damage.Record place)
+DifferenceNotRead d before after fault = ⊥
 
 -- one of the two lacks tables, and nothing was written
 pub record LacksTables {S : Type 0} (w : ℕ) (s : Ghosts S) (now : S) (start end : Option (List ℕ))
@@ -103,28 +130,30 @@ pub record LacksTables {S : Type 0} (w : ℕ) (s : Ghosts S) (now : S) (start en
   pub lacks : DifferenceLacks w s now true
   pub kept : Keeps start end
 
-abbrev pub DifferenceFails : {S T : Type 0} → ℕ → Ghosts S → Ghosts T → (old old_now : S)
-    → (new new_now : T) → (start end : Option (List ℕ)) → Fault → Type 0
-DifferenceFails w s t old old_now new new_now start end (Old fault) =
-    DifferenceNotRead w s t old old_now new_now start end fault
-DifferenceFails w s t old old_now new new_now start end (New fault) =
-    DifferenceNotRead w t s new new_now old_now start end fault
-DifferenceFails w s t old old_now new new_now start end Output = ⊤
-DifferenceFails w s t old old_now new new_now start end NoMemory = ⊤
-DifferenceFails w s t old old_now new new_now start end NoOldTables = LacksTables w s old_now start end
-DifferenceFails w s t old old_now new new_now start end NoNewTables = LacksTables w t new_now start end
-DifferenceFails w s t old old_now new new_now start end fault = ⊥
+abbrev pub DifferenceFails : {S T : Type 0} → DifferenceTask S T → (before after : DifferenceState S T)
+    → Fault → Type 0
+DifferenceFails d before after (Old fault) = DifferenceNotRead d before after fault
+DifferenceFails d before after (New fault) =
+    DifferenceNotRead (turned d) (turned_state before) (turned_state after) fault
+DifferenceFails d before after Output = ⊤
+DifferenceFails d before after NoMemory = ⊤
+DifferenceFails d before after NoOldTables =
+    LacksTables d.word d.old after.old before.output after.output
+DifferenceFails d before after NoNewTables =
+    LacksTables d.word d.new after.new before.output after.output
+DifferenceFails d before after fault = ⊥
 
 -- ---- the run
 
 -- what the run leaves
-pub record TellsDifference {S T : Type 0} (w : ℕ) (s : Ghosts S) (t : Ghosts T) (old old_now : S)
-    (new new_now : T) (start end : Option (List ℕ)) (result : Result Unit Fault) : Type 0 where
-  pub old_reads : OnlyReads s old old_now
-  pub new_reads : OnlyReads t new new_now
-  pub ok : OnOk result (InBoth s t old_now new_now (λ b c. WritesDifference w b c start end))
-  pub err : IfErr result (DifferenceFails w s t old old_now new new_now start end)
-  pub ok_looks : OnOk result (HaveTablesInside w s t old_now new_now)
-  pub err_looks : IfErr result (ComesAfter w s t old_now new_now)
-  pub front : IfErr result (λ fault.
-      InBoth s t old_now new_now (λ b c. WritesDifferencePrefix w b c start end))
+pub record TellsDifference {S T : Type 0} (d : DifferenceTask S T) (before after : DifferenceState S T)
+    (result : Result Unit Fault) : Type 0 where
+  pub old_reads : OnlyReads d.old before.old after.old
+  pub new_reads : OnlyReads d.new before.new after.new
+  pub ok : OnOk result (InBoth d.old d.new after.old after.new
+      (λ b c. WritesDifference d.word b c before.output after.output))
+  pub err : IfErr result (DifferenceFails d before after)
+  pub ok_looks : OnOk result (HaveTablesInside d.word d.old d.new after.old after.new)
+  pub err_looks : IfErr result (ComesAfter d.word d.old d.new after.old after.new)
+  pub front : IfErr result (λ fault. InBoth d.old d.new after.old after.new
+      (λ b c. WritesDifferencePrefix d.word b c before.output after.output))

@@ -9,11 +9,12 @@ use Rattle.cdb_show.specs.Runs.Given.{Given, given_from}
 use Rattle.cdb_show.specs.Runs.Query.{Query, query_text, query_answer, record_text}
 use Rattle.cdb_show.specs.declared.fault.Fault.{Fault}
 use Rattle.cdb_show.specs.declared.fault.Fault.TheVariants.{Missing}
+use Rattle.cdb_show.specs.declared.runs.lookup_options.LookupOptions.{LookupOptions}
 
 -- what is requested of each key: its records, or the record of a number
-abbrev pub key_query : Option ℕ → Style → List ℕ → Query
-key_query number style key =
-    record { key = key; number = number; shown = record_text style key }
+abbrev pub key_query : LookupOptions → List ℕ → Query
+key_query options key =
+    record { key = key; number = options.number; shown = record_text options.style key }
 
 -- ---- the keys, one after the other
 
@@ -38,15 +39,14 @@ abbrev pub with_one : Looked → List ℕ → Result Unit Fault → Looked
 with_one s text answer = if has_ended s.answer then s
     else record { text = s.text ++ text; answer = joined s.answer answer }
 
-abbrev pub with_key : ℕ → List ℕ → Option ℕ → Style → Looked → List ℕ → Looked
-with_key w b number style s key =
-    with_one s (query_text w b (key_query number style key))
-    (query_answer w b (key_query number style key))
+abbrev pub with_key : ℕ → List ℕ → LookupOptions → Looked → List ℕ → Looked
+with_key w b options s key =
+    with_one s (query_text w b (key_query options key)) (query_answer w b (key_query options key))
 
 -- what some keys come to: what a query of each writes, up to the first that meets a damage
-abbrev pub looked_up : ℕ → List ℕ → Option ℕ → Style → List (List ℕ) → Looked
-looked_up w b number style keys =
-    fold (with_key w b number style) (record { text = []; answer = Ok tt }) keys
+abbrev pub looked_up : ℕ → List ℕ → LookupOptions → List (List ℕ) → Looked
+looked_up w b options keys =
+    fold (with_key w b options) (record { text = []; answer = Ok tt }) keys
 
 -- ---- the inputs that give them
 
@@ -56,13 +56,13 @@ with_end style s (Some fault) = record { text = s.text; answer = Err fault }
 with_end style s None = record { text = s.text ++ end_of style; answer = s.answer }
 
 -- the records of the keys that inputs give, up to the first damage, or to the fault of an input
-abbrev pub with_given : ℕ → List ℕ → Option ℕ → Style → Given → Looked
-with_given w b number style given =
-    let looked = looked_up w b number style (keys_of_each given.items) in
-    if has_ended looked.answer then looked else with_end style looked given.fault
+abbrev pub with_given : ℕ → List ℕ → LookupOptions → Given → Looked
+with_given w b options given =
+    let looked = looked_up w b options (keys_of_each given.items) in
+    if has_ended looked.answer then looked else with_end options.style looked given.fault
 
 -- in words of w bytes, with lengths in texts of at most g
-abbrev pub records_asked : (w g : ℕ) → Option ℕ → Style → (inputs : List (Option (List ℕ)))
+abbrev pub records_asked : (w g : ℕ) → LookupOptions → (inputs : List (Option (List ℕ)))
     → (shared : List ℕ) → (bytes : List ℕ) → Looked
-records_asked w g number style inputs shared bytes =
-    with_given w bytes number style (given_from (keys_form style) g 1 inputs shared)
+records_asked w g options inputs shared bytes =
+    with_given w bytes options (given_from (keys_form options.style) g 1 inputs shared)

@@ -1,7 +1,7 @@
 // What changed between two databases, as an amending text.
 ghost use Rattle.std.specs.Prelude.{◌≡◌};
 ghost use Rattle.cdb_show.specs.Views.Output.{OutputSays};
-ghost use Rattle.cdb_show.specs.Runs.Difference.{TellsDifference};
+ghost use Rattle.cdb_show.specs.Runs.Difference.{TellsDifference, difference_state, difference_task};
 
 use crate::fault::Fault;
 use crate::runs::flushed::flushed;
@@ -19,8 +19,9 @@ fn write_opened<L: Width, S: Store, T: Store, W: Sink>(
     new: &mut Reader<T, L>,
     w: &mut W,
 ) -> Result<(), Fault>
-    ensures tells { TellsDifference L.WORD S.Store T.Store old.old.store old.new.store new.old.store
-        new.new.store (W.contents w.old) (W.contents w.new) result }
+    ensures tells { TellsDifference (difference_task L.WORD S.Store T.Store)
+        (difference_state old.old.store new.old.store (W.contents w.old))
+        (difference_state old.new.store new.new.store (W.contents w.new)) result }
     ensures output { OutputSays (W.failed w.new) result }
 {
     if old.lacks_tables() {
@@ -48,8 +49,9 @@ fn difference_unflushed<L: Width, S: Store, T: Store, W: Sink>(
     new: T,
     w: &mut W,
 ) -> (S, T, Result<(), Fault>)
-    ensures tells { TellsDifference L.WORD S.Store T.Store old result.0 new result.1 (W.contents w.old)
-        (W.contents w.new) result.2 }
+    ensures tells { TellsDifference (difference_task L.WORD S.Store T.Store)
+        (difference_state old new (W.contents w.old))
+        (difference_state result.0 result.1 (W.contents w.new)) result.2 }
     ensures output { OutputSays (W.failed w.new) result.2 }
 {
     let mut first = match Reader::<S, L>::open(old) {
@@ -90,8 +92,9 @@ pub fn difference_run<L: Width, S: Store, T: Store, W: Sink>(
     new: T,
     w: &mut W,
 ) -> (S, T, Result<(), Fault>)
-    ensures tells { TellsDifference L.WORD S.Store T.Store old result.0 new result.1 (W.contents w.old)
-        (W.contents w.new) result.2 }
+    ensures tells { TellsDifference (difference_task L.WORD S.Store T.Store)
+        (difference_state old new (W.contents w.old))
+        (difference_state result.0 result.1 (W.contents w.new)) result.2 }
     ensures output { OutputSays (W.failed w.new) result.2 }
 {
     let (old, new, written) = difference_unflushed::<L, S, T, W>(alloc, old, new, w);

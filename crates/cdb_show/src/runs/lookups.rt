@@ -13,29 +13,29 @@ ghost use Rattle.cdb_show.specs.Views.KeyReader.{form_of, reader_of, IsNew};
 use crate::fault::Fault;
 use crate::lines::Lines;
 use crate::runs::key_reader::KeyReader;
+use crate::runs::lookup_options::LookupOptions;
 use crate::runs::query::look_up;
 use crate::runs::shown::Shown;
-use cdb_command::Style;
 use cdb_form::{AtHand, Feeds, Record, Sink, Width};
 use cdb_read::Reader;
 use cdb_store::Store;
 use std::alloc::Global;
 
-/// Writes the records of a key, or the one with a number.
+/// Writes the records of a key, or the one with the number.
 #[inline(always)]
 fn look_up_record<L: Width, S: Store, W: Sink>(
     reader: &mut Reader<S, L>,
     key: &[u8],
-    number: Option<u64>,
-    style: Style,
+    options: LookupOptions,
     w: &mut W,
 ) -> Result<(), Fault>
-    requires { IfSome number (λ j. 1 ≤ j) }
-    ensures queries { Queries L.WORD S.Store (key_query number style key.now)
+    requires { IfSome options.number (λ j. 1 ≤ j) }
+    ensures queries { Queries L.WORD S.Store (key_query options key.now)
         reader.old.store reader.new.store (W.contents w.old) (W.contents w.new) result }
     ensures output { OutputSays (W.failed w.new) result }
 {
-    look_up(reader, key, number, Shown::Record { key, style }, w)
+    let style = options.style;
+    look_up(reader, key, options.number, Shown::Record { key, style }, w)
 }
 
 /// Look-ups of the keys of some inputs, in one database.
@@ -44,15 +44,13 @@ pub(crate) struct LookUps<'a, S: Store, L: Width> {
     pub(crate) alloc: Global,
     /// The database.
     pub(crate) reader: Reader<S, L>,
-    /// The number of the record of each key that is written alone, counted from 1.
-    pub(crate) number: Option<u64>,
-    /// The form of the inputs and of the records.
-    pub(crate) style: Style,
+    /// Which records are written, and how.
+    pub(crate) options: LookupOptions,
     /// Whether some key had no value.
     pub(crate) missing: bool,
     /// What may count the lines of the inputs.
     pub(crate) lines: &'a Lines,
-    ghost counted: { IfSome number (λ j. 1 ≤ j) } by { Prim.hlevel props },
+    ghost counted: { IfSome options.number (λ j. 1 ≤ j) } by { Prim.hlevel props },
 }
 
 impl<'a, S: Store, L: Width> LookUps<'a, S, L> {
@@ -88,7 +86,7 @@ impl<'a, S: Store, L: Width> LookUps<'a, S, L> {
                 Ok(false) => return Ok(()),
                 Ok(true) => {}
             }
-            match look_up_record(&mut self.reader, &item.key, self.number, self.style, w) {
+            match look_up_record(&mut self.reader, &item.key, self.options, w) {
                 Ok(()) => {}
                 Err(fault) => match fault {
                     Fault::Missing => self.missing = true,

@@ -4,12 +4,13 @@ ghost use Rattle.std.specs.Prelude.{IfErr, IfSome, OnOk, drop, length};
 ghost use Rattle.cdb_feed.specs.Inputs.{AreRead, NoMore, TakesOne};
 ghost use Rattle.cdb_form.specs.Fed.Feed.{FromTo};
 ghost use Rattle.cdb_form.specs.Text.Amending.{Change};
-ghost use Rattle.cdb_show.specs.Runs.FedLookups.{FedLookupsLeave, FedLooksUp, StopsTurn};
+ghost use Rattle.cdb_show.specs.Runs.FedLookups.{FedLookupsLeave, FedLooksUp, StopsInText};
+ghost use Rattle.cdb_show.specs.Runs.LookupTask.{lookup_state, lookup_task};
 ghost use Rattle.cdb_show.specs.Runs.Inputs.{IsInputOf, keys_form, keys_of, keys_of_each};
 ghost use Rattle.cdb_show.specs.Runs.Lookups.{HasLooked, LookupsStopAt, StopsBehind};
 ghost use Rattle.cdb_show.specs.Runs.Parsing.{IsFaultOf, fault_in, stop_of, stopped_parsing};
 ghost use Rattle.cdb_show.specs.Views.Inputs.{shared_feed};
-ghost use Rattle.cdb_show.specs.Views.LookUps.{GoesOn, Looks, StopsLooking};
+ghost use Rattle.cdb_show.specs.Views.LookUps.{GoesOn, Looks, StopsLooking, task_of};
 ghost use Rattle.cdb_show.specs.Views.Output.{OutputSays};
 ghost use Rattle.cdb_show.specs.Views.Window.{feed_of};
 
@@ -18,10 +19,10 @@ use crate::inputs::{Inputs, SharedWindow};
 use crate::lines::{InLined, Lined, Lines};
 use crate::runs::flushed::flushed_whole;
 use crate::runs::key_reader::KeyReader;
+use crate::runs::lookup_options::LookupOptions;
 use crate::runs::lookups::LookUps;
 use crate::runs::walk_text::write_last;
 use crate::window::{InWindow, Window};
-use cdb_command::Style;
 use cdb_feed::InputReader;
 use cdb_form::{Feeds, Sink, Width};
 use cdb_read::Reader;
@@ -42,21 +43,21 @@ impl<'a, S: Store, L: Width> LookUps<'a, S, L> {
         ensures goes_on { GoesOn self.old self.new }
         ensures ok { OnOk result.1 ((last : List Change)
             × FromTo (feed_of F.feed window) (feed_of F.feed result.0)
-            (IsInputOf (keys_form self.old.style) L.GREATEST last)
+            (IsInputOf (keys_form self.old.options.style) L.GREATEST last)
             × Looks last self.old self.new (W.contents w.old) (W.contents w.new)) }
         ensures fails { IfErr result.1 (λ fault. (last : List Change)
-            × StopsBehind (keys_form self.old.style) L.GREATEST input last
+            × StopsBehind (keys_form self.old.options.style) L.GREATEST input last
             (feed_of F.feed window) (feed_of F.feed result.0) fault
             × StopsLooking last self.old self.new (W.contents w.old) (W.contents w.new) fault) }
         ensures output { OutputSays (W.failed w.new) result.1 }
     {
         if self.lines.counts {
             let lined = Lined::new(window, self.lines);
-            let mut keys = KeyReader::new(self.alloc, self.style, lined);
+            let mut keys = KeyReader::new(self.alloc, self.options.style, lined);
             let answer = self.look_up_input::<_, W, InLined>(input, &mut keys, w);
             return (keys.into_reader().into_window(), answer);
         }
-        let mut keys = KeyReader::new(self.alloc, self.style, window);
+        let mut keys = KeyReader::new(self.alloc, self.options.style, window);
         let answer = self.look_up_input::<_, W, InWindow>(input, &mut keys, w);
         (keys.into_reader(), answer)
     }
@@ -72,10 +73,10 @@ impl<'a, S: Store, L: Width> LookUps<'a, S, L> {
         ensures goes_on { GoesOn self.old self.new }
         ensures ok { OnOk result.1 ((last : List Change)
             × FromTo (J.feed own) (J.feed result.0) (λ text left. (rest : List ℕ)
-            × IsInputOf (keys_form self.old.style) L.GREATEST last text rest)
+            × IsInputOf (keys_form self.old.options.style) L.GREATEST last text rest)
             × Looks last self.old self.new (W.contents w.old) (W.contents w.new)) }
         ensures fails { IfErr result.1 (λ fault. (last : List Change)
-            × StopsBehind (keys_form self.old.style) L.GREATEST input last
+            × StopsBehind (keys_form self.old.options.style) L.GREATEST input last
             (J.feed own) (J.feed result.0) fault
             × StopsLooking last self.old self.new (W.contents w.old) (W.contents w.new) fault) }
         ensures output { OutputSays (W.failed w.new) result.1 }
@@ -100,12 +101,12 @@ impl<'a, S: Store, L: Width> LookUps<'a, S, L> {
         ensures goes_on { GoesOn self.old self.new }
         ensures ok { OnOk result.1 ((last : List Change)
             × TakesOne J.feed (shared_feed I.feed)
-            (IsInputOf (keys_form self.old.style) L.GREATEST last) turn.old turn.new shared result.0
+            (IsInputOf (keys_form self.old.options.style) L.GREATEST last) turn.old turn.new shared result.0
             × Looks last self.old self.new (W.contents w.old) (W.contents w.new)) }
         ensures fails { IfErr result.1 (λ fault. (last : List Change)
-            × StopsTurn self.old.style L.GREATEST J.feed I.feed (fault_in (Err fault)) last
-            turn.old turn.new shared result.0
-            × IsFaultOf (keys_form self.old.style) input fault
+            × TakesOne J.feed (shared_feed I.feed)
+            (StopsInText (task_of self.old) (fault_in (Err fault)) last) turn.old turn.new shared result.0
+            × IsFaultOf (keys_form self.old.options.style) input fault
             × StopsLooking last self.old self.new (W.contents w.old) (W.contents w.new) fault) }
         ensures output { OutputSays (W.failed w.new) result.1 }
     {
@@ -141,24 +142,23 @@ impl<'a, S: Store, L: Width> LookUps<'a, S, L> {
         ensures goes_on { GoesOn self.old self.new }
         ensures ok { OnOk result.1 ((read : List (List Change))
             × AreRead J.feed (shared_feed I.feed)
-            (stopped_parsing (keys_form self.old.style) L.GREATEST None)
+            (stopped_parsing (keys_form self.old.options.style) L.GREATEST None)
             read NoMore readers.old readers.new shared result.0
             × (drop (length read) readers.new ≡ drop (length read) readers.old)
-            × ((start : Option (List ℕ)) → HasLooked L.WORD S.Store self.old.number self.old.style
-            [] self.old.reader.store start (W.contents w.old) self.old.missing
-            → HasLooked L.WORD S.Store self.old.number self.old.style (keys_of_each read)
+            × ((start : Option (List ℕ)) → HasLooked (task_of self.old) []
+            self.old.reader.store start (W.contents w.old) self.old.missing
+            → HasLooked (task_of self.old) (keys_of_each read)
             self.new.reader.store start (W.contents w.new) self.new.missing)) }
         ensures fails { IfErr result.1 (λ fault. (read : List (List Change)) × (last : List Change)
             × AreRead J.feed (shared_feed I.feed)
-            (stopped_parsing (keys_form self.old.style) L.GREATEST (fault_in (Err fault)))
+            (stopped_parsing (keys_form self.old.options.style) L.GREATEST (fault_in (Err fault)))
             read (stop_of (fault_in (Err fault)) last) readers.old readers.new shared result.0
             × (drop (length read + 1) readers.new ≡ drop (length read + 1) readers.old)
-            × IsFaultOf (keys_form self.old.style) (length read + 1) fault
-            × ((start : Option (List ℕ)) → HasLooked L.WORD S.Store self.old.number self.old.style
-            [] self.old.reader.store start (W.contents w.old) self.old.missing
-            → LookupsStopAt L.WORD S.Store self.old.number self.old.style
-            (keys_of_each read ++ keys_of last) self.old.reader.store self.new.reader.store start
-            (W.contents w.new) fault)) }
+            × IsFaultOf (keys_form self.old.options.style) (length read + 1) fault
+            × ((start : Option (List ℕ)) → HasLooked (task_of self.old) []
+            self.old.reader.store start (W.contents w.old) self.old.missing
+            → LookupsStopAt (task_of self.old) (keys_of_each read ++ keys_of last)
+            self.old.reader.store self.new.reader.store start (W.contents w.new) fault)) }
         ensures output { OutputSays (W.failed w.new) result.1 }
     {
         let mut shared = shared;
@@ -181,9 +181,9 @@ impl<'a, S: Store, L: Width> LookUps<'a, S, L> {
         inputs: Inputs<J, I>,
         w: &mut W,
     ) -> (Inputs<J, I>, Result<(), Fault>)
-        ensures leaves { FedLookupsLeave L.WORD L.GREATEST S.Store self.old.number self.old.style
-            J.feed I.feed inputs result.0 self.old.reader.store self.new.reader.store
-            (W.contents w.old) (W.contents w.new) result.1 }
+        ensures leaves { FedLookupsLeave (task_of self.old) J.feed I.feed
+            (lookup_state inputs self.old.reader.store (W.contents w.old))
+            (lookup_state result.0 self.new.reader.store (W.contents w.new)) result.1 }
         ensures output { OutputSays (W.failed w.new) result.1 }
     {
         let Inputs {
@@ -200,7 +200,7 @@ impl<'a, S: Store, L: Width> LookUps<'a, S, L> {
             Ok(()) => {}
             Err(fault) => return (left, Err(fault)),
         }
-        match write_last(w, self.style) {
+        match write_last(w, self.options.style) {
             Ok(()) => {}
             Err(_) => return (left, Err(Fault::Output)),
         }
@@ -217,14 +217,14 @@ fn lookups_unflushed<L: Width, S: Store, J: Feeds + Drop, I: Feeds, W: Sink>(
     alloc: Global,
     store: S,
     inputs: Inputs<J, I>,
-    number: Option<u64>,
-    style: Style,
+    options: LookupOptions,
     lines: &Lines,
     w: &mut W,
 ) -> (S, Inputs<J, I>, Result<(), Fault>)
-    requires { IfSome number (λ j. 1 ≤ j) }
-    ensures leaves { FedLookupsLeave L.WORD L.GREATEST S.Store number style J.feed I.feed
-        inputs result.1 store result.0 (W.contents w.old) (W.contents w.new) result.2 }
+    requires { IfSome options.number (λ j. 1 ≤ j) }
+    ensures leaves { FedLookupsLeave (lookup_task L.WORD L.GREATEST S.Store options) J.feed I.feed
+        (lookup_state inputs store (W.contents w.old))
+        (lookup_state result.1 result.0 (W.contents w.new)) result.2 }
     ensures output { OutputSays (W.failed w.new) result.2 }
 {
     let reader = match Reader::<S, L>::open(store) {
@@ -234,8 +234,7 @@ fn lookups_unflushed<L: Width, S: Store, J: Feeds + Drop, I: Feeds, W: Sink>(
     let mut looking = LookUps {
         alloc,
         reader,
-        number,
-        style,
+        options,
         missing: false,
         lines,
     };
@@ -244,7 +243,7 @@ fn lookups_unflushed<L: Width, S: Store, J: Feeds + Drop, I: Feeds, W: Sink>(
 }
 
 /// Writes the records that the database in a store has of the keys that some inputs give, key after
-/// key, as a dump writes records; with a number, counted from 1, the one of each key with it alone.
+/// key, as a dump writes records; with a number, the one of each key with it alone.
 ///
 /// Each input is a list text, or in the style of a map a map text, of whose records the keys are
 /// taken. Of a key without a value nothing is written. Values go from the store to the writer in
@@ -271,18 +270,18 @@ pub fn lookups_run<L: Width, S: Store, J: Feeds + Drop, I: Feeds, W: Sink>(
     alloc: Global,
     store: S,
     inputs: Inputs<J, I>,
-    number: Option<u64>,
-    style: Style,
+    options: LookupOptions,
     lines: &Lines,
     w: &mut W,
 ) -> (S, Inputs<J, I>, Result<(), Fault>)
-    requires { IfSome number (λ j. 1 ≤ j) }
-    ensures looks { FedLooksUp L.WORD L.GREATEST S.Store number style J.feed I.feed
-        inputs result.1 store result.0 (W.contents w.old) (W.contents w.new) result.2 }
+    requires { IfSome options.number (λ j. 1 ≤ j) }
+    ensures looks { FedLooksUp (lookup_task L.WORD L.GREATEST S.Store options) J.feed I.feed
+        (lookup_state inputs store (W.contents w.old))
+        (lookup_state result.1 result.0 (W.contents w.new)) result.2 }
     ensures output { OutputSays (W.failed w.new) result.2 }
 {
     let (store, left, looked) = lookups_unflushed::<L, S, J, I, W>(
-        alloc, store, inputs, number, style, lines, w,
+        alloc, store, inputs, options, lines, w,
     );
     let answer = flushed_whole(w, looked);
     (store, left, answer)
