@@ -1,7 +1,7 @@
 -- Which inputs agree with what a run read: those of readers that report their bytes, and any bytes that agree with
 -- what is known of the readers afterwards.
 use Rattle.std.proofs.Common.{◌≡◌, ◌++◌, ◌∙◌, ℕ, zero, suc, List, [], ◌∷◌, length, map, refl, sym, ap, subst, arith, Option, None, Some, IfSome, Result}
-use Rattle.cdb_tool.proofs.Words.{AgreesWith, AreRead, AreUnread, BeginsSo, Change, CutShort, FailsSo, Fault, FirstAgree, HasFault, HasRead, InputReader, Inputs, IsUnread, NoMore, NotBegun, SharedWindow, Stop, StopsSo, TakesOne, TextFault, WereRead, one_input, parsing, reached, ⊤}
+use Rattle.cdb_tool.proofs.Words.{AgreesWith, AreRead, AreUnread, BeginsSo, Change, CutShort, FailsSo, Fault, FirstAgree, HasFault, HasRead, InputReader, Inputs, IsUnread, NoMore, NotBegun, SharedWindow, Stop, StopsSo, TakesOne, TextFault, WereRead, feeds_of, one_input, parsing, reached, ⊤}
 use Rattle.std.proofs.lemmas.List.{length-map}
 use Rattle.cdb_form.specs.Fed.Feed.{Feed, FromTo, IsSome, Keeps, reader_feed}
 use Rattle.cdb_form.specs.Fed.Rests.{same_remaining}
@@ -249,7 +249,7 @@ module _ {J I : Type 0} (own : J → Option (List ℕ)) (shared : I → Option (
   as_many : (before : List (InputReader J)) → length (map (one_of own) before) ≡ length before
   as_many before = length-map before (one_of own)
 
-  module _ (st : InputForm) (g : ℕ) (answer : Result Unit Fault) (read : List (List Change)) (stop : Stop Change TextFault) (before after : Inputs J I) (were : WereRead own_feed (λ reader. reader_feed (shared reader)) st g answer read stop before after) where
+  module _ (st : InputForm) (g : ℕ) (answer : Result Unit Fault) (read : List (List Change)) (stop : Stop Change TextFault) (before after : Inputs J I) (were : WereRead (feeds_of own_feed (λ reader. reader_feed (shared reader))) (parsing st g answer) read stop before after) where
     -- those of the shared reader are these
     abbrev HasLeft : Option (List ℕ) → Type 0
     HasLeft s = HasRead st g answer read stop (record { each = map (one_of own) before.readers.items; shared = s })
@@ -328,7 +328,7 @@ module _ {R S : Type 0} (own : R → Feed) (shared : S → Feed) (fits : List �
 
 -- of readers of which nothing was read before a run
 pub agreeing_inputs : {J I : Type 0} (own : J → Feed) (shared : I → Feed) (fits : List ℕ → Type 0) (st : InputForm) (g : ℕ) (answer : Result Unit Fault) (read : List (List Change)) (stop : Stop Change TextFault) (before after : Inputs J I) (inputs : List (Option (List ℕ))) (whole : List ℕ)
-    → WereRead own shared st g answer read stop before after → AreUnread own before.readers.items → IsUnread (shared before.shared) → length inputs ≡ length before.readers.items → FirstAgree own fits (reached read stop) inputs after.readers.items → AgreesWith fits (shared after.shared) whole
+    → WereRead (feeds_of own shared) (parsing st g answer) read stop before after → AreUnread own before.readers.items → IsUnread (shared before.shared) → length inputs ≡ length before.readers.items → FirstAgree own fits (reached read stop) inputs after.readers.items → AgreesWith fits (shared after.shared) whole
     → HasRead st g answer read stop (record { each = map one_input inputs; shared = Some whole })
 agreeing_inputs own shared fits st g answer read stop before after inputs whole were unread first long agree agrees =
     let readers = before.readers.items in

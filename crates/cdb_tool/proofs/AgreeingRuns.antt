@@ -1,5 +1,5 @@
 -- What a run makes that hands its readers back: what the function says of any bytes that agree with these.
-use Rattle.cdb_tool.proofs.Words.{AgreesWith, AreUnread, ComesOf, Fault, Feed, FirstAgree, Ghosts, Inputs, InputsLeft, IsUnread, List, MakeRuns, OfBase, Option, Result, RunOptions, RunsRead, Some, WhereHonest, input_form, length, made_of, map, reached, refl, ℕ, ◌≡◌}
+use Rattle.cdb_tool.proofs.Words.{AgreesWith, AreUnread, ComesOf, Fault, Feed, FirstAgree, Ghosts, Inputs, InputsLeft, IsUnread, List, MakeRuns, OfBase, Option, Result, RunOptions, RunsRead, Some, WhereHonest, feeds_of, input_form, length, made_of, map, reached, refl, run_state, terms_of, ℕ, ◌≡◌}
 use Rattle.cdb_form.specs.Format.Record.{AreBytes}
 use Rattle.cdb_show.specs.Runs.Incoming.{EachOfBytes, Known, one_input}
 use Rattle.cdb_show.proofs.GivenInputs.{known_all}
@@ -12,11 +12,11 @@ use Rattle.cdb_tool.proofs.RunEnds.{base_weaker}
 abbrev left_of : List (Option (List ℕ)) → List ℕ → InputsLeft
 left_of inputs whole = record { each = map one_input inputs; shared = Some whole }
 
-module _ {B J I : Type 0} (t : Ghosts B) (was base : Option B) (own : J → Feed) (shared : I → Feed) (w g : ℕ) (o : RunOptions) (before after : Inputs J I) (images : List ℕ → Type 0) (old new : Option (List ℕ)) (result : Result Unit Fault) (run : RunsRead w g o own shared t was base before after images old new result)
+module _ {B J I : Type 0} (t : Ghosts B) (was base : Option B) (own : J → Feed) (shared : I → Feed) (w g : ℕ) (o : RunOptions) (before after : Inputs J I) (images : List ℕ → Type 0) (old new : Option (List ℕ)) (result : Result Unit Fault) (run : RunsRead (terms_of w g o) (feeds_of own shared) t (run_state was before old) (run_state base after new) images result)
     (unread : AreUnread own before.readers.items) (first : IsUnread (shared before.shared)) (inputs : List (Option (List ℕ))) (whole : List ℕ) (long : length inputs ≡ length before.readers.items) (agree : FirstAgree own AreBytes (reached run.read run.stop) inputs after.readers.items)
     (agrees : AgreesWith AreBytes (shared after.shared) whole) where
   -- what it left of such inputs
-  pub agreeing_runs : WhereHonest images (OfBase t base (λ b. MakeRuns w g o b (left_of inputs whole) images old new result))
+  pub agreeing_runs : WhereHonest images (OfBase t base (λ b. MakeRuns (terms_of w g o) b (left_of inputs whole) images old new result))
   agreeing_runs = run.runs (left_of inputs whole)
       (agreeing_inputs own shared AreBytes (input_form o.make.style (is_some was)) g result run.read run.stop before after inputs whole run.were unread first long agree agrees)
 

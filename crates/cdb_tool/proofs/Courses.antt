@@ -1,5 +1,5 @@
 -- A run, item after item.
-use Rattle.cdb_tool.proofs.Words.{Change, Err, Fault, Ghosts, Incoming, KeyValue, List, MakeFault, Maker, None, Ok, Option, Put, Putting, Removing, Result, RunOptions, Some, TellsEach, TellsPart, [], ap, append-nil, append_assoc, arith, false, file_size, fits, fold-append, from_input, from_inputs, if◌then◌else◌, inl, inr, length, make_fault, put_answer, put_list, refl, subst, sym, true, ℕ, ◌++◌, ◌+◌, ◌<◌, ◌∙◌, ◌∷◌, ◌≡◌, ◌≤◌, ◌⊎◌}
+use Rattle.cdb_tool.proofs.Words.{Change, Err, Fault, Ghosts, Incoming, KeyValue, List, MakeFault, Maker, None, Ok, Option, Put, Putting, Removing, Result, RunOptions, Some, TellsEach, TellsPart, [], ap, append-nil, append_assoc, arith, false, file_size, fits, fold-append, from_input, from_inputs, if◌then◌else◌, inl, inr, length, make_fault, progress, put_answer, put_list, refl, subst, sym, true, ℕ, ◌++◌, ◌+◌, ◌<◌, ◌∙◌, ◌∷◌, ◌≡◌, ◌≤◌, ◌⊎◌}
 use Rattle.std.specs.Prelude.{OnOk, IfErr}
 use Rattle.std.proofs.lemmas.Bool.{le-leb, lt-leb}
 use Rattle.cdb_form.specs.declared.width.Width.{Ghosts as Widths}
@@ -9,7 +9,7 @@ use Rattle.cdb_form.specs.declared.mode.Mode.{Mode}
 use Rattle.cdb_make.specs.declared.answer.Put.TheVariants.{Added, AddedAgain, Present, Replaced}
 use Rattle.cdb_make.proofs.Callers.{holds_count, holds_fits}
 use Rattle.cdb_make.proofs.Finishing.{rests_nothing}
-use Rattle.cdb_tool.specs.Runs.Course.{Task, Course, mode_of, told, ends, is_going, with_put, with_change, with_next, at_start, course_of, TellFails, Goes, StopsSo}
+use Rattle.cdb_tool.specs.Runs.Course.{Task, Course, mode_of, put_at, told, ends, is_going, with_put, with_change, with_next, at_start, course_of, TellFails, Goes, StopsSo}
 use Rattle.cdb_tool.specs.Runs.Make.{DoesItem, InCourse, PutStops, IsOfStore, MakeStandsAt, IsHalt, TakesNext}
 use Rattle.cdb_show.specs.declared.fault.Fault.TheVariants.{Text, Make, Duplicate, Missing, Read, Walk, Output, Long, Open, Rename, NoMemory, Old, New, NoOldTables, NoNewTables, NoBaseTables}
 use Rattle.cdb_tool.proofs.ToldLines.{part_then, tells_none, tells_then}
@@ -88,7 +88,7 @@ put_goes {l = l} t cs i n r start mid end old new put h wide puts comes limit te
 }
 
 -- or stops as the put is reported
-told_so : {S L : Type 0} {s : Ghosts S} {l : Widths L} (t : Task) (cs : List Incoming) (i n : ℕ) (r : KeyValue) (start mid end : Option (List ℕ)) (m : Maker S L s l) (put : Put) (f : Fault) (b : List ℕ) → IsPut t cs i n r start mid m put b → TellFails t.options i n r.key put mid end f
+told_so : {S L : Type 0} {s : Ghosts S} {l : Widths L} (t : Task) (cs : List Incoming) (i n : ℕ) (r : KeyValue) (start mid end : Option (List ℕ)) (m : Maker S L s l) (put : Put) (f : Fault) (b : List ℕ) → IsPut t cs i n r start mid m put b → TellFails t.options (put_at i n r.key) put mid end f
     → StopsSo l.WORD t (cs ++ putting i n r ∷ []) start end f
 told_so t cs i n r start mid end m put (Text j f) b p x = absurd x
 told_so t cs i n r start mid end m put (Make f) b p x = absurd x
@@ -116,7 +116,7 @@ told_so t cs i n r start mid end m put Duplicate b p x = record {
 }
 
 put_told : {S L : Type 0} {s : Ghosts S} {l : Widths L} (t : Task) (cs : List Incoming) (i n : ℕ) (r : KeyValue) (start mid end : Option (List ℕ)) (old new : Maker S L s l) (put : Put) (f : Fault) → InCourse t cs start mid old → (l.WORD ≡ 4) ⊎ (l.WORD ≡ 8) → Puts old new (mode_of t.options.make) r put
-    → ComesFrom (s.image old.store) (s.image new.store) → limit_of new ≡ limit_of old → TellFails t.options i n r.key put mid end f → WhereHonest (s.image new.store) (PutStops l.WORD t cs (putting i n r) start end f)
+    → ComesFrom (s.image old.store) (s.image new.store) → limit_of new ≡ limit_of old → TellFails t.options (put_at i n r.key) put mid end f → WhereHonest (s.image new.store) (PutStops l.WORD t cs (putting i n r) start end f)
 put_told t cs i n r start mid end old new put f h wide puts comes limit x = record { each = λ b is. inr (told_so t cs i n r start mid end new put f b (is_put t cs i n r start mid old new put h wide puts comes limit b is) x) }
 
 -- ---- a put that was refused
@@ -200,7 +200,7 @@ removal_halted t cs key start now old new make.NoMemory h x comes count is = abs
 removal_halted t cs key start now old new make.Writing h x comes count is = stands_broken t cs start now old new h comes count x.broken
 
 -- what a teller answers does not halt a run
-told_halts : (o : RunOptions) (i j : ℕ) (key : List ℕ) (put : Put) (old new : Option (List ℕ)) (f : Fault) → TellFails o i j key put old new f → IsHalt f → ⊥
+told_halts : (o : RunOptions) (i j : ℕ) (key : List ℕ) (put : Put) (old new : Option (List ℕ)) (f : Fault) → TellFails o (put_at i j key) put old new f → IsHalt f → ⊥
 told_halts o i j key put old new (Text n f) x is = absurd is
 told_halts o i j key put old new (Make f) x is = absurd x
 told_halts o i j key put old new (Walk f) x is = absurd is
@@ -250,7 +250,7 @@ no_memory make.Writing e = absurd (let k : Make make.Writing ≡ NoMemory = e in
 -- ---- the same of each run that has these options
 
 pub put_done : {S L : Type 0} {s : Ghosts S} {l : Widths L} (o : RunOptions) (m : Mode) (i n : ℕ) (r : KeyValue) (mid end : Option (List ℕ)) (old new : Maker S L s l) (put : Put) (result : Result Unit Fault) → m ≡ mode_of o.make → (l.WORD ≡ 4) ⊎ (l.WORD ≡ 8) → Puts old new m r put → ComesFrom (s.image old.store) (s.image new.store)
-    → limit_of new ≡ limit_of old → OnOk result (TellsEach o.names (told o.make i n r.key (Ok put)) mid end) → OnOk result (ends o.make (Ok put) ≡ None) → IfErr result (TellFails o i n r.key put mid end) → DoesItem o i n (Putting r) mid end old new result
+    → limit_of new ≡ limit_of old → OnOk result (TellsEach o.names (told o.make i n r.key (Ok put)) mid end) → OnOk result (ends o.make (Ok put) ≡ None) → IfErr result (TellFails o (put_at i n r.key) put mid end) → DoesItem o i n (Putting r) (progress mid old) (progress end new) result
 put_done o m i n r mid end old new put (Ok u) mode wide puts comes limit tells going x = λ t cs start same h. record {
   ok = put_goes t cs i n r start mid end old new put h wide (subst (λ v. Puts old new v r put) (mode ∙ ap (λ v. mode_of v.make) (sym same)) puts) comes limit
       (subst (λ v. TellsEach v.names (told v.make i n r.key (Ok put)) mid end) (sym same) tells) (subst (λ v. ends v.make (Ok put) ≡ None) (sym same) going);
@@ -260,13 +260,13 @@ put_done o m i n r mid end old new put (Ok u) mode wide puts comes limit tells g
 }
 put_done o m i n r mid end old new put (Err f) mode wide puts comes limit tells going x = λ t cs start same h. record {
   ok = tt;
-  fails = put_told t cs i n r start mid end old new put f h wide (subst (λ v. Puts old new v r put) (mode ∙ ap (λ v. mode_of v.make) (sym same)) puts) comes limit (subst (λ v. TellFails v i n r.key put mid end f) (sym same) x);
+  fails = put_told t cs i n r start mid end old new put f h wide (subst (λ v. Puts old new v r put) (mode ∙ ap (λ v. mode_of v.make) (sym same)) puts) comes limit (subst (λ v. TellFails v (put_at i n r.key) put mid end f) (sym same) x);
   stands = λ is. absurd (told_halts o i n r.key put mid end f x is);
   takes = λ e. absurd (told_halts o i n r.key put mid end f x (subst IsHalt (sym e) tt));
 }
 
 pub put_failed : {S L : Type 0} {s : Ghosts S} {l : Widths L} (o : RunOptions) (m : Mode) (i n : ℕ) (r : KeyValue) (mid : Option (List ℕ)) (old new : Maker S L s l) (f : MakeFault) → m ≡ mode_of o.make → FailsPutting old new m r f → ComesFrom (s.image old.store) (s.image new.store)
-    → told_count new ≡ told_count old → DoesItem o i n (Putting r) mid mid old new (Err (make_fault f))
+    → told_count new ≡ told_count old → DoesItem o i n (Putting r) (progress mid old) (progress mid new) (Err (make_fault f))
 put_failed o m i n r mid old new f mode x comes count = λ t cs start same h.
     let fails = subst (λ v. FailsPutting old new v r f) (mode ∙ ap (λ v. mode_of v.make) (sym same)) x in
     record {
@@ -320,11 +320,11 @@ pub unremoved : {S L : Type 0} {s : Ghosts S} {l : Widths L} (t : Task) (cs : Li
 unremoved t cs key start now old new f h x comes = record { each = λ b is. unremoved_so t cs key start now old new f h x comes b is }
 
 pub removal_done : {S L : Type 0} {s : Ghosts S} {l : Widths L} (o : RunOptions) (i n : ℕ) (key : List ℕ) (count : ℕ) (now : Option (List ℕ)) (old new : Maker S L s l) → Removes old new key count → ComesFrom (s.image old.store) (s.image new.store) → limit_of new ≡ limit_of old
-    → DoesItem o i n (Removing key) now now old new (Ok tt)
+    → DoesItem o i n (Removing key) (progress now old) (progress now new) (Ok tt)
 removal_done o i n key count now old new removes comes limit = λ t cs start same h. record { ok = removed_goes t cs i n key count start now old new h removes comes limit; fails = tt; stands = tt; takes = tt }
 
 pub removal_failed : {S L : Type 0} {s : Ghosts S} {l : Widths L} (o : RunOptions) (i n : ℕ) (key : List ℕ) (now : Option (List ℕ)) (old new : Maker S L s l) (f : MakeFault) → FailsRemoving old new key f → ComesFrom (s.image old.store) (s.image new.store) → told_count new ≡ told_count old
-    → DoesItem o i n (Removing key) now now old new (Err (make_fault f))
+    → DoesItem o i n (Removing key) (progress now old) (progress now new) (Err (make_fault f))
 removal_failed o i n key now old new f x comes count = λ t cs start same h. record {
   ok = tt;
   fails = record { each = λ b is. inl (unremoved_so t cs key start now old new f h x comes b is) };

@@ -1,5 +1,6 @@
 -- How a run ends whose readers are handed back: for all inputs that agree with what was read, as its maker says.
-use Rattle.cdb_tool.proofs.Words.{AreAllInputs, ArePassed, AreRead, BeginsSo, Bool, Change, ComesFrom, Consumes, CutShort, Err, FailsFinishing, Fault, Feed, Flushed, Ghosts, HasFault, HasFaults, Holds, InputForm, InputReader, Inputs, InputsLeft, IsFile, IsOk, KeyValue, List, MakeFault, Maker, NoMore, NotBegun, Ok, Option, Result, RunOptions, SharedWindow, Stop, StopsSo, TakesOne, Task, TextFault, WhereHonest, [], ap, arith, came, drop, drop-length, from_weaker, inl, input_form, inr, is_some, length, limit_of, make_fault, not_ok, nothing_taken, parsing, reached, refl, shared_feed, some_weaker, subst, sym, ℕ, ◌+◌, ◌∙◌, ◌∷◌, ◌≡◌, ◌⊎◌}
+use Rattle.cdb_tool.proofs.Words.{AreAllInputs, ArePassed, AreRead, BeginsSo, Bool, Change, ComesFrom, Consumes, CutShort, Err, FailsFinishing, Fault, Feed, Flushed, Ghosts, HasFault, HasFaults, HasItemFault, Holds, InputForm, InputReader, Inputs, InputsLeft, IsFile, IsOfInput, IsOk, KeyValue, List, MakeFault, Maker, NoMore, NotBegun, Ok, Option, Result, RunOptions, SharedWindow, Stop, StopsSo, TakesOne, Task, TextFault, WhereHonest, [], ap, arith, came, drop, drop-length, feeds_of, from_weaker, inl, input_form, inr, is_some, length, limit_of, make_fault, not_ok, nothing_taken, parsing, progress, reached, refl, run_state, shared_feed, some_weaker, subst, sym, terms_of, ℕ, ◌+◌, ◌∙◌, ◌∷◌, ◌≡◌, ◌⊎◌}
+use Rattle.std.proofs.Common.{IfSome}
 use Rattle.std.specs.Vec.{with_items}
 use Rattle.std.proofs.lemmas.List.{with_items_is}
 use Rattle.cdb_store.specs.declared.make_fault.MakeFault.TheVariants as make
@@ -10,8 +11,10 @@ use Rattle.cdb_command.specs.declared.style.Style.{Style}
 use Rattle.cdb_command.specs.declared.style.Style.TheVariants as style
 use Rattle.cdb_show.specs.declared.fault.Fault.TheVariants.{Output, Text}
 use Rattle.cdb_show.proofs.NextInputs.{first_begins}
+use Rattle.cdb_show.specs.Runs.Inputs.{AreInputs, FirstHas}
+use Rattle.cdb_tool.specs.Runs.Course.{Goes}
 use Rattle.cdb_tool.specs.Runs.InputsRead.{HasRead, IsFaultAt, RunsRead, StopsIn, WereRead, stop_by}
-use Rattle.cdb_tool.specs.Runs.Make.{HoldsBase, InputsFail, IsHalt, MakeRuns, OfBase, PutsInputs, PutsInputsStop, Stands, StoppedAt, form_of}
+use Rattle.cdb_tool.specs.Runs.Make.{HoldsBase, InputsFail, IsHalt, MakeRuns, MeetsInput, OfBase, PutsInputs, PutsInputsStop, Stands, StoppedAt, form_of}
 use Rattle.cdb_show.specs.declared.inputs.SharedWindow.TheVariants.{Unread}
 use Rattle.cdb_tool.proofs.FedRuns.{reached_whole, read_as}
 use Rattle.cdb_tool.proofs.InputRuns.{form_is}
@@ -22,7 +25,7 @@ use Rattle.cdb_tool.proofs.RunEnds.{runs_flushed, runs_stopped, runs_unfinished,
 -- they were read, and written over those in a vector
 pub were_written : {J I : Type 0} (own : J → Feed) (shared : I → Feed) (form : InputForm) (g : ℕ) (answer : Result Unit Fault) (read : List (List Change)) (stop : Stop Change TextFault) (before : Inputs J I) (left : I) (now : List (InputReader J)) (window : SharedWindow I)
     → AreRead own (shared_feed shared) (parsing form g answer) read stop before.readers.items now (Unread before.shared) window → ArePassed read stop before.readers.items now → (lost : List ℕ) → Consumes (shared_feed shared window) (shared left) lost → length now ≡ before.readers.len
-    → WereRead own shared form g answer read stop before (record { readers = with_items before.readers now; shared = left })
+    → WereRead (feeds_of own shared) (parsing form g answer) read stop before (record { readers = with_items before.readers now; shared = left })
 were_written own shared form g answer read stop before left now window are passed lost gone long = record {
   window = window;
   are = subst (λ xs. AreRead own (shared_feed shared) (parsing form g answer) read stop before.readers.items xs (Unread before.shared) window) (sym (with_items_is before.readers now long)) are;
@@ -48,7 +51,7 @@ none_passed own shared form g answer read before now old new are long =
     subst (λ k. drop k now ≡ []) a (drop-length now) ∙ sym (subst (λ k. drop k before ≡ []) b (drop-length before))
 
 -- none was begun
-pub were_none : {J I : Type 0} (own : J → Feed) (shared : I → Feed) (form : InputForm) (g : ℕ) (answer : Result Unit Fault) (inputs : Inputs J I) → WereRead own shared form g answer [] NotBegun inputs inputs
+pub were_none : {J I : Type 0} (own : J → Feed) (shared : I → Feed) (form : InputForm) (g : ℕ) (answer : Result Unit Fault) (inputs : Inputs J I) → WereRead (feeds_of own shared) (parsing form g answer) [] NotBegun inputs inputs
 were_none own shared form g answer inputs = record { window = Unread inputs.shared; are = nothing_taken (shared inputs.shared); passed = refl; lost = []; let_go = nothing_taken (shared inputs.shared) }
 
 pub all_inputs : (form : InputForm) (g : ℕ) (answer : Result Unit Fault) (read : List (List Change)) (inputs : InputsLeft) → HasRead form g answer read NoMore inputs → AreAllInputs form g read inputs
@@ -81,7 +84,7 @@ module _ (form : InputForm) (g : ℕ) (was is : Result Unit Fault) (none : IsNon
   stops_as own shared (CutShort items) [] after old new takes = absurd takes
   stops_as own shared (CutShort items) (reader ∷ before) [] old new takes = absurd takes
 
-  pub were_as : {J I : Type 0} (own : J → Feed) (shared : I → Feed) (read : List (List Change)) (stop : Stop Change TextFault) (before after : Inputs J I) → WereRead own shared form g was read stop before after → WereRead own shared form g is read stop before after
+  pub were_as : {J I : Type 0} (own : J → Feed) (shared : I → Feed) (read : List (List Change)) (stop : Stop Change TextFault) (before after : Inputs J I) → WereRead (feeds_of own shared) (parsing form g was) read stop before after → WereRead (feeds_of own shared) (parsing form g is) read stop before after
   were_as own shared read stop before after were = record {
     window = were.window;
     are = read_as own (shared_feed shared) form g was is read stop before.readers.items after.readers.items (Unread before.shared) were.window (λ befores afters mid stops. stops_as own (shared_feed shared) stop befores afters mid were.window stops) were.are;
@@ -106,60 +109,29 @@ has_native style.Native amends h = refl
 has_native style.Map amends h = absurd h
 
 module _ {S L : Type 0} {s : Ghosts S} {l : Widths L} (g : ℕ) (t : Task) (read : List (List Change)) (last : List Change) (inputs : InputsLeft) (start now : Option (List ℕ)) (m : Maker S L s l) where
-  stops_each : (fault : Fault) → HasRead (form_of t) g (Err fault) read (stop_by fault last) inputs → ((n : ℕ) (f : TextFault) → fault ≡ Text n f → IsFaultAt (form_of t) (length read + 1) n f) → StoppedAt t (came read last) start now m fault
+  -- after these items the next input has a fault of its text
+  meets : (n : ℕ) (f : TextFault) (rest : InputsLeft) (input : Option (List ℕ)) → AreInputs (form_of t) g read inputs rest → FirstHas rest input → IfSome input (HasItemFault (form_of t) g last f) → IsFaultAt (form_of t) (length read + 1) n f → Goes l.WORD t (came read last) start now
+      → MeetsInput l.WORD g t inputs start now n f
+  meets n f rest input are first has fault goes = record {
+    read = read;
+    last = last;
+    input = input;
+    rest = rest;
+    are = are;
+    first = first;
+    numbered = fault.numbered;
+    memory = fault.memory;
+    native = λ k. has_native t.options.make.style (is_some t.base) (fault.own k);
+    has = has;
+    goes = goes;
+  }
+
+  stops_each : (fault : Fault) → HasRead (form_of t) g (Err fault) read (stop_by fault last) inputs → IsOfInput (form_of t) (length read + 1) fault → StoppedAt t (came read last) start now m fault
       → (b : List ℕ) → s.image m.store b → InputsFail l.WORD g t inputs start now fault
-  stops_each (Text n (text.Syntax at)) h of_text stopped b is = record {
-    read = read;
-    last = last;
-    input = h.stops.0;
-    rest = h.rest;
-    are = h.are;
-    first = h.stops.1;
-    numbered = (of_text n (text.Syntax at) refl).numbered;
-    memory = (of_text n (text.Syntax at) refl).memory;
-    native = λ k. has_native t.options.make.style (is_some t.base) ((of_text n (text.Syntax at) refl).own k);
-    has = some_weaker h.stops.0 (λ input fails. fails.has) h.stops.2;
-    goes = stopped.stops.each b is;
-  }
-  stops_each (Text n (text.Ended at)) h of_text stopped b is = record {
-    read = read;
-    last = last;
-    input = h.stops.0;
-    rest = h.rest;
-    are = h.are;
-    first = h.stops.1;
-    numbered = (of_text n (text.Ended at) refl).numbered;
-    memory = (of_text n (text.Ended at) refl).memory;
-    native = λ k. has_native t.options.make.style (is_some t.base) ((of_text n (text.Ended at) refl).own k);
-    has = some_weaker h.stops.0 (λ input fails. fails.has) h.stops.2;
-    goes = stopped.stops.each b is;
-  }
-  stops_each (Text n (text.Large at)) h of_text stopped b is = record {
-    read = read;
-    last = last;
-    input = h.stops.0;
-    rest = h.rest;
-    are = h.are;
-    first = h.stops.1;
-    numbered = (of_text n (text.Large at) refl).numbered;
-    memory = (of_text n (text.Large at) refl).memory;
-    native = λ k. has_native t.options.make.style (is_some t.base) ((of_text n (text.Large at) refl).own k);
-    has = some_weaker h.stops.0 (λ input fails. fails.has) h.stops.2;
-    goes = stopped.stops.each b is;
-  }
-  stops_each (Text n f) h of_text stopped b is = record {
-    read = read;
-    last = last;
-    input = h.stops.0;
-    rest = h.rest;
-    are = h.are;
-    first = h.stops.1;
-    numbered = (of_text n f refl).numbered;
-    memory = (of_text n f refl).memory;
-    native = λ k. has_native t.options.make.style (is_some t.base) ((of_text n f refl).own k);
-    has = some_weaker h.stops.0 (λ input begins. begins.has n f refl) h.stops.2;
-    goes = stopped.stops.each b is;
-  }
+  stops_each (Text n (text.Syntax at)) h of_text stopped b is = meets n (text.Syntax at) h.rest h.stops.0 h.are h.stops.1 (some_weaker h.stops.0 (λ input fails. fails.has) h.stops.2) (of_text n (text.Syntax at) refl) (stopped.stops.each b is)
+  stops_each (Text n (text.Ended at)) h of_text stopped b is = meets n (text.Ended at) h.rest h.stops.0 h.are h.stops.1 (some_weaker h.stops.0 (λ input fails. fails.has) h.stops.2) (of_text n (text.Ended at) refl) (stopped.stops.each b is)
+  stops_each (Text n (text.Large at)) h of_text stopped b is = meets n (text.Large at) h.rest h.stops.0 h.are h.stops.1 (some_weaker h.stops.0 (λ input fails. fails.has) h.stops.2) (of_text n (text.Large at) refl) (stopped.stops.each b is)
+  stops_each (Text n f) h of_text stopped b is = meets n f h.rest h.stops.0 h.are h.stops.1 (some_weaker h.stops.0 (λ input begins. begins.has n f refl) h.stops.2) (of_text n f refl) (stopped.stops.each b is)
   stops_each fault h of_text stopped b is = record {
     read = read;
     last = last;
@@ -169,7 +141,7 @@ module _ {S L : Type 0} {s : Ghosts S} {l : Widths L} (g : ℕ) (t : Task) (read
     stops = stopped.stops.each b is;
   }
 
-  pub inputs_stop : (form : InputForm) (fault : Fault) → form_of t ≡ form → HasRead form g (Err fault) read (stop_by fault last) inputs → ((n : ℕ) (f : TextFault) → fault ≡ Text n f → IsFaultAt form (length read + 1) n f) → StoppedAt t (came read last) start now m fault
+  pub inputs_stop : (form : InputForm) (fault : Fault) → form_of t ≡ form → HasRead form g (Err fault) read (stop_by fault last) inputs → IsOfInput form (length read + 1) fault → StoppedAt t (came read last) start now m fault
       → WhereHonest (s.image m.store) (InputsFail l.WORD g t inputs start now fault)
   inputs_stop form fault same h of_text stopped = record {
     each = λ b is.
@@ -202,7 +174,7 @@ none_made made n f e = cc
 
 -- it read nothing
 pub read_none : {B J I : Type 0} (t : Ghosts B) (was base : Option B) (own : J → Feed) (shared : I → Feed) (w g : ℕ) (o : RunOptions) (inputs : Inputs J I) (images : List ℕ → Type 0) (old new : Option (List ℕ)) (result : Result Unit Fault)
-    → ((given : InputsLeft) → WhereHonest images (OfBase t base (λ b. MakeRuns w g o b given images old new result))) → RunsRead w g o own shared t was base inputs inputs images old new result
+    → ((given : InputsLeft) → WhereHonest images (OfBase t base (λ b. MakeRuns (terms_of w g o) b given images old new result))) → RunsRead (terms_of w g o) (feeds_of own shared) t (run_state was inputs old) (run_state base inputs new) images result
 read_none t was base own shared w g o inputs images old new result runs = record {
   read = [];
   stop = NotBegun;
@@ -212,8 +184,8 @@ read_none t was base own shared w g o inputs images old new result runs = record
 
 module _ {S L B J I : Type 0} {s : Ghosts S} {l : Widths L} (t : Ghosts B) (was base : Option B) (own : J → Feed) (shared : I → Feed) (g : ℕ) (o : RunOptions) (amends : Bool) (before after : Inputs J I) (start now : Option (List ℕ)) (begun m : Maker S L s l) (of_was : amends ≡ is_some was) (of_base : is_some base ≡ amends)
     (wide : (l.WORD ≡ 4) ⊎ (l.WORD ≡ 8)) (holds : HoldsBase l.WORD t base begun) (limit : limit_of begun ≡ o.make.limit) (comes : ComesFrom (s.image begun.store) (s.image m.store)) (read : List (List Change)) where
-  of_form : (answer : Result Unit Fault) (stop : Stop Change TextFault) → WereRead own shared (input_form o.make.style amends) g answer read stop before after → WereRead own shared (input_form o.make.style (is_some was)) g answer read stop before after
-  of_form answer stop were = subst (λ v. WereRead own shared (input_form o.make.style v) g answer read stop before after) of_was were
+  of_form : (answer : Result Unit Fault) (stop : Stop Change TextFault) → WereRead (feeds_of own shared) (parsing (input_form o.make.style amends) g answer) read stop before after → WereRead (feeds_of own shared) (parsing (input_form o.make.style (is_some was)) g answer) read stop before after
+  of_form answer stop were = subst (λ v. WereRead (feeds_of own shared) (parsing (input_form o.make.style v) g answer) read stop before after) of_was were
 
   given_form : (answer : Result Unit Fault) (stop : Stop Change TextFault) (given : InputsLeft) → HasRead (input_form o.make.style (is_some was)) g answer read stop given → HasRead (input_form o.make.style amends) g answer read stop given
   given_form answer stop given h = subst (λ v. HasRead (input_form o.make.style v) g answer read stop given) (sym of_was) h
@@ -221,8 +193,8 @@ module _ {S L B J I : Type 0} {s : Ghosts S} {l : Widths L} (t : Ghosts B) (was 
   all_given : (answer : Result Unit Fault) (given : InputsLeft) → HasRead (input_form o.make.style (is_some was)) g answer read NoMore given → AreAllInputs (input_form o.make.style (is_some base)) g read given
   all_given answer given h = subst (λ v. AreAllInputs (input_form o.make.style v) g read given) (sym (of_base ∙ of_was)) (all_inputs (input_form o.make.style (is_some was)) g answer read given h)
 
-  pub read_stopped : (last : List Change) (f : Fault) → WereRead own shared (input_form o.make.style amends) g (Err f) read (stop_by f last) before after → ((n : ℕ) (x : TextFault) → f ≡ Text n x → IsFaultAt (input_form o.make.style amends) (length read + 1) n x)
-      → PutsInputsStop o read last start now begun m f → RunsRead l.WORD g o own shared t was base before after (s.image m.store) start now (Err f)
+  pub read_stopped : (last : List Change) (f : Fault) → WereRead (feeds_of own shared) (parsing (input_form o.make.style amends) g (Err f)) read (stop_by f last) before after → IsOfInput (input_form o.make.style amends) (length read + 1) f
+      → PutsInputsStop o read last (progress start begun) (progress now m) f → RunsRead (terms_of l.WORD g o) (feeds_of own shared) t (run_state was before start) (run_state base after now) (s.image m.store) (Err f)
   read_stopped last f were of_text stops = record {
     read = read;
     stop = stop_by f last;
@@ -232,8 +204,8 @@ module _ {S L B J I : Type 0} {s : Ghosts S} {l : Widths L} (t : Ghosts B) (was 
         (λ k same based begins. inputs_stop {s = s} {l = l} g k read last given start now m (input_form o.make.style amends) f (form_is k o amends same based) (given_form (Err f) (stop_by f last) given h) of_text (stops k start same begins));
   }
 
-  pub read_whole : (images : List ℕ → Type 0) → WereRead own shared (input_form o.make.style amends) g (Ok tt) read NoMore before after → PutsInputs o read start now begun m → ComesFrom (s.image m.store) images → ((rs : List KeyValue) → Holds m rs → IsFile l.WORD rs images)
-      → RunsRead l.WORD g o own shared t was base before after images start now (Ok tt)
+  pub read_whole : (images : List ℕ → Type 0) → WereRead (feeds_of own shared) (parsing (input_form o.make.style amends) g (Ok tt)) read NoMore before after → PutsInputs o read (progress start begun) (progress now m) → ComesFrom (s.image m.store) images → ((rs : List KeyValue) → Holds m rs → IsFile l.WORD rs images)
+      → RunsRead (terms_of l.WORD g o) (feeds_of own shared) t (run_state was before start) (run_state base after now) images (Ok tt)
   read_whole images were puts finished file = record {
     read = read;
     stop = NoMore;
@@ -241,8 +213,8 @@ module _ {S L B J I : Type 0} {s : Ghosts S} {l : Widths L} (t : Ghosts B) (was 
     runs = λ given h. runs_whole {s = s} {l = l} t base g o given read start now begun m images wide holds limit (all_given (Ok tt) given h) (λ k same begins. puts k start same begins) comes finished file;
   }
 
-  pub read_unfinished : (new : Maker S L s l) (f : MakeFault) → WereRead own shared (input_form o.make.style amends) g (Ok tt) read NoMore before after → PutsInputs o read start now begun m → ComesFrom (s.image m.store) (s.image new.store) → FailsFinishing m new f
-      → RunsRead l.WORD g o own shared t was base before after (s.image new.store) start now (Err (make_fault f))
+  pub read_unfinished : (new : Maker S L s l) (f : MakeFault) → WereRead (feeds_of own shared) (parsing (input_form o.make.style amends) g (Ok tt)) read NoMore before after → PutsInputs o read (progress start begun) (progress now m) → ComesFrom (s.image m.store) (s.image new.store) → FailsFinishing m new f
+      → RunsRead (terms_of l.WORD g o) (feeds_of own shared) t (run_state was before start) (run_state base after now) (s.image new.store) (Err (make_fault f))
   read_unfinished new f were puts finished fails = record {
     read = read;
     stop = NoMore;
@@ -253,7 +225,7 @@ module _ {S L B J I : Type 0} {s : Ghosts S} {l : Widths L} (t : Ghosts B) (was 
 -- ---- the flush
 
 flush_err : {B J I : Type 0} (t : Ghosts B) (was base : Option B) (own : J → Feed) (shared : I → Feed) (w g : ℕ) (o : RunOptions) (before after : Inputs J I) (images : List ℕ → Type 0) (old mid new : Option (List ℕ)) (answer : Result Unit Fault) → IsOk answer → Flushed mid new answer (Err Output)
-    → RunsRead w g o own shared t was base before after images old mid answer → RunsRead w g o own shared t was base before after images old new (Err Output)
+    → RunsRead (terms_of w g o) (feeds_of own shared) t (run_state was before old) (run_state base after mid) images answer → RunsRead (terms_of w g o) (feeds_of own shared) t (run_state was before old) (run_state base after new) images (Err Output)
 flush_err t was base own shared w g o before after images old mid new (Ok u) ok f h = record {
   read = h.read;
   stop = h.stop;
@@ -262,11 +234,11 @@ flush_err t was base own shared w g o before after images old mid new (Ok u) ok 
 }
 flush_err t was base own shared w g o before after images old mid new (Err e) ok f h = absurd (not_ok ok)
 
-pub read_flushed : {B J I : Type 0} (t : Ghosts B) (was base : Option B) (own : J → Feed) (shared : I → Feed) (w g : ℕ) (o : RunOptions) (before after : Inputs J I) (images : List ℕ → Type 0) (old mid new : Option (List ℕ)) (answer result : Result Unit Fault) → RunsRead w g o own shared t was base before after images old mid answer
-    → Flushed mid new answer result → RunsRead w g o own shared t was base before after images old new result
-read_flushed t was base own shared w g o before after images old mid new answer result h f = elim f.answered as (λ _. RunsRead w g o own shared t was base before after images old new result) [
+pub read_flushed : {B J I : Type 0} (t : Ghosts B) (was base : Option B) (own : J → Feed) (shared : I → Feed) (w g : ℕ) (o : RunOptions) (before after : Inputs J I) (images : List ℕ → Type 0) (old mid new : Option (List ℕ)) (answer result : Result Unit Fault) → RunsRead (terms_of w g o) (feeds_of own shared) t (run_state was before old) (run_state base after mid) images answer
+    → Flushed mid new answer result → RunsRead (terms_of w g o) (feeds_of own shared) t (run_state was before old) (run_state base after new) images result
+read_flushed t was base own shared w g o before after images old mid new answer result h f = elim f.answered as (λ _. RunsRead (terms_of w g o) (feeds_of own shared) t (run_state was before old) (run_state base after new) images result) [
   | inl e ↦
-      subst (RunsRead w g o own shared t was base before after images old new) (sym e)
+      subst (RunsRead (terms_of w g o) (feeds_of own shared) t (run_state was before old) (run_state base after new) images) (sym e)
       (record { read = h.read; stop = h.stop; were = h.were; runs = λ given has. runs_flushed t base w g o given images old mid new answer answer (h.runs given has) (subst (Flushed mid new answer) e f) })
-  | inr e ↦ subst (RunsRead w g o own shared t was base before after images old new) (sym e.1) (flush_err t was base own shared w g o before after images old mid new answer e.0 (subst (Flushed mid new answer) e.1 f) h)
+  | inr e ↦ subst (RunsRead (terms_of w g o) (feeds_of own shared) t (run_state was before old) (run_state base after new) images) (sym e.1) (flush_err t was base own shared w g o before after images old mid new answer e.0 (subst (Flushed mid new answer) e.1 f) h)
 ]

@@ -3,7 +3,7 @@ use Rattle.std.proofs.Common.{◌≡◌, ℕ, ◌+◌, ◌*◌, ◌<◌, ◌≤�
 use Rattle.std.proofs.lemmas.List.{drop-set, take-set, drop_more, drop-set-lt}
 use Rattle.std.proofs.Math.Nat.{mul-le-mul_right}
 use Rattle.std.proofs.Math.ListN.{length-set}
-use Rattle.cdb_tool.proofs.Words.{ArePassed, AreRead, Change, CutShort, Fault, Feed, Ghosts, HasFault, InputForm, InputReader, IsFaultAt, IsInputOf, Maker, NoMore, NotBegun, PutsInputs, PutsInputsStop, PutsStop, RunOptions, Stop, StopsInput, StopsSo, TakesOne, TextFault, drop-length, nothing_taken, parsing, reached, stop_by}
+use Rattle.cdb_tool.proofs.Words.{ArePassed, AreRead, Change, CutShort, Fault, Feed, Ghosts, HasFault, InputForm, InputReader, IsInputOf, IsOfInput, Maker, NoMore, NotBegun, PutsInputs, PutsInputsStop, PutsStop, RunOptions, Stop, StopsInput, StopsSo, TakesOne, TextFault, drop-length, feeds_of, nothing_taken, parsing, progress, reached, stop_by}
 use Rattle.cdb_form.specs.declared.text.fault.TextFault.TheVariants as text
 use Rattle.cdb_feed.specs.Parsing.{Parsing}
 use Rattle.cdb_feed.proofs.InputsInTurn.{read_then}
@@ -145,22 +145,23 @@ abbrev pub StopsHere : {J R S L : Type 0} {s : Ghosts S} {l : Widths L} → (own
 StopsHere own shared form g before after old new o was now m done fault = (read : List (List Change)) × (last : List Change)
     × AreRead own shared (parsing form g (Err fault)) read (stop_by fault last) before after old new
     × ArePassed read (stop_by fault last) before after
-    × ((n : ℕ) (f : TextFault) → fault ≡ Text n f → IsFaultAt form (length read + 1) n f)
-    × PutsInputsStop o read last was now m done fault
+    × IsOfInput form (length read + 1) fault
+    × PutsInputsStop o read last (progress was m) (progress now done) fault
 
 abbrev pub StopsThere : {J R S L : Type 0} {s : Ghosts S} {l : Widths L} → (own : J → Feed) → (shared : R → Feed) → InputForm → (g number : ℕ) → (before after : InputReader J) → (old new : R) → RunOptions → (was now : Option (List ℕ)) → Maker S L s l → Maker S L s l → Fault → Type 0
 StopsThere own shared form g number before after old new o was now m done fault = (last : List Change)
-    × StopsInput own shared form g number last fault before after old new
-    × PutsStop o number last was now m done fault
+    × StopsInput (feeds_of own shared) (parsing form g (Err fault)) (stop_by fault last) before after old new
+    × IsOfInput form number fault
+    × PutsStop o number last (progress was m) (progress now done) fault
 
 pub stopped_here : {J R S L : Type 0} {s : Ghosts S} {l : Widths L} (own : J → Feed) (shared : R → Feed) (form : InputForm) (g : ℕ) (before now : List (InputReader J)) (it left : InputReader J) (old mid new : R) (i : ℕ) (read : List (List Change)) (o : RunOptions) (was were are : Option (List ℕ)) (begun m done : Maker S L s l) (fault : Fault)
-    → SoFar own shared (parsing form g (Ok tt)) read before now old mid i → i < length now → it ≡ slice_index_or now i it → PutsInputs o read was were begun m
+    → SoFar own shared (parsing form g (Ok tt)) read before now old mid i → i < length now → it ≡ slice_index_or now i it → PutsInputs o read (progress was begun) (progress were m)
     → StopsThere own shared form g (i + 1) (slice_index_or now i it) left mid new o were are m done fault → StopsHere own shared form g before (slice_set now i left) old new o was are begun done fault
-stopped_here own shared form g before now it left old mid new i read o was were are begun m done fault far within e course (last, stops, put) = (
+stopped_here own shared form g before now it left old mid new i read o was were are begun m done fault far within e course (last, stops, of_text, put) = (
   read,
   last,
-  turn_stops own shared form g before now it left old mid new i read within e fault (stop_by fault last) far (subst (λ t. StopsInput own shared form g (i + 1) last fault t left mid new) (sym e) stops).stops,
+  turn_stops own shared form g before now it left old mid new i read within e fault (stop_by fault last) far (subst (λ t. StopsInput (feeds_of own shared) (parsing form g (Err fault)) (stop_by fault last) t left mid new) (sym e) stops),
   turns_passed own shared form g before now it left old mid new i read within e fault last far,
-  λ n f is. subst (λ k. IsFaultAt form (k + 1) n f) (sym far.count) (stops.of_text n f is),
+  subst (λ k. IsOfInput form (k + 1) fault) (sym far.count) of_text,
   λ t start same h. put t read start same (ap (λ (k : ℕ). k + 1) (sym far.count)) (course t start same h),
 )

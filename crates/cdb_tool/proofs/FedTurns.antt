@@ -1,5 +1,5 @@
 -- What a run read of an input through a window, whatever bytes agree with it.
-use Rattle.cdb_tool.proofs.Words.{BeginsSo, BeginsWithItems, Change, Err, FailsSo, Fault, Ghosts, HasItemFault, InputForm, InputReader, IsInputOf, IsOfText, List, Maker, Ok, OnOk, Option, PutsStop, Result, RunOptions, SharedWindow, Some, StopsBehind, StopsInput, StopsSo, TakesOne, TextFault, [], came, parsing, refl, shared_feed, stop_by, subst, sym, ℕ, ◌++◌, ◌∷◌, ◌≡◌}
+use Rattle.cdb_tool.proofs.Words.{BeginsSo, BeginsWithItems, Change, Err, FailsSo, Fault, Ghosts, HasItemFault, InputForm, InputReader, IsInputOf, IsOfInput, IsOfText, List, Maker, Ok, OnOk, Option, PutsStop, Result, RunOptions, SharedWindow, Some, StopsBehind, StopsInput, StopsSo, TakesOne, TextFault, [], came, feeds_of, parsing, progress, refl, shared_feed, stop_by, subst, sym, ℕ, ◌++◌, ◌∷◌, ◌≡◌}
 use Rattle.cdb_form.specs.Fed.Feed.{Consumes, Feed, FromTo, Keeps}
 use Rattle.cdb_form.specs.declared.text.fault.TextFault.TheVariants as text
 use Rattle.cdb_form.specs.declared.width.Width.{Ghosts as Widths}
@@ -80,14 +80,19 @@ stops_so own shared form g n last a d (Text i (text.Large at)) reader left old n
 stops_so own shared form g n last a d (Text i f) reader left old new takes one s = takes (BeginsSo form g (Err (Text i f)) last) (reader_so form g n last a d one i f s)
 stops_so own shared form g n last a d fault reader left old new takes one s = takes (BeginsSo form g (Err fault) last) (begins_so form g n last a d fault (λ i f e. let no : ⊥ = cc in no) s)
 
+-- an input stopped the run, with this number
+abbrev InputStops : {R S : Type 0} → (own : R → Feed) → (shared : S → Feed) → InputForm → (g n : ℕ) → List Change → Fault → InputReader R → InputReader R → S → S → Type 0
+InputStops own shared form g n last fault reader left old new =
+    StopsInput (feeds_of own shared) (parsing form g (Err fault)) (stop_by fault last) reader left old new × IsOfInput form n fault
+
 stops_input : {R S : Type 0} (own : R → Feed) (shared : S → Feed) (form : InputForm) (g n : ℕ) (last : List Change) (a d : Feed) (fault : Fault) (reader left : InputReader R) (old new : S) → Takes own shared a d reader left old new → ((whole x y : List ℕ) → a.may whole x → a.may whole y → x ≡ y)
-    → StopsBehind form g n last a d fault → StopsInput own shared form g n last fault reader left old new
-stops_input own shared form g n last a d fault reader left old new takes one s = record {
-  stops = stops_so own shared form g n last a d fault reader left old new takes one s;
-  of_text = λ i f e.
+    → StopsBehind form g n last a d fault → InputStops own shared form g n last fault reader left old new
+stops_input own shared form g n last a d fault reader left old new takes one s = (
+  stops_so own shared form g n last a d fault reader left old new takes one s,
+  λ i f e.
       let h = s.of_text i f e in
-      record { numbered = h.0; own = h.1.own; memory = h.1.memory };
-}
+      record { numbered = h.0; own = h.1.own; memory = h.1.memory },
+)
 
 -- ---- an input
 
@@ -104,16 +109,16 @@ module _ {J I : Type 0} (own : J → Feed) (shared : I → Feed) (form : InputFo
       (let_go (own reader) (feed_of own over) (own left) P (held_in over) (from_behind (own reader) (feed_of own window) (feed_of own over) [] P kept f) gone, nothing_taken (shared_feed shared s))
 
   pub own_stops : (n : ℕ) (last : List Change) (fault : Fault) (turn : InputReader J) (reader left : J) (window over : Window J) (s : SharedWindow I) → ((it : J) (whole x y : List ℕ) → (own it).may whole x → (own it).may whole y → x ≡ y) → turn ≡ Own reader → Keeps (own reader) (feed_of own window)
-      → StopsBehind form g n last (feed_of own window) (feed_of own over) fault → Consumes (feed_of own over) (own left) (held_in over) → StopsInput own (shared_feed shared) form g n last fault turn (Own left) s s
+      → StopsBehind form g n last (feed_of own window) (feed_of own over) fault → Consumes (feed_of own over) (own left) (held_in over) → InputStops own (shared_feed shared) form g n last fault turn (Own left) s s
   own_stops n last fault turn reader left window over s one is kept stops gone =
-      subst (λ t. StopsInput own (shared_feed shared) form g n last fault t (Own left) s s) (sym is)
+      subst (λ t. InputStops own (shared_feed shared) form g n last fault t (Own left) s s) (sym is)
       (stops_input own (shared_feed shared) form g n last (own reader) (own left) fault (Own reader) (Own left) s s (own_takes reader left s) (one reader)
       (behind_let_go form g n last (own reader) (feed_of own window) (feed_of own over) (own left) (held_in over) fault kept stops gone))
 
-  pub own_unread : (n : ℕ) (turn : InputReader J) (reader left : J) (s : SharedWindow I) → ((it : J) (whole x y : List ℕ) → (own it).may whole x → (own it).may whole y → x ≡ y) → turn ≡ Own reader → left ≡ reader → StopsInput own (shared_feed shared) form g n [] NoMemory turn (Own left) s s
+  pub own_unread : (n : ℕ) (turn : InputReader J) (reader left : J) (s : SharedWindow I) → ((it : J) (whole x y : List ℕ) → (own it).may whole x → (own it).may whole y → x ≡ y) → turn ≡ Own reader → left ≡ reader → InputStops own (shared_feed shared) form g n [] NoMemory turn (Own left) s s
   own_unread n turn reader left s one is same =
-      subst (λ t. StopsInput own (shared_feed shared) form g n [] NoMemory t (Own left) s s) (sym is)
-      (subst (λ l. StopsInput own (shared_feed shared) form g n [] NoMemory (Own reader) (Own l) s s) (sym same)
+      subst (λ t. InputStops own (shared_feed shared) form g n [] NoMemory t (Own left) s s) (sym is)
+      (subst (λ l. InputStops own (shared_feed shared) form g n [] NoMemory (Own reader) (Own l) s s) (sym same)
       (stops_input own (shared_feed shared) form g n [] (own reader) (own reader) NoMemory (Own reader) (Own reader) s s (own_takes reader reader s) (one reader) (behind_none form g n (own reader))))
 
   -- the shared one stays in its window
@@ -131,19 +136,19 @@ module _ {J I : Type 0} (own : J → Feed) (shared : I → Feed) (form : InputFo
       both_shared (λ x y. TakesOne own (shared_feed shared) P x y s (InHand over)) turn after is stays (from_behind (shared_feed shared s) (feed_of shared window) (feed_of shared over) [] P kept f)
 
   pub shared_stops : (n : ℕ) (last : List Change) (fault : Fault) (turn after : InputReader J) (s : SharedWindow I) (window over : Window I) → ((it : I) (whole x y : List ℕ) → (shared it).may whole x → (shared it).may whole y → x ≡ y) → turn ≡ Shared → after ≡ Shared → Keeps (shared_feed shared s) (feed_of shared window)
-      → StopsBehind form g n last (feed_of shared window) (feed_of shared over) fault → StopsInput own (shared_feed shared) form g n last fault turn after s (InHand over)
+      → StopsBehind form g n last (feed_of shared window) (feed_of shared over) fault → InputStops own (shared_feed shared) form g n last fault turn after s (InHand over)
   shared_stops n last fault turn after s window over one is stays kept stops =
-      both_shared (λ x y. StopsInput own (shared_feed shared) form g n last fault x y s (InHand over)) turn after is stays
+      both_shared (λ x y. InputStops own (shared_feed shared) form g n last fault x y s (InHand over)) turn after is stays
       (stops_input own (shared_feed shared) form g n last (shared_feed shared s) (feed_of shared over) fault Shared Shared s (InHand over) (λ B f. f) (shared_one s one)
       (behind_let_go form g n last (shared_feed shared s) (feed_of shared window) (feed_of shared over) (feed_of shared over) [] fault kept stops (nothing_taken (feed_of shared over))))
 
   pub shared_unread : (n : ℕ) (turn after : InputReader J) (s : SharedWindow I) (refused : I) → ((it : I) (whole x y : List ℕ) → (shared it).may whole x → (shared it).may whole y → x ≡ y) → turn ≡ Shared → after ≡ Shared → Keeps (shared_feed shared s) (shared refused)
-      → StopsInput own (shared_feed shared) form g n [] NoMemory turn after s (Unread refused)
+      → InputStops own (shared_feed shared) form g n [] NoMemory turn after s (Unread refused)
   shared_unread n turn after s refused one is stays kept =
-      both_shared (λ x y. StopsInput own (shared_feed shared) form g n [] NoMemory x y s (Unread refused)) turn after is stays
+      both_shared (λ x y. InputStops own (shared_feed shared) form g n [] NoMemory x y s (Unread refused)) turn after is stays
       (stops_input own (shared_feed shared) form g n [] (shared_feed shared s) (shared refused) NoMemory Shared Shared s (Unread refused) (λ B f. f) (shared_one s one)
       (behind_let_go form g n [] (shared_feed shared s) (shared_feed shared s) (shared_feed shared s) (shared refused) [] NoMemory (nothing_taken (shared_feed shared s)) (behind_none form g n (shared_feed shared s)) kept))
 
 -- nothing was put of it
-pub none_stops : {S L : Type 0} {s : Ghosts S} {l : Widths L} (o : RunOptions) (n : ℕ) (now : Option (List ℕ)) (m : Maker S L s l) → PutsStop o n [] now now m m NoMemory
+pub none_stops : {S L : Type 0} {s : Ghosts S} {l : Widths L} (o : RunOptions) (n : ℕ) (now : Option (List ℕ)) (m : Maker S L s l) → PutsStop o n [] (progress now m) (progress now m) NoMemory
 none_stops o n now m = λ t read start same numbered h. text_stopped t (came read []) start now m n text.NoMemory (none_put t read start now m h)

@@ -19,7 +19,7 @@ use Rattle.cdb_tool.specs.Runs.Course.{Course, Task, task_of, with_change, with_
 use Rattle.cdb_tool.proofs.ToldLines.{part_more, part_none, part_whole}
 use Rattle.cdb_show.proofs.GivenInputs.{after, all_given, begins_given, first_fails, left_known}
 use Rattle.cdb_show.specs.Runs.Inputs.{InputForm, HasFaults, Puts, Changes, Lists, input_form, InputsLeft, BeginsWithItems, HasItemFault, OneBegins, FirstBegins, FirstHas}
-use Rattle.cdb_tool.specs.Runs.Make.{records_of, IsSomeBase, Makes, MakesDatabase, MeetsInput, MakeStops, BaseStops, InputsStop, RunFails, MakeRuns}
+use Rattle.cdb_tool.specs.Runs.Make.{records_of, IsSomeBase, Makes, MakesDatabase, MeetsInput, MakeStops, BaseStops, InputsStop, RunFails, MakeRuns, terms_of}
 use Rattle.cdb_tool.specs.Runs.Make as make_run
 use Rattle.cdb_tool.specs.Runs.MakesSo.{MakesSo, IsMakeRefusal, ComesOf}
 use Rattle.cdb_show.specs.Runs.Given.{Given, given_from}
@@ -255,7 +255,7 @@ with_base : (w g : ℕ) (o : RunOptions) (base : Option (List ℕ)) (inputs : Li
 with_base w g o base inputs shared images old new result is h =
     subst (λ why. ComesOf w o (unless_stopped why (made_from w (task_of o (records_of w base)) (given_from (input_form o.make.style (is_some (records_of w base))) g 1 inputs shared))) images old new result) (sym (some_base w o.make.limit base is)) h
 
-pub made_so : (w g : ℕ) (o : RunOptions) (base : Option (List ℕ)) (inputs : List (Option (List ℕ))) (shared : List ℕ) (left : InputsLeft) (images : List ℕ → Type 0) (old new : Option (List ℕ)) → Known inputs shared left → Makes w g o base left images old new
+pub made_so : (w g : ℕ) (o : RunOptions) (base : Option (List ℕ)) (inputs : List (Option (List ℕ))) (shared : List ℕ) (left : InputsLeft) (images : List ℕ → Type 0) (old new : Option (List ℕ)) → Known inputs shared left → Makes (terms_of w g o) base left images old new
     → MakesSo w o (made_of w g o.make base inputs shared) images old new (Ok tt)
 made_so w g o base inputs shared left images old new k h =
     let t = task_of o (records_of w base) in
@@ -265,13 +265,13 @@ made_so w g o base inputs shared left images old new k h =
     (subst (λ v. MakesSo w o (made_from w t v) images old new (Ok tt)) (sym given)
     (record { is = sym (ap (λ e. ended_by e None) m.goes.going); lines = m.goes.lines; file = m.file }))
 
-run_fails : (w g : ℕ) (o : RunOptions) (base : Option (List ℕ)) (inputs : List (Option (List ℕ))) (shared : List ℕ) (left : InputsLeft) (images : List ℕ → Type 0) (old new : Option (List ℕ)) (f : Fault) → Known inputs shared left → RunFails w g o base left old new f
+run_fails : (w g : ℕ) (o : RunOptions) (base : Option (List ℕ)) (inputs : List (Option (List ℕ))) (shared : List ℕ) (left : InputsLeft) (images : List ℕ → Type 0) (old new : Option (List ℕ)) (f : Fault) → Known inputs shared left → RunFails (terms_of w g o) base left old new f
     → ComesOf w o (made_of w g o.make base inputs shared) images old new (Err f)
 run_fails w g o base inputs shared left images old new f k (inl stops) = some_base_stops w g o base images old new _ f stops
 run_fails w g o base inputs shared left images old new f k (inr stops) =
     with_base w g o base inputs shared images old new (Err f) stops.based (inputs_stop w g (task_of o (records_of w base)) inputs shared left images old new f k stops.fails)
 
-pub run_comes : (w g : ℕ) (o : RunOptions) (base : Option (List ℕ)) (inputs : List (Option (List ℕ))) (shared : List ℕ) (left : InputsLeft) (images : List ℕ → Type 0) (old new : Option (List ℕ)) (result : Result Unit Fault) → Known inputs shared left → MakeRuns w g o base left images old new result
+pub run_comes : (w g : ℕ) (o : RunOptions) (base : Option (List ℕ)) (inputs : List (Option (List ℕ))) (shared : List ℕ) (left : InputsLeft) (images : List ℕ → Type 0) (old new : Option (List ℕ)) (result : Result Unit Fault) → Known inputs shared left → MakeRuns (terms_of w g o) base left images old new result
     → ComesOf w o (made_of w g o.make base inputs shared) images old new result
 run_comes w g o base inputs shared left images old new (Ok done) k h = inl (made_so w g o base inputs shared left images old new k h.ok)
 run_comes w g o base inputs shared left images old new (Err f) k h = run_fails w g o base inputs shared left images old new f k h.err

@@ -1,6 +1,6 @@
 -- How a run ends: without a record, with a fault of its inputs or its store, or with its file; and
 -- then the flush.
-use Rattle.cdb_tool.proofs.Words.{AreAllInputs, Bool, Change, ComesFrom, Err, FailsFinishing, Fault, FirstBegins, Flushed, Ghosts, Holds, Incoming, InputForm, InputsLeft, IsFile, IsOk, Keeps, KeyValue, List, MakeFault, Maker, None, Ok, OneBegins, OneInput, Option, Result, RunOptions, Some, TellsPart, WhereHonest, [], ap, appends_kept, appends_none, arith, bytes_of, came, file_size, from_inputs, holds_fits, inl, inr, is_some, limit_of, make_fault, not_ok, refl, subst, sym, true≢false, walk_of, ℕ, ◌<◌, ◌∙◌, ◌≡◌, ◌≤◌, ◌⊎◌}
+use Rattle.cdb_tool.proofs.Words.{AreAllInputs, Bool, Change, ComesFrom, Err, FailsFinishing, Fault, FirstBegins, Flushed, Ghosts, Holds, Incoming, InputForm, InputsLeft, IsFile, IsOk, Keeps, KeyValue, List, MakeFault, Maker, None, Ok, OneBegins, OneInput, Option, Result, RunOptions, Some, TellsPart, WhereHonest, [], ap, appends_kept, appends_none, arith, bytes_of, came, file_size, from_inputs, holds_fits, inl, inr, is_some, limit_of, make_fault, not_ok, refl, subst, sym, terms_of, true≢false, walk_of, ℕ, ◌<◌, ◌∙◌, ◌≡◌, ◌≤◌, ◌⊎◌}
 use Rattle.cdb_form.specs.declared.width.Width.{Ghosts as Widths}
 use Rattle.cdb_make.specs.Views.Making.{MakingFault}
 use Rattle.cdb_store.specs.declared.make_fault.MakeFault.TheVariants as make
@@ -22,7 +22,7 @@ goes_none : (w : ℕ) (t : Task) (start : Option (List ℕ)) → Goes w t [] sta
 goes_none w t start = record { going = refl; lines = tells_none t.options.names start }
 
 not_made : {S : Type 0} (image : S → List ℕ → Type 0) (size written failures : S → ℕ) (w g : ℕ) (o : RunOptions) (x : Option (List ℕ)) (inputs : InputsLeft) (start : Option (List ℕ)) (old new : S) (f : MakeFault) → MakingFault image size written failures old new f
-    → RunFails w g o x inputs start start (make_fault f)
+    → RunFails (terms_of w g o) x inputs start start (make_fault f)
 not_made image size written failures w g o None inputs start old new make.NoMemory h = inr (record { based = tt; fails = stops_none w g (task_of o None) inputs start NoMemory (goes_none w (task_of o None) start) })
 not_made image size written failures w g o None inputs start old new make.Writing h = inr (record { based = tt; fails = stops_none w g (task_of o None) inputs start (Make make.Writing) (goes_none w (task_of o None) start) })
 not_made image size written failures w g o (Some b) inputs start old new make.NoMemory h = inl (record { fails = tt; lines = appends_none start })
@@ -51,16 +51,16 @@ each_base s None P f = f None
 each_base s (Some base) P f = λ b is. f (Some b)
 
 pub runs_not : {S B : Type 0} (image : S → List ℕ → Type 0) (size written failures : S → ℕ) (s : Ghosts B) (base : Option B) (w g : ℕ) (o : RunOptions) (inputs : InputsLeft) (start : Option (List ℕ)) (old new : S) (images : List ℕ → Type 0) (f : MakeFault)
-    → MakingFault image size written failures old new f → WhereHonest images (OfBase s base (λ x. MakeRuns w g o x inputs images start start (Err (make_fault f))))
+    → MakingFault image size written failures old new f → WhereHonest images (OfBase s base (λ x. MakeRuns (terms_of w g o) x inputs images start start (Err (make_fault f))))
 runs_not image size written failures s base w g o inputs start old new images f h =
     record { each = λ a j. each_base s base _ (λ x. record { ok = tt; err = not_made image size written failures w g o x inputs start old new f h }) }
 
 -- nothing was begun, since an allocation failed
-unbegun : (w g : ℕ) (o : RunOptions) (x : Option (List ℕ)) (inputs : InputsLeft) (start : Option (List ℕ)) → RunFails w g o x inputs start start NoMemory
+unbegun : (w g : ℕ) (o : RunOptions) (x : Option (List ℕ)) (inputs : InputsLeft) (start : Option (List ℕ)) → RunFails (terms_of w g o) x inputs start start NoMemory
 unbegun w g o None inputs start = inr (record { based = tt; fails = stops_none w g (task_of o None) inputs start NoMemory (goes_none w (task_of o None) start) })
 unbegun w g o (Some b) inputs start = inl (record { fails = tt; lines = appends_none start })
 
-pub runs_unbegun : {B : Type 0} (s : Ghosts B) (base : Option B) (w g : ℕ) (o : RunOptions) (inputs : InputsLeft) (start : Option (List ℕ)) (images : List ℕ → Type 0) → WhereHonest images (OfBase s base (λ x. MakeRuns w g o x inputs images start start (Err NoMemory)))
+pub runs_unbegun : {B : Type 0} (s : Ghosts B) (base : Option B) (w g : ℕ) (o : RunOptions) (inputs : InputsLeft) (start : Option (List ℕ)) (images : List ℕ → Type 0) → WhereHonest images (OfBase s base (λ x. MakeRuns (terms_of w g o) x inputs images start start (Err NoMemory)))
 runs_unbegun s base w g o inputs start images = record { each = λ a j. each_base s base _ (λ x. record { ok = tt; err = unbegun w g o x inputs start }) }
 
 -- ---- its base stopped it
@@ -76,7 +76,7 @@ hands_same s None = tt
 hands_same s (Some base) = record { images = λ b is. is; size = refl; written = refl; room = omega arith; failures = omega arith; unwritten = omega arith }
 
 pub runs_unbased : {B : Type 0} (s : Ghosts B) (base : Option B) (w g : ℕ) (o : RunOptions) (limit : ℕ) (inputs : InputsLeft) (start : Option (List ℕ)) (images : List ℕ → Type 0) (f : Fault) → limit ≡ o.make.limit → BaseStopped w limit s base images f
-    → WhereHonest images (OfBase s base (λ x. MakeRuns w g o x inputs images start start (Err f)))
+    → WhereHonest images (OfBase s base (λ x. MakeRuns (terms_of w g o) x inputs images start start (Err f)))
 runs_unbased s None w g o limit inputs start images f same h = absurd h
 runs_unbased s (Some base) w g o limit inputs start images f same h = record {
   each = λ a j. λ b is. record {
@@ -109,7 +109,7 @@ of_held t (Some base) o start m P wide h limit a j f = λ b is. f (Some b) refl 
 pub runs_stopped : {S L B : Type 0} {s : Ghosts S} {l : Widths L} (t : Ghosts B) (base : Option B) (g : ℕ) (o : RunOptions) (amends : Bool) (inputs : InputsLeft) (start now : Option (List ℕ)) (m : Maker S L s l) (images : List ℕ → Type 0) (f : Fault)
     → (l.WORD ≡ 4) ⊎ (l.WORD ≡ 8) → HoldsBase l.WORD t base m → limit_of m ≡ o.make.limit → is_some base ≡ amends → ComesFrom (s.image m.store) images
     → ((k : Task) → k.options ≡ o → is_some k.base ≡ amends → InCourse k [] start start m → WhereHonest images (InputsFail l.WORD g k inputs start now f))
-    → WhereHonest images (OfBase t base (λ x. MakeRuns l.WORD g o x inputs images start now (Err f)))
+    → WhereHonest images (OfBase t base (λ x. MakeRuns (terms_of l.WORD g o) x inputs images start now (Err f)))
 runs_stopped {l = l} t base g o amends inputs start now m images f wide h limit some comes fails = record {
   each = λ b is.
       let a = comes.each b is in
@@ -123,7 +123,7 @@ pub runs_whole : {S L B : Type 0} {s : Ghosts S} {l : Widths L} (t : Ghosts B) (
     → (l.WORD ≡ 4) ⊎ (l.WORD ≡ 8) → HoldsBase l.WORD t base begun → limit_of begun ≡ o.make.limit → AreAllInputs (form.input_form o.make.style (is_some base)) g read inputs
     → ((k : Task) → k.options ≡ o → InCourse k [] start start begun → InCourse k (from_inputs 1 read) start now m)
     → ComesFrom (s.image begun.store) (s.image m.store) → ComesFrom (s.image m.store) images → ((rs : List KeyValue) → Holds m rs → IsFile l.WORD rs images)
-    → WhereHonest images (OfBase t base (λ x. MakeRuns l.WORD g o x inputs images start now (Ok tt)))
+    → WhereHonest images (OfBase t base (λ x. MakeRuns (terms_of l.WORD g o) x inputs images start now (Ok tt)))
 runs_whole {l = l} t base g o inputs read start now begun m images wide h limit are course before comes file = record {
   each = λ b is.
       let a = comes.each b is in
@@ -171,7 +171,7 @@ unfinished_memory old new make.TooBig x e = absurd x
 pub runs_unfinished : {S L B : Type 0} {s : Ghosts S} {l : Widths L} (t : Ghosts B) (base : Option B) (g : ℕ) (o : RunOptions) (inputs : InputsLeft) (read : List (List Change)) (start now : Option (List ℕ)) (begun old new : Maker S L s l) (f : MakeFault)
     → (l.WORD ≡ 4) ⊎ (l.WORD ≡ 8) → HoldsBase l.WORD t base begun → limit_of begun ≡ o.make.limit → AreAllInputs (form.input_form o.make.style (is_some base)) g read inputs
     → ((k : Task) → k.options ≡ o → InCourse k [] start start begun → InCourse k (from_inputs 1 read) start now old) → ComesFrom (s.image begun.store) (s.image old.store) → ComesFrom (s.image old.store) (s.image new.store)
-    → FailsFinishing old new f → WhereHonest (s.image new.store) (OfBase t base (λ x. MakeRuns l.WORD g o x inputs (s.image new.store) start now (Err (make_fault f))))
+    → FailsFinishing old new f → WhereHonest (s.image new.store) (OfBase t base (λ x. MakeRuns (terms_of l.WORD g o) x inputs (s.image new.store) start now (Err (make_fault f))))
 runs_unfinished {l = l} t base g o inputs read start now begun old new f wide h limit are course before comes fails = record {
   each = λ b is.
       let a = comes.each b is in
@@ -238,13 +238,13 @@ fails_kept w g o inputs old mid new (Old side) h k = stop_kept w g o inputs old 
 fails_kept w g o inputs old mid new (New side) h k = stop_kept w g o inputs old mid new (New side) h k
 fails_kept w g o inputs old mid new NoMemory h k = stop_kept w g o inputs old mid new NoMemory h k
 
-run_kept : (w g : ℕ) (o : RunOptions) (x : Option (List ℕ)) (inputs : InputsLeft) (old mid new : Option (List ℕ)) (f : Fault) → RunFails w g o x inputs old mid f → Keeps mid new → RunFails w g o x inputs old new f
-run_kept w g o x inputs old mid new f h k = elim h as (λ _. RunFails w g o x inputs old new f) [
+run_kept : (w g : ℕ) (o : RunOptions) (x : Option (List ℕ)) (inputs : InputsLeft) (old mid new : Option (List ℕ)) (f : Fault) → RunFails (terms_of w g o) x inputs old mid f → Keeps mid new → RunFails (terms_of w g o) x inputs old new f
+run_kept w g o x inputs old mid new f h k = elim h as (λ _. RunFails (terms_of w g o) x inputs old new f) [
   | inl base ↦ inl (record { fails = base.fails; lines = appends_kept old mid new [] base.lines k })
   | inr stop ↦ inr (record { based = stop.based; fails = fails_kept w g (task_of o (records_of w x)) inputs old mid new f stop.fails k })
 ]
 
-runs_kept : (w g : ℕ) (o : RunOptions) (x : Option (List ℕ)) (inputs : InputsLeft) (images : List ℕ → Type 0) (old mid new : Option (List ℕ)) (r : Result Unit Fault) → MakeRuns w g o x inputs images old mid r → Keeps mid new → MakeRuns w g o x inputs images old new r
+runs_kept : (w g : ℕ) (o : RunOptions) (x : Option (List ℕ)) (inputs : InputsLeft) (images : List ℕ → Type 0) (old mid new : Option (List ℕ)) (r : Result Unit Fault) → MakeRuns (terms_of w g o) x inputs images old mid r → Keeps mid new → MakeRuns (terms_of w g o) x inputs images old new r
 runs_kept w g o x inputs images old mid new (Ok u) h k =
     let made = h.ok.made in
     record {
@@ -256,7 +256,7 @@ runs_kept w g o x inputs images old mid new (Ok u) h k =
     }
 runs_kept w g o x inputs images old mid new (Err f) h k = record { ok = tt; err = run_kept w g o x inputs old mid new f h.err k }
 
-flush_fails : (w g : ℕ) (o : RunOptions) (x : Option (List ℕ)) (inputs : InputsLeft) (images : List ℕ → Type 0) (old mid new : Option (List ℕ)) (r : Result Unit Fault) → MakeRuns w g o x inputs images old mid r → Keeps mid new → IsOk r → MakeRuns w g o x inputs images old new (Err Output)
+flush_fails : (w g : ℕ) (o : RunOptions) (x : Option (List ℕ)) (inputs : InputsLeft) (images : List ℕ → Type 0) (old mid new : Option (List ℕ)) (r : Result Unit Fault) → MakeRuns (terms_of w g o) x inputs images old mid r → Keeps mid new → IsOk r → MakeRuns (terms_of w g o) x inputs images old new (Err Output)
 flush_fails w g o x inputs images old mid new (Ok u) h k is =
     let t : Task = task_of o (records_of w x) in
     let made = h.ok.made in
@@ -270,10 +270,10 @@ flush_fails w g o x inputs images old mid new (Ok u) h k is =
     }
 flush_fails w g o x inputs images old mid new (Err f) h k is = absurd (not_ok is)
 
-flush_each : (w g : ℕ) (o : RunOptions) (x : Option (List ℕ)) (inputs : InputsLeft) (images : List ℕ → Type 0) (old mid new : Option (List ℕ)) (answer result : Result Unit Fault) → Flushed mid new answer result → MakeRuns w g o x inputs images old mid answer → MakeRuns w g o x inputs images old new result
-flush_each w g o x inputs images old mid new answer result f h = elim f.answered as (λ _. MakeRuns w g o x inputs images old new result) [
-  | inl e ↦ subst (MakeRuns w g o x inputs images old new) (sym e) (runs_kept w g o x inputs images old mid new answer h f.kept)
-  | inr e ↦ subst (MakeRuns w g o x inputs images old new) (sym e.1) (flush_fails w g o x inputs images old mid new answer h f.kept e.0)
+flush_each : (w g : ℕ) (o : RunOptions) (x : Option (List ℕ)) (inputs : InputsLeft) (images : List ℕ → Type 0) (old mid new : Option (List ℕ)) (answer result : Result Unit Fault) → Flushed mid new answer result → MakeRuns (terms_of w g o) x inputs images old mid answer → MakeRuns (terms_of w g o) x inputs images old new result
+flush_each w g o x inputs images old mid new answer result f h = elim f.answered as (λ _. MakeRuns (terms_of w g o) x inputs images old new result) [
+  | inl e ↦ subst (MakeRuns (terms_of w g o) x inputs images old new) (sym e) (runs_kept w g o x inputs images old mid new answer h f.kept)
+  | inr e ↦ subst (MakeRuns (terms_of w g o) x inputs images old new) (sym e.1) (flush_fails w g o x inputs images old mid new answer h f.kept e.0)
 ]
 
 pub base_weaker : {B : Type 0} (s : Ghosts B) (base : Option B) (P Q : Option (List ℕ) → Type 0) → ((x : Option (List ℕ)) → P x → Q x) → OfBase s base P → OfBase s base Q
@@ -281,8 +281,8 @@ base_weaker s None P Q f h = f None h
 base_weaker s (Some base) P Q f h = λ b is. f (Some b) (h b is)
 
 pub runs_flushed : {B : Type 0} (s : Ghosts B) (base : Option B) (w g : ℕ) (o : RunOptions) (inputs : InputsLeft) (images : List ℕ → Type 0) (old mid new : Option (List ℕ)) (answer result : Result Unit Fault)
-    → WhereHonest images (OfBase s base (λ x. MakeRuns w g o x inputs images old mid answer)) → Flushed mid new answer result
-    → WhereHonest images (OfBase s base (λ x. MakeRuns w g o x inputs images old new result))
+    → WhereHonest images (OfBase s base (λ x. MakeRuns (terms_of w g o) x inputs images old mid answer)) → Flushed mid new answer result
+    → WhereHonest images (OfBase s base (λ x. MakeRuns (terms_of w g o) x inputs images old new result))
 runs_flushed s base w g o inputs images old mid new answer result h f = record {
   each = λ b is. base_weaker s base _ _ (λ x. flush_each w g o x inputs images old mid new answer result f) (h.each b is);
 }

@@ -46,9 +46,9 @@ pub use Rattle.cdb_store.specs.declared.store.Store.{Ghosts}
 pub use Rattle.cdb_tool.specs.Runs.Base.{NotAdded}
 pub use Rattle.cdb_tool.specs.Runs.Course.{Course, EndsSo, Task, course_of, ends, is_going, mode_of, with_change, with_next}
 pub use Rattle.cdb_tool.specs.Runs.FormParsing.{BeginsSo, FailsSo, parsing}
-pub use Rattle.cdb_tool.specs.Runs.InputsRead.{HasRead, IsFaultAt, RunsRead, StopsInput, WereRead, stop_by}
+pub use Rattle.cdb_tool.specs.Runs.InputsRead.{HasRead, IsFaultAt, IsOfInput, RunsRead, StopsInput, WereRead, feeds_of, run_state, stop_by}
 pub use Rattle.cdb_tool.specs.Runs.Made.{made_of}
-pub use Rattle.cdb_tool.specs.Runs.Make.{InCourse, MakeRuns, OfBase, PutsInputs, PutsInputsStop, PutsStop}
+pub use Rattle.cdb_tool.specs.Runs.Make.{InCourse, MakeRuns, OfBase, PutsInputs, PutsInputsStop, PutsStop, progress, terms_of}
 pub use Rattle.cdb_tool.specs.Runs.MakesSo.{ComesOf}
 pub use Rattle.cdb_tool.specs.declared.runs.options.RunOptions.{RunOptions}
 pub use Rattle.std.proofs.Common.{Bool, Err, List, None, Ok, Option, Result, Some, [], ap, append_assoc, arith, drop, false, if◌then◌else◌, inl, inr, is_some, length, length-append, map, refl, rules, subst, sym, take, true, true≢false, ℕ, ◌*◌, ◌++◌, ◌+◌, ◌<◌, ◌^◌, ◌∙◌, ◌∷◌, ◌≡◌, ◌≢◌, ◌≤◌, ◌⊎◌}

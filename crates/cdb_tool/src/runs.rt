@@ -1,4 +1,5 @@
 // The runs that make a database.
+pub mod context;
 pub mod make;
 mod make_base;
 pub mod make_bytes;

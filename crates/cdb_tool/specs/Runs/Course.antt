@@ -41,11 +41,15 @@ meets_key AddedAgain = true
 meets_key Present = true
 meets_key (Replaced n) = true
 
+-- a put of a key, by the numbers of its input and of its item there
+abbrev pub put_at : (input number : ℕ) → (key : List ℕ) → Told
+put_at input number key = record { input = input; number = number; key = key }
+
 -- what is reported of a put
 abbrev pub told : MakeOptions → ℕ → ℕ → (key : List ℕ) → Result Put MakeFault → List Told
 told o input number key (Ok put) =
     if (o.warn || o.stop) && meets_key put
-    then record { input = input; number = number; key = key } ∷ [] else []
+    then put_at input number key ∷ [] else []
 told o input number key (Err fault) = []
 
 -- why it ends the run, or not
@@ -93,13 +97,13 @@ abbrev pub course_of : ℕ → Task → List Incoming → Course
 course_of w t cs = fold (with_next w t.options.make) (at_start t) cs
 
 -- what is reported of a put if the run stops there: its line was appended, or a prefix of it if the writer failed
-abbrev pub TellFails : RunOptions → ℕ → ℕ → (key : List ℕ) → Put → Option (List ℕ)
-    → Option (List ℕ) → Fault → Type 0
-TellFails o input number key put old new Duplicate =
-    TellsEach o.names (told o.make input number key (Ok put)) old new × (ends o.make (Ok put) ≡ Some Duplicate)
-TellFails o input number key put old new Output =
-    TellsPart o.names (told o.make input number key (Ok put)) old new
-TellFails o input number key put old new fault = ⊥
+abbrev pub TellFails : RunOptions → Told → Put → (old new : Option (List ℕ)) → Fault → Type 0
+TellFails o one put old new Duplicate =
+    TellsEach o.names (told o.make one.input one.number one.key (Ok put)) old new
+    × (ends o.make (Ok put) ≡ Some Duplicate)
+TellFails o one put old new Output =
+    TellsPart o.names (told o.make one.input one.number one.key (Ok put)) old new
+TellFails o one put old new fault = ⊥
 
 -- the run has not ended, and its lines were appended
 pub record Goes (w : ℕ) (t : Task) (cs : List Incoming) (old new : Option (List ℕ)) : Type 0

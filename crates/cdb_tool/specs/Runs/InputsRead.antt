@@ -7,9 +7,9 @@ use Rattle.cdb_form.specs.Views.TextFault.{IsOfText}
 use Rattle.cdb_form.specs.declared.text.fault.TextFault.{TextFault}
 use Rattle.cdb_form.specs.declared.text.fault.TextFault.TheVariants as text_fault
 use Rattle.cdb_feed.specs.Inputs.{AreRead, Stop, StopsSo, NoMore, HasFault, CutShort, NotBegun}
+use Rattle.cdb_feed.specs.Parsing.{Parsing}
 use Rattle.cdb_feed.specs.declared.input_reader.InputReader.{InputReader}
 use Rattle.cdb_make.specs.Views.Maker.{WhereHonest}
-use Rattle.cdb_tool.specs.declared.runs.options.RunOptions.{RunOptions}
 use Rattle.cdb_show.specs.Runs.Inputs.{InputForm, InputsLeft, AreInputs, FirstHas, HasFaults, input_form}
 use Rattle.cdb_show.specs.Views.Inputs.{ArePassed, shared_feed}
 use Rattle.cdb_show.specs.declared.fault.Fault.{Fault}
@@ -18,9 +18,17 @@ use Rattle.cdb_show.specs.declared.inputs.Inputs.{Inputs}
 use Rattle.cdb_show.specs.declared.inputs.SharedWindow.{SharedWindow}
 use Rattle.cdb_show.specs.declared.inputs.SharedWindow.TheVariants.{Unread}
 use Rattle.cdb_tool.specs.Runs.FormParsing.{BeginsSo, FailsSo, parsing}
-use Rattle.cdb_tool.specs.Runs.Make.{MakeRuns, OfBase}
+use Rattle.cdb_tool.specs.Runs.Make.{MakeRuns, OfBase, Terms}
 
 -- ---- the readers
+
+-- what is known of the readers of inputs: of an input's own, and of the one that they share
+pub record InputFeeds (J I : Type 0) : Type 1 where
+  pub own : J → Feed
+  pub shared : I → Feed
+
+abbrev pub feeds_of : {J I : Type 0} → (own : J → Feed) → (shared : I → Feed) → InputFeeds J I
+feeds_of own shared = record { own = own; shared = shared }
 
 -- why no more was read in a run with this fault, after these items of an input: it has a fault, or the run
 -- stopped there
@@ -36,25 +44,28 @@ pub record IsFaultAt (form : InputForm) (input number : ℕ) (fault : TextFault)
   pub own : IsOfText fault → HasFaults form
   pub memory : fault ≢ text_fault.NoMemory
 
--- a run stopped with this fault in the input with this number, of which it had come to these items
-pub record StopsInput {R S : Type 0} (own : R → Feed) (shared : S → Feed) (form : InputForm)
-    (greatest number : ℕ) (last : List Change) (fault : Fault) (before after : InputReader R) (old new : S)
-    : Type 0 where
-  pub stops : StopsSo own shared (parsing form greatest (Err fault)) (stop_by fault last) (before ∷ [])
-      (after ∷ []) old new
-  pub of_text : (n : ℕ) (f : TextFault) → fault ≡ Text n f → IsFaultAt form number n f
+-- a run with this fault stopped in the input with this number, if that is a fault of a text
+abbrev pub IsOfInput : InputForm → (number : ℕ) → Fault → Type 0
+IsOfInput form number fault =
+    (n : ℕ) (f : TextFault) → fault ≡ Text n f → IsFaultAt form number n f
 
--- The inputs of a run with this answer were read in turn, the first ones whole, with these items, and the readers
--- of those that were not reached are as they were. What the window over the shared reader held was lost when the reader was handed back.
-pub record WereRead {J I : Type 0} (own : J → Feed) (shared : I → Feed) (form : InputForm) (greatest : ℕ)
-    (answer : Result Unit Fault) (read : List (List Change)) (stop : Stop Change TextFault)
-    (before after : Inputs J I) : Type 0 where
+-- a run stopped so in an input
+abbrev pub StopsInput : {R S : Type 0} → InputFeeds R S → Parsing Change TextFault
+    → Stop Change TextFault → (before after : InputReader R) → (old new : S) → Type 0
+StopsInput feeds p stop before after old new =
+    StopsSo feeds.own feeds.shared p stop (before ∷ []) (after ∷ []) old new
+
+-- The inputs of a run were read in turn, the first ones whole, with these items, and the readers of those that were
+-- not reached are as they were. What the window over the shared reader held was lost when the reader was handed back.
+pub record WereRead {J I : Type 0} (feeds : InputFeeds J I) (p : Parsing Change TextFault)
+    (read : List (List Change)) (stop : Stop Change TextFault) (before after : Inputs J I)
+    : Type 0 where
   pub window : SharedWindow I
-  pub are : AreRead own (shared_feed shared) (parsing form greatest answer) read stop
+  pub are : AreRead feeds.own (shared_feed feeds.shared) p read stop
       before.readers.items after.readers.items (Unread before.shared) window
   pub passed : ArePassed read stop before.readers.items after.readers.items
   pub lost : List ℕ
-  pub let_go : Consumes (shared_feed shared window) (shared after.shared) lost
+  pub let_go : Consumes (shared_feed feeds.shared window) (feeds.shared after.shared) lost
 
 -- ---- the bytes
 
@@ -75,14 +86,30 @@ pub record HasRead (form : InputForm) (greatest : ℕ) (answer : Result Unit Fau
   pub are : AreInputs form greatest read inputs rest
   pub stops : StopsIn form greatest answer stop rest
 
+-- what a run reads and what it reports, before it or as it left them: its base, its inputs, and the lines
+pub record RunState (B J I : Type 0) : Type 0 where
+  pub base : Option B
+  pub inputs : Inputs J I
+  pub lines : Option (List ℕ)
+
+abbrev pub run_state : {B J I : Type 0} → Option B → Inputs J I → (lines : Option (List ℕ))
+    → RunState B J I
+run_state base inputs lines = record { base = base; inputs = inputs; lines = lines }
+
+-- the form of the inputs of a run that begins so
+abbrev pub read_form : {B J I : Type 0} → Terms → RunState B J I → InputForm
+read_form terms before = input_form terms.options.make.style (is_some before.base)
+
 -- What a run leaves that read its inputs, by its base as it was and as it was handed back: what `MakeRuns` says of
 -- any inputs that agree with what was read.
-pub record RunsRead {B J I : Type 0} (w greatest : ℕ) (o : RunOptions) (own : J → Feed) (shared : I → Feed)
-    (s : Ghosts B) (was base : Option B) (before after : Inputs J I) (images : List ℕ → Type 0)
-    (old new : Option (List ℕ)) (result : Result Unit Fault) : Type 0 where
+pub record RunsRead {B J I : Type 0} (terms : Terms) (feeds : InputFeeds J I) (s : Ghosts B)
+    (before after : RunState B J I) (images : List ℕ → Type 0) (result : Result Unit Fault)
+    : Type 0 where
   pub read : List (List Change)
   pub stop : Stop Change TextFault
-  pub were : WereRead own shared (input_form o.make.style (is_some was)) greatest result read stop before after
+  pub were : WereRead feeds (parsing (read_form terms before) terms.greatest result) read stop
+      before.inputs after.inputs
   pub runs : (inputs : InputsLeft)
-      → HasRead (input_form o.make.style (is_some was)) greatest result read stop inputs
-      → WhereHonest images (OfBase s base (λ b. MakeRuns w greatest o b inputs images old new result))
+      → HasRead (read_form terms before) terms.greatest result read stop inputs
+      → WhereHonest images (OfBase s after.base (λ b.
+      MakeRuns terms b inputs images before.lines after.lines result))

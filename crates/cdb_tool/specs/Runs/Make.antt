@@ -119,12 +119,25 @@ InputsFail w greatest t inputs old new fault = MakeStops w greatest t inputs old
 
 -- ---- the run
 
+-- the terms of a run: words of so many bytes, a file of at most the greatest length, and the options
+pub record Terms : Type 0 where
+  pub word : ℕ
+  pub greatest : ℕ
+  pub options : RunOptions
+
+abbrev pub terms_of : (word greatest : ℕ) → RunOptions → Terms
+terms_of word greatest options =
+    record { word = word; greatest = greatest; options = options }
+
+-- what it is to do after this base
+abbrev pub task_after : Terms → (base : Option (List ℕ)) → Task
+task_after terms base = task_of terms.options (records_of terms.word base)
+
 -- it made the database of its base and its inputs
-pub record Makes (w greatest : ℕ) (o : RunOptions) (base : Option (List ℕ))
-    (inputs : InputsLeft) (images : List ℕ → Type 0) (old new : Option (List ℕ))
-    : Type 0 where
-  pub based : IsSomeBase w o.make.limit base
-  pub made : MakesDatabase w greatest (task_of o (records_of w base)) inputs images old new
+pub record Makes (terms : Terms) (base : Option (List ℕ)) (inputs : InputsLeft)
+    (images : List ℕ → Type 0) (old new : Option (List ℕ)) : Type 0 where
+  pub based : IsSomeBase terms.word terms.options.make.limit base
+  pub made : MakesDatabase terms.word terms.greatest (task_after terms base) inputs images old new
 
 -- its base failed, and no line was written; or it came to the inputs
 pub record BaseStops (w limit : ℕ) (base : Option (List ℕ)) (old new : Option (List ℕ))
@@ -132,22 +145,23 @@ pub record BaseStops (w limit : ℕ) (base : Option (List ℕ)) (old new : Optio
   pub fails : SomeBaseFails w limit base fault
   pub lines : Appends old new []
 
-pub record InputsStop (w greatest : ℕ) (o : RunOptions) (base : Option (List ℕ))
-    (inputs : InputsLeft) (old new : Option (List ℕ)) (fault : Fault) : Type 0 where
-  pub based : IsSomeBase w o.make.limit base
-  pub fails : InputsFail w greatest (task_of o (records_of w base)) inputs old new fault
+pub record InputsStop (terms : Terms) (base : Option (List ℕ)) (inputs : InputsLeft)
+    (old new : Option (List ℕ)) (fault : Fault) : Type 0 where
+  pub based : IsSomeBase terms.word terms.options.make.limit base
+  pub fails : InputsFail terms.word terms.greatest (task_after terms base) inputs old new fault
 
-abbrev pub RunFails : ℕ → ℕ → RunOptions → Option (List ℕ) → InputsLeft
-    → Option (List ℕ) → Option (List ℕ) → Fault → Type 0
-RunFails w greatest o base inputs old new fault =
-    BaseStops w o.make.limit base old new fault ⊎ InputsStop w greatest o base inputs old new fault
+abbrev pub RunFails : Terms → Option (List ℕ) → InputsLeft → Option (List ℕ) → Option (List ℕ)
+    → Fault → Type 0
+RunFails terms base inputs old new fault =
+    BaseStops terms.word terms.options.make.limit base old new fault
+    ⊎ InputsStop terms base inputs old new fault
 
 -- what a run leaves, if its store has an image
-pub record MakeRuns (w greatest : ℕ) (o : RunOptions) (base : Option (List ℕ))
-    (inputs : InputsLeft) (images : List ℕ → Type 0) (old new : Option (List ℕ))
-    (result : Result Unit Fault) : Type 0 where
-  pub ok : OnOk result (Makes w greatest o base inputs images old new)
-  pub err : IfErr result (RunFails w greatest o base inputs old new)
+pub record MakeRuns (terms : Terms) (base : Option (List ℕ)) (inputs : InputsLeft)
+    (images : List ℕ → Type 0) (old new : Option (List ℕ)) (result : Result Unit Fault)
+    : Type 0 where
+  pub ok : OnOk result (Makes terms base inputs images old new)
+  pub err : IfErr result (RunFails terms base inputs old new)
 
 -- the fault is one of the store
 abbrev pub IsOfStore : Fault → Type 0
@@ -164,13 +178,27 @@ pub record InCourse {S L : Type 0} {s : Ghosts S} {l : Widths L} (t : Task)
   pub limit : limit_of m ≡ t.options.make.limit
   pub goes : WhereHonest (s.image m.store) (Goes l.WORD t cs old new)
 
+-- how far a run has come: the lines that were reported, if they are known, and the maker
+pub record Progress {S L : Type 0} (s : Ghosts S) (l : Widths L) : Type 0 where
+  pub lines : Option (List ℕ)
+  pub maker : Maker S L s l
+
+abbrev pub progress : {S L : Type 0} {s : Ghosts S} {l : Widths L} → Option (List ℕ)
+    → Maker S L s l → Progress s l
+progress lines maker = record { lines = lines; maker = maker }
+
+-- it has come so far with these items
+abbrev pub HasCome : {S L : Type 0} {s : Ghosts S} {l : Widths L} → Task → List Incoming
+    → (start : Option (List ℕ)) → Progress s l → Type 0
+HasCome t cs start now = InCourse t cs start now.lines now.maker
+
 -- the items of an input of this number were done, after those of the inputs that were read
 abbrev pub PutsItems : {S L : Type 0} {s : Ghosts S} {l : Widths L} → RunOptions → (number : ℕ)
-    → List Change → (before now : Option (List ℕ)) → (old new : Maker S L s l) → Type 0
-PutsItems o number last before now old new =
+    → List Change → (old new : Progress s l) → Type 0
+PutsItems o number last old new =
     (t : Task) (read : List (List Change)) (start : Option (List ℕ)) → t.options ≡ o
-    → number ≡ length read + 1 → InCourse t (from_inputs 1 read) start before old
-    → InCourse t (from_inputs 1 (read ++ last ∷ [])) start now new
+    → number ≡ length read + 1 → HasCome t (from_inputs 1 read) start old
+    → HasCome t (from_inputs 1 (read ++ last ∷ [])) start new
 
 -- a maker has what a run came to: it counts its records and, unless it is broken, holds them; and the
 -- lines are those of the same items
@@ -221,11 +249,11 @@ pub record ItemDone {S L : Type 0} {s : Ghosts S} {l : Widths L} (t : Task) (cs 
 
 -- an item of these numbers leaves so each run that has these options and came to it
 abbrev pub DoesItem : {S L : Type 0} {s : Ghosts S} {l : Widths L} → RunOptions → (input number : ℕ)
-    → Change → (before now : Option (List ℕ)) → (old new : Maker S L s l) → Result Unit Fault → Type 0
-DoesItem o input number it before now old new result =
+    → Change → (old new : Progress s l) → Result Unit Fault → Type 0
+DoesItem o input number it old new result =
     (t : Task) (cs : List Incoming) (start : Option (List ℕ)) → t.options ≡ o
-    → InCourse t cs start before old
-    → ItemDone t cs (record { input = input; number = number; it = it }) start now new result
+    → HasCome t cs start old
+    → ItemDone t cs (record { input = input; number = number; it = it }) start new.lines new.maker result
 
 -- the fault is none of an input
 abbrev pub IsNoText : Fault → Type 0
@@ -245,26 +273,25 @@ pub record StoppedAt {S L : Type 0} {s : Ghosts S} {l : Widths L} (t : Task) (cs
 
 -- it stopped after these items of an input of this number, which follow those of the inputs that were read
 abbrev pub PutsStop : {S L : Type 0} {s : Ghosts S} {l : Widths L} → RunOptions → (number : ℕ)
-    → List Change → (before now : Option (List ℕ)) → (old new : Maker S L s l) → Fault → Type 0
-PutsStop o number last before now old new fault =
+    → List Change → (old new : Progress s l) → Fault → Type 0
+PutsStop o number last old new fault =
     (t : Task) (read : List (List Change)) (start : Option (List ℕ)) → t.options ≡ o
-    → number ≡ length read + 1 → InCourse t (from_inputs 1 read) start before old
-    → StoppedAt t (came read last) start now new fault
+    → number ≡ length read + 1 → HasCome t (from_inputs 1 read) start old
+    → StoppedAt t (came read last) start new.lines new.maker fault
 
 -- the items of the first inputs were done; and then the run stopped, after these items of the next one
 abbrev pub PutsInputs : {S L : Type 0} {s : Ghosts S} {l : Widths L} → RunOptions
-    → (read : List (List Change)) → (before now : Option (List ℕ)) → (old new : Maker S L s l)
-    → Type 0
-PutsInputs o read before now old new =
-    (t : Task) (start : Option (List ℕ)) → t.options ≡ o → InCourse t [] start before old
-    → InCourse t (from_inputs 1 read) start now new
+    → (read : List (List Change)) → (old new : Progress s l) → Type 0
+PutsInputs o read old new =
+    (t : Task) (start : Option (List ℕ)) → t.options ≡ o → HasCome t [] start old
+    → HasCome t (from_inputs 1 read) start new
 
 abbrev pub PutsInputsStop : {S L : Type 0} {s : Ghosts S} {l : Widths L} → RunOptions
-    → (read : List (List Change)) → (last : List Change) → (before now : Option (List ℕ))
-    → (old new : Maker S L s l) → Fault → Type 0
-PutsInputsStop o read last before now old new fault =
-    (t : Task) (start : Option (List ℕ)) → t.options ≡ o → InCourse t [] start before old
-    → StoppedAt t (came read last) start now new fault
+    → (read : List (List Change)) → (last : List Change) → (old new : Progress s l) → Fault
+    → Type 0
+PutsInputsStop o read last old new fault =
+    (t : Task) (start : Option (List ℕ)) → t.options ≡ o → HasCome t [] start old
+    → StoppedAt t (came read last) start new.lines new.maker fault
 
 -- ---- the base, amid a run
 

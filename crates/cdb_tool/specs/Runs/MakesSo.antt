@@ -9,7 +9,7 @@ use Rattle.cdb_read.specs.declared.fault.ReadFault.TheVariants as read
 use Rattle.cdb_show.specs.Message.{TellsEach, TellsPart}
 use Rattle.cdb_show.specs.Runs.Inputs.{InputsLeft}
 use Rattle.cdb_tool.specs.Runs.Made.{Made, made_of}
-use Rattle.cdb_tool.specs.Runs.Make.{MakeRuns}
+use Rattle.cdb_tool.specs.Runs.Make.{MakeRuns, terms_of}
 use Rattle.cdb_show.specs.declared.fault.Fault.{Fault}
 use Rattle.cdb_show.specs.declared.fault.Fault.TheVariants.{Text, Make, Read, Output, NoMemory}
 use Rattle.cdb_show.specs.Runs.Incoming.{Known}
@@ -45,5 +45,5 @@ ComesOf w o m images old new result = MakesSo w o m images old new result ⊎ Ma
 abbrev pub RunsComeOf : (w g : ℕ) → RunOptions → Type 0
 RunsComeOf w g o = (base : Option (List ℕ)) (inputs : List (Option (List ℕ))) (shared : List ℕ)
     (left : InputsLeft) (image : List ℕ) (old new : Option (List ℕ)) (result : Result Unit Fault)
-    → Known inputs shared left → MakeRuns w g o base left (λ b. b ≡ image) old new result
+    → Known inputs shared left → MakeRuns (terms_of w g o) base left (λ b. b ≡ image) old new result
     → ComesOf w o (made_of w g o.make base inputs shared) (λ b. b ≡ image) old new result

@@ -4,7 +4,6 @@ ghost use Rattle.std.specs.Prelude.{Result, Ok, Err, length, IfErr, OnOk};
 ghost use Rattle.cdb_form.specs.Fed.Feed.{FromTo};
 ghost use Rattle.cdb_form.specs.Format.Pair.{head_size};
 ghost use Rattle.cdb_form.specs.Text.Amending.{Change};
-ghost use Rattle.cdb_form.specs.declared.text.fault.TextFault.{TextFault};
 ghost use Rattle.cdb_feed.specs.Inputs.{AreRead, NoMore, TakesOne};
 ghost use Rattle.cdb_make.specs.Views.Maker.{WhereHonest};
 ghost use Rattle.cdb_show.specs.Runs.Inputs.{IsInputOf, input_form, own_inputs};
@@ -12,14 +11,17 @@ ghost use Rattle.cdb_show.specs.Runs.Lookups.{StopsBehind};
 ghost use Rattle.cdb_show.specs.Views.Inputs.{ArePassed, shared_feed};
 ghost use Rattle.cdb_show.specs.Views.Output.{OutputSays};
 ghost use Rattle.cdb_show.specs.Views.Window.{feed_of};
-ghost use Rattle.cdb_show.specs.declared.fault.Fault.TheVariants.{NoMemory, Text};
+ghost use Rattle.cdb_show.specs.declared.fault.Fault.TheVariants.{NoMemory};
 ghost use Rattle.cdb_tool.specs.Runs.Course.{plain};
 ghost use Rattle.cdb_tool.specs.Runs.FormParsing.{parsing};
-ghost use Rattle.cdb_tool.specs.Runs.InputsRead.{IsFaultAt, RunsRead, StopsInput, WereRead, stop_by};
+ghost use Rattle.cdb_tool.specs.Runs.InputsRead.{IsOfInput, RunsRead, StopsInput, WereRead};
+ghost use Rattle.cdb_tool.specs.Runs.InputsRead.{feeds_of, run_state, stop_by};
 ghost use Rattle.cdb_tool.specs.Runs.Make.{StepsOn, MakeRuns, IsOfStore, IsOfBase};
 ghost use Rattle.cdb_tool.specs.Runs.Make.{OfBase, HandsBack, BaseHasFailed};
 ghost use Rattle.cdb_tool.specs.Runs.Make.{PutsInputs, PutsInputsStop, PutsItems, PutsStop};
+ghost use Rattle.cdb_tool.specs.Runs.Make.{progress, terms_of};
 
+use crate::runs::context::RunContext;
 use crate::runs::make_base::add_base;
 use crate::runs::make_input::{Turn, put_input};
 use crate::runs::options::RunOptions;
@@ -46,23 +48,25 @@ fn put_text<L: Width, S: Store, F: Feeds + Drop, E: Sink>(
 ) -> (Window<F>, Result<(), Fault>)
     ensures ok { OnOk result.1 ((last : List Change)
         × FromTo (feed_of F.feed window) (feed_of F.feed result.0)
-        (IsInputOf (input_form turn.entry.options.now.make.style turn.entry.amends) L.GREATEST last)
-        × PutsItems turn.entry.options.now turn.entry.number last
-        (E.contents errors.old) (E.contents errors.new) maker.old maker.new) }
+        (IsInputOf (input_form turn.entry.run.options.make.style turn.entry.amends) L.GREATEST last)
+        × PutsItems turn.entry.run.options turn.entry.number last
+        (progress (E.contents errors.old) maker.old)
+        (progress (E.contents errors.new) maker.new)) }
     ensures fails { IfErr result.1 (λ fault. (last : List Change)
-        × StopsBehind (input_form turn.entry.options.now.make.style turn.entry.amends) L.GREATEST
+        × StopsBehind (input_form turn.entry.run.options.make.style turn.entry.amends) L.GREATEST
         turn.entry.number last (feed_of F.feed window) (feed_of F.feed result.0) fault
-        × PutsStop turn.entry.options.now turn.entry.number last
-        (E.contents errors.old) (E.contents errors.new) maker.old maker.new fault) }
+        × PutsStop turn.entry.run.options turn.entry.number last
+        (progress (E.contents errors.old) maker.old)
+        (progress (E.contents errors.new) maker.new) fault) }
     ensures step { StepsOn maker.old maker.new ⊥ (E.failed errors.new) result.1 }
 {
-    if turn.options.names.is_some() {
-        let lined = Lined::new(window, turn.lines);
-        let mut items = ItemReader::new(alloc, turn.options.make.style, turn.amends, lined);
+    if turn.run.options.names.is_some() {
+        let lined = Lined::new(window, turn.run.lines);
+        let mut items = ItemReader::new(alloc, turn.run.options.make.style, turn.amends, lined);
         let put = put_input::<L, S, _, E, InLined>(alloc, maker, turn, &mut items, errors);
         return (items.into_reader().into_window(), put);
     }
-    let mut items = ItemReader::new(alloc, turn.options.make.style, turn.amends, window);
+    let mut items = ItemReader::new(alloc, turn.run.options.make.style, turn.amends, window);
     let put = put_input::<L, S, _, E, InWindow>(alloc, maker, turn, &mut items, errors);
     (items.into_reader(), put)
 }
@@ -79,21 +83,25 @@ fn put_turn<L: Width, S: Store, J: Feeds + Drop, I: Feeds + Drop, E: Sink>(
 ) -> (SharedWindow<I>, Result<(), Fault>)
     ensures ok { OnOk result.1 ((last : List Change)
         × TakesOne J.feed (shared_feed I.feed)
-        (IsInputOf (input_form turn.entry.options.now.make.style turn.entry.amends) L.GREATEST last)
+        (IsInputOf (input_form turn.entry.run.options.make.style turn.entry.amends) L.GREATEST last)
         input.old input.new shared result.0
-        × PutsItems turn.entry.options.now turn.entry.number last
-        (E.contents errors.old) (E.contents errors.new) maker.old maker.new) }
+        × PutsItems turn.entry.run.options turn.entry.number last
+        (progress (E.contents errors.old) maker.old)
+        (progress (E.contents errors.new) maker.new)) }
     ensures fails { IfErr result.1 (λ fault. (last : List Change)
-        × StopsInput J.feed (shared_feed I.feed)
-        (input_form turn.entry.options.now.make.style turn.entry.amends) L.GREATEST
-        turn.entry.number last fault input.old input.new shared result.0
-        × PutsStop turn.entry.options.now turn.entry.number last
-        (E.contents errors.old) (E.contents errors.new) maker.old maker.new fault) }
+        × StopsInput (feeds_of J.feed (shared_feed I.feed))
+        (parsing (input_form turn.entry.run.options.make.style turn.entry.amends) L.GREATEST
+        (Err fault)) (stop_by fault last) input.old input.new shared result.0
+        × IsOfInput (input_form turn.entry.run.options.make.style turn.entry.amends)
+        turn.entry.number fault
+        × PutsStop turn.entry.run.options turn.entry.number last
+        (progress (E.contents errors.old) maker.old)
+        (progress (E.contents errors.new) maker.new) fault) }
     ensures step { StepsOn maker.old maker.new ⊥ (E.failed errors.new) result.1 }
 {
     match replace(input, InputReader::Shared) {
         InputReader::Own(reader) => {
-            turn.lines.begin(false);
+            turn.run.lines.begin(false);
             let window = match Window::growing(alloc, reader) {
                 Ok(window) => window,
                 Err(refused) => {
@@ -106,7 +114,7 @@ fn put_turn<L: Width, S: Store, J: Feeds + Drop, I: Feeds + Drop, E: Sink>(
             (shared, put)
         }
         InputReader::Shared => {
-            turn.lines.begin(true);
+            turn.run.lines.begin(true);
             let window = match shared.in_hand(alloc) {
                 Ok(window) => window,
                 Err(refused) => {
@@ -119,32 +127,41 @@ fn put_turn<L: Width, S: Store, J: Feeds + Drop, I: Feeds + Drop, E: Sink>(
     }
 }
 
+/// How all inputs of a run are done.
+#[derive(Clone, Copy)]
+struct Turns<'a> {
+    /// How the run goes.
+    run: RunContext<'a>,
+    /// Whether native inputs may remove keys.
+    amends: bool,
+}
+
 /// Does what some inputs say, one after the other, and hands back what they share.
-fn put_turns<'x, L: Width, S: Store, J: Feeds + Drop, I: Feeds + Drop, E: Sink>(
+fn put_turns<L: Width, S: Store, J: Feeds + Drop, I: Feeds + Drop, E: Sink>(
     alloc: Global,
     maker: &mut Maker<S, L>,
-    options: &'x RunOptions<'x>,
-    amends: bool,
+    turns: Turns<'_>,
     readers: &mut [InputReader<J>],
     shared: SharedWindow<I>,
-    lines: &'x Lines,
     errors: &mut E,
 ) -> (SharedWindow<I>, Result<(), Fault>)
     ensures ok { OnOk result.1 ((read : List (List Change))
         × AreRead J.feed (shared_feed I.feed)
-        (parsing (input_form options.now.make.style amends) L.GREATEST (Ok tt)) read NoMore
-        readers.old readers.new shared result.0
-        × PutsInputs options.now read (E.contents errors.old) (E.contents errors.new)
-        maker.old maker.new) }
+        (parsing (input_form turns.entry.run.options.make.style turns.entry.amends)
+        L.GREATEST (Ok tt)) read NoMore readers.old readers.new shared result.0
+        × PutsInputs turns.entry.run.options read
+        (progress (E.contents errors.old) maker.old)
+        (progress (E.contents errors.new) maker.new)) }
     ensures fails { IfErr result.1 (λ fault. (read : List (List Change)) × (last : List Change)
         × AreRead J.feed (shared_feed I.feed)
-        (parsing (input_form options.now.make.style amends) L.GREATEST (Err fault)) read
-        (stop_by fault last) readers.old readers.new shared result.0
+        (parsing (input_form turns.entry.run.options.make.style turns.entry.amends)
+        L.GREATEST (Err fault)) read (stop_by fault last) readers.old readers.new shared result.0
         × ArePassed read (stop_by fault last) readers.old readers.new
-        × ((n : ℕ) (f : TextFault) → fault ≡ Text n f
-        → IsFaultAt (input_form options.now.make.style amends) (length read + 1) n f)
-        × PutsInputsStop options.now read last (E.contents errors.old) (E.contents errors.new)
-        maker.old maker.new fault) }
+        × IsOfInput (input_form turns.entry.run.options.make.style turns.entry.amends)
+        (length read + 1) fault
+        × PutsInputsStop turns.entry.run.options read last
+        (progress (E.contents errors.old) maker.old)
+        (progress (E.contents errors.new) maker.new) fault) }
     ensures step { StepsOn maker.old maker.new ⊥ (E.failed errors.new) result.1 }
 {
     let mut shared = shared;
@@ -152,10 +169,9 @@ fn put_turns<'x, L: Width, S: Store, J: Feeds + Drop, I: Feeds + Drop, E: Sink>(
     while i < readers.len() {
         let number = i as u64 + 1;
         let turn = Turn {
-            options,
-            amends,
+            run: turns.run,
+            amends: turns.amends,
             number,
-            lines,
         };
         let (left, put) = put_turn::<L, S, J, I, E>(
             alloc,
@@ -180,31 +196,33 @@ fn put_turns<'x, L: Width, S: Store, J: Feeds + Drop, I: Feeds + Drop, E: Sink>(
 /// The faults are those of `make_run` that an input, the maker or `errors` brings. After
 /// `NoMemory`, `Make(Lookup)` and `Make(Writing)` the maker holds the records of the items that
 /// were done, unless it is broken, and the lines are those of these items. `errors` is not flushed.
-/// The lines of the inputs are counted by `lines` if duplicates are explained.
+/// The lines of the inputs are counted if duplicates are explained.
 ///
 /// The inputs are handed back whatever the answer; what their windows took past the texts is lost.
 /// The contract holds of whatever bytes agree with what the readers gave.
 pub fn put_inputs<L: Width, S: Store, J: Feeds + Drop, I: Feeds + Drop, E: Sink>(
     alloc: Global,
     maker: &mut Maker<S, L>,
-    options: &RunOptions<'_>,
+    run: RunContext<'_>,
     amends: bool,
     inputs: Inputs<J, I>,
-    lines: &Lines,
     errors: &mut E,
 ) -> (Inputs<J, I>, Result<(), Fault>)
     ensures ok { OnOk result.1 ((read : List (List Change))
-        × WereRead J.feed I.feed (input_form options.now.make.style amends) L.GREATEST (Ok tt) read
+        × WereRead (feeds_of J.feed I.feed)
+        (parsing (input_form run.entry.options.make.style amends) L.GREATEST (Ok tt)) read
         NoMore inputs result.0
-        × PutsInputs options.now read (E.contents errors.old) (E.contents errors.new)
-        maker.old maker.new) }
+        × PutsInputs run.entry.options read
+        (progress (E.contents errors.old) maker.old)
+        (progress (E.contents errors.new) maker.new)) }
     ensures fails { IfErr result.1 (λ fault. (read : List (List Change)) × (last : List Change)
-        × WereRead J.feed I.feed (input_form options.now.make.style amends) L.GREATEST (Err fault) read
+        × WereRead (feeds_of J.feed I.feed)
+        (parsing (input_form run.entry.options.make.style amends) L.GREATEST (Err fault)) read
         (stop_by fault last) inputs result.0
-        × ((n : ℕ) (f : TextFault) → fault ≡ Text n f
-        → IsFaultAt (input_form options.now.make.style amends) (length read + 1) n f)
-        × PutsInputsStop options.now read last (E.contents errors.old) (E.contents errors.new)
-        maker.old maker.new fault) }
+        × IsOfInput (input_form run.entry.options.make.style amends) (length read + 1) fault
+        × PutsInputsStop run.entry.options read last
+        (progress (E.contents errors.old) maker.old)
+        (progress (E.contents errors.new) maker.new) fault) }
     ensures step { StepsOn maker.old maker.new ⊥ (E.failed errors.new) result.1 }
 {
     let Inputs {
@@ -214,11 +232,9 @@ pub fn put_inputs<L: Width, S: Store, J: Feeds + Drop, I: Feeds + Drop, E: Sink>
     let (shared, put) = put_turns::<L, S, J, I, E>(
         alloc,
         maker,
-        options,
-        amends,
+        Turns { run, amends },
         &mut readers,
         SharedWindow::Unread(shared),
-        lines,
         errors,
     );
     let inputs = Inputs {
@@ -243,15 +259,15 @@ fn make_unflushed<L: Width, S: Store, B: Store, J: Feeds + Drop, I: Feeds + Drop
     store: S,
     base: Option<B>,
     inputs: Inputs<J, I>,
-    options: &RunOptions<'_>,
-    lines: &Lines,
+    run: RunContext<'_>,
     errors: &mut E,
 ) -> Made<S, B, J, I>
-    requires head { head_size L.WORD ≤ options.now.make.limit }
-    requires words { options.now.make.limit ≤ L.GREATEST }
-    ensures runs { RunsRead L.WORD L.GREATEST options.now J.feed I.feed B.Store base result.base
-        inputs result.inputs (S.image result.store) (E.contents errors.old)
-        (E.contents errors.new) result.answer }
+    requires head { head_size L.WORD ≤ run.options.make.limit }
+    requires words { run.options.make.limit ≤ L.GREATEST }
+    ensures runs { RunsRead (terms_of L.WORD L.GREATEST run.entry.options)
+        (feeds_of J.feed I.feed) B.Store (run_state base inputs (E.contents errors.old))
+        (run_state result.base result.inputs (E.contents errors.new))
+        (S.image result.store) result.answer }
     ensures hands { HandsBack B.Store base result.base }
     ensures settled { OnOk result.answer (S.settled result.store) }
     ensures failed { IfErr result.answer
@@ -261,7 +277,7 @@ fn make_unflushed<L: Width, S: Store, B: Store, J: Feeds + Drop, I: Feeds + Drop
     ensures base_failed { IfErr result.answer (λ f. IsOfBase f → BaseHasFailed B.Store base result.base) }
     ensures output { OutputSays (E.failed errors.new) result.answer }
 {
-    let mut maker = match Maker::<S, L>::lazy(alloc, store, options.make.limit) {
+    let mut maker = match Maker::<S, L>::lazy(alloc, store, run.options.make.limit) {
         Ok(maker) => maker,
         Err(refused) => {
             return Made {
@@ -282,9 +298,7 @@ fn make_unflushed<L: Width, S: Store, B: Store, J: Feeds + Drop, I: Feeds + Drop
             answer: Err(fault),
         };
     }
-    let (inputs, put) = put_inputs::<L, S, J, I, E>(
-        alloc, &mut maker, options, amends, inputs, lines, errors,
-    );
+    let (inputs, put) = put_inputs::<L, S, J, I, E>(alloc, &mut maker, run, amends, inputs, errors);
     if let Err(fault) = put {
         return Made {
             store: maker.into_store(),
@@ -349,7 +363,8 @@ pub fn make_run<L: Width, S: Store, B: Store, R: Read + Drop, E: Sink>(
     requires head { head_size L.WORD ≤ options.limit }
     requires words { options.limit ≤ L.GREATEST }
     ensures runs { WhereHonest (S.image result.0) (OfBase B.Store result.1 (λ base.
-        MakeRuns L.WORD L.GREATEST (plain options) base (own_inputs (map R.remaining inputs.items))
+        MakeRuns (terms_of L.WORD L.GREATEST (plain options)) base
+        (own_inputs (map R.remaining inputs.items))
         (S.image result.0) (E.contents errors.old) (E.contents errors.new) result.2)) }
     ensures hands { HandsBack B.Store base result.1 }
     ensures settled { OnOk result.2 (S.settled result.0) }
@@ -365,19 +380,22 @@ pub fn make_run<L: Width, S: Store, B: Store, R: Read + Drop, E: Sink>(
         return (store, base, answer);
     };
     let lines = Lines::new(false);
-    let options = RunOptions {
-        make: options,
-        names: None,
+    let run = RunContext {
+        options: RunOptions {
+            make: options,
+            names: None,
+        },
+        lines: &lines,
     };
     let (store, base, _inputs, answer) = make_run_from::<L, S, B, R, _, E>(
-        alloc, store, base, inputs, options, &lines, errors,
+        alloc, store, base, inputs, run, errors,
     );
     (store, base, answer)
 }
 
 /// Does what `make_run` does, of inputs of which several may share a reader: each of these begins
 /// where the text of the one before it ended. A map text leaves nothing. If duplicates are
-/// explained, `lines` counts the lines of the inputs, and knows afterwards that of a fault.
+/// explained, `run.lines` counts the lines of the inputs, and knows afterwards that of a fault.
 ///
 /// The inputs are handed back whatever the answer; what their windows took past the texts is lost.
 /// The contract holds of whatever bytes agree with what the readers gave: for all inputs that agree
@@ -387,15 +405,14 @@ pub fn make_run_from<L: Width, S: Store, B: Store, J: Feeds + Drop, I: Feeds + D
     store: S,
     base: Option<B>,
     inputs: Inputs<J, I>,
-    options: RunOptions<'_>,
-    lines: &Lines,
+    run: RunContext<'_>,
     errors: &mut E,
 ) -> (S, Option<B>, Inputs<J, I>, Result<(), Fault>)
-    requires head { head_size L.WORD ≤ options.make.limit }
-    requires words { options.make.limit ≤ L.GREATEST }
-    ensures runs { RunsRead L.WORD L.GREATEST options.entry J.feed I.feed B.Store base result.1
-        inputs result.2 (S.image result.0) (E.contents errors.old) (E.contents errors.new)
-        result.3 }
+    requires head { head_size L.WORD ≤ run.options.make.limit }
+    requires words { run.options.make.limit ≤ L.GREATEST }
+    ensures runs { RunsRead (terms_of L.WORD L.GREATEST run.entry.options)
+        (feeds_of J.feed I.feed) B.Store (run_state base inputs (E.contents errors.old))
+        (run_state result.1 result.2 (E.contents errors.new)) (S.image result.0) result.3 }
     ensures hands { HandsBack B.Store base result.1 }
     ensures settled { OnOk result.3 (S.settled result.0) }
     ensures failed { IfErr result.3
@@ -404,9 +421,7 @@ pub fn make_run_from<L: Width, S: Store, B: Store, J: Feeds + Drop, I: Feeds + D
     ensures base_failed { IfErr result.3 (λ f. IsOfBase f → BaseHasFailed B.Store base result.1) }
     ensures output { OutputSays (E.failed errors.new) result.3 }
 {
-    let made = make_unflushed::<L, S, B, J, I, E>(
-        alloc, store, base, inputs, &options, lines, errors,
-    );
+    let made = make_unflushed::<L, S, B, J, I, E>(alloc, store, base, inputs, run, errors);
     let answer = flushed(errors, made.answer);
     (made.store, made.base, made.inputs, answer)
 }

@@ -13,12 +13,13 @@ ghost use Rattle.cdb_show.specs.Runs.Lookups.{StopsBehind};
 ghost use Rattle.cdb_show.specs.Views.ItemReader.{form_of, reader_of, IsNew};
 ghost use Rattle.cdb_show.specs.Views.Output.{OutputSays};
 ghost use Rattle.cdb_show.specs.declared.fault.Fault.TheVariants.{NoMemory};
-ghost use Rattle.cdb_tool.specs.Runs.Course.{mode_of, meets_key, told};
+ghost use Rattle.cdb_tool.specs.Runs.Course.{mode_of, meets_key, put_at, told};
 ghost use Rattle.cdb_tool.specs.Runs.Course.{StopsSo, Task, ends, TellFails};
 ghost use Rattle.cdb_tool.specs.Runs.Make.{DoesItem, InCourse, StepsOn, IsOfStore, IsOfBase};
-ghost use Rattle.cdb_tool.specs.Runs.Make.{IsHalt, IsNoText, PutsItems, PutsStop};
+ghost use Rattle.cdb_tool.specs.Runs.Make.{IsHalt, IsNoText, PutsItems, PutsStop, progress};
 ghost use Rattle.cdb_tool.specs.declared.runs.options.RunOptions.{RunOptions};
 
+use crate::runs::context::RunContext;
 use crate::runs::options::RunOptions;
 use cdb_command::{MakeOptions, Style};
 use cdb_form::{AtHand, Feeds, ItemKind, OutFault, Record, Sink, Width};
@@ -59,13 +60,11 @@ fn meets_key(put: Put) -> bool
 #[derive(Clone, Copy)]
 pub(crate) struct Turn<'a> {
     /// How the run goes.
-    pub(crate) options: &'a RunOptions<'a>,
+    pub(crate) run: RunContext<'a>,
     /// Whether native inputs may remove keys.
     pub(crate) amends: bool,
     /// The number of the input, counted from 1.
     pub(crate) number: u64,
-    /// The lines of the inputs, counted if duplicates are explained.
-    pub(crate) lines: &'a Lines,
 }
 
 /// An item of an input, as a run meets it.
@@ -115,8 +114,9 @@ fn tell_put<E: Sink>(met: Met<'_>, key: &[u8], put: Put, errors: &mut E) -> Resu
         (told met.entry.options.now.make met.entry.input met.entry.number key.now (Ok put))
         (E.contents errors.old) (E.contents errors.new)) }
     ensures goes { OnOk result (ends met.entry.options.now.make (Ok put) ≡ None) }
-    ensures fails { IfErr result (TellFails met.entry.options.now met.entry.input met.entry.number
-        key.now put (E.contents errors.old) (E.contents errors.new)) }
+    ensures fails { IfErr result (TellFails met.entry.options.now
+        (put_at met.entry.input met.entry.number key.now) put
+        (E.contents errors.old) (E.contents errors.new)) }
     ensures output { OutputSays (E.failed errors.new) result }
 {
     write_put(met, key, put, errors)?;
@@ -138,7 +138,8 @@ fn put_record<L: Width, S: Store, E: Sink>(
     requires mode { met.mode ≡ mode_of met.options.now.make }
     ensures does { DoesItem met.entry.options.now met.entry.input met.entry.number
         (Putting (record { key = key.now; value = value.now }))
-        (E.contents errors.old) (E.contents errors.new) maker.old maker.new result }
+        (progress (E.contents errors.old) maker.old)
+        (progress (E.contents errors.new) maker.new) result }
     ensures own { IfErr result IsNoText }
     ensures step { StepsOn maker.old maker.new ⊥ (E.failed errors.new) result }
 {
@@ -149,7 +150,8 @@ fn put_record<L: Width, S: Store, E: Sink>(
 /// Removes the records of a key. Nothing is reported of it.
 fn remove_key<L: Width, S: Store>(maker: &mut Maker<S, L>, key: &[u8]) -> Result<(), Fault>
     ensures does { (options : RunOptions) (input number : ℕ) (now : Option (List ℕ))
-        → DoesItem options input number (Removing key.now) now now maker.old maker.new result }
+        → DoesItem options input number (Removing key.now)
+        (progress now maker.old) (progress now maker.new) result }
     ensures fails { (t : Task) (cs : List Incoming) (start now : Option (List ℕ))
         → InCourse t cs start now maker.old
         → IfErr result (λ f. WhereHonest (S.image (store_of maker.new))
@@ -173,7 +175,8 @@ fn do_item<L: Width, S: Store, E: Sink>(
     requires mode { met.mode ≡ mode_of met.options.now.make }
     ensures does { DoesItem met.entry.options.now met.entry.input met.entry.number
         (change_in kind item.now)
-        (E.contents errors.old) (E.contents errors.new) maker.old maker.new result }
+        (progress (E.contents errors.old) maker.old)
+        (progress (E.contents errors.new) maker.new) result }
     ensures own { IfErr result IsNoText }
     ensures step { StepsOn maker.old maker.new ⊥ (E.failed errors.new) result }
 {
@@ -205,26 +208,28 @@ pub(crate) fn put_input<L: Width, S: Store, F: Feeds, E: Sink, A: AtHand<F>>(
     ensures ok { OnOk result ((last : List Change)
         × FromTo (F.feed (reader_of items.old)) (F.feed (reader_of items.new))
         (IsInputOf (form_of items.old) L.GREATEST last)
-        × PutsItems turn.entry.options.now turn.entry.number last
-        (E.contents errors.old) (E.contents errors.new) maker.old maker.new) }
+        × PutsItems turn.entry.run.options turn.entry.number last
+        (progress (E.contents errors.old) maker.old)
+        (progress (E.contents errors.new) maker.new)) }
     ensures fails { IfErr result (λ fault. (last : List Change)
         × StopsBehind (form_of items.old) L.GREATEST turn.entry.number last
         (F.feed (reader_of items.old)) (F.feed (reader_of items.new)) fault
-        × PutsStop turn.entry.options.now turn.entry.number last
-        (E.contents errors.old) (E.contents errors.new) maker.old maker.new fault) }
+        × PutsStop turn.entry.run.options turn.entry.number last
+        (progress (E.contents errors.old) maker.old)
+        (progress (E.contents errors.new) maker.new) fault) }
     ensures step { StepsOn maker.old maker.new ⊥ (E.failed errors.new) result }
 {
     let mut item = Record {
         key: Vec::new(alloc),
         value: Vec::new(alloc),
     };
-    let mode = put_mode(&turn.options.make);
+    let mode = put_mode(&turn.run.options.make);
     let mut number = 0;
     loop {
         number += 1;
-        let next = turn.lines.next();
+        let next = turn.run.lines.next();
         let met = Met {
-            options: turn.options,
+            options: &turn.run.options,
             mode,
             input: turn.number,
             number,
@@ -241,7 +246,7 @@ pub(crate) fn put_input<L: Width, S: Store, F: Feeds, E: Sink, A: AtHand<F>>(
                 Ok(None) => return Ok(()),
                 Ok(Some(kind)) => kind,
             };
-            let line = line_of_last(turn.options.make.style, next, turn.lines);
+            let line = line_of_last(turn.run.options.make.style, next, turn.run.lines);
             do_item(maker, Met { line, ..met }, kind, &item, errors)?;
         }
     }

@@ -3,7 +3,7 @@ use super::running::{Duplicates, options, texts};
 use cdb_form::Narrow;
 use cdb_make::{MakeFault, Maker, Mode};
 use cdb_store::{FuseStore, MemStore};
-use cdb_tool::{Fault, Inputs, Lines, RunOptions, Style, put_inputs};
+use cdb_tool::{Fault, Inputs, Lines, RunContext, RunOptions, Style, put_inputs};
 use std::alloc::{AllocError, Global};
 use std::prelude::*;
 use std::test::Fail;
@@ -30,16 +30,17 @@ fn put(
     inputs: Vec<&'static [u8]>,
     lines: &mut Vec<u8>,
 ) -> Result<(), Fault> {
-    let options = RunOptions {
-        make: options(Mode::Warn, Duplicates::Told, Style::Native, 4294967295),
-        names: None,
+    let counted = Lines::new(false);
+    let run = RunContext {
+        options: RunOptions {
+            make: options(Mode::Warn, Duplicates::Told, Style::Native, 4294967295),
+            names: None,
+        },
+        lines: &counted,
     };
     let none: &[u8] = &[];
     let inputs = Inputs::each_own(alloc, inputs, none)?;
-    let counted = Lines::new(false);
-    put_inputs::<Narrow, _, &[u8], &[u8], Vec<u8>>(
-        alloc, maker, &options, false, inputs, &counted, lines,
-    ).1
+    put_inputs::<Narrow, _, &[u8], &[u8], Vec<u8>>(alloc, maker, run, false, inputs, lines).1
 }
 
 /// The lines of as many of the records as a maker holds.

@@ -7,7 +7,7 @@ use cdb_feed::InputReader;
 use cdb_form::{Narrow, TextFault, Wide, Width};
 use cdb_read::ReadFault;
 use cdb_store::{FuseStore, MemStore, Store};
-use cdb_tool::{Fault, Inputs, Lines, Style, lookups_run, query_run};
+use cdb_tool::{Fault, Inputs, Lines, LookupOptions, Style, lookups_run, query_run};
 use std::alloc::{AllocError, Global};
 use std::io::Write;
 use std::prelude::*;
@@ -531,17 +531,19 @@ fn looked_up(alloc: Global, file: Vec<u8>, keys: &[u8]) -> Result<Answer, AllocE
         shared: keys,
     };
     let store = MemStore::from_vec(file);
+    let options = LookupOptions {
+        number: None,
+        style: Style::Native,
+    };
     Ok(
         lookups_run::<Narrow, MemStore, &[u8], &[u8], FakeWriter>(
             alloc,
             store,
             inputs,
-            None,
-            Style::Native,
+            options,
             &Lines::new(false),
             &mut w,
-        )
-        .2,
+        ).2,
     )
 }
 

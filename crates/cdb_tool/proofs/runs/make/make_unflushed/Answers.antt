@@ -23,7 +23,7 @@ returns-in-Err-put-clause-runs g c =
     let some = hands_some g.B.Store c.args.base base add.hands ∙ sym c.is_some-amends.ensures in
     let put = rw c.in-Err-put.is at c.put_inputs-inputs.ensures.fails in
     rw c.into_store-in-Err-put.ensures
-    (read_stopped {s = g.S.Store} {l = g.L.Width} g.B.Store c.args.base base g.J.Feeds.feed g.I.Feeds.feed g.L.Width.GREATEST c.args.options.now c.is_some-amends.result c.args.inputs c.put_inputs-inputs.result.0 (g.E.Sink.contents c.args.errors.now) _ c.add_base-base.new.maker c.put_inputs-inputs.new.maker c.is_some-amends.ensures some
+    (read_stopped {s = g.S.Store} {l = g.L.Width} g.B.Store c.args.base base g.J.Feeds.feed g.I.Feeds.feed g.L.Width.GREATEST c.args.run.options c.is_some-amends.result c.args.inputs c.put_inputs-inputs.result.0 (g.E.Sink.contents c.args.errors.now) _ c.add_base-base.new.maker c.put_inputs-inputs.new.maker c.is_some-amends.ensures some
     g.met.L.Width.four_or_eight holds (add.step.follows.limit ∙ c.in-Ok.ensures.begins.limited) c.put_inputs-inputs.ensures.step.follows.comes put.0 put.1 c.in-Err-put.fault put.2 put.3 put.4)
 
 pub returns-in-Ok-finish-clause-runs : goal.returns-in-Ok-finish-clause-runs
@@ -33,7 +33,7 @@ returns-in-Ok-finish-clause-runs g c =
     let holds = (rw c.in_default.is at add.ok) c.in-Ok.ensures.begins.holds in
     let some = hands_some g.B.Store c.args.base base add.hands ∙ sym c.is_some-amends.ensures in
     let put = rw c.in_default-put.is at c.put_inputs-inputs.ensures.ok in
-    read_whole {s = g.S.Store} {l = g.L.Width} g.B.Store c.args.base base g.J.Feeds.feed g.I.Feeds.feed g.L.Width.GREATEST c.args.options.now c.is_some-amends.result c.args.inputs c.put_inputs-inputs.result.0 (g.E.Sink.contents c.args.errors.now) _ c.add_base-base.new.maker c.put_inputs-inputs.new.maker c.is_some-amends.ensures some
+    read_whole {s = g.S.Store} {l = g.L.Width} g.B.Store c.args.base base g.J.Feeds.feed g.I.Feeds.feed g.L.Width.GREATEST c.args.run.options c.is_some-amends.result c.args.inputs c.put_inputs-inputs.result.0 (g.E.Sink.contents c.args.errors.now) _ c.add_base-base.new.maker c.put_inputs-inputs.new.maker c.is_some-amends.ensures some
     g.met.L.Width.four_or_eight holds (add.step.follows.limit ∙ c.in-Ok.ensures.begins.limited) c.put_inputs-inputs.ensures.step.follows.comes put.0 _ put.1 put.2 c.in-Ok-finish.ensures.comes c.in-Ok-finish.ensures.file
 
 pub returns-in-Err-finish-clause-runs : goal.returns-in-Err-finish-clause-runs
@@ -45,7 +45,7 @@ returns-in-Err-finish-clause-runs g c =
     let put = rw c.in_default-put.is at c.put_inputs-inputs.ensures.ok in
     let e = c.in-Err-finish.ensures in
     rw (c.from-in-Err-finish.ensures, c.into_store-in-Err-finish.ensures)
-    (read_unfinished {s = g.S.Store} {l = g.L.Width} g.B.Store c.args.base base g.J.Feeds.feed g.I.Feeds.feed g.L.Width.GREATEST c.args.options.now c.is_some-amends.result c.args.inputs c.put_inputs-inputs.result.0 (g.E.Sink.contents c.args.errors.now) _ c.add_base-base.new.maker c.put_inputs-inputs.new.maker c.is_some-amends.ensures some
+    (read_unfinished {s = g.S.Store} {l = g.L.Width} g.B.Store c.args.base base g.J.Feeds.feed g.I.Feeds.feed g.L.Width.GREATEST c.args.run.options c.is_some-amends.result c.args.inputs c.put_inputs-inputs.result.0 (g.E.Sink.contents c.args.errors.now) _ c.add_base-base.new.maker c.put_inputs-inputs.new.maker c.is_some-amends.ensures some
     g.met.L.Width.four_or_eight holds (add.step.follows.limit ∙ c.in-Ok.ensures.begins.limited) c.put_inputs-inputs.ensures.step.follows.comes put.0 c.in-Err-finish.unfinished.maker c.in-Err-finish.unfinished.fault put.1 put.2 e.fails_comes e.fails)
 
 pub returns-in-Err-finish-clause-base_failed : goal.returns-in-Err-finish-clause-base_failed
@@ -60,8 +60,8 @@ returns-in-Err-added-clause-runs g c =
     let base = c.add_base-base.result.0 in
     let fails = (rw c.in-Err-added.is at add.fails) c.in-Ok.ensures.begins.holds in
     rw c.into_store.ensures
-    (read_none g.B.Store c.args.base base g.J.Feeds.feed g.I.Feeds.feed _ _ c.args.options.now c.args.inputs _ _ _ _
-    (λ given. runs_unbased g.B.Store base _ _ c.args.options.now _ given (g.E.Sink.contents c.args.errors.now) _ c.in-Err-added.fault c.in-Ok.ensures.begins.limited fails))
+    (read_none g.B.Store c.args.base base g.J.Feeds.feed g.I.Feeds.feed _ _ c.args.run.options c.args.inputs _ _ _ _
+    (λ given. runs_unbased g.B.Store base _ _ c.args.run.options _ given (g.E.Sink.contents c.args.errors.now) _ c.in-Err-added.fault c.in-Ok.ensures.begins.limited fails))
 
 pub returns-in-Err-finish-clause-failed : goal.returns-in-Err-finish-clause-failed
 returns-in-Err-finish-clause-failed g c =

@@ -6,14 +6,14 @@ use Rattle.cdb_tool.proofs.runs.make.put_turns.Goals as goal
 pub loop-i-init : goal.loop-i-init
 loop-i-init g c = record {
   read = [];
-  far = so_far_none g.J.Feeds.feed (shared_feed g.I.Feeds.feed) (parsing (input_form c.args.options.now.make.style c.args.amends) g.L.Width.GREATEST (Ok tt)) _ c.args.shared;
+  far = so_far_none g.J.Feeds.feed (shared_feed g.I.Feeds.feed) (parsing (input_form c.args.turns.run.options.make.style c.args.turns.amends) g.L.Width.GREATEST (Ok tt)) _ c.args.shared;
   course = λ t start same h. h;
   follows = follows_same {s = g.S.Store} {l = g.L.Width} c.args.maker.now;
   fine = refl;
 }
 
 pub offset_bounds-readers-i : goal.offset_bounds-readers-i
-offset_bounds-readers-i g c = offset_fits c.loop-i.i (length c.loop-i.readers) (length c.args.readers.now) _ c.loop-i-test.true c.loop-i.auto.readers c.well_formed.1.1.1.1.0.1
+offset_bounds-readers-i g c = offset_fits c.loop-i.i (length c.loop-i.readers) (length c.args.readers.now) _ c.loop-i-test.true c.loop-i.auto.readers c.well_formed.1.1.1.0.1
 
 pub returns-clause-ok : goal.returns-clause-ok
 returns-clause-ok g c =
@@ -24,7 +24,7 @@ pub returns-in-Err-clause-fails : goal.returns-in-Err-clause-fails
 returns-in-Err-clause-fails g c =
     let inv = c.loop-i.invariant in
     let e = rw c.in-Err.is at c.put_turn-left.ensures.fails in
-    stopped_here {s = g.S.Store} {l = g.L.Width} g.J.Feeds.feed (shared_feed g.I.Feeds.feed) _ _ _ _ c.index-readers-i.result c.put_turn-left.new.input _ _ _ c.loop-i.i inv.read c.args.options.now _ _ _ _ _ _ c.in-Err.fault inv.far c.loop-i-test.true c.index-readers-i.is inv.course e
+    stopped_here {s = g.S.Store} {l = g.L.Width} g.J.Feeds.feed (shared_feed g.I.Feeds.feed) _ _ _ _ c.index-readers-i.result c.put_turn-left.new.input _ _ _ c.loop-i.i inv.read c.args.turns.run.options _ _ _ _ _ _ c.in-Err.fault inv.far c.loop-i-test.true c.index-readers-i.is inv.course e
 
 pub returns-in-Err-clause-step : goal.returns-in-Err-clause-step
 returns-in-Err-clause-step g c =
