@@ -11,7 +11,7 @@ use Rattle.cdb_read.specs.Statistics.{outside_table}
 use Rattle.cdb_read.specs.declared.fault.ReadFault.{ReadFault}
 use Rattle.cdb_read.specs.declared.fault.ReadFault.TheVariants as read
 use Rattle.cdb_read.specs.OtherWidth.{lacks_tables}
-use Rattle.cdb_show.specs.Runs.Difference.{ComesAfter, DifferenceFails, DifferenceNotRead, DifferenceOutside, HasDamage as HasAny, HaveHeads, HaveTables, HaveTablesInside, TellsDifference, difference_of, heads_fault}
+use Rattle.cdb_show.specs.Runs.Difference.{difference_state, difference_task, ComesAfter, DifferenceFails, DifferenceNotRead, DifferenceOutside, HasDamage as HasAny, HaveHeads, HaveTables, HaveTablesInside, TellsDifference, difference_of, heads_fault}
 use Rattle.cdb_show.specs.declared.fault.Fault.TheVariants.{Text, Make, Duplicate, Missing, Read, Walk, Output, Long, Open, Rename, NoMemory, Old, New, NoOldTables, NoNewTables, NoBaseTables}
 use Rattle.cdb_system.specs.Answered.{AreComparable, IsInOrder, Nothing, Shows, stores_in}
 use Rattle.cdb_system.proofs.Coming.{Comes, EachAnswered, IsSized, comes_so, gives_up, long_is, nothing_written, of_shown, refused_so, short_is}
@@ -63,7 +63,7 @@ module _ {S : Type 0} (w : ℕ) (s : Ghosts S) (old_last new_last : S) (b c : Li
       let none = none_said looked in
       gives_up true Nothing plain_status _ start end fault refusal (subst (AppendsPrefix start end) (sym (ap (λ f. (unless_fault f (amending_text (difference_of w b c))).output) none)) (part none))
 
-  old_ended : (fault : ReadFault) → ComesAfter w s s old_last new_last (Old fault) → DifferenceNotRead w s s old old_last new_last start end fault → Comes true Nothing plain_status (difference_outcome w b c) start end (Err (Old fault))
+  old_ended : (fault : ReadFault) → ComesAfter w s s old_last new_last (Old fault) → DifferenceNotRead (difference_task w s s) (difference_state old new_last start) (difference_state old_last new_last end) fault → Comes true Nothing plain_status (difference_outcome w b c) start end (Err (Old fault))
   old_ended read.Short looks h = said_so (Old read.Short) (short_is w b _ _ (short old_last b x (subst (λ store. s.size store < head_size w) (sym h.unread) h.short))) h.kept
   old_ended read.Device looks h = let works = x.works in absurd (omega (arith, h, works))
   old_ended (read.Table n) looks h =
@@ -76,7 +76,7 @@ module _ {S : Type 0} (w : ℕ) (s : Ghosts S) (old_last new_last : S) (b c : Li
   old_ended read.NoMemory looks h = absurd h
   old_ended read.Output looks h = absurd h
 
-  new_ended : (fault : ReadFault) → ComesAfter w s s old_last new_last (New fault) → DifferenceNotRead w s s new new_last old_last start end fault → Comes true Nothing plain_status (difference_outcome w b c) start end (Err (New fault))
+  new_ended : (fault : ReadFault) → ComesAfter w s s old_last new_last (New fault) → DifferenceNotRead (difference_task w s s) (difference_state new old_last start) (difference_state new_last old_last end) fault → Comes true Nothing plain_status (difference_outcome w b c) start end (Err (New fault))
   new_ended read.Short looks h =
       said_so (New read.Short) (long_is w b _ _ (long old_last b x looks) ∙ short_is w c _ _ (short new_last c y (subst (λ store. s.size store < head_size w) (sym h.unread) h.short))) h.kept
   new_ended read.Device looks h = let works = y.works in absurd (omega (arith, h, works))
@@ -90,7 +90,7 @@ module _ {S : Type 0} (w : ℕ) (s : Ghosts S) (old_last new_last : S) (b c : Li
   new_ended read.NoMemory looks h = absurd h
   new_ended read.Output looks h = absurd h
 
-  difference_ended : (fault : Fault) → ComesAfter w s s old_last new_last fault → (heads_fault w b c ≡ None → AppendsPrefix start end (amending_text (difference_of w b c))) → DifferenceFails w s s old old_last new new_last start end fault → Comes true Nothing plain_status (difference_outcome w b c) start end (Err fault)
+  difference_ended : (fault : Fault) → ComesAfter w s s old_last new_last fault → (heads_fault w b c ≡ None → AppendsPrefix start end (amending_text (difference_of w b c))) → DifferenceFails (difference_task w s s) (difference_state old new start) (difference_state old_last new_last end) fault → Comes true Nothing plain_status (difference_outcome w b c) start end (Err fault)
   difference_ended (Old fault) looks part h = old_ended fault looks h
   difference_ended (New fault) looks part h = new_ended fault looks h
   difference_ended Output looks part h = refused_later Output refl looks part
@@ -108,7 +108,7 @@ module _ {S : Type 0} (w : ℕ) (s : Ghosts S) (old_last new_last : S) (b c : Li
   difference_ended Open looks part h = absurd h
   difference_ended Rename looks part h = absurd h
 
-  difference_comes : (result : Result Unit Fault) → TellsDifference w s s old old_last new new_last start end result → Comes true Nothing plain_status (difference_outcome w b c) start end result
+  difference_comes : (result : Result Unit Fault) → TellsDifference (difference_task w s s) (difference_state old new start) (difference_state old_last new_last end) result → Comes true Nothing plain_status (difference_outcome w b c) start end result
   difference_comes (Ok done) h =
       let written = h.ok b c x.is y.is in
       let none = none_said h.ok_looks in
@@ -117,7 +117,7 @@ module _ {S : Type 0} (w : ℕ) (s : Ghosts S) (old_last new_last : S) (b c : Li
   difference_comes (Err fault) h = difference_ended fault h.err_looks (λ none. (let ordered = order none in (h.front b c x.is y.is).are ordered.0.1 ordered.1.1)) h.err
 
 -- two files that were opened
-compared : {S : Type 0} (w : ℕ) (s : Ghosts S) (first second : Option (List ℕ)) (old old_last new new_last : S) (start end : Option (List ℕ)) (result : Result Unit Fault) → IsSized s → AreComparable w first second → Shows s first (old_last ∷ []) → Shows s second (new_last ∷ old_last ∷ []) → TellsDifference w s s old old_last new new_last start end result
+compared : {S : Type 0} (w : ℕ) (s : Ghosts S) (first second : Option (List ℕ)) (old old_last new new_last : S) (start end : Option (List ℕ)) (result : Result Unit Fault) → IsSized s → AreComparable w first second → Shows s first (old_last ∷ []) → Shows s second (new_last ∷ old_last ∷ []) → TellsDifference (difference_task w s s) (difference_state old new start) (difference_state old_last new_last end) result
     → Comes true Nothing plain_status (of_file first (λ b. of_file second (difference_outcome w b))) start end result
 compared w s None second old old_last new new_last start end result sized order shows beside h = absurd shows
 compared w s (Some b) None old old_last new new_last start end result sized order shows beside h = absurd beside
@@ -125,8 +125,8 @@ compared w s (Some b) (Some c) old old_last new new_last start end result sized 
     difference_comes w s old_last new_last b c (record { is = shows.0; size = sized old_last b shows.0; works = shows.1 }) (record { is = beside.0; size = sized new_last c beside.0; works = beside.1 })
     old new start end order result h
 
-pub difference_foretold : {F I J M Y : Type 0} (feed : I → Feed) (w : ℕ) (s : Ghosts F) (m : Ghosts M) (y : Systems Y F I M) (first second : List ℕ) (disk : Disk) (old new : State Y) (left : Left F M I J) (result : Result Unit Fault) → IsSized s → EachAnswered s disk (stores_in left) (y.calls old.opened) (y.calls new.opened) → AreComparable w (disk first) (disk second)
-    → PerformsDifference w (files_of s m feed y) first second old new left result → Comes true Nothing plain_status (of_file (disk first) (λ b. of_file (disk second) (difference_outcome w b))) old.output new.output result
+pub difference_foretold : {F I J M N R Y : Type 0} (feed : I → Feed) (w : ℕ) (s : Ghosts F) (m : Ghosts M) (y : Systems Y F I M J N R) (first second : List ℕ) (disk : Disk) (old new : State Y) (left : Left F M I J) (result : Result Unit Fault) → IsSized s → EachAnswered s disk (stores_in left) (y.calls old.opened) (y.calls new.opened) → AreComparable w (disk first) (disk second)
+    → PerformsDifference (files_of s m feed y) (record { word = w; first = first; second = second }) old new left result → Comes true Nothing plain_status (of_file (disk first) (λ b. of_file (disk second) (difference_outcome w b))) old.output new.output result
 difference_foretold feed w s m y first second disk old new left result sized answers order (inl none) =
     refused_so true Nothing s plain_status first disk (stores_in left) _ (y.calls old.opened) (y.calls new.opened) [] old.output new.output result refl answers none.1
 difference_foretold feed w s m y first second disk old new left result sized answers order (inr (inl half)) =

@@ -73,8 +73,8 @@ query_comes : {S : Type 0} (w : ℕ) (s : Ghosts S) (q : Query) (file last : S) 
 query_comes w s q file last bytes start end (Ok done) is size works h = query_answered w s q last bytes start end (Ok tt) is size h.ok
 query_comes w s q file last bytes start end (Err fault) is size works h = query_ended w s q file last bytes start end fault is size works h.err
 
-pub query_foretold : {F I J M Y : Type 0} (feed : I → Feed) (w : ℕ) (s : Ghosts F) (m : Ghosts M) (y : Systems Y F I M) (name : List ℕ) (q : Query) (disk : Disk) (old new : State Y) (left : Left F M I J) (result : Result Unit Fault) → IsSized s → EachAnswered s disk (stores_in left) (y.calls old.opened) (y.calls new.opened)
-    → PerformsQuery w (files_of s m feed y) name q old new left result → Comes true Nothing plain_status (of_file (disk name) (query_outcome w q)) old.output new.output result
+pub query_foretold : {F I J M N R Y : Type 0} (feed : I → Feed) (w : ℕ) (s : Ghosts F) (m : Ghosts M) (y : Systems Y F I M J N R) (name : List ℕ) (q : Query) (disk : Disk) (old new : State Y) (left : Left F M I J) (result : Result Unit Fault) → IsSized s → EachAnswered s disk (stores_in left) (y.calls old.opened) (y.calls new.opened)
+    → PerformsQuery (files_of s m feed y) (record { word = w; name = name; query = q }) old new left result → Comes true Nothing plain_status (of_file (disk name) (query_outcome w q)) old.output new.output result
 query_foretold feed w s m y name q disk old new left result sized answers (inl none) =
     refused_so true Nothing s plain_status name disk (stores_in left) (query_outcome w q) (y.calls old.opened) (y.calls new.opened) [] old.output new.output result refl answers none.1
 query_foretold feed w s m y name q disk old new left result sized answers (inr some) =
@@ -162,8 +162,8 @@ text_agrees : (w : ℕ) (form : Form) (file : Option (List ℕ)) (before left : 
 text_agrees w form (Some bytes) before left start end result unread agrees h = text_read w form before left bytes agrees.0 start end result unread agrees.1 h
 text_agrees w form None before left start end result unread agrees h = absurd agrees
 
-pub text_named : {F I J M Y : Type 0} (s : Ghosts F) (feed : I → Feed) (w : ℕ) (m : Ghosts M) (y : Systems Y F I M) (form : Form) (name : List ℕ) (disk : Disk) (input : Standard J) (old new : State Y) (left : Left F M I J) (result : Result Unit Fault) → EachAnswered s disk (stores_in left) (y.calls old.opened) (y.calls new.opened) → EachAgrees feed disk (streams_in left) (y.calls old.opened) (y.calls new.opened)
-    → PerformsText w (files_of s m feed y) form (Some name) input old new left result → Comes true Database plain_status (of_file (disk name) (text_outcome w form)) old.output new.output result
+pub text_named : {F I J M N R Y : Type 0} (s : Ghosts F) (feed : I → Feed) (w : ℕ) (m : Ghosts M) (y : Systems Y F I M J N R) (form : Form) (name : List ℕ) (disk : Disk) (input : Standard J) (old new : State Y) (left : Left F M I J) (result : Result Unit Fault) → EachAnswered s disk (stores_in left) (y.calls old.opened) (y.calls new.opened) → EachAgrees feed disk (streams_in left) (y.calls old.opened) (y.calls new.opened)
+    → PerformsText (files_of s m feed y) (record { word = w; name = Some name; form = form }) input old new left result → Comes true Database plain_status (of_file (disk name) (text_outcome w form)) old.output new.output result
 text_named s feed w m y form name disk input old new left result answers agree (inl none) =
     refused_so true Database s plain_status name disk (stores_in left) (text_outcome w form) (y.calls old.opened) (y.calls new.opened) [] old.output new.output result refl answers none.1
 text_named s feed w m y form name disk input old new left result answers agree (inr opened) =
@@ -172,8 +172,8 @@ text_named s feed w m y form name disk input old new left result answers agree (
     (subst (λ l. EachAgrees feed disk (streams_in l) (y.calls old.opened) (y.calls new.opened)) of.is_last agree ((InTurn, name) ∷ []) opened.0).0
     of.reads
 
-pub text_input : {F I J M Y : Type 0} (s : Ghosts F) (feed : I → Feed) (w : ℕ) (m : Ghosts M) (y : Systems Y F I M) (form : Form) (bytes : List ℕ) (input : Standard J) (old new : State Y) (left : Left F M I J) (result : Result Unit Fault) → IsUnread (input.feed input.reader) → IfSome left.input (λ reader. Agrees (Some bytes) (input.feed reader))
-    → PerformsText w (files_of s m feed y) form None input old new left result → Comes true Database plain_status (text_outcome w form bytes) old.output new.output result
+pub text_input : {F I J M N R Y : Type 0} (s : Ghosts F) (feed : I → Feed) (w : ℕ) (m : Ghosts M) (y : Systems Y F I M J N R) (form : Form) (bytes : List ℕ) (input : Standard J) (old new : State Y) (left : Left F M I J) (result : Result Unit Fault) → IsUnread (input.feed input.reader) → IfSome left.input (λ reader. Agrees (Some bytes) (input.feed reader))
+    → PerformsText (files_of s m feed y) (record { word = w; name = None; form = form }) input old new left result → Comes true Database plain_status (text_outcome w form bytes) old.output new.output result
 text_input s feed w m y form bytes input old new left result unread agrees h =
     let reads = h.1 in
     text_agrees w form (Some bytes) (input.feed input.reader) (input.feed reads.last) old.output new.output result unread (subst (λ l. IfSome l.input (λ reader. Agrees (Some bytes) (input.feed reader))) reads.is_last agrees) reads.reads
@@ -271,9 +271,9 @@ yes_is_no e = cc
 unknown_is_no : looks.Unknown ≡ looks.No → ⊥
 unknown_is_no e = cc
 
-pub on_named : {F I J M Y : Type 0} (writes : Bool) (s : Ghosts F) (m : Ghosts M) (feed : I → Feed) (y : Systems Y F I M) (status : Fault → ℕ) (most : ℕ) (name : List ℕ) (disk : Disk) (outcome : List ℕ → Outcome) (input : Standard J) (old new : State Y) (left : Left F M I J) (result : Result Unit Fault) (file : F → F → Type 0) (taken : MemStore → MemStore → Type 0)
+pub on_named : {F I J M N R Y : Type 0} (writes : Bool) (s : Ghosts F) (m : Ghosts M) (feed : I → Feed) (y : Systems Y F I M J N R) (status : Fault → ℕ) (most : ℕ) (name : List ℕ) (disk : Disk) (outcome : List ℕ → Outcome) (input : Standard J) (old new : State Y) (left : Left F M I J) (result : Result Unit Fault) (file : F → F → Type 0) (taken : MemStore → MemStore → Type 0)
     → 111 ≡ status Open → EachAnswered s disk (stores_in left) (y.calls old.opened) (y.calls new.opened) → ((store last : F) (bytes : List ℕ) → s.image last bytes → s.failures last ≡ 0 → file store last → Comes writes Nothing status (outcome bytes) old.output new.output result)
-    → PerformsOn (files_of s m feed y) most (Some name) input old new left result file taken → Comes writes Nothing status (of_file (disk name) outcome) old.output new.output result
+    → PerformsOn (files_of s m feed y) (record { most = most; name = Some name; file = file; taken = taken }) input old new left result → Comes writes Nothing status (of_file (disk name) outcome) old.output new.output result
 on_named writes s m feed y status most name disk outcome input old new left result file taken plain answers comes h = elim h [
   | inl none ↦ refused_so writes Nothing s status name disk (stores_in left) outcome (y.calls old.opened) (y.calls new.opened) ((Stream looks.No, name) ∷ []) old.output new.output result plain answers none.1
   | inr h ↦ elim h [

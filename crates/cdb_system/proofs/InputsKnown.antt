@@ -48,7 +48,7 @@ pub record OpenedSince {I : Type 0} (names : List (List ℕ)) (readers : List (I
   pub each : AllByRecursion (λ c. c.0 ≡ InTurn) since
   pub in_turn : names_in_turn since ≡ own_names names readers
 
-pub opened_since : {F I M Y : Type 0} (y : Systems Y F I M) (names : List (List ℕ)) (readers : List (InputReader I)) (old new : OpenCalls) → OpensEach y names readers old new → OpenedSince names readers old new
+pub opened_since : {F I J M N R Y : Type 0} (y : Systems Y F I M J N R) (names : List (List ℕ)) (readers : List (InputReader I)) (old new : OpenCalls) → OpensEach y names readers old new → OpenedSince names readers old new
 opened_since y [] [] old new e = record { since = []; are = e; each = tt; in_turn = refl }
 opened_since y (name ∷ names) (Shared ∷ readers) old new (mid, one, more) =
     let rest = opened_since y names readers mid new more in
@@ -64,7 +64,7 @@ opened_since y (name ∷ names) (Own reader ∷ readers) old new (mid, one, more
 opened_since y [] (reader ∷ readers) old new e = absurd e
 opened_since y (name ∷ names) [] old new e = absurd e
 
-pub inputs_since : {F I M Y : Type 0} (y : Systems Y F I M) (names : List (List ℕ)) (readers : List (InputReader I)) (old new : OpenCalls) → OpensInputs y names readers old new → OpensEach y (inputs_read names) readers old new
+pub inputs_since : {F I J M N R Y : Type 0} (y : Systems Y F I M J N R) (names : List (List ℕ)) (readers : List (InputReader I)) (old new : OpenCalls) → OpensInputs y names readers old new → OpensEach y (inputs_read names) readers old new
 inputs_since y [] readers old new h = subst (λ rs. OpensEach y (codes "-" ∷ []) rs old new) (sym h.0) (new, (refl, h.1), refl)
 inputs_since y (name ∷ names) readers old new h = h
 
@@ -112,7 +112,7 @@ there : (file : Option (List ℕ)) → IsThere file → (bytes : List ℕ) × (f
 there (Some bytes) h = (bytes, refl)
 there None h = absurd h
 
-pub files_of_each : {F I M Y : Type 0} (y : Systems Y F I M) (disk : Disk) (names : List (List ℕ)) (readers : List (InputReader I)) (old new : OpenCalls) → ((name : List ℕ) → IfSome (disk name) AreBytes) → OpensEach y names readers old new → AllByRecursion (λ name. IsThere (disk name)) (own_names names readers) → FilesOf disk names readers
+pub files_of_each : {F I J M N R Y : Type 0} (y : Systems Y F I M J N R) (disk : Disk) (names : List (List ℕ)) (readers : List (InputReader I)) (old new : OpenCalls) → ((name : List ℕ) → IfSome (disk name) AreBytes) → OpensEach y names readers old new → AllByRecursion (λ name. IsThere (disk name)) (own_names names readers) → FilesOf disk names readers
 files_of_each y disk [] [] old new bytes h all = record { files = []; are = refl; of = tt; long = refl; own = tt }
 files_of_each y disk (name ∷ names) (Shared ∷ readers) old new bytes (mid, one, more) all =
     let rest = files_of_each y disk names readers mid new bytes more all in

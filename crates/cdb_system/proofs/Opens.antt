@@ -8,7 +8,7 @@ use Rattle.cdb_system.specs.Inputs.{OpensInput, OpensEach, StopsOpening, MissesI
 use Rattle.cdb_system.specs.declared.system.System.{Ghosts as Systems}
 
 -- one input more
-pub opens_more : {F I M Y : Type 0} (y : Systems Y F I M) (names : List (List ℕ)) (readers : List (InputReader I)) (name : List ℕ) (reader : InputReader I) (old mid new : OpenCalls) → OpensEach y names readers old mid → OpensInput y name reader mid new → OpensEach y (names ++ name ∷ []) (readers ++ reader ∷ []) old new
+pub opens_more : {F I J M N R Y : Type 0} (y : Systems Y F I M J N R) (names : List (List ℕ)) (readers : List (InputReader I)) (name : List ℕ) (reader : InputReader I) (old mid new : OpenCalls) → OpensEach y names readers old mid → OpensInput y name reader mid new → OpensEach y (names ++ name ∷ []) (readers ++ reader ∷ []) old new
 opens_more y [] [] name reader old mid new e is = (new, subst (λ v. OpensInput y name reader v new) e is, refl)
 opens_more y (n ∷ names) (t ∷ readers) name reader old mid new e is = (e.0, e.1, opens_more y names readers name reader e.0 mid new e.2 is)
 opens_more y [] (t ∷ readers) name reader old mid new e is = absurd e
@@ -42,7 +42,7 @@ names_at f names i r name lt is k =
     ∙ sym (names_split f names i ∙ ap (λ v. map f (take i names) ++ v) (names_from f names i r lt is))
 
 -- an input was not opened
-pub stops_missed : {A F I M Y : Type 0} (y : Systems Y F I M) (f : A → List ℕ) (names : List A) (i : ℕ) (r : A) (name : List ℕ) (readers : List (InputReader I)) (old mid new : OpenCalls) (fault : Fault) → i < length names → r ≡ get_or names i r → name ≡ f r → OpensEach y (map f (take i names)) readers old mid → MissesInput name mid new fault
+pub stops_missed : {A F I J M N R Y : Type 0} (y : Systems Y F I M J N R) (f : A → List ℕ) (names : List A) (i : ℕ) (r : A) (name : List ℕ) (readers : List (InputReader I)) (old mid new : OpenCalls) (fault : Fault) → i < length names → r ≡ get_or names i r → name ≡ f r → OpensEach y (map f (take i names)) readers old mid → MissesInput name mid new fault
     → StopsOpening y (map f names) old new fault
 stops_missed y f names i r name readers old mid new fault lt is k opens misses = record {
   opened = map f (take i names);
@@ -55,7 +55,7 @@ stops_missed y f names i r name readers old mid new fault lt is k opens misses =
 }
 
 -- an allocation failed after some were
-pub stops_after : {A F I M Y : Type 0} (y : Systems Y F I M) (f : A → List ℕ) (names : List A) (i : ℕ) (readers : List (InputReader I)) (old new : OpenCalls) → OpensEach y (map f (take i names)) readers old new → StopsOpening y (map f names) old new NoMemory
+pub stops_after : {A F I J M N R Y : Type 0} (y : Systems Y F I M J N R) (f : A → List ℕ) (names : List A) (i : ℕ) (readers : List (InputReader I)) (old new : OpenCalls) → OpensEach y (map f (take i names)) readers old new → StopsOpening y (map f names) old new NoMemory
 stops_after y f names i readers old new opens = record {
   opened = map f (take i names);
   left = map f (drop i names);

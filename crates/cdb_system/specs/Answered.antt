@@ -103,7 +103,7 @@ AreInOrder disk (asked.Difference old new wide) =
 AreInOrder disk command = ⊤
 
 -- all that a command called and read was as the files and standard input are, of which nothing had been taken
-pub record Honest {F I J M Y : Type 0} (files : Files F I M Y) (disk : Disk) (input : List ℕ)
+pub record Honest {F I J M N R Y : Type 0} (files : Files F I J M N R Y) (disk : Disk) (input : List ℕ)
     (command : Asked) (standard : Standard J) (old new : Y) (left : Left F M I J) : Type 0 where
   pub calls : OpenCalls
   pub are : files.system.calls new ≡ calls ++ files.system.calls old

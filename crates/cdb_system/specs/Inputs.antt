@@ -18,7 +18,7 @@ inputs_read [] = codes "-" ∷ []
 inputs_read (name ∷ names) = name ∷ names
 
 -- the base was opened, if there is one
-abbrev pub OpensBase : {F I M Y : Type 0} → Systems Y F I M → Option (List ℕ) → Option F
+abbrev pub OpensBase : {F I J M N R Y : Type 0} → Systems Y F I M J N R → Option (List ℕ) → Option F
     → (old new : OpenCalls) → Type 0
 OpensBase y None None old new = new ≡ old
 OpensBase y (Some name) (Some file) old new =
@@ -31,14 +31,14 @@ MissesBase None old new fault = ⊥
 MissesBase (Some name) old new fault = Misses name old new fault
 
 -- an input is standard input, for which nothing is opened, or the file that came for its name
-abbrev pub OpensInput : {F I M Y : Type 0} → Systems Y F I M → List ℕ → InputReader I
+abbrev pub OpensInput : {F I J M N R Y : Type 0} → Systems Y F I M J N R → List ℕ → InputReader I
     → (old new : OpenCalls) → Type 0
 OpensInput y name Shared old new = IsStandard name × (new ≡ old)
 OpensInput y name (Own file) old new =
     (IsStandard name → ⊥) × (new ≡ (InTurn, name) ∷ old) × y.reads name file
 
 -- each of these is
-abbrev pub OpensEach : {F I M Y : Type 0} → Systems Y F I M → List (List ℕ) → List (InputReader I)
+abbrev pub OpensEach : {F I J M N R Y : Type 0} → Systems Y F I M J N R → List (List ℕ) → List (InputReader I)
     → (old new : OpenCalls) → Type 0
 OpensEach y [] [] old new = new ≡ old
 OpensEach y (name ∷ names) (reader ∷ readers) old new =
@@ -46,7 +46,7 @@ OpensEach y (name ∷ names) (reader ∷ readers) old new =
 OpensEach y names readers old new = ⊥
 
 -- without a name, standard input is the one input
-abbrev pub OpensInputs : {F I M Y : Type 0} → Systems Y F I M → List (List ℕ) → List (InputReader I)
+abbrev pub OpensInputs : {F I J M N R Y : Type 0} → Systems Y F I M J N R → List (List ℕ) → List (InputReader I)
     → (old new : OpenCalls) → Type 0
 OpensInputs y [] readers old new = (readers ≡ Shared ∷ []) × (new ≡ old)
 OpensInputs y (name ∷ names) readers old new = OpensEach y (name ∷ names) readers old new
@@ -56,7 +56,7 @@ abbrev pub MissesInput : List ℕ → (old new : OpenCalls) → Fault → Type 0
 MissesInput name old new fault = (IsStandard name → ⊥) × Misses name old new fault
 
 -- the first of them were opened, and then one was not, or an allocation failed
-pub record StopsOpening {F I M Y : Type 0} (y : Systems Y F I M) (names : List (List ℕ))
+pub record StopsOpening {F I J M N R Y : Type 0} (y : Systems Y F I M J N R) (names : List (List ℕ))
     (old new : OpenCalls) (fault : Fault) : Type 0 where
   pub opened : List (List ℕ)
   pub left : List (List ℕ)

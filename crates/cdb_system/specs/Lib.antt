@@ -15,3 +15,4 @@ pub mod State
 pub mod Streams
 pub mod SystemWords
 pub mod Telling
+pub mod Wanted

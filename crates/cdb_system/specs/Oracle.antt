@@ -5,7 +5,6 @@ use Rattle.std.specs.Prelude.{Option, None, Some, option_map, Result, Ok, Err}
 use Rattle.cdb_command.specs.Asked.{Asked}
 use Rattle.cdb_command.specs.Asked as asked
 use Rattle.cdb_command.specs.Usage.{usage_text, version_text}
-use Rattle.cdb_command.specs.declared.style.Style.{Style}
 use Rattle.cdb_command.specs.Refused.{Refused, usage_of}
 use Rattle.cdb_form.specs.Format.Pair.{head_size}
 use Rattle.cdb_form.specs.Format.Walk.{walk_of}
@@ -25,6 +24,7 @@ use Rattle.cdb_show.specs.Runs.WalkText.{walk_text}
 use Rattle.cdb_show.specs.Status.{check_status, plain_status}
 use Rattle.cdb_show.specs.declared.fault.Fault.{Fault}
 use Rattle.cdb_show.specs.declared.fault.Fault.TheVariants.{Read, Open, Long}
+use Rattle.cdb_show.specs.declared.runs.lookup_options.LookupOptions.{LookupOptions}
 use Rattle.cdb_system.specs.Telling.{usage_line, usage_status}
 
 -- what a run comes to: its exit status, what it writes, and its lines on standard error
@@ -62,11 +62,11 @@ query_outcome w q bytes =
     else ended plain_status (query_text w bytes q) (query_answer w bytes q)
 
 -- the records of the keys that inputs give, in texts with lengths of at most g
-abbrev pub lookups_outcome : (w g : ℕ) → Option ℕ → Style → (inputs : List (Option (List ℕ)))
+abbrev pub lookups_outcome : (w g : ℕ) → LookupOptions → (inputs : List (Option (List ℕ)))
     → (shared : List ℕ) → List ℕ → Outcome
-lookups_outcome w g number style inputs shared bytes =
+lookups_outcome w g options inputs shared bytes =
     if nat_lt (length bytes) (head_size w) then ended plain_status [] (met (Some Short))
-    else let looked = records_asked w g number style inputs shared bytes in
+    else let looked = records_asked w g options inputs shared bytes in
     ended plain_status looked.text looked.answer
 
 -- the whole records before the damage, or their keys
@@ -162,7 +162,8 @@ command_outcome (asked.Query name key number lines wide) disk input =
     (record { key = key; number = number; shown = value_text lines })))
 command_outcome (asked.Lookups name inputs number style wide) disk input =
     Some (of_file (disk name) (λ bytes. of_inputs (inputs_of disk inputs) (λ files.
-    lookups_outcome (word_size wide) (greatest_size wide) number style files input bytes)))
+    lookups_outcome (word_size wide) (greatest_size wide)
+    (record { number = number; style = style }) files input bytes)))
 command_outcome (asked.Dump name style wide) disk input =
     Some (of_read disk input name (text_outcome (word_size wide) (dump_form style)))
 command_outcome (asked.Listing name style wide) disk input =

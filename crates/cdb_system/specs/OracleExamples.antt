@@ -172,14 +172,18 @@ unfolding disk name other comes two_stats two_file put_at words_of repeat walk_o
 no_list_is = refl
 
 -- the record of the second key reaches past the end of the file; a third is not looked up
-damage_asked : lookups_outcome 4 4294967295 None Native (None ∷ []) (codes "+3:one\n+3:two\n+3:one\n\n") (put_at 2068 (200 ∷ []) two_file) ≡ record { status = 111; output = codes "+3,5:one->Hello\n"; lines = codes "cdb: record at 2064: not whole\n" }
+damage_asked : lookups_outcome 4 4294967295 (record { number = None; style = Native }) (None ∷ []) (codes "+3:one\n+3:two\n+3:one\n\n") (put_at 2068 (200 ∷ []) two_file) ≡ record { status = 111; output = codes "+3,5:one->Hello\n"; lines = codes "cdb: record at 2064: not whole\n" }
 unfolding disk name other comes two_stats two_file put_at words_of repeat walk_of walk_from whole_records record_end head_at lookup_of met_slots found_at statistics_of statistics_damage distances_in stats_text distance_lines first_fault first_of slots_fault all_slots entries_from digits text_from
 damage_asked = refl
 
 -- ---- calls by which it comes true
 
+-- a reader of bytes that notes what it gave
+abbrev Reader : Type 0
+Reader = NotedReader (List ℕ)
+
 -- a system that opens each file of a disk: in memory, to be read at places, or as its bytes
-of_disk : Disk → Systems OpenCalls MemStore (NotedReader (List ℕ)) MemStore
+of_disk : Disk → Systems OpenCalls MemStore Reader MemStore Reader Unit Unit
 of_disk disk = record {
   calls = λ calls. calls;
   gives = λ name store. disk name ≡ Some (contents store);
@@ -187,13 +191,13 @@ of_disk disk = record {
   makes = λ name store. ⊤;
 }
 
-abbrev from : Disk → Files MemStore (NotedReader (List ℕ)) MemStore OpenCalls
+abbrev from : Disk → Files MemStore Reader Reader MemStore Unit Unit OpenCalls
 from disk = files_of in_memory in_memory noted_feed (of_disk disk)
 
 abbrev Back : Type 0
-Back = Left MemStore MemStore (NotedReader (List ℕ)) (NotedReader (List ℕ))
+Back = Left MemStore MemStore Reader Reader
 
-abbrev standard : (input : List ℕ) → Standard (NotedReader (List ℕ))
+abbrev standard : (input : List ℕ) → Standard Reader
 standard input = standard_of noted_feed (fresh input)
 
 -- a query of a file that lies in memory

@@ -1,7 +1,6 @@
 -- What a command that only reads does: the calls on files, in their order, and what it writes on its output.
-use Rattle.std.specs.Prelude.{ℕ, ◌≡◌, ◌⊎◌, ◌<◌, ◌≤◌, ⊤, List, ◌∷◌, length, Option, Some, None, Result, Err, OnOk, IfErr}
+use Rattle.std.specs.Prelude.{ℕ, ◌≡◌, ◌⊎◌, ◌<◌, ◌≤◌, ⊤, List, ◌∷◌, length, Option, Result, Err, OnOk, IfErr}
 use Rattle.std.specs.Io.KnownBytes.{Keeps, Appends}
-use Rattle.cdb_command.specs.declared.style.Style.{Style}
 use Rattle.cdb_feed.specs.Inputs.{AreUnread, IsUnread}
 use Rattle.cdb_form.specs.Fed.Feed.{Feed, FromTo}
 use Rattle.cdb_form.specs.Views.KnownBytes.{AppendsPrefix}
@@ -11,10 +10,11 @@ use Rattle.cdb_store.specs.Reads.{OnlyReads}
 use Rattle.cdb_store.specs.declared.memory.MemStore.{MemStore}
 use Rattle.cdb_store.specs.declared.store.Store.{Ghosts}
 use Rattle.cdb_show.specs.Runs.Check.{FindsSound, CheckingFails}
-use Rattle.cdb_show.specs.Runs.Difference.{TellsDifference}
+use Rattle.cdb_show.specs.Runs.Difference.{TellsDifference, difference_state, difference_task}
 use Rattle.cdb_show.specs.Runs.Form.{Form}
 use Rattle.cdb_show.specs.Runs.FedLookups.{FedLooksUp}
-use Rattle.cdb_show.specs.Runs.Query.{Query, Queries}
+use Rattle.cdb_show.specs.Runs.LookupTask.{lookup_state, lookup_task}
+use Rattle.cdb_show.specs.Runs.Query.{Queries}
 use Rattle.cdb_show.specs.Runs.Stats.{TellsStats}
 use Rattle.cdb_show.specs.Runs.FedText.{WritesWalk}
 use Rattle.cdb_show.specs.declared.fault.Fault.{Fault}
@@ -25,6 +25,7 @@ use Rattle.cdb_show.specs.declared.inputs.Inputs.{Inputs}
 use Rattle.cdb_system.specs.Inputs.{OpensInputs, StopsOpening}
 use Rattle.cdb_system.specs.Opening.{Misses, OpenCalls, both_left, input_left, looked_left, none_left, read_left, stream_left}
 use Rattle.cdb_system.specs.State.{Standard, State, calls_in}
+use Rattle.cdb_system.specs.Wanted.{WantedDifference, WantedLookups, WantedQuery, WantedStore, WantedText, by_name}
 use Rattle.cdb_show.specs.Views.Window.{window_feed}
 use Rattle.cdb_system.specs.declared.left.Left.{Left}
 use Rattle.cdb_system.specs.declared.open_trace.OpenCall.TheVariants.{AtPlaces, InTurn, Stream}
@@ -44,22 +45,22 @@ LacksMemory start end result = (result ≡ Err NoRoom) × Keeps start end
 -- ---- query
 
 -- the values of a key of the file that came, which is left so
-pub record QueriesFile {F I J M Y : Type 0} (w : ℕ) (files : Files F I M Y) (name : List ℕ)
-    (q : Query) (old new : State Y) (left : Left F M I J) (result : Result Unit Fault) : Type 0 where
+pub record QueriesFile {F I J M N R Y : Type 0} (files : Files F I J M N R Y) (q : WantedQuery)
+    (old new : State Y) (left : Left F M I J) (result : Result Unit Fault) : Type 0 where
   pub file : F
-  pub came : files.system.gives name file
+  pub came : files.system.gives q.name file
   pub last : F
   pub is_last : left ≡ read_left last
-  pub queries : Queries w files.stores q file last old.output new.output result
+  pub queries : Queries q.word files.stores q.query file last old.output new.output result
 
 -- that file alone is opened
-abbrev pub PerformsQuery : {F I J M Y : Type 0} → ℕ → Files F I M Y → (name : List ℕ) → Query
-    → (old new : State Y) → Left F M I J → Result Unit Fault → Type 0
-PerformsQuery w files name q old new left result =
+abbrev pub PerformsQuery : {F I J M N R Y : Type 0} → Files F I J M N R Y → WantedQuery → (old new : State Y)
+    → Left F M I J → Result Unit Fault → Type 0
+PerformsQuery files q old new left result =
     ((left ≡ none_left)
-    × Refuses name (calls_in files old) (calls_in files new) old.output new.output result)
-    ⊎ ((calls_in files new ≡ (AtPlaces, name) ∷ calls_in files old)
-    × QueriesFile w files name q old new left result)
+    × Refuses q.name (calls_in files old) (calls_in files new) old.output new.output result)
+    ⊎ ((calls_in files new ≡ (AtPlaces, q.name) ∷ calls_in files old)
+    × QueriesFile files q old new left result)
 
 -- ---- dump and list
 
@@ -76,33 +77,31 @@ ReadsText w form before after start end result =
     LacksMemory start end result ⊎ WritesText w form before after start end result
 
 -- of the file that came, of which nothing had been taken, and whose reader is handed back
-pub record WritesFile {F I J M Y : Type 0} (w : ℕ) (files : Files F I M Y) (form : Form)
-    (name : List ℕ) (left : Left F M I J) (start end : Option (List ℕ))
-    (result : Result Unit Fault) : Type 0 where
+pub record WritesFile {F I J M N R Y : Type 0} (files : Files F I J M N R Y) (t : WantedText) (name : List ℕ)
+    (left : Left F M I J) (start end : Option (List ℕ)) (result : Result Unit Fault) : Type 0 where
   pub file : I
   pub came : files.system.reads name file
   pub unread : IsUnread (files.feed file)
   pub last : I
   pub is_last : left ≡ stream_left last
-  pub reads : ReadsText w form (files.feed file) (files.feed last) start end result
+  pub reads : ReadsText t.word t.form (files.feed file) (files.feed last) start end result
 
 -- of standard input, whose reader is
-pub record WritesInput {F I J M : Type 0} (w : ℕ) (form : Form) (input : Standard J)
-    (left : Left F M I J) (start end : Option (List ℕ)) (result : Result Unit Fault) : Type 0 where
+pub record WritesInput {F I J M : Type 0} (t : WantedText) (input : Standard J) (left : Left F M I J)
+    (start end : Option (List ℕ)) (result : Result Unit Fault) : Type 0 where
   pub last : J
   pub is_last : left ≡ input_left last
-  pub reads : ReadsText w form (input.feed input.reader) (input.feed last) start end result
+  pub reads : ReadsText t.word t.form (input.feed input.reader) (input.feed last) start end result
 
 -- that file alone is opened, or none, if standard input is read
-abbrev pub PerformsText : {F I J M Y : Type 0} → ℕ → Files F I M Y → Form → Option (List ℕ)
-    → (input : Standard J) → (old new : State Y) → Left F M I J → Result Unit Fault → Type 0
-PerformsText w files form (Some name) input old new left result =
-    ((left ≡ none_left)
+abbrev pub PerformsText : {F I J M N R Y : Type 0} → Files F I J M N R Y → WantedText → (input : Standard J)
+    → (old new : State Y) → Left F M I J → Result Unit Fault → Type 0
+PerformsText files t input old new left result = by_name t.name
+    (λ name. ((left ≡ none_left)
     × Refuses name (calls_in files old) (calls_in files new) old.output new.output result)
     ⊎ ((calls_in files new ≡ (InTurn, name) ∷ calls_in files old)
-    × WritesFile w files form name left old.output new.output result)
-PerformsText w files form None input old new left result =
-    (new.opened ≡ old.opened) × WritesInput w form input left old.output new.output result
+    × WritesFile files t name left old.output new.output result))
+    ((new.opened ≡ old.opened) × WritesInput t input left old.output new.output result)
 
 -- ---- statistics and check
 
@@ -153,7 +152,7 @@ Takes most before after start end result done =
     IsNotTaken most before after start end result ⊎ IsTakenInMemory most before after done
 
 -- the file that came is read at places, and is left so
-pub record OfFile {F I J M Y : Type 0} (files : Files F I M Y) (name : List ℕ) (left : Left F M I J)
+pub record OfFile {F I J M N R Y : Type 0} (files : Files F I J M N R Y) (name : List ℕ) (left : Left F M I J)
     (done : F → F → Type 0) : Type 0 where
   pub file : F
   pub came : files.system.gives name file
@@ -162,15 +161,15 @@ pub record OfFile {F I J M Y : Type 0} (files : Files F I M Y) (name : List ℕ)
   pub does : done file last
 
 -- nothing had been taken of it: it is taken into memory, and its reader is handed back
-pub record OfStream {F I J M Y : Type 0} (files : Files F I M Y) (name : List ℕ) (most : ℕ)
-    (left : Left F M I J) (start end : Option (List ℕ)) (result : Result Unit Fault)
-    (done : MemStore → MemStore → Type 0) : Type 0 where
+pub record OfStream {F I J M N R Y : Type 0} (files : Files F I J M N R Y) (s : WantedStore F)
+    (name : List ℕ) (left : Left F M I J) (start end : Option (List ℕ)) (result : Result Unit Fault)
+    : Type 0 where
   pub file : I
   pub came : files.system.reads name file
   pub unread : IsUnread (files.feed file)
   pub last : I
   pub is_last : left ≡ stream_left last
-  pub takes : Takes most (files.feed file) (files.feed last) start end result done
+  pub takes : Takes s.most (files.feed file) (files.feed last) start end result s.taken
 
 -- so is standard input
 pub record OfInput {F I J M : Type 0} (most : ℕ) (input : Standard J) (left : Left F M I J)
@@ -182,70 +181,61 @@ pub record OfInput {F I J M : Type 0} (most : ℕ) (input : Standard J) (left : 
 
 -- that file alone is opened, once it was seen whether it is a stream; or none, if the system did not
 -- say, or if standard input is read
-abbrev pub PerformsOn : {F I J M Y : Type 0} → Files F I M Y → (most : ℕ)
-    → (name : Option (List ℕ)) → (input : Standard J) → (old new : State Y) → Left F M I J
-    → Result Unit Fault → (F → F → Type 0) → (MemStore → MemStore → Type 0) → Type 0
-PerformsOn files most (Some name) input old new left result file taken =
-    ((left ≡ none_left) × Refuses name ((Stream looks.No, name) ∷ calls_in files old)
+abbrev pub PerformsOn : {F I J M N R Y : Type 0} → Files F I J M N R Y → WantedStore F → (input : Standard J)
+    → (old new : State Y) → Left F M I J → Result Unit Fault → Type 0
+PerformsOn files s input old new left result = by_name s.name
+    (λ name. ((left ≡ none_left) × Refuses name ((Stream looks.No, name) ∷ calls_in files old)
     (calls_in files new) old.output new.output result)
     ⊎ ((calls_in files new ≡ (AtPlaces, name) ∷ (Stream looks.No, name) ∷ calls_in files old)
-    × OfFile files name left file)
+    × OfFile files name left s.file)
     ⊎ ((left ≡ none_left) × Refuses name ((Stream looks.Yes, name) ∷ calls_in files old)
     (calls_in files new) old.output new.output result)
     ⊎ ((calls_in files new ≡ (InTurn, name) ∷ (Stream looks.Yes, name) ∷ calls_in files old)
-    × OfStream files name most left old.output new.output result taken)
+    × OfStream files s name left old.output new.output result)
     ⊎ ((calls_in files new ≡ (Stream looks.Unknown, name) ∷ calls_in files old)
-    × (left ≡ none_left) × (result ≡ Err Open) × Keeps old.output new.output)
-PerformsOn files most None input old new left result file taken =
-    (new.opened ≡ old.opened) × OfInput most input left old.output new.output result taken
+    × (left ≡ none_left) × (result ≡ Err Open) × Keeps old.output new.output))
+    ((new.opened ≡ old.opened)
+    × OfInput s.most input left old.output new.output result s.taken)
 
 -- ---- difference
 
 -- what changed between the files that came for two names, which are left so
-pub record ComparesFiles {F I J M Y : Type 0} (w : ℕ) (files : Files F I M Y)
-    (first second : List ℕ) (before after : State Y) (left : Left F M I J) (result : Result Unit Fault)
-    : Type 0 where
+pub record ComparesFiles {F I J M N R Y : Type 0} (files : Files F I J M N R Y) (d : WantedDifference)
+    (before after : State Y) (left : Left F M I J) (result : Result Unit Fault) : Type 0 where
   pub old : F
-  pub old_came : files.system.gives first old
+  pub old_came : files.system.gives d.first old
   pub new : F
-  pub new_came : files.system.gives second new
+  pub new_came : files.system.gives d.second new
   pub old_last : F
   pub new_last : F
   pub are_last : left ≡ both_left old_last new_last
-  pub tells : TellsDifference w files.stores files.stores old old_last new new_last before.output
-      after.output result
+  pub tells : TellsDifference (difference_task d.word files.stores files.stores)
+      (difference_state old new before.output) (difference_state old_last new_last after.output) result
 
 -- the second was not opened, and nothing was written; the first is left as it came
-pub record RefusesSecond {F I J M Y : Type 0} (files : Files F I M Y) (first second : List ℕ)
+pub record RefusesSecond {F I J M N R Y : Type 0} (files : Files F I J M N R Y) (d : WantedDifference)
     (old new : State Y) (left : Left F M I J) (result : Result Unit Fault) : Type 0 where
   pub file : F
-  pub came : files.system.gives first file
+  pub came : files.system.gives d.first file
   pub is_left : left ≡ read_left file
-  pub refuses : Refuses second ((AtPlaces, first) ∷ calls_in files old)
+  pub refuses : Refuses d.second ((AtPlaces, d.first) ∷ calls_in files old)
       (calls_in files new) old.output new.output result
 
 -- both are opened, to be read at places, and no other file is
-abbrev pub PerformsDifference : {F I J M Y : Type 0} → ℕ → Files F I M Y → (first second : List ℕ)
+abbrev pub PerformsDifference : {F I J M N R Y : Type 0} → Files F I J M N R Y → WantedDifference
     → (old new : State Y) → Left F M I J → Result Unit Fault → Type 0
-PerformsDifference w files first second old new left result =
+PerformsDifference files d old new left result =
     ((left ≡ none_left)
-    × Refuses first (calls_in files old) (calls_in files new) old.output new.output result)
-    ⊎ RefusesSecond files first second old new left result
-    ⊎ ((calls_in files new ≡ (AtPlaces, second) ∷ (AtPlaces, first) ∷ calls_in files old)
-    × ComparesFiles w files first second old new left result)
+    × Refuses d.first (calls_in files old) (calls_in files new) old.output new.output result)
+    ⊎ RefusesSecond files d old new left result
+    ⊎ ((calls_in files new ≡ (AtPlaces, d.second) ∷ (AtPlaces, d.first) ∷ calls_in files old)
+    × ComparesFiles files d old new left result)
 
 -- ---- many keys
 
--- what is looked up: in the file of this name the keys of these inputs, by number and style
-pub record Lookups : Type 0 where
-  pub name : List ℕ
-  pub inputs : List (List ℕ)
-  pub number : Option ℕ
-  pub style : Style
-
 -- the records of the keys of the inputs that were opened after the file that came. Nothing had been taken of any
 -- input, and their readers are handed back with the file
-pub record LooksUpFile {F I J M Y : Type 0} (w most : ℕ) (files : Files F I M Y) (l : Lookups)
+pub record LooksUpFile {F I J M N R Y : Type 0} (files : Files F I J M N R Y) (l : WantedLookups)
     (input : Standard J) (old new : State Y) (left : Left F M I J) (result : Result Unit Fault)
     : Type 0 where
   pub file : F
@@ -258,11 +248,11 @@ pub record LooksUpFile {F I J M Y : Type 0} (w most : ℕ) (files : Files F I M 
   pub last : F
   pub handed : Inputs I J
   pub are_last : left ≡ looked_left last handed
-  pub looks : FedLooksUp w most files.stores l.number l.style files.feed input.feed inputs handed
-      file last old.output new.output result
+  pub looks : FedLooksUp (lookup_task l.word l.greatest files.stores l.options) files.feed input.feed
+      (lookup_state inputs file old.output) (lookup_state handed last new.output) result
 
 -- an input was not opened, and nothing was written; the file is left as it came
-pub record RefusesInputs {F I J M Y : Type 0} (files : Files F I M Y) (name : List ℕ)
+pub record RefusesInputs {F I J M N R Y : Type 0} (files : Files F I J M N R Y) (name : List ℕ)
     (inputs : List (List ℕ)) (old new : State Y) (left : Left F M I J) (result : Result Unit Fault)
     : Type 0 where
   pub file : F
@@ -275,13 +265,13 @@ pub record RefusesInputs {F I J M Y : Type 0} (files : Files F I M Y) (name : Li
   pub kept : Keeps old.output new.output
 
 -- the file is opened, to be read at places, and then the inputs
-abbrev pub PerformsLookups : {F I J M Y : Type 0} → (w most : ℕ) → Files F I M Y → Lookups
+abbrev pub PerformsLookups : {F I J M N R Y : Type 0} → Files F I J M N R Y → WantedLookups
     → (input : Standard J) → (old new : State Y) → Left F M I J → Result Unit Fault → Type 0
-PerformsLookups w most files l input old new left result =
+PerformsLookups files l input old new left result =
     ((left ≡ none_left)
     × Refuses l.name (calls_in files old) (calls_in files new) old.output new.output result)
     ⊎ RefusesInputs files l.name l.inputs old new left result
-    ⊎ LooksUpFile w most files l input old new left result
+    ⊎ LooksUpFile files l input old new left result
 
 -- ---- help and version
 

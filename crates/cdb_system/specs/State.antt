@@ -38,11 +38,11 @@ state_of opened named output errors =
     record { opened = opened; named = named; output = output; errors = errors }
 
 -- the calls on files
-abbrev pub calls_in : {F I M Y : Type 0} → Files F I M Y → State Y → OpenCalls
+abbrev pub calls_in : {F I J M N R Y : Type 0} → Files F I J M N R Y → State Y → OpenCalls
 calls_in files state = files.system.calls state.opened
 
 -- with these for the system
-abbrev pub with_calls : {F I M Y : Type 0} → Files F I M Y → State Y → State OpenCalls
+abbrev pub with_calls : {F I J M N R Y : Type 0} → Files F I J M N R Y → State Y → State OpenCalls
 with_calls files state = record {
   opened = calls_in files state;
   named = state.named;

@@ -8,8 +8,9 @@ ghost use Rattle.cdb_system.specs.Causes.{HasNoDatabase, IsFailedStream, MayHave
 ghost use Rattle.cdb_system.specs.Causes.{IsOfSystem, IsOfTextOf, IsRefusedOpening};
 ghost use Rattle.cdb_system.specs.Causes.{cause_words, input_name, new_name, read_name, refusal_words, same_words};
 
-use crate::left::Left;
+use crate::left::LeftOf;
 use crate::places::is_in_place;
+use crate::request::Request;
 use crate::system::System;
 use cdb_command::Command;
 use cdb_form::{TextFault, WalkFault};
@@ -153,12 +154,15 @@ fn is_of_another<Y: System>(command: &Command, system: &Y) -> bool {
 
 /// What is said of a name that was not opened or made. A name that no file can have is named for
 /// that, unless another name was refused before it.
-fn of_unopened<'a, Y, N>(command: &'a Command, system: &'a Y, names: &'a N) -> Option<Reason<'a>>
+fn of_unopened<'a, Y>(
+    command: &'a Command,
+    system: &'a Y,
+    names: &'a Y::Names,
+) -> Option<Reason<'a>>
 where
     Y: System,
-    N: Names,
     ensures { IfSome result (λ r. IsRefusedOpening (asked_in command.now) (Y.calls system.now)
-        (N.calls names.now) (reason_name r) (said_of r.told)
+        (Y.Names.calls names.now) (reason_name r) (said_of r.told)
         ⊎ IsNoNameOf (asked_in command.now) (reason_name r) (said_of r.told)) }
 {
     if !is_of_another::<Y>(command, system)
@@ -166,16 +170,19 @@ where
     {
         return Some(reason);
     }
-    of_refusals::<Y, N>(command, system, names)
+    of_refusals::<Y>(command, system, names)
 }
 
 /// What is said of a name that was refused, if one was.
-fn of_refusals<'a, Y, N>(command: &'a Command, system: &'a Y, names: &'a N) -> Option<Reason<'a>>
+fn of_refusals<'a, Y>(
+    command: &'a Command,
+    system: &'a Y,
+    names: &'a Y::Names,
+) -> Option<Reason<'a>>
 where
     Y: System,
-    N: Names,
     ensures { IfSome result (λ r. IsRefusedOpening (asked_in command.now) (Y.calls system.now)
-        (N.calls names.now) (reason_name r) (said_of r.told)) }
+        (Y.Names.calls names.now) (reason_name r) (said_of r.told)) }
 {
     if let Some(refusal) = system.refusal() {
         return Some(of_refusal(command, refusal));
@@ -270,19 +277,14 @@ where
 }
 
 /// What is said of an input whose text was not read.
-fn of_text<'a, Y>(
-    command: &'a Command,
-    number: u64,
-    fault: TextFault,
-    lines: &Lines,
-    system: &Y,
-) -> Reason<'a>
+fn of_text<'a, Y>(request: Request<'a>, number: u64, fault: TextFault, system: &Y) -> Reason<'a>
 where
     Y: System,
-    ensures name { reason_name result ≡ input_name (asked_in command.now) number }
+    ensures name { reason_name result ≡ input_name (asked_in request.entry.command.now) number }
     ensures told { IsOfTextOf fault (said_of result.told) }
 {
-    of_name(input_name(command, number), of_fault(fault, lines, system))
+    let told = of_fault(fault, request.lines, system);
+    of_name(input_name(request.command, number), told)
 }
 
 /// The number of the error of the last call that failed on a file that was made in place.
@@ -297,15 +299,14 @@ where
 }
 
 /// What is said of a database that was not made, since its file failed.
-fn of_made<'a, Y, N, I>(
+fn of_made<'a, Y>(
     command: &'a Command,
     system: &Y,
-    names: &N,
-    left: &Left<Y::File, Y::Made, Y::Stream, I>,
+    names: &Y::Names,
+    left: &LeftOf<Y>,
 ) -> Option<Reason<'a>>
 where
     Y: System,
-    N: Names,
     ensures name { IfSome result (λ r. IsMadeName (asked_in command.now) (reason_name r)) }
     ensures told { IfSome result (λ r. IsOfSystem (said_of r.told)) }
     ensures none { result ≡ None → IsCreate (asked_in command.now) → ⊥ }
@@ -349,44 +350,44 @@ where
 
 /// Which file a fault is of, and why, if it is of a file. `unwritten` says that standard output
 /// failed.
-pub fn reason_of<'a, Y, N, I>(
-    command: &'a Command,
+pub fn reason_of<'a, Y>(
+    request: Request<'a>,
     fault: &Fault,
-    lines: &Lines,
     system: &'a Y,
-    names: &'a N,
-    left: &Left<Y::File, Y::Made, Y::Stream, I>,
+    names: &'a Y::Names,
+    left: &LeftOf<Y>,
     unwritten: bool,
 ) -> Option<Reason<'a>>
 where
     Y: System,
-    N: Names,
-    ensures cause { IfSome result (λ r. IsCause (asked_in command.now) fault.now (unwritten ≡ true)
-        (Y.calls system.now) (N.calls names.now) (reason_name r) (said_of r.told)) }
-    ensures none { result ≡ None → MayHaveNoCause (asked_in command.now) fault.now }
+    ensures cause { IfSome result (λ r. IsCause (asked_in request.entry.command.now) fault.now
+        (unwritten ≡ true) (Y.calls system.now) (Y.Names.calls names.now) (reason_name r)
+        (said_of r.told)) }
+    ensures none { result ≡ None → MayHaveNoCause (asked_in request.entry.command.now) fault.now }
 {
+    let command = request.command;
     match *fault {
-        Fault::Open => of_unopened::<Y, N>(command, system, names),
-        Fault::Rename | Fault::NoMemory => { of_refusals::<Y, N>(command, system, names) }
-        Fault::Text(number, fault) => { Some(of_text::<Y>(command, number, fault, lines, system)) }
+        Fault::Open => of_unopened::<Y>(command, system, names),
+        Fault::Rename | Fault::NoMemory => { of_refusals::<Y>(command, system, names) }
+        Fault::Text(number, fault) => { Some(of_text::<Y>(request, number, fault, system)) }
         Fault::Make(MakeFault::Writing) | Fault::Make(MakeFault::Lookup) => {
-            of_made::<Y, N, I>(command, system, names, left)
+            of_made::<Y>(command, system, names, left)
         }
         Fault::Walk(WalkFault::Input) => {
             let told = of_number(system.read_error());
             Some(of_name(read_name(command), told))
         }
         Fault::Output => Some(of_stream::<Y>(system, unwritten)),
-        _ => of_database::<Y, I>(command, fault, system, left),
+        _ => of_database::<Y>(command, fault, system, left),
     }
 }
 
 /// Which database a fault is of, and why, if it is of one that is read.
-fn of_database<'a, Y, I>(
+fn of_database<'a, Y>(
     command: &'a Command,
     fault: &Fault,
     system: &Y,
-    left: &Left<Y::File, Y::Made, Y::Stream, I>,
+    left: &LeftOf<Y>,
 ) -> Option<Reason<'a>>
 where
     Y: System,

@@ -6,7 +6,7 @@ ghost use Rattle.cdb_system.specs.Files.{files_of};
 ghost use Rattle.cdb_system.specs.Reading.{PerformsDifference};
 ghost use Rattle.cdb_system.specs.State.{state_of};
 
-use crate::left::{Left, both_left, none_left, read_left};
+use crate::left::{Performed, both_left, none_left, read_left};
 use crate::system::System;
 use cdb_form::{Sink, Width};
 use cdb_show::{Fault, difference_run};
@@ -15,20 +15,20 @@ use std::alloc::Global;
 /// Writes what changed between the databases of two names, as a text that amends the old one. Both
 /// are opened before anything is written.
 #[inline(never)]
-pub fn difference<L, Y, I, O>(
+pub fn difference<L, Y, O>(
     alloc: Global,
     system: &mut Y,
     old: &str,
     new: &str,
     output: &mut O,
-) -> (Left<Y::File, Y::Made, Y::Stream, I>, Result<(), Fault>)
+) -> Performed<Y>
 where
     L: Width,
     Y: System,
-    I: Drop,
     O: Sink,
-    ensures performs { (named : NameCalls) (errors : Option (List ℕ)) → PerformsDifference L.WORD
-        (files_of Y.File.Store Y.Made.Store Y.Stream.feed Y.System) old.now new.now
+    ensures performs { (named : NameCalls) (errors : Option (List ℕ)) → PerformsDifference
+        (files_of Y.File.Store Y.Made.Store Y.Stream.feed Y.System)
+        (record { word = L.WORD; first = old.now; second = new.now })
         (state_of system.old named (O.contents output.old) errors)
         (state_of system.new named (O.contents output.new) errors) result.0 result.1 }
     ensures output { OutputSays (O.failed output.new) result.1 }

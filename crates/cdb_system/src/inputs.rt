@@ -71,12 +71,12 @@ fn open_each<Y: System>(
 }
 
 /// Opens the inputs of these names. No name is standard input, as each `-` is.
-pub fn open_inputs<Y: System, I: Feeds + Drop>(
+pub fn open_inputs<Y: System>(
     alloc: Global,
     system: &mut Y,
     names: &[String],
-    input: I,
-) -> Result<Inputs<Y::Stream, I>, Fault>
+    input: Y::Input,
+) -> Result<Inputs<Y::Stream, Y::Input>, Fault>
     ensures ok { IfOk result (λ i. OpensInputs Y.System (map string_bytes names.now)
         i.readers.items (Y.calls system.old) (Y.calls system.new)) }
     ensures unread { IfOk result (λ i. AreUnread Y.Stream.feed i.readers.items) }

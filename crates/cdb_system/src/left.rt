@@ -3,8 +3,9 @@ ghost use Rattle.std.specs.Prelude.{◌≡◌};
 ghost use Rattle.cdb_system.specs.Opening.{none_left, read_left, base_left, both_left};
 ghost use Rattle.cdb_system.specs.Opening.{stream_left, input_left, looked_left};
 
+use crate::system::System;
 use cdb_feed::InputReader;
-use cdb_show::Inputs;
+use cdb_show::{Fault, Inputs};
 
 /// The files that a command opened and has not closed, and standard input if it was read, as they
 /// are at its end. A clause says what was read of them, or made.
@@ -24,6 +25,17 @@ pub struct Left<F, M, S, I> {
     /// Standard input.
     pub input: Option<I>,
 }
+
+/// What a command hands back that was performed on a system.
+pub type LeftOf<Y> = Left<
+    <Y as System>::File,
+    <Y as System>::Made,
+    <Y as System>::Stream,
+    <Y as System>::Input,
+>;
+
+/// And what it came to.
+pub type Performed<Y> = (LeftOf<Y>, Result<(), Fault>);
 
 /// No file is handed back.
 pub fn none_left<F: Drop, M: Drop, S: Drop, I: Drop>() -> Left<F, M, S, I>
@@ -45,11 +57,7 @@ pub fn read_left<F: Drop, M: Drop, S: Drop, I: Drop>(file: F) -> Left<F, M, S, I
 {
     Left {
         read: Some(file),
-        other: None,
-        made: None,
-        stream: None,
-        inputs: None,
-        input: None,
+        ..none_left()
     }
 }
 
@@ -59,11 +67,7 @@ pub fn base_left<F: Drop, M: Drop, S: Drop, I: Drop>(base: Option<F>) -> Left<F,
 {
     Left {
         read: base,
-        other: None,
-        made: None,
-        stream: None,
-        inputs: None,
-        input: None,
+        ..none_left()
     }
 }
 
@@ -74,10 +78,7 @@ pub fn both_left<F: Drop, M: Drop, S: Drop, I: Drop>(old: F, new: F) -> Left<F, 
     Left {
         read: Some(old),
         other: Some(new),
-        made: None,
-        stream: None,
-        inputs: None,
-        input: None,
+        ..none_left()
     }
 }
 
@@ -86,12 +87,8 @@ pub fn stream_left<F: Drop, M: Drop, S: Drop, I: Drop>(file: S) -> Left<F, M, S,
     ensures { result ≡ stream_left file }
 {
     Left {
-        read: None,
-        other: None,
-        made: None,
         stream: Some(file),
-        inputs: None,
-        input: None,
+        ..none_left()
     }
 }
 
@@ -100,12 +97,8 @@ pub fn input_left<F: Drop, M: Drop, S: Drop, I: Drop>(input: I) -> Left<F, M, S,
     ensures { result ≡ input_left input }
 {
     Left {
-        read: None,
-        other: None,
-        made: None,
-        stream: None,
-        inputs: None,
         input: Some(input),
+        ..none_left()
     }
 }
 
@@ -119,10 +112,8 @@ pub fn looked_left<F: Drop, M: Drop, S: Drop, I: Drop>(
 {
     Left {
         read: Some(file),
-        other: None,
-        made: None,
-        stream: None,
         inputs: Some(inputs.readers),
         input: Some(inputs.shared),
+        ..none_left()
     }
 }

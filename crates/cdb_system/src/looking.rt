@@ -1,59 +1,67 @@
 // The command that looks up the keys that inputs give.
-ghost use Rattle.std.specs.Prelude.{◌≤◌, IfSome, map, string_bytes, List, ℕ, Option};
+ghost use Rattle.std.specs.Prelude.{◌≤◌, IfSome, List, ℕ, Option};
 ghost use Rattle.cdb_show.specs.Views.Output.{OutputSays};
 ghost use Rattle.cdb_names.specs.Folder.{NameCalls};
 ghost use Rattle.cdb_system.specs.Files.{files_of};
 ghost use Rattle.cdb_system.specs.Reading.{PerformsLookups};
 ghost use Rattle.cdb_system.specs.State.{standard_of, state_of};
+ghost use Rattle.cdb_system.specs.Wanted.{wanted_lookups};
 
 use crate::inputs::open_inputs;
-use crate::left::{Left, looked_left, none_left, read_left};
+use crate::left::{Performed, looked_left, none_left, read_left};
 use crate::system::System;
-use cdb_command::Style;
 use cdb_form::{Feeds, Sink, Width};
-use cdb_show::{Fault, Lines, lookups_run};
+use cdb_show::{Fault, Lines, LookupOptions, lookups_run};
 use std::alloc::Global;
+
+/// What is looked up.
+#[derive(Clone, Copy)]
+pub struct KeyLookups<'a> {
+    /// The name of the database.
+    pub name: &'a str,
+    /// The names of the inputs that give the keys. Without any, standard input is read.
+    pub inputs: &'a [String],
+    /// Which values of each key are looked up, and how.
+    pub options: LookupOptions,
+    /// The lines of the inputs.
+    pub lines: &'a Lines,
+}
 
 /// Writes the records of the keys of some inputs, whose values are counted from 1. The database is
 /// opened first, and then all inputs, before anything is written. What was read is handed back.
 #[inline(never)]
-pub fn lookups<L, Y, I, O>(
+pub fn lookups<L, Y, O>(
     alloc: Global,
     system: &mut Y,
-    name: &str,
-    inputs: &[String],
-    number: Option<u64>,
-    style: Style,
-    lines: &Lines,
-    input: I,
+    wanted: KeyLookups<'_>,
+    input: Y::Input,
     output: &mut O,
-) -> (Left<Y::File, Y::Made, Y::Stream, I>, Result<(), Fault>)
+) -> Performed<Y>
 where
     L: Width,
     Y: System,
-    I: Feeds + Drop,
     O: Sink,
-    requires { IfSome number (λ n. 1 ≤ n) }
-    ensures performs { (named : NameCalls) (errors : Option (List ℕ)) → PerformsLookups L.WORD L.GREATEST
+    requires { IfSome wanted.options.number (λ n. 1 ≤ n) }
+    ensures performs { (named : NameCalls) (errors : Option (List ℕ)) → PerformsLookups
         (files_of Y.File.Store Y.Made.Store Y.Stream.feed Y.System)
-        (record {
-          name = name.now;
-          inputs = map string_bytes inputs.now;
-          number = number;
-          style = style;
-        }) (standard_of I.feed input)
+        (wanted_lookups L.WORD L.GREATEST wanted.entry) (standard_of Y.Input.feed input)
         (state_of system.old named (O.contents output.old) errors)
         (state_of system.new named (O.contents output.new) errors) result.0 result.1 }
     ensures output { OutputSays (O.failed output.new) result.1 }
 {
-    let store = match system.open_store(name) {
+    let store = match system.open_store(wanted.name) {
         Ok(store) => store,
         Err(fault) => return (none_left(), Err(fault)),
     };
-    match open_inputs::<Y, I>(alloc, system, inputs, input) {
+    match open_inputs::<Y>(alloc, system, wanted.inputs, input) {
         Ok(inputs) => {
-            let (store, inputs, answer) = lookups_run::<L, Y::File, Y::Stream, I, O>(
-                alloc, store, inputs, number, style, lines, output,
+            let (store, inputs, answer) = lookups_run::<L, Y::File, Y::Stream, Y::Input, O>(
+                alloc,
+                store,
+                inputs,
+                wanted.options,
+                wanted.lines,
+                output,
             );
             (looked_left(store, inputs), answer)
         }

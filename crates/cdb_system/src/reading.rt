@@ -10,8 +10,9 @@ ghost use Rattle.cdb_system.specs.Files.{files_of};
 ghost use Rattle.cdb_system.specs.State.{state_of, standard_of};
 ghost use Rattle.cdb_system.specs.Reading.{PerformsQuery, PerformsText, PerformsOn, LacksMemory, WritesText};
 ghost use Rattle.cdb_system.specs.Reading.{Takes, IsWhole, IsNotLoaded, TellsStore, ChecksStore};
+ghost use Rattle.cdb_system.specs.Wanted.{wanted_text};
 
-use crate::left::{Left, input_left, none_left, read_left, stream_left};
+use crate::left::{Performed, input_left, none_left, read_left, stream_left};
 use crate::system::System;
 use cdb_command::Style;
 use cdb_form::{Feeds, PIPE, Sink, Width};
@@ -24,23 +25,26 @@ use std::alloc::Global;
 
 /// Writes the values of a key, which are counted from 1.
 #[inline(never)]
-pub fn query<L, Y, I, O>(
+pub fn query<L, Y, O>(
     system: &mut Y,
     name: &str,
     key: &str,
     number: Option<u64>,
     lines: bool,
     output: &mut O,
-) -> (Left<Y::File, Y::Made, Y::Stream, I>, Result<(), Fault>)
+) -> Performed<Y>
 where
     L: Width,
     Y: System,
-    I: Drop,
     O: Sink,
     requires { IfSome number (λ n. 1 ≤ n) }
-    ensures performs { (named : NameCalls) (errors : Option (List ℕ)) → PerformsQuery L.WORD
-        (files_of Y.File.Store Y.Made.Store Y.Stream.feed Y.System) name.now
-        (record { key = key.now; number = number; shown = value_text lines })
+    ensures performs { (named : NameCalls) (errors : Option (List ℕ)) → PerformsQuery
+        (files_of Y.File.Store Y.Made.Store Y.Stream.feed Y.System)
+        (record {
+          word = L.WORD;
+          name = name.now;
+          query = record { key = key.now; number = number; shown = value_text lines };
+        })
         (state_of system.old named (O.contents output.old) errors)
         (state_of system.new named (O.contents output.new) errors) result.0 result.1 }
     ensures output { OutputSays (O.failed output.new) result.1 }
@@ -85,31 +89,40 @@ fn write_text<L: Width, F: Feeds + Drop, O: Sink>(
     }
 }
 
+/// Which text is written.
+#[derive(Clone, Copy)]
+pub struct FileText<'a> {
+    /// Of the records of a file, or of their keys.
+    pub content: Content,
+    /// The name of the file. Without one, standard input is read.
+    pub name: &'a Option<String>,
+    /// How they are written.
+    pub style: Style,
+}
+
 /// Writes the text of a file, or of standard input. What was read is handed back.
 #[inline(never)]
-pub fn text<L, Y, I, O>(
+pub fn text<L, Y, O>(
     alloc: Global,
     system: &mut Y,
-    content: Content,
-    name: &Option<String>,
-    style: Style,
-    input: I,
+    wanted: FileText<'_>,
+    input: Y::Input,
     output: &mut O,
-) -> (Left<Y::File, Y::Made, Y::Stream, I>, Result<(), Fault>)
+) -> Performed<Y>
 where
     L: Width,
     Y: System,
-    I: Feeds + Drop,
     O: Sink,
-    ensures performs { (named : NameCalls) (errors : Option (List ℕ)) → PerformsText L.WORD
-        (files_of Y.File.Store Y.Made.Store Y.Stream.feed Y.System) (form_of content style)
-        (option_map string_bytes name.now) (standard_of I.feed input)
+    ensures performs { (named : NameCalls) (errors : Option (List ℕ)) → PerformsText
+        (files_of Y.File.Store Y.Made.Store Y.Stream.feed Y.System)
+        (wanted_text L.WORD wanted.entry) (standard_of Y.Input.feed input)
         (state_of system.old named (O.contents output.old) errors)
         (state_of system.new named (O.contents output.new) errors) result.0 result.1 }
     ensures output { OutputSays (O.failed output.new) result.1 }
 {
-    let Some(name) = name else {
-        let (input, answer) = write_text::<L, I, O>(alloc, content, style, input, output);
+    let (content, style) = (wanted.content, wanted.style);
+    let Some(name) = wanted.name else {
+        let (input, answer) = write_text::<L, Y::Input, O>(alloc, content, style, input, output);
         return (input_left(input), answer);
     };
     match system.open(name.as_str()) {
@@ -157,29 +170,31 @@ fn stats_of_stream<L: Width, F: Feeds + Drop, O: Sink>(
 /// Writes the statistics of a file, or of a stream: standard input, a pipe or a device. What was
 /// read is handed back.
 #[inline(never)]
-pub fn stats<L, Y, I, O>(
+pub fn stats<L, Y, O>(
     alloc: Global,
     system: &mut Y,
     name: &Option<String>,
-    input: I,
+    input: Y::Input,
     output: &mut O,
-) -> (Left<Y::File, Y::Made, Y::Stream, I>, Result<(), Fault>)
+) -> Performed<Y>
 where
     L: Width,
     Y: System,
-    I: Feeds + Drop,
     O: Sink,
     ensures performs { (named : NameCalls) (errors : Option (List ℕ)) → PerformsOn
-        (files_of Y.File.Store Y.Made.Store Y.Stream.feed Y.System) L.GREATEST
-        (option_map string_bytes name.now) (standard_of I.feed input)
+        (files_of Y.File.Store Y.Made.Store Y.Stream.feed Y.System)
+        (record {
+          most = L.GREATEST;
+          name = option_map string_bytes name.now;
+          file = TellsStore L.WORD (O.contents output.old) (O.contents output.new) result.1 Y.File.Store;
+          taken = TellsStore L.WORD (O.contents output.old) (O.contents output.new) result.1 in_memory;
+        }) (standard_of Y.Input.feed input)
         (state_of system.old named (O.contents output.old) errors)
-        (state_of system.new named (O.contents output.new) errors) result.0 result.1
-        (TellsStore L.WORD (O.contents output.old) (O.contents output.new) result.1 Y.File.Store)
-        (TellsStore L.WORD (O.contents output.old) (O.contents output.new) result.1 in_memory) }
+        (state_of system.new named (O.contents output.new) errors) result.0 result.1 }
     ensures output { OutputSays (O.failed output.new) result.1 }
 {
     let Some(name) = name else {
-        let (input, answer) = stats_of_stream::<L, I, O>(alloc, input, output);
+        let (input, answer) = stats_of_stream::<L, Y::Input, O>(alloc, input, output);
         return (input_left(input), answer);
     };
     match system.is_stream(name.as_str()) {
@@ -217,26 +232,29 @@ fn check_of_stream<L: Width, F: Feeds + Drop>(alloc: Global, stream: F) -> (F, R
 /// Checks a file, or a stream: standard input, a pipe or a device. Nothing is written. What was
 /// read is handed back.
 #[inline(never)]
-pub fn check<L, Y, I>(
+pub fn check<L, Y>(
     alloc: Global,
     system: &mut Y,
     name: &Option<String>,
-    input: I,
-) -> (Left<Y::File, Y::Made, Y::Stream, I>, Result<(), Fault>)
+    input: Y::Input,
+) -> Performed<Y>
 where
     L: Width,
     Y: System,
-    I: Feeds + Drop,
     ensures performs { (named : NameCalls) (known errors : Option (List ℕ)) → PerformsOn
-        (files_of Y.File.Store Y.Made.Store Y.Stream.feed Y.System) L.GREATEST
-        (option_map string_bytes name.now) (standard_of I.feed input)
-        (state_of system.old named known errors) (state_of system.new named known errors) result.0
-        result.1 (ChecksStore L.WORD known known result.1 Y.File.Store)
-        (ChecksStore L.WORD known known result.1 in_memory) }
+        (files_of Y.File.Store Y.Made.Store Y.Stream.feed Y.System)
+        (record {
+          most = L.GREATEST;
+          name = option_map string_bytes name.now;
+          file = ChecksStore L.WORD known known result.1 Y.File.Store;
+          taken = ChecksStore L.WORD known known result.1 in_memory;
+        }) (standard_of Y.Input.feed input)
+        (state_of system.old named known errors) (state_of system.new named known errors)
+        result.0 result.1 }
     ensures output { OutputSays ⊥ result.1 }
 {
     let Some(name) = name else {
-        let (input, answer) = check_of_stream::<L, I>(alloc, input);
+        let (input, answer) = check_of_stream::<L, Y::Input>(alloc, input);
         return (input_left(input), answer);
     };
     match system.is_stream(name.as_str()) {

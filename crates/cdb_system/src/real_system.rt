@@ -10,11 +10,11 @@ use crate::open_trace::{OpenCall, OpenTrace};
 use crate::seen::{Seen, SeenReader};
 use crate::system::System;
 use cdb_feed::NotedReader;
-use cdb_names::{Answer, Cause, Lock, NameFault, Refusal, has_name, locked};
+use cdb_names::{Answer, Cause, Lock, NameFault, RealNames, Refusal, has_name, locked};
 use cdb_show::Fault;
 use cdb_store::{FileStore, LAST_STANDARD, RealFile, StoreFault};
 use std::fs::{self, File};
-use std::io::{self, ErrorKind};
+use std::io::{self, ErrorKind, Stdin};
 use std::os::fd::AsRawFd;
 use std::rt::Files;
 
@@ -88,6 +88,10 @@ impl<'a, R: Files<File = File> + AllocGlobal> System for RealSystem<'a, R> {
     type Stream = NotedReader<SeenReader<'a, File>>;
 
     type Made = FileStore;
+
+    type Input = NotedReader<SeenReader<'a, Stdin>>;
+
+    type Names = RealNames<'a, R>;
 
     ghost calls = { λ s. s.trace.events };
 

@@ -6,7 +6,7 @@ ghost use Rattle.cdb_system.specs.declared.open_trace.OpenCall.TheVariants.{AtPl
 ghost use Rattle.cdb_system.specs.declared.open_trace.OpenCall.TheVariants.{Emptied, Locked, Own, ToEmpty};
 
 use cdb_form::Feeds;
-use cdb_names::{Answer, Lock, Refusal};
+use cdb_names::{Answer, Lock, Names, Refusal};
 use cdb_show::Fault;
 use cdb_store::{RealFile, Store};
 
@@ -20,6 +20,12 @@ pub trait System {
 
     /// A file that is made.
     type Made: Store + Drop;
+
+    /// Standard input, of which something is known in the end.
+    type Input: Feeds + Drop;
+
+    /// The names of its files.
+    type Names: Names;
 
     /// The calls, the newest first.
     ghost calls: { Self → OpenCalls };

@@ -1,14 +1,19 @@
 use Rattle.std.proofs.Common.{ap, refl, option_map, rules, string_bytes}
+use Rattle.cdb_system.specs.Files.{files_of}
+use Rattle.cdb_system.specs.Reading.{ChecksStore}
+use Rattle.cdb_system.specs.State.{standard_of, state_of}
 use Rattle.cdb_system.proofs.StreamsRead.{on_input_read, on_stream_read}
 use Rattle.cdb_system.proofs.reading.check.Goals as goal
 
 pub returns-in_default-clause-performs : goal.returns-in_default-clause-performs
 returns-in_default-clause-performs g c = λ named known errors.
-    on_input_read _ _ _ _ _ _ _ _ c.check_of_stream-input.result.0 _ _ (ap (option_map string_bytes) c.in_default.is) refl c.input_left.ensures (c.check_of_stream-input.ensures.takes known)
+    on_input_read (files_of g.Y.File.Store g.Y.Made.Store g.Y.Stream.Feeds.feed g.Y.System) (state_of c.args.system.now named known errors) (state_of c.args.system.now named known errors)
+    c.input_left.result c.check_of_stream-input.result.1 _ (standard_of g.Y.Input.Feeds.feed c.args.input) _ c.check_of_stream-input.result.0 (ChecksStore g.L.Width.WORD known known c.check_of_stream-input.result.1 g.Y.File.Store) _ (ap (option_map string_bytes) c.in_default.is) refl c.input_left.ensures (c.check_of_stream-input.ensures.takes known)
 
 pub returns-in-Ok-clause-performs : goal.returns-in-Ok-clause-performs
 returns-in-Ok-clause-performs g c = λ named known errors.
-    on_stream_read _ _ _ _ _ _ _ _ _ _ _ _ c.in-Ok.file c.check_of_stream-file.result.0 _ _ (ap (option_map string_bytes) c.in-Some.is) c.as_str.ensures.value c.as_str-in-Yes.ensures.value c.in-Yes.ensures.calls c.in-Ok.ensures.calls c.in-Ok.ensures.reads c.in-Ok.ensures.unread c.stream_left.ensures (c.check_of_stream-file.ensures.takes known)
+    on_stream_read (files_of g.Y.File.Store g.Y.Made.Store g.Y.Stream.Feeds.feed g.Y.System) (state_of c.args.system.now named known errors) (state_of _ named known errors)
+    c.stream_left.result c.check_of_stream-file.result.1 _ (standard_of g.Y.Input.Feeds.feed c.args.input) _ _ _ _ _ c.in-Ok.file c.check_of_stream-file.result.0 (ChecksStore g.L.Width.WORD known known c.check_of_stream-file.result.1 g.Y.File.Store) _ (ap (option_map string_bytes) c.in-Some.is) c.as_str.ensures.value c.as_str-in-Yes.ensures.value c.in-Yes.ensures.calls c.in-Ok.ensures.calls c.in-Ok.ensures.reads c.in-Ok.ensures.unread c.stream_left.ensures (c.check_of_stream-file.ensures.takes known)
 
 pub returns-in-Ok-open_store-clause-performs : goal.returns-in-Ok-open_store-clause-performs
 returns-in-Ok-open_store-clause-performs g c = search rules
