@@ -10,8 +10,8 @@ use Rattle.cdb_show.specs.Views.Inputs.{AreInPlace, shared_feed}
 use Rattle.cdb_show.specs.declared.inputs.SharedWindow.TheVariants.{Unread}
 use Rattle.cdb_show.proofs.PlacedReaders.{all_passed, in_place}
 use Rattle.cdb_tool.specs.Runs.FormParsing.{parsing}
-use Rattle.cdb_tool.specs.Runs.InputsRead.{RunsRead}
-use Rattle.cdb_tool.specs.Runs.Make.{MakeRuns, OfBase}
+use Rattle.cdb_tool.specs.Runs.InputsRead.{RunsRead, feeds_of, run_state}
+use Rattle.cdb_tool.specs.Runs.Make.{MakeRuns, OfBase, terms_of}
 use Rattle.cdb_tool.proofs.AgreeingInputs.{agreeing_inputs}
 use Rattle.cdb.specs.Agreeing.{InputsAgree, OfAgreeing, inputs_of}
 
@@ -44,13 +44,13 @@ reached_most own shared p (items ∷ read) stop (reader ∷ before) [] old new a
 -- ---- a run
 
 module _ {B J I : Type 0} (w g : ℕ) (o : RunOptions) (own : J → Feed) (shared : I → Feed) (s : Ghosts B) (was base : Option B) (before after : Inputs J I) (images : List ℕ → Type 0) (old new : Option (List ℕ)) (result : Result Unit Fault) where
-  pub runs_agreeing : RunsRead w g o own shared s was base before after images old new result → OfAgreeing own shared before after (λ inputs. WhereHonest images (OfBase s base (λ b. MakeRuns w g o b inputs images old new result)))
+  pub runs_agreeing : RunsRead (terms_of w g o) (feeds_of own shared) s (run_state was before old) (run_state base after new) images result → OfAgreeing own shared before after (λ inputs. WhereHonest images (OfBase s base (λ b. MakeRuns (terms_of w g o) b inputs images old new result)))
   runs_agreeing h = λ each bytes agree.
       (let many = reached_most own (shared_feed shared) (parsing (input_form o.make.style (is_some was)) g result) h.read h.stop before.readers.items after.readers.items (Unread before.shared) h.were.window h.were.are in
       h.runs _ (agreeing_inputs own shared AreBytes _ g result h.read h.stop before after each bytes h.were agree.unread agree.none_read agree.long
       (first_fewer own AreBytes (reached h.read h.stop) (length each) each after.readers.items (omega (arith, many, agree.long)) agree.agree) agree.shared_agrees))
 
-  pub run_placed : RunsRead w g o own shared s was base before after images old new result → AreInPlace before.readers.items after.readers.items
+  pub run_placed : RunsRead (terms_of w g o) (feeds_of own shared) s (run_state was before old) (run_state base after new) images result → AreInPlace before.readers.items after.readers.items
   run_placed h = in_place own (shared_feed shared) (parsing (input_form o.make.style (is_some was)) g result) h.read h.stop before.readers.items after.readers.items (Unread before.shared) h.were.window h.were.are h.were.passed
 
 -- ---- what was built

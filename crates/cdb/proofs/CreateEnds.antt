@@ -217,14 +217,14 @@ module _ (w g : ℕ) (disk : Disk) (input name : List ℕ) (base : Option (List 
   no_base fault e = ap (λ x. if_based disk x (λ old. if_opened disk (option_map (of_all old) (inputs_of disk inputs)))) e
 
 -- its last call was answered as the disk is
-head_answered : {F I M Y : Type 0} (s : Ghosts F) (y : Systems Y F I M) (disk : Disk) (stores : List F) (old mid new calls : OpenCalls) (cause : NameFault) (found : Cause) (name : List ℕ) → new ≡ calls ++ old → ((c : OpenCalls) × (mid ≡ c ++ old)) → new ≡ (Unopened cause found, name) ∷ mid
+head_answered : {F I J M N R Y : Type 0} (s : Ghosts F) (y : Systems Y F I M J N R) (disk : Disk) (stores : List F) (old mid new calls : OpenCalls) (cause : NameFault) (found : Cause) (name : List ℕ) → new ≡ calls ++ old → ((c : OpenCalls) × (mid ≡ c ++ old)) → new ≡ (Unopened cause found, name) ∷ mid
     → AreAnswered s disk calls stores → cause ≡ why.Failed → disk name ≡ None
 head_answered s y disk stores old mid new calls cause found name e before is all failed =
     let split : calls ≡ (Unopened cause found, name) ∷ before.0 = append_cancel_right calls ((Unopened cause found, name) ∷ before.0) old (sym e ∙ is ∙ ap (λ c. (Unopened cause found, name) ∷ c) before.1) in
     let answered = (subst (λ c. AreAnswered s disk c stores) split all).0 in
     subst (λ v. IsAnswered s disk stores (Unopened v found) name) failed answered
 
-base_missed : {F I M Y : Type 0} (s : Ghosts F) (y : Systems Y F I M) (w g : ℕ) (disk : Disk) (input name : List ℕ) (base : Option (List ℕ)) (inputs : List (List ℕ)) (temporary : Option (List ℕ)) (o : RunOptions) (old new calls : OpenCalls) (stores : List F) (read : Option F) (start end told said : Option (List ℕ)) (fault : Fault)
+base_missed : {F I J M N R Y : Type 0} (s : Ghosts F) (y : Systems Y F I M J N R) (w g : ℕ) (disk : Disk) (input name : List ℕ) (base : Option (List ℕ)) (inputs : List (List ℕ)) (temporary : Option (List ℕ)) (o : RunOptions) (old new calls : OpenCalls) (stores : List F) (read : Option F) (start end told said : Option (List ℕ)) (fault : Fault)
     → new ≡ calls ++ old → AreAnswered s disk calls stores → MissesBase base old new fault → Keeps start end × Keeps told said
     → EndsEarly o (create_of w g disk input name base inputs temporary o.make) disk start end told said fault
 base_missed s y w g disk input name None inputs temporary o old new calls stores read start end told said fault e all h k = absurd h
@@ -243,7 +243,7 @@ hands_self s None = tt
 hands_self s (Some store) = reads_none s store
 
 -- a base is not there, or refused, or an input is not
-module _ {F I M Y : Type 0} (s : Ghosts F) (ms : Ghosts M) (feed : I → Feed) (y : Systems Y F I M) (w g : ℕ) (disk : Disk) (input name : List ℕ) (base : Option (List ℕ)) (inputs : List (List ℕ)) (temporary : Option (List ℕ)) (o : RunOptions) (old new calls : OpenCalls) (back : Option F) (start end told said : Option (List ℕ)) (fault : Fault)
+module _ {F I J M N R Y : Type 0} (s : Ghosts F) (ms : Ghosts M) (feed : I → Feed) (y : Systems Y F I M J N R) (w g : ℕ) (disk : Disk) (input name : List ℕ) (base : Option (List ℕ)) (inputs : List (List ℕ)) (temporary : Option (List ℕ)) (o : RunOptions) (old new calls : OpenCalls) (back : Option F) (start end told said : Option (List ℕ)) (fault : Fault)
     (e : new ≡ calls ++ old) (all : AreAnswered s disk calls (if_some back)) (k : Keeps start end × Keeps told said) where
   refused_so : LooksAtBase w (files_of s ms feed y) base old new back (Err fault) → EndsEarly o (create_of w g disk input name base inputs temporary o.make) disk start end told said fault
   refused_so looks = elim (base_refused s ms feed y w disk base back old new calls fault looks e all) [

@@ -165,7 +165,7 @@ if_err : (P : Type 0) (result : Result Unit Fault) → P → OnErr result P
 if_err P (Ok done) p = tt
 if_err P (Err f) p = p
 
-pub emptied_so : {F I J M Y : Type 0} (s : Ghosts F) (m : Ghosts M) (feed : I → Feed) (y : Systems Y F I M) (w g : ℕ) (disk : Disk) (input name : List ℕ) (base : Option (List ℕ)) (inputs : List (List ℕ)) (temporary : Option (List ℕ)) (o : RunOptions) (mid emptied new : OpenCalls) (file : Option F) (items : InputsLeft) (left : Left F M I J) (was now : NameCalls) (start end told said : Option (List ℕ)) (result : Result Unit Fault)
+pub emptied_so : {F I J M N R Y : Type 0} (s : Ghosts F) (m : Ghosts M) (feed : I → Feed) (y : Systems Y F I M J N R) (w g : ℕ) (disk : Disk) (input name : List ℕ) (base : Option (List ℕ)) (inputs : List (List ℕ)) (temporary : Option (List ℕ)) (o : RunOptions) (mid emptied new : OpenCalls) (file : Option F) (items : InputsLeft) (left : Left F M I J) (was now : NameCalls) (start end told said : Option (List ℕ)) (result : Result Unit Fault)
     → is_standard name ≡ false → is_in_place name temporary ≡ true → Knows s w disk base inputs input file left.read items → AnsweredNames disk name was now → Keeps start end → AsksAll name base inputs was now → Empties name mid emptied
     → MakesEmptied (files_of s m feed y) (record { word = w; greatest = g; options = o; base = file; inputs = items }) name emptied (state_of mid was start told) (state_of new now end said) left result → CreateSo m disk name temporary o (create_of w g disk input name base inputs temporary o.make) new was now left.made start end told said result
 emptied_so s m feed y w g disk input name base inputs temporary o mid emptied new file items left was now start end told said result standard placed_in knows honest kept asks empties h =

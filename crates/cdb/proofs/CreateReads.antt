@@ -39,14 +39,14 @@ pub record AllKnown {F : Type 0} (s : Ghosts F) (w : ℕ) (disk : Disk) (base : 
   pub known : Known files input left
 
 -- the bytes of a base that was opened, whose store is handed back
-base_shown : {F I M Y : Type 0} (s : Ghosts F) (y : Systems Y F I M) (disk : Disk) (name : List ℕ) (came : F) (read : Option F) (old new calls : OpenCalls) → OpensBase y (Some name) (Some came) old new → new ≡ calls ++ old → AreAnswered s disk calls (if_some read)
+base_shown : {F I J M N R Y : Type 0} (s : Ghosts F) (y : Systems Y F I M J N R) (disk : Disk) (name : List ℕ) (came : F) (read : Option F) (old new calls : OpenCalls) → OpensBase y (Some name) (Some came) old new → new ≡ calls ++ old → AreAnswered s disk calls (if_some read)
     → (b : List ℕ) × (disk name ≡ Some b) × BaseHas s read (Some b)
 base_shown s y disk name came read old new calls opens e all =
     let only : calls ≡ (AtPlaces, name) ∷ [] = append_cancel_right calls ((AtPlaces, name) ∷ []) old (sym e ∙ opens.0) in
     shown s (disk name) read (subst (λ c. AreAnswered s disk c (if_some read)) only all).0
 
 -- its head does not refuse it
-base_passed : {F I M Y : Type 0} (s : Ghosts F) (y : Systems Y F I M) (w : ℕ) (disk : Disk) (base : Option (List ℕ)) (came file read : Option F) (old new calls : OpenCalls) → OpensBase y base came old new → SeesBase w s came file (Ok tt) → HandsBack s file read
+base_passed : {F I J M N R Y : Type 0} (s : Ghosts F) (y : Systems Y F I M J N R) (w : ℕ) (disk : Disk) (base : Option (List ℕ)) (came file read : Option F) (old new calls : OpenCalls) → OpensBase y base came old new → SeesBase w s came file (Ok tt) → HandsBack s file read
     → new ≡ calls ++ old → AreAnswered s disk calls (if_some read) → (x : Option (List ℕ)) × (base_of w disk base ≡ Ok x) × BaseHas s read x
 base_passed s y w disk None None None None old new calls opens sees hands e all = (None, refl, tt)
 base_passed s y w disk (Some name) (Some came) (Some file) (Some read) old new calls opens sees hands e all =
@@ -61,7 +61,7 @@ base_passed s y w disk (Some name) (Some came) None read old new calls opens see
 base_passed s y w disk (Some name) (Some came) (Some file) None old new calls opens sees hands e all = absurd hands
 
 -- or it does, or its store failed
-base_stopped : {F I M Y : Type 0} (s : Ghosts F) (y : Systems Y F I M) (w : ℕ) (disk : Disk) (base : Option (List ℕ)) (came file : Option F) (old new calls : OpenCalls) (fault : Fault) → OpensBase y base came old new → SeesBase w s came file (Err fault)
+base_stopped : {F I J M N R Y : Type 0} (s : Ghosts F) (y : Systems Y F I M J N R) (w : ℕ) (disk : Disk) (base : Option (List ℕ)) (came file : Option F) (old new calls : OpenCalls) (fault : Fault) → OpensBase y base came old new → SeesBase w s came file (Err fault)
     → new ≡ calls ++ old → AreAnswered s disk calls (if_some file) → (base_of w disk base ≡ Err fault) ⊎ (fault ≡ Read Device)
 base_stopped s y w disk (Some name) (Some came) (Some file) old new calls fault opens sees e all =
     let is = base_shown s y disk name came (Some file) old new calls opens e all in
@@ -75,7 +75,7 @@ base_stopped s y w disk None (Some came) file old new calls fault opens sees e a
 base_stopped s y w disk (Some name) None file old new calls fault opens sees e all = absurd opens
 base_stopped s y w disk (Some name) (Some came) None old new calls fault opens sees e all = absurd sees
 
-module _ {F I M Y : Type 0} (s : Ghosts F) (m : Ghosts M) (feed : I → Feed) (y : Systems Y F I M) (w : ℕ) (disk : Disk) (base : Option (List ℕ)) (file : Option F) (old new calls : OpenCalls) where
+module _ {F I J M N R Y : Type 0} (s : Ghosts F) (m : Ghosts M) (feed : I → Feed) (y : Systems Y F I M J N R) (w : ℕ) (disk : Disk) (base : Option (List ℕ)) (file : Option F) (old new calls : OpenCalls) where
   pub base_known : (read : Option F) → LooksAtBase w (files_of s m feed y) base old new file (Ok tt) → HandsBack s file read → new ≡ calls ++ old → AreAnswered s disk calls (if_some read) → (x : Option (List ℕ)) × (base_of w disk base ≡ Ok x) × BaseHas s read x
   base_known read looks hands e all = base_passed s y w disk base looks.came file read old new calls looks.opens looks.sees hands e all
 
@@ -88,7 +88,7 @@ pub record BaseSince (old new : OpenCalls) : Type 0 where
   pub are : new ≡ since ++ old
   pub in_turn : names_in_turn since ≡ []
 
-pub base_since : {F I M Y : Type 0} (y : Systems Y F I M) (base : Option (List ℕ)) (file : Option F) (old new : OpenCalls) → OpensBase y base file old new → BaseSince old new
+pub base_since : {F I J M N R Y : Type 0} (y : Systems Y F I M J N R) (base : Option (List ℕ)) (file : Option F) (old new : OpenCalls) → OpensBase y base file old new → BaseSince old new
 base_since y None None old new h = record { since = []; are = h; in_turn = refl }
 base_since y (Some name) (Some file) old new h = record { since = (AtPlaces, name) ∷ []; are = h.0; in_turn = refl }
 base_since y (Some name) None old new h = absurd h
@@ -161,7 +161,7 @@ streams_are inputs handed left h =
     ap (λ v. if_some v ++ own_readers (unwrap_or (option_map (λ readers. readers.items) left.inputs) [])) h.stream
     ∙ ap (λ v. own_readers (unwrap_or (option_map (λ readers. readers.items) v) [])) h.readers
 
-module _ {F I J M Y : Type 0} (s : Ghosts F) (m : Ghosts M) (feed : I → Feed) (y : Systems Y F I M) (disk : Disk) (input name : List ℕ) (base : Option (List ℕ)) (inputs : List (List ℕ)) (standard : Standard J) (old mid new : OpenCalls) (left : Left F M I J) (was now : NameCalls) (start end told said : Option (List ℕ)) (file : Option F) (before handed : Inputs I J)
+module _ {F I J M N R Y : Type 0} (s : Ghosts F) (m : Ghosts M) (feed : I → Feed) (y : Systems Y F I M J N R) (disk : Disk) (input name : List ℕ) (base : Option (List ℕ)) (inputs : List (List ℕ)) (standard : Standard J) (old mid new : OpenCalls) (left : Left F M I J) (was now : NameCalls) (start end told said : Option (List ℕ)) (file : Option F) (before handed : Inputs I J)
     (w : ℕ) (honest : HonestCreate (files_of s m feed y) disk input name standard (state_of old was start told) (state_of new now end said) left) (opens : OpensAll w (files_of s m feed y) base inputs old mid file before.readers.items) (shared : before.shared ≡ standard.reader) (hands : HandsInputs before handed left) (more : OpensNoMore mid new) where
   at_base : BaseSince old opens.mid
   at_base = base_since y base opens.base_is.came old opens.mid opens.base_is.opens

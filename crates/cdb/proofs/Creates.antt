@@ -30,7 +30,7 @@ in_place_not name None other = refl
 in_place_not name (Some t) other = or_from _ _ (false_from_ne_true (bytes_eq t (codes "-")) (λ e. other (inl ((bytes_eq-Decides t (codes "-")).0 e)))) (false_from_ne_true (bytes_eq t name) (λ e. other (inr ((bytes_eq-Decides t name).0 e))))
 
 -- no other store is handed back
-module _ {F I J M R Y : Type 0} (s : Ghosts F) (m : Ghosts M) (r : Raw R) (feed : I → Feed) (y : Systems Y F I M) (w g : ℕ) (name : List ℕ) (base : Option (List ℕ)) (inputs : List (List ℕ)) (temporary : Option (List ℕ)) (o : RunOptions) (mid new : OpenCalls) (left : Left F M I J) (was now : NameCalls) (start end told said : Option (List ℕ)) (result : Result Unit Fault) (file : Option F) (items : InputsLeft) where
+module _ {F I J M N R Y : Type 0} (s : Ghosts F) (m : Ghosts M) (r : Raw R) (feed : I → Feed) (y : Systems Y F I M J N R) (w g : ℕ) (name : List ℕ) (base : Option (List ℕ)) (inputs : List (List ℕ)) (temporary : Option (List ℕ)) (o : RunOptions) (mid new : OpenCalls) (left : Left F M I J) (was now : NameCalls) (start end told said : Option (List ℕ)) (result : Result Unit Fault) (file : Option F) (items : InputsLeft) where
   alone_so : MakesAt (files_of s m feed y) r (record { word = w; greatest = g; options = o; base = file; inputs = items }) (record { word = w; greatest = g; options = o; name = name; base = base; inputs = inputs; temporary = temporary }) (state_of mid was start told) (state_of new now end said) left result → left.other ≡ None
   alone_so (inl (at_output, same, calls, handed, makes)) = handed.other
   alone_so (inr (other, kept, inl (here, inl (finds, same, handed, is, silent)))) = handed.other
@@ -39,7 +39,7 @@ module _ {F I J M R Y : Type 0} (s : Ghosts F) (m : Ghosts M) (r : Raw R) (feed 
   alone_so (inr (other, kept, inr (apart, same, handed, rest))) = handed.other
 
 -- the database was made
-module _ {F I J M R Y : Type 0} (s : Ghosts F) (m : Ghosts M) (r : Raw R) (feed : I → Feed) (y : Systems Y F I M) (w g : ℕ) (disk : Disk) (input name : List ℕ) (base : Option (List ℕ)) (inputs : List (List ℕ)) (temporary : Option (List ℕ)) (o : RunOptions) (mid new : OpenCalls) (left : Left F M I J) (was now : NameCalls) (start end told said : Option (List ℕ)) (result : Result Unit Fault) (file : Option F) (items : InputsLeft)
+module _ {F I J M N R Y : Type 0} (s : Ghosts F) (m : Ghosts M) (r : Raw R) (feed : I → Feed) (y : Systems Y F I M J N R) (w g : ℕ) (disk : Disk) (input name : List ℕ) (base : Option (List ℕ)) (inputs : List (List ℕ)) (temporary : Option (List ℕ)) (o : RunOptions) (mid new : OpenCalls) (left : Left F M I J) (was now : NameCalls) (start end told said : Option (List ℕ)) (result : Result Unit Fault) (file : Option F) (items : InputsLeft)
     (knows : Knows s w disk base inputs input file left.read items) (honest : AnsweredNames disk name was now) where
   makes_so : MakesAt (files_of s m feed y) r (record { word = w; greatest = g; options = o; base = file; inputs = items }) (record { word = w; greatest = g; options = o; name = name; base = base; inputs = inputs; temporary = temporary }) (state_of mid was start told) (state_of new now end said) left result
       → CreateSo m disk name temporary o (create_of w g disk input name base inputs temporary o.make) new was now left.made start end told said result
@@ -81,7 +81,7 @@ module _ {F I J M R Y : Type 0} (s : Ghosts F) (m : Ghosts M) (r : Raw R) (feed 
       with_none m disk name temporary o c new was now left.read left start end told said result handed
       (replacing_so s m r w g disk input name base inputs temporary o mid new file left.read items was asked now start end told said result (standard_not name other) (in_place_not name temporary apart) hands knows honest kept asks replaces)
 
-pub creates_so : {F I J M R Y : Type 0} (s : Ghosts F) (m : Ghosts M) (r : Raw R) (feed : I → Feed) (y : Systems Y F I M) (w g : ℕ) (disk : Disk) (input name : List ℕ) (base : Option (List ℕ)) (inputs : List (List ℕ)) (temporary : Option (List ℕ)) (o : RunOptions) (standard : Standard J) (old new : OpenCalls) (left : Left F M I J) (was now : NameCalls) (start end told said : Option (List ℕ)) (result : Result Unit Fault)
+pub creates_so : {F I J M N R Y : Type 0} (s : Ghosts F) (m : Ghosts M) (r : Raw R) (feed : I → Feed) (y : Systems Y F I M J N R) (w g : ℕ) (disk : Disk) (input name : List ℕ) (base : Option (List ℕ)) (inputs : List (List ℕ)) (temporary : Option (List ℕ)) (o : RunOptions) (standard : Standard J) (old new : OpenCalls) (left : Left F M I J) (was now : NameCalls) (start end told said : Option (List ℕ)) (result : Result Unit Fault)
     → HonestCreate (files_of s m feed y) disk input name standard (state_of old was start told) (state_of new now end said) left → Creates (files_of s m feed y) r (record { word = w; greatest = g; options = o; name = name; base = base; inputs = inputs; temporary = temporary }) standard (state_of old was start told) (state_of new now end said) left result
     → CreateSo m disk name temporary o (create_of w g disk input name base inputs temporary o.make) new was now left.made start end told said result
 creates_so s m r feed y w g disk input name base inputs temporary o standard old new left was now start end told said result honest (inl (fault, is, not_opened, same, handed, kept, silent)) =

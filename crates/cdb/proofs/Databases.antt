@@ -2,7 +2,7 @@
 use Rattle.cdb.proofs.Words.{Asked, Bool, Err, Fault, Feed, Ghosts, HasDatabase, IsDatabase, IsMakeRun, Keeps, Left, List, Making, NameCalls, None, Ok, OnErr, OnOk, OpenCalls, Option, OutputSays, Refused, Result, Runs, SeesName, Some, Standard, Syncs, WhereHonest, failed_of, files_of, given_of, inl, inr, refused_lines, says_more, state_of, subst, sym, true, ℕ, ◌∙◌, ◌≡◌}
 use Rattle.cdb_names.specs.declared.answer.Answer.TheVariants.{No, Unknown, Yes}
 use Rattle.cdb_store.specs.declared.raw.RawFile.{Ghosts as Raw}
-use Rattle.cdb_tool.specs.Runs.Make.{HandsBack, OfBase, Makes}
+use Rattle.cdb_tool.specs.Runs.Make.{HandsBack, OfBase, Makes, terms_of}
 use Rattle.cdb_tool.specs.Runs.Make as run
 use Rattle.cdb_system.specs.declared.system.System.{Ghosts as Systems}
 use Rattle.cdb_system.proofs.Said.{line_kept, says_kept}
@@ -11,21 +11,21 @@ of_weaker : {F : Type 0} (f : Ghosts F) (base : Option F) (P Q : Option (List �
 of_weaker f None P Q g h = g None h
 of_weaker f (Some base) P Q g h = λ b is. g (Some b) (h b is)
 
-made_here : {F : Type 0} (m : Making F) (images : List ℕ → Type 0) (told said : Option (List ℕ)) (b : List ℕ) → images b → (x : Option (List ℕ)) → run.MakeRuns m.word m.greatest m.options x m.inputs images told said (Ok tt)
-    → Makes m.word m.greatest m.options x m.inputs (λ c. c ≡ b) told said
+made_here : {F : Type 0} (m : Making F) (images : List ℕ → Type 0) (told said : Option (List ℕ)) (b : List ℕ) → images b → (x : Option (List ℕ)) → run.MakeRuns (run.terms_of m.word m.greatest m.options) x m.inputs images told said (Ok tt)
+    → Makes (terms_of m.word m.greatest m.options) x m.inputs (λ c. c ≡ b) told said
 made_here m images told said b is x runs =
     let made = runs.ok.made in
     record { based = runs.ok.based; made = record { read = made.read; are = made.are; goes = made.goes; file = record { each = λ c e. e ∙ made.file.each b is } } }
 
 pub database_made : {F : Type 0} (f : Ghosts F) (m : Making F) (back : Option F) (images inner : List ℕ → Type 0) (told said : Option (List ℕ)) (made : Result Unit Fault) → HandsBack f m.base back
-    → WhereHonest images (OfBase f back (λ x. run.MakeRuns m.word m.greatest m.options x m.inputs images told said made)) → OnOk made ((b : List ℕ) → inner b → images b) → OnOk made (HasDatabase f m back inner)
+    → WhereHonest images (OfBase f back (λ x. run.MakeRuns (run.terms_of m.word m.greatest m.options) x m.inputs images told said made)) → OnOk made ((b : List ℕ) → inner b → images b) → OnOk made (HasDatabase f m back inner)
 database_made f m back images inner told said (Ok done) hands runs in_image = λ b is.
     let at : images b = in_image b is in
     record { hands = hands; told = told; said = said; is = of_weaker f back _ _ (made_here m images told said b at) (runs.each b at) }
 database_made f m back images inner told said (Err fault) hands runs in_image = tt
 
-runs_under : {F : Type 0} (m : Making F) (images inner : List ℕ → Type 0) (told said : Option (List ℕ)) (made : Result Unit Fault) → OnOk made ((b : List ℕ) → inner b → images b) → (x : Option (List ℕ)) → run.MakeRuns m.word m.greatest m.options x m.inputs images told said made
-    → run.MakeRuns m.word m.greatest m.options x m.inputs inner told said made
+runs_under : {F : Type 0} (m : Making F) (images inner : List ℕ → Type 0) (told said : Option (List ℕ)) (made : Result Unit Fault) → OnOk made ((b : List ℕ) → inner b → images b) → (x : Option (List ℕ)) → run.MakeRuns (run.terms_of m.word m.greatest m.options) x m.inputs images told said made
+    → run.MakeRuns (run.terms_of m.word m.greatest m.options) x m.inputs inner told said made
 runs_under m images inner told said (Ok done) in_image x runs =
     let made = runs.ok.made in
     record { ok = record { based = runs.ok.based; made = record { read = made.read; are = made.are; goes = made.goes; file = record { each = λ b is. made.file.each b (in_image b is) } } }; err = tt }
@@ -77,7 +77,7 @@ pub failed_stays : {T E : Type 0} (r : Result T E) (old new : Bool) → OnOk r (
 failed_stays (Ok done) old new same failed is = same ∙ is
 failed_stays (Err e) old new same failed is = failed
 
-pub run_kept : {F I J M R Y : Type 0} (s : Ghosts F) (m : Ghosts M) (r : Raw R) (feed : I → Feed) (y : Systems Y F I M) (planned : Result Asked Refused) (explained : Bool) (input : Standard J) (old new : Y) (was now : NameCalls) (left : Left F M I J) (start end final told mid said : Option (List ℕ)) (unwritten before after : Type 0) (status : ℕ)
+pub run_kept : {F I J M N R Y : Type 0} (s : Ghosts F) (m : Ghosts M) (r : Raw R) (feed : I → Feed) (y : Systems Y F I M J N R) (planned : Result Asked Refused) (explained : Bool) (input : Standard J) (old new : Y) (was now : NameCalls) (left : Left F M I J) (start end final told mid said : Option (List ℕ)) (unwritten before after : Type 0) (status : ℕ)
     → Runs (files_of s m feed y) r (given_of planned explained input) (state_of old was start told) (state_of new now end mid) final left (failed_of unwritten before) status → (before → after) → Keeps mid said → Runs (files_of s m feed y) r (given_of planned explained input) (state_of old was start told) (state_of new now end said) final left (failed_of unwritten after) status
 run_kept s m r feed y planned explained input old new was now left start end final told mid said unwritten before after status h stays k = elim h as (λ _. Runs (files_of s m feed y) r (given_of planned explained input) (state_of old was start told) (state_of new now end said) final left (failed_of unwritten after) status) [
   | inl none ↦ inl (record { refused = none.refused; why = none.why; line = line_kept (refused_lines explained none.refused) told mid said before after stays none.line k; untouched = none.untouched; none = none.none; same = none.same; kept = none.kept; is_status = none.is_status })

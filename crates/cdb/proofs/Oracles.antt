@@ -108,12 +108,12 @@ ends_so command o explained start end final told said unwritten unsaid result st
 
 -- ---- each command
 
-abbrev CommandComes : {F I J M R Y : Type 0} → Ghosts F → Ghosts M → Raw R → (I → Feed) → Systems Y F I M → (explained : Bool) → Command → Disk → (input : List ℕ) → (given : Standard J) → (old new : State Y) → Left F M I J → Result Unit Fault → Type 0
+abbrev CommandComes : {F I J M N R Y : Type 0} → Ghosts F → Ghosts M → Raw R → (I → Feed) → Systems Y F I M J N R → (explained : Bool) → Command → Disk → (input : List ℕ) → (given : Standard J) → (old new : State Y) → Left F M I J → Result Unit Fault → Type 0
 CommandComes s m r feed y explained command disk input given old new left result =
     Honest (files_of s m feed y) disk input (asked_in command) given old.opened new.opened left → PerformsIn (has_wide_words (asked_in command)) (files_of s m feed y) r (given_of (asked_in command) explained given) old new left result
     → IfSome (command_outcome (asked_in command) disk input) (λ o. Comes (writes_output (asked_in command)) (reads_in_turn (asked_in command)) (exit_status command) o old.output new.output result)
 
-command_comes : {F I J M R Y : Type 0} (s : Ghosts F) (m : Ghosts M) (r : Raw R) (feed : I → Feed) (y : Systems Y F I M) (explained : Bool) (command : Command) (disk : Disk) (input : List ℕ) (given : Standard J) (old new : State Y) (left : Left F M I J) (result : Result Unit Fault) → IsSized s → EachAnswered s disk (stores_in left) (y.calls old.opened) (y.calls new.opened) → EachAgrees feed disk (streams_in left) (y.calls old.opened) (y.calls new.opened)
+command_comes : {F I J M N R Y : Type 0} (s : Ghosts F) (m : Ghosts M) (r : Raw R) (feed : I → Feed) (y : Systems Y F I M J N R) (explained : Bool) (command : Command) (disk : Disk) (input : List ℕ) (given : Standard J) (old new : State Y) (left : Left F M I J) (result : Result Unit Fault) → IsSized s → EachAnswered s disk (stores_in left) (y.calls old.opened) (y.calls new.opened) → EachAgrees feed disk (streams_in left) (y.calls old.opened) (y.calls new.opened)
     → CommandComes s m r feed y explained command disk input given old new left result
 command_comes s m r feed y explained (command.Query name key number lines true) disk input given old new left result sized calls agree honest h =
     query_foretold feed 8 s m y (string_bytes name) _ disk old new left result sized calls h
@@ -159,9 +159,9 @@ command_comes s m r feed y explained (command.Create name base inputs temporary 
 command_comes s m r feed y explained command.Help disk input given old new left result sized calls agree honest h = told_comes usage_text old.output new.output result h.2
 command_comes s m r feed y explained command.Version disk input given old new left result sized calls agree honest h = told_comes version_text old.output new.output result h.2
 command_comes s m r feed y explained (command.Lookups name inputs number style true) disk input given old new left result sized calls agree honest h =
-    lookups_foretold feed 8 9223372036854775807 s m y (record { name = string_bytes name; inputs = map string_bytes inputs.items; number = number; style = style }) disk input given old new left result sized honest.bytes honest.unread calls agree honest.agrees h
+    lookups_foretold feed s m y (record { word = 8; greatest = 9223372036854775807; name = string_bytes name; inputs = map string_bytes inputs.items; options = record { number = number; style = style } }) disk input given old new left result sized honest.bytes honest.unread calls agree honest.agrees h
 command_comes s m r feed y explained (command.Lookups name inputs number style false) disk input given old new left result sized calls agree honest h =
-    lookups_foretold feed 4 4294967295 s m y (record { name = string_bytes name; inputs = map string_bytes inputs.items; number = number; style = style }) disk input given old new left result sized honest.bytes honest.unread calls agree honest.agrees h
+    lookups_foretold feed s m y (record { word = 4; greatest = 4294967295; name = string_bytes name; inputs = map string_bytes inputs.items; options = record { number = number; style = style } }) disk input given old new left result sized honest.bytes honest.unread calls agree honest.agrees h
 
 -- only a create says anything before it ends
 is_silent : (command : Command) (disk : Disk) (input : List ℕ) (told before : Option (List ℕ)) → IsUntouched (asked_in command) told before → IfSome (command_outcome (asked_in command) disk input) (λ o. before ≡ told)
@@ -190,7 +190,7 @@ no_memory_may : (planned : Result Asked Refused) → MayFail planned NoMemory
 no_memory_may (Ok command) = tt
 no_memory_may (Err usage) = refl
 
-run_foretold : {F I J M R Y : Type 0} (s : Ghosts F) (m : Ghosts M) (r : Raw R) (feed : I → Feed) (y : Systems Y F I M) (planned : Result Asked Refused) (explained : Bool) (given : Standard J) (old new : Y) (was now : NameCalls) (left : Left F M I J) (start end final told said : Option (List ℕ)) (unwritten unsaid : Type 0) (status : ℕ) (disk : Disk) (input : List ℕ)
+run_foretold : {F I J M N R Y : Type 0} (s : Ghosts F) (m : Ghosts M) (r : Raw R) (feed : I → Feed) (y : Systems Y F I M J N R) (planned : Result Asked Refused) (explained : Bool) (given : Standard J) (old new : Y) (was now : NameCalls) (left : Left F M I J) (start end final told said : Option (List ℕ)) (unwritten unsaid : Type 0) (status : ℕ) (disk : Disk) (input : List ℕ)
     → IsSized s → (unwritten → ⊥) → (unsaid → ⊥) → Keeps end final → Runs (files_of s m feed y) r (given_of planned explained given) (state_of old was start told) (state_of new now end said) final left (failed_of unwritten unsaid) status
     → IfOk planned (λ command. Honest (files_of s m feed y) disk input command given old new left) → IfSome (oracle planned disk input) (λ o. Foretold planned o explained start final told said status)
 run_foretold s m r feed y planned explained given old new was now left start end final told said unwritten unsaid status disk input sized writes speaks k (inl none) honest =
@@ -241,7 +241,7 @@ total_so (Ok asked.Help) disk input P none h = h
 total_so (Ok asked.Version) disk input P none h = h
 total_so (Err usage) disk input P none h = h
 
-pub run_is_foretold : {F I J M R Y W V : Type 0} (s : Ghosts F) (m : Ghosts M) (r : Raw R) (feed : I → Feed) (y : Systems Y F I M) (planned : Result Asked Refused) (explained : Bool) (given : Standard J) (old new : Y) (was now : NameCalls) (left : Left F M I J) (output_old output_new : Writer W) (errors_old errors_new : Writer V) (status : ℕ)
+pub run_is_foretold : {F I J M N R Y W V : Type 0} (s : Ghosts F) (m : Ghosts M) (r : Raw R) (feed : I → Feed) (y : Systems Y F I M J N R) (planned : Result Asked Refused) (explained : Bool) (given : Standard J) (old new : Y) (was now : NameCalls) (left : Left F M I J) (output_old output_new : Writer W) (errors_old errors_new : Writer V) (status : ℕ)
     → IsSized s → (held_by output_old ≡ [] → HasHandedOn output_new) → HasHandedOn errors_new
     → Runs (files_of s m feed y) r (given_of planned explained given) (state_of old was (output_bytes output_old) (output_bytes errors_old)) (state_of new now (output_bytes output_new) (output_bytes errors_new)) (writer_bytes output_new) left (failed_of (OutputFailed output_new) (OutputFailed errors_new)) status
     → IsForetold (files_of s m feed y) (given_of planned explained given) (state_of old was (output_bytes output_old) (output_bytes errors_old)) (state_of new now (writer_bytes output_new) (writer_bytes errors_new)) left (IsTaken output_old output_new errors_new) status

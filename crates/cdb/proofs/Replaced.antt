@@ -89,7 +89,7 @@ made_here m x files input = made_of m.word m.greatest m.options.make x files inp
 
 pub database_is : {F : Type 0} (f : Ghosts F) (m : Making F) (back : Option F) (x : Option (List ℕ)) (files : List (Option (List ℕ))) (input b : List ℕ) → BaseHas f back x → Known files input m.inputs → IsDatabase f m back b → (b ≡ made_file m.word (made_here m x files input)) × ((made_here m x files input).result ≡ Ok tt)
 database_is f m back x files input b has known d =
-    let so = made_so m.word m.greatest m.options x files input m.inputs (λ c. c ≡ b) d.told d.said known (of_known f back x (λ y. run.Makes m.word m.greatest m.options y m.inputs (λ c. c ≡ b) d.told d.said) has d.is) in
+    let so = made_so m.word m.greatest m.options x files input m.inputs (λ c. c ≡ b) d.told d.said known (of_known f back x (λ y. run.Makes (run.terms_of m.word m.greatest m.options) y m.inputs (λ c. c ≡ b) d.told d.said) has d.is) in
     (so.file.each b refl, sym so.is)
 
 -- ---- the other names
@@ -211,7 +211,7 @@ renamed_has t n sync len file before first held passes synced h = elim (passes h
 run_is : {F : Type 0} (f : Ghosts F) (m : Making F) (back : Option F) (x : Option (List ℕ)) (files : List (Option (List ℕ))) (input : List ℕ) (images : List ℕ → Type 0) (b : List ℕ) (told said : Option (List ℕ)) (built : Result Unit Fault) → BaseHas f back x → Known files input m.inputs → images b → IsMakeRun f m back images told said built
     → ComesOf m.word m.options (made_here m x files input) images told said built
 run_is f m back x files input images b told said built has known is h =
-    run_comes m.word m.greatest m.options x files input m.inputs images told said built known (of_known f back x (λ y. run.MakeRuns m.word m.greatest m.options y m.inputs images told said built) has (h.runs.each b is))
+    run_comes m.word m.greatest m.options x files input m.inputs images told said built known (of_known f back x (λ y. run.MakeRuns (run.terms_of m.word m.greatest m.options) y m.inputs images told said built) has (h.runs.each b is))
 
 made_ok : (w : ℕ) (o : RunOptions) (made : Made) (images : List ℕ → Type 0) (b : List ℕ) (held told said : Option (List ℕ)) → images b → held ≡ Some b → ComesOf w o made images told said (Ok tt) → HasMade w o made told said held
 made_ok w o made images b held told said is e (inl so) = record { file = e ∙ ap (λ (z : List ℕ). Some z) (so.file.each b is); result = sym so.is; lines = λ plain. tells_plain o.names made.told told said plain so.lines }

@@ -91,7 +91,7 @@ shown_plain true inputs o shown h e = absurd (let no : true ≡ false = e in cc)
 same_asked : (a b : Asked) → ◌≡◌ {A = Result Asked Refused} (Ok a) (Ok b) → a ≡ b
 same_asked a b e = cc
 
-creates_in : {F I J M R Y : Type 0} (s : Ghosts F) (m : Ghosts M) (r : Raw R) (feed : I → Feed) (y : Systems Y F I M) (name : List ℕ) (base : Option (List ℕ)) (inputs : List (List ℕ)) (temporary : Option (List ℕ)) (o : MakeOptions) (wide explained : Bool) (given : Standard J) (old new : Y) (was now : NameCalls) (left : Left F M I J) (start end told said : Option (List ℕ)) (result : Result Unit Fault)
+creates_in : {F I J M N R Y : Type 0} (s : Ghosts F) (m : Ghosts M) (r : Raw R) (feed : I → Feed) (y : Systems Y F I M J N R) (name : List ℕ) (base : Option (List ℕ)) (inputs : List (List ℕ)) (temporary : Option (List ℕ)) (o : MakeOptions) (wide explained : Bool) (given : Standard J) (old new : Y) (was now : NameCalls) (left : Left F M I J) (start end told said : Option (List ℕ)) (result : Result Unit Fault)
     → PerformsIn wide (files_of s m feed y) r (given_of (asked.Create name base inputs temporary o wide) explained given) (state_of old was start told) (state_of new now end said) left result
     → (shown : RunOptions) × IsShown explained inputs o shown × Creates (files_of s m feed y) r (record { word = word_size wide; greatest = greatest_size wide; options = shown; name = name; base = base; inputs = inputs; temporary = temporary }) given (state_of (y.calls old) was start told) (state_of (y.calls new) now end said) left result
 creates_in s m r feed y name base inputs temporary o true explained given old new was now left start end told said result h = h
@@ -122,11 +122,11 @@ comes_so m disk shown c explained now made command name base inputs temporary o 
     })
 
 -- whether the calls were answered as the disk is says nothing of what was written
-honest_so : {F I J M Y : Type 0} {files : Files F I M Y} {disk : Disk} {input name : List ℕ} {standard : Standard J} {old new : OpenCalls} {was now : NameCalls} {start end told said : Option (List ℕ)} {left : Left F M I J} (final before : Option (List ℕ))
+honest_so : {F I J M N R Y : Type 0} {files : Files F I J M N R Y} {disk : Disk} {input name : List ℕ} {standard : Standard J} {old new : OpenCalls} {was now : NameCalls} {start end told said : Option (List ℕ)} {left : Left F M I J} (final before : Option (List ℕ))
     → HonestCreate files disk input name standard (state_of old was start told) (state_of new now end said) left → HonestCreate files disk input name standard (state_of old was start told) (state_of new now final before) left
 honest_so final before h = record { calls = h.calls; are = h.are; answered = h.answered; in_turn = h.in_turn; unread = h.unread; agrees = h.agrees; bytes = h.bytes; first = h.first; alone = h.alone; held = h.held; has = h.has }
 
-run_holds : {F I J M R Y : Type 0} (s : Ghosts F) (m : Ghosts M) (r : Raw R) (feed : I → Feed) (y : Systems Y F I M) (planned : Result Asked Refused) (explained : Bool) (given : Standard J) (old new : Y) (was now : NameCalls) (left : Left F M I J) (start end final told said : Option (List ℕ)) (unwritten unsaid : Type 0) (status : ℕ) (disk : Disk) (input name : List ℕ) (base : Option (List ℕ)) (inputs : List (List ℕ)) (temporary : Option (List ℕ)) (o : MakeOptions) (wide : Bool)
+run_holds : {F I J M N R Y : Type 0} (s : Ghosts F) (m : Ghosts M) (r : Raw R) (feed : I → Feed) (y : Systems Y F I M J N R) (planned : Result Asked Refused) (explained : Bool) (given : Standard J) (old new : Y) (was now : NameCalls) (left : Left F M I J) (start end final told said : Option (List ℕ)) (unwritten unsaid : Type 0) (status : ℕ) (disk : Disk) (input name : List ℕ) (base : Option (List ℕ)) (inputs : List (List ℕ)) (temporary : Option (List ℕ)) (o : MakeOptions) (wide : Bool)
     → planned ≡ Ok (asked.Create name base inputs temporary o wide) → (unwritten → ⊥) → (unsaid → ⊥) → Keeps end final → HonestCreate (files_of s m feed y) disk input name given (state_of (y.calls old) was start told) (state_of (y.calls new) now final said) left → Runs (files_of s m feed y) r (given_of planned explained given) (state_of old was start told) (state_of new now end said) final left (failed_of unwritten unsaid) status
     → CreateHolds m (expected_of disk name temporary (create_of (word_size wide) (greatest_size wide) disk input name base inputs temporary o)) explained left.made (state_of (y.calls old) was start told) (state_of (y.calls new) now final said) status
 run_holds s m r feed y planned explained given old new was now left start end final told said unwritten unsaid status disk input name base inputs temporary o wide plan writes speaks kept honest (inl none) = elim none.why [
@@ -166,7 +166,7 @@ run_holds s m r feed y planned explained given old new was now left start end fi
       moments = so.moments;
     })
 
-pub run_is_created : {F I J M R Y W V : Type 0} (s : Ghosts F) (m : Ghosts M) (r : Raw R) (feed : I → Feed) (y : Systems Y F I M) (planned : Result Asked Refused) (explained : Bool) (given : Standard J) (old new : Y) (was now : NameCalls) (left : Left F M I J) (output_old output_new : Writer W) (errors_old errors_new : Writer V) (status : ℕ)
+pub run_is_created : {F I J M N R Y W V : Type 0} (s : Ghosts F) (m : Ghosts M) (r : Raw R) (feed : I → Feed) (y : Systems Y F I M J N R) (planned : Result Asked Refused) (explained : Bool) (given : Standard J) (old new : Y) (was now : NameCalls) (left : Left F M I J) (output_old output_new : Writer W) (errors_old errors_new : Writer V) (status : ℕ)
     → (held_by output_old ≡ [] → HasHandedOn output_new) → HasHandedOn errors_new
     → Runs (files_of s m feed y) r (given_of planned explained given) (state_of old was (output_bytes output_old) (output_bytes errors_old)) (state_of new now (output_bytes output_new) (output_bytes errors_new)) (writer_bytes output_new) left (failed_of (OutputFailed output_new) (OutputFailed errors_new)) status
     → IsCreateForetold (files_of s m feed y) (given_of planned explained given) (state_of old was (output_bytes output_old) (output_bytes errors_old)) (state_of new now (writer_bytes output_new) (writer_bytes errors_new)) left (IsTaken output_old output_new errors_new) status

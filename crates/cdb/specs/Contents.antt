@@ -15,7 +15,7 @@ abbrev pub making_of : {L F J I : Type 0} {l : Widths L} → (word greatest : �
 making_of word greatest contents inputs = record {
   word = word;
   greatest = greatest;
-  options = contents.options;
+  options = contents.run.options;
   base = contents.sources.base;
   inputs = inputs;
 }
@@ -24,7 +24,7 @@ abbrev pub wanted_of : (word greatest : ℕ) → Creation → Wanted
 wanted_of word greatest creation = record {
   word = word;
   greatest = greatest;
-  options = creation.options;
+  options = creation.run.options;
   name = creation.name.now;
   base = option_map string_bytes creation.base.now;
   inputs = map string_bytes creation.inputs.now;

@@ -198,7 +198,10 @@ base_has file = cond_both (bytes_eq file first) _ _ (λ o. IfSome o AreBytes) (�
 abbrev Reader : Type 0
 Reader = NotedReader (List ℕ)
 
-abbrev from : Systems OpenCalls MemStore Reader MemStore → Files MemStore Reader MemStore OpenCalls
+abbrev Machine : Type 1
+Machine = Systems OpenCalls MemStore Reader MemStore Reader Unit Unit
+
+abbrev from : Machine → Files MemStore Reader Reader MemStore Unit Unit OpenCalls
 from y = files_of in_memory in_memory noted_feed y
 
 abbrev standard : (input : List ℕ) → Standard Reader
@@ -212,7 +215,7 @@ abbrev calls_of : OpenCalls → NameCalls → State OpenCalls
 calls_of opened named = state_of opened named None None
 
 -- cdb -c a.cdb, of standard input, of which an empty text came and no end
-create_is_honest : (y : Systems OpenCalls MemStore Reader MemStore) → (sources : Sources MemStore Reader Reader)
+create_is_honest : (y : Machine) → (sources : Sources MemStore Reader Reader)
     → sources.base ≡ None → sources.inputs.readers.items ≡ Shared ∷ [] → sources.inputs.shared ≡ noted [] (codes "\n")
     → HonestCreate (from y) nothing (codes "\n") its (standard (codes "\n")) (calls_of [] [])
     (calls_of [] (name_calls ((name_call.Input looks.No, temporary, [], []) ∷ []))) (left_of sources)
@@ -239,7 +242,7 @@ create_is = refl
 abbrev of_text : Asked
 of_text = Create its None (text ∷ []) None plain false
 
-file_is_honest : (y : Systems OpenCalls MemStore Reader MemStore) → (sources : Sources MemStore Reader Reader)
+file_is_honest : (y : Machine) → (sources : Sources MemStore Reader Reader)
     → sources.base ≡ None → sources.inputs.readers.items ≡ Own (ended [] (codes "\n")) ∷ [] → sources.inputs.shared ≡ fresh []
     → HonestCreate (from y) with_text [] its (standard []) (calls_of [] [])
     (calls_of ((InTurn, text) ∷ []) (name_calls ((name_call.Same looks.No, temporary, text, []) ∷ []))) (left_of sources)
@@ -274,7 +277,7 @@ texts_are zero = omega arith
 texts_are (suc zero) = omega arith
 texts_are (suc (suc k)) = omega arith
 
-base_is_honest : (y : Systems OpenCalls MemStore Reader MemStore) → (sources : Sources MemStore Reader Reader) → (store : MemStore)
+base_is_honest : (y : Machine) → (sources : Sources MemStore Reader Reader) → (store : MemStore)
     → sources.base ≡ Some store → empty_file ≡ contents store → sources.inputs.readers.items ≡ Shared ∷ Shared ∷ [] → sources.inputs.shared ≡ noted [] texts
     → HonestCreate (from y) with_base texts its (standard texts) (calls_of [] [])
     (calls_of ((AtPlaces, first) ∷ [])

@@ -22,7 +22,7 @@ use Rattle.cdb_store.specs.declared.raw.RawFile.{Ghosts as Raw}
 use Rattle.cdb_store.specs.declared.store.Store.{Ghosts}
 use Rattle.cdb_make.specs.Views.Maker.{WhereHonest}
 use Rattle.cdb_show.specs.Runs.Inputs.{InputsLeft}
-use Rattle.cdb_tool.specs.Runs.Make.{HandsBack, BaseHasFailed, IsOfBase, IsOfStore, Makes, OfBase, MakeRuns}
+use Rattle.cdb_tool.specs.Runs.Make.{HandsBack, BaseHasFailed, IsOfBase, IsOfStore, Makes, OfBase, MakeRuns, terms_of}
 use Rattle.cdb_show.specs.Views.Output.{OutputSays}
 use Rattle.cdb_show.specs.declared.inputs.Inputs.{Inputs}
 use Rattle.cdb_show.specs.declared.fault.Fault.{Fault}
@@ -68,7 +68,7 @@ pub record IsDatabase {F : Type 0} (f : Ghosts F) (m : Making F) (back : Option 
   pub told : Option (List ℕ)
   pub said : Option (List ℕ)
   pub is : OfBase f back
-      (λ x. Makes m.word m.greatest m.options x m.inputs (λ c. c ≡ b) told said)
+      (λ x. Makes (terms_of m.word m.greatest m.options) x m.inputs (λ c. c ≡ b) told said)
 
 -- a store has it
 abbrev pub HasDatabase : {F : Type 0} → Ghosts F → Making F → Option F → (List ℕ → Type 0)
@@ -93,7 +93,7 @@ pub record IsMakeRun {F : Type 0} (f : Ghosts F) (m : Making F) (back : Option F
     pub hands : HandsBack f m.base back
     pub base_failed : IfErr made (λ fault. IsOfBase fault → BaseHasFailed f m.base back)
     pub runs : WhereHonest images (OfBase f back (λ x.
-        MakeRuns m.word m.greatest m.options x m.inputs images told said made))
+        MakeRuns (terms_of m.word m.greatest m.options) x m.inputs images told said made))
 
 -- one did in a store, which has this then
 pub record MakesIn {S F : Type 0} (s : Ghosts S) (f : Ghosts F) (m : Making F) (store left : S)
@@ -214,7 +214,7 @@ pub record HandsBase {F I J M : Type 0} (base : Option F) (left : Left F M I J) 
 
 -- a run was made in the store that came, which was emptied by these calls. It has the database once the run
 -- and its sync succeed, and the create succeeds if the name has the file then. It is left so
-pub record MakesEmptied {F I J M Y : Type 0} (files : Files F I M Y) (m : Making F) (name : List ℕ)
+pub record MakesEmptied {F I J M N R Y : Type 0} (files : Files F I J M N R Y) (m : Making F) (name : List ℕ)
     (emptied : OpenCalls) (old new : State OpenCalls) (left : Left F M I J) (result : Result Unit Fault)
     : Type 0 where
   pub store : M
@@ -235,7 +235,7 @@ pub record MakesEmptied {F I J M Y : Type 0} (files : Files F I M Y) (m : Making
 -- a file that is read may be the one of the name; or none is, as was looked up for each, and then the file of
 -- the name is not emptied, or it is, once its lock is held. The base is handed back, as it was if nothing
 -- was built
-abbrev pub MakesInPlace : {F I J M Y : Type 0} → Files F I M Y → Making F → Wanted
+abbrev pub MakesInPlace : {F I J M N R Y : Type 0} → Files F I J M N R Y → Making F → Wanted
     → (old new : State OpenCalls) → Left F M I J → Result Unit Fault → Type 0
 MakesInPlace files m wanted old new left result =
     (FindsOne wanted.name wanted.base wanted.inputs old.named new.named × (new.opened ≡ old.opened)
@@ -296,7 +296,7 @@ MakesApart f r m temporary wanted old new back result =
     × Replaces f r m temporary wanted.name (record old { named = mid }) new back result)
 
 -- it is made in place; or in a temporary file, unless the allocation of its name failed
-abbrev pub MakesNamed : {F I J M R Y : Type 0} → Files F I M Y → Raw R → Making F → Wanted
+abbrev pub MakesNamed : {F I J M N R Y : Type 0} → Files F I J M N R Y → Raw R → Making F → Wanted
     → (old new : State OpenCalls) → Left F M I J → Result Unit Fault → Type 0
 MakesNamed files r m wanted old new left result =
     (IsInPlace wanted.name wanted.temporary × MakesInPlace files m wanted old new left result)
@@ -326,7 +326,7 @@ SeesBase w f (Some old) (Some new) result = SeesHead w f old new result
 SeesBase w f old new result = ⊥
 
 -- a base was opened, if there is one, and its head was read. It is left so
-pub record LooksAtBase {F I M Y : Type 0} (w : ℕ) (files : Files F I M Y) (base : Option (List ℕ))
+pub record LooksAtBase {F I J M N R Y : Type 0} (w : ℕ) (files : Files F I J M N R Y) (base : Option (List ℕ))
     (old new : OpenCalls) (left : Option F) (result : Result Unit Fault) : Type 0 where
   pub came : Option F
   pub opens : OpensBase files.system base came old new
@@ -334,7 +334,7 @@ pub record LooksAtBase {F I M Y : Type 0} (w : ℕ) (files : Files F I M Y) (bas
 
 -- what is read was opened: the base, whose head does not refuse it, then the inputs, of which nothing had
 -- been taken
-pub record OpensAll {F I M Y : Type 0} (w : ℕ) (files : Files F I M Y) (base : Option (List ℕ))
+pub record OpensAll {F I J M N R Y : Type 0} (w : ℕ) (files : Files F I J M N R Y) (base : Option (List ℕ))
     (inputs : List (List ℕ)) (old new : OpenCalls) (file : Option F) (readers : List (InputReader I))
     : Type 0 where
   pub mid : OpenCalls
@@ -348,7 +348,7 @@ IsOfNoOutput fault = OutputSays {A = Unit} ⊥ (Err fault)
 
 -- or the base was not, or is refused, or an input after it was not opened. A base that was opened is
 -- handed back
-pub record NotOpened {F I M Y : Type 0} (w : ℕ) (files : Files F I M Y) (base : Option (List ℕ))
+pub record NotOpened {F I J M N R Y : Type 0} (w : ℕ) (files : Files F I J M N R Y) (base : Option (List ℕ))
     (inputs : List (List ℕ)) (old new : OpenCalls) (back : Option F) (fault : Fault) : Type 0 where
   pub calls : (MissesBase base old new fault × (back ≡ None))
       ⊎ LooksAtBase w files base old new back (Err fault)
@@ -356,7 +356,7 @@ pub record NotOpened {F I M Y : Type 0} (w : ℕ) (files : Files F I M Y) (base 
       × StopsOpening files.system inputs mid new fault)
 
 -- the database is made on standard output; or under its name, and then standard output stays as it is
-abbrev pub MakesAt : {F I J M R Y : Type 0} → Files F I M Y → Raw R → Making F → Wanted
+abbrev pub MakesAt : {F I J M N R Y : Type 0} → Files F I J M N R Y → Raw R → Making F → Wanted
     → (old new : State OpenCalls) → Left F M I J → Result Unit Fault → Type 0
 MakesAt files r m wanted old new left result =
     (IsStandard wanted.name × (new.opened ≡ old.opened) × (new.named ≡ old.named)
@@ -367,7 +367,7 @@ MakesAt files r m wanted old new left result =
 
 -- Inputs were opened and handed back, and no other file was opened to be read. Of all inputs that agree with
 -- their readers, this is what was done.
-pub record HandsAll {F I J M Y : Type 0} (files : Files F I M Y) (standard : Standard J)
+pub record HandsAll {F I J M N R Y : Type 0} (files : Files F I J M N R Y) (standard : Standard J)
     (inputs : Inputs I J) (mid new : OpenCalls) (left : Left F M I J) (Does : InputsLeft → Type 0)
     : Type 0 where
   pub shared : inputs.shared ≡ standard.reader
@@ -379,7 +379,7 @@ pub record HandsAll {F I J M Y : Type 0} (files : Files F I M Y) (standard : Sta
 -- all that is read is opened, and then the database is made of it; or nothing is made. A base that was
 -- opened is handed back, as it came if nothing was built; so is a file that was made in place, and so are
 -- the readers of the inputs
-abbrev pub Creates : {F I J M R Y : Type 0} → Files F I M Y → Raw R → Wanted
+abbrev pub Creates : {F I J M N R Y : Type 0} → Files F I J M N R Y → Raw R → Wanted
     → (standard : Standard J) → (old new : State OpenCalls) → Left F M I J → Result Unit Fault → Type 0
 Creates {F = F} {I = I} {J = J} files r wanted standard old new left result =
     ((fault : Fault) × (result ≡ Err fault)

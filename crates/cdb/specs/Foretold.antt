@@ -59,7 +59,7 @@ AsksNoCreate planned = ⊤
 
 -- a run of such words, whose output and whose lines were taken, came to what the oracle says, or to a
 -- refusal
-abbrev pub IsForetold : {F I J M Y : Type 0} → Files F I M Y → Given (Result Asked Refused) J
+abbrev pub IsForetold : {F I J M N R Y : Type 0} → Files F I J M N R Y → Given (Result Asked Refused) J
     → (old new : State Y) → Left F M I J → (taken : Type 0) → (status : ℕ) → Type 0
 IsForetold files given old new left taken status =
     (disk : Disk) → (input : List ℕ) → taken → AsksNoCreate given.asked

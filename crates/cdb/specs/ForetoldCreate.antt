@@ -45,7 +45,7 @@ place_of name other = bytes_eq other name
 
 -- each call was answered as the disk is, and what was read is as its files and standard input are, of which
 -- nothing had been taken; no call on names came before, and the name has something
-pub record HonestCreate {F I J M Y : Type 0} (files : Files F I M Y) (disk : Disk) (input name : List ℕ)
+pub record HonestCreate {F I J M N R Y : Type 0} (files : Files F I J M N R Y) (disk : Disk) (input name : List ℕ)
     (standard : Standard J) (old new : State OpenCalls) (left : Left F M I J) : Type 0 where
   pub calls : OpenCalls
   pub are : new.opened ≡ calls ++ old.opened
@@ -180,7 +180,7 @@ pub record CreateHolds {M : Type 0} (m : Ghosts M) (x : Expected) (explained : B
       (LeavesAll x.disk (passing x.name x.temporary) x.created.disk) old.named new.named
 
 -- a run of these words, which request a create
-abbrev pub IsCreateForetold : {F I J M Y : Type 0} → Files F I M Y → Given (Result Asked Refused) J
+abbrev pub IsCreateForetold : {F I J M N R Y : Type 0} → Files F I J M N R Y → Given (Result Asked Refused) J
     → (old new : State Y) → Left F M I J → (taken : Type 0) → (status : ℕ) → Type 0
 IsCreateForetold files given old new left taken status =
     (disk : Disk) (input name : List ℕ) (base : Option (List ℕ)) (inputs : List (List ℕ))

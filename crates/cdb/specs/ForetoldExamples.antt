@@ -27,6 +27,7 @@ use Rattle.cdb_store.specs.declared.memory.MemStore.{MemStore}
 use Rattle.cdb_store.specs.declared.raw.RawFile.{Ghosts as Raw}
 use Rattle.cdb.specs.Created.{foretell}
 use Rattle.cdb.specs.Foretold.{AsksNoCreate, IsForetold, IsTaken}
+use Rattle.cdb.specs.declared.streams.Streams.{Streams}
 use Rattle.cdb.specs.Running.{IsRun, given_by, taken, world_of, written}
 use Rattle.cdb_system.specs.Answered.{Honest}
 use Rattle.cdb_system.specs.Files.{Files, files_of}
@@ -114,7 +115,7 @@ abbrev Reader : Type 0
 Reader = NotedReader Unit
 
 -- a system that opens the file in memory, or to be read from its start on by such a reader
-abbrev of_disk : Systems OpenCalls MemStore Reader MemStore
+abbrev of_disk : Systems OpenCalls MemStore Reader MemStore Reader Unit Unit
 of_disk = record {
   calls = λ calls. calls;
   gives = λ name store. disk name ≡ Some (contents store);
@@ -122,7 +123,7 @@ of_disk = record {
   makes = λ name store. ⊤;
 }
 
-abbrev files : Files MemStore Reader MemStore OpenCalls
+abbrev files : Files MemStore Reader Reader MemStore Unit Unit OpenCalls
 files = files_of in_memory in_memory noted_feed of_disk
 
 -- standard input is read by such a reader too
@@ -205,25 +206,27 @@ stats_are_honest = record {
 
 -- ---- what is known then
 
-module _ {R O E : Type 0} (r : Raw R) (was now : NameCalls) (output_old output_new : Writer O) (errors_old errors_new : Writer E) (status : ℕ) where
+module _ {O E : Type 0} (r : Raw Unit) (was now : NameCalls) (before after : Streams (Writer O) (Writer E)) (status : ℕ) where
   -- these words were run, all that was written was taken, and standard input reported nothing
   abbrev Ran : (words : List (List ℕ)) → OpenCalls → Back → Type 0
   Ran words calls left =
-      IsTaken output_old output_new errors_new
-      × IsRun files r (given_by words standard) (world_of [] was output_old errors_old)
-      (world_of calls now output_new errors_new) left status
+      IsTaken before.output after.output after.errors
+      × IsRun files r (given_by words standard) (world_of [] was before) (world_of calls now after)
+      left status
 
   -- it came to this, or a failure was reported, and a prefix was written
   abbrev CameTo : Outcome → Type 0
   CameTo o =
-      ((status ≡ o.status) × Appends (output_bytes output_old) (writer_bytes output_new) o.output)
-      ⊎ ((status ≡ 111) × AppendsPrefix (output_bytes output_old) (writer_bytes output_new) o.output)
+      ((status ≡ o.status)
+      × Appends (output_bytes before.output) (writer_bytes after.output) o.output)
+      ⊎ ((status ≡ 111)
+      × AppendsPrefix (output_bytes before.output) (writer_bytes after.output) o.output)
 
   came_to : (words : List (List ℕ)) (command : Asked) (input : List ℕ) (calls : OpenCalls) (left : Back) (o : Outcome) → plan_of words ≡ Ok command → AsksNoCreate (Ok command) → (foretell (Ok command) disk input).outcome ≡ o → Honest files disk input command standard [] calls left → Ran words calls left → CameTo o
   came_to words command input calls left o asked none is honest ran =
-      let old = world_of [] was output_old errors_old in
-      let new = world_of calls now output_new errors_new in
-      let foretold = subst (λ p. IsForetold files (given_of p (explains_in words) standard) (written old) (taken new) left (IsTaken output_old output_new errors_new) status) asked ran.1.foretold in
+      let old = world_of [] was before in
+      let new = world_of calls now after in
+      let foretold = subst (λ p. IsForetold files (given_of p (explains_in words) standard) (written old) (taken new) left (IsTaken before.output after.output after.errors) status) asked ran.1.foretold in
       subst CameTo is (elim (foretold disk input ran.0 none honest) [
         | inl came ↦ inl (came.is_status, came.output)
         | inr refused ↦ inr (refused.is_status, refused.output)

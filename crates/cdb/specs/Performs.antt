@@ -36,35 +36,47 @@ IsShown true inputs options shown = (shown.make ≡ options)
     × (option_map (λ names. map string_bytes names.now) shown.names ≡ Some inputs)
 
 -- ---- each command, in words of w bytes of files of at most so many; what is left open is handed back
-abbrev pub Performs : {F I J M R Y : Type 0} → (w most : ℕ) → Files F I M Y → Raw R
+abbrev pub Performs : {F I J M N R Y : Type 0} → (w most : ℕ) → Files F I J M N R Y → Raw R
     → (explained : Bool) → Asked → (input : Standard J) → (old new : State Y) → Left F M I J
     → Result Unit Fault → Type 0
 Performs w most files r explained (asked.Query name key number lines wide) input old new left
     result =
-    PerformsQuery w files name (record { key = key; number = number; shown = value_text lines }) old
-    new left result
+    PerformsQuery files (record {
+      word = w;
+      name = name;
+      query = record { key = key; number = number; shown = value_text lines };
+    }) old new left result
 Performs w most files r explained (asked.Lookups name inputs number style wide) input old new left
     result =
-    PerformsLookups w most files (record {
+    PerformsLookups files (record {
+      word = w;
+      greatest = most;
       name = name;
       inputs = inputs;
-      number = number;
-      style = style;
+      options = record { number = number; style = style };
     }) input old new left result
 Performs w most files r explained (asked.Dump name style wide) input old new left result =
-    PerformsText w files (dump_form style) name input old new left result
+    PerformsText files (record { word = w; name = name; form = dump_form style }) input old new left
+    result
 Performs w most files r explained (asked.Listing name style wide) input old new left result =
-    PerformsText w files (list_form style) name input old new left result
+    PerformsText files (record { word = w; name = name; form = list_form style }) input old new left
+    result
 Performs w most files r explained (asked.Stats name wide) input old new left result =
-    PerformsOn files most name input old new left result
-    (TellsStore w old.output new.output result files.stores)
-    (TellsStore w old.output new.output result in_memory)
+    PerformsOn files (record {
+      most = most;
+      name = name;
+      file = TellsStore w old.output new.output result files.stores;
+      taken = TellsStore w old.output new.output result in_memory;
+    }) input old new left result
 Performs w most files r explained (asked.Check name wide) input old new left result =
-    PerformsOn files most name input old new left result
-    (ChecksStore w old.output new.output result files.stores)
-    (ChecksStore w old.output new.output result in_memory)
+    PerformsOn files (record {
+      most = most;
+      name = name;
+      file = ChecksStore w old.output new.output result files.stores;
+      taken = ChecksStore w old.output new.output result in_memory;
+    }) input old new left result
 Performs w most files r explained (asked.Difference first second wide) input old new left result =
-    PerformsDifference w files first second old new left result
+    PerformsDifference files (record { word = w; first = first; second = second }) old new left result
 Performs w most files r explained (asked.Create name base inputs temporary options wide) input old
     new left result =
     (shown : RunOptions) × IsShown explained inputs options shown
@@ -83,7 +95,7 @@ Performs w most files r explained asked.Version input old new left result =
     (new.opened ≡ old.opened) × (left ≡ none_left) × Tells version_text old.output new.output result
 
 -- in words of 8 bytes or of 4
-abbrev pub PerformsIn : {F I J M R Y : Type 0} → (wide : Bool) → Files F I M Y → Raw R → Given Asked J
+abbrev pub PerformsIn : {F I J M N R Y : Type 0} → (wide : Bool) → Files F I J M N R Y → Raw R → Given Asked J
     → (old new : State Y) → Left F M I J → Result Unit Fault → Type 0
 PerformsIn true files r given old new left result =
     Performs 8 9223372036854775807 files r given.explained given.asked given.input old new left
@@ -105,7 +117,7 @@ pub record HandsOn (end final : Option (List ℕ)) (unwritten : Type 0)
   pub answered : (result ≡ answer) ⊎ (IsWhole answer × (result ≡ Err Output) × unwritten)
 
 -- the command was performed, and what it wrote was handed on
-pub record Does {F I J M R Y : Type 0} (files : Files F I M Y) (r : Raw R)
+pub record Does {F I J M N R Y : Type 0} (files : Files F I J M N R Y) (r : Raw R)
     (given : Given Asked J) (old new : State Y) (left : Left F M I J) (unwritten : Type 0)
     (result : Result Unit Fault) : Type 0 where
   pub end : Option (List ℕ)
@@ -137,7 +149,7 @@ pub record AsksNothing {F I J M Y : Type 0} (given : Given (Result Asked Refused
   pub is_status : status ≡ usage_status (usage_of refused)
 
 -- the command that they request was performed, and then its fault was said, and explained if it is to be
-pub record AsksFor {F I J M R Y : Type 0} (files : Files F I M Y) (r : Raw R)
+pub record AsksFor {F I J M N R Y : Type 0} (files : Files F I J M N R Y) (r : Raw R)
     (given : Given (Result Asked Refused) J) (old new : State Y) (left : Left F M I J)
     (failed : Failed) (status : ℕ) : Type 0
   where
@@ -158,7 +170,7 @@ pub record AsksFor {F I J M R Y : Type 0} (files : Files F I M Y) (r : Raw R)
 
 -- from its words to its exit status: what was written, what standard output has of it, and what is
 -- said on standard error; whether the one failed, or the other; and which files are handed back
-abbrev pub Runs : {F I J M R Y : Type 0} → Files F I M Y → Raw R
+abbrev pub Runs : {F I J M N R Y : Type 0} → Files F I J M N R Y → Raw R
     → Given (Result Asked Refused) J → (old new : State Y) → (final : Option (List ℕ)) → Left F M I J
     → Failed → (status : ℕ)
     → Type 0

@@ -11,6 +11,7 @@ use Rattle.cdb_system.specs.Files.{Files}
 use Rattle.cdb.specs.Foretold.{IsForetold, IsTaken}
 use Rattle.cdb.specs.ForetoldCreate.{IsCreateForetold}
 use Rattle.cdb.specs.Performs.{Runs}
+use Rattle.cdb.specs.declared.streams.Streams.{Streams}
 use Rattle.cdb_system.specs.State.{Given, Standard, State, failed_of, given_of, state_of}
 use Rattle.cdb_system.specs.declared.left.Left.{Left}
 
@@ -26,9 +27,9 @@ pub record World (Y O E : Type 0) : Type 0 where
   pub output : Writer O
   pub errors : Writer E
 
-abbrev pub world_of : {Y O E : Type 0} → Y → NameCalls → Writer O → Writer E → World Y O E
-world_of system named output errors =
-    record { system = system; named = named; output = output; errors = errors }
+abbrev pub world_of : {Y O E : Type 0} → Y → NameCalls → Streams (Writer O) (Writer E) → World Y O E
+world_of system named streams =
+    record { system = system; named = named; output = streams.output; errors = streams.errors }
 
 -- with all that was written, of which a stream may hold some; and with what the writers took
 abbrev pub written : {Y O E : Type 0} → World Y O E → State Y
@@ -38,7 +39,7 @@ abbrev pub taken : {Y O E : Type 0} → World Y O E → State Y
 taken w = state_of w.system w.named (writer_bytes w.output) (writer_bytes w.errors)
 
 -- what the words request was done, and its output handed on, if no older one was held
-pub record Answers {F I J M R Y O E : Type 0} (files : Files F I M Y) (r : Raw R)
+pub record Answers {F I J M N R Y O E : Type 0} (files : Files F I J M N R Y) (r : Raw R)
     (given : Given (Result Asked Refused) J) (old new : World Y O E)
     (left : Left F M I J) (status : ℕ) : Type 0 where
   pub runs : Runs files r given (written old) (written new) (writer_bytes new.output) left
@@ -46,7 +47,7 @@ pub record Answers {F I J M R Y O E : Type 0} (files : Files F I M Y) (r : Raw R
   pub handed : held_by old.output ≡ [] → HasHandedOn new.output
 
 -- and so were the lines; and if all was taken, what the oracle foretold came true
-pub record IsRun {F I J M R Y O E : Type 0} (files : Files F I M Y) (r : Raw R)
+pub record IsRun {F I J M N R Y O E : Type 0} (files : Files F I J M N R Y) (r : Raw R)
     (given : Given (Result Asked Refused) J) (old new : World Y O E)
     (left : Left F M I J) (status : ℕ) : Type 0 where
   pub answers : Answers files r given old new left status

@@ -6,30 +6,30 @@ ghost use Rattle.cdb.specs.Agreeing.{OfAgreeing};
 ghost use Rattle.cdb.specs.Creating.{HasCauseInStore, IsBufferedRun, IsCaused, IsDatabase, IsMakeRun};
 ghost use Rattle.cdb.specs.Contents.{making_of};
 
-use crate::contents::{Contents, Sources};
-use cdb_form::{Feeds, PIPE, Sink, Width};
+use crate::contents::{Contents, ContentsOf, Sources, SourcesOf};
+use cdb_form::{PIPE, Sink, Width};
 use cdb_names::{Builder, Unsynced};
 use cdb_store::{BufferedStore, Store};
+use cdb_system::System;
 use cdb_tool::{Fault, make_run_from};
 use std::alloc::Global;
 use std::marker::PhantomData;
 
 /// Makes it in a store, which is handed back, and what was read too.
-pub(crate) fn make_in<L, S, F, J, I, E>(
+pub(crate) fn make_in<L, S, Y, E>(
     alloc: Global,
     store: S,
-    contents: Contents<'_, L, F, J, I>,
+    contents: ContentsOf<'_, L, Y>,
     errors: &mut E,
-) -> (S, Sources<F, J, I>, Result<(), Fault>)
+) -> (S, SourcesOf<Y>, Result<(), Fault>)
 where
     L: Width,
     S: Store,
-    F: Store + Drop,
-    J: Feeds + Drop,
-    I: Feeds + Drop,
+    Y: System,
     E: Sink,
-    ensures runs { OfAgreeing J.feed I.feed contents.entry.sources.inputs result.1.inputs (λ inputs.
-        IsMakeRun F.Store (making_of L.WORD L.GREATEST contents.entry inputs) result.1.base
+    ensures runs { OfAgreeing Y.Stream.feed Y.Input.feed contents.entry.sources.inputs
+        result.1.inputs (λ inputs. IsMakeRun Y.File.Store
+        (making_of L.WORD L.GREATEST contents.entry inputs) result.1.base
         (S.image result.0) (E.contents errors.old) (E.contents errors.new) result.2) }
     ensures failed { HasCauseInStore S.Store store result.0 result.2 }
     ensures settled { OnOk result.2 (S.settled result.0) }
@@ -39,13 +39,12 @@ where
 {
     let Contents {
         sources,
-        options,
-        lines,
+        run,
         width: _,
     } = contents;
     let Sources { base, inputs } = sources;
-    let (store, base, inputs, made) = make_run_from::<L, S, F, J, I, E>(
-        alloc, store, base, inputs, options, lines, errors,
+    let (store, base, inputs, made) = make_run_from::<L, S, Y::File, Y::Stream, Y::Input, E>(
+        alloc, store, base, inputs, run, errors,
     );
     (store, Sources { base, inputs }, made)
 }
@@ -53,45 +52,43 @@ where
 /// Builds the database in a file that is empty, through a buffer. What was read is handed back,
 /// also if there is no file to build in.
 #[derive(Drop)]
-pub(crate) struct Building<'a, L: Width, F, J, I, E> {
+pub(crate) struct Building<'a, L: Width, Y: System, E> {
     pub(crate) alloc: Global,
     /// What was opened.
-    pub(crate) contents: Contents<'a, L, F, J, I>,
+    pub(crate) contents: ContentsOf<'a, L, Y>,
     /// What the lines of duplicates are written to.
     pub(crate) errors: PhantomData<E>,
 }
 
-impl<'a, S, L, F, J, I, E> Builder<S> for Building<'a, L, F, J, I, E>
+impl<'a, S, L, Y, E> Builder<S> for Building<'a, L, Y, E>
 where
     S: Store + Drop,
     L: Width,
-    F: Store + Drop,
-    J: Feeds + Drop,
-    I: Feeds + Drop,
+    Y: System,
     E: Sink,
 {
     type Fault = Fault;
 
     type Told = E;
 
-    type Back = Sources<F, J, I>;
+    type Back = SourcesOf<Y>;
 
-    ghost builds = { λ b back bytes. OfAgreeing J.feed I.feed b.contents.sources.inputs back.inputs
-        (λ inputs. IsDatabase F.Store (making_of L.WORD L.GREATEST b.contents inputs) back.base
-        bytes) };
+    ghost builds = { λ b back bytes.
+        OfAgreeing Y.Stream.feed Y.Input.feed b.contents.sources.inputs back.inputs (λ inputs.
+        IsDatabase Y.File.Store (making_of L.WORD L.GREATEST b.contents inputs) back.base bytes) };
 
     ghost fails = { λ _ old new fault. IsCaused fault (S.failures old) (S.failures new) };
 
     ghost tells = { λ b back told said images made.
-        OfAgreeing J.feed I.feed b.contents.sources.inputs back.inputs (λ inputs.
-        IsBufferedRun F.Store (making_of L.WORD L.GREATEST b.contents inputs) back.base images
+        OfAgreeing Y.Stream.feed Y.Input.feed b.contents.sources.inputs back.inputs (λ inputs.
+        IsBufferedRun Y.File.Store (making_of L.WORD L.GREATEST b.contents inputs) back.base images
         (E.contents told) (E.contents said) made)
         × AreInPlace b.contents.sources.inputs.readers.items back.inputs.readers.items
         × OutputSays (E.failed said) made };
 
     ghost gives_up = { λ b back. back ≡ b.contents.sources };
 
-    fn build(self, store: S, errors: &mut E) -> (S, Sources<F, J, I>, Result<(), Fault>) {
+    fn build(self, store: S, errors: &mut E) -> (S, SourcesOf<Y>, Result<(), Fault>) {
         let Building {
             alloc,
             contents,
@@ -99,7 +96,7 @@ where
         } = self;
         match BufferedStore::new(alloc, Unsynced::over(store), PIPE) {
             Ok(buffered) => {
-                let (buffered, read, made) = make_in::<L, BufferedStore<Unsynced<S>>, F, J, I, E>(
+                let (buffered, read, made) = make_in::<L, BufferedStore<Unsynced<S>>, Y, E>(
                     alloc, buffered, contents, errors,
                 );
                 (buffered.discard().into_inner(), read, made)
@@ -111,7 +108,7 @@ where
         }
     }
 
-    fn give_up(self) -> Sources<F, J, I> {
+    fn give_up(self) -> SourcesOf<Y> {
         let Building { contents, .. } = self;
         contents.into_sources()
     }

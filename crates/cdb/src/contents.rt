@@ -4,8 +4,8 @@ ghost use Rattle.cdb_form.specs.Format.Pair.{head_size};
 
 use cdb_form::Width;
 use cdb_show::Inputs;
-use cdb_system::Left;
-use cdb_tool::{Lines, RunOptions};
+use cdb_system::{Left, System};
+use cdb_tool::RunContext;
 use std::marker::PhantomData;
 
 /// The files and streams that a create reads, as they were opened or as they are handed back.
@@ -16,6 +16,13 @@ pub(crate) struct Sources<F, J, I> {
     /// The inputs, in their order.
     pub(crate) inputs: Inputs<J, I>,
 }
+
+/// Those of a create on a system.
+pub(crate) type SourcesOf<Y> = Sources<
+    <Y as System>::File,
+    <Y as System>::Stream,
+    <Y as System>::Input,
+>;
 
 impl<F: Drop, J: Drop, I: Drop> Sources<F, J, I> {
     ghost use Rattle.cdb.specs.Contents.{sources_left};
@@ -42,15 +49,22 @@ impl<F: Drop, J: Drop, I: Drop> Sources<F, J, I> {
 pub(crate) struct Contents<'a, L: Width, F, J, I> {
     /// What is read.
     pub(crate) sources: Sources<F, J, I>,
-    /// How it is made.
-    pub(crate) options: RunOptions<'a>,
-    /// The lines of the inputs.
-    pub(crate) lines: &'a Lines,
+    /// How it is made, and the lines of the inputs.
+    pub(crate) run: RunContext<'a>,
     /// The width of its words.
     pub(crate) width: PhantomData<L>,
-    ghost head: { head_size L.WORD ≤ options.make.limit },
-    ghost words: { options.make.limit ≤ L.GREATEST },
+    ghost head: { head_size L.WORD ≤ run.options.make.limit },
+    ghost words: { run.options.make.limit ≤ L.GREATEST },
 }
+
+/// What is made on a system.
+pub(crate) type ContentsOf<'a, L, Y> = Contents<
+    'a,
+    L,
+    <Y as System>::File,
+    <Y as System>::Stream,
+    <Y as System>::Input,
+>;
 
 impl<'a, L: Width, F: Drop, J: Drop, I: Drop> Contents<'a, L, F, J, I> {
     /// What is read, of which nothing was.

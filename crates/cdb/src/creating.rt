@@ -14,13 +14,13 @@ ghost use Rattle.cdb.specs.Contents.{making_of, wanted_of};
 
 use crate::base_head::see_base;
 use crate::building::make_in;
-use crate::contents::{Contents, Sources};
+use crate::contents::{Contents, ContentsOf, Sources, SourcesOf};
 use crate::placing::{make_in_place, replace_database};
-use cdb_form::{Feeds, Sink, Width, write_whole};
-use cdb_names::Names;
-use cdb_store::{MemStore, Store};
-use cdb_system::{Left, System, base_left, is_in_place, is_standard, open_base, open_inputs};
-use cdb_tool::{Fault, Lines, RunOptions, flushed};
+use crate::streams::Streams;
+use cdb_form::{Sink, Width, write_whole};
+use cdb_store::MemStore;
+use cdb_system::{Performed, System, base_left, is_in_place, is_standard, open_base, open_inputs};
+use cdb_tool::{Fault, RunContext, flushed};
 use std::alloc::{AllocError, Global};
 use std::marker::PhantomData;
 
@@ -35,10 +35,8 @@ pub(crate) struct Creation<'a> {
     pub(crate) inputs: &'a [String],
     /// The file in which the database is made; `None` is its name with `.tmp` after it.
     pub(crate) temporary: &'a Option<String>,
-    /// How it is made.
-    pub(crate) options: RunOptions<'a>,
-    /// The lines of its inputs.
-    pub(crate) lines: &'a Lines,
+    /// How it is made, and the lines of its inputs.
+    pub(crate) run: RunContext<'a>,
 }
 
 /// Makes a database, on standard output or under its name: in place, or in a temporary file. The
@@ -47,43 +45,42 @@ pub(crate) struct Creation<'a> {
 /// a file that was made in place. If all inputs were opened, their readers are handed back too, and
 /// standard input.
 #[inline(never)]
-pub(crate) fn create<L, Y, N, I, O, E>(
+pub(crate) fn create<L, Y, O, E>(
     alloc: Global,
     system: &mut Y,
-    names: &mut N,
+    names: &mut Y::Names,
     creation: Creation<'_>,
-    input: I,
-    output: &mut O,
-    errors: &mut E,
-) -> (Left<Y::File, Y::Made, Y::Stream, I>, Result<(), Fault>)
+    input: Y::Input,
+    streams: &mut Streams<O, E>,
+) -> Performed<Y>
 where
     L: Width,
     Y: System,
-    N: Names,
-    I: Feeds + Drop,
     O: Sink,
     E: Sink,
-    requires head { head_size L.WORD ≤ creation.options.make.limit }
-    requires words { creation.options.make.limit ≤ L.GREATEST }
+    requires head { head_size L.WORD ≤ creation.run.options.make.limit }
+    requires words { creation.run.options.make.limit ≤ L.GREATEST }
     ensures creates { Creates (files_of Y.File.Store Y.Made.Store Y.Stream.feed Y.System)
-        N.File.RawFile (wanted_of L.WORD L.GREATEST creation.entry) (standard_of I.feed input)
-        (state_of (Y.calls system.old) (N.calls names.old) (O.contents output.old)
-        (E.contents errors.old))
-        (state_of (Y.calls system.new) (N.calls names.new) (O.contents output.new)
-        (E.contents errors.new))
-        result.0 result.1 }
-    ensures output { OutputSays (O.failed output.new ⊎ E.failed errors.new) result.1 }
+        Y.Names.File.RawFile (wanted_of L.WORD L.GREATEST creation.entry)
+        (standard_of Y.Input.feed input)
+        (state_of (Y.calls system.old) (Y.Names.calls names.old) (O.contents streams.old.output)
+        (E.contents streams.old.errors))
+        (state_of (Y.calls system.new) (Y.Names.calls names.new) (O.contents streams.new.output)
+        (E.contents streams.new.errors)) result.0 result.1 }
+    ensures output { OutputSays (O.failed streams.new.output ⊎ E.failed streams.new.errors)
+        result.1 }
 {
-    let contents = match open_all::<L, Y, I>(alloc, system, creation, input) {
+    let contents = match open_all::<L, Y>(alloc, system, creation, input) {
         Ok(contents) => contents,
         Err(unopened) => return (base_left(unopened.base), Err(unopened.fault)),
     };
     if is_standard(creation.name) {
-        let (sources, made) = make_on_output::<L, _, _, I, O, E>(alloc, contents, output, errors);
+        let (sources, made) = make_on_output::<L, Y, O, E>(alloc, contents, streams);
         return (sources.into_left(None), made);
     }
     if is_in_place(creation.name, creation.temporary) {
-        return make_in_place::<L, Y, N, I, E>(alloc, system, names, creation, contents, errors);
+        let errors = &mut streams.errors;
+        return make_in_place::<L, Y, E>(alloc, system, names, creation, contents, errors);
     }
     let temporary = match temporary_name(alloc, creation.name, creation.temporary) {
         Ok(temporary) => temporary,
@@ -92,13 +89,13 @@ where
             Err(Fault::NoMemory),
         ),
     };
-    let (sources, made) = replace_database::<L, Y::File, Y::Stream, N, I, E>(
+    let (sources, made) = replace_database::<L, Y, E>(
         alloc,
         names,
         temporary.as_str(),
         creation,
         contents,
-        errors,
+        &mut streams.errors,
     );
     (sources.into_left(None), made)
 }
@@ -112,24 +109,23 @@ struct Unopened<F> {
 }
 
 /// Opens what is read: the base, whose head is looked at, and then all inputs.
-fn open_all<'a, L, Y, I>(
+fn open_all<'a, L, Y>(
     alloc: Global,
     system: &mut Y,
     creation: Creation<'a>,
-    input: I,
-) -> Result<Contents<'a, L, Y::File, Y::Stream, I>, Unopened<Y::File>>
+    input: Y::Input,
+) -> Result<ContentsOf<'a, L, Y>, Unopened<Y::File>>
 where
     L: Width,
     Y: System,
-    I: Feeds + Drop,
-    requires head { head_size L.WORD ≤ creation.options.make.limit }
-    requires words { creation.options.make.limit ≤ L.GREATEST }
+    requires head { head_size L.WORD ≤ creation.run.options.make.limit }
+    requires words { creation.run.options.make.limit ≤ L.GREATEST }
     ensures ok { IfOk result (λ c. OpensAll L.WORD
         (files_of Y.File.Store Y.Made.Store Y.Stream.feed Y.System)
         (option_map string_bytes creation.entry.base.now) (map string_bytes creation.entry.inputs.now)
         (Y.calls system.old) (Y.calls system.new) c.sources.base c.sources.inputs.readers.items) }
     ensures shared { IfOk result (λ c. c.sources.inputs.shared ≡ input) }
-    ensures options { IfOk result (λ c. c.options ≡ creation.entry.options) }
+    ensures options { IfOk result (λ c. c.run.options ≡ creation.entry.run.options) }
     ensures fails { IfErr result (λ u. NotOpened L.WORD
         (files_of Y.File.Store Y.Made.Store Y.Stream.feed Y.System)
         (option_map string_bytes creation.entry.base.now) (map string_bytes creation.entry.inputs.now)
@@ -144,11 +140,10 @@ where
     if let Err(fault) = seen {
         return Err(Unopened { base, fault });
     }
-    match open_inputs::<Y, I>(alloc, system, creation.inputs, input) {
+    match open_inputs::<Y>(alloc, system, creation.inputs, input) {
         Ok(inputs) => Ok(Contents {
             sources: Sources { base, inputs },
-            options: creation.options,
-            lines: creation.lines,
+            run: creation.run,
             width: PhantomData,
         }),
         Err(fault) => Err(Unopened { base, fault }),
@@ -157,31 +152,34 @@ where
 
 /// Makes it in memory and writes it. What was read is handed back.
 #[inline(never)]
-fn make_on_output<L, F, J, I, O, E>(
+fn make_on_output<L, Y, O, E>(
     alloc: Global,
-    contents: Contents<'_, L, F, J, I>,
-    output: &mut O,
-    errors: &mut E,
-) -> (Sources<F, J, I>, Result<(), Fault>)
+    contents: ContentsOf<'_, L, Y>,
+    streams: &mut Streams<O, E>,
+) -> (SourcesOf<Y>, Result<(), Fault>)
 where
     L: Width,
-    F: Store + Drop,
-    J: Feeds + Drop,
-    I: Feeds + Drop,
+    Y: System,
     O: Sink,
     E: Sink,
-    ensures makes { OfAgreeing J.feed I.feed contents.entry.sources.inputs result.0.inputs
-        (λ inputs. MakesOnOutput F.Store (making_of L.WORD L.GREATEST contents.entry inputs)
-        result.0.base (O.contents output.old) (O.contents output.new)
-        (E.contents errors.old) (E.contents errors.new) result.1) }
+    ensures makes { OfAgreeing Y.Stream.feed Y.Input.feed contents.entry.sources.inputs
+        result.0.inputs (λ inputs. MakesOnOutput Y.File.Store
+        (making_of L.WORD L.GREATEST contents.entry inputs)
+        result.0.base (O.contents streams.old.output) (O.contents streams.new.output)
+        (E.contents streams.old.errors) (E.contents streams.new.errors) result.1) }
     ensures placed { AreInPlace contents.entry.sources.inputs.readers.items
         result.0.inputs.readers.items }
-    ensures output { OutputSays (O.failed output.new ⊎ E.failed errors.new) result.1 }
+    ensures output { OutputSays (O.failed streams.new.output ⊎ E.failed streams.new.errors)
+        result.1 }
 {
-    let empty = MemStore::new(alloc);
-    let (store, sources, made) = make_in::<L, MemStore, F, J, I, E>(alloc, empty, contents, errors);
+    let (store, sources, made) = make_in::<L, MemStore, Y, E>(
+        alloc,
+        MemStore::new(alloc),
+        contents,
+        &mut streams.errors,
+    );
     match made {
-        Ok(()) => (sources, write_bytes(store.bytes(), output)),
+        Ok(()) => (sources, write_bytes(store.bytes(), &mut streams.output)),
         Err(fault) => (sources, Err(fault)),
     }
 }

@@ -8,7 +8,9 @@ mod creating;
 mod performing;
 mod placing;
 mod steps;
+mod streams;
 
+use crate::streams::Streams;
 use cdb_feed::NotedReader;
 use cdb_form::PIPE;
 use cdb_names::RealNames;
@@ -33,11 +35,7 @@ fn main(rt: HostRuntime) -> ExitCode {
     let seen = Seen::new();
     let status = match begun(&rt, &seen) {
         Ok(beginning) => {
-            let Beginning {
-                words,
-                mut output,
-                mut errors,
-            } = beginning;
+            let Beginning { words, mut streams } = beginning;
             let mut system = RealSystem::new(&rt, &seen);
             let mut names = RealNames::new(&rt);
             let input = NotedReader::over(SeenReader::input(
@@ -51,8 +49,7 @@ fn main(rt: HostRuntime) -> ExitCode {
                 &mut names,
                 words,
                 input,
-                &mut output,
-                &mut errors,
+                &mut streams,
             );
             status
         }
@@ -65,10 +62,8 @@ fn main(rt: HostRuntime) -> ExitCode {
 struct Beginning<'a> {
     /// The words of the command line.
     words: Vec<String>,
-    /// Standard output with its buffer.
-    output: Output<SeenWriter<'a, Stdout>>,
-    /// Standard error with its buffer, for the lines of duplicates.
-    errors: Output<SeenWriter<'a, Stderr>>,
+    /// The standard streams that are written, with their buffers.
+    streams: Streams<Output<SeenWriter<'a, Stdout>>, Output<SeenWriter<'a, Stderr>>>,
 }
 
 /// The words of the command line, and the standard streams that are written, with their buffers.
@@ -76,8 +71,10 @@ fn begun<'a>(rt: &HostRuntime, seen: &'a Seen) -> Result<Beginning<'a>, Usage> {
     let alloc = rt.alloc();
     Ok(Beginning {
         words: words_of(rt)?,
-        output: Output::new(alloc, SeenWriter::output(rt.stdout(), seen), PIPE)?,
-        errors: Output::new(alloc, SeenWriter::errors(rt.stderr(), seen), LINES)?,
+        streams: Streams {
+            output: Output::new(alloc, SeenWriter::output(rt.stdout(), seen), PIPE)?,
+            errors: Output::new(alloc, SeenWriter::errors(rt.stderr(), seen), LINES)?,
+        },
     })
 }
 

@@ -10,11 +10,16 @@ ghost use Rattle.cdb_system.specs.Reading.{Tells};
 ghost use Rattle.cdb_system.specs.State.{standard_of, state_of};
 
 use crate::creating::{Creation, create};
+use crate::streams::Streams;
 use cdb_form::{Feeds, Sink, Width};
 use cdb_names::Names;
-use cdb_system::{Left, System, check, difference, lookups, none_left, query, stats, text};
+use cdb_system::{
+    FileText, KeyLookups, Performed, Request, System, check, difference, lookups, none_left, query,
+    stats, text,
+};
 use cdb_tool::{
-    Command, Content, Fault, Lines, MakeOptions, RunOptions, flushed, write_usage, write_version,
+    Command, Content, Fault, Lines, LookupOptions, MakeOptions, RunContext, RunOptions, flushed,
+    write_usage, write_version,
 };
 use std::alloc::Global;
 
@@ -50,76 +55,94 @@ fn shown_options<'a>(lines: &Lines, inputs: &'a [String], options: MakeOptions) 
 
 /// Performs a command, with words as wide as `L` says, and hands back what it leaves open. If lines
 /// are counted, duplicates are explained.
-pub(crate) fn perform_in<L, Y, N, I, O, E>(
+pub(crate) fn perform_in<L, Y, O, E>(
     alloc: Global,
     system: &mut Y,
-    names: &mut N,
-    command: &Command,
-    lines: &Lines,
-    input: I,
-    output: &mut O,
-    errors: &mut E,
-) -> (Left<Y::File, Y::Made, Y::Stream, I>, Result<(), Fault>)
+    names: &mut Y::Names,
+    request: Request<'_>,
+    input: Y::Input,
+    streams: &mut Streams<O, E>,
+) -> Performed<Y>
 where
     L: Width,
     Y: System,
-    N: Names,
-    I: Feeds + Drop,
     O: Sink,
     E: Sink,
-    requires { FitsIn (head_size L.WORD) L.GREATEST (asked_in command.now) }
+    requires { FitsIn (head_size L.WORD) L.GREATEST (asked_in request.command.now) }
     ensures performs { Performs L.WORD L.GREATEST
-        (files_of Y.File.Store Y.Made.Store Y.Stream.feed Y.System) N.File.RawFile lines.now.counts
-        (asked_in command.now) (standard_of I.feed input)
-        (state_of system.old (N.calls names.old) (O.contents output.old) (E.contents errors.old))
-        (state_of system.new (N.calls names.new) (O.contents output.new) (E.contents errors.new))
-        result.0 result.1 }
-    ensures silent { IsUntouched (asked_in command.now)
-        (E.contents errors.old) (E.contents errors.new) }
-    ensures same { IsUntouched (asked_in command.now) (N.calls names.old) (N.calls names.new) }
-    ensures output { OutputSays (O.failed output.new ⊎ E.failed errors.new) result.1 }
+        (files_of Y.File.Store Y.Made.Store Y.Stream.feed Y.System) Y.Names.File.RawFile
+        request.entry.lines.now.counts (asked_in request.entry.command.now)
+        (standard_of Y.Input.feed input)
+        (state_of system.old (Y.Names.calls names.old) (O.contents streams.old.output)
+        (E.contents streams.old.errors))
+        (state_of system.new (Y.Names.calls names.new) (O.contents streams.new.output)
+        (E.contents streams.new.errors)) result.0 result.1 }
+    ensures silent { IsUntouched (asked_in request.entry.command.now)
+        (E.contents streams.old.errors) (E.contents streams.new.errors) }
+    ensures same { IsUntouched (asked_in request.entry.command.now)
+        (Y.Names.calls names.old) (Y.Names.calls names.new) }
+    ensures output { OutputSays (O.failed streams.new.output ⊎ E.failed streams.new.errors)
+        result.1 }
 {
-    match command {
+    match request.command {
         Command::Query {
             name,
             key,
             number,
             lines,
             ..
-        } => query::<L, Y, I, O>(system, name.as_str(), key.as_str(), *number, *lines, output),
+        } => query::<L, Y, O>(
+            system,
+            name.as_str(),
+            key.as_str(),
+            *number,
+            *lines,
+            &mut streams.output,
+        ),
         Command::Lookups {
             name,
             inputs,
             number,
             style,
             ..
-        } => lookups::<L, Y, I, O>(
-            alloc,
-            system,
-            name.as_str(),
-            inputs.as_slice(),
-            *number,
-            *style,
-            lines,
-            input,
-            output,
-        ),
+        } => {
+            let (number, style) = (*number, *style);
+            let wanted = KeyLookups {
+                name: name.as_str(),
+                inputs: inputs.as_slice(),
+                options: LookupOptions { number, style },
+                lines: request.lines,
+            };
+            lookups::<L, Y, O>(alloc, system, wanted, input, &mut streams.output)
+        }
         Command::Dump { name, style, .. } => {
-            let content = Content::Records;
-            text::<L, Y, I, O>(alloc, system, content, name, *style, input, output)
+            let (content, style) = (Content::Records, *style);
+            let wanted = FileText {
+                content,
+                name,
+                style,
+            };
+            text::<L, Y, O>(alloc, system, wanted, input, &mut streams.output)
         }
         Command::List { name, style, .. } => {
-            let content = Content::Keys;
-            text::<L, Y, I, O>(alloc, system, content, name, *style, input, output)
+            let (content, style) = (Content::Keys, *style);
+            let wanted = FileText {
+                content,
+                name,
+                style,
+            };
+            text::<L, Y, O>(alloc, system, wanted, input, &mut streams.output)
         }
-        Command::Stats { name, .. } => { stats::<L, Y, I, O>(alloc, system, name, input, output) }
-        Command::Check { name, .. } => check::<L, Y, I>(alloc, system, name, input),
-        Command::Difference { old, new, .. } => difference::<L, Y, I, O>(
+        Command::Stats { name, .. } => {
+            stats::<L, Y, O>(alloc, system, name, input, &mut streams.output)
+        }
+        Command::Check { name, .. } => check::<L, Y>(alloc, system, name, input),
+        Command::Difference { old, new, .. } => difference::<L, Y, O>(
             alloc,
             system,
             old.as_str(),
             new.as_str(),
-            output,
+            &mut streams.output,
         ),
         Command::Create {
             name,
@@ -134,12 +157,14 @@ where
                 base,
                 inputs: inputs.as_slice(),
                 temporary,
-                options: shown_options(lines, inputs.as_slice(), *options),
-                lines,
+                run: RunContext {
+                    options: shown_options(request.lines, inputs.as_slice(), *options),
+                    lines: request.lines,
+                },
             };
-            create::<L, Y, N, I, O, E>(alloc, system, names, creation, input, output, errors)
+            create::<L, Y, O, E>(alloc, system, names, creation, input, streams)
         }
-        Command::Help => (none_left(), help(output)),
-        Command::Version => (none_left(), version(output)),
+        Command::Help => (none_left(), help(&mut streams.output)),
+        Command::Version => (none_left(), version(&mut streams.output)),
     }
 }

@@ -17,14 +17,14 @@ ghost use Rattle.cdb_names.specs.declared.name_trace.NameCall.TheVariants.{Input
 ghost use Rattle.cdb.specs.Contents.{making_of, wanted_of};
 
 use crate::building::Building;
-use crate::contents::{Contents, Sources};
+use crate::contents::{ContentsOf, SourcesOf};
 use crate::creating::Creation;
-use cdb_form::{Feeds, Sink, Width};
+use cdb_form::{Sink, Width};
 use cdb_make::MakeFault;
 use cdb_names::{Answer, Builder, Lock, Names, ReplaceFault, replace_file};
 use cdb_show::Inputs;
 use cdb_store::Store;
-use cdb_system::{HYPHEN, Left, System, is_standard};
+use cdb_system::{HYPHEN, Performed, System, is_standard};
 use cdb_tool::Fault;
 use std::alloc::Global;
 use std::marker::PhantomData;
@@ -168,28 +168,26 @@ fn named(has_file: Answer) -> Result<(), Fault>
 ///
 /// What was read is handed back, and the file if it was opened.
 #[inline(never)]
-pub(crate) fn make_in_place<L, Y, N, I, E>(
+pub(crate) fn make_in_place<L, Y, E>(
     alloc: Global,
     system: &mut Y,
-    names: &mut N,
+    names: &mut Y::Names,
     creation: Creation<'_>,
-    contents: Contents<'_, L, Y::File, Y::Stream, I>,
+    contents: ContentsOf<'_, L, Y>,
     errors: &mut E,
-) -> (Left<Y::File, Y::Made, Y::Stream, I>, Result<(), Fault>)
+) -> Performed<Y>
 where
     L: Width,
     Y: System,
-    N: Names,
-    I: Feeds + Drop,
     E: Sink,
-    ensures makes { (handed : Inputs Y.Stream I) × HandsInputs contents.entry.sources.inputs
+    ensures makes { (handed : Inputs Y.Stream Y.Input) × HandsInputs contents.entry.sources.inputs
         handed result.0 × ((output : Option (List ℕ))
-        → OfAgreeing Y.Stream.feed I.feed contents.entry.sources.inputs handed (λ inputs.
+        → OfAgreeing Y.Stream.feed Y.Input.feed contents.entry.sources.inputs handed (λ inputs.
         MakesInPlace (files_of Y.File.Store Y.Made.Store Y.Stream.feed Y.System)
         (making_of L.WORD L.GREATEST contents.entry inputs)
         (wanted_of L.WORD L.GREATEST creation.entry)
-        (state_of (Y.calls system.old) (N.calls names.old) output (E.contents errors.old))
-        (state_of (Y.calls system.new) (N.calls names.new) output (E.contents errors.new))
+        (state_of (Y.calls system.old) (Y.Names.calls names.old) output (E.contents errors.old))
+        (state_of (Y.calls system.new) (Y.Names.calls names.new) output (E.contents errors.new))
         result.0 result.1)) }
     ensures opens { OpensNoMore (Y.calls system.old) (Y.calls system.new) }
     ensures output { OutputSays (E.failed errors.new) result.1 }
@@ -201,7 +199,7 @@ where
         Ok(store) => store,
         Err(fault) => return (contents.into_sources().into_left(None), Err(fault)),
     };
-    let building = Building::<L, Y::File, Y::Stream, I, E> {
+    let building = Building::<L, Y, E> {
         alloc,
         contents,
         errors: PhantomData,
@@ -245,27 +243,25 @@ where
 /// does, nothing is removed and the call fails. What was read is handed back, also if nothing was
 /// built.
 #[inline(never)]
-pub(crate) fn replace_database<L, F, J, N, I, E>(
+pub(crate) fn replace_database<L, Y, E>(
     alloc: Global,
-    names: &mut N,
+    names: &mut Y::Names,
     temporary: &str,
     creation: Creation<'_>,
-    contents: Contents<'_, L, F, J, I>,
+    contents: ContentsOf<'_, L, Y>,
     errors: &mut E,
-) -> (Sources<F, J, I>, Result<(), Fault>)
+) -> (SourcesOf<Y>, Result<(), Fault>)
 where
     L: Width,
-    F: Store + Drop,
-    J: Feeds + Drop,
-    N: Names,
-    I: Feeds + Drop,
+    Y: System,
     E: Sink,
     ensures replaces { (opened : OpenCalls) (output : Option (List ℕ))
-        → OfAgreeing J.feed I.feed contents.entry.sources.inputs result.0.inputs (λ inputs.
-        MakesApart F.Store N.File.RawFile (making_of L.WORD L.GREATEST contents.entry inputs)
+        → OfAgreeing Y.Stream.feed Y.Input.feed contents.entry.sources.inputs result.0.inputs
+        (λ inputs. MakesApart Y.File.Store Y.Names.File.RawFile
+        (making_of L.WORD L.GREATEST contents.entry inputs)
         temporary.now (wanted_of L.WORD L.GREATEST creation.entry)
-        (state_of opened (N.calls names.old) output (E.contents errors.old))
-        (state_of opened (N.calls names.new) output (E.contents errors.new))
+        (state_of opened (Y.Names.calls names.old) output (E.contents errors.old))
+        (state_of opened (Y.Names.calls names.new) output (E.contents errors.new))
         result.0.base result.1) }
     ensures placed { AreInPlace contents.entry.sources.inputs.readers.items
         result.0.inputs.readers.items }
@@ -274,12 +270,12 @@ where
     if may_be_read(names, temporary, creation) {
         return (contents.into_sources(), Err(Fault::Open));
     }
-    let building = Building::<L, F, J, I, E> {
+    let building = Building::<L, Y, E> {
         alloc,
         contents,
         errors: PhantomData,
     };
-    let (sources, answer) = replace_file::<N, Building<'_, L, F, J, I, E>>(
+    let (sources, answer) = replace_file::<Y::Names, Building<'_, L, Y, E>>(
         names,
         creation.name,
         temporary,

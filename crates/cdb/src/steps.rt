@@ -10,81 +10,81 @@ ghost use Rattle.cdb.specs.Running.{Answers, IsRun, given_by, world_of};
 ghost use Rattle.cdb_system.specs.State.{given_of, standard_of, state_of};
 
 use crate::performing::perform_in;
+use crate::streams::Streams;
 use cdb_form::{Feeds, Narrow, Sink, Wide};
 use cdb_names::Names;
-use cdb_system::{Left, Reason, System, none_left, reason_of, refuse, tell};
+use cdb_system::{LeftOf, Performed, Reason, Request, System, none_left, reason_of, refuse, tell};
 use cdb_tool::{Command, DONE, Fault, Lines, Output, explains, plan_explained, status_of};
 use std::alloc::Global;
 use std::io::Write;
 
 /// Does what the words request, of which the first is the program's name, hands back what it leaves
 /// open, and answers the exit status. A fault has its line on `errors`, unless that fails.
-pub(crate) fn run<Y, N, I, O, E>(
+pub(crate) fn run<Y, O, E>(
     alloc: Global,
     system: &mut Y,
-    names: &mut N,
+    names: &mut Y::Names,
     words: Vec<String>,
-    input: I,
-    output: &mut Output<O>,
-    errors: &mut Output<E>,
-) -> (Left<Y::File, Y::Made, Y::Stream, I>, u8)
+    input: Y::Input,
+    streams: &mut Streams<Output<O>, Output<E>>,
+) -> (LeftOf<Y>, u8)
 where
     Y: System,
-    N: Names,
-    I: Feeds + Drop,
     O: Write,
     E: Write,
     ensures { IsRun (files_of Y.File.Store Y.Made.Store Y.Stream.feed Y.System)
-        N.File.RawFile (given_by (map string_bytes words.items) (standard_of I.feed input))
-        (world_of system.old (N.calls names.old) output.old errors.old)
-        (world_of system.new (N.calls names.new) output.new errors.new) result.0 result.1 }
+        Y.Names.File.RawFile
+        (given_by (map string_bytes words.items) (standard_of Y.Input.feed input))
+        (world_of system.old (Y.Names.calls names.old) streams.old)
+        (world_of system.new (Y.Names.calls names.new) streams.new) result.0 result.1 }
 {
-    let (left, status) = answer::<Y, N, I, O, E>(
-        alloc, system, names, words, input, output, errors,
-    );
-    let _ = errors.flush_whole();
+    let (left, status) = answer::<Y, O, E>(alloc, system, names, words, input, streams);
+    let _ = streams.errors.flush_whole();
     (left, status)
 }
 
 /// Does what the words request, and answers the exit status. What is said stays where `errors`
 /// holds it.
-fn answer<Y, N, I, O, E>(
+fn answer<Y, O, E>(
     alloc: Global,
     system: &mut Y,
-    names: &mut N,
+    names: &mut Y::Names,
     words: Vec<String>,
-    input: I,
-    output: &mut Output<O>,
-    errors: &mut Output<E>,
-) -> (Left<Y::File, Y::Made, Y::Stream, I>, u8)
+    input: Y::Input,
+    streams: &mut Streams<Output<O>, Output<E>>,
+) -> (LeftOf<Y>, u8)
 where
     Y: System,
-    N: Names,
-    I: Feeds + Drop,
     O: Write,
     E: Write,
     ensures { Answers (files_of Y.File.Store Y.Made.Store Y.Stream.feed Y.System)
-        N.File.RawFile (given_by (map string_bytes words.items) (standard_of I.feed input))
-        (world_of system.old (N.calls names.old) output.old errors.old)
-        (world_of system.new (N.calls names.new) output.new errors.new) result.0 result.1 }
+        Y.Names.File.RawFile
+        (given_by (map string_bytes words.items) (standard_of Y.Input.feed input))
+        (world_of system.old (Y.Names.calls names.old) streams.old)
+        (world_of system.new (Y.Names.calls names.new) streams.new) result.0 result.1 }
 {
     let is_explained = explains(words.as_slice());
     let command = match plan_explained(alloc, words.as_slice()) {
         Ok(command) => command,
-        Err(fault) => return (none_left(), refuse(&fault, is_explained, errors)),
+        Err(fault) => return (
+            none_left(),
+            refuse(&fault, is_explained, &mut streams.errors),
+        ),
     };
     let lines = Lines::new(is_explained);
-    let (left, performed) = perform::<Y, N, I, O, Output<E>>(
-        alloc, system, names, &command, &lines, input, output, errors,
+    let request = Request {
+        command: &command,
+        lines: &lines,
+    };
+    let (left, performed) = perform::<Y, O, Output<E>>(
+        alloc, system, names, request, input, streams,
     );
     match performed {
         Ok(()) => (left, DONE),
         Err(fault) => {
-            let unwritten = output.has_failed();
-            let reason = cause_of::<Y, N, I>(
-                &lines, &command, &fault, system, names, &left, unwritten,
-            );
-            tell(&fault, &reason, errors);
+            let unwritten = streams.output.has_failed();
+            let reason = cause_of::<Y>(request, &fault, system, names, &left, unwritten);
+            tell(&fault, &reason, &mut streams.errors);
             (left, status_of(&command, &fault))
         }
     }
@@ -94,68 +94,62 @@ where
 /// output failed.
 #[cold]
 #[inline(never)]
-fn cause_of<'a, Y, N, I>(
-    lines: &Lines,
-    command: &'a Command,
+fn cause_of<'a, Y>(
+    request: Request<'a>,
     fault: &Fault,
     system: &'a Y,
-    names: &'a N,
-    left: &Left<Y::File, Y::Made, Y::Stream, I>,
+    names: &'a Y::Names,
+    left: &LeftOf<Y>,
     unwritten: bool,
 ) -> Option<Reason<'a>>
 where
     Y: System,
-    N: Names,
-    ensures { Explains lines.now.counts (asked_in command.now) (Err fault.now) (unwritten ≡ true)
-        (Y.calls system.now) (N.calls names.now) (more_of result) }
+    ensures { Explains request.entry.lines.now.counts (asked_in request.entry.command.now)
+        (Err fault.now) (unwritten ≡ true) (Y.calls system.now) (Y.Names.calls names.now)
+        (more_of result) }
 {
-    if !lines.counts {
+    if !request.lines.counts {
         return None;
     }
-    reason_of::<Y, N, I>(command, fault, lines, system, names, left, unwritten)
+    reason_of::<Y>(request, fault, system, names, left, unwritten)
 }
 
 /// Performs a command, in its width. If lines are counted, duplicates are explained.
-fn perform<Y, N, I, O, E>(
+fn perform<Y, O, E>(
     alloc: Global,
     system: &mut Y,
-    names: &mut N,
-    command: &Command,
-    lines: &Lines,
-    input: I,
-    output: &mut Output<O>,
-    errors: &mut E,
-) -> (Left<Y::File, Y::Made, Y::Stream, I>, Result<(), Fault>)
+    names: &mut Y::Names,
+    request: Request<'_>,
+    input: Y::Input,
+    streams: &mut Streams<Output<O>, E>,
+) -> Performed<Y>
 where
     Y: System,
-    N: Names,
-    I: Feeds + Drop,
     O: Write,
     E: Sink,
-    requires { IsInRange (asked_in command.now) }
+    requires { IsInRange (asked_in request.command.now) }
     ensures does { Does (files_of Y.File.Store Y.Made.Store Y.Stream.feed Y.System)
-        N.File.RawFile (given_of (asked_in command.now) lines.now.counts (standard_of I.feed input))
-        (state_of system.old (N.calls names.old) (output_bytes output.old)
-        (E.contents errors.old))
-        (state_of system.new (N.calls names.new) (writer_bytes output.new)
-        (E.contents errors.new)) result.0 (OutputFailed output.new) result.1 }
-    ensures silent { IsUntouched (asked_in command.now)
-        (E.contents errors.old) (E.contents errors.new) }
-    ensures same { IsUntouched (asked_in command.now) (N.calls names.old) (N.calls names.new) }
-    ensures handed { HasHandedOn output.new }
-    ensures output { OutputSays (OutputFailed output.new ⊎ E.failed errors.new) result.1 }
+        Y.Names.File.RawFile (given_of (asked_in request.entry.command.now)
+        request.entry.lines.now.counts (standard_of Y.Input.feed input))
+        (state_of system.old (Y.Names.calls names.old) (output_bytes streams.old.output)
+        (E.contents streams.old.errors))
+        (state_of system.new (Y.Names.calls names.new) (writer_bytes streams.new.output)
+        (E.contents streams.new.errors)) result.0 (OutputFailed streams.new.output) result.1 }
+    ensures silent { IsUntouched (asked_in request.entry.command.now)
+        (E.contents streams.old.errors) (E.contents streams.new.errors) }
+    ensures same { IsUntouched (asked_in request.entry.command.now)
+        (Y.Names.calls names.old) (Y.Names.calls names.new) }
+    ensures handed { HasHandedOn streams.new.output }
+    ensures output { OutputSays (OutputFailed streams.new.output ⊎ E.failed streams.new.errors)
+        result.1 }
 {
-    let performed = if is_wide(command) {
-        perform_in::<Wide, Y, N, I, Output<O>, E>(
-            alloc, system, names, command, lines, input, output, errors,
-        )
+    let performed = if is_wide(request.command) {
+        perform_in::<Wide, Y, Output<O>, E>(alloc, system, names, request, input, streams)
     } else {
-        perform_in::<Narrow, Y, N, I, Output<O>, E>(
-            alloc, system, names, command, lines, input, output, errors,
-        )
+        perform_in::<Narrow, Y, Output<O>, E>(alloc, system, names, request, input, streams)
     };
     let (left, answer) = performed;
-    (left, handed_on(output, answer))
+    (left, handed_on(&mut streams.output, answer))
 }
 
 /// Hands on what the output of a command still holds, after a fault too. A flush that fails is

@@ -8,8 +8,8 @@ returns-clause-runs g c =
     record {
       hands = run.hands;
       base_failed = run.base_failed;
-      runs = runs_agreeing g.L.Width.WORD g.L.Width.GREATEST _ g.J.Feeds.feed g.I.Feeds.feed g.F.Store _ _ _ _ _ _ _ _ run.runs each bytes agree;
+      runs = runs_agreeing g.L.Width.WORD g.L.Width.GREATEST _ g.Y.Stream.Feeds.feed g.Y.Input.Feeds.feed g.Y.File.Store _ _ _ _ _ _ _ _ run.runs each bytes agree;
     }
 
 pub returns-clause-placed : goal.returns-clause-placed
-returns-clause-placed g c = run_placed g.L.Width.WORD g.L.Width.GREATEST _ g.J.Feeds.feed g.I.Feeds.feed g.F.Store _ _ _ _ _ _ _ _ c.make_run_from-store.ensures.runs
+returns-clause-placed g c = run_placed g.L.Width.WORD g.L.Width.GREATEST _ g.Y.Stream.Feeds.feed g.Y.Input.Feeds.feed g.Y.File.Store _ _ _ _ _ _ _ _ c.make_run_from-store.ensures.runs

@@ -5,6 +5,10 @@ use Rattle.cdb.proofs.creating.create.Goals as goal
 pub returns-in-Err-clause-output : goal.returns-in-Err-clause-output
 returns-in-Err-clause-output g c = says_more (Err c.in-Err.unopened.fault) (λ none. absurd none) c.in-Err.ensures.output
 
+pub returns-in-Err-clause-creates : goal.returns-in-Err-clause-creates
+returns-in-Err-clause-creates g c =
+    rw c.base_left.ensures (inl (c.in-Err.unopened.fault, refl, c.in-Err.ensures.fails, refl, refl, Keeps-refl _, Keeps-refl _))
+
 pub returns-then-is_standard-clause-creates : goal.returns-then-is_standard-clause-creates
 returns-then-is_standard-clause-creates g c =
     let contents = c.in-Ok.contents in
@@ -37,7 +41,7 @@ returns-then-is_in_place-clause-creates g c =
         handed = makes.0;
         hands = makes.1;
         opens = c.make_in_place.ensures.opens;
-        does = λ each bytes agree. inr (search rules, Keeps-refl _, inl (search rules, rw c.in-Ok.ensures.options at (makes.2 (g.O.Sink.contents c.args.output.now) each bytes agree)));
+        does = λ each bytes agree. inr (search rules, Keeps-refl _, inl (search rules, rw c.in-Ok.ensures.options at (makes.2 (g.O.Sink.contents c.args.streams.now.output) each bytes agree)));
       },
     )
 
@@ -73,7 +77,7 @@ returns-clause-creates g c =
         hands = hands_left sources c.into_left-2.result _ contents.sources.inputs c.into_left-2.ensures c.replace_database-sources.ensures.placed;
         opens = opens_nothing _ _ refl;
         does = λ each bytes agree.
-            (let made = rw c.in-Ok-temporary_name.ensures at (rw c.as_str.ensures.value at (rw c.in-Ok.ensures.options at (c.replace_database-sources.ensures.replaces (g.Y.System.calls c.open_all.new.system) (g.O.Sink.contents c.args.output.now) each bytes agree))) in
+            (let made = rw c.in-Ok-temporary_name.ensures at (rw c.as_str.ensures.value at (rw c.in-Ok.ensures.options at (c.replace_database-sources.ensures.replaces (g.Y.System.calls c.open_all.new.system) (g.O.Sink.contents c.args.streams.now.output) each bytes agree))) in
             rw c.into_left-2.ensures (inr (search rules, Keeps-refl _, inr (search rules, refl, record { read = refl; other = refl; made = refl }, inr made))));
       },
     )

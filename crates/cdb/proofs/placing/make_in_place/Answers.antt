@@ -42,7 +42,7 @@ returns-clause-makes g c =
                 synced = c.synced-flushed.result;
                 syncs = c.synced-flushed.ensures;
                 has = database_synced g.Y.File.Store g.Y.Made.Store (making_of g.L.Width.WORD g.L.Width.GREATEST c.args.contents (inputs_of each bytes)) sources.base built last made c.synced-flushed.result c.synced-flushed.ensures
-                    (built_of_one g.Y.Stream.Feeds.feed g.I.Feeds.feed c.args.contents.sources.inputs sources.inputs (λ inputs b. IsDatabase g.Y.File.Store (making_of g.L.Width.WORD g.L.Width.GREATEST c.args.contents inputs) sources.base b) (g.Y.Made.Store.image built) made each bytes agree c.build-store.ensures.built);
+                    (built_of_one g.Y.Stream.Feeds.feed g.Y.Input.Feeds.feed c.args.contents.sources.inputs sources.inputs (λ inputs b. IsDatabase g.Y.File.Store (making_of g.L.Width.WORD g.L.Width.GREATEST c.args.contents inputs) sources.base b) (g.Y.Made.Store.image built) made each bytes agree c.build-store.ensures.built);
                 named = c.kept-answer.ensures;
               },
             ),

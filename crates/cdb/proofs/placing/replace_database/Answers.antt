@@ -11,7 +11,7 @@ returns-clause-replaces g c =
     let sources = c.replace_file-sources.result.0 in
     let answer = c.replace_file-sources.result.1 in
     λ opened output each bytes agree. inr (
-      g.N.Names.calls c.may_be_read.new.names,
+      g.Y.Names.Names.calls c.may_be_read.new.names,
       c.may_be_read.ensures.others (search rules),
       record {
         answer = answer;
@@ -25,7 +25,7 @@ returns-clause-replaces g c =
         renamed = e.renames_ok;
         unrenamed = e.renames_err;
         build = e.build;
-        lines = of_contents g.J.Feeds.feed g.I.Feeds.feed g.E.Sink.contents g.E.Sink.failed g.F.Store g.N.File.RawFile (making_of g.L.Width.WORD g.L.Width.GREATEST c.args.contents) c.args.contents.sources _ _ _ _ sources _ _ answer each bytes refl agree e.told;
+        lines = of_contents g.Y.Stream.Feeds.feed g.Y.Input.Feeds.feed g.E.Sink.contents g.E.Sink.failed g.Y.File.Store g.Y.Names.File.RawFile (making_of g.L.Width.WORD g.L.Width.GREATEST c.args.contents) c.args.contents.sources _ _ _ _ sources _ _ answer each bytes refl agree e.told;
       },
     )
 
@@ -34,8 +34,8 @@ returns-then-may_be_read-clause-placed g c = rw c.into_sources.ensures (same_pla
 
 pub returns-clause-placed : goal.returns-clause-placed
 returns-clause-placed g c =
-    told_placed g.J.Feeds.feed g.I.Feeds.feed g.E.Sink.contents g.E.Sink.failed g.F.Store g.N.File.RawFile (making_of g.L.Width.WORD g.L.Width.GREATEST c.args.contents) c.args.contents.sources _ _ _ _ c.replace_file-sources.result.0 _ _ c.replace_file-sources.result.1 c.replace_file-sources.ensures.told
+    told_placed g.Y.Stream.Feeds.feed g.Y.Input.Feeds.feed g.E.Sink.contents g.E.Sink.failed g.Y.File.Store g.Y.Names.File.RawFile (making_of g.L.Width.WORD g.L.Width.GREATEST c.args.contents) c.args.contents.sources _ _ _ _ c.replace_file-sources.result.0 _ _ c.replace_file-sources.result.1 c.replace_file-sources.ensures.told
 
 pub returns-clause-output : goal.returns-clause-output
 returns-clause-output g c =
-    rw c.answer_to_program.ensures (replaced_says g.E.Sink.failed g.N.File.RawFile _ (Tells g.J.Feeds.feed g.I.Feeds.feed g.E.Sink.contents g.E.Sink.failed g.F.Store g.N.File.RawFile (making_of g.L.Width.WORD g.L.Width.GREATEST c.args.contents) c.args.contents.sources) _ _ _ _ c.replace_file-sources.result.0 _ _ c.replace_file-sources.result.1 (λ images made told. told.2) c.replace_file-sources.ensures.told)
+    rw c.answer_to_program.ensures (replaced_says g.E.Sink.failed g.Y.Names.File.RawFile _ (Tells g.Y.Stream.Feeds.feed g.Y.Input.Feeds.feed g.E.Sink.contents g.E.Sink.failed g.Y.File.Store g.Y.Names.File.RawFile (making_of g.L.Width.WORD g.L.Width.GREATEST c.args.contents) c.args.contents.sources) _ _ _ _ c.replace_file-sources.result.0 _ _ c.replace_file-sources.result.1 (λ images made told. told.2) c.replace_file-sources.ensures.told)

@@ -17,7 +17,7 @@ returns-in-Err g c = record {
     untouched = refl;
     none = c.none_left.ensures;
     same = refl;
-    kept = Keeps-refl (output_bytes c.args.output.now);
+    kept = Keeps-refl (output_bytes c.args.streams.now.output);
     is_status = c.refuse.ensures.status;
   });
 }
@@ -29,14 +29,14 @@ returns-in-Ok-performed g c = record {
     command = c.in-Ok.command;
     asks = rw c.as_slice-2.ensures.value at c.in-Ok.ensures.exact;
     result = Ok c.in-Ok-performed.field-0;
-    before = output_bytes c.perform-left.new.errors;
+    before = output_bytes c.perform-left.new.streams.errors;
     does = rw c.as_slice.ensures.value at (rw c.explains-is_explained.ensures at (rw c.new-lines.ensures at (rw c.in-Ok-performed.is at c.perform-left.ensures.does)));
     output = tt;
     silent = c.perform-left.ensures.silent;
     same = c.perform-left.ensures.same;
     more = [];
     explains = none_said _ _ _ _ _ _;
-    says = Keeps-refl (output_bytes c.perform-left.new.errors);
+    says = Keeps-refl (output_bytes c.perform-left.new.streams.errors);
     is_status = refl;
   });
 }
@@ -48,7 +48,7 @@ returns g c = record {
     command = c.in-Ok.command;
     asks = rw c.as_slice-2.ensures.value at c.in-Ok.ensures.exact;
     result = Err c.in-Err-performed.fault;
-    before = output_bytes c.perform-left.new.errors;
+    before = output_bytes c.perform-left.new.streams.errors;
     does = rw c.as_slice.ensures.value at (rw c.explains-is_explained.ensures at (rw c.new-lines.ensures at (rw c.in-Err-performed.is at c.perform-left.ensures.does)));
     output = says_more (Err c.in-Err-performed.fault) (λ failed. elim failed [ inl output ↦ inl output | inr errors ↦ inr (c.tell.ensures.stays errors) ]) (rw c.in-Err-performed.is at c.perform-left.ensures.output);
     silent = c.perform-left.ensures.silent;

@@ -6,15 +6,15 @@ use Rattle.cdb_system.specs.State.{given_of, standard_of, state_of}
 
 pub returns-clause-does : goal.returns-clause-does
 returns-clause-does g c = record {
-  end = output_bytes c.if-is_wide.output;
+  end = output_bytes c.if-is_wide.streams.output;
   answer = c.if-is_wide.performed.1;
   performs = elim c.if-is_wide.branch [
     | then-is_wide w ↦
-        (let wide : true ≡ has_wide_words (asked_in c.args.command.now) = sym w.if-is_wide.true ∙ c.is_wide.ensures in
-        rw w.system-is (rw w.names-is (rw w.errors-is (rw w.output-is (rw w.performed-is (subst (λ b. PerformsIn b (files_of g.Y.File.Store g.Y.Made.Store g.Y.Stream.Feeds.feed g.Y.System) g.N.File.RawFile (given_of (asked_in c.args.command.now) c.args.lines.now.counts (standard_of g.I.Feeds.feed c.args.input)) (state_of c.args.system.now (g.N.Names.calls c.args.names.now) (output_bytes c.args.output.now) (g.E.Sink.contents c.args.errors.now)) (state_of w.perform_in-performed.new.system (g.N.Names.calls w.perform_in-performed.new.names) (output_bytes w.perform_in-performed.new.output) (g.E.Sink.contents w.perform_in-performed.new.errors)) w.perform_in-performed.result.0 w.perform_in-performed.result.1) wide w.perform_in-performed.ensures.performs))))))
+        (let wide : true ≡ has_wide_words (asked_in c.args.request.command.now) = sym w.if-is_wide.true ∙ c.is_wide.ensures in
+        rw w.system-is (rw w.names-is (rw w.streams-is (rw w.performed-is (subst (λ b. PerformsIn b (files_of g.Y.File.Store g.Y.Made.Store g.Y.Stream.Feeds.feed g.Y.System) g.Y.Names.File.RawFile (given_of (asked_in c.args.request.command.now) c.args.request.lines.now.counts (standard_of g.Y.Input.Feeds.feed c.args.input)) (state_of c.args.system.now (g.Y.Names.Names.calls c.args.names.now) (output_bytes c.args.streams.now.output) (g.E.Sink.contents c.args.streams.now.errors)) (state_of w.perform_in-performed.new.system (g.Y.Names.Names.calls w.perform_in-performed.new.names) (output_bytes w.perform_in-performed.new.streams.output) (g.E.Sink.contents w.perform_in-performed.new.streams.errors)) w.perform_in-performed.result.0 w.perform_in-performed.result.1) wide w.perform_in-performed.ensures.performs)))))
     | else-is_wide w ↦
-        (let narrow : false ≡ has_wide_words (asked_in c.args.command.now) = sym w.if-is_wide.false ∙ c.is_wide.ensures in
-        rw w.system-is (rw w.names-is (rw w.errors-is (rw w.output-is (rw w.performed-is (subst (λ b. PerformsIn b (files_of g.Y.File.Store g.Y.Made.Store g.Y.Stream.Feeds.feed g.Y.System) g.N.File.RawFile (given_of (asked_in c.args.command.now) c.args.lines.now.counts (standard_of g.I.Feeds.feed c.args.input)) (state_of c.args.system.now (g.N.Names.calls c.args.names.now) (output_bytes c.args.output.now) (g.E.Sink.contents c.args.errors.now)) (state_of w.perform_in-performed-else-is_wide.new.system (g.N.Names.calls w.perform_in-performed-else-is_wide.new.names) (output_bytes w.perform_in-performed-else-is_wide.new.output) (g.E.Sink.contents w.perform_in-performed-else-is_wide.new.errors)) w.perform_in-performed-else-is_wide.result.0 w.perform_in-performed-else-is_wide.result.1) narrow w.perform_in-performed-else-is_wide.ensures.performs))))))
+        (let narrow : false ≡ has_wide_words (asked_in c.args.request.command.now) = sym w.if-is_wide.false ∙ c.is_wide.ensures in
+        rw w.system-is (rw w.names-is (rw w.streams-is (rw w.performed-is (subst (λ b. PerformsIn b (files_of g.Y.File.Store g.Y.Made.Store g.Y.Stream.Feeds.feed g.Y.System) g.Y.Names.File.RawFile (given_of (asked_in c.args.request.command.now) c.args.request.lines.now.counts (standard_of g.Y.Input.Feeds.feed c.args.input)) (state_of c.args.system.now (g.Y.Names.Names.calls c.args.names.now) (output_bytes c.args.streams.now.output) (g.E.Sink.contents c.args.streams.now.errors)) (state_of w.perform_in-performed-else-is_wide.new.system (g.Y.Names.Names.calls w.perform_in-performed-else-is_wide.new.names) (output_bytes w.perform_in-performed-else-is_wide.new.streams.output) (g.E.Sink.contents w.perform_in-performed-else-is_wide.new.streams.errors)) w.perform_in-performed-else-is_wide.result.0 w.perform_in-performed-else-is_wide.result.1) narrow w.perform_in-performed-else-is_wide.ensures.performs)))))
   ];
   hands = c.handed_on.ensures.hands;
 }

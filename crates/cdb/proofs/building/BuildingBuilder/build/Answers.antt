@@ -15,9 +15,9 @@ returns-in-Ok-clause-built g c =
     let back = c.make_in-buffered.result.1 in
     let made = c.make_in-buffered.result.2 in
     rw (c.into_inner.ensures ∙ ap inner_of c.discard.ensures)
-    (built_of_all g.J.Feeds.feed g.I.Feeds.feed c.args.self.contents.sources.inputs back.inputs (λ inputs b. IsDatabase g.F.Store (making_of g.L.Width.WORD g.L.Width.GREATEST c.args.self.contents inputs) back.base b) (g.S.Store.image left.inner.inner) made
+    (built_of_all g.Y.Stream.Feeds.feed g.Y.Input.Feeds.feed c.args.self.contents.sources.inputs back.inputs (λ inputs b. IsDatabase g.Y.File.Store (making_of g.L.Width.WORD g.L.Width.GREATEST c.args.self.contents inputs) back.base b) (g.S.Store.image left.inner.inner) made
     (λ each bytes agree. (let ran = run.runs each bytes agree in
-    database_made g.F.Store (making_of g.L.Width.WORD g.L.Width.GREATEST c.args.self.contents (inputs_of each bytes)) back.base _ (g.S.Store.image left.inner.inner) _ _ made ran.hands ran.runs
+    database_made g.Y.File.Store (making_of g.L.Width.WORD g.L.Width.GREATEST c.args.self.contents (inputs_of each bytes)) back.base _ (g.S.Store.image left.inner.inner) _ _ made ran.hands ran.runs
     (on_ok_weaker made (λ settled. (over_emptied left.pos (bytes_of left) (g.S.Store.image left.inner.inner) (ap (λ n. take n left.buffer.items) settled.0)).no_other) run.settled))))
 
 pub returns-in-Ok-clause-fails : goal.returns-in-Ok-clause-fails
@@ -36,7 +36,7 @@ returns-in-Ok-clause-tells g c =
     let left = c.make_in-buffered.result.0 in
     let back = c.make_in-buffered.result.1 in
     rw (c.into_inner.ensures ∙ ap inner_of c.discard.ensures) (
-      (λ each bytes agree. inl (run_under g.F.Store (making_of g.L.Width.WORD g.L.Width.GREATEST c.args.self.contents (inputs_of each bytes)) back.base _ (g.S.Store.image left.inner.inner) _ _ c.make_in-buffered.result.2 (run.runs each bytes agree) (λ b is. (overwrite b left.pos (bytes_of left), (b, is, refl)))
+      (λ each bytes agree. inl (run_under g.Y.File.Store (making_of g.L.Width.WORD g.L.Width.GREATEST c.args.self.contents (inputs_of each bytes)) back.base _ (g.S.Store.image left.inner.inner) _ _ c.make_in-buffered.result.2 (run.runs each bytes agree) (λ b is. (overwrite b left.pos (bytes_of left), (b, is, refl)))
           (on_ok_weaker c.make_in-buffered.result.2 (λ settled. (over_emptied left.pos (bytes_of left) (g.S.Store.image left.inner.inner) (ap (λ n. take n left.buffer.items) settled.0)).no_other) run.settled))),
       run.placed,
       run.output,
