@@ -10,6 +10,7 @@ use Rattle.cdb.proofs.CreateReads.{all_found, asking_all, asking_finds, asking_n
 use Rattle.cdb.proofs.CreateEnds.{AnsweredNames, CreateSo, Knows, back_hands, ends_early, found, hands_unread, memory_so, not_opened_so, open_so, read_unopened, refused_early}
 use Rattle.cdb.proofs.CreateApart.{replacing_so}
 use Rattle.cdb.proofs.CreatePlaced.{emptied_so, emptying_refused, in_place_unopened, output_so}
+use Rattle.cdb.specs.Machine.{machine_of}
 
 -- ---- each create
 
@@ -31,7 +32,7 @@ in_place_not name (Some t) other = or_from _ _ (false_from_ne_true (bytes_eq t (
 
 -- no other store is handed back
 module _ {F I J M N R Y : Type 0} (s : Ghosts F) (m : Ghosts M) (r : Raw R) (feed : I → Feed) (y : Systems Y F I M J N R) (w g : ℕ) (name : List ℕ) (base : Option (List ℕ)) (inputs : List (List ℕ)) (temporary : Option (List ℕ)) (o : RunOptions) (mid new : OpenCalls) (left : Left F M I J) (was now : NameCalls) (start end told said : Option (List ℕ)) (result : Result Unit Fault) (file : Option F) (items : InputsLeft) where
-  alone_so : MakesAt (files_of s m feed y) r (record { word = w; greatest = g; options = o; base = file; inputs = items }) (record { word = w; greatest = g; options = o; name = name; base = base; inputs = inputs; temporary = temporary }) (state_of mid was start told) (state_of new now end said) left result → left.other ≡ None
+  alone_so : MakesAt (machine_of s m feed y r) (record { word = w; greatest = g; options = o; base = file; inputs = items }) (record { word = w; greatest = g; options = o; name = name; base = base; inputs = inputs; temporary = temporary }) (state_of mid was start told) (state_of new now end said) left result → left.other ≡ None
   alone_so (inl (at_output, same, calls, handed, makes)) = handed.other
   alone_so (inr (other, kept, inl (here, inl (finds, same, handed, is, silent)))) = handed.other
   alone_so (inr (other, kept, inl (here, inr (asks, inl (fault, misses, handed, is, silent))))) = handed.other
@@ -41,7 +42,7 @@ module _ {F I J M N R Y : Type 0} (s : Ghosts F) (m : Ghosts M) (r : Raw R) (fee
 -- the database was made
 module _ {F I J M N R Y : Type 0} (s : Ghosts F) (m : Ghosts M) (r : Raw R) (feed : I → Feed) (y : Systems Y F I M J N R) (w g : ℕ) (disk : Disk) (input name : List ℕ) (base : Option (List ℕ)) (inputs : List (List ℕ)) (temporary : Option (List ℕ)) (o : RunOptions) (mid new : OpenCalls) (left : Left F M I J) (was now : NameCalls) (start end told said : Option (List ℕ)) (result : Result Unit Fault) (file : Option F) (items : InputsLeft)
     (knows : Knows s w disk base inputs input file left.read items) (honest : AnsweredNames disk name was now) where
-  makes_so : MakesAt (files_of s m feed y) r (record { word = w; greatest = g; options = o; base = file; inputs = items }) (record { word = w; greatest = g; options = o; name = name; base = base; inputs = inputs; temporary = temporary }) (state_of mid was start told) (state_of new now end said) left result
+  makes_so : MakesAt (machine_of s m feed y r) (record { word = w; greatest = g; options = o; base = file; inputs = items }) (record { word = w; greatest = g; options = o; name = name; base = base; inputs = inputs; temporary = temporary }) (state_of mid was start told) (state_of new now end said) left result
       → CreateSo m disk name temporary o (create_of w g disk input name base inputs temporary o.make) new was now left.made start end told said result
   makes_so (inl (at_output, same, calls, handed, makes)) =
       let c = create_of w g disk input name base inputs temporary o.make in
@@ -82,7 +83,7 @@ module _ {F I J M N R Y : Type 0} (s : Ghosts F) (m : Ghosts M) (r : Raw R) (fee
       (replacing_so s m r w g disk input name base inputs temporary o mid new file left.read items was asked now start end told said result (standard_not name other) (in_place_not name temporary apart) hands knows honest kept asks replaces)
 
 pub creates_so : {F I J M N R Y : Type 0} (s : Ghosts F) (m : Ghosts M) (r : Raw R) (feed : I → Feed) (y : Systems Y F I M J N R) (w g : ℕ) (disk : Disk) (input name : List ℕ) (base : Option (List ℕ)) (inputs : List (List ℕ)) (temporary : Option (List ℕ)) (o : RunOptions) (standard : Standard J) (old new : OpenCalls) (left : Left F M I J) (was now : NameCalls) (start end told said : Option (List ℕ)) (result : Result Unit Fault)
-    → HonestCreate (files_of s m feed y) disk input name standard (state_of old was start told) (state_of new now end said) left → Creates (files_of s m feed y) r (record { word = w; greatest = g; options = o; name = name; base = base; inputs = inputs; temporary = temporary }) standard (state_of old was start told) (state_of new now end said) left result
+    → HonestCreate (files_of s m feed y) disk input name standard (state_of old was start told) (state_of new now end said) left → Creates (machine_of s m feed y r) (record { word = w; greatest = g; options = o; name = name; base = base; inputs = inputs; temporary = temporary }) standard (state_of old was start told) (state_of new now end said) left result
     → CreateSo m disk name temporary o (create_of w g disk input name base inputs temporary o.make) new was now left.made start end told said result
 creates_so s m r feed y w g disk input name base inputs temporary o standard old new left was now start end told said result honest (inl (fault, is, not_opened, same, handed, kept, silent)) =
     let c = create_of w g disk input name base inputs temporary o.make in

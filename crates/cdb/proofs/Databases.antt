@@ -1,11 +1,12 @@
 -- What a store has once a run over it succeeded, and what a run says whose lines were handed on.
-use Rattle.cdb.proofs.Words.{Asked, Bool, Err, Fault, Feed, Ghosts, HasDatabase, IsDatabase, IsMakeRun, Keeps, Left, List, Making, NameCalls, None, Ok, OnErr, OnOk, OpenCalls, Option, OutputSays, Refused, Result, Runs, SeesName, Some, Standard, Syncs, WhereHonest, failed_of, files_of, given_of, inl, inr, refused_lines, says_more, state_of, subst, sym, true, ℕ, ◌∙◌, ◌≡◌}
+use Rattle.cdb.proofs.Words.{Asked, Bool, Err, Fault, Feed, Ghosts, HasDatabase, IsDatabase, IsMakeRun, Keeps, Left, List, Making, NameCalls, None, Ok, OnErr, OnOk, OpenCalls, Option, OutputSays, Refused, Result, Runs, SeesName, Some, Standard, Syncs, WhereHonest, failed_of, given_of, inl, inr, refused_lines, says_more, state_of, subst, sym, true, ℕ, ◌∙◌, ◌≡◌}
 use Rattle.cdb_names.specs.declared.answer.Answer.TheVariants.{No, Unknown, Yes}
 use Rattle.cdb_store.specs.declared.raw.RawFile.{Ghosts as Raw}
 use Rattle.cdb_tool.specs.Runs.Make.{HandsBack, OfBase, Makes, terms_of}
 use Rattle.cdb_tool.specs.Runs.Make as run
 use Rattle.cdb_system.specs.declared.system.System.{Ghosts as Systems}
 use Rattle.cdb_system.proofs.Said.{line_kept, says_kept}
+use Rattle.cdb.specs.Machine.{machine_of}
 
 of_weaker : {F : Type 0} (f : Ghosts F) (base : Option F) (P Q : Option (List ℕ) → Type 0) → ((x : Option (List ℕ)) → P x → Q x) → OfBase f base P → OfBase f base Q
 of_weaker f None P Q g h = g None h
@@ -78,8 +79,8 @@ failed_stays (Ok done) old new same failed is = same ∙ is
 failed_stays (Err e) old new same failed is = failed
 
 pub run_kept : {F I J M N R Y : Type 0} (s : Ghosts F) (m : Ghosts M) (r : Raw R) (feed : I → Feed) (y : Systems Y F I M J N R) (planned : Result Asked Refused) (explained : Bool) (input : Standard J) (old new : Y) (was now : NameCalls) (left : Left F M I J) (start end final told mid said : Option (List ℕ)) (unwritten before after : Type 0) (status : ℕ)
-    → Runs (files_of s m feed y) r (given_of planned explained input) (state_of old was start told) (state_of new now end mid) final left (failed_of unwritten before) status → (before → after) → Keeps mid said → Runs (files_of s m feed y) r (given_of planned explained input) (state_of old was start told) (state_of new now end said) final left (failed_of unwritten after) status
-run_kept s m r feed y planned explained input old new was now left start end final told mid said unwritten before after status h stays k = elim h as (λ _. Runs (files_of s m feed y) r (given_of planned explained input) (state_of old was start told) (state_of new now end said) final left (failed_of unwritten after) status) [
+    → Runs (machine_of s m feed y r) (given_of planned explained input) (state_of old was start told) (state_of new now end mid) final left (failed_of unwritten before) status → (before → after) → Keeps mid said → Runs (machine_of s m feed y r) (given_of planned explained input) (state_of old was start told) (state_of new now end said) final left (failed_of unwritten after) status
+run_kept s m r feed y planned explained input old new was now left start end final told mid said unwritten before after status h stays k = elim h as (λ _. Runs (machine_of s m feed y r) (given_of planned explained input) (state_of old was start told) (state_of new now end said) final left (failed_of unwritten after) status) [
   | inl none ↦ inl (record { refused = none.refused; why = none.why; line = line_kept (refused_lines explained none.refused) told mid said before after stays none.line k; untouched = none.untouched; none = none.none; same = none.same; kept = none.kept; is_status = none.is_status })
   | inr some ↦
       inr (record {

@@ -27,6 +27,7 @@ use Rattle.cdb_system.specs.Telling.{Says, SaysLine, refused_lines, usage_line, 
 use Rattle.cdb_system.specs.Causes.{Explains}
 use Rattle.cdb_system.specs.declared.system.System.{Ghosts as Systems}
 use Rattle.cdb_system.proofs.FilesRead.{query_foretold, text_named, text_input, stats_comes, check_comes, on_named, on_input, stats_taken, check_taken, told_comes}
+use Rattle.cdb.specs.Machine.{machine_of}
 
 -- ---- the end of a command
 
@@ -110,7 +111,7 @@ ends_so command o explained start end final told said unwritten unsaid result st
 
 abbrev CommandComes : {F I J M N R Y : Type 0} → Ghosts F → Ghosts M → Raw R → (I → Feed) → Systems Y F I M J N R → (explained : Bool) → Command → Disk → (input : List ℕ) → (given : Standard J) → (old new : State Y) → Left F M I J → Result Unit Fault → Type 0
 CommandComes s m r feed y explained command disk input given old new left result =
-    Honest (files_of s m feed y) disk input (asked_in command) given old.opened new.opened left → PerformsIn (has_wide_words (asked_in command)) (files_of s m feed y) r (given_of (asked_in command) explained given) old new left result
+    Honest (files_of s m feed y) disk input (asked_in command) given old.opened new.opened left → PerformsIn (has_wide_words (asked_in command)) (machine_of s m feed y r) (given_of (asked_in command) explained given) old new left result
     → IfSome (command_outcome (asked_in command) disk input) (λ o. Comes (writes_output (asked_in command)) (reads_in_turn (asked_in command)) (exit_status command) o old.output new.output result)
 
 command_comes : {F I J M N R Y : Type 0} (s : Ghosts F) (m : Ghosts M) (r : Raw R) (feed : I → Feed) (y : Systems Y F I M J N R) (explained : Bool) (command : Command) (disk : Disk) (input : List ℕ) (given : Standard J) (old new : State Y) (left : Left F M I J) (result : Result Unit Fault) → IsSized s → EachAnswered s disk (stores_in left) (y.calls old.opened) (y.calls new.opened) → EachAgrees feed disk (streams_in left) (y.calls old.opened) (y.calls new.opened)
@@ -191,7 +192,7 @@ no_memory_may (Ok command) = tt
 no_memory_may (Err usage) = refl
 
 run_foretold : {F I J M N R Y : Type 0} (s : Ghosts F) (m : Ghosts M) (r : Raw R) (feed : I → Feed) (y : Systems Y F I M J N R) (planned : Result Asked Refused) (explained : Bool) (given : Standard J) (old new : Y) (was now : NameCalls) (left : Left F M I J) (start end final told said : Option (List ℕ)) (unwritten unsaid : Type 0) (status : ℕ) (disk : Disk) (input : List ℕ)
-    → IsSized s → (unwritten → ⊥) → (unsaid → ⊥) → Keeps end final → Runs (files_of s m feed y) r (given_of planned explained given) (state_of old was start told) (state_of new now end said) final left (failed_of unwritten unsaid) status
+    → IsSized s → (unwritten → ⊥) → (unsaid → ⊥) → Keeps end final → Runs (machine_of s m feed y r) (given_of planned explained given) (state_of old was start told) (state_of new now end said) final left (failed_of unwritten unsaid) status
     → IfOk planned (λ command. Honest (files_of s m feed y) disk input command given old new left) → IfSome (oracle planned disk input) (λ o. Foretold planned o explained start final told said status)
 run_foretold s m r feed y planned explained given old new was now left start end final told said unwritten unsaid status disk input sized writes speaks k (inl none) honest =
     let kept = Keeps-trans start end final none.kept k in
@@ -243,7 +244,7 @@ total_so (Err usage) disk input P none h = h
 
 pub run_is_foretold : {F I J M N R Y W V : Type 0} (s : Ghosts F) (m : Ghosts M) (r : Raw R) (feed : I → Feed) (y : Systems Y F I M J N R) (planned : Result Asked Refused) (explained : Bool) (given : Standard J) (old new : Y) (was now : NameCalls) (left : Left F M I J) (output_old output_new : Writer W) (errors_old errors_new : Writer V) (status : ℕ)
     → IsSized s → (held_by output_old ≡ [] → HasHandedOn output_new) → HasHandedOn errors_new
-    → Runs (files_of s m feed y) r (given_of planned explained given) (state_of old was (output_bytes output_old) (output_bytes errors_old)) (state_of new now (output_bytes output_new) (output_bytes errors_new)) (writer_bytes output_new) left (failed_of (OutputFailed output_new) (OutputFailed errors_new)) status
+    → Runs (machine_of s m feed y r) (given_of planned explained given) (state_of old was (output_bytes output_old) (output_bytes errors_old)) (state_of new now (output_bytes output_new) (output_bytes errors_new)) (writer_bytes output_new) left (failed_of (OutputFailed output_new) (OutputFailed errors_new)) status
     → IsForetold (files_of s m feed y) (given_of planned explained given) (state_of old was (output_bytes output_old) (output_bytes errors_old)) (state_of new now (writer_bytes output_new) (writer_bytes errors_new)) left (IsTaken output_old output_new errors_new) status
 run_is_foretold s m r feed y planned explained given old new was now left output_old output_new errors_old errors_new status sized handed said runs = λ disk input taken none honest.
     let writes : OutputFailed output_new → ⊥ = λ failed. not_there (output_new.marked failed) taken.1 in

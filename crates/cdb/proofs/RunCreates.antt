@@ -20,6 +20,7 @@ use Rattle.cdb.proofs.Creates.{creates_so}
 use Rattle.cdb.proofs.Oracles.{all_taken, handed_all}
 use Rattle.cdb.proofs.Replaced.{said_nothing}
 use Rattle.cdb_system.specs.Files.{Files, files_of}
+use Rattle.cdb.specs.Machine.{machine_of}
 
 -- ---- the end
 
@@ -92,8 +93,8 @@ same_asked : (a b : Asked) → ◌≡◌ {A = Result Asked Refused} (Ok a) (Ok b
 same_asked a b e = cc
 
 creates_in : {F I J M N R Y : Type 0} (s : Ghosts F) (m : Ghosts M) (r : Raw R) (feed : I → Feed) (y : Systems Y F I M J N R) (name : List ℕ) (base : Option (List ℕ)) (inputs : List (List ℕ)) (temporary : Option (List ℕ)) (o : MakeOptions) (wide explained : Bool) (given : Standard J) (old new : Y) (was now : NameCalls) (left : Left F M I J) (start end told said : Option (List ℕ)) (result : Result Unit Fault)
-    → PerformsIn wide (files_of s m feed y) r (given_of (asked.Create name base inputs temporary o wide) explained given) (state_of old was start told) (state_of new now end said) left result
-    → (shown : RunOptions) × IsShown explained inputs o shown × Creates (files_of s m feed y) r (record { word = word_size wide; greatest = greatest_size wide; options = shown; name = name; base = base; inputs = inputs; temporary = temporary }) given (state_of (y.calls old) was start told) (state_of (y.calls new) now end said) left result
+    → PerformsIn wide (machine_of s m feed y r) (given_of (asked.Create name base inputs temporary o wide) explained given) (state_of old was start told) (state_of new now end said) left result
+    → (shown : RunOptions) × IsShown explained inputs o shown × Creates (machine_of s m feed y r) (record { word = word_size wide; greatest = greatest_size wide; options = shown; name = name; base = base; inputs = inputs; temporary = temporary }) given (state_of (y.calls old) was start told) (state_of (y.calls new) now end said) left result
 creates_in s m r feed y name base inputs temporary o true explained given old new was now left start end told said result h = h
 creates_in s m r feed y name base inputs temporary o false explained given old new was now left start end told said result h = h
 
@@ -127,7 +128,7 @@ honest_so : {F I J M N R Y : Type 0} {files : Files F I J M N R Y} {disk : Disk}
 honest_so final before h = record { calls = h.calls; are = h.are; answered = h.answered; in_turn = h.in_turn; unread = h.unread; agrees = h.agrees; bytes = h.bytes; first = h.first; alone = h.alone; held = h.held; has = h.has }
 
 run_holds : {F I J M N R Y : Type 0} (s : Ghosts F) (m : Ghosts M) (r : Raw R) (feed : I → Feed) (y : Systems Y F I M J N R) (planned : Result Asked Refused) (explained : Bool) (given : Standard J) (old new : Y) (was now : NameCalls) (left : Left F M I J) (start end final told said : Option (List ℕ)) (unwritten unsaid : Type 0) (status : ℕ) (disk : Disk) (input name : List ℕ) (base : Option (List ℕ)) (inputs : List (List ℕ)) (temporary : Option (List ℕ)) (o : MakeOptions) (wide : Bool)
-    → planned ≡ Ok (asked.Create name base inputs temporary o wide) → (unwritten → ⊥) → (unsaid → ⊥) → Keeps end final → HonestCreate (files_of s m feed y) disk input name given (state_of (y.calls old) was start told) (state_of (y.calls new) now final said) left → Runs (files_of s m feed y) r (given_of planned explained given) (state_of old was start told) (state_of new now end said) final left (failed_of unwritten unsaid) status
+    → planned ≡ Ok (asked.Create name base inputs temporary o wide) → (unwritten → ⊥) → (unsaid → ⊥) → Keeps end final → HonestCreate (files_of s m feed y) disk input name given (state_of (y.calls old) was start told) (state_of (y.calls new) now final said) left → Runs (machine_of s m feed y r) (given_of planned explained given) (state_of old was start told) (state_of new now end said) final left (failed_of unwritten unsaid) status
     → CreateHolds m (expected_of disk name temporary (create_of (word_size wide) (greatest_size wide) disk input name base inputs temporary o)) explained left.made (state_of (y.calls old) was start told) (state_of (y.calls new) now final said) status
 run_holds s m r feed y planned explained given old new was now left start end final told said unwritten unsaid status disk input name base inputs temporary o wide plan writes speaks kept honest (inl none) = elim none.why [
   | inl lacks ↦ (let c = create_of (word_size wide) (greatest_size wide) disk input name base inputs temporary o in
@@ -150,7 +151,7 @@ run_holds s m r feed y planned explained given old new was now left start end fi
     let command = some.command in
     let does = some.does in
     let a : asked_in command ≡ asked.Create name base inputs temporary o wide = same_asked (asked_in command) (asked.Create name base inputs temporary o wide) (sym some.asks ∙ plan) in
-    let performs = subst (λ q. PerformsIn (has_wide_words q) (files_of s m feed y) r (given_of q explained given) (state_of old was start told) (state_of new now does.end some.before) left does.answer) a does.performs in
+    let performs = subst (λ q. PerformsIn (has_wide_words q) (machine_of s m feed y r) (given_of q explained given) (state_of old was start told) (state_of new now does.end some.before) left does.answer) a does.performs in
     let shows = creates_in s m r feed y name base inputs temporary o wide explained given old new was now left start does.end told some.before does.answer performs in
     let shown = shows.0 in
     let creates = shows.2 in
@@ -168,7 +169,7 @@ run_holds s m r feed y planned explained given old new was now left start end fi
 
 pub run_is_created : {F I J M N R Y W V : Type 0} (s : Ghosts F) (m : Ghosts M) (r : Raw R) (feed : I → Feed) (y : Systems Y F I M J N R) (planned : Result Asked Refused) (explained : Bool) (given : Standard J) (old new : Y) (was now : NameCalls) (left : Left F M I J) (output_old output_new : Writer W) (errors_old errors_new : Writer V) (status : ℕ)
     → (held_by output_old ≡ [] → HasHandedOn output_new) → HasHandedOn errors_new
-    → Runs (files_of s m feed y) r (given_of planned explained given) (state_of old was (output_bytes output_old) (output_bytes errors_old)) (state_of new now (output_bytes output_new) (output_bytes errors_new)) (writer_bytes output_new) left (failed_of (OutputFailed output_new) (OutputFailed errors_new)) status
+    → Runs (machine_of s m feed y r) (given_of planned explained given) (state_of old was (output_bytes output_old) (output_bytes errors_old)) (state_of new now (output_bytes output_new) (output_bytes errors_new)) (writer_bytes output_new) left (failed_of (OutputFailed output_new) (OutputFailed errors_new)) status
     → IsCreateForetold (files_of s m feed y) (given_of planned explained given) (state_of old was (output_bytes output_old) (output_bytes errors_old)) (state_of new now (writer_bytes output_new) (writer_bytes errors_new)) left (IsTaken output_old output_new errors_new) status
 run_is_created s m r feed y planned explained given old new was now left output_old output_new errors_old errors_new status handed said runs = λ disk input name base inputs temporary o wide plan taken honest.
     (let writes : OutputFailed output_new → ⊥ = λ failed. not_there (output_new.marked failed) taken.1 in

@@ -38,6 +38,7 @@ use Rattle.cdb_system.specs.declared.open_trace.OpenCall.TheVariants.{Own}
 use Rattle.cdb_system.specs.Places.{IsInPlace, temporary_of}
 use Rattle.cdb.specs.Agreeing.{HandsInputs, OfAgreeing, OpensNoMore}
 use Rattle.cdb.specs.Created.{head_fault}
+use Rattle.cdb.specs.Machine.{Machine}
 
 -- ---- the database
 
@@ -296,15 +297,15 @@ MakesApart f r m temporary wanted old new back result =
     × Replaces f r m temporary wanted.name (record old { named = mid }) new back result)
 
 -- it is made in place; or in a temporary file, unless the allocation of its name failed
-abbrev pub MakesNamed : {F I J M N R Y : Type 0} → Files F I J M N R Y → Raw R → Making F → Wanted
+abbrev pub MakesNamed : {F I J M N R Y : Type 0} → Machine F I J M N R Y → Making F → Wanted
     → (old new : State OpenCalls) → Left F M I J → Result Unit Fault → Type 0
-MakesNamed files r m wanted old new left result =
-    (IsInPlace wanted.name wanted.temporary × MakesInPlace files m wanted old new left result)
+MakesNamed machine m wanted old new left result =
+    (IsInPlace wanted.name wanted.temporary × MakesInPlace machine.files m wanted old new left result)
     ⊎ ((IsInPlace wanted.name wanted.temporary → ⊥) × (new.opened ≡ old.opened)
     × HandsBase left.read left
     × (((new.named ≡ old.named) × (left.read ≡ m.base) × (result ≡ Err NoMemory)
     × Keeps old.errors new.errors)
-    ⊎ MakesApart files.stores r m (temporary_of wanted.name wanted.temporary) wanted old new
+    ⊎ MakesApart machine.files.stores machine.raw m (temporary_of wanted.name wanted.temporary) wanted old new
     left.read result))
 
 -- ---- a create
@@ -356,14 +357,14 @@ pub record NotOpened {F I J M N R Y : Type 0} (w : ℕ) (files : Files F I J M N
       × StopsOpening files.system inputs mid new fault)
 
 -- the database is made on standard output; or under its name, and then standard output stays as it is
-abbrev pub MakesAt : {F I J M N R Y : Type 0} → Files F I J M N R Y → Raw R → Making F → Wanted
+abbrev pub MakesAt : {F I J M N R Y : Type 0} → Machine F I J M N R Y → Making F → Wanted
     → (old new : State OpenCalls) → Left F M I J → Result Unit Fault → Type 0
-MakesAt files r m wanted old new left result =
+MakesAt machine m wanted old new left result =
     (IsStandard wanted.name × (new.opened ≡ old.opened) × (new.named ≡ old.named)
     × HandsBase left.read left
-    × MakesOnOutput files.stores m left.read old.output new.output old.errors new.errors result)
+    × MakesOnOutput machine.files.stores m left.read old.output new.output old.errors new.errors result)
     ⊎ ((IsStandard wanted.name → ⊥) × Keeps old.output new.output
-    × MakesNamed files r m wanted old new left result)
+    × MakesNamed machine m wanted old new left result)
 
 -- Inputs were opened and handed back, and no other file was opened to be read. Of all inputs that agree with
 -- their readers, this is what was done.
@@ -379,16 +380,16 @@ pub record HandsAll {F I J M N R Y : Type 0} (files : Files F I J M N R Y) (stan
 -- all that is read is opened, and then the database is made of it; or nothing is made. A base that was
 -- opened is handed back, as it came if nothing was built; so is a file that was made in place, and so are
 -- the readers of the inputs
-abbrev pub Creates : {F I J M N R Y : Type 0} → Files F I J M N R Y → Raw R → Wanted
+abbrev pub Creates : {F I J M N R Y : Type 0} → Machine F I J M N R Y → Wanted
     → (standard : Standard J) → (old new : State OpenCalls) → Left F M I J → Result Unit Fault → Type 0
-Creates {F = F} {I = I} {J = J} files r wanted standard old new left result =
+Creates {F = F} {I = I} {J = J} machine wanted standard old new left result =
     ((fault : Fault) × (result ≡ Err fault)
-    × NotOpened wanted.word files wanted.base wanted.inputs old.opened new.opened left.read fault
+    × NotOpened wanted.word machine.files wanted.base wanted.inputs old.opened new.opened left.read fault
     × (new.named ≡ old.named) × (left ≡ base_left left.read) × Keeps old.output new.output
     × Keeps old.errors new.errors)
     ⊎ ((file : Option F) × (inputs : Inputs I J) × (mid : OpenCalls)
-    × OpensAll wanted.word files wanted.base wanted.inputs old.opened mid file inputs.readers.items
-    × HandsAll files standard inputs mid new.opened left (λ items. MakesAt files r
+    × OpensAll wanted.word machine.files wanted.base wanted.inputs old.opened mid file inputs.readers.items
+    × HandsAll machine.files standard inputs mid new.opened left (λ items. MakesAt machine
     (record {
       word = wanted.word;
       greatest = wanted.greatest;

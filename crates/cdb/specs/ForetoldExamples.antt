@@ -211,7 +211,7 @@ module _ {O E : Type 0} (r : Raw Unit) (was now : NameCalls) (before after : Str
   abbrev Ran : (words : List (List ℕ)) → OpenCalls → Back → Type 0
   Ran words calls left =
       IsTaken before.output after.output after.errors
-      × IsRun files r (given_by words standard) (world_of [] was before) (world_of calls now after)
+      × IsRun (record { files = files; raw = r }) (given_by words standard) (world_of [] was before) (world_of calls now after)
       left status
 
   -- it came to this, or a failure was reported, and a prefix was written

@@ -11,7 +11,6 @@ use Rattle.cdb_command.specs.declared.options.MakeOptions.{MakeOptions}
 use Rattle.cdb_tool.specs.declared.runs.options.RunOptions.{RunOptions}
 use Rattle.cdb_tool.specs.Runs.Course.{plain}
 use Rattle.cdb_store.specs.contracts.memory.MemStoreStore.TheImpl.{ghosts as in_memory}
-use Rattle.cdb_store.specs.declared.raw.RawFile.{Ghosts as Raw}
 use Rattle.cdb_show.specs.Runs.Form.{dump_form, list_form}
 use Rattle.cdb_show.specs.Runs.Flushed.{IsWhole}
 use Rattle.cdb_show.specs.Runs.Query.{value_text}
@@ -20,8 +19,8 @@ use Rattle.cdb_show.specs.Views.Output.{OutputSays}
 use Rattle.cdb_show.specs.declared.fault.Fault.{Fault}
 use Rattle.cdb_show.specs.declared.fault.Fault.TheVariants.{Output}
 use Rattle.cdb.specs.Creating.{Creates}
+use Rattle.cdb.specs.Machine.{Machine}
 use Rattle.cdb_system.specs.Causes.{Explains}
-use Rattle.cdb_system.specs.Files.{Files}
 use Rattle.cdb_system.specs.Opening.{none_left}
 use Rattle.cdb_system.specs.State.{Failed, Given, Standard, State, calls_in, given_of, with_calls}
 use Rattle.cdb_system.specs.declared.left.Left.{Left}
@@ -36,51 +35,51 @@ IsShown true inputs options shown = (shown.make ≡ options)
     × (option_map (λ names. map string_bytes names.now) shown.names ≡ Some inputs)
 
 -- ---- each command, in words of w bytes of files of at most so many; what is left open is handed back
-abbrev pub Performs : {F I J M N R Y : Type 0} → (w most : ℕ) → Files F I J M N R Y → Raw R
+abbrev pub Performs : {F I J M N R Y : Type 0} → (w most : ℕ) → Machine F I J M N R Y
     → (explained : Bool) → Asked → (input : Standard J) → (old new : State Y) → Left F M I J
     → Result Unit Fault → Type 0
-Performs w most files r explained (asked.Query name key number lines wide) input old new left
+Performs w most machine explained (asked.Query name key number lines wide) input old new left
     result =
-    PerformsQuery files (record {
+    PerformsQuery machine.files (record {
       word = w;
       name = name;
       query = record { key = key; number = number; shown = value_text lines };
     }) old new left result
-Performs w most files r explained (asked.Lookups name inputs number style wide) input old new left
+Performs w most machine explained (asked.Lookups name inputs number style wide) input old new left
     result =
-    PerformsLookups files (record {
+    PerformsLookups machine.files (record {
       word = w;
       greatest = most;
       name = name;
       inputs = inputs;
       options = record { number = number; style = style };
     }) input old new left result
-Performs w most files r explained (asked.Dump name style wide) input old new left result =
-    PerformsText files (record { word = w; name = name; form = dump_form style }) input old new left
+Performs w most machine explained (asked.Dump name style wide) input old new left result =
+    PerformsText machine.files (record { word = w; name = name; form = dump_form style }) input old new left
     result
-Performs w most files r explained (asked.Listing name style wide) input old new left result =
-    PerformsText files (record { word = w; name = name; form = list_form style }) input old new left
+Performs w most machine explained (asked.Listing name style wide) input old new left result =
+    PerformsText machine.files (record { word = w; name = name; form = list_form style }) input old new left
     result
-Performs w most files r explained (asked.Stats name wide) input old new left result =
-    PerformsOn files (record {
+Performs w most machine explained (asked.Stats name wide) input old new left result =
+    PerformsOn machine.files (record {
       most = most;
       name = name;
-      file = TellsStore w old.output new.output result files.stores;
+      file = TellsStore w old.output new.output result machine.files.stores;
       taken = TellsStore w old.output new.output result in_memory;
     }) input old new left result
-Performs w most files r explained (asked.Check name wide) input old new left result =
-    PerformsOn files (record {
+Performs w most machine explained (asked.Check name wide) input old new left result =
+    PerformsOn machine.files (record {
       most = most;
       name = name;
-      file = ChecksStore w old.output new.output result files.stores;
+      file = ChecksStore w old.output new.output result machine.files.stores;
       taken = ChecksStore w old.output new.output result in_memory;
     }) input old new left result
-Performs w most files r explained (asked.Difference first second wide) input old new left result =
-    PerformsDifference files (record { word = w; first = first; second = second }) old new left result
-Performs w most files r explained (asked.Create name base inputs temporary options wide) input old
+Performs w most machine explained (asked.Difference first second wide) input old new left result =
+    PerformsDifference machine.files (record { word = w; first = first; second = second }) old new left result
+Performs w most machine explained (asked.Create name base inputs temporary options wide) input old
     new left result =
     (shown : RunOptions) × IsShown explained inputs options shown
-    × Creates files r (record {
+    × Creates machine (record {
       word = w;
       greatest = most;
       options = shown;
@@ -88,20 +87,20 @@ Performs w most files r explained (asked.Create name base inputs temporary optio
       base = base;
       inputs = inputs;
       temporary = temporary;
-    }) input (with_calls files old) (with_calls files new) left result
-Performs w most files r explained asked.Help input old new left result =
+    }) input (with_calls machine.files old) (with_calls machine.files new) left result
+Performs w most machine explained asked.Help input old new left result =
     (new.opened ≡ old.opened) × (left ≡ none_left) × Tells usage_text old.output new.output result
-Performs w most files r explained asked.Version input old new left result =
+Performs w most machine explained asked.Version input old new left result =
     (new.opened ≡ old.opened) × (left ≡ none_left) × Tells version_text old.output new.output result
 
 -- in words of 8 bytes or of 4
-abbrev pub PerformsIn : {F I J M N R Y : Type 0} → (wide : Bool) → Files F I J M N R Y → Raw R → Given Asked J
+abbrev pub PerformsIn : {F I J M N R Y : Type 0} → (wide : Bool) → Machine F I J M N R Y → Given Asked J
     → (old new : State Y) → Left F M I J → Result Unit Fault → Type 0
-PerformsIn true files r given old new left result =
-    Performs 8 9223372036854775807 files r given.explained given.asked given.input old new left
+PerformsIn true machine given old new left result =
+    Performs 8 9223372036854775807 machine given.explained given.asked given.input old new left
     result
-PerformsIn false files r given old new left result =
-    Performs 4 4294967295 files r given.explained given.asked given.input old new left result
+PerformsIn false machine given old new left result =
+    Performs 4 4294967295 machine given.explained given.asked given.input old new left result
 
 -- ---- the end of a command
 
@@ -117,12 +116,12 @@ pub record HandsOn (end final : Option (List ℕ)) (unwritten : Type 0)
   pub answered : (result ≡ answer) ⊎ (IsWhole answer × (result ≡ Err Output) × unwritten)
 
 -- the command was performed, and what it wrote was handed on
-pub record Does {F I J M N R Y : Type 0} (files : Files F I J M N R Y) (r : Raw R)
+pub record Does {F I J M N R Y : Type 0} (machine : Machine F I J M N R Y)
     (given : Given Asked J) (old new : State Y) (left : Left F M I J) (unwritten : Type 0)
     (result : Result Unit Fault) : Type 0 where
   pub end : Option (List ℕ)
   pub answer : Result Unit Fault
-  pub performs : PerformsIn (has_wide_words given.asked) files r given old
+  pub performs : PerformsIn (has_wide_words given.asked) machine given old
       (record new { output = end }) left answer
   pub hands : HandsOn end new.output unwritten answer result
 
@@ -149,7 +148,7 @@ pub record AsksNothing {F I J M Y : Type 0} (given : Given (Result Asked Refused
   pub is_status : status ≡ usage_status (usage_of refused)
 
 -- the command that they request was performed, and then its fault was said, and explained if it is to be
-pub record AsksFor {F I J M N R Y : Type 0} (files : Files F I J M N R Y) (r : Raw R)
+pub record AsksFor {F I J M N R Y : Type 0} (machine : Machine F I J M N R Y)
     (given : Given (Result Asked Refused) J) (old new : State Y) (left : Left F M I J)
     (failed : Failed) (status : ℕ) : Type 0
   where
@@ -157,23 +156,23 @@ pub record AsksFor {F I J M N R Y : Type 0} (files : Files F I J M N R Y) (r : R
     pub asks : given.asked ≡ Ok (asked_in command)
     pub result : Result Unit Fault
     pub before : Option (List ℕ)
-    pub does : Does files r (given_of (asked_in command) given.explained given.input) old
+    pub does : Does machine (given_of (asked_in command) given.explained given.input) old
         (record new { errors = before }) left failed.output result
     pub output : OutputSays (failed.output ⊎ failed.errors) result
     pub silent : IsUntouched (asked_in command) old.errors before
     pub same : IsUntouched (asked_in command) old.named new.named
     pub more : List ℕ
     pub explains : Explains given.explained (asked_in command) result failed.output
-        (calls_in files new) new.named more
+        (calls_in machine.files new) new.named more
     pub says : Says result more before new.errors failed.errors
     pub is_status : status ≡ status_of command result
 
 -- from its words to its exit status: what was written, what standard output has of it, and what is
 -- said on standard error; whether the one failed, or the other; and which files are handed back
-abbrev pub Runs : {F I J M N R Y : Type 0} → Files F I J M N R Y → Raw R
+abbrev pub Runs : {F I J M N R Y : Type 0} → Machine F I J M N R Y
     → Given (Result Asked Refused) J → (old new : State Y) → (final : Option (List ℕ)) → Left F M I J
     → Failed → (status : ℕ)
     → Type 0
-Runs files r given old new final left failed status =
+Runs machine given old new final left failed status =
     AsksNothing given old new left failed.errors status
-    ⊎ AsksFor files r given old (record new { output = final }) left failed status
+    ⊎ AsksFor machine given old (record new { output = final }) left failed status

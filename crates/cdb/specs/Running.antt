@@ -3,13 +3,12 @@ use Rattle.std.specs.Prelude.{ℕ, ◌≡◌, List, [], Result}
 use Rattle.cdb_command.specs.Asked.{Asked}
 use Rattle.cdb_command.specs.Refused.{Refused}
 use Rattle.cdb_names.specs.Folder.{NameCalls}
-use Rattle.cdb_store.specs.declared.raw.RawFile.{Ghosts as Raw}
 use Rattle.cdb_show.specs.Command.{explains_in, plan_of}
 use Rattle.cdb_show.specs.Views.Output.{HasHandedOn, OutputFailed, held_by, output_bytes, writer_bytes}
 use Rattle.cdb_show.specs.declared.output.Output.{Output as Writer}
-use Rattle.cdb_system.specs.Files.{Files}
 use Rattle.cdb.specs.Foretold.{IsForetold, IsTaken}
 use Rattle.cdb.specs.ForetoldCreate.{IsCreateForetold}
+use Rattle.cdb.specs.Machine.{Machine}
 use Rattle.cdb.specs.Performs.{Runs}
 use Rattle.cdb.specs.declared.streams.Streams.{Streams}
 use Rattle.cdb_system.specs.State.{Given, Standard, State, failed_of, given_of, state_of}
@@ -39,20 +38,20 @@ abbrev pub taken : {Y O E : Type 0} → World Y O E → State Y
 taken w = state_of w.system w.named (writer_bytes w.output) (writer_bytes w.errors)
 
 -- what the words request was done, and its output handed on, if no older one was held
-pub record Answers {F I J M N R Y O E : Type 0} (files : Files F I J M N R Y) (r : Raw R)
+pub record Answers {F I J M N R Y O E : Type 0} (machine : Machine F I J M N R Y)
     (given : Given (Result Asked Refused) J) (old new : World Y O E)
     (left : Left F M I J) (status : ℕ) : Type 0 where
-  pub runs : Runs files r given (written old) (written new) (writer_bytes new.output) left
+  pub runs : Runs machine given (written old) (written new) (writer_bytes new.output) left
       (failed_of (OutputFailed new.output) (OutputFailed new.errors)) status
   pub handed : held_by old.output ≡ [] → HasHandedOn new.output
 
 -- and so were the lines; and if all was taken, what the oracle foretold came true
-pub record IsRun {F I J M N R Y O E : Type 0} (files : Files F I J M N R Y) (r : Raw R)
+pub record IsRun {F I J M N R Y O E : Type 0} (machine : Machine F I J M N R Y)
     (given : Given (Result Asked Refused) J) (old new : World Y O E)
     (left : Left F M I J) (status : ℕ) : Type 0 where
-  pub answers : Answers files r given old new left status
+  pub answers : Answers machine given old new left status
   pub said : HasHandedOn new.errors
-  pub foretold : IsForetold files given (written old) (taken new) left
+  pub foretold : IsForetold machine.files given (written old) (taken new) left
       (IsTaken old.output new.output new.errors) status
-  pub created : IsCreateForetold files given (written old) (taken new) left
+  pub created : IsCreateForetold machine.files given (written old) (taken new) left
       (IsTaken old.output new.output new.errors) status

@@ -9,6 +9,7 @@ ghost use Rattle.cdb.specs.Creating.{Creates, MakesOnOutput};
 ghost use Rattle.cdb.specs.Creating.{IsOfNoOutput, NotOpened, OpensAll, WritesAll};
 ghost use Rattle.cdb_system.specs.Places.{temporary_of};
 ghost use Rattle.cdb_system.specs.Files.{files_of};
+ghost use Rattle.cdb.specs.Machine.{machine_of};
 ghost use Rattle.cdb_system.specs.State.{standard_of, state_of};
 ghost use Rattle.cdb.specs.Contents.{making_of, wanted_of};
 
@@ -60,8 +61,8 @@ where
     E: Sink,
     requires head { head_size L.WORD ≤ creation.run.options.make.limit }
     requires words { creation.run.options.make.limit ≤ L.GREATEST }
-    ensures creates { Creates (files_of Y.File.Store Y.Made.Store Y.Stream.feed Y.System)
-        Y.Names.File.RawFile (wanted_of L.WORD L.GREATEST creation.entry)
+    ensures creates { Creates (machine_of Y.File.Store Y.Made.Store Y.Stream.feed Y.System
+        Y.Names.File.RawFile) (wanted_of L.WORD L.GREATEST creation.entry)
         (standard_of Y.Input.feed input)
         (state_of (Y.calls system.old) (Y.Names.calls names.old) (O.contents streams.old.output)
         (E.contents streams.old.errors))

@@ -4,7 +4,7 @@ ghost use Rattle.cdb_show.specs.Command.{asked_in, FitsIn};
 ghost use Rattle.cdb_form.specs.Format.Pair.{head_size};
 ghost use Rattle.cdb_show.specs.Command.{usage_text, version_text};
 ghost use Rattle.std.specs.Prelude.{◌⊎◌, ◌≡◌, map, string_bytes};
-ghost use Rattle.cdb_system.specs.Files.{files_of};
+ghost use Rattle.cdb.specs.Machine.{machine_of};
 ghost use Rattle.cdb.specs.Performs.{IsShown, IsUntouched, Performs};
 ghost use Rattle.cdb_system.specs.Reading.{Tells};
 ghost use Rattle.cdb_system.specs.State.{standard_of, state_of};
@@ -70,7 +70,8 @@ where
     E: Sink,
     requires { FitsIn (head_size L.WORD) L.GREATEST (asked_in request.command.now) }
     ensures performs { Performs L.WORD L.GREATEST
-        (files_of Y.File.Store Y.Made.Store Y.Stream.feed Y.System) Y.Names.File.RawFile
+        (machine_of Y.File.Store Y.Made.Store Y.Stream.feed Y.System
+        Y.Names.File.RawFile)
         request.entry.lines.now.counts (asked_in request.entry.command.now)
         (standard_of Y.Input.feed input)
         (state_of system.old (Y.Names.calls names.old) (O.contents streams.old.output)

@@ -4,7 +4,7 @@ ghost use Rattle.cdb_show.specs.Command.{asked_in, has_wide_words, IsInRange};
 ghost use Rattle.cdb_show.specs.Views.Output.{output_bytes, HasHandedOn, OutputFailed, OutputSays, writer_bytes};
 ghost use Rattle.cdb_system.specs.CauseLine.{more_of};
 ghost use Rattle.cdb_system.specs.Causes.{Explains};
-ghost use Rattle.cdb_system.specs.Files.{files_of};
+ghost use Rattle.cdb.specs.Machine.{machine_of};
 ghost use Rattle.cdb.specs.Performs.{Does, HandsOn, IsUntouched};
 ghost use Rattle.cdb.specs.Running.{Answers, IsRun, given_by, world_of};
 ghost use Rattle.cdb_system.specs.State.{given_of, standard_of, state_of};
@@ -32,8 +32,8 @@ where
     Y: System,
     O: Write,
     E: Write,
-    ensures { IsRun (files_of Y.File.Store Y.Made.Store Y.Stream.feed Y.System)
-        Y.Names.File.RawFile
+    ensures { IsRun (machine_of Y.File.Store Y.Made.Store Y.Stream.feed Y.System
+        Y.Names.File.RawFile)
         (given_by (map string_bytes words.items) (standard_of Y.Input.feed input))
         (world_of system.old (Y.Names.calls names.old) streams.old)
         (world_of system.new (Y.Names.calls names.new) streams.new) result.0 result.1 }
@@ -57,8 +57,8 @@ where
     Y: System,
     O: Write,
     E: Write,
-    ensures { Answers (files_of Y.File.Store Y.Made.Store Y.Stream.feed Y.System)
-        Y.Names.File.RawFile
+    ensures { Answers (machine_of Y.File.Store Y.Made.Store Y.Stream.feed Y.System
+        Y.Names.File.RawFile)
         (given_by (map string_bytes words.items) (standard_of Y.Input.feed input))
         (world_of system.old (Y.Names.calls names.old) streams.old)
         (world_of system.new (Y.Names.calls names.new) streams.new) result.0 result.1 }
@@ -128,8 +128,8 @@ where
     O: Write,
     E: Sink,
     requires { IsInRange (asked_in request.command.now) }
-    ensures does { Does (files_of Y.File.Store Y.Made.Store Y.Stream.feed Y.System)
-        Y.Names.File.RawFile (given_of (asked_in request.entry.command.now)
+    ensures does { Does (machine_of Y.File.Store Y.Made.Store Y.Stream.feed Y.System
+        Y.Names.File.RawFile) (given_of (asked_in request.entry.command.now)
         request.entry.lines.now.counts (standard_of Y.Input.feed input))
         (state_of system.old (Y.Names.calls names.old) (output_bytes streams.old.output)
         (E.contents streams.old.errors))

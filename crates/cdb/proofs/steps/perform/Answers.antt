@@ -1,4 +1,5 @@
-use Rattle.cdb.proofs.Words.{PerformsIn, false, files_of, output_bytes, subst, sym, true, ◌∙◌, ◌≡◌}
+use Rattle.cdb.proofs.Words.{PerformsIn, false, output_bytes, subst, sym, true, ◌∙◌, ◌≡◌}
+use Rattle.cdb.specs.Machine.{machine_of}
 use Rattle.cdb_show.specs.Command.{asked_in, has_wide_words}
 use Rattle.cdb.proofs.steps.perform.Goals.{then-is_wide, else-is_wide}
 use Rattle.cdb.proofs.steps.perform.Goals as goal
@@ -11,10 +12,10 @@ returns-clause-does g c = record {
   performs = elim c.if-is_wide.branch [
     | then-is_wide w ↦
         (let wide : true ≡ has_wide_words (asked_in c.args.request.command.now) = sym w.if-is_wide.true ∙ c.is_wide.ensures in
-        rw w.system-is (rw w.names-is (rw w.streams-is (rw w.performed-is (subst (λ b. PerformsIn b (files_of g.Y.File.Store g.Y.Made.Store g.Y.Stream.Feeds.feed g.Y.System) g.Y.Names.File.RawFile (given_of (asked_in c.args.request.command.now) c.args.request.lines.now.counts (standard_of g.Y.Input.Feeds.feed c.args.input)) (state_of c.args.system.now (g.Y.Names.Names.calls c.args.names.now) (output_bytes c.args.streams.now.output) (g.E.Sink.contents c.args.streams.now.errors)) (state_of w.perform_in-performed.new.system (g.Y.Names.Names.calls w.perform_in-performed.new.names) (output_bytes w.perform_in-performed.new.streams.output) (g.E.Sink.contents w.perform_in-performed.new.streams.errors)) w.perform_in-performed.result.0 w.perform_in-performed.result.1) wide w.perform_in-performed.ensures.performs)))))
+        rw w.system-is (rw w.names-is (rw w.streams-is (rw w.performed-is (subst (λ b. PerformsIn b (machine_of g.Y.File.Store g.Y.Made.Store g.Y.Stream.Feeds.feed g.Y.System g.Y.Names.File.RawFile) (given_of (asked_in c.args.request.command.now) c.args.request.lines.now.counts (standard_of g.Y.Input.Feeds.feed c.args.input)) (state_of c.args.system.now (g.Y.Names.Names.calls c.args.names.now) (output_bytes c.args.streams.now.output) (g.E.Sink.contents c.args.streams.now.errors)) (state_of w.perform_in-performed.new.system (g.Y.Names.Names.calls w.perform_in-performed.new.names) (output_bytes w.perform_in-performed.new.streams.output) (g.E.Sink.contents w.perform_in-performed.new.streams.errors)) w.perform_in-performed.result.0 w.perform_in-performed.result.1) wide w.perform_in-performed.ensures.performs)))))
     | else-is_wide w ↦
         (let narrow : false ≡ has_wide_words (asked_in c.args.request.command.now) = sym w.if-is_wide.false ∙ c.is_wide.ensures in
-        rw w.system-is (rw w.names-is (rw w.streams-is (rw w.performed-is (subst (λ b. PerformsIn b (files_of g.Y.File.Store g.Y.Made.Store g.Y.Stream.Feeds.feed g.Y.System) g.Y.Names.File.RawFile (given_of (asked_in c.args.request.command.now) c.args.request.lines.now.counts (standard_of g.Y.Input.Feeds.feed c.args.input)) (state_of c.args.system.now (g.Y.Names.Names.calls c.args.names.now) (output_bytes c.args.streams.now.output) (g.E.Sink.contents c.args.streams.now.errors)) (state_of w.perform_in-performed-else-is_wide.new.system (g.Y.Names.Names.calls w.perform_in-performed-else-is_wide.new.names) (output_bytes w.perform_in-performed-else-is_wide.new.streams.output) (g.E.Sink.contents w.perform_in-performed-else-is_wide.new.streams.errors)) w.perform_in-performed-else-is_wide.result.0 w.perform_in-performed-else-is_wide.result.1) narrow w.perform_in-performed-else-is_wide.ensures.performs)))))
+        rw w.system-is (rw w.names-is (rw w.streams-is (rw w.performed-is (subst (λ b. PerformsIn b (machine_of g.Y.File.Store g.Y.Made.Store g.Y.Stream.Feeds.feed g.Y.System g.Y.Names.File.RawFile) (given_of (asked_in c.args.request.command.now) c.args.request.lines.now.counts (standard_of g.Y.Input.Feeds.feed c.args.input)) (state_of c.args.system.now (g.Y.Names.Names.calls c.args.names.now) (output_bytes c.args.streams.now.output) (g.E.Sink.contents c.args.streams.now.errors)) (state_of w.perform_in-performed-else-is_wide.new.system (g.Y.Names.Names.calls w.perform_in-performed-else-is_wide.new.names) (output_bytes w.perform_in-performed-else-is_wide.new.streams.output) (g.E.Sink.contents w.perform_in-performed-else-is_wide.new.streams.errors)) w.perform_in-performed-else-is_wide.result.0 w.perform_in-performed-else-is_wide.result.1) narrow w.perform_in-performed-else-is_wide.ensures.performs)))))
   ];
   hands = c.handed_on.ensures.hands;
 }
