@@ -1,5 +1,5 @@
 -- A record added, and those that it replaces taken out.
-use Rattle.cdb_make.proofs.Words.{AreNone, Bool, Ghosts, HaveHash, KeyValue, List, MakeFault, Maker, Mark, Roll, SameRecords, [], ap, arith, behind, cases_eq, cases_lt, false, found_of, get_or, get_or_append_left, get_or_past, get_or_push, gone_of, inl, inr, is_found, is_gone, left, length, length-map, length_push, map, or_each, record_size, refl, slice_index, subst, suc, sum, sym, true, ℕ, ◌++◌, ◌+◌, ◌<◌, ◌∙◌, ◌∷◌, ◌≡◌, ◌≤◌, ◌⊎◌}
+use Rattle.cdb_make.proofs.Words.{marks_in, AreNone, Bool, Ghosts, HaveHash, KeyValue, List, MakeFault, Maker, Mark, Roll, SameRecords, [], ap, arith, behind, cases_eq, cases_lt, false, found_of, get_or, get_or_append_left, get_or_past, get_or_push, gone_of, inl, inr, is_found, is_gone, left, length, length-map, length_push, map, or_each, record_size, refl, slice_index, subst, suc, sum, sym, true, ℕ, ◌++◌, ◌+◌, ◌<◌, ◌∙◌, ◌∷◌, ◌≡◌, ◌≤◌, ◌⊎◌}
 use Rattle.cdb_form.specs.declared.width.Width.{Ghosts as Widths}
 use Rattle.cdb_store.specs.declared.make_fault.MakeFault.TheVariants.{Broken, Lookup, TooBig, NoMemory, Writing}
 use Rattle.cdb_make.specs.Views.Maker.{gone_in, found_in, Stays, Adds, Waits, Admits, FailsCompacting, FailsAdmitting, IsWithin}
@@ -8,6 +8,7 @@ use Rattle.cdb_make.proofs.Spans.{left-append, or_append}
 use Rattle.cdb_make.proofs.Survive.{or_none, number_zero}
 use Rattle.cdb_make.proofs.Ends.{end_more}
 use Rattle.cdb_make.proofs.Rolls.{none_more, goes_then}
+use Rattle.cdb_make.proofs.Marking.{marks_long}
 
 pub have_more : (hash x : ℕ) (hs hs₁ : List ℕ) (ms ms₁ : List Mark) → hs₁ ≡ hs ++ x ∷ [] → found_of ms₁ ≡ found_of ms ++ false ∷ [] → length ms ≡ length hs → HaveHash hash hs ms → HaveHash hash hs₁ ms₁
 have_more hash x hs hs₁ ms ms₁ hashes found long h = record {
@@ -32,8 +33,8 @@ behind_nothing (false ∷ ms) (x ∷ xs) none = behind_nothing ms xs (λ k. none
 pub or_clear : (ms ns : List Bool) → length ms ≡ length ns → AreNone ms → AreNone ns → AreNone (or_each ms ns)
 or_clear ms ns long a b = subst AreNone (sym (or_none ms ns long b)) a
 
-pub same_marks : {L : Type 0} {l : Widths L} (m : Roll L l) → length (gone_of m.marks.items) ≡ length (found_of m.marks.items)
-same_marks m = length-map m.marks.items is_gone ∙ sym (length-map m.marks.items is_found)
+pub same_marks : {L : Type 0} {l : Widths L} (m : Roll L l) → length (gone_of (marks_in m)) ≡ length (found_of (marks_in m))
+same_marks m = length-map (marks_in m) is_gone ∙ sym (length-map (marks_in m) is_found)
 
 -- none goes and none was found
 pub clear_by : {S L : Type 0} {s : Ghosts S} {l : Widths L} (i : Maker S L s l) → (i.lazy ≡ true) ⊎ (i.roll.gone.count + i.roll.found.count ≡ 0) → i.lazy ≡ false → i.broken ≡ false → AreNone (gone_in i) × AreNone (found_in i)
@@ -63,7 +64,7 @@ admits_later {s = s} {l = l} i j k hash r first whole a store broken same gone =
               let q = h.2 all sees in
               let ms : List Bool = or_each (gone_in i) (found_in i) in
               let long : length (gone_in i) ≡ length (found_in i) = same_marks i.roll in
-              let many : length ms ≡ length all = length-or (gone_in i) (found_in i) long ∙ length-map i.roll.marks.items is_gone ∙ i.roll.marked ∙ sees_long i.roll all h.0 sees in
+              let many : length ms ≡ length all = length-or (gone_in i) (found_in i) long ∙ length-map (marks_in i.roll) is_gone ∙ (marks_long i.roll) ∙ sees_long i.roll all h.0 sees in
               let both : gone_in k ≡ ms ++ false ∷ [] = gone ∙ ap (λ (v : List Bool). or_each v (found_in j)) a.gone ∙ ap (or_each (gone_in i ++ false ∷ [])) a.found ∙ or_append (gone_in i) (found_in i) false false long in
               let written : s.written k.store ≡ s.written i.store + record_size l.WORD r = ap s.written store ∙ a.written in (
                 q.0,

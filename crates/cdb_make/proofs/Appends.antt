@@ -2,7 +2,7 @@
 use Rattle.std.proofs.Common.{◌≡◌, ℕ, ◌+◌, ◌-◌, ◌*◌, ◌<◌, ◌≤◌, ◌⊎◌, inl, inr, Bool, true, false, List, [], ◌∷◌, ◌++◌, length, refl, sym, ap, subst, ◌∙◌, arith, append_assoc, length-append, Result, Ok, Err, IfOk, IfErr, OnErr}
 use Rattle.std.specs.Prelude.{All, sum_by}
 use Rattle.std.proofs.Math.Nat.{mul-add, mul-le-mul_left}
-use Rattle.cdb_make.proofs.Words.{AfterWrite, AreOf, AreSized, ComesFrom, CompactsAll, Ghosts, HasGone, HasNotFailed, Holds, IsRecord, KeyValue, MakeFault, Maker, Roll, SameCounts, SameRecords, StaysWhole, append-nil, count_in, file_size, gone_in, gone_of, head_size, is_gone, key_hash, left, length-map, made_size, part, part-overwrite, places_in, record_bytes, record_size, searched, size_split, sought_in, sum_by-append, sum_by_push, whole_size}
+use Rattle.cdb_make.proofs.Words.{marks_in, AfterWrite, AreOf, AreSized, ComesFrom, CompactsAll, Ghosts, HasGone, HasNotFailed, Holds, IsRecord, KeyValue, MakeFault, Maker, Roll, SameCounts, SameRecords, StaysWhole, append-nil, count_in, file_size, gone_in, gone_of, head_size, is_gone, key_hash, left, length-map, made_size, part, part-overwrite, places_in, record_bytes, record_size, searched, size_split, sought_in, sum_by-append, sum_by_push, whole_size}
 use Rattle.cdb_store.specs.Images.{ImagesHold as Stored}
 use Rattle.cdb_form.specs.declared.width.Width.{Ghosts as Widths}
 use Rattle.cdb_store.specs.declared.make_fault.MakeFault.TheVariants.{Broken, Lookup, TooBig, NoMemory, Writing}
@@ -12,6 +12,7 @@ use Rattle.cdb_make.proofs.Looking.{sees_long, sees_same}
 use Rattle.cdb_make.proofs.Picking.{both_few, both_within}
 use Rattle.cdb_make.proofs.Rolls.{left_every, left_file, sees_entered}
 use Rattle.cdb_make.proofs.Spans.{left-append}
+use Rattle.cdb_make.proofs.Marking.{marks_long}
 
 -- bytes that were written are in each image
 pub stored_written : {end : ℕ} {ys : List ℕ} {old new : List ℕ → Type 0} (size : ℕ) → AreSized size old → end ≤ size → AfterWrite end ys old new → Stored end ys new
@@ -23,7 +24,7 @@ stored_written {end = end} {ys = ys} size sized inside written = record {
 }
 
 -- the same records are held
-pub stays_noted : {S L : Type 0} {s : Ghosts S} {l : Widths L} (old new : Maker S L s l) → old.broken ≡ false → new.broken ≡ false → SameRecords old.roll new.roll → new.roll.marks.items ≡ old.roll.marks.items → new.store ≡ old.store → StaysWhole old new
+pub stays_noted : {S L : Type 0} {s : Ghosts S} {l : Widths L} (old new : Maker S L s l) → old.broken ≡ false → new.broken ≡ false → SameRecords old.roll new.roll → (marks_in new.roll) ≡ marks_in old.roll → new.store ≡ old.store → StaysWhole old new
 stays_noted {s = s} old new was whole kept marks same = record {
   was = was;
   whole = whole;
@@ -51,7 +52,7 @@ entered {s = s} {l = l} old new m r kept is_record was whole hashes tagged numbe
     each = λ b is.
         let there : s.image old.store b = subst (λ (v : _). s.image v b) same is in
         let held = h.each b there in
-        let many : length (gone_in old) ≡ length held.all = omega (arith, length-map old.roll.marks.items is_gone, old.roll.marked, sees_long old.roll held.all b held.sees) in
+        let many : length (gone_in old) ≡ length held.all = omega (arith, length-map (marks_in old.roll) is_gone, (marks_long old.roll), sees_long old.roll held.all b held.sees) in
         let behind = subst (λ (n : ℕ). part n (length (record_bytes l.WORD r)) b ≡ record_bytes l.WORD r) (sym kept.end) (stored.each b there) in
         record {
           all = held.all ++ r ∷ [];
@@ -92,7 +93,7 @@ pub held_size : {S L : Type 0} {s : Ghosts S} {l : Widths L} (m : Maker S L s l)
 held_size {l = l} m rs b w h is =
     let held = h.each b is in
     let long = sees_long m.roll held.all b held.sees in
-    let many : length (gone_in m) ≡ length held.all = omega (arith, long, length-map m.roll.marks.items is_gone, m.roll.marked) in
+    let many : length (gone_in m) ≡ length held.all = omega (arith, long, length-map (marks_in m.roll) is_gone, (marks_long m.roll)) in
     let few : m.roll.gone.count ≤ length m.roll.hashes.items = omega (arith, both_few m.roll) in
     let file = (left_file m.roll held.all b (gone_in m) (m.roll.end - m.roll.gone.size) (count_in m) m.roll.gone.size m.roll.gone.count w many held.sees (omega (arith, both_within m.roll)) (omega (arith, few)) (m.roll.picked.size _ held.sees.of) m.roll.picked.count).0 in
     sym file ∙ ap (file_size l.WORD) (sym held.left)

@@ -1,5 +1,5 @@
 -- What a caller of a maker concludes from what its calls leave.
-use Rattle.cdb_make.proofs.Words.{Ghosts, KeyValue, List, Maker, ap, arith, file_size, is_gone, length, length-map, mul-le-mul_left, reads_nothing, refl, ◌*◌, ◌∙◌, ◌≡◌, ◌≤◌, ◌⊎◌}
+use Rattle.cdb_make.proofs.Words.{marks_in, Ghosts, KeyValue, List, Maker, ap, arith, file_size, is_gone, length, length-map, mul-le-mul_left, reads_nothing, refl, ◌*◌, ◌∙◌, ◌≡◌, ◌≤◌, ◌⊎◌}
 use Rattle.cdb_form.specs.declared.width.Width.{Ghosts as Widths}
 use Rattle.cdb_make.specs.Views.Maker.{Follows, Holds, WhereHonest, count_in, gone_in, limit_of, told_count}
 use Rattle.cdb_make.proofs.Appends.{held_size}
@@ -7,6 +7,7 @@ use Rattle.cdb_make.proofs.Finishing.{told_whole}
 use Rattle.cdb_make.proofs.Looking.{sees_long}
 use Rattle.cdb_make.proofs.Picking.{left_number}
 use Rattle.cdb_make.proofs.Rolls.{follows_read}
+use Rattle.cdb_make.proofs.Marking.{marks_long}
 
 -- it counts the records that it holds
 pub holds_count : {S L : Type 0} {s : Ghosts S} {l : Widths L} (m : Maker S L s l) (rs : List KeyValue) → Holds m rs → WhereHonest (s.image m.store) (told_count m ≡ length rs)
@@ -14,7 +15,7 @@ holds_count m rs h = record {
   each = λ b is.
       let held = h.each b is in
       let long = sees_long m.roll held.all b held.sees in
-      let many : length (gone_in m) ≡ length held.all = omega (arith, long, length-map m.roll.marks.items is_gone, m.roll.marked) in
+      let many : length (gone_in m) ≡ length held.all = omega (arith, long, length-map (marks_in m.roll) is_gone, (marks_long m.roll)) in
       let count : count_in m ≡ length rs = omega (arith, m.roll.picked.count, left_number (gone_in m) held.all many, long, ap length held.left) in
       (told_whole m h.whole).0 ∙ count;
 }

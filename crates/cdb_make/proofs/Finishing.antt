@@ -1,5 +1,5 @@
 -- A finished file: its records without those that go, and what is left if finishing failed.
-use Rattle.cdb_make.proofs.Words.{AreNone, Bool, Ghosts, HeadIsLast, IsErrAnd, IsFinished, KeepsPart, KeyValue, List, MakeFault, Maker, Roll, SameImages, SameRecords, Sees, WordPair, ap, arith, behind, cond, false, file_bytes, flat_map, found_of, gone_of, head_bytes, head_size, inl, inr, is_gone, joined, left, length, length-map, map, part, places_in, record_bytes, record_size, records_end, refl, roll_tables, subst, sym, table_bytes, true, ℕ, ◌*◌, ◌++◌, ◌+◌, ◌-◌, ◌<◌, ◌∙◌, ◌≡◌, ◌≤◌, ◌⊎◌, AfterTornWrite, kept_torn}
+use Rattle.cdb_make.proofs.Words.{Mark, marks_in, AreNone, Bool, Ghosts, HeadIsLast, IsErrAnd, IsFinished, KeepsPart, KeyValue, List, MakeFault, Maker, Roll, SameImages, SameRecords, Sees, WordPair, ap, arith, behind, cond, false, file_bytes, flat_map, found_of, gone_of, head_bytes, head_size, inl, inr, is_gone, joined, left, length, length-map, map, part, places_in, record_bytes, record_size, records_end, refl, roll_tables, subst, sym, table_bytes, true, ℕ, ◌*◌, ◌++◌, ◌+◌, ◌-◌, ◌<◌, ◌∙◌, ◌≡◌, ◌≤◌, ◌⊎◌, AfterTornWrite, kept_torn}
 use Rattle.std.specs.Prelude.{sum, Result, Ok, Err, IfErr, OnOk, OnErr}
 use Rattle.std.proofs.lemmas.List.Sums.{sum-map}
 use Rattle.cdb_form.specs.declared.width.Width.{Ghosts as Widths}
@@ -14,6 +14,7 @@ use Rattle.cdb_make.proofs.Admitting.{behind_nothing}
 use Rattle.cdb_make.proofs.Spans.{spans_of, place_low, place_high}
 use Rattle.cdb_make.proofs.Survive.{number_zero}
 use Rattle.cdb_make.proofs.Tables.{roll_tables_are}
+use Rattle.cdb_make.proofs.Marking.{marks_long}
 
 -- ---- no record goes
 
@@ -24,12 +25,12 @@ none_in m e = number_zero (gone_in m) (sym m.roll.picked.count ∙ e)
 pub none_size : {L : Type 0} {l : Widths L} (m : Roll L l) → m.gone.count ≡ 0 → m.gone.size ≡ 0
 none_size {l = l} m e =
     let spans = spans_of (head_size l.WORD) m.end (places_in m.places) m.spans in
-    m.picked.size spans.sizes spans.of ∙ ap sum (picked_none (gone_of m.marks.items) spans.sizes (number_zero (gone_of m.marks.items) (sym m.picked.count ∙ e)))
+    m.picked.size spans.sizes spans.of ∙ ap sum (picked_none (gone_of (marks_in m)) spans.sizes (number_zero (gone_of (marks_in m)) (sym m.picked.count ∙ e)))
 
 pub found_size : {L : Type 0} {l : Widths L} (m : Roll L l) → m.found.count ≡ 0 → m.found.size ≡ 0
 found_size {l = l} m e =
     let spans = spans_of (head_size l.WORD) m.end (places_in m.places) m.spans in
-    m.sought.size spans.sizes spans.of ∙ ap sum (picked_none (found_of m.marks.items) spans.sizes (number_zero (found_of m.marks.items) (sym m.sought.count ∙ e)))
+    m.sought.size spans.sizes spans.of ∙ ap sum (picked_none (found_of (marks_in m)) spans.sizes (number_zero (found_of (marks_in m)) (sym m.sought.count ∙ e)))
 
 pub made_none : {S L : Type 0} {s : Ghosts S} {l : Widths L} (m : Maker S L s l) → m.roll.gone.count ≡ 0 → made_size m ≡ m.roll.end + 4 * l.WORD * length m.roll.hashes.items
 made_none {l = l} m e =
@@ -48,11 +49,11 @@ end_behind {l = l} m =
 pub left_behind : {L : Type 0} {l : Widths L} (m : Roll L l) → head_size l.WORD + m.gone.size ≤ m.end
 left_behind {l = l} m =
     let spans = spans_of (head_size l.WORD) m.end (places_in m.places) m.spans in
-    omega (arith, m.picked.size spans.sizes spans.of, spans.of.ends, end_sum (head_size l.WORD) spans.sizes, picked_most (gone_of m.marks.items) spans.sizes)
+    omega (arith, m.picked.size spans.sizes spans.of, spans.of.ends, end_sum (head_size l.WORD) spans.sizes, picked_most (gone_of (marks_in m)) spans.sizes)
 
 -- all stay then
 pub all_in : {S L : Type 0} {s : Ghosts S} {l : Widths L} (m : Maker S L s l) (all : List KeyValue) (b : List ℕ) → m.roll.gone.count ≡ 0 → Sees m.roll all b → left (gone_in m) all ≡ all
-all_in m all b e sees = left_all_stay (gone_in m) all (omega (arith, length-map m.roll.marks.items is_gone, m.roll.marked, sees_long m.roll all b sees)) (none_in m e)
+all_in m all b e sees = left_all_stay (gone_in m) all (omega (arith, length-map (marks_in m.roll) is_gone, (marks_long m.roll), sees_long m.roll all b sees)) (none_in m e)
 
 compacted_holds : {S L : Type 0} {s : Ghosts S} {l : Widths L} (i j : Maker S L s l) {P : List KeyValue → List KeyValue → Type 0} (rs : List KeyValue) → j.broken ≡ false → j.roll.gone.count ≡ 0 → Goes i j (λ all rest. (rest ≡ left (gone_in i) all) × P all rest) → Holds i rs → Holds j rs
 compacted_holds i j rs whole none goes h = record {
@@ -84,7 +85,7 @@ compacts_all_by i j was some h none end = record {
 }
 
 -- the records that are stored are the same
-pub compacts_all_then : {S L : Type 0} {s : Ghosts S} {l : Widths L} (i j k : Maker S L s l) → CompactsAll i j → k.store ≡ j.store → k.broken ≡ j.broken → SameRecords j.roll k.roll → k.roll.marks ≡ j.roll.marks → k.roll.gone ≡ j.roll.gone → CompactsAll i k
+pub compacts_all_then : {S L : Type 0} {s : Ghosts S} {l : Widths L} (i j k : Maker S L s l) → CompactsAll i j → k.store ≡ j.store → k.broken ≡ j.broken → SameRecords j.roll k.roll → marks_in k.roll ≡ marks_in j.roll → k.roll.gone ≡ j.roll.gone → CompactsAll i k
 compacts_all_then {s = s} i j k h store broken same marks gone =
     let goes = h.goes in
     record {
@@ -95,7 +96,7 @@ compacts_all_then {s = s} i j k h store broken same marks gone =
           whole = broken ∙ h.stays.whole;
           each = λ b is.
               let in_j = (h.stays.holds rs held).each b (subst (λ v. s.image v b) store is) in
-              record { all = in_j.all; sees = sees_same j.roll k.roll in_j.all b same in_j.sees; left = in_j.left ∙ ap (λ v. left (gone_of v.items) in_j.all) (sym marks) };
+              record { all = in_j.all; sees = sees_same j.roll k.roll in_j.all b same in_j.sees; left = in_j.left ∙ ap (λ (v : List Mark). left (gone_of v) in_j.all) (sym marks) };
         };
       };
       none = ap (λ v. v.count) gone ∙ h.none;
@@ -283,7 +284,7 @@ stays_kept j k was whole roll keeps = record {
         record {
           all = held.all;
           sees = subst (λ m. Sees m held.all b) (sym roll) (sees_part j.roll held.all g.0 b g.2 held.sees);
-          left = held.left ∙ ap (λ m. left (gone_of m.marks.items) held.all) (sym roll);
+          left = held.left ∙ ap (λ m. left (gone_of (marks_in m)) held.all) (sym roll);
         };
   };
 }

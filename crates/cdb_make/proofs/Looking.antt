@@ -1,11 +1,12 @@
 -- Records that a roll notes, as a look at their places sees them.
 use Rattle.std.proofs.Common.{◌≡◌, ℕ, zero, suc, ◌+◌, ◌<◌, ◌≤◌, ◌^◌, Bool, true, false, cond, List, [], ◌∷◌, ◌++◌, length, map, drop, take, get_or, refl, sym, ap, subst, ◌∙◌, arith, Ok, Option, Some, None, is_some}
-use Rattle.cdb_make.proofs.Words.{Has, cases_lt, inl, inr, is_gone, IsFreshRecord, KeyValue, PairFits, Roll, SameRecords, Sees, bytes_eq, bytes_eq-Decides, fresh, get_or-map, get_or_default, gone_of, has_key, head_size, key_hash, length-map, length-record_bytes, part, places_in, record_bytes, record_size, searched, slice_index, sought_by, sought_in, take-append-drop}
+use Rattle.cdb_make.proofs.Words.{marks_in, Has, cases_lt, inl, inr, is_gone, IsFreshRecord, KeyValue, PairFits, Roll, SameRecords, Sees, bytes_eq, bytes_eq-Decides, fresh, get_or-map, get_or_default, gone_of, has_key, head_size, key_hash, length-map, length-record_bytes, part, places_in, record_bytes, record_size, searched, slice_index, sought_by, sought_in, take-append-drop}
 use Rattle.cdb_form.specs.declared.width.Width.{Ghosts as Widths}
 use Rattle.cdb_form.proofs.Files.Prefixes.{lengths_of, Begins, Reads, prefix_reads}
 use Rattle.cdb_form.proofs.Files.Standing.{Begins-record_bytes}
 use Rattle.cdb_make.specs.Looks.{key_at, size_at, has_key_at, LooksAtImages}
 use Rattle.cdb_make.proofs.Spans.{piece_at, place_is, place_high, place_size}
+use Rattle.cdb_make.proofs.Marking.{marks_long}
 
 -- what a record that is stored somewhere says
 pub record ReadsAs (w at : ℕ) (b : List ℕ) (r : KeyValue) : Type 0 where
@@ -63,10 +64,10 @@ both_of : (m has : Bool) → cond m false has ≡ true → (m ≡ false) × (has
 both_of true has e = absurd (let t : false ≡ true = e in cc)
 both_of false has e = (refl, e)
 
-pub fresh_has : {L : Type 0} {l : Widths L} (m : Roll L l) (all : List KeyValue) (b key : List ℕ) (number k : ℕ) → number ≡ sought_in m key → k < length all → length (gone_of m.marks.items) ≡ length all → Sees m all b → IsFreshRecord key (gone_of m.marks.items) all k
-    → Has number (searched m) (gone_of m.marks.items) k
+pub fresh_has : {L : Type 0} {l : Widths L} (m : Roll L l) (all : List KeyValue) (b key : List ℕ) (number k : ℕ) → number ≡ sought_in m key → k < length all → length (gone_of (marks_in m)) ≡ length all → Sees m all b → IsFreshRecord key (gone_of (marks_in m)) all k
+    → Has number (searched m) (gone_of (marks_in m)) k
 fresh_has {l = l} m all b key number k is_sought lt long h is =
-    let gone : List Bool = gone_of m.marks.items in
+    let gone : List Bool = gone_of (marks_in m) in
     let d : KeyValue = record { key = []; value = [] } in
     let both = both_of (get_or gone k true) (has_key key (get_or all k d)) (sym (fresh_at key gone all k d long lt) ∙ is) in
     let same : (get_or all k d).key ≡ key = (bytes_eq-Decides (get_or all k d).key key).0 both.1 in
@@ -77,20 +78,20 @@ fresh_has {l = l} m all b key number k is_sought lt long h is =
 
 -- no record has the key if none has the number up to some place, and none has the key from there on
 pub none_fresh : {L : Type 0} {l : Widths L} (m : Roll L l) (all : List KeyValue) (b key : List ℕ) (number from before end : ℕ) → number ≡ sought_in m key → before ≤ end → end ≤ length m.hashes.items → Sees m all b
-    → ((k : ℕ) → from ≤ k → k < before → Has number (searched m) (gone_of m.marks.items) k → ⊥) → ((k : ℕ) → before ≤ k → k < end → IsFreshRecord key (gone_of m.marks.items) all k → ⊥)
-    → (k : ℕ) → from ≤ k → k < end → IsFreshRecord key (gone_of m.marks.items) all k → ⊥
+    → ((k : ℕ) → from ≤ k → k < before → Has number (searched m) (gone_of (marks_in m)) k → ⊥) → ((k : ℕ) → before ≤ k → k < end → IsFreshRecord key (gone_of (marks_in m)) all k → ⊥)
+    → (k : ℕ) → from ≤ k → k < end → IsFreshRecord key (gone_of (marks_in m)) all k → ⊥
 none_fresh m all b key number from before end is_sought low high h no_number none k above below is =
     let long = sees_long m all b h in
     elim (cases_lt k before) [
-      | inl lt ↦ no_number k above lt (fresh_has m all b key number k is_sought (omega (arith, long)) (omega (arith, long, length-map m.marks.items is_gone, m.marked)) h is)
+      | inl lt ↦ no_number k above lt (fresh_has m all b key number k is_sought (omega (arith, long)) (omega (arith, long, length-map (marks_in m) is_gone, (marks_long m))) h is)
       | inr past ↦ none k past below is
     ]
 
 -- a look at its place
-pub looked_none : {L : Type 0} {l : Widths L} (m : Roll L l) (all : List KeyValue) (b key : List ℕ) (k place : ℕ) → l.TOP + 1 ≡ 256 ^ l.WORD → l.GREATEST ≤ l.TOP → k < length all → length (gone_of m.marks.items) ≡ length all → place ≡ get_or (places_in m.places) k m.end → Sees m all b
-    → has_key_at l.WORD key b place ≡ false → IsFreshRecord key (gone_of m.marks.items) all k → ⊥
+pub looked_none : {L : Type 0} {l : Widths L} (m : Roll L l) (all : List KeyValue) (b key : List ℕ) (k place : ℕ) → l.TOP + 1 ≡ 256 ^ l.WORD → l.GREATEST ≤ l.TOP → k < length all → length (gone_of (marks_in m)) ≡ length all → place ≡ get_or (places_in m.places) k m.end → Sees m all b
+    → has_key_at l.WORD key b place ≡ false → IsFreshRecord key (gone_of (marks_in m)) all k → ⊥
 looked_none {l = l} m all b key k place words top lt long at h none is =
-    let gone : List Bool = gone_of m.marks.items in
+    let gone : List Bool = gone_of (marks_in m) in
     let d : KeyValue = record { key = []; value = [] } in
     let r : KeyValue = get_or all k d in
     let both = both_of (get_or gone k true) (has_key key r) (sym (fresh_at key gone all k d long lt) ∙ is) in
@@ -98,10 +99,10 @@ looked_none {l = l} m all b key k place words top lt long at h none is =
     let no : has_key key r ≡ false = ap (λ (v : List ℕ). bytes_eq v key) (sym reads.key) ∙ ap (has_key_at l.WORD key b) (sym at) ∙ none in
     (let t : true ≡ false = sym both.1 ∙ no in cc)
 
-pub looked_some : {L : Type 0} {l : Widths L} (m : Roll L l) (all : List KeyValue) (b key : List ℕ) (k place : ℕ) → l.TOP + 1 ≡ 256 ^ l.WORD → l.GREATEST ≤ l.TOP → k < length all → length (gone_of m.marks.items) ≡ length all → place ≡ get_or (places_in m.places) k m.end → Sees m all b
-    → has_key_at l.WORD key b place ≡ true → get_or (gone_of m.marks.items) k true ≡ false → IsFreshRecord key (gone_of m.marks.items) all k
+pub looked_some : {L : Type 0} {l : Widths L} (m : Roll L l) (all : List KeyValue) (b key : List ℕ) (k place : ℕ) → l.TOP + 1 ≡ 256 ^ l.WORD → l.GREATEST ≤ l.TOP → k < length all → length (gone_of (marks_in m)) ≡ length all → place ≡ get_or (places_in m.places) k m.end → Sees m all b
+    → has_key_at l.WORD key b place ≡ true → get_or (gone_of (marks_in m)) k true ≡ false → IsFreshRecord key (gone_of (marks_in m)) all k
 looked_some {l = l} m all b key k place words top lt long at h some stays =
-    let gone : List Bool = gone_of m.marks.items in
+    let gone : List Bool = gone_of (marks_in m) in
     let d : KeyValue = record { key = []; value = [] } in
     let r : KeyValue = get_or all k d in
     let reads = (sees_at m all b k r words top lt (get_or_default all k r d lt) h).0 in

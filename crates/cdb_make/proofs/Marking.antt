@@ -1,6 +1,8 @@
 -- Marks of records, one by one.
-use Rattle.cdb_make.proofs.Words.{AreChained, Bool, HaveHash, IsIn, IsLast, IsTakenFrom, List, Mark, ap, arith, bucket_of, cases_eq, cases_lt, ext_get_or, false, found_of, get_or, gone_of, inl, inr, is_found, is_gone, length, length-map, map, refl, slice_index, subst, sym, taken, true, ℕ, ◌+◌, ◌-◌, ◌<◌, ◌∙◌, ◌≡◌, ◌≢◌, ◌≤◌}
+use Rattle.cdb_make.proofs.Words.{length-take, take, Roll, marks_in, all_marks, append-nil, append_assoc, length-append, length-replicate, length_push, replicate, suc, [], ◌∷◌, ◌++◌, AreChained, Bool, HaveHash, IsIn, IsLast, IsTakenFrom, List, Mark, ap, arith, bucket_of, cases_eq, cases_lt, ext_get_or, false, found_of, get_or, gone_of, inl, inr, is_found, is_gone, length, length-map, map, refl, slice_index, subst, sym, taken, true, ℕ, ◌+◌, ◌-◌, ◌<◌, ◌∙◌, ◌≡◌, ◌≢◌, ◌≤◌}
 use Rattle.std.proofs.Math.ListN.{get_or-map}
+use Rattle.std.proofs.lemmas.List.{get_or-take, get_or-append_right, get_or-replicate, get_or_append_left, replicate_more}
+use Rattle.cdb_form.specs.declared.width.Width.{Ghosts as Widths}
 use Rattle.cdb_make.specs.declared.mark.Mark.TheVariants.{Stays, Found, Gone}
 
 pub gone_or : (ms : List Mark) (k : ℕ) → get_or (gone_of ms) k true ≡ is_gone (get_or ms k Gone)
@@ -8,6 +10,62 @@ gone_or ms k = get_or-map is_gone ms k Gone
 
 pub found_or : (ms : List Mark) (k : ℕ) → get_or (found_of ms) k false ≡ is_found (get_or ms k Gone)
 found_or ms k = get_or-map is_found ms k Gone
+
+-- ---- marks of all records
+
+pub all_long : (n : ℕ) (ms : List Mark) → length ms ≤ n → length (all_marks n ms) ≡ n
+all_long n ms few = omega (arith, length-append ms (replicate (n - length ms) Stays), length-replicate (n - length ms) Stays)
+
+pub all_full : (n : ℕ) (ms : List Mark) → length ms ≡ n → all_marks n ms ≡ ms
+all_full n ms full =
+    let none : n - length ms ≡ 0 = omega (arith, full) in
+    ap (λ (k : ℕ). ms ++ replicate k Stays) none ∙ append-nil ms
+
+pub all_again : (n : ℕ) (ms : List Mark) → length ms ≤ n → all_marks n (all_marks n ms) ≡ all_marks n ms
+all_again n ms few = all_full n (all_marks n ms) (all_long n ms few)
+
+pub all_more : (n : ℕ) (ms : List Mark) → length ms ≤ n → all_marks (n + 1) ms ≡ all_marks n ms ++ Stays ∷ []
+all_more n ms few =
+    let k : ℕ = n - length ms in
+    let one : n + 1 - length ms ≡ k + 1 = omega (arith, few) in
+    ap (λ (j : ℕ). ms ++ replicate j Stays) one ∙ ap (λ v. ms ++ v) (sym (replicate_more k Stays)) ∙ sym (append_assoc ms (replicate k Stays) (Stays ∷ []))
+
+pub all_step : (n : ℕ) (ms ms₁ : List Mark) → ms₁ ≡ ms ++ Stays ∷ [] → length ms < n → all_marks n ms₁ ≡ all_marks n ms
+all_step n ms ms₁ is few =
+    let k : ℕ = n - length ms₁ in
+    let long : length ms₁ ≡ length ms + 1 = ap length is ∙ length_push ms Stays in
+    let one : n - length ms ≡ suc k = omega (arith, long, few) in
+    ap (λ v. v ++ replicate k Stays) is ∙ append_assoc ms (Stays ∷ []) (replicate k Stays) ∙ ap (λ (j : ℕ). ms ++ replicate j Stays) (sym one)
+
+-- whether one of them goes
+pub gone_all : (n : ℕ) (ms : List Mark) (k : ℕ) → k < length ms → get_or (gone_of (all_marks n ms)) k true ≡ get_or (gone_of ms) k true
+gone_all n ms k lt = gone_or (all_marks n ms) k ∙ ap is_gone (get_or_append_left ms (replicate (n - length ms) Stays) Gone k lt) ∙ sym (gone_or ms k)
+
+pub gone_past : (n : ℕ) (ms : List Mark) (k : ℕ) → length ms ≤ k → k < n → get_or (gone_of (all_marks n ms)) k true ≡ false
+gone_past n ms k past lt =
+    let rest : List Mark = replicate (n - length ms) Stays in
+    gone_or (all_marks n ms) k ∙ ap is_gone (get_or-append_right ms rest (length ms) k Gone refl past ∙ get_or-replicate (n - length ms) (k - length ms) Stays Gone (omega arith))
+
+-- all of them, of which the first so many stay and the others have none
+pub all_stay : (n first : ℕ) (ms : List Mark) → ((k : ℕ) → k < first → get_or ms k Gone ≡ Stays) → (k : ℕ) → first ≤ n → k < n → get_or (all_marks n (take first ms)) k Gone ≡ Stays
+all_stay n first ms stay k low lt =
+    let cut : List Mark = take first ms in
+    let rest : List Mark = replicate (n - length cut) Stays in
+    elim (cases_lt k (length cut)) [
+      | inl here ↦
+          let before : k < first = omega (arith, here, length-take first ms) in
+          get_or_append_left cut rest Gone k here ∙ get_or-take first ms k Gone before ∙ stay k before
+      | inr past ↦ get_or-append_right cut rest (length cut) k Gone refl past ∙ get_or-replicate (n - length cut) (k - length cut) Stays Gone (omega arith)
+    ]
+
+-- as many as there are records
+pub marks_long : {L : Type 0} {l : Widths L} (m : Roll L l) → length (marks_in m) ≡ length m.hashes.items
+marks_long m = all_long (length m.hashes.items) m.marks.items m.marked
+
+pub marks_full : {L : Type 0} {l : Widths L} (m : Roll L l) → length m.marks.items ≡ length m.hashes.items → marks_in m ≡ m.marks.items
+marks_full m full = all_full (length m.hashes.items) m.marks.items full
+
+-- ---- one by one
 
 found_left : (m : Mark) → is_found m ≡ true → is_gone m ≡ false
 found_left Stays e = refl

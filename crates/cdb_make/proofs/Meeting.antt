@@ -1,5 +1,5 @@
 -- What a put will answer, and that it does so.
-use Rattle.cdb_make.proofs.Words.{AreNone, Bool, Ghosts, HasRoom, HaveHash, IsErrAnd, KeyValue, List, MakeFault, Maker, Mark, Roll, Sees, [], ap, arith, behind, cases_lt, cond, false, false_from_ne_true, file_size, found_of, gone_of, head_size, inl, inr, is_gone, left, length, length-map, map, number, or_each, picked, reads_nothing, record_size, records_end, refl, searched, subst, sum_by, sum_by-cons, sum_by_push, sym, taken, true, whole_size, ℕ, ◌*◌, ◌++◌, ◌+◌, ◌-◌, ◌<◌, ◌∙◌, ◌∷◌, ◌≡◌, ◌≢◌, ◌⊎◌}
+use Rattle.cdb_make.proofs.Words.{marks_in, AreNone, Bool, Ghosts, HasRoom, HaveHash, IsErrAnd, KeyValue, List, MakeFault, Maker, Mark, Roll, Sees, [], ap, arith, behind, cases_lt, cond, false, false_from_ne_true, file_size, found_of, gone_of, head_size, inl, inr, is_gone, left, length, length-map, map, number, or_each, picked, reads_nothing, record_size, records_end, refl, searched, subst, sum_by, sum_by-cons, sum_by_push, sym, taken, true, whole_size, ℕ, ◌*◌, ◌++◌, ◌+◌, ◌-◌, ◌<◌, ◌∙◌, ◌∷◌, ◌≡◌, ◌≢◌, ◌⊎◌}
 use Rattle.std.specs.Prelude.{sum, ◌||◌, Result, Ok, Err, IfErr}
 use Rattle.cdb_form.specs.declared.width.Width.{Ghosts as Widths}
 use Rattle.cdb_form.specs.declared.mode.Mode.{Mode}
@@ -17,6 +17,7 @@ use Rattle.cdb_make.proofs.Rolls.{left_file, slots_add, whole_push}
 use Rattle.cdb_make.proofs.Removing.{one_of, rest_of, sought, kept_picked, left-sum_by, behind-sum_by, moved_first}
 use Rattle.cdb_make.proofs.Admitting.{same_marks, or_clear, behind_nothing, length-or}
 use Rattle.cdb_make.proofs.Survive.{or_none, number_zero, some_there}
+use Rattle.cdb_make.proofs.Marking.{marks_long}
 
 pub have_none : (hash : ℕ) (hs : List ℕ) (ms : List Mark) → AreNone (found_of ms) → HaveHash hash hs ms
 have_none hash hs ms none = record { each = λ k is. absurd (let t : false ≡ true = sym (none k) ∙ is in cc) }
@@ -76,7 +77,7 @@ pub meets_by : {S L : Type 0} {s : Ghosts S} {l : Widths L} (i j : Maker S L s l
 meets_by {s = s} {l = l} i j hash mode r put other rests none plain = record {
   rests = rests;
   replaces = λ some. absurd (omega (arith, some, j.roll.sought.count, number_none (found_in j) none));
-  have = have_none hash (searched j.roll) j.roll.marks.items none;
+  have = have_none hash (searched j.roll) (marks_in j.roll) none;
   each = λ rs h b is.
       let p = plain rs h b is in
       let held = h.each b (rests.reads.images b is) in
@@ -218,8 +219,8 @@ puts_by {s = s} {l = l} i j k hash mode r put np m t alone room = record {
           | inl wrote ↦ inl (omega (arith, wrote, lone, m.rests.reads.written, m.rests.same.end))
           | inr pass ↦
               let taken : j.roll.gone.size + j.roll.found.size ≡ sum (picked ms ns) = kept_picked j.roll e.all g.0 e.sees in
-              let many : length ms ≡ length e.all = length-or (gone_in j) (found_in j) (same_marks j.roll) ∙ length-map j.roll.marks.items is_gone ∙ j.roll.marked ∙ sees_long j.roll e.all g.0 e.sees in
-              let stay : length (gone_in k) ≡ length q.0 = length-map k.roll.marks.items is_gone ∙ k.roll.marked ∙ sees_long k.roll q.0 b q.1 in
+              let many : length ms ≡ length e.all = length-or (gone_in j) (found_in j) (same_marks j.roll) ∙ length-map (marks_in j.roll) is_gone ∙ (marks_long j.roll) ∙ sees_long j.roll e.all g.0 e.sees in
+              let stay : length (gone_in k) ≡ length q.0 = length-map (marks_in k.roll) is_gone ∙ (marks_long k.roll) ∙ sees_long k.roll q.0 b q.1 in
               let ends = end_passed j.roll k.roll e.all q.0 ms g.0 b r many e.sees q.1 (sym (left_all_stay (gone_in k) q.0 stay pass.1) ∙ q.2.0) in
               elim alone [
                 | inl wrote ↦ inl (omega (arith, wrote, ends.0, lone, m.rests.reads.written, m.rests.same.end))
@@ -274,11 +275,11 @@ held_still i j k rests stays rs h = record {
 
 -- the file once they are gone
 kept_file : {L : Type 0} {l : Widths L} (m : Roll L l) (all : List KeyValue) (b : List ℕ) → (l.WORD ≡ 4) ⊎ (l.WORD ≡ 8) → Sees m all b
-    → file_size l.WORD (left (or_each (gone_of m.marks.items) (found_of m.marks.items)) all) + (m.gone.size + m.found.size) + 4 * l.WORD * (m.gone.count + m.found.count) ≡ m.end + 4 * l.WORD * length m.hashes.items
+    → file_size l.WORD (left (or_each (gone_of (marks_in m)) (found_of (marks_in m))) all) + (m.gone.size + m.found.size) + 4 * l.WORD * (m.gone.count + m.found.count) ≡ m.end + 4 * l.WORD * length m.hashes.items
 kept_file {l = l} m all b w sees =
-    let ms : List Mark = m.marks.items in
+    let ms : List Mark = marks_in m in
     let marks : gone_of (map taken ms) ≡ or_each (gone_of ms) (found_of ms) = gone_taken ms in
-    let long : length ms ≡ length all = m.marked ∙ sees_long m all b sees in
+    let long : length ms ≡ length all = (marks_long m) ∙ sees_long m all b sees in
     let many : length (or_each (gone_of ms) (found_of ms)) ≡ length all = ap length (sym marks) ∙ length-map (map taken ms) is_gone ∙ length-map ms taken ∙ long in
     let number_is : m.gone.count + m.found.count ≡ number (or_each (gone_of ms) (found_of ms)) = omega (arith, m.picked.count, m.sought.count, number_taken ms, ap number marks) in
     let end : ℕ = m.end - (m.gone.size + m.found.size) in
@@ -290,11 +291,11 @@ kept_file {l = l} m all b w sees =
     omega (arith, file, slots, whole, both_within m)
 
 -- where their records end
-kept_end : {L : Type 0} {l : Widths L} (m : Roll L l) (all : List KeyValue) (b : List ℕ) → Sees m all b → records_end l.WORD (left (or_each (gone_of m.marks.items) (found_of m.marks.items)) all) + (m.gone.size + m.found.size) ≡ m.end
+kept_end : {L : Type 0} {l : Widths L} (m : Roll L l) (all : List KeyValue) (b : List ℕ) → Sees m all b → records_end l.WORD (left (or_each (gone_of (marks_in m)) (found_of (marks_in m))) all) + (m.gone.size + m.found.size) ≡ m.end
 kept_end {l = l} m all b sees =
-    let ms : List Bool = or_each (gone_of m.marks.items) (found_of m.marks.items) in
+    let ms : List Bool = or_each (gone_of (marks_in m)) (found_of (marks_in m)) in
     let ns : List ℕ = map (record_size l.WORD) all in
-    let many : length ms ≡ length ns = length-or (gone_of m.marks.items) (found_of m.marks.items) (same_marks m) ∙ length-map m.marks.items is_gone ∙ m.marked ∙ sees_long m all b sees ∙ sym (length-map all (record_size l.WORD)) in
+    let many : length ms ≡ length ns = length-or (gone_of (marks_in m)) (found_of (marks_in m)) (same_marks m) ∙ length-map (marks_in m) is_gone ∙ (marks_long m) ∙ sees_long m all b sees ∙ sym (length-map all (record_size l.WORD)) in
     omega (arith, left_sum ms ns many, left-sum_by (record_size l.WORD) ms all, kept_picked m all b sees, sees.of.ends, end_sum (head_size l.WORD) ns)
 
 put_size : {S L : Type 0} {s : Ghosts S} {l : Widths L} (i j k : Maker S L s l) (hash : ℕ) (mode : Mode) (r : KeyValue) (put : Put) → (l.WORD ≡ 4) ⊎ (l.WORD ≡ 8) → is_present put ≡ false → Meets i j hash mode r put → Follows j k → (rs : List KeyValue) → Holds i rs → (b : List ℕ) → s.image k.store b
@@ -397,7 +398,7 @@ put_fails i j k hash mode r put Writing w np m fine follows h =
                     let held = holds.each g.0 (m.rests.reads.images g.0 g.1) in
                     let q = g.2 held.all (sees_same i.roll j.roll held.all g.0 m.rests.same held.sees) in
                     let none : AreNone (found_in j) = number_zero (found_in j) (sym j.roll.sought.count ∙ u.3) in
-                    let many : length (gone_in k) ≡ length q.0 = omega (arith, length-map k.roll.marks.items is_gone, k.roll.marked, sees_long k.roll q.0 b q.1) in
+                    let many : length (gone_in k) ≡ length q.0 = omega (arith, length-map (marks_in k.roll) is_gone, (marks_long k.roll), sees_long k.roll q.0 b q.1) in
                     record {
                       all = q.0;
                       sees = q.1;

@@ -1,11 +1,11 @@
 -- Marked records: how many they are, how many bytes they have, and which is the first.
-use Rattle.cdb_make.proofs.Words.{AreOf, Bool, IsPicked, List, Mark, Picked, Roll, [], ap, arith, cases_eq, cases_lt, cond, drop, end_from, ext_get_or, false, false_from_ne_true, get_or, get_or-set_other, get_or-set_same, get_or_default, get_or_past, head_size, inl, inr, left, length, length-map, map, map-set_same, min, number, or_each, picked, places_from, places_in, refl, set, slice_index, subst, suc, sum, sum_by-cons, sym, take, take_at, true, zero, ℕ, ◌++◌, ◌+◌, ◌-◌, ◌<◌, ◌^◌, ◌∙◌, ◌∷◌, ◌≡◌, ◌≤◌, ◌⊎◌}
+use Rattle.cdb_make.proofs.Words.{all_marks, length-set, marks_in, AreOf, Bool, IsPicked, List, Mark, Picked, Roll, [], ap, arith, cases_eq, cases_lt, cond, drop, end_from, ext_get_or, false, false_from_ne_true, get_or, get_or-set_other, get_or-set_same, get_or_default, get_or_past, head_size, inl, inr, left, length, length-map, map, map-set_same, min, number, or_each, picked, places_from, places_in, refl, set, slice_index, subst, suc, sum, sum_by-cons, sym, take, take_at, true, zero, ℕ, ◌++◌, ◌+◌, ◌-◌, ◌<◌, ◌^◌, ◌∙◌, ◌∷◌, ◌≡◌, ◌≤◌, ◌⊎◌}
 use Rattle.std.proofs.Math.ListN.{get_or-map}
 use Rattle.cdb_make.specs.declared.mark.Mark.TheVariants.{Stays, Found, Gone}
 use Rattle.cdb_form.specs.declared.width.Width.{Ghosts as Widths}
 use Rattle.cdb_make.specs.Marks.{is_gone, is_found, gone_of, found_of, taken, put_back, IsFirstMarked, IsFirstOrPast, AreNone, HaveHash, IsPutBackFrom}
 use Rattle.cdb_make.proofs.Spans.{long_as, place_size, spans_of}
-use Rattle.cdb_make.proofs.Marking.{gone_or, found_or}
+use Rattle.cdb_make.proofs.Marking.{all_full, marks_long, gone_or, found_or}
 
 pub sum-cons : (x : ℕ) (xs : List ℕ) → sum (x ∷ xs) ≡ x + sum xs
 sum-cons x xs = sum_by-cons (λ (n : ℕ). n) x xs
@@ -257,6 +257,27 @@ taken_items now old new rest len value long is =
     let e : new ≡ map taken old = is ∙ ap (map taken) value in
     take_at new rest len (ap length e ∙ length-map old taken ∙ sym long) ∙ e
 
+pub back_long : (n : ℕ) (now old new rest : List Mark) (len : ℕ) → length old ≡ n → now ≡ old → len ≡ length old → length new ≡ length now → length (take len (new ++ rest)) ≤ n
+back_long n now old new rest len full value long same =
+    let all : length new ≡ len = omega (arith, same, ap length value, long) in
+    omega (arith, ap length (take_at new rest len all), all, long, full)
+
+-- the same of all marks
+pub back_marks : (n : ℕ) (now old new rest : List Mark) (len first : ℕ) → length old ≡ n → now ≡ old → len ≡ length old → IsFirstOrPast (found_of (all_marks n old)) first → 0 < number (found_of (all_marks n old)) → length new ≡ length now → IsPutBackFrom first (length now) now new
+    → all_marks n (take len (new ++ rest)) ≡ map put_back (all_marks n old)
+back_marks n now old new rest len first full value long h some same back =
+    let e : all_marks n old ≡ old = all_full n old full in
+    let is : take len (new ++ rest) ≡ map put_back old = back_items now old new rest len first value long (subst (λ (v : List Mark). IsFirstOrPast (found_of v) first) e h) (subst (λ (v : List Mark). 0 < number (found_of v)) e some) same back in
+    all_full n (take len (new ++ rest)) (ap length is ∙ length-map old put_back ∙ full) ∙ is ∙ ap (map put_back) (sym e)
+
+pub taken_marks : (n : ℕ) (now old new rest : List Mark) (len : ℕ) → length old ≡ n → now ≡ old → len ≡ length old → new ≡ map taken now → all_marks n (take len (new ++ rest)) ≡ map taken (all_marks n old)
+taken_marks n now old new rest len full value long is =
+    let e : take len (new ++ rest) ≡ map taken old = taken_items now old new rest len value long is in
+    all_full n (take len (new ++ rest)) (ap length e ∙ length-map old taken ∙ full) ∙ e ∙ ap (map taken) (sym (all_full n old full))
+
+pub set_marks : (n : ℕ) (old : List Mark) (k : ℕ) (m : Mark) → length old ≡ n → all_marks n (set old k m) ≡ set (all_marks n old) k m
+set_marks n old k m full = all_full n (set old k m) (length-set old k m ∙ full) ∙ ap (λ (v : List Mark). set v k m) (sym (all_full n old full))
+
 stays_mark : (m : Mark) → is_gone m ≡ false → is_found m ≡ false → m ≡ Stays
 stays_mark Stays g f = refl
 stays_mark Found g f = absurd (let t : true ≡ false = f in cc)
@@ -367,12 +388,12 @@ end_left {from = from} sizes ms p long h of of₁ = omega (arith, h.size sizes o
 
 pub both_within : {L : Type 0} {l : Widths L} (m : Roll L l) → m.gone.size + m.found.size ≤ m.end
 both_within {l = l} m =
-    let ms : List Mark = m.marks.items in
+    let ms : List Mark = marks_in m in
     let spans = spans_of (head_size l.WORD) m.end (places_in m.places) m.spans in
-    let both : sum (picked (gone_of (map taken ms)) spans.sizes) ≡ sum (picked (gone_of ms) spans.sizes) + sum (picked (found_of ms) spans.sizes) = picked_taken ms spans.sizes (omega (arith, m.marked, m.paired, long_as spans.of)) in
+    let both : sum (picked (gone_of (map taken ms)) spans.sizes) ≡ sum (picked (gone_of ms) spans.sizes) + sum (picked (found_of ms) spans.sizes) = picked_taken ms spans.sizes (omega (arith, (marks_long m), m.paired, long_as spans.of)) in
     omega (arith, m.picked.size spans.sizes spans.of, m.sought.size spans.sizes spans.of, both, picked_within spans.sizes (gone_of (map taken ms)) spans.of)
 
 pub both_few : {L : Type 0} {l : Widths L} (m : Roll L l) → m.gone.count + m.found.count ≤ length m.hashes.items
 both_few m =
-    let ms : List Mark = m.marks.items in
-    omega (arith, m.picked.count, m.sought.count, number_taken ms, number_most (gone_of (map taken ms)), length-map (map taken ms) is_gone, length-map ms taken, m.marked)
+    let ms : List Mark = marks_in m in
+    omega (arith, m.picked.count, m.sought.count, number_taken ms, number_most (gone_of (map taken ms)), length-map (map taken ms) is_gone, length-map ms taken, (marks_long m))

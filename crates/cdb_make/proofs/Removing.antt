@@ -1,5 +1,5 @@
 -- Records of a key, found and taken out.
-use Rattle.cdb_make.proofs.Words.{AreNone, Bool, Ghosts, IsErrAnd, KeyValue, List, MakeFault, Maker, Mark, Roll, Sees, [], ap, arith, behind, behind_first, cond, count_of, false, found_of, fresh, gone_of, has_key, inl, inr, is_gone, left, length, length-map, map, number, or_each, picked, record_size, refl, subst, suc, sum_by, sum_by-cons, sym, taken, true, without, ℕ, ◌+◌, ◌<◌, ◌∙◌, ◌∷◌, ◌≡◌, ◌≤◌}
+use Rattle.cdb_make.proofs.Words.{marks_in, AreNone, Bool, Ghosts, IsErrAnd, KeyValue, List, MakeFault, Maker, Mark, Roll, Sees, [], ap, arith, behind, behind_first, cond, count_of, false, found_of, fresh, gone_of, has_key, inl, inr, is_gone, left, length, length-map, map, number, or_each, picked, record_size, refl, subst, suc, sum_by, sum_by-cons, sym, taken, true, without, ℕ, ◌+◌, ◌<◌, ◌∙◌, ◌∷◌, ◌≡◌, ◌≤◌}
 use Rattle.std.specs.Prelude.{sum, Result, Ok, Err, IfErr, OnErr}
 use Rattle.cdb_form.specs.declared.width.Width.{Ghosts as Widths}
 use Rattle.cdb_store.specs.declared.make_fault.MakeFault.TheVariants.{Writing}
@@ -8,6 +8,7 @@ use Rattle.cdb_make.proofs.Looking.{sees_long, sees_same, same_back}
 use Rattle.cdb_make.proofs.Picking.{left_all_stay, sum-cons, gone_taken, picked_taken}
 use Rattle.cdb_make.proofs.Rolls.{taken_out}
 use Rattle.cdb_make.proofs.Survive.{fresh_count, number_zero, or_none, some_there}
+use Rattle.cdb_make.proofs.Marking.{marks_long}
 
 -- the numbers that stay after the first mark are among all that stay
 pub behind_most : (ms : List Bool) (xs : List ℕ) → sum (behind ms xs) ≤ sum (left ms xs)
@@ -63,12 +64,12 @@ none_behind k (r ∷ rs) e =
     f (has_key k r) refl
 
 -- how many bytes those have that go and those that were found
-pub kept_picked : {L : Type 0} {l : Widths L} (m : Roll L l) (all : List KeyValue) (b : List ℕ) → Sees m all b → m.gone.size + m.found.size ≡ sum (picked (or_each (gone_of m.marks.items) (found_of m.marks.items)) (map (record_size l.WORD) all))
+pub kept_picked : {L : Type 0} {l : Widths L} (m : Roll L l) (all : List KeyValue) (b : List ℕ) → Sees m all b → m.gone.size + m.found.size ≡ sum (picked (or_each (gone_of (marks_in m)) (found_of (marks_in m))) (map (record_size l.WORD) all))
 kept_picked {l = l} m all b sees =
-    let ms : List Mark = m.marks.items in
+    let ms : List Mark = marks_in m in
     let ns : List ℕ = map (record_size l.WORD) all in
     let marks : gone_of (map taken ms) ≡ or_each (gone_of ms) (found_of ms) = gone_taken ms in
-    let long : length ms ≡ length all = m.marked ∙ sees_long m all b sees in
+    let long : length ms ≡ length all = (marks_long m) ∙ sees_long m all b sees in
     let sums : sum (picked (gone_of (map taken ms)) ns) ≡ sum (picked (gone_of ms) ns) + sum (picked (found_of ms) ns) = picked_taken ms ns (long ∙ sym (length-map all (record_size l.WORD))) in
     omega (arith, m.picked.size ns sees.of, m.sought.size ns sees.of, sums, ap (λ (v : List Bool). sum (picked v ns)) marks)
 
@@ -88,7 +89,7 @@ sought i j hash n key rs b h holds is =
     let all : List KeyValue = held.all in
     let sees = sees_same i.roll j.roll all b h.rests.same held.sees in
     let m = j.roll in
-    let many : length (gone_in j) ≡ length all = omega (arith, length-map m.marks.items is_gone, m.marked, sees_long m all b sees) in
+    let many : length (gone_in j) ≡ length all = omega (arith, length-map (marks_in m) is_gone, (marks_long m), sees_long m all b sees) in
     let is_left : rs ≡ left (gone_in j) all = held.left ∙ ap (λ (v : List Bool). left v all) (sym h.rests.gone) in
     let found : found_in j ≡ fresh key (gone_in j) all = h.looks.each b is all sees in
     record {
@@ -111,7 +112,7 @@ removes_none {s = s} {l = l} i j hash n key nil h = record {
     each = λ b is.
         let q = sought i j hash n key rs b h holds is in
         let none : AreNone (found_in j) = number_zero (found_in j) (sym j.roll.sought.count ∙ sym h.count ∙ nil) in
-        let long : length (gone_in j) ≡ length (found_in j) = omega (arith, length-map j.roll.marks.items is_gone, length-map j.roll.marks.items Rattle.cdb_make.specs.Marks.is_found) in
+        let long : length (gone_in j) ≡ length (found_in j) = omega (arith, length-map (marks_in j.roll) is_gone, length-map (marks_in j.roll) Rattle.cdb_make.specs.Marks.is_found) in
         record { all = q.all; sees = q.sees; left = sym q.rest ∙ ap (λ (v : List Bool). left v q.all) (or_none (gone_in j) (found_in j) long none) };
   };
   answer = λ rs holds. record { each = λ b is. sym nil ∙ (sought i j hash n key rs b h holds is).count };

@@ -1,5 +1,5 @@
 -- What a roll says of an image, step by step.
-use Rattle.cdb_make.proofs.Words.{AfterTornWrite, AreNone, AreOf, Bool, Ghosts, IsErrAnd, IsRecord, KeepsPart, KeyValue, List, LookFault, MakeFault, Maker, OnlyReads, Roll, SameImages, SameRecords, Sees, SeesNone, Stand, [], ap, arith, cases_eq, cases_lt, cond, end_from, false, file_size, found_of, fresh, get_or, get_or_append_left, get_or_past, get_or_push, gone_of, has_key, head_size, inl, inr, joined, key_hash, left, length, length-append, length-map, length_push, map, map-append, not, number, or_each, overwrite, part, part-overwrite, part_add, part_from_take, picked, places_in, record_bytes, record_size, refl, searched, sought_in, subst, sum_by, sum_by-cons, sum_by_push, sym, take, take-overwrite, true, whole_size, without, ℕ, ◌*◌, ◌++◌, ◌+◌, ◌<◌, ◌∙◌, ◌∷◌, ◌≡◌, ◌≤◌, ◌⊎◌, kept_torn}
+use Rattle.cdb_make.proofs.Words.{marks_in, AfterTornWrite, AreNone, AreOf, Bool, Ghosts, IsErrAnd, IsRecord, KeepsPart, KeyValue, List, LookFault, MakeFault, Maker, OnlyReads, Roll, SameImages, SameRecords, Sees, SeesNone, Stand, [], ap, arith, cases_eq, cases_lt, cond, end_from, false, file_size, found_of, fresh, get_or, get_or_append_left, get_or_past, get_or_push, gone_of, has_key, head_size, inl, inr, joined, key_hash, left, length, length-append, length-map, length_push, map, map-append, not, number, or_each, overwrite, part, part-overwrite, part_add, part_from_take, picked, places_in, record_bytes, record_size, refl, searched, sought_in, subst, sum_by, sum_by-cons, sum_by_push, sym, take, take-overwrite, true, whole_size, without, ℕ, ◌*◌, ◌++◌, ◌+◌, ◌<◌, ◌∙◌, ◌∷◌, ◌≡◌, ◌≤◌, ◌⊎◌, kept_torn}
 use Rattle.std.specs.Prelude.{All, sum, Result, Ok, Err, IfErr, OnOk, OnErr}
 use Rattle.std.proofs.lemmas.List.Elements.{All-append, All-cons, All-nil, All-head, All-tail}
 use Rattle.cdb_form.specs.declared.width.Width.{Ghosts as Widths}
@@ -77,12 +77,12 @@ sees_added {l = l} old new r all a b is_record inside hashes tagged numbers of w
     sees_entered old new r all b is_record hashes tagged numbers of (ap (part old.end (length x)) written ∙ part-overwrite old.end a x inside) (sees_kept old old all a b (same_self old) same h)
 
 -- those without a mark
-pub sees_compacted : {L : Type 0} {l : Widths L} (old new : Roll L l) (all : List KeyValue) (a b : List ℕ) → new.hashes.items ≡ left (gone_of old.marks.items) old.hashes.items → new.tagged ≡ old.tagged → searched new ≡ left (gone_of old.marks.items) (searched old)
-    → ((sizes : List ℕ) → AreOf (head_size l.WORD) (places_in old.places) old.end sizes → AreOf (head_size l.WORD) (places_in new.places) new.end (left (gone_of old.marks.items) sizes))
-    → ((ps : List (List ℕ)) → AreOf (head_size l.WORD) (places_in old.places) old.end (map length ps) → Stand (head_size l.WORD) ps a → Stand (head_size l.WORD) (left (gone_of old.marks.items) ps) b) → Sees old all a → Sees new (left (gone_of old.marks.items) all) b
+pub sees_compacted : {L : Type 0} {l : Widths L} (old new : Roll L l) (all : List KeyValue) (a b : List ℕ) → new.hashes.items ≡ left (gone_of (marks_in old)) old.hashes.items → new.tagged ≡ old.tagged → searched new ≡ left (gone_of (marks_in old)) (searched old)
+    → ((sizes : List ℕ) → AreOf (head_size l.WORD) (places_in old.places) old.end sizes → AreOf (head_size l.WORD) (places_in new.places) new.end (left (gone_of (marks_in old)) sizes))
+    → ((ps : List (List ℕ)) → AreOf (head_size l.WORD) (places_in old.places) old.end (map length ps) → Stand (head_size l.WORD) ps a → Stand (head_size l.WORD) (left (gone_of (marks_in old)) ps) b) → Sees old all a → Sees new (left (gone_of (marks_in old)) all) b
 sees_compacted {l = l} old new all a b hashes tagged numbers of stands h =
     let w : ℕ = l.WORD in
-    let ms : List Bool = gone_of old.marks.items in
+    let ms : List Bool = gone_of (marks_in old) in
     let sized : AreOf (head_size w) (places_in old.places) old.end (map length (map (record_bytes w) all)) = subst (AreOf (head_size w) (places_in old.places) old.end) (sym (sizes_of w all)) h.of in
     record {
       are = left_every IsRecord ms all h.are;
@@ -260,11 +260,11 @@ look_fails_so i k Foreign was same gone picked limit lazy broken reads none fail
 }
 
 -- a look ended so with this roll and store, and then its maker noted why
-pub look_fails : {S L : Type 0} {s : Ghosts S} {l : Widths L} (i k : Maker S L s l) (roll : Roll L l) (store : S) (fault : LookFault) (told : MakeFault) → i.broken ≡ false → SameRecords i.roll roll → gone_of roll.marks.items ≡ gone_in i → roll.gone ≡ i.roll.gone → OnlyReads s i.store store
+pub look_fails : {S L : Type 0} {s : Ghosts S} {l : Widths L} (i k : Maker S L s l) (roll : Roll L l) (store : S) (fault : LookFault) (told : MakeFault) → i.broken ≡ false → SameRecords i.roll roll → gone_of (marks_in roll) ≡ gone_in i → roll.gone ≡ i.roll.gone → OnlyReads s i.store store
     → (fault ≡ Foreign → SeesNone roll (s.image store)) → (fault ≡ Failed → s.failures i.store < s.failures store) → told ≡ look_fault fault → k.broken ≡ is_foreign fault → k.store ≡ store → k.roll ≡ roll → k.limit ≡ i.limit → k.lazy ≡ i.lazy → FailsLooking i k told
 look_fails {s = s} i k roll store fault told was same gone picked reads none failed is broken on of limit lazy =
     subst (FailsLooking i k) (sym is)
-    (look_fails_so i k fault was (subst (λ v. SameRecords i.roll v) (sym of) same) (ap (λ v. gone_of v.marks.items) of ∙ gone) (ap (λ v. v.gone) of ∙ picked) limit lazy broken (subst (λ v. OnlyReads s i.store v) (sym on) reads)
+    (look_fails_so i k fault was (subst (λ v. SameRecords i.roll v) (sym of) same) (ap (λ v. gone_of (marks_in v)) of ∙ gone) (ap (λ v. v.gone) of ∙ picked) limit lazy broken (subst (λ v. OnlyReads s i.store v) (sym on) reads)
     (λ e. subst (λ v. SeesNone v (s.image k.store)) (sym of) (subst (λ v. SeesNone roll (s.image v)) (sym on) (none e)))
     (λ e. subst (λ v. s.failures i.store < s.failures v) (sym on) (failed e)))
 
@@ -320,10 +320,10 @@ compacting_fails {s = s} i j k n r Writing roll images roll₁ store failures un
             let zero₁ : i.roll.found.count ≡ 0 = omega (arith, le) in
             inr (
               none w.0 zero₁,
-              subst (λ v. AreNone (gone_of v.marks.items)) (sym roll₁) w.1,
+              subst (λ v. AreNone (gone_of (marks_in v))) (sym roll₁) w.1,
               record { failed = omega (arith, w.2.failed, failures, same); unwritten = omega (arith, w.2.unwritten, unwritten, same₁) },
               zero₁,
-              goes_moved i j k n roll images roll₁ store (λ all rest p. p ∙ ap (λ v. left (or_each (gone_of v.marks.items) (found_of v.marks.items)) all) roll) w.3,
+              goes_moved i j k n roll images roll₁ store (λ all rest p. p ∙ ap (λ v. left (or_each (gone_of (marks_in v)) (found_of (marks_in v))) all) roll) w.3,
             )
       ]
     ]

@@ -20,7 +20,7 @@ pub use Rattle.cdb_make.specs.Finished.{HeadIsLast, IsFinished}
 pub use Rattle.cdb_make.specs.Gathering.{is_among}
 pub use Rattle.cdb_make.specs.Laws.{lowered}
 pub use Rattle.cdb_make.specs.Looks.{HasLengthsInImages, LooksAtImages, NoNewImage, TellsSameInImages}
-pub use Rattle.cdb_make.specs.Marks.{AreNone, HaveHash, IsFirstMarked, IsPutBackFrom, IsTakenFrom, found_of, gone_of, is_found, is_gone, put_back, taken}
+pub use Rattle.cdb_make.specs.Marks.{AreNone, HaveHash, IsFirstMarked, IsPutBackFrom, IsTakenFrom, found_of, gone_of, is_found, is_gone, put_back, taken, all_marks}
 pub use Rattle.cdb_make.specs.Parts.{head_bytes, table_bytes}
 pub use Rattle.cdb_make.specs.Rolls.{IsFreshRecord, Sees, SeesNone, fresh}
 pub use Rattle.cdb_make.specs.Spans.{AreOf, AreRising, AreSpans, IsPicked, Stand, Turns, behind, end_from, joined, left, number, or_each, picked, places_from}
@@ -31,7 +31,7 @@ pub use Rattle.cdb_make.specs.Tags.{searched_by, sought_by, tag_step}
 pub use Rattle.cdb_make.specs.Views.Appending.{AreFirst, Enters, FailsAppending, KeepsLimit, PassesLimit, full_size, records_at}
 pub use Rattle.cdb_make.specs.Views.Maker.{ComesFrom, CompactsAll, FailsLooking, HasGone, HasNotFailed, Holds, IsFile, Meets, SameCounts, StaysWhole, count_in, found_in, gone_in, made_size}
 pub use Rattle.cdb_make.specs.Views.Places.{of_halves, places_in}
-pub use Rattle.cdb_make.specs.Views.Roll.{HasRoom, SameRecords, searched, sought_in}
+pub use Rattle.cdb_make.specs.Views.Roll.{HasRoom, SameRecords, marks_in, searched, sought_in}
 pub use Rattle.cdb_make.specs.declared.key_at.LookFault.{LookFault}
 pub use Rattle.cdb_make.specs.declared.maker.Maker.{Maker}
 pub use Rattle.cdb_make.specs.declared.mark.Mark.{Mark}

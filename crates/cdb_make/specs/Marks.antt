@@ -1,5 +1,5 @@
 -- The marks of records, in their order: which go, and which a look has found.
-use Rattle.std.specs.Prelude.{ℕ, ◌≡◌, ◌-◌, ◌^◌, ◌<◌, ◌≤◌, Bool, true, false, List, length, map, get_or, slice_index}
+use Rattle.std.specs.Prelude.{ℕ, ◌≡◌, ◌-◌, ◌^◌, ◌<◌, ◌≤◌, Bool, true, false, List, ◌++◌, length, map, get_or, slice_index, replicate}
 use Rattle.cdb_make.specs.declared.mark.Mark.{Mark}
 use Rattle.cdb_make.specs.declared.mark.Mark.TheVariants.{Stays, Found, Gone}
 
@@ -18,6 +18,10 @@ gone_of ms = map is_gone ms
 
 abbrev pub found_of : List Mark → List Bool
 found_of ms = map is_found ms
+
+-- the marks of so many records, of which those stay that have none
+abbrev pub all_marks : ℕ → List Mark → List Mark
+all_marks n ms = ms ++ replicate (n - length ms) Stays
 
 -- what was found goes
 abbrev pub taken : Mark → Mark

@@ -9,7 +9,7 @@ use Rattle.cdb_make.specs.Marks.{gone_of, found_of}
 use Rattle.cdb_make.specs.Spans.{AreOf, Stand}
 use Rattle.cdb_make.specs.Survivors.{has_key}
 use Rattle.cdb_make.specs.Views.Places.{places_in}
-use Rattle.cdb_make.specs.Views.Roll.{searched, sought_in}
+use Rattle.cdb_make.specs.Views.Roll.{searched, sought_in, marks_in}
 use Rattle.cdb_make.specs.declared.roll.Roll.{Roll}
 
 -- an image has these records one after another, following the head, and the roll notes them
@@ -40,10 +40,10 @@ IsFreshRecord k ms rs n = get_or (fresh k ms rs) n false ≡ true
 pub record LooksLast {L : Type 0} {l : Widths L} (key : List ℕ) (m : Roll L l) (end : ℕ)
     (last : Option ℕ) (images : List ℕ → Type 0) : Type 0 where
   pub each : (b : List ℕ) → images b → (all : List KeyValue) → Sees m all b
-      → FindsLast (IsFreshRecord key (gone_of m.marks.items) all) end last
+      → FindsLast (IsFreshRecord key (gone_of (marks_in m)) all) end last
 
 -- in each image, those are found that have the key and do not go
 pub record LooksAll {L : Type 0} {l : Widths L} (key : List ℕ) (m : Roll L l)
     (images : List ℕ → Type 0) : Type 0 where
   pub each : (b : List ℕ) → images b → (all : List KeyValue) → Sees m all b
-      → found_of m.marks.items ≡ fresh key (gone_of m.marks.items) all
+      → found_of (marks_in m) ≡ fresh key (gone_of (marks_in m)) all

@@ -2,10 +2,10 @@
 ghost use Rattle.std.specs.Prelude.{◌≡◌, ℕ, List, [], ◌+◌, ◌-◌, ◌/◌, ◌<◌, ◌≤◌, ◌^◌, ◌⊎◌, ◌∷◌, length, min, map, Bool};
 ghost use Rattle.std.specs.Prelude.{slice_index, slice_set, get_or, vec_capacity, true, false, OnOk, OnErr};
 ghost use Rattle.std.specs.Bool.{Decides};
-ghost use Rattle.cdb_make.specs.Marks.{gone_of, taken, HaveHash, IsTakenFrom};
+ghost use Rattle.cdb_make.specs.Marks.{gone_of, all_marks, taken, HaveHash, IsTakenFrom};
 ghost use Rattle.cdb_make.specs.Chains.{AreChained, FindsLast, IsLast, IsIn, Has, Reaches, bucket_of};
 
-use crate::mark::{Mark, is_found_at, is_gone_at};
+use crate::mark::{Mark, is_found_at, is_gone_at, is_gone_of_all};
 use std::alloc::{AllocError, Global};
 
 /// How many entries have a chain at most, since their numbers are 32 bits wide.
@@ -15,10 +15,10 @@ const MOST: usize = 4294967295;
 #[inline(always)]
 fn is_left(hashes: &[u32], marks: &[Mark], hash: u32, entry: usize) -> bool
     requires within { entry < length hashes.now }
-    requires long { length marks.now ≡ length hashes.now }
-    ensures { Decides result (Has hash hashes.now (gone_of marks.now) entry) }
+    requires long { length marks.now ≤ length hashes.now }
+    ensures { Decides result (Has hash hashes.now (gone_of (all_marks (length hashes.now) marks.now)) entry) }
 {
-    hashes[entry] == hash && !is_gone_at(marks, entry)
+    hashes[entry] == hash && !is_gone_of_all(marks, entry)
 }
 
 /// Marks that the records from `from` on go that a look has found.
@@ -45,11 +45,11 @@ pub(crate) struct Chains {
     ghost heads_room: { length heads.items ≤ vec_capacity heads },
     ghost before_room: { length before.items ≤ vec_capacity before },
     ghost spread: { length before.items ≤ length heads.items },
-    ghost most: { length before.items ≤ 2 ^ 32 - 1 },
+    ghost most: { length heads.items ≤ 2 ^ 32 - 1 },
 }
 
 impl Chains {
-    ghost use Rattle.cdb_make.specs.Views.Chains.{LinksIfRoom, HasRoomFor};
+    ghost use Rattle.cdb_make.specs.Views.Chains.{LinksIfRoom, LinksNext, HasRoomFor};
 
     /// Chains of no entries.
     pub(crate) fn new(alloc: Global) -> Chains
@@ -80,10 +80,10 @@ impl Chains {
         hash: u32,
         end: usize,
     ) -> Option<usize>
-        requires chained { AreChained self.now.heads.items self.now.before.items hashes.now (gone_of marks.now) }
-        requires long { length marks.now ≡ length hashes.now }
+        requires chained { AreChained self.now.heads.items self.now.before.items hashes.now (gone_of (all_marks (length hashes.now) marks.now)) }
+        requires long { length marks.now ≤ length hashes.now }
         requires end { end ≤ length hashes.now }
-        ensures { FindsLast (Has hash hashes.now (gone_of marks.now)) end result }
+        ensures { FindsLast (Has hash hashes.now (gone_of (all_marks (length hashes.now) marks.now))) end result }
     {
         let mut at = end;
         while at > self.before.len() {
@@ -97,11 +97,11 @@ impl Chains {
 
     /// Where such a search begins: at the entry before `end`, or at the last of the bucket.
     fn start(&self, hashes: &[u32], marks: &[Mark], hash: u32, end: usize) -> usize
-        requires chained { AreChained self.now.heads.items self.now.before.items hashes.now (gone_of marks.now) }
-        requires long { length marks.now ≡ length hashes.now }
+        requires chained { AreChained self.now.heads.items self.now.before.items hashes.now (gone_of (all_marks (length hashes.now) marks.now)) }
+        requires long { length marks.now ≤ length hashes.now }
         requires end { end ≤ length self.now.before.items }
         requires some { 0 < end }
-        ensures { Reaches (length self.now.heads.items) hash hashes.now (gone_of marks.now)
+        ensures { Reaches (length self.now.heads.items) hash hashes.now (gone_of (all_marks (length hashes.now) marks.now))
             (length self.now.before.items) end result }
     {
         if end < self.before.len() && is_left(hashes, marks, hash, end) {
@@ -112,10 +112,10 @@ impl Chains {
 
     /// The same among the entries that are in chains.
     fn last_linked(&self, hashes: &[u32], marks: &[Mark], hash: u32, end: usize) -> Option<usize>
-        requires chained { AreChained self.now.heads.items self.now.before.items hashes.now (gone_of marks.now) }
-        requires long { length marks.now ≡ length hashes.now }
+        requires chained { AreChained self.now.heads.items self.now.before.items hashes.now (gone_of (all_marks (length hashes.now) marks.now)) }
+        requires long { length marks.now ≤ length hashes.now }
         requires end { end ≤ length self.now.before.items }
-        ensures { FindsLast (Has hash hashes.now (gone_of marks.now)) end result }
+        ensures { FindsLast (Has hash hashes.now (gone_of (all_marks (length hashes.now) marks.now))) end result }
     {
         if end == 0 {
             return None;
@@ -132,13 +132,12 @@ impl Chains {
 
     /// Puts the first entry that is in no chain into that of its bucket.
     fn link(&mut self, hashes: &[u32], marks: &[Mark])
-        requires chained { AreChained self.old.heads.items self.old.before.items hashes.now (gone_of marks.now) }
-        requires long { length marks.now ≡ length hashes.now }
+        requires chained { AreChained self.old.heads.items self.old.before.items hashes.now (gone_of (all_marks (length hashes.now) marks.now)) }
+        requires long { length marks.now ≤ length hashes.now }
         requires some { length self.old.before.items < length hashes.now }
         requires room { length self.old.before.items < vec_capacity self.old.before }
         requires spread { length self.old.before.items < length self.old.heads.items }
-        requires most { length self.old.before.items < 2 ^ 32 - 1 }
-        ensures chained { AreChained self.new.heads.items self.new.before.items hashes.now (gone_of marks.now) }
+        ensures chained { AreChained self.new.heads.items self.new.before.items hashes.now (gone_of (all_marks (length hashes.now) marks.now)) }
         ensures more { length self.new.before.items ≡ length self.old.before.items + 1 }
         ensures wide { length self.new.heads.items ≡ length self.old.heads.items }
         ensures heads { vec_capacity self.new.heads ≡ vec_capacity self.old.heads }
@@ -147,7 +146,44 @@ impl Chains {
         let entry = self.before.len();
         let bucket = self.bucket(hashes[entry]);
         self.before.push_reserved(self.heads[bucket]);
-        if !is_gone_at(marks, entry) {
+        if !is_gone_of_all(marks, entry) {
+            self.heads[bucket] = entry as u32 + 1;
+        }
+    }
+
+    /// How many entries are in chains.
+    pub(crate) fn len(&self) -> usize
+        ensures { result ≡ length self.now.before.items }
+    {
+        self.before.len()
+    }
+
+    /// Whether one more entry can be put into a chain.
+    #[inline(always)]
+    fn has_room(&self) -> bool
+        ensures room { result ≡ true → length self.now.before.items < vec_capacity self.now.before }
+        ensures spread { result ≡ true → length self.now.before.items < length self.now.heads.items }
+        ensures full { result ≡ false → length self.now.before.items < vec_capacity self.now.before
+            → length self.now.heads.items ≤ length self.now.before.items }
+    {
+        self.before.len() < self.heads.len() && self.before.len() < self.before.capacity()
+    }
+
+    /// Puts a new entry into the chain of its bucket if that is wanted, all before it are in theirs,
+    /// and there is room for it. It takes no memory.
+    #[inline(always)]
+    pub(crate) fn push(&mut self, wanted: bool, entry: usize, hash: u32)
+        ensures chained { (hashes : List ℕ) (marks : List Bool)
+            → AreChained self.old.heads.items self.old.before.items hashes marks
+            → entry < length hashes
+            → (wanted ≡ true → slice_index hashes entry ≡ hash)
+            → get_or marks entry true ≡ false
+            → AreChained self.new.heads.items self.new.before.items hashes marks }
+        ensures next { wanted ≡ true → LinksNext entry self.old self.new }
+    {
+        if wanted && entry == self.before.len() && self.has_room() {
+            let bucket = self.bucket(hash);
+            self.before.push_reserved(self.heads[bucket]);
             self.heads[bucket] = entry as u32 + 1;
         }
     }
@@ -202,11 +238,11 @@ impl Chains {
         }
     }
 
-    /// So many entries it can have before it takes memory.
+    /// So many entries it can have in chains before it takes memory.
     fn room(&self) -> usize
-        ensures { result ≡ min (vec_capacity self.now.before) (vec_capacity self.now.heads) }
+        ensures { result ≡ min (min (vec_capacity self.now.before) (vec_capacity self.now.heads)) (2 ^ 32 - 1) }
     {
-        self.before.capacity().min(self.heads.capacity())
+        self.before.capacity().min(self.heads.capacity()).min(MOST)
     }
 
     /// Makes room for so many entries, or for as many as it can have. The chains stay. If memory is
@@ -229,14 +265,13 @@ impl Chains {
 
     /// Puts entries into the chains of their buckets until so many are in one.
     fn link_up_to(&mut self, hashes: &[u32], marks: &[Mark], most: usize)
-        requires chained { AreChained self.old.heads.items self.old.before.items hashes.now (gone_of marks.now) }
-        requires long { length marks.now ≡ length hashes.now }
+        requires chained { AreChained self.old.heads.items self.old.before.items hashes.now (gone_of (all_marks (length hashes.now) marks.now)) }
+        requires long { length marks.now ≤ length hashes.now }
         requires some { length self.old.before.items ≤ most }
         requires within { most ≤ length hashes.now }
         requires room { most ≤ vec_capacity self.old.before }
         requires spread { most ≤ length self.old.heads.items }
-        requires most { most ≤ 2 ^ 32 - 1 }
-        ensures chained { AreChained self.new.heads.items self.new.before.items hashes.now (gone_of marks.now) }
+        ensures chained { AreChained self.new.heads.items self.new.before.items hashes.now (gone_of (all_marks (length hashes.now) marks.now)) }
         ensures all { length self.new.before.items ≡ most }
         ensures room { vec_capacity self.new.before ≡ vec_capacity self.old.before }
     {
@@ -250,10 +285,11 @@ impl Chains {
         ensures chained { (hashes : List ℕ) (marks : List Bool)
             → AreChained self.new.heads.items self.new.before.items hashes marks }
         ensures none { self.new.before.items ≡ [] }
-        ensures wide { length self.new.heads.items ≡ vec_capacity self.old.heads }
+        ensures wide { length self.new.heads.items
+            ≡ min (vec_capacity self.old.heads) (2 ^ 32 - 1) }
         ensures capacity { vec_capacity self.new.before ≡ vec_capacity self.old.before }
     {
-        let room = self.heads.capacity();
+        let room = self.heads.capacity().min(MOST);
         self.before.clear();
         self.heads.clear();
         // It takes no memory.
@@ -263,13 +299,13 @@ impl Chains {
     /// Puts the entries that are in no chain into those of their buckets, as many as there is room
     /// for. It takes no memory. A look compares the others one by one.
     pub(crate) fn link_all(&mut self, hashes: &[u32], marks: &[Mark])
-        requires chained { AreChained self.old.heads.items self.old.before.items hashes.now (gone_of marks.now) }
-        requires long { length marks.now ≡ length hashes.now }
-        ensures chained { AreChained self.new.heads.items self.new.before.items hashes.now (gone_of marks.now) }
+        requires chained { AreChained self.old.heads.items self.old.before.items hashes.now (gone_of (all_marks (length hashes.now) marks.now)) }
+        requires long { length marks.now ≤ length hashes.now }
+        ensures chained { AreChained self.new.heads.items self.new.before.items hashes.now (gone_of (all_marks (length hashes.now) marks.now)) }
         ensures linked { LinksIfRoom (length hashes.now) self.old self.new }
         ensures room { vec_capacity self.new.before ≡ vec_capacity self.old.before }
     {
-        let most = hashes.len().min(MOST).min(self.room());
+        let most = hashes.len().min(self.room());
         if most <= self.before.len() {
             return;
         }

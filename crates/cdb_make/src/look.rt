@@ -5,7 +5,7 @@ ghost use Rattle.cdb_make.specs.declared.key_at.LookFault.TheVariants.{Failed, F
 ghost use Rattle.cdb_make.specs.Chains.{Has};
 ghost use Rattle.cdb_make.specs.Marks.{gone_of, HaveHash};
 ghost use Rattle.cdb_make.specs.Rolls.{LooksLast, LooksAll, SeesNone};
-ghost use Rattle.cdb_make.specs.Views.Roll.{searched, sought_in, HasRoom, SameRecords};
+ghost use Rattle.cdb_make.specs.Views.Roll.{searched, sought_in, marks_in, HasRoom, SameRecords};
 
 use crate::compact::place_at;
 use crate::key_at::{LookFault, look_at};
@@ -16,7 +16,8 @@ use cdb_store::Store;
 /// The last of the first `end` records that has a key and does not go.
 ///
 /// Nothing is written, and no memory is taken. `Failed`: the store failed. `Foreign`: it gave back
-/// other bytes than were written.
+/// other bytes than were written. Inlined, since most looks meet no record of the number.
+#[inline(always)]
 pub(crate) fn last_with_key<S: Store, L: Width>(
     store: &mut S,
     roll: &Roll<L>,
@@ -30,7 +31,7 @@ pub(crate) fn last_with_key<S: Store, L: Width>(
     ensures last { IfOk result (λ last. LooksLast key.now roll.now end last (S.image store.new)) }
     ensures within { IfOk result (λ last. IfSome last (λ n. n < end)) }
     ensures here { IfOk result (λ last. IfSome last
-        (Has sought (searched roll.now) (gone_of roll.now.marks.items))) }
+        (Has sought (searched roll.now) (gone_of (marks_in roll.now)))) }
     ensures foreign { result ≡ Err Foreign → SeesNone roll.now (S.image store.new) }
     ensures ok_failures { OnOk result (S.failures store.new ≡ S.failures store.old) }
     ensures failed { result ≡ Err Failed → S.failures store.old < S.failures store.new }
@@ -60,10 +61,10 @@ pub(crate) fn find<S: Store, L: Width>(
     requires hash { sought ≡ sought_in roll.old key.now }
     requires inside { roll.old.end ≤ S.size store.old }
     ensures all { OnOk result (LooksAll key.now roll.new (S.image store.new)) }
-    ensures hash { OnOk result (HaveHash sought (searched roll.new) roll.new.marks.items) }
+    ensures hash { OnOk result (HaveHash sought (searched roll.new) (marks_in roll.new)) }
     ensures same { SameRecords roll.old roll.new }
     ensures tagged { roll.new.tagged ≡ roll.old.tagged }
-    ensures gone { gone_of roll.new.marks.items ≡ gone_of roll.old.marks.items }
+    ensures gone { gone_of (marks_in roll.new) ≡ gone_of (marks_in roll.old) }
     ensures kept { roll.new.gone ≡ roll.old.gone }
     ensures room { HasRoom roll.old → HasRoom roll.new }
     ensures foreign { result ≡ Err Foreign → SeesNone roll.new (S.image store.new) }

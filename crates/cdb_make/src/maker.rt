@@ -3,7 +3,7 @@ ghost use Rattle.std.specs.Prelude.{◌≡◌, ℕ, ◌+◌, ◌*◌, ◌<◌, �
 ghost use Rattle.cdb_form.specs.Format.File.{whole_size};
 ghost use Rattle.cdb_form.specs.Format.Record.{record_size};
 ghost use Rattle.cdb_make.specs.Marks.{gone_of, found_of, AreNone, HaveHash};
-ghost use Rattle.cdb_make.specs.Views.Roll.{searched, HasRoom, SameRecords};
+ghost use Rattle.cdb_make.specs.Views.Roll.{searched, marks_in, HasRoom, SameRecords};
 ghost use Rattle.cdb_store.specs.declared.make_fault.MakeFault.TheVariants.{Writing};
 
 use crate::candidate::Candidate;
@@ -26,9 +26,9 @@ pub(crate) struct Counts {
 /// Makes a database in a store: each record is written as it is put.
 ///
 /// The store holds the records one after another, from the end of the head on. Of each the maker
-/// keeps the hash of its key, its place and its mark: 9 bytes, or 13 if words are wide. If a look
-/// came before the first, it keeps a tag of its key too, of 4 bytes. Of the bytes of all records at
-/// most half, and 2 MiB, are of records that go with a later pass.
+/// keeps the hash of its key and its place: 8 bytes, or 12 if words are wide. If a look came before
+/// the first, it keeps a tag of its key too, of 4 bytes, and once one is to go, a mark of one byte.
+/// Of the bytes of all records at most half, and 2 MiB, are of records that go with a later pass.
 #[derive(Drop)]
 pub struct Maker<S: Store, L: Width> {
     pub(crate) alloc: Global,
@@ -47,7 +47,7 @@ pub struct Maker<S: Store, L: Width> {
     ghost within: { roll.end + 4 * L.WORD * length roll.hashes.items ≤ limit },
     ghost limited: { limit ≤ L.GREATEST },
     ghost told: { counted.size ≤ limit },
-    ghost eager: { lazy ≡ false → broken ≡ false → AreNone (gone_of roll.marks.items) },
+    ghost eager: { lazy ≡ false → broken ≡ false → AreNone (gone_of (marks_in roll)) },
     ghost spare: { broken ≡ false → 2 * roll.gone.size ≤ roll.end + 4194304 },
 }
 
@@ -93,7 +93,7 @@ impl<S: Store, L: Width> Maker<S, L> {
     #[inline(never)]
     pub(crate) fn pass(&mut self) -> Result<(), MakeFault>
         ensures compacts { OnOk result (Compacts self.old self.new) }
-        ensures found { OnOk result (AreNone (found_of self.new.roll.marks.items)) }
+        ensures found { OnOk result (AreNone (found_of (marks_in self.new.roll))) }
         ensures end { OnOk result
             (self.new.roll.end + self.old.roll.gone.size ≡ self.old.roll.end) }
         ensures count { OnOk result (length self.new.roll.hashes.items + self.old.roll.gone.count
@@ -114,6 +114,7 @@ impl<S: Store, L: Width> Maker<S, L> {
     {
         self.counted = self.counts();
         self.broken = true;
+        self.roll.mark_all();
         let (start, first) = (head_size::<L>() as u64, self.roll.first_gone());
         let (places, marks) = (&self.roll.places, &self.roll.marks);
         compact_bytes(&mut self.store, start, places, marks, first, self.roll.end)?;
@@ -130,7 +131,7 @@ impl<S: Store, L: Width> Maker<S, L> {
     pub(crate) fn exchange(&mut self, candidate: Candidate<'_>) -> Result<(), MakeFault>
         requires candidate { IsCandidate self.old.roll candidate }
         requires have { HaveHash candidate.number (searched self.old.roll)
-            self.old.roll.marks.items }
+            (marks_in self.old.roll) }
         requires some { 0 < self.old.roll.gone.count + self.old.roll.found.count }
         requires fits { self.old.roll.end + whole_size L.WORD (record_in candidate)
             + 4 * L.WORD * length self.old.roll.hashes.items

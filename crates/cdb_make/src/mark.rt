@@ -1,6 +1,6 @@
 // The mark of a record.
-ghost use Rattle.std.specs.Prelude.{◌≡◌, ◌<◌, true, false, length, get_or};
-ghost use Rattle.cdb_make.specs.Marks.{is_gone, is_found, gone_of, found_of};
+ghost use Rattle.std.specs.Prelude.{◌≡◌, ℕ, ◌<◌, ◌≤◌, true, false, length, get_or};
+ghost use Rattle.cdb_make.specs.Marks.{is_gone, is_found, gone_of, found_of, all_marks};
 
 /// What becomes of a record.
 #[derive(Clone, Copy, Debug, PartialEq, Eq)]
@@ -44,6 +44,15 @@ pub(crate) fn is_gone_at(marks: &[Mark], n: usize) -> bool
     ensures { result ≡ get_or (gone_of marks.now) n true }
 {
     marks[n].is_gone()
+}
+
+/// Whether a record goes of so many, of which those past the marks stay.
+#[inline(always)]
+pub(crate) fn is_gone_of_all(marks: &[Mark], n: usize) -> bool
+    ensures { (count : ℕ) → length marks.now ≤ count → n < count
+        → result ≡ get_or (gone_of (all_marks count marks.now)) n true }
+{
+    n < marks.len() && is_gone_at(marks, n)
 }
 
 /// Whether a look has found a record of some.

@@ -1,7 +1,7 @@
 // The records of a key, removed.
 ghost use Rattle.std.specs.Prelude.{◌≡◌, ◌+◌, ◌*◌, ◌<◌, ◌≤◌, true, false, IfOk, IfErr, OnOk, OnErr};
 ghost use Rattle.cdb_make.specs.Marks.{HaveHash};
-ghost use Rattle.cdb_make.specs.Views.Roll.{searched};
+ghost use Rattle.cdb_make.specs.Views.Roll.{searched, marks_in};
 
 use crate::maker::Maker;
 use cdb_form::{Width, hash};
@@ -44,7 +44,7 @@ impl<S: Store, L: Width> Maker<S, L> {
     /// `Writing`: the store failed, and the maker is broken.
     fn take_out(&mut self, sought: u32) -> Result<(), MakeFault>
         requires whole { self.old.broken ≡ false }
-        requires have { HaveHash sought (searched self.old.roll) self.old.roll.marks.items }
+        requires have { HaveHash sought (searched self.old.roll) (marks_in self.old.roll) }
         requires some { 0 < self.old.roll.gone.count + self.old.roll.found.count }
         ensures takes { OnOk result (TakesOut self.old self.new) }
         ensures fails { IfErr result (Tears self.old self.new) }

@@ -1,10 +1,10 @@
 // What is noted of the records on a store.
-ghost use Rattle.std.specs.Prelude.{◌≡◌, ℕ, ◌+◌, ◌-◌, ◌<◌, ◌≤◌, ◌^◌, ◌⊎◌, List, Bool, [], ◌∷◌, ◌++◌, true, false, get_or, slice_set, length, min, cond, vec_capacity, OnOk, OnErr};
+ghost use Rattle.std.specs.Prelude.{◌≡◌, ℕ, ◌+◌, ◌-◌, ◌<◌, ◌≤◌, ◌^◌, ◌⊎◌, List, Bool, [], ◌∷◌, ◌++◌, true, false, get_or, slice_set, take, length, min, cond, vec_capacity, OnOk, OnErr};
 ghost use Rattle.cdb_form.specs.Format.Pair.{head_size};
 ghost use Rattle.cdb_form.specs.Format.Hash.{key_hash};
 ghost use Rattle.cdb_make.specs.Tags.{second_hash, searched_by};
 ghost use Rattle.cdb_make.specs.Chains.{AreChained, FindsLast, Has};
-ghost use Rattle.cdb_make.specs.Marks.{gone_of, found_of, HaveHash, IsFirstMarked, IsPutBackFrom, AreNone};
+ghost use Rattle.cdb_make.specs.Marks.{gone_of, found_of, all_marks, HaveHash, IsFirstMarked, IsPutBackFrom, AreNone};
 ghost use Rattle.cdb_make.specs.declared.mark.Mark.TheVariants.{Stays, Gone};
 ghost use Rattle.cdb_make.specs.Spans.{AreRising, AreOf, IsPicked, left, or_each};
 ghost use Rattle.cdb_make.specs.Views.Places.{places_in, places_room};
@@ -57,19 +57,51 @@ fn put_each_back(marks: &mut [Mark], from: usize)
     }
 }
 
-/// Leaves the marks of so many records that stay. Those before `first` stayed, and no look has
-/// found them.
-fn compact_marks(marks: &mut Vec<Mark>, first: usize, count: usize)
-    requires first { first ≤ count }
-    requires within { count ≤ vec_capacity marks.old }
-    requires stayed { (k : ℕ) → k < first → get_or marks.old.items k Gone ≡ Stays }
-    ensures long { length marks.new.items ≡ count }
-    ensures stay { (k : ℕ) → k < count → get_or marks.new.items k Gone ≡ Stays }
-    ensures room { vec_capacity marks.old ≤ vec_capacity marks.new }
+/// Leaves the marks of the records before `first`, which stay. So the others have none, and stay.
+fn compact_marks(marks: &mut Vec<Mark>, first: usize)
+    requires { (k : ℕ) → k < first → get_or marks.old.items k Gone ≡ Stays }
+    ensures stay { (count k : ℕ) → first ≤ count → k < count
+        → get_or (all_marks count marks.new.items) k Gone ≡ Stays }
+    ensures few { length marks.new.items ≤ first }
+    ensures kept { marks.new.items ≡ take first marks.old.items }
+    ensures room { vec_capacity marks.new ≡ vec_capacity marks.old }
 {
     marks.truncate(first);
-    // It takes no memory.
-    let _ = marks.resize(count, Mark::Stays);
+}
+
+/// Makes room for a mark of each record if there is none for one more than so many: for as many as
+/// there may be. If memory is refused, nothing has changed.
+fn reserve_marks(marks: &mut Vec<Mark>, count: usize, most: usize) -> Result<(), AllocError>
+    requires few { length marks.old.items ≤ count }
+    requires more { count < most }
+    ensures items { marks.new.items ≡ marks.old.items }
+    ensures ok { OnOk result (count < vec_capacity marks.new) }
+    ensures all { OnOk result ((count < vec_capacity marks.old) ⊎ (most ≤ vec_capacity marks.new)) }
+    ensures full { OnErr result (vec_capacity marks.old ≤ count) }
+    ensures room { vec_capacity marks.old ≤ vec_capacity marks.new }
+{
+    if count < marks.capacity() {
+        return Ok(());
+    }
+    if marks.is_empty() {
+        // So no room is copied that was never used.
+        *marks = Vec::with_capacity(*marks.allocator(), most)?;
+        return Ok(());
+    }
+    marks.reserve_exact(most - marks.len())
+}
+
+/// Marks for so many records, for which there is room: those that have none so far stay.
+#[inline(always)]
+fn mark_each(marks: &mut Vec<Mark>, count: usize)
+    requires few { length marks.old.items ≤ count }
+    requires room { count ≤ vec_capacity marks.old }
+    ensures all { marks.new.items ≡ all_marks count marks.old.items }
+    ensures room { vec_capacity marks.new ≡ vec_capacity marks.old }
+{
+    while marks.len() < count {
+        marks.push_reserved(Mark::Stays);
+    }
 }
 
 /// The hash of each record's key and where it lies, in the order of the file, and which records go.
@@ -86,7 +118,7 @@ pub(crate) struct Roll<L: Width> {
     pub(crate) tagged: bool,
     /// Where each record lies, in bytes from the file's start.
     pub(crate) places: Places<L>,
-    /// What becomes of each.
+    /// What becomes of each. Those past the marks stay: a maker that only adds makes none.
     pub(crate) marks: Vec<Mark>,
     /// Those that stay, by their tags or their hashes.
     pub(crate) chains: Chains,
@@ -100,16 +132,16 @@ pub(crate) struct Roll<L: Width> {
     pub(crate) most: usize,
     pub(crate) width: PhantomData<L>,
     ghost paired: { length (places_in places) ≡ length hashes.items },
-    ghost marked: { length marks.items ≡ length hashes.items },
+    ghost marked: { length marks.items ≤ length hashes.items },
     ghost numbered: { length (searched_by tagged tags.items hashes.items) ≡ length hashes.items },
-    ghost chained: { AreChained chains.heads.items chains.before.items (searched_by tagged tags.items hashes.items) (gone_of marks.items) },
+    ghost chained: { AreChained chains.heads.items chains.before.items (searched_by tagged tags.items hashes.items) (gone_of (all_marks (length hashes.items) marks.items)) },
     ghost spans: { AreRising (head_size L.WORD) (places_in places) end },
-    ghost picked: { IsPicked (head_size L.WORD) (places_in places) end (gone_of marks.items) gone },
-    ghost sought: { IsPicked (head_size L.WORD) (places_in places) end (found_of marks.items) found },
+    ghost picked: { IsPicked (head_size L.WORD) (places_in places) end (gone_of (all_marks (length hashes.items) marks.items)) gone },
+    ghost sought: { IsPicked (head_size L.WORD) (places_in places) end (found_of (all_marks (length hashes.items) marks.items)) found },
     ghost hash_room: { length hashes.items ≤ vec_capacity hashes },
     ghost tag_room: { length tags.items ≤ vec_capacity tags },
     ghost place_room: { length (places_in places) ≤ places_room places },
-    ghost room: { length marks.items ≤ vec_capacity marks },
+    ghost room: { length hashes.items ≤ vec_capacity marks },
     ghost most_hashes: { most ≤ vec_capacity hashes },
     ghost most_tags: { tagged ≡ true → most ≤ vec_capacity tags },
     ghost most_places: { most ≤ places_room places },
@@ -118,15 +150,15 @@ pub(crate) struct Roll<L: Width> {
 }
 
 impl<L: Width> Roll<L> {
-    ghost use Rattle.cdb_make.specs.Views.Chains.{LinksIfRoom, HasRoomFor};
-    ghost use Rattle.cdb_make.specs.Views.Roll.{searched, sought_in, IsSought, HasRoom, SameRecords};
+    ghost use Rattle.cdb_make.specs.Views.Chains.{LinksIfRoom, LinksNext, HasRoomFor};
+    ghost use Rattle.cdb_make.specs.Views.Roll.{searched, sought_in, marks_in, IsSought, HasRoom, SameRecords};
 
     /// No records.
     pub(crate) fn new(alloc: Global) -> Roll<L>
         ensures hashes { result.hashes.items ≡ [] }
         ensures searched { searched result ≡ [] }
         ensures places { places_in result.places ≡ [] }
-        ensures marks { result.marks.items ≡ [] }
+        ensures marks { marks_in result ≡ [] }
         ensures gone { result.gone.size ≡ 0 }
         ensures end { result.end ≡ head_size L.WORD }
     {
@@ -191,9 +223,9 @@ impl<L: Width> Roll<L> {
 
     /// The number of the first record that goes, or of all records.
     pub(crate) fn first_gone(&self) -> usize
-        ensures { IsFirstMarked (gone_of self.now.marks.items) result }
+        ensures { IsFirstMarked (gone_of (marks_in self.now)) result }
     {
-        self.gone.first.min(self.marks.len())
+        self.gone.first.min(self.len())
     }
 
     /// The number by which a look finds the records of a key. If none was noted before, the look
@@ -219,7 +251,8 @@ impl<L: Width> Roll<L> {
             → (self.old.tagged ≡ true) ⊎ (vec_capacity self.old.hashes ≡ 0) }
         ensures begins { wanted ≡ true → vec_capacity self.old.hashes ≡ 0 → self.new.tagged ≡ true }
         ensures same { SameRecords self.old self.new }
-        ensures marks { self.new.marks ≡ self.old.marks }
+        ensures marks { marks_in self.new ≡ marks_in self.old }
+        ensures kept_marks { self.new.marks ≡ self.old.marks }
         ensures chains { self.new.chains ≡ self.old.chains }
         ensures gone { self.new.gone ≡ self.old.gone }
         ensures found { self.new.found ≡ self.old.found }
@@ -231,12 +264,31 @@ impl<L: Width> Roll<L> {
         }
     }
 
+    /// Has a mark for each record. It takes no memory.
+    #[inline(always)]
+    pub(crate) fn mark_all(&mut self)
+        ensures marks { self.new.marks.items ≡ marks_in self.old }
+        ensures marked { length self.new.marks.items ≡ length self.new.hashes.items }
+        ensures same { SameRecords self.old self.new }
+        ensures tagged { self.new.tagged ≡ self.old.tagged }
+        ensures all { marks_in self.new ≡ marks_in self.old }
+        ensures chains { self.new.chains ≡ self.old.chains }
+        ensures gone { self.new.gone ≡ self.old.gone }
+        ensures found { self.new.found ≡ self.old.found }
+        ensures room { vec_capacity self.new.hashes ≡ vec_capacity self.old.hashes }
+        ensures place_room { self.new.places ≡ self.old.places }
+        ensures mark_room { vec_capacity self.new.marks ≡ vec_capacity self.old.marks }
+        ensures has { HasRoom self.old → HasRoom self.new }
+    {
+        mark_each(&mut self.marks, self.hashes.len());
+    }
+
     /// The last of the first `end` records that has a number and does not go. If `end` is the
     /// number of such a record, the search goes on from it.
     #[inline(always)]
     pub(crate) fn last(&self, sought: u32, end: usize) -> Option<usize>
         requires { end ≤ length self.now.hashes.items }
-        ensures { FindsLast (Has sought (searched self.now) (gone_of self.now.marks.items)) end result }
+        ensures { FindsLast (Has sought (searched self.now) (gone_of (marks_in self.now))) end result }
     {
         let searched = searched(self.tagged, &self.tags, &self.hashes);
         self.chains.last(searched, &self.marks, sought, end)
@@ -271,14 +323,15 @@ impl<L: Width> Roll<L> {
             ((HasRoom self.old → ⊥) ⊎ (length self.new.hashes.items < self.new.most)) }
         ensures same { SameRecords self.old self.new }
         ensures tagged { self.new.tagged ≡ self.old.tagged }
-        ensures marks { self.new.marks.items ≡ self.old.marks.items }
+        ensures marks { marks_in self.new ≡ marks_in self.old }
+        ensures kept_marks { self.new.marks.items ≡ self.old.marks.items }
         ensures gone { self.new.gone ≡ self.old.gone }
         ensures found { self.new.found ≡ self.old.found }
     {
         reserve_one(&mut self.hashes)?;
         reserve_tag(self.tagged, &mut self.tags)?;
         self.places.reserve()?;
-        reserve_one(&mut self.marks)?;
+        reserve_marks(&mut self.marks, self.hashes.len(), self.hashes.capacity())?;
         self.most = self.room();
         self.chains.reserve(self.most)
     }
@@ -291,7 +344,8 @@ impl<L: Width> Roll<L> {
         ensures full { OnErr result (HasRoom self.old → ⊥) }
         ensures same { SameRecords self.old self.new }
         ensures tagged { self.new.tagged ≡ self.old.tagged }
-        ensures marks { self.new.marks.items ≡ self.old.marks.items }
+        ensures marks { marks_in self.new ≡ marks_in self.old }
+        ensures kept_marks { self.new.marks.items ≡ self.old.marks.items }
         ensures gone { self.new.gone ≡ self.old.gone }
         ensures found { self.new.found ≡ self.old.found }
     {
@@ -307,7 +361,7 @@ impl<L: Width> Roll<L> {
     }
 
     /// Notes one more record, of so many bytes, for which there is room. Its tag is noted if the
-    /// others have one.
+    /// others have one, and if all of them are in chains, it is put into its own.
     #[inline(always)]
     pub(crate) fn push(&mut self, hash: u32, tag: u32, size: u64)
         requires room { HasRoom self.old }
@@ -318,32 +372,36 @@ impl<L: Width> Roll<L> {
         ensures of { (sizes : List ℕ)
             → AreOf (head_size L.WORD) (places_in self.old.places) self.old.end sizes
             → AreOf (head_size L.WORD) (places_in self.new.places) self.new.end (sizes ++ size ∷ []) }
-        ensures gone { gone_of self.new.marks.items ≡ gone_of self.old.marks.items ++ false ∷ [] }
-        ensures found { found_of self.new.marks.items ≡ found_of self.old.marks.items ++ false ∷ [] }
+        ensures gone { gone_of (marks_in self.new) ≡ gone_of (marks_in self.old) ++ false ∷ [] }
+        ensures found { found_of (marks_in self.new) ≡ found_of (marks_in self.old) ++ false ∷ [] }
+        ensures linked { self.old.tagged ≡ true
+            → LinksNext (length self.old.hashes.items) self.old.chains self.new.chains }
+        ensures marks { self.new.marks ≡ self.old.marks }
         ensures end { self.new.end ≡ self.old.end + size }
         ensures count { self.new.gone.count ≡ self.old.gone.count }
         ensures size { self.new.gone.size ≡ self.old.gone.size }
         ensures found_count { self.new.found.count ≡ self.old.found.count }
         ensures found_size { self.new.found.size ≡ self.old.found.size }
     {
+        let number = self.len();
         self.hashes.push_reserved(hash);
         push_tag(self.tagged, &mut self.tags, tag);
         self.places.push(self.end);
-        self.marks.push_reserved(Mark::Stays);
         self.end += size;
+        self.chains.push(self.tagged, number, tag);
     }
 
     /// Takes the records that go out.
     pub(crate) fn compact(&mut self)
-        ensures hashes { self.new.hashes.items ≡ left (gone_of self.old.marks.items) self.old.hashes.items }
-        ensures searched { searched self.new ≡ left (gone_of self.old.marks.items) (searched self.old) }
+        ensures hashes { self.new.hashes.items ≡ left (gone_of (marks_in self.old)) self.old.hashes.items }
+        ensures searched { searched self.new ≡ left (gone_of (marks_in self.old)) (searched self.old) }
         ensures tagged { self.new.tagged ≡ self.old.tagged }
         ensures of { (sizes : List ℕ)
             → AreOf (head_size L.WORD) (places_in self.old.places) self.old.end sizes
             → AreOf (head_size L.WORD) (places_in self.new.places) self.new.end
-            (left (gone_of self.old.marks.items) sizes) }
-        ensures gone { AreNone (gone_of self.new.marks.items) }
-        ensures found { AreNone (found_of self.new.marks.items) }
+            (left (gone_of (marks_in self.old)) sizes) }
+        ensures gone { AreNone (gone_of (marks_in self.new)) }
+        ensures found { AreNone (found_of (marks_in self.new)) }
         ensures end { self.new.end + self.old.gone.size ≡ self.old.end }
         ensures count { length self.new.hashes.items + self.old.gone.count
             ≡ length self.old.hashes.items }
@@ -352,6 +410,7 @@ impl<L: Width> Roll<L> {
         ensures room { 0 < self.old.gone.count → HasRoom self.new }
     {
         self.put_back();
+        self.mark_all();
         let start = head_size::<L>() as u64;
         let first = self.first_gone();
         let searched = searched(self.tagged, &self.tags, &self.hashes);
@@ -361,7 +420,7 @@ impl<L: Width> Roll<L> {
         let kept = compact_entries(start, hashes, places, &self.marks, first, self.end);
         self.hashes.truncate(kept.count);
         self.places.truncate(kept.count);
-        compact_marks(&mut self.marks, first, kept.count);
+        compact_marks(&mut self.marks, first);
         self.gone = none();
         self.found = none();
         self.end = kept.end;
@@ -370,17 +429,18 @@ impl<L: Width> Roll<L> {
     /// Notes that a look has found a record that does not go, before those that it has found.
     pub(crate) fn find(&mut self, n: usize)
         requires within { n < length self.old.hashes.items }
-        requires stays { get_or (gone_of self.old.marks.items) n true ≡ false }
+        requires stays { get_or (gone_of (marks_in self.old)) n true ≡ false }
         requires before { n < self.old.found.first }
-        ensures found { found_of self.new.marks.items
-            ≡ slice_set (found_of self.old.marks.items) n true }
+        ensures found { found_of (marks_in self.new)
+            ≡ slice_set (found_of (marks_in self.old)) n true }
         ensures first { self.new.found.first ≡ n }
-        ensures gone { gone_of self.new.marks.items ≡ gone_of self.old.marks.items }
+        ensures gone { gone_of (marks_in self.new) ≡ gone_of (marks_in self.old) }
         ensures same { SameRecords self.old self.new }
         ensures tagged { self.new.tagged ≡ self.old.tagged }
         ensures kept { self.new.gone ≡ self.old.gone }
         ensures room { HasRoom self.old → HasRoom self.new }
     {
+        self.mark_all();
         let size = place_at(&self.places, n + 1, self.end) - self.places.at(n);
         self.marks[n] = Mark::Found;
         self.found = Picked {
@@ -392,11 +452,11 @@ impl<L: Width> Roll<L> {
 
     /// Marks that the records go that a look for a number has found.
     pub(crate) fn take(&mut self, sought: u32)
-        requires hash { HaveHash sought (searched self.old) self.old.marks.items }
+        requires hash { HaveHash sought (searched self.old) (marks_in self.old) }
         ensures same { SameRecords self.old self.new }
         ensures tagged { self.new.tagged ≡ self.old.tagged }
-        ensures gone { gone_of self.new.marks.items
-            ≡ or_each (gone_of self.old.marks.items) (found_of self.old.marks.items) }
+        ensures gone { gone_of (marks_in self.new)
+            ≡ or_each (gone_of (marks_in self.old)) (found_of (marks_in self.old)) }
         ensures count { self.new.gone.count ≡ self.old.gone.count + self.old.found.count }
         ensures size { self.new.gone.size ≡ self.old.gone.size + self.old.found.size }
     {
@@ -404,6 +464,7 @@ impl<L: Width> Roll<L> {
         if self.found.count == 0 {
             return;
         }
+        self.mark_all();
         let searched = searched(self.tagged, &self.tags, &self.hashes);
         self.chains.take(searched, &mut self.marks, sought);
         self.gone = Picked {
@@ -418,8 +479,8 @@ impl<L: Width> Roll<L> {
     pub(crate) fn put_back(&mut self)
         ensures same { SameRecords self.old self.new }
         ensures tagged { self.new.tagged ≡ self.old.tagged }
-        ensures gone { gone_of self.new.marks.items ≡ gone_of self.old.marks.items }
-        ensures found { AreNone (found_of self.new.marks.items) }
+        ensures gone { gone_of (marks_in self.new) ≡ gone_of (marks_in self.old) }
+        ensures found { AreNone (found_of (marks_in self.new)) }
         ensures picked { self.new.gone ≡ self.old.gone }
         ensures room { vec_capacity self.new.hashes ≡ vec_capacity self.old.hashes }
         ensures place_room { self.new.places ≡ self.old.places }
@@ -429,22 +490,28 @@ impl<L: Width> Roll<L> {
         if self.found.count == 0 {
             return;
         }
+        self.mark_all();
         put_each_back(&mut self.marks, self.found.first);
         self.found = none();
     }
 
     /// Puts the records into chains before a look, as many as there is room for. It takes no
     /// memory. If no record was noted so far, all that come are tagged.
+    #[inline(always)]
     pub(crate) fn link(&mut self)
         ensures sought { (key : List ℕ) (n : ℕ) → IsSought self.old key n → n ≡ sought_in self.new key }
         ensures same { SameRecords self.old self.new }
-        ensures marks { self.new.marks ≡ self.old.marks }
+        ensures marks { marks_in self.new ≡ marks_in self.old }
+        ensures kept_marks { self.new.marks ≡ self.old.marks }
         ensures gone { self.new.gone ≡ self.old.gone }
         ensures found { self.new.found ≡ self.old.found }
         ensures room { HasRoom self.old → HasRoom self.new }
         ensures linked { LinksIfRoom (length self.old.hashes.items) self.old.chains self.new.chains }
     {
         self.tag(true);
+        if self.chains.len() == self.len() {
+            return;
+        }
         let searched = searched(self.tagged, &self.tags, &self.hashes);
         self.chains.link_all(searched, &self.marks);
     }
@@ -453,7 +520,8 @@ impl<L: Width> Roll<L> {
     /// looks compare the records one by one.
     pub(crate) fn unchain(&mut self, alloc: Global)
         ensures same { SameRecords self.old self.new }
-        ensures marks { self.new.marks ≡ self.old.marks }
+        ensures marks { marks_in self.new ≡ marks_in self.old }
+        ensures kept_marks { self.new.marks ≡ self.old.marks }
         ensures gone { self.new.gone ≡ self.old.gone }
         ensures found { self.new.found ≡ self.old.found }
     {

@@ -28,7 +28,7 @@ use Rattle.cdb_form.specs.declared.mode.Mode.{Mode}
 use Rattle.cdb_form.specs.declared.mode.Mode.TheVariants.{Add, Warn, Insert, Replace}
 use Rattle.cdb_make.specs.declared.answer.Put.{Put}
 use Rattle.cdb_make.specs.declared.answer.Put.TheVariants.{Added, AddedAgain, Present, Replaced}
-use Rattle.cdb_make.specs.Views.Roll.{searched, sought_in, HasRoom, SameRecords}
+use Rattle.cdb_make.specs.Views.Roll.{searched, sought_in, marks_in, HasRoom, SameRecords}
 
 -- its store, the greatest size that its file may have, whether it takes records out later, and
 -- whether an earlier call broke it
@@ -46,10 +46,10 @@ is_broken m = m.broken
 
 -- which of its records go, and which a look has found
 abbrev pub gone_in : {S L : Type 0} {s : Ghosts S} {l : Widths L} → Maker S L s l → List Bool
-gone_in m = gone_of m.roll.marks.items
+gone_in m = gone_of (marks_in m.roll)
 
 abbrev pub found_in : {S L : Type 0} {s : Ghosts S} {l : Widths L} → Maker S L s l → List Bool
-found_in m = found_of m.roll.marks.items
+found_in m = found_of (marks_in m.roll)
 
 -- the record of a candidate; and its numbers are those by which a roll will find it
 abbrev pub record_in : Candidate → KeyValue
@@ -100,7 +100,7 @@ pub record Goes {S L : Type 0} {s : Ghosts S} {l : Widths L} (old new : Maker S 
 pub record Stays {S L : Type 0} {s : Ghosts S} {l : Widths L} (old new : Maker S L s l)
     : Type 0 where
   pub same : SameRecords old.roll new.roll
-  pub marks : new.roll.marks.items ≡ old.roll.marks.items
+  pub marks : marks_in new.roll ≡ marks_in old.roll
   pub gone : new.roll.gone ≡ old.roll.gone
   pub found : new.roll.found ≡ old.roll.found
   pub broken : new.broken ≡ old.broken
@@ -236,7 +236,7 @@ pub record Seeks {S L : Type 0} {s : Ghosts S} {l : Widths L} (old new : Maker S
     (number : ℕ) (key : List ℕ) (n : ℕ) : Type 0 where
   pub rests : Rests old new
   pub fine : HasNotFailed old new
-  pub have : HaveHash number (searched new.roll) new.roll.marks.items
+  pub have : HaveHash number (searched new.roll) (marks_in new.roll)
   pub looks : LooksAll key new.roll (s.image new.store)
   pub count : n ≡ new.roll.found.count
 
@@ -561,7 +561,7 @@ pub record MeetsIn {S L : Type 0} {s : Ghosts S} {l : Widths L} (m : Maker S L s
 pub record Meets {S L : Type 0} {s : Ghosts S} {l : Widths L} (old new : Maker S L s l)
     (number : ℕ) (mode : Mode) (r : KeyValue) (put : Put) : Type 0 where
   pub rests : Rests old new
-  pub have : HaveHash number (searched new.roll) new.roll.marks.items
+  pub have : HaveHash number (searched new.roll) (marks_in new.roll)
   pub replaces : 0 < new.roll.found.count → mode ≡ Replace
   pub each : (rs : List KeyValue) → Holds old rs → (b : List ℕ) → s.image new.store b
       → MeetsIn new mode r put rs b

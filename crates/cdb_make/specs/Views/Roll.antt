@@ -2,9 +2,15 @@
 use Rattle.std.specs.Prelude.{ℕ, ◌≡◌, ◌<◌, true, false, List, length, vec_capacity}
 use Rattle.cdb_form.specs.declared.width.Width.{Ghosts as Widths}
 use Rattle.cdb_form.specs.Format.Hash.{key_hash}
+use Rattle.cdb_make.specs.Marks.{all_marks}
 use Rattle.cdb_make.specs.Tags.{second_hash, searched_by, sought_by}
 use Rattle.cdb_make.specs.Views.Places.{places_in, places_room}
+use Rattle.cdb_make.specs.declared.mark.Mark.{Mark}
 use Rattle.cdb_make.specs.declared.roll.Roll.{Roll}
+
+-- what becomes of each of its records
+abbrev pub marks_in : {L : Type 0} {l : Widths L} → Roll L l → List Mark
+marks_in m = all_marks (length m.hashes.items) m.marks.items
 
 -- the numbers by which its records are found, and that of a key
 abbrev pub searched : {L : Type 0} {l : Widths L} → Roll L l → List ℕ
@@ -24,7 +30,7 @@ pub record HasRoom {L : Type 0} {l : Widths L} (m : Roll L l) : Type 0 where
   pub hashes : length m.hashes.items < vec_capacity m.hashes
   pub tags : m.tagged ≡ true → length m.tags.items < vec_capacity m.tags
   pub places : length (places_in m.places) < places_room m.places
-  pub marks : length m.marks.items < vec_capacity m.marks
+  pub marks : length m.hashes.items < vec_capacity m.marks
 
 -- the same records are noted
 pub record SameRecords {L : Type 0} {l : Widths L} (old new : Roll L l) : Type 0 where

@@ -1,8 +1,9 @@
-use Rattle.cdb_make.proofs.Words.{Err, LookFault, LooksAtImages, ap, arith, cases_eq, common_steps, get_or, get_or_default, inl, inr, is_gone, length-map, places_in, reads_more, rules, subst, sym, ℕ, ◌+◌, ◌∙◌, ◌≡◌}
+use Rattle.cdb_make.proofs.Words.{marks_in, Err, LookFault, LooksAtImages, ap, arith, cases_eq, common_steps, get_or, get_or_default, inl, inr, is_gone, length-map, places_in, reads_more, rules, subst, sym, ℕ, ◌+◌, ◌∙◌, ◌≡◌}
 use Rattle.cdb_make.specs.declared.key_at.LookFault.TheVariants.{Foreign}
 use Rattle.cdb_make.proofs.Spans.{spans_of, place_high}
 use Rattle.cdb_make.proofs.Looking.{sees_long, none_fresh, looked_none, looked_some, looked_foreign, has_it, has_it_not}
 use Rattle.cdb_make.proofs.look.last_with_key.Goals.{After-place_at-next}
+use Rattle.cdb_make.proofs.Marking.{marks_long}
 use Rattle.cdb_make.proofs.look.last_with_key.Goals as goal
 
 pub look_at-requires-clause-inside : goal.look_at-requires-clause-inside
@@ -45,7 +46,7 @@ returns-then-is_some-clause-last g c =
           let long = sees_long m all b sees in
           record {
             within = omega (arith, h.within, inv.within);
-            here = looked_some m all b c.args.key.now n c.at-place.result g.met.L.Width.top_is g.met.L.Width.greatest_fits.0 (omega (arith, long, h.within, inv.within, c.requires.end)) (omega (arith, long, length-map m.marks.items is_gone, m.marked)) (place_is g (goal.at.returns-then-is_some-clause-last g c).After-place_at-next) sees
+            here = looked_some m all b c.args.key.now n c.at-place.result g.met.L.Width.top_is g.met.L.Width.greatest_fits.0 (omega (arith, long, h.within, inv.within, c.requires.end)) (omega (arith, long, length-map (marks_in m) is_gone, (marks_long m))) (place_is g (goal.at.returns-then-is_some-clause-last g c).After-place_at-next) sees
                 (has_it c.in_ok-look_at.field-0 (sym c.if-is_some.ensures) c.in_ok-look_at.ensures.looks b is) h.here.stays;
             none = λ k low. none_fresh m all b c.args.key.now c.args.sought (n + 1) c.loop-n.before c.args.end c.requires.hash inv.within c.requires.end sees
                 (λ k low. h.none k (omega (arith, low))) (inv.none b (c.look_at.ensures.reads.images b is) all sees) k (omega (arith, low));
@@ -66,7 +67,7 @@ loop-n-preserved g c =
       none = λ b is all sees k low high fresh.
           let long = sees_long m all b sees in
           elim (cases_eq k n) [
-            | inl e ↦ looked_none m all b c.args.key.now k c.at-place.result g.met.L.Width.top_is g.met.L.Width.greatest_fits.0 (omega (arith, long, c.requires.end)) (omega (arith, long, length-map m.marks.items is_gone, m.marked)) (place_is g (goal.at.loop-n-preserved g c).After-place_at-next ∙ ap (λ (v : ℕ). get_or (places_in m.places) v m.end) (sym e)) sees
+            | inl e ↦ looked_none m all b c.args.key.now k c.at-place.result g.met.L.Width.top_is g.met.L.Width.greatest_fits.0 (omega (arith, long, c.requires.end)) (omega (arith, long, length-map (marks_in m) is_gone, (marks_long m))) (place_is g (goal.at.loop-n-preserved g c).After-place_at-next ∙ ap (λ (v : ℕ). get_or (places_in m.places) v m.end) (sym e)) sees
                 (has_it_not c.in_ok-look_at.field-0 (sym c.if-is_some.ensures) c.in_ok-look_at.ensures.looks b is) fresh
             | inr apart ↦ none_fresh m all b c.args.key.now c.args.sought (n + 1) c.loop-n.before c.args.end c.requires.hash inv.within c.requires.end sees
                 (λ k low. h.none k (omega (arith, low))) (inv.none b (c.look_at.ensures.reads.images b is) all sees) k (omega (arith, low, apart)) high fresh

@@ -44,7 +44,10 @@ pub returns-clause-inside : goal.returns-clause-inside
 returns-clause-inside g c = search rules
 
 pub write_parts-requires-clause-limit : goal.write_parts-requires-clause-limit
-write_parts-requires-clause-limit g c = grind (arith, common_steps)
+write_parts-requires-clause-limit g c =
+    let m = c.args.roll.now in
+    let e : 2 * c.pair_size-2.result * c.len.result ≡ 4 * g.L.Width.WORD * length m.hashes.items = ap (λ (k : ℕ). 2 * k * c.len.result) c.pair_size-2.ensures ∙ ap (λ (k : ℕ). 2 * (2 * g.L.Width.WORD) * k) c.len.ensures ∙ omega arith in
+    omega (arith, e, c.requires.limit)
 
 pub write_parts-requires-clause-last : goal.write_parts-requires-clause-last
 write_parts-requires-clause-last g c =

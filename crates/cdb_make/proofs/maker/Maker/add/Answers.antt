@@ -1,4 +1,4 @@
-use Rattle.cdb_make.proofs.Words.{AreNone, AreOf, Bool, Err, KeyValue, List, [], ap, arith, common_steps, cond, false, found_of, gone_of, head_size, inr, length, length-record_bytes, places_in, record_size, refl, searched, sought_by, subst, sym, take, ℕ, ◌*◌, ◌++◌, ◌+◌, ◌∙◌, ◌∷◌, ◌≡◌}
+use Rattle.cdb_make.proofs.Words.{Mark, marks_in, AreNone, AreOf, Bool, Err, KeyValue, List, [], ap, arith, common_steps, cond, false, found_of, gone_of, head_size, inr, length, length-record_bytes, places_in, record_size, refl, searched, sought_by, subst, sym, take, ℕ, ◌*◌, ◌++◌, ◌+◌, ◌∙◌, ◌∷◌, ◌≡◌}
 use Rattle.cdb_make.proofs.Bytes.Written.{on_any_err}
 use Rattle.cdb_make.proofs.Looking.{sees_same}
 use Rattle.cdb_make.proofs.Rolls.{add_fails, number_is, none_more, sees_kept, sees_added, follows_write, slots_push}
@@ -83,8 +83,8 @@ returns-clause-adds g c =
               ),
             );
       };
-      gone = c.push.ensures.gone ∙ ap (λ v. gone_of v ++ _) c.reserve.ensures.marks;
-      found = c.push.ensures.found ∙ ap (λ v. found_of v ++ _) c.reserve.ensures.marks;
+      gone = c.push.ensures.gone ∙ ap (λ (v : List Mark). gone_of v ++ false ∷ []) c.reserve.ensures.marks;
+      found = c.push.ensures.found ∙ ap (λ (v : List Mark). found_of v ++ false ∷ []) c.reserve.ensures.marks;
       hashes = c.push.ensures.hashes ∙ ap (λ (v : List ℕ). v ++ c.args.candidate.hash ∷ []) same.hashes;
       searched = c.push.ensures.searched ∙ ap (λ (v : List ℕ). v ++ cond c.reserve.new.self.tagged c.args.candidate.number c.args.candidate.hash ∷ []) same.searched ∙ ap (λ (v : ℕ). searched m.roll ++ v ∷ []) (number ∙ ap (λ (v : Bool). sought_by v r.key) c.reserve.ensures.tagged);
       gone_size = c.push.ensures.size ∙ ap (λ q. q.size) c.reserve.ensures.gone;
@@ -108,7 +108,7 @@ invariant_of-self-2-clause-within g c =
 pub invariant_of-self-2-clause-eager : goal.invariant_of-self-2-clause-eager
 invariant_of-self-2-clause-eager g c = λ eager whole.
     let m = c.args.self.now in
-    none_more (gone_of m.roll.marks.items) (gone_of c.push.new.self.marks.items) (c.push.ensures.gone ∙ ap (λ v. gone_of v ++ false ∷ []) c.reserve.ensures.marks) (m.eager eager whole)
+    none_more (gone_of (marks_in m.roll)) (gone_of (marks_in c.push.new.self)) (c.push.ensures.gone ∙ ap (λ v. gone_of v ++ false ∷ []) c.reserve.ensures.marks) (m.eager eager whole)
 
 pub push-requires-clause-room : goal.push-requires-clause-room
 push-requires-clause-room g c = grind (arith, common_steps)

@@ -1,14 +1,15 @@
-use Rattle.cdb_make.proofs.Words.{AreNone, ap, arith, common_steps, inl, inr, on_ok_weaker, refl, searched, subst, sym, ◌∙◌, rules}
+use Rattle.cdb_make.proofs.Words.{marks_in, AreNone, ap, arith, common_steps, inl, inr, on_ok_weaker, refl, searched, subst, sym, ◌∙◌, rules}
 use Rattle.cdb_make.proofs.Bytes.Written.{on_any_ok}
 use Rattle.cdb_make.proofs.Rolls.{follows_then, if_err_weaker}
 use Rattle.cdb_make.proofs.Admitting.{have_more, taken_clear, admits_later, admits_after, fails_after}
+use Rattle.cdb_make.proofs.Marking.{marks_long}
 use Rattle.cdb_make.proofs.maker.Maker.add_then_take.Goals as goal
 
 pub take-requires : goal.take-requires
 take-requires g c =
     let m = c.args.self.now.roll in
     let a = c.in_ok-add_before.ensures.done c.if-branch.true in
-    record { hash = have_more c.args.candidate.number _ (searched m) (searched c.add_before.new.self.roll) m.marks.items c.add_before.new.self.roll.marks.items a.searched a.found (m.marked ∙ sym m.numbered) c.requires.have }
+    record { hash = have_more c.args.candidate.number _ (searched m) (searched c.add_before.new.self.roll) (marks_in m) (marks_in c.add_before.new.self.roll) a.searched a.found ((marks_long m) ∙ sym m.numbered) c.requires.have }
 
 pub invariant_of-self-clause-eager : goal.invariant_of-self-clause-eager
 invariant_of-self-clause-eager g c = λ eager whole.

@@ -34,7 +34,7 @@ returns-in_err-write_behind-clause-fails g c =
     rw (p.1, p.2)
     (subst (λ (v : List KeyValue). FailsAppending m new v c.in_err-write_behind.field-0.0) (sym are)
     (fails_writing m new r later c.in_err-write_behind.field-0.0
-    (whole_then m _ new (stays_noted m _ c.requires.whole c.requires.whole c.tag.ensures.same (ap (λ v. v.items) c.tag.ensures.marks) refl) c.write_behind.ensures.stays) fits c.in_err-write_behind.ensures.fails))
+    (whole_then m _ new (stays_noted m _ c.requires.whole c.requires.whole c.tag.ensures.same c.tag.ensures.marks refl) c.write_behind.ensures.stays) fits c.in_err-write_behind.ensures.fails))
 
 pub returns-clause-ok : goal.returns-clause-ok
 returns-clause-ok g c =
@@ -45,7 +45,7 @@ returns-clause-ok g c =
     let long : length (take c.args.size bytes) ≡ c.args.size = omega (arith, c.requires.first.within, length-take c.args.size bytes) in
     on_ok_weaker c.enter_all.result
     (λ ok. appends_all m c.write_behind.new.self c.enter_all.new.self (take c.args.count (records_at w bytes)) c.args.size
-    (whole_then m _ _ (stays_noted m _ c.requires.whole c.requires.whole c.tag.ensures.same (ap (λ v. v.items) c.tag.ensures.marks) refl) c.write_behind.ensures.stays)
+    (whole_then m _ _ (stays_noted m _ c.requires.whole c.requires.whole c.tag.ensures.same c.tag.ensures.marks refl) c.write_behind.ensures.stays)
     (same_then m.roll c.tag.new.self _ c.tag.ensures.same c.write_behind.ensures.roll) (c.write_behind.ensures.gone ∙ c.tag.ensures.gone) c.write_behind.ensures.follows.comes ok c.requires.first.sum (e.written ∙ ap (λ (n : ℕ). g.S.Store.written m.store + n) long) e.failures c.enter_all.ensures.store)
     c.enter_all.ensures.ok
 
@@ -55,7 +55,7 @@ returns-clause-fails g c =
     let m = c.args.self.now in
     let e = c.in_ok-write_behind.ensures in
     fails_behind m c.write_behind.new.self c.enter_all.new.self (take c.args.count (records_at w c.args.bytes.now)) c.enter_all.result
-    (whole_then m _ _ (stays_noted m _ c.requires.whole c.requires.whole c.tag.ensures.same (ap (λ v. v.items) c.tag.ensures.marks) refl) c.write_behind.ensures.stays) c.write_behind.ensures.follows.limit (ap g.S.Store.failures c.enter_all.ensures.store ∙ e.failures) c.enter_all.ensures.memory c.enter_all.ensures.some
+    (whole_then m _ _ (stays_noted m _ c.requires.whole c.requires.whole c.tag.ensures.same c.tag.ensures.marks refl) c.write_behind.ensures.stays) c.write_behind.ensures.follows.limit (ap g.S.Store.failures c.enter_all.ensures.store ∙ e.failures) c.enter_all.ensures.memory c.enter_all.ensures.some
 
 pub enter_all-requires-clause-first : goal.enter_all-requires-clause-first
 enter_all-requires-clause-first g c = subst (λ (n : ℕ). AreFirst g.L.Width.WORD c.args.bytes.now c.args.count n) c.requires.first.sum c.requires.first
@@ -75,7 +75,7 @@ returns-then-count-eq0-clause-ok g c =
     let all : List KeyValue = records_at g.L.Width.WORD c.args.bytes.now in
     let zero : c.args.count ≡ 0 = omega (arith, c.if-count-eq0.true) in
     let none : take c.args.count all ≡ [] = ap (λ (n : ℕ). take n all) zero in
-    appends_none m _ (take c.args.count all) c.args.size (stays_noted m _ c.requires.whole c.requires.whole c.tag.ensures.same (ap (λ v. v.items) c.tag.ensures.marks) refl) c.tag.ensures.same c.tag.ensures.gone refl none c.requires.first.sum
+    appends_none m _ (take c.args.count all) c.args.size (stays_noted m _ c.requires.whole c.requires.whole c.tag.ensures.same c.tag.ensures.marks refl) c.tag.ensures.same c.tag.ensures.gone refl none c.requires.first.sum
 
 pub returns-clause-gone : goal.returns-clause-gone
 returns-clause-gone g c = grind (arith, common_steps)

@@ -1,8 +1,9 @@
-use Rattle.cdb_make.proofs.Words.{Err, ap, arith, common_steps, false, false_from_ne_true, gone_in, inr, is_gone, length, length-map, refl, sym, true, ◌+◌, ◌∙◌, ◌≡◌, cases_lt, inl, ℕ}
+use Rattle.cdb_make.proofs.Words.{marks_in, Err, ap, arith, common_steps, false, false_from_ne_true, gone_in, inr, is_gone, length, length-map, refl, sym, true, ◌+◌, ◌∙◌, ◌≡◌, cases_lt, inl, ℕ}
 use Rattle.cdb_make.proofs.Looking.{same_self, sees_long}
 use Rattle.cdb_make.proofs.Picking.{left_all_stay, both_few, both_within}
 use Rattle.cdb_make.proofs.Rolls.{follows_then, follows_room, compacting_fails, fewer_slots, room_fails}
 use Rattle.cdb_make.proofs.Finishing.{fails_so, lost_counts}
+use Rattle.cdb_make.proofs.Marking.{marks_long}
 use Rattle.cdb_make.proofs.maker.Maker.compact_and_add.Goals as goal
 
 -- the record is within the limit by itself
@@ -87,7 +88,7 @@ returns-in-Ok-clause-admits g c =
               c.reserve.ensures.images.no_other h.0 h.1,
               λ all sees.
                   let q = h.2 all sees in
-                  let many : length (gone_in k) ≡ length q.0 = omega (arith, length-map m.marks.items is_gone, m.marked, sees_long m q.0 b q.1) in (
+                  let many : length (gone_in k) ≡ length q.0 = omega (arith, length-map (marks_in m) is_gone, (marks_long m), sees_long m q.0 b q.1) in (
                     q.0,
                     q.1,
                     (left_all_stay (gone_in k) q.0 many x.none ∙ q.2.0, λ eager. omega (arith, q.2.1, c.reserve.ensures.written), inr (omega (arith, q.2.1, c.reserve.ensures.written), x.none)),

@@ -90,3 +90,8 @@ returns-clause-counts g c =
 
 pub returns-clause-fine : goal.returns-clause-fine
 returns-clause-fine g c = grind (arith, common_steps)
+
+pub add-requires-clause-candidate : goal.add-requires-clause-candidate
+add-requires-clause-candidate g c =
+    let was = c.requires.candidate in
+    record { hash = was.hash; tag = λ tagged. was.tag (sym c.take.ensures.tagged ∙ sym c.pass.ensures.tagged ∙ tagged) }

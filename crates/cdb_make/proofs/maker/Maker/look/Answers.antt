@@ -1,7 +1,8 @@
-use Rattle.cdb_make.proofs.Words.{AreNone, Bool, Err, List, ap, arith, common_steps, gone_of, is_gone, is_there, left, length, length-map, reads_nothing, refl, sought_by, subst, sym, ◌∙◌, ◌≡◌}
+use Rattle.cdb_make.proofs.Words.{marks_in, AreNone, Bool, Err, List, ap, arith, common_steps, gone_of, is_gone, is_there, left, length, length-map, reads_nothing, refl, sought_by, subst, sym, ◌∙◌, ◌≡◌}
 use Rattle.cdb_make.proofs.Looking.{sees_long, sees_same, same_then}
 use Rattle.cdb_make.proofs.Survive.{last_there}
 use Rattle.cdb_make.proofs.Rolls.{look_fails, follows_read}
+use Rattle.cdb_make.proofs.Marking.{marks_long}
 use Rattle.cdb_make.proofs.maker.Maker.look.Goals as goal
 
 pub returns-in-Ok-clause-looks : goal.returns-in-Ok-clause-looks
@@ -9,7 +10,7 @@ returns-in-Ok-clause-looks g c =
     let i = c.args.self.now in
     let m = c.put_back.new.self in
     let same = same_then i.roll c.link.new.self m c.link.ensures.same c.put_back.ensures.same in
-    let gone = c.put_back.ensures.gone ∙ ap (λ v. gone_of v.items) c.link.ensures.marks in
+    let gone = c.put_back.ensures.gone ∙ ap gone_of c.link.ensures.marks in
     record {
       rests = record {
         was = c.if-self.false;
@@ -28,8 +29,8 @@ returns-in-Ok-clause-looks g c =
             let sees = sees_same i.roll m held.all b same held.sees in
             let last = c.in-Ok.ensures.last.each b is held.all sees in
             let long = sees_long m held.all b sees in
-            let many : length (gone_of m.marks.items) ≡ length held.all = omega (arith, long, length-map m.marks.items is_gone, m.marked) in
-            c.is_some.ensures ∙ last_there c.args.key.now (gone_of m.marks.items) held.all c.len.result c.in-Ok.last many (omega (arith, long, c.len.ensures)) last
+            let many : length (gone_of (marks_in m)) ≡ length held.all = omega (arith, long, length-map (marks_in m) is_gone, (marks_long m)) in
+            c.is_some.ensures ∙ last_there c.args.key.now (gone_of (marks_in m)) held.all c.len.result c.in-Ok.last many (omega (arith, long, c.len.ensures)) last
             ∙ ap (is_there c.args.key.now) (ap (λ (v : List Bool). left v held.all) gone ∙ sym held.left);
       };
     }
@@ -42,7 +43,7 @@ returns-in-Err-clause-fails g c =
     let put = c.put_back.ensures in
     let h = c.in-Err.ensures in
     let f = c.failed_look.ensures in
-    look_fails i c.failed_look.new.self roll c.last_with_key.new.store c.in-Err.fault c.failed_look.result c.if-self.false (same_then i.roll c.link.new.self roll was.same put.same) (put.gone ∙ ap (λ v. gone_of v.items) was.marks) (put.picked ∙ was.gone) h.reads
+    look_fails i c.failed_look.new.self roll c.last_with_key.new.store c.in-Err.fault c.failed_look.result c.if-self.false (same_then i.roll c.link.new.self roll was.same put.same) (put.gone ∙ ap gone_of was.marks) (put.picked ∙ was.gone) h.reads
     (λ e. h.foreign (ap Err e)) (λ e. h.failed (ap Err e)) f.fault f.broken f.store f.roll f.limit f.lazy
 
 pub returns-then-self-clause-follows : goal.returns-then-self-clause-follows
@@ -70,7 +71,7 @@ invariant_of-self-clause-told g c = c.args.self.now.told
 
 pub invariant_of-self-clause-eager : goal.invariant_of-self-clause-eager
 invariant_of-self-clause-eager g c = λ eager whole.
-    subst AreNone (sym (c.put_back.ensures.gone ∙ ap (λ v. gone_of v.items) c.link.ensures.marks)) (c.args.self.now.eager eager whole)
+    subst AreNone (sym (c.put_back.ensures.gone ∙ ap gone_of c.link.ensures.marks)) (c.args.self.now.eager eager whole)
 
 pub returns-in-Ok-clause-tagged : goal.returns-in-Ok-clause-tagged
 returns-in-Ok-clause-tagged g c = λ tagged.

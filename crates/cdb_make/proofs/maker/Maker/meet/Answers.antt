@@ -54,7 +54,7 @@ returns-else-taken-eq0-clause-meets g c = λ value.
     (meets_found c.args.self.now c.seek.new.self c.args.sought n r (Replaced n) c.in_ok-taken-in-Replace.ensures.seeks refl (λ rs e. answers_some r rs n some e))
 
 pub returns-else-self-clause-tagged : goal.returns-else-self-clause-tagged
-returns-else-self-clause-tagged g c = grind (arith, common_steps)
+returns-else-self-clause-tagged g c = λ tagged. c.requires.tagged (sym c.put_back.ensures.tagged ∙ tagged)
 
 pub returns-else-branch-2-clause-room : goal.returns-else-branch-2-clause-room
 returns-else-branch-2-clause-room g c = grind (arith, common_steps)

@@ -10,7 +10,7 @@ returns-in-Err-clause-fails g c =
     let was = c.link.ensures in
     let h = c.in-Err.ensures in
     let f = c.failed_look.ensures in
-    look_fails i c.failed_look.new.self roll c.find.new.store c.in-Err.fault c.failed_look.result c.if-self.false (same_then i.roll c.link.new.self roll was.same h.same) (h.gone ∙ ap (λ v. gone_of v.items) was.marks) (h.kept ∙ was.gone) h.reads
+    look_fails i c.failed_look.new.self roll c.find.new.store c.in-Err.fault c.failed_look.result c.if-self.false (same_then i.roll c.link.new.self roll was.same h.same) (h.gone ∙ ap gone_of was.marks) (h.kept ∙ was.gone) h.reads
     (λ e. h.foreign (ap Err e)) (λ e. h.failed (ap Err e)) f.fault f.broken f.store f.roll f.limit f.lazy
 
 pub returns-then-self-clause-follows : goal.returns-then-self-clause-follows
@@ -38,7 +38,7 @@ invariant_of-self-clause-told g c = c.args.self.now.told
 
 pub invariant_of-self-clause-eager : goal.invariant_of-self-clause-eager
 invariant_of-self-clause-eager g c = λ eager whole.
-    subst AreNone (sym (c.find.ensures.gone ∙ ap (λ v. gone_of v.items) c.link.ensures.marks)) (c.args.self.now.eager eager whole)
+    subst AreNone (sym (c.find.ensures.gone ∙ ap gone_of c.link.ensures.marks)) (c.args.self.now.eager eager whole)
 
 pub returns-in-Ok-clause-seeks : goal.returns-in-Ok-clause-seeks
 returns-in-Ok-clause-seeks g c =
@@ -49,7 +49,7 @@ returns-in-Ok-clause-seeks g c =
         was = c.if-self.false;
         whole = c.if-self.false;
         same = same_then c.args.self.now.roll c.link.new.self c.find.new.roll c.link.ensures.same f.same;
-        gone = f.gone ∙ ap (λ v. gone_of v.items) c.link.ensures.marks;
+        gone = f.gone ∙ ap gone_of c.link.ensures.marks;
         picked = f.kept ∙ c.link.ensures.gone;
         limit = refl;
         lazy = refl;

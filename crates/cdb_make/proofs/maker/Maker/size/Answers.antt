@@ -1,6 +1,7 @@
-use Rattle.cdb_make.proofs.Words.{ap, arith, file_size, gone_in, is_gone, length, length-map, sym, ◌+◌, ◌∙◌, ◌≡◌}
+use Rattle.cdb_make.proofs.Words.{marks_in, ap, arith, file_size, gone_in, is_gone, length, length-map, sym, ◌+◌, ◌∙◌, ◌≡◌}
 use Rattle.cdb_make.proofs.Looking.{sees_long}
 use Rattle.cdb_make.proofs.Rolls.{left_file, slots_fit, two_slots}
+use Rattle.cdb_make.proofs.Marking.{marks_long}
 use Rattle.cdb_make.proofs.maker.Maker.size.Goals as goal
 
 pub returns-clause-holds : goal.returns-clause-holds
@@ -9,7 +10,7 @@ returns-clause-holds g c = λ rs h. record {
       let m = c.args.self.now.roll in
       let held = h.each b is in
       let long = sees_long m held.all b held.sees in
-      let many : length (gone_in c.args.self.now) ≡ length held.all = omega (arith, long, length-map m.marks.items is_gone, m.marked) in
+      let many : length (gone_in c.args.self.now) ≡ length held.all = omega (arith, long, length-map (marks_in m) is_gone, (marks_long m)) in
       let file = (left_file m held.all b (gone_in c.args.self.now) c.left_end.result c.left_count.result m.gone.size m.gone.count g.met.L.Width.four_or_eight many held.sees c.left_end.ensures c.left_count.ensures (m.picked.size _ held.sees.of) m.picked.count).0 in
       ap (λ n. c.left_end.result + n) (two_slots g.L.Width.WORD c.pair_size.result c.left_count.result c.pair_size.ensures g.met.L.Width.four_or_eight) ∙ sym file ∙ ap (file_size g.L.Width.WORD) (sym held.left);
 }

@@ -1,8 +1,9 @@
-use Rattle.cdb_make.proofs.Words.{Bool, List, ap, arith, behind, false, found_in, gone_in, gone_of, head_size, inl, inr, is_gone, left, length, length-map, map, on_err_weaker, or_each, record_size, refl, sum, sym, true, ℕ, ◌∙◌, ◌≡◌}
+use Rattle.cdb_make.proofs.Words.{marks_in, Bool, List, ap, arith, behind, false, found_in, gone_in, gone_of, head_size, inl, inr, is_gone, left, length, length-map, map, on_err_weaker, or_each, record_size, refl, sum, sym, true, ℕ, ◌∙◌, ◌≡◌}
 use Rattle.cdb_make.proofs.Looking.{sees_same, sees_long}
 use Rattle.cdb_make.proofs.Picking.{left_all_stay, left_sum, end_sum}
 use Rattle.cdb_make.proofs.Spans.{long_as}
 use Rattle.cdb_make.proofs.Removing.{behind_most, tears_by}
+use Rattle.cdb_make.proofs.Marking.{marks_long}
 use Rattle.cdb_make.proofs.maker.Maker.take_out.Goals as goal
 
 pub returns-clause-follows : goal.returns-clause-follows
@@ -47,16 +48,16 @@ returns-clause-takes g c =
                   let now = sees_same old.roll c.take-2.new.self all q.0 t.same sees in
                   let mid = q.2 all now in
                   let m = c.pass.new.self.roll in
-                  let many : length (gone_in c.pass.new.self) ≡ length mid.0 = omega (arith, length-map m.marks.items is_gone, m.marked, sees_long m mid.0 b mid.1) in
+                  let many : length (gone_in c.pass.new.self) ≡ length mid.0 = omega (arith, length-map (marks_in m) is_gone, (marks_long m), sees_long m mid.0 b mid.1) in
                   let tm = c.take-2.new.self in
-                  let moved : sum (behind (gone_of tm.marks.items) ns) ≡ sum (behind ms ns) = ap (λ (v : List Bool). sum (behind v ns)) t.gone in
-                  let sums = left_sum (gone_of tm.marks.items) ns (omega (arith, length-map tm.marks.items is_gone, tm.marked, tm.paired, long_as now.of)) in (
+                  let moved : sum (behind (gone_of (marks_in tm)) ns) ≡ sum (behind ms ns) = ap (λ (v : List Bool). sum (behind v ns)) t.gone in
+                  let sums = left_sum (gone_of (marks_in tm)) ns (omega (arith, length-map (marks_in tm) is_gone, (marks_long tm), tm.paired, long_as now.of)) in (
                     mid.0,
                     mid.1,
                     (
                       left_all_stay (gone_in c.pass.new.self) mid.0 many compacts.none ∙ mid.2.0 ∙ ap (λ (v : List Bool). left v all) t.gone,
                       λ eager. omega (arith, mid.2.1, moved),
-                      λ lazy. omega (arith, mid.2.1, last, t.size, t.same.end, c.waits.ensures.due c.if-waits.false lazy, behind_most (gone_of tm.marks.items) ns, sums, tm.picked.size ns now.of, now.of.ends, end_sum (head_size w) ns),
+                      λ lazy. omega (arith, mid.2.1, last, t.size, t.same.end, c.waits.ensures.due c.if-waits.false lazy, behind_most (gone_of (marks_in tm)) ns, sums, tm.picked.size ns now.of, now.of.ends, end_sum (head_size w) ns),
                       inr (omega (arith, mid.2.1, moved), c.waits.ensures.due c.if-waits.false),
                     ),
                   ),

@@ -1,9 +1,6 @@
-use Rattle.cdb_make.proofs.Words.{List, ap, arith, common_steps, length, refl, searched, searched_by, subst, ℕ, ◌∙◌, ◌≡◌}
+use Rattle.cdb_make.proofs.Words.{List, ap, length, refl, searched, searched_by, subst, ℕ, ◌∙◌, ◌≡◌}
 use Rattle.cdb_make.specs.Views.Chains.{LinksIfRoom}
 use Rattle.cdb_make.proofs.roll.Roll.link.Goals as goal
-
-pub invariant_of-self : goal.invariant_of-self
-invariant_of-self g c = grind (arith, common_steps)
 
 pub returns-clause-sought : goal.returns-clause-sought
 returns-clause-sought g c = λ key n is. c.tag.ensures.sought refl key n is

@@ -1,5 +1,0 @@
-use Rattle.cdb_make.proofs.Words.{arith, common_steps}
-use Rattle.cdb_make.proofs.roll.Roll.unchain.Goals as goal
-
-pub invariant_of-self : goal.invariant_of-self
-invariant_of-self g c = grind (arith, common_steps)
