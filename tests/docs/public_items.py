@@ -8,11 +8,9 @@ from sources import crates, sources_of, text_of
 # These are there for callers of the libraries, of which the program is none.
 FOR_CALLERS = {
     "cdb_tool::make_run": "the program's inputs share one window: it calls make_run_from",
-    "cdb_show::dump_run": "the program has bytes at hand: it calls text_run_buffered",
+    "cdb_show::dump_run": "the program gets its reader back: it calls text_run",
     "cdb_show::list_run": "as dump_run",
     "cdb_command::plan": "the program explains bad words: it calls plan_explained",
-    "cdb_form::read_whole": "a stream is taken into memory by feed: it calls read_whole_fed",
-    "cdb_form::read_key": "a list is written by feed: it calls read_key_fed",
     "cdb_make::is_broken": "a fault of a call says it to the program, which makes no other call then",
 }
 ITEM = re.compile(

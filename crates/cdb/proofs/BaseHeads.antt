@@ -17,21 +17,9 @@ module _ {S : Type 0} (w : ℕ) (s : Ghosts S) (old new : S) where
     err = inl (λ b is. short_is w b _ _ (subst (λ n. n < head_size w) (sym (sized b is ∙ ap s.size fails.1)) fails.0));
   }
   unseen Device sized fails = record { reads = fails.0; ok = tt; err = inr (refl, fails.1) }
-  unseen NoMemory sized fails = absurd fails
-  unseen Output sized fails = absurd fails
-  unseen (Table n) sized fails = absurd fails
-  unseen (Record place) sized fails = absurd fails
-  unseen (Slot n i) sized fails = absurd fails
-  unseen (Twice place) sized fails = absurd fails
-  unseen (Unindexed place) sized fails = absurd fails
+  unseen fault sized fails = absurd fails
 
   pub unseen_says : (fault : ReadFault) → OpeningFails w s old new fault → OutputSays {A = Unit {0}} ⊥ (Err (read_fault fault))
   unseen_says Short fails = tt
   unseen_says Device fails = tt
-  unseen_says NoMemory fails = absurd fails
-  unseen_says Output fails = absurd fails
-  unseen_says (Table n) fails = absurd fails
-  unseen_says (Record place) fails = absurd fails
-  unseen_says (Slot n i) fails = absurd fails
-  unseen_says (Twice place) fails = absurd fails
-  unseen_says (Unindexed place) fails = absurd fails
+  unseen_says fault fails = absurd fails

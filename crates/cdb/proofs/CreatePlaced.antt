@@ -141,8 +141,7 @@ same_fault f g e = cc
 
 unnamed_refused : (answer : Answer) (fault : Fault) → named_as answer ≡ Err fault → MayGiveUpCreate fault
 unnamed_refused Yes fault is = absurd (let no : ◌≡◌ {A = Result Unit Fault} (Ok tt) (Err fault) = is in cc)
-unnamed_refused No fault is = subst MayGiveUpCreate (same_fault Rename fault is) tt
-unnamed_refused Unknown fault is = subst MayGiveUpCreate (same_fault Rename fault is) tt
+unnamed_refused answer fault is = subst MayGiveUpCreate (same_fault Rename fault is) tt
 
 pub emptying_refused : (name : List ℕ) (old new : OpenCalls) (fault : Fault) → MissesEmptying name old new fault → MayGiveUpCreate fault
 emptying_refused name old new fault (inl misses) = subst MayGiveUpCreate (sym misses.is) (opening_refused misses.why)

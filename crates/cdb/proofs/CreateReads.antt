@@ -99,22 +99,12 @@ base_since y None (Some file) old new h = absurd h
 stores_same : {F : Type 0} (call : OpenCall) (stores : List F) → OpensNone call → stores_before call stores ≡ stores
 stores_same AtPlaces stores none = absurd none
 stores_same InTurn stores none = absurd none
-stores_same (Stream answer) stores none = refl
-stores_same ToEmpty stores none = refl
-stores_same (Locked lock) stores none = refl
-stores_same (Own answer) stores none = refl
-stores_same Emptied stores none = refl
-stores_same (Unopened why found) stores none = refl
+stores_same call stores none = refl
 
 name_none : (call : OpenCall) (name : List ℕ) → OpensNone call → name_in_turn call name ≡ []
 name_none AtPlaces name none = absurd none
 name_none InTurn name none = absurd none
-name_none (Stream answer) name none = refl
-name_none ToEmpty name none = refl
-name_none (Locked lock) name none = refl
-name_none (Own answer) name none = refl
-name_none Emptied name none = refl
-name_none (Unopened why found) name none = refl
+name_none call name none = refl
 
 names_none : (since : OpenCalls) → AllByRecursion (λ c. OpensNone c.0) since → names_in_turn since ≡ []
 names_none [] each = refl

@@ -10,18 +10,4 @@ MayGiveUpCreate fault = IsCreateRefusal fault
 
 pub taken_create : {O : Type 0} (fault : Fault) (result : Result Unit Fault) → (O → ⊥) → OutputSays O result → result ≡ Err fault → MayGiveUpCreate fault → IsCreateRefusal fault
 taken_create Output result works says is h = absurd (works (subst (OutputSays _) is says))
-taken_create (Text n g) result works says is h = h
-taken_create (Make g) result works says is h = h
-taken_create Duplicate result works says is h = h
-taken_create Missing result works says is h = h
-taken_create (Read g) result works says is h = h
-taken_create (Walk g) result works says is h = h
-taken_create Long result works says is h = h
-taken_create Open result works says is h = h
-taken_create Rename result works says is h = h
-taken_create NoMemory result works says is h = h
-taken_create (Old g) result works says is h = h
-taken_create (New g) result works says is h = h
-taken_create NoOldTables result works says is h = h
-taken_create NoNewTables result works says is h = h
-taken_create NoBaseTables result works says is h = h
+taken_create fault result works says is h = h

@@ -166,16 +166,8 @@ command_comes s m r feed y explained (command.Lookups name inputs number style f
 
 -- only a create says anything before it ends
 is_silent : (command : Command) (disk : Disk) (input : List ℕ) (told before : Option (List ℕ)) → IsUntouched (asked_in command) told before → IfSome (command_outcome (asked_in command) disk input) (λ o. before ≡ told)
-is_silent (command.Query name key number lines wide) disk input told before h = h
-is_silent (command.Dump name style wide) disk input told before h = h
-is_silent (command.List name style wide) disk input told before h = h
-is_silent (command.Stats name wide) disk input told before h = h
-is_silent (command.Check name wide) disk input told before h = h
-is_silent (command.Difference first second wide) disk input told before h = h
 is_silent (command.Create name base inputs temporary options wide) disk input told before h = tt
-is_silent command.Help disk input told before h = h
-is_silent command.Version disk input told before h = h
-is_silent (command.Lookups name inputs number style wide) disk input told before h = h
+is_silent command disk input told before h = h
 
 -- ---- the program
 
@@ -230,17 +222,8 @@ all_taken o handed works = elim handed [
 
 -- what is said of the outcome of a command that makes nothing is said of what the whole function gives
 total_so : (planned : Result Asked Refused) (disk : Disk) (input : List ℕ) (P : Outcome → Type 0) → AsksNoCreate planned → IfSome (oracle planned disk input) P → P (foretell planned disk input).outcome
-total_so (Ok (asked.Query name key number lines wide)) disk input P none h = h
-total_so (Ok (asked.Lookups name inputs number style wide)) disk input P none h = h
-total_so (Ok (asked.Dump name style wide)) disk input P none h = h
-total_so (Ok (asked.Listing name style wide)) disk input P none h = h
-total_so (Ok (asked.Stats name wide)) disk input P none h = h
-total_so (Ok (asked.Check name wide)) disk input P none h = h
-total_so (Ok (asked.Difference old new wide)) disk input P none h = h
 total_so (Ok (asked.Create name base inputs temporary options wide)) disk input P none h = absurd none
-total_so (Ok asked.Help) disk input P none h = h
-total_so (Ok asked.Version) disk input P none h = h
-total_so (Err usage) disk input P none h = h
+total_so planned disk input P none h = h
 
 pub run_is_foretold : {F I J M N R Y W V : Type 0} (s : Ghosts F) (m : Ghosts M) (r : Raw R) (feed : I → Feed) (y : Systems Y F I M J N R) (planned : Result Asked Refused) (explained : Bool) (given : Standard J) (old new : Y) (was now : NameCalls) (left : Left F M I J) (output_old output_new : Writer W) (errors_old errors_new : Writer V) (status : ℕ)
     → IsSized s → (held_by output_old ≡ [] → HasHandedOn output_new) → HasHandedOn errors_new

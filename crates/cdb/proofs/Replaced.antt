@@ -261,20 +261,7 @@ replaced_ok f r m back x files input temporary name old new told said none has k
 may_be : (f : Fault) → IsMakeRefusal f → MayGiveUpCreate f
 may_be Open h = tt
 may_be Rename h = tt
-may_be (Text n g) h = h
-may_be (Make g) h = h
-may_be Duplicate h = h
-may_be Missing h = h
-may_be (Read g) h = h
-may_be (Walk g) h = h
-may_be Output h = h
-may_be Long h = h
-may_be NoMemory h = h
-may_be (Old g) h = h
-may_be (New g) h = h
-may_be NoOldTables h = h
-may_be NoNewTables h = h
-may_be NoBaseTables h = h
+may_be f h = h
 
 same_fault : (f g : Fault) → ◌≡◌ {A = Result Unit Fault} (Err f) (Err g) → f ≡ g
 same_fault f g e = cc
@@ -309,18 +296,13 @@ ran_lines f m back x files input images b told said has known is ran plain =
     whole_lines told said _ ((ran_ok f m back x files input images b (Some b) told said has known is refl ran).lines plain)
 
 refusal_of : (e : ReplaceFault Fault) → BuilderAnswers (Ok tt) (Err e) → MayGiveUpCreate (fault_of e)
-refusal_of replace.Open h = tt
-refusal_of replace.NoMemory h = tt
-refusal_of replace.Write h = tt
-refusal_of replace.Rename h = tt
 refusal_of (replace.Build fault) h = absurd h
+refusal_of e h = tt
 
 unbuilt_refusal : (temporary name : List ℕ) (old new : NameCalls) (e : ReplaceFault Fault) → StopsUnbuilt temporary name old new e → MayGiveUpCreate (fault_of e)
-unbuilt_refusal t n old new replace.Open h = tt
-unbuilt_refusal t n old new replace.NoMemory h = tt
-unbuilt_refusal t n old new replace.Rename h = tt
 unbuilt_refusal t n old new replace.Write h = absurd h
 unbuilt_refusal t n old new (replace.Build fault) h = absurd h
+unbuilt_refusal t n old new e h = tt
 
 answered_says : (O : Type 0) (built : Result Unit Fault) (answer : Result Unit (ReplaceFault Fault)) → BuilderAnswers built answer → OutputSays O built → OutputSays O (answer_of answer)
 answered_says O (Ok done) (Ok all) is says = tt
@@ -332,11 +314,9 @@ answered_says O (Ok done) (Err (replace.Build fault)) is says = absurd is
 answered_says O (Err fault) answer is says = subst (λ r. OutputSays O (answer_of r)) (sym is) says
 
 unbuilt_says : (O : Type 0) (temporary name : List ℕ) (old new : NameCalls) (e : ReplaceFault Fault) → StopsUnbuilt temporary name old new e → OutputSays O (answer_of (Err e))
-unbuilt_says O t n old new replace.Open h = tt
-unbuilt_says O t n old new replace.NoMemory h = tt
-unbuilt_says O t n old new replace.Rename h = tt
 unbuilt_says O t n old new replace.Write h = absurd h
 unbuilt_says O t n old new (replace.Build fault) h = absurd h
+unbuilt_says O t n old new e h = tt
 
 -- a replacement reports an output that failed if its builder does
 pub replaced_says : {B R T : Type 0} (failed : T → Type 0) (r : Raw R) (gives_up : B → Type 0) (tells : B → T → T → (List ℕ → Type 0) → Result Unit Fault → Type 0) (t n : List ℕ) (old new : NameCalls) (back : B) (told said : T) (answer : Result Unit (ReplaceFault Fault))

@@ -11,7 +11,7 @@ pub use Rattle.cdb_command.specs.Asked.{Asked, asked_in, has_wide_words}
 pub use Rattle.cdb_command.specs.Refused.{Refused, usage_of}
 pub use Rattle.cdb_command.specs.declared.command.Command.{Command}
 pub use Rattle.cdb_feed.specs.declared.input_reader.InputReader.{InputReader}
-pub use Rattle.cdb_form.specs.Fed.Feed.{Feed}
+pub use Rattle.cdb_form.specs.Views.Feed.{Feed}
 pub use Rattle.cdb_form.specs.Format.Record.{AreBytes}
 pub use Rattle.cdb_form.specs.Views.KnownBytes.{AppendsPrefix}
 pub use Rattle.cdb_make.specs.Views.Maker.{WhereHonest}

@@ -2,7 +2,7 @@
 use Rattle.std.specs.Prelude.{ℕ, ◌≡◌, ◌++◌, List, Option, Some, None, ⊤, length, map}
 use Rattle.std.specs.List.{AllByRecursion}
 use Rattle.cdb_feed.specs.Inputs.{AgreesWith, AreUnread, FirstAgree, IsUnread}
-use Rattle.cdb_form.specs.Fed.Feed.{Feed}
+use Rattle.cdb_form.specs.Views.Feed.{Feed}
 use Rattle.cdb_form.specs.Format.Record.{AreBytes}
 use Rattle.cdb_show.specs.Runs.Incoming.{one_input}
 use Rattle.cdb_show.specs.Runs.Inputs.{InputsLeft}

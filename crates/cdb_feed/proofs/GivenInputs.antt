@@ -2,10 +2,10 @@
 -- of their readers at the end.
 use Rattle.std.proofs.Common.{◌≡◌, ℕ, zero, suc, ◌+◌, List, [], ◌∷◌, ◌++◌, length, drop, refl, sym, ap, subst, ◌∙◌, arith, Option, Some, None, Result, Ok, Err}
 use Rattle.std.specs.Prelude.{⊤}
-use Rattle.cdb_form.specs.Fed.Feed.{Feed, IsSome, reader_feed}
+use Rattle.cdb_form.specs.Views.Feed.{Feed, IsSome, reader_feed}
 use Rattle.cdb_feed.specs.Given.{Given, with_input, given_from}
 use Rattle.cdb_feed.specs.Inputs.{IsUnread, AreUnread, Stop, NoMore, HasFault, CutShort, NotBegun, TakesOne, StopsSo, AreRead, reached, AgreesWith, FirstAgree, HasBytes, HaveBytes, IsGiven}
-use Rattle.cdb_form.specs.Fed.Rests.{same_remaining}
+use Rattle.cdb_form.specs.Views.Rests.{same_remaining}
 use Rattle.cdb_feed.specs.Parsing.{Parsed, Parsing}
 use Rattle.cdb_feed.specs.declared.input_reader.InputReader.{InputReader}
 use Rattle.cdb_feed.specs.declared.input_reader.InputReader.TheVariants.{Own, Shared}

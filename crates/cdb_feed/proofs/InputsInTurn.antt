@@ -1,6 +1,6 @@
 -- The inputs that a run read, one part of them after another.
 use Rattle.std.proofs.Common.{◌≡◌, ℕ, List, [], ◌∷◌, ◌++◌, length, take, drop, ap, refl, subst, suc, sym}
-use Rattle.cdb_form.specs.Fed.Feed.{Feed, FromTo, Keeps}
+use Rattle.cdb_form.specs.Views.Feed.{Feed, FromTo, Keeps}
 use Rattle.cdb_feed.specs.Inputs.{Stop, NoMore, HasFault, CutShort, NotBegun, TakesOne, StopsSo, AreRead, reached}
 use Rattle.cdb_feed.specs.Parsing.{Parsing}
 use Rattle.cdb_feed.specs.declared.input_reader.InputReader.{InputReader}

@@ -1,6 +1,6 @@
 -- The inputs of a run: how far it read them, and which bytes agree with what their readers gave.
 use Rattle.std.specs.Prelude.{◌≡◌, ℕ, zero, suc, ◌+◌, List, [], ◌∷◌, ◌++◌, length, Option, Some, None, ⊤}
-use Rattle.cdb_form.specs.Fed.Feed.{Feed, FromTo, Keeps}
+use Rattle.cdb_form.specs.Views.Feed.{Feed, FromTo, Keeps}
 use Rattle.cdb_feed.specs.Given.{Given}
 use Rattle.cdb_feed.specs.Parsing.{Parsing}
 use Rattle.cdb_feed.specs.declared.input_reader.InputReader.{InputReader}

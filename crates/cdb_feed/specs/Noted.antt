@@ -1,7 +1,7 @@
 -- What is known of a reader that notes what it gave.
 use Rattle.std.specs.Prelude.{ℕ, List, [], ◌∷◌, ◌++◌, ⊤}
 use Rattle.cdb_feed.specs.Continues.{Continues}
-use Rattle.cdb_form.specs.Fed.Feed.{Feed}
+use Rattle.cdb_form.specs.Views.Feed.{Feed}
 use Rattle.cdb_feed.specs.declared.noted_reader.NotedReader.{NotedReader}
 use Rattle.cdb_feed.specs.declared.read_trace.ReadCall.{ReadCall}
 

@@ -1,7 +1,7 @@
 //! Laws of inputs. Each is the contract of a function whose parameters are what it ranges over.
 ghost use Rattle.std.specs.Prelude.{◌≡◌, ℕ, List, ◌++◌, Option, drop, length, take};
 ghost use Rattle.std.specs.Io.KnownBytes.{Consumes as KnownConsumes};
-ghost use Rattle.cdb_form.specs.Fed.Feed.{Consumes, reader_feed};
+ghost use Rattle.cdb_form.specs.Views.Feed.{Consumes, reader_feed};
 ghost use Rattle.cdb_feed.specs.Given.{given_from};
 ghost use Rattle.cdb_feed.specs.Inputs.{AgreesWith, AreRead, AreUnread, FirstAgree, HasBytes};
 ghost use Rattle.cdb_feed.specs.Inputs.{HaveBytes, IsGiven, IsUnread, NotBegun, Stop, reached};

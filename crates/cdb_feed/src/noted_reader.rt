@@ -1,6 +1,6 @@
 // A reader that notes what it gave.
 ghost use Rattle.std.specs.Prelude.{◌≡◌, ◌<◌, ◌≤◌, List, ℕ, [], length, take, IfOk, OnErr};
-ghost use Rattle.cdb_form.specs.Fed.Feed.{Consumes, IsAtEnd, Keeps, StillAgrees};
+ghost use Rattle.cdb_form.specs.Views.Feed.{Consumes, IsAtEnd, Keeps, StillAgrees};
 ghost use Rattle.cdb_feed.specs.Inputs.{IsUnread};
 ghost use Rattle.cdb_feed.specs.Noted.{noted_feed, came_of};
 

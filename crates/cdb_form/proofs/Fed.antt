@@ -1,6 +1,3 @@
 -- Readers of which something is known at the end.
 pub mod FeedLemmas
 pub mod KnownReaders
-pub mod KnownItems
-pub mod KnownMaps
-pub mod KnownRecords

@@ -2,11 +2,9 @@
 pub mod Grammar
 pub mod Spelling
 pub mod WholeForm
-pub mod WholeChanges
 pub mod Stops
 pub mod TextLaws
 pub mod RecordLemmas
-pub mod WholeText
 pub mod FormReads
 pub mod KeyTexts
 pub mod PrefixLemmas

@@ -1,10 +1,10 @@
 -- The words that most proofs here name.
 pub use Rattle.byteorder.specs.Endian.{little_number}
 pub use Rattle.byteorder.specs.Numbers.{length-bytes_low_first}
-pub use Rattle.cdb_form.specs.Fed.Feed.{Consumes, Feed, FromTo, IsAtEnd, Keeps, reader_feed}
-pub use Rattle.cdb_form.specs.Fed.MapParser.{ReadsPair, ReadsValue}
-pub use Rattle.cdb_form.specs.Fed.NativeParser.{FailsIn, Leaves, ReadsBehind}
-pub use Rattle.cdb_form.specs.Fed.Taking.{LosesAtMost, LosesFewer, ReadsFirst, ReadsNoRecord, ReadsShort}
+pub use Rattle.cdb_form.specs.Views.Feed.{Consumes, Feed, FromTo, IsAtEnd, Keeps, reader_feed}
+pub use Rattle.cdb_form.specs.Views.MapParser.{ReadsPair, ReadsValue}
+pub use Rattle.cdb_form.specs.Views.NativeParser.{FailsIn, Leaves, ReadsBehind}
+pub use Rattle.cdb_form.specs.Views.Taking.{LosesAtMost, LosesFewer, ReadsFirst, ReadsNoRecord, ReadsShort}
 pub use Rattle.cdb_form.specs.Format.File.{file_size}
 unfoldable pub use Rattle.cdb_form.specs.Format.File.{file_bytes, file_pointers, pointers_from}
 pub use Rattle.cdb_form.specs.Format.Hash.{hash_step}
@@ -23,7 +23,6 @@ pub use Rattle.cdb_form.specs.Text.Form.{HasFault, HasNoItem, HasNoText, IsPrefi
 pub use Rattle.cdb_form.specs.Text.List.{SpellsKey}
 pub use Rattle.cdb_form.specs.Text.Map.{BeginsOther, IsIgnoredLine, IsLineOf, Lacks, behind_blanks, is_blank, is_ignored, is_newline, line_pair, line_records, map_lines, with_newlines}
 pub use Rattle.cdb_form.specs.Text.Native.{IsNumeral, Spells}
-pub use Rattle.cdb_form.specs.Views.KnownBytes.{Took}
 pub use Rattle.cdb_form.specs.Views.MapParser.{EndsLine, is_of, line_end}
 pub use Rattle.cdb_form.specs.Views.MapReader.{IsAmidLines}
 pub use Rattle.cdb_form.specs.Views.NativeParser.{FailsByte, FailsEntry, FailsField, FailsItem, FailsNumber, seen, told}

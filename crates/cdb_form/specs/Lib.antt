@@ -2,6 +2,5 @@
 pub mod Format
 pub mod Text
 pub mod Views
-pub mod Fed
 pub mod Laws
 pub mod Examples

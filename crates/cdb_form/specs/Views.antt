@@ -1,5 +1,8 @@
 -- What clauses read of the types of this crate, of readers and of writers.
 pub mod Pairs
+pub mod Feed
+pub mod Rests
+pub mod Taking
 pub mod KnownBytes
 pub mod Reading
 pub mod InFault

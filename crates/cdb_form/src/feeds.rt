@@ -1,6 +1,6 @@
 // What gives bytes.
 ghost use Rattle.std.specs.Prelude.{◌≡◌, ◌<◌, ◌≤◌, ℕ, List, length, take, IfOk, OnErr};
-ghost use Rattle.cdb_form.specs.Fed.Feed.{Feed, Consumes, Keeps, IsAtEnd};
+ghost use Rattle.cdb_form.specs.Views.Feed.{Feed, Consumes, Keeps, IsAtEnd};
 
 use std::io::{self, Read};
 
@@ -26,8 +26,8 @@ pub trait Feeds {
 }
 
 impl<R: Read> Feeds for R {
-    ghost use Rattle.cdb_form.specs.Fed.Feed.{reader_feed};
-    ghost use Rattle.cdb_form.specs.Fed.Rests.{same_remaining};
+    ghost use Rattle.cdb_form.specs.Views.Feed.{reader_feed};
+    ghost use Rattle.cdb_form.specs.Views.Rests.{same_remaining};
 
     ghost feed = { λ r. reader_feed (R.remaining r) };
 

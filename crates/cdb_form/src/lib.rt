@@ -38,7 +38,7 @@ pub use key_hash::{hash, hash_more, home_slot, table_number};
 pub use mode::Mode;
 pub use pair::{GREATEST_PAIR, pair_size};
 pub use reading::PIPE;
-pub use reading_whole::{Extent, InFault, read_whole, read_whole_fed};
+pub use reading_whole::{Extent, InFault, read_whole};
 pub use record::Record;
 pub use slot::{Slot, read_slot, write_slot};
 pub use table::put_entry;

@@ -1,19 +1,15 @@
 // All that a reader has, into a vector, up to so many bytes.
 ghost use Rattle.std.specs.Prelude.{◌≡◌, ◌+◌, ◌-◌, ◌^◌, ◌<◌, ◌≤◌, Some, codes, length, IfOk, IfErr, OnErr};
-ghost use Rattle.std.specs.Io.KnownBytes.{Consumes};
-ghost use Rattle.cdb_form.specs.Fed.Feed as fed_bytes;
-ghost use Rattle.cdb_form.specs.Fed.Taking as fed;
+ghost use Rattle.cdb_form.specs.Views.Feed.{Consumes};
+ghost use Rattle.cdb_form.specs.Views.Taking.{Gives, LosesAtMost};
 ghost use Rattle.cdb_form.specs.Format.Record.{AreBytes};
 ghost use Rattle.cdb_form.specs.Views.InFault.{in_message};
-ghost use Rattle.cdb_form.specs.Views.KnownBytes.{LosesAtMost};
-ghost use Rattle.cdb_form.specs.Views.Reading.{Gives};
 ghost use Rattle.cdb_form.specs.declared.reading_whole.InFault.TheVariants.{Failed};
 
 use crate::feeds::Feeds;
 use crate::reading::{ReadStop, vector};
 use std::error::Error;
 use std::fmt;
-use std::io::Read;
 
 /// How much of a reader's bytes came.
 #[derive(Clone, Copy, Debug, PartialEq, Eq)]
@@ -60,31 +56,18 @@ impl Error for InFault {}
 /// One byte more is requested, to see that there is none. At `More` the vector holds `most + 1`
 /// bytes, and the reader has what follows them. At `Failed` it holds the bytes that came before
 /// the fault. Memory is requested as bytes come, a piece ahead.
-pub fn read_whole<R: Read>(reader: &mut R, into: &mut Vec<u8>, most: u64) -> Result<Extent, InFault>
-    ensures given { IfOk result (Gives most (R.remaining reader.old)
-        (R.remaining reader.new) into.new.items) }
-    ensures part { IfErr result (λ f.
-        f ≡ Failed → Consumes (R.remaining reader.old) (R.remaining reader.new) into.new.items) }
-    ensures few { IfErr result (λ _. length into.new.items ≤ most) }
-    ensures are { AreBytes into.new.items }
-    ensures loses { LosesAtMost (R.remaining reader.old) (R.remaining reader.new) (most + 1) }
-{
-    read_whole_fed(reader, into, most)
-}
-
-/// Does what `read_whole` does, and says it of any bytes that agree with what was taken.
-pub fn read_whole_fed<R: Feeds>(
+pub fn read_whole<R: Feeds>(
     reader: &mut R,
     into: &mut Vec<u8>,
     most: u64,
 ) -> Result<Extent, InFault>
-    ensures given { IfOk result (fed.Gives most (R.feed reader.old) (R.feed reader.new)
+    ensures given { IfOk result (Gives most (R.feed reader.old) (R.feed reader.new)
         into.new.items) }
-    ensures part { OnErr result (fed_bytes.Consumes (R.feed reader.old) (R.feed reader.new)
+    ensures part { OnErr result (Consumes (R.feed reader.old) (R.feed reader.new)
         into.new.items) }
     ensures few { IfErr result (λ _. length into.new.items ≤ most) }
     ensures are { AreBytes into.new.items }
-    ensures loses { fed.LosesAtMost (R.feed reader.old) (R.feed reader.new) (most + 1) }
+    ensures loses { LosesAtMost (R.feed reader.old) (R.feed reader.new) (most + 1) }
 {
     let mut asks = u64::MAX;
     match vector(reader, &mut asks, into, most.saturating_add(1), 4096) {

@@ -30,10 +30,7 @@ module _ {S T : Type 0} (w : ℕ) (s : Ghosts S) (t : Ghosts T) (old old_now : S
   old_fails (read.Record place) fails = fails
   old_fails read.NoMemory fails = tt
   old_fails read.Output fails = tt
-  old_fails read.Short fails = absurd fails
-  old_fails (read.Slot n i) fails = absurd fails
-  old_fails (read.Twice place) fails = absurd fails
-  old_fails (read.Unindexed place) fails = absurd fails
+  old_fails f fails = absurd fails
 
   new_fails : (f : ReadFault) → ReadingStops t new new_now (IsOneDamaged w t s new_now old_now) O f → DifferenceFails (difference_task w s t) (difference_state old new start) (difference_state old_now new_now now) (new_fault f)
   new_fails read.Device fails = fails
@@ -41,10 +38,7 @@ module _ {S T : Type 0} (w : ℕ) (s : Ghosts S) (t : Ghosts T) (old old_now : S
   new_fails (read.Record place) fails = fails
   new_fails read.NoMemory fails = tt
   new_fails read.Output fails = tt
-  new_fails read.Short fails = absurd fails
-  new_fails (read.Slot n i) fails = absurd fails
-  new_fails (read.Twice place) fails = absurd fails
-  new_fails (read.Unindexed place) fails = absurd fails
+  new_fails f fails = absurd fails
 
   pub writing_fails : (stop : Stop) → DifferenceStops w s t old old_now new new_now O stop → DifferenceFails (difference_task w s t) (difference_state old new start) (difference_state old_now new_now now) (stop_fault stop)
   writing_fails (Own f) fails = old_fails f fails
@@ -56,10 +50,7 @@ module _ {S T : Type 0} (w : ℕ) (s : Ghosts S) (t : Ghosts T) (old old_now : S
   old_after (read.Record place) fails = looked
   old_after read.NoMemory fails = looked
   old_after read.Output fails = looked
-  old_after read.Short fails = absurd fails
-  old_after (read.Slot n i) fails = absurd fails
-  old_after (read.Twice place) fails = absurd fails
-  old_after (read.Unindexed place) fails = absurd fails
+  old_after f fails = absurd fails
 
   new_after : (f : ReadFault) → ReadingStops t new new_now (IsOneDamaged w t s new_now old_now) O f → ComesAfter w s t old_now new_now (new_fault f)
   new_after read.Device fails = looked.tables.heads.of_old
@@ -67,10 +58,7 @@ module _ {S T : Type 0} (w : ℕ) (s : Ghosts S) (t : Ghosts T) (old old_now : S
   new_after (read.Record place) fails = looked
   new_after read.NoMemory fails = looked
   new_after read.Output fails = looked
-  new_after read.Short fails = absurd fails
-  new_after (read.Slot n i) fails = absurd fails
-  new_after (read.Twice place) fails = absurd fails
-  new_after (read.Unindexed place) fails = absurd fails
+  new_after f fails = absurd fails
 
   pub writing_after : (stop : Stop) → DifferenceStops w s t old old_now new new_now O stop → ComesAfter w s t old_now new_now (stop_fault stop)
   writing_after (Own f) fails = old_after f fails
@@ -109,11 +97,7 @@ since w s t old mid now beside start end read.Short reads long fails = absurd (l
 since w s t old mid now beside start end read.Device reads long fails = let p = reads.failures in omega (arith, p, fails)
 since w s t old mid now beside start end (read.Table n) reads long fails = fails
 since w s t old mid now beside start end (read.Record place) reads long fails = fails
-since w s t old mid now beside start end (read.Slot n i) reads long fails = absurd fails
-since w s t old mid now beside start end (read.Twice place) reads long fails = absurd fails
-since w s t old mid now beside start end (read.Unindexed place) reads long fails = absurd fails
-since w s t old mid now beside start end read.NoMemory reads long fails = absurd fails
-since w s t old mid now beside start end read.Output reads long fails = absurd fails
+since w s t old mid now beside start end f reads long fails = absurd fails
 
 module _ {S T : Type 0} (w : ℕ) (s : Ghosts S) (t : Ghosts T) (old mid now : S) (new mid_new now_new : T) (start end : Option (List ℕ)) (first : OnlyReads s old mid) (second : OnlyReads t new mid_new) (long : head_size w ≤ s.size mid) (long_new : head_size w ≤ t.size mid_new) where
   fails_since : (f : Fault) → DifferenceFails (difference_task w s t) (difference_state mid mid_new start) (difference_state now now_new end) f → DifferenceFails (difference_task w s t) (difference_state old new start) (difference_state now now_new end) f
@@ -121,18 +105,10 @@ module _ {S T : Type 0} (w : ℕ) (s : Ghosts S) (t : Ghosts T) (old mid now : S
   fails_since (New f) fails = since w t s new mid_new now_new now start end f second long_new fails
   fails_since Output fails = tt
   fails_since NoMemory fails = tt
-  fails_since (Text n f) fails = absurd fails
-  fails_since (Make f) fails = absurd fails
-  fails_since Duplicate fails = absurd fails
-  fails_since Missing fails = absurd fails
-  fails_since (Read f) fails = absurd fails
-  fails_since (Walk f) fails = absurd fails
-  fails_since Long fails = absurd fails
-  fails_since Open fails = absurd fails
-  fails_since Rename fails = absurd fails
   fails_since NoOldTables fails = fails
   fails_since NoNewTables fails = fails
   fails_since NoBaseTables fails = fails
+  fails_since other_case fails = absurd fails
 
   pub tells_since : (result : Result Unit Fault) → TellsDifference (difference_task w s t) (difference_state mid mid_new start) (difference_state now now_new end) result → TellsDifference (difference_task w s t) (difference_state old new start) (difference_state now now_new end) result
   tells_since (Ok tt) h = record { old_reads = reads_more first h.old_reads; new_reads = reads_more second h.new_reads; ok = h.ok; err = tt; ok_looks = h.ok_looks; err_looks = tt; front = tt }
@@ -233,29 +209,16 @@ module _ {S T : Type 0} (w : ℕ) (s : Ghosts S) (t : Ghosts T) (old now : S) (n
   short_kept x z before after beside read.Device h = h
   short_kept x z before after beside (read.Table n) h = λ b c is it. (let out = h b c is it in (out.0, keeps_then start mid end out.1 kept))
   short_kept x z before after beside (read.Record place) h = h
-  short_kept x z before after beside (read.Slot n i) h = absurd h
-  short_kept x z before after beside (read.Twice place) h = absurd h
-  short_kept x z before after beside (read.Unindexed place) h = absurd h
-  short_kept x z before after beside read.NoMemory h = absurd h
-  short_kept x z before after beside read.Output h = absurd h
+  short_kept x z before after beside f h = absurd h
 
   fault_kept : (f : Fault) → DifferenceFails (difference_task w s t) (difference_state old new start) (difference_state now now_new mid) f → DifferenceFails (difference_task w s t) (difference_state old new start) (difference_state now now_new end) f
   fault_kept (Old f) h = short_kept s t old now now_new f h
   fault_kept (New f) h = short_kept t s new now_new now f h
   fault_kept Output h = tt
   fault_kept NoMemory h = tt
-  fault_kept (Text n f) h = absurd h
-  fault_kept (Make f) h = absurd h
-  fault_kept Duplicate h = absurd h
-  fault_kept Missing h = absurd h
-  fault_kept (Read f) h = absurd h
-  fault_kept (Walk f) h = absurd h
-  fault_kept Long h = absurd h
-  fault_kept Open h = absurd h
-  fault_kept Rename h = absurd h
   fault_kept NoOldTables h = record { lacks = h.lacks; kept = keeps_then start mid end h.kept kept }
   fault_kept NoNewTables h = record { lacks = h.lacks; kept = keeps_then start mid end h.kept kept }
-  fault_kept NoBaseTables h = absurd h
+  fault_kept other_case h = absurd h
 
   same_answer : (answer : Result Unit Fault) → TellsDifference (difference_task w s t) (difference_state old new start) (difference_state now now_new mid) answer → TellsDifference (difference_task w s t) (difference_state old new start) (difference_state now now_new end) answer
   same_answer (Ok tt) h = record { old_reads = h.old_reads; new_reads = h.new_reads; ok = λ b c is it. written_kept b c (h.ok b c is it); err = tt; ok_looks = h.ok_looks; err_looks = tt; front = tt }

@@ -2,11 +2,11 @@
 use Rattle.cdb_show.proofs.Words.{Appends, AppendsPrefix, AreRead, BeginsWithItems, Bool, Change, Err, Fault, FaultBehind, Ghosts, HasItemFault, HasLooked, IfErr, InputForm, InputReader, Inputs, IsInputOf, List, LookupState, LookupTask, LookupsStopAt, NoMore, None, NotBegun, Ok, OnOk, OnlyReads, OpeningFails, Option, Parsing, ReadFault, Result, SharedWindow, Some, Stop, StopsBehind, StopsSo, Style, TakesOne, TextFault, [], ap, append-nil, appends_then, arith, drop, end_of, false, feed_of, head_size, inl, inr, keys_form, keys_of, keys_of_each, length, looked_up, lookup_state, missing_answer, prefix_last, reached, read_fault, reads_more, reads_none, refl, slice_index_or, slice_set, subst, sym, true, ℕ, ⊤, ◌++◌, ◌+◌, ◌<◌, ◌∙◌, ◌∷◌, ◌≡◌, ◌≤◌}
 use Rattle.cdb_read.specs.declared.fault.ReadFault.TheVariants as damage
 use Rattle.cdb_feed.specs.declared.input_reader.InputReader.TheVariants.{Own, Shared}
-use Rattle.cdb_form.specs.Fed.Feed.{Feed, Consumes, FromTo, Keeps}
+use Rattle.cdb_form.specs.Views.Feed.{Feed, Consumes, FromTo, Keeps}
 use Rattle.cdb_form.specs.declared.text.fault.TextFault.TheVariants as kind
 use Rattle.cdb_form.specs.declared.width.Width.{Ghosts as Widths}
 use Rattle.cdb_form.proofs.Fed.FeedLemmas.{from_behind, from_both, from_kept, from_weaker, nothing_taken}
-use Rattle.cdb_show.specs.Runs.FedLookups.{FedLookupsFail, FedLookupsLeave, StopsInNext}
+use Rattle.cdb_show.specs.Runs.Lookups.{LookupsFail, LookupsLeave, StopsInNext}
 use Rattle.cdb_show.specs.Runs.Parsing.{IsFaultOf, StopsIn, fault_in, stop_of, stopped_parsing}
 use Rattle.cdb_show.specs.Views.Inputs.{AreReadTo, reader_of, shared_feed}
 use Rattle.cdb_show.specs.Views.LookUps.{GoesOn, LooksFurther, StopsFurther}
@@ -72,21 +72,7 @@ FaultIs form g last a b (Some f) = FaultBehind form g last a b f
 
 fault_is : (form : InputForm) (g n : ℕ) (last : List Change) (a b : Feed) (fault : Fault) → StopsBehind form g n last a b fault → FaultIs form g last a b (fault_in (Err fault))
 fault_is form g n last a b (Text i f) h = (h.of_text i f refl).1
-fault_is form g n last a b (Make f) h = tt
-fault_is form g n last a b Duplicate h = tt
-fault_is form g n last a b Missing h = tt
-fault_is form g n last a b (Read f) h = tt
-fault_is form g n last a b (Walk f) h = tt
-fault_is form g n last a b Output h = tt
-fault_is form g n last a b Long h = tt
-fault_is form g n last a b Open h = tt
-fault_is form g n last a b Rename h = tt
-fault_is form g n last a b NoMemory h = tt
-fault_is form g n last a b (Old f) h = tt
-fault_is form g n last a b (New f) h = tt
-fault_is form g n last a b NoOldTables h = tt
-fault_is form g n last a b NoNewTables h = tt
-fault_is form g n last a b NoBaseTables h = tt
+fault_is form g n last a b fault h = tt
 
 abbrev InText : InputForm → ℕ → Option TextFault → List Change → (text : List ℕ) → Type 0
 InText form g fault last text = StopsIn (stopped_parsing form g fault) (stop_of fault last) text
@@ -241,31 +227,11 @@ module _ {J I S L : Type 0} {s : Ghosts S} {l : Widths L} (task : LookupTask S) 
 -- ---- the end
 
 -- a fault that stopped it in an input is neither a missing value nor a store without a head
-fails_in : {J I S : Type 0} (task : LookupTask S) (read : List (List Change)) (stop : Stop Change TextFault) (old new : LookupState J I S) (f : Fault) → StopsInNext task read stop old new f → FedLookupsFail task read stop old new f
+fails_in : {J I S : Type 0} (task : LookupTask S) (read : List (List Change)) (stop : Stop Change TextFault) (old new : LookupState J I S) (f : Fault) → StopsInNext task read stop old new f → LookupsFail task read stop old new f
 fails_in task read stop old new (Read damage.Short) h = absurd h.stops
-fails_in task read stop old new (Read (damage.Table n)) h = h
-fails_in task read stop old new (Read (damage.Record place)) h = h
-fails_in task read stop old new (Read (damage.Slot n i)) h = h
-fails_in task read stop old new (Read (damage.Twice place)) h = h
-fails_in task read stop old new (Read (damage.Unindexed place)) h = h
 fails_in task read stop old new (Read damage.Device) h = inl h
-fails_in task read stop old new (Read damage.NoMemory) h = h
-fails_in task read stop old new (Read damage.Output) h = h
-fails_in task read stop old new (Text n f) h = h
-fails_in task read stop old new (Make f) h = h
-fails_in task read stop old new Duplicate h = h
-fails_in task read stop old new Missing h = h
-fails_in task read stop old new (Walk f) h = h
 fails_in task read stop old new Output h = inl h
-fails_in task read stop old new Long h = h
-fails_in task read stop old new Open h = h
-fails_in task read stop old new Rename h = h
-fails_in task read stop old new (Old side) h = h
-fails_in task read stop old new (New side) h = h
-fails_in task read stop old new NoOldTables h = h
-fails_in task read stop old new NoNewTables h = h
-fails_in task read stop old new NoBaseTables h = h
-fails_in task read stop old new NoMemory h = h
+fails_in task read stop old new f h = h
 
 one_reached : (fault : Option TextFault) (last : List Change) → reached {Item = Change} [] (stop_of fault last) ≡ 1
 one_reached None last = refl
@@ -291,7 +257,7 @@ module _ {J I S : Type 0} (task : LookupTask S) (own : J → Feed) (shared : I �
   -- it stopped in an input
   pub fed_stopped : (end : Option (List ℕ)) (f : Fault) → (read : List (List Change)) × (last : List Change) × AreRead own (shared_feed shared) (keys_parsing task.options.style task.greatest (fault_in (Err f))) read (stop_of (fault_in (Err f)) last) inputs.readers.items now (Unread inputs.shared) window
       × (drop (length read + 1) now ≡ drop (length read + 1) inputs.readers.items) × IsFaultOf (keys_form task.options.style) (length read + 1) f × LookupsStopAt task (keys_of_each read ++ keys_of last) old new start end f
-      → FedLookupsLeave task own shared (lookup_state inputs old start) (lookup_state left new end) (Err f)
+      → LookupsLeave task own shared (lookup_state inputs old start) (lookup_state left new end) (Err f)
   fed_stopped end f (read, last, are, others, is, stops) = record {
     reads = reads;
     read = read;
@@ -300,7 +266,7 @@ module _ {J I S : Type 0} (task : LookupTask S) (own : J → Feed) (shared : I �
     all = λ missing e. absurd (subst (λ x. LookupsStopAt task (keys_of_each read ++ keys_of last) old new start end x) (not_missing missing f e) stops);
     fails = λ v e other.
         let k : f ≡ v = cc in
-        subst (FedLookupsFail task read (stop_of (fault_in (Err f)) last) (lookup_state inputs old start) (lookup_state left new end)) k
+        subst (LookupsFail task read (stop_of (fault_in (Err f)) last) (lookup_state inputs old start) (lookup_state left new end)) k
         (fails_in task read (stop_of (fault_in (Err f)) last) (lookup_state inputs old start) (lookup_state left new end) f (record { last = last; is_stop = refl; stops = stops; is_fault = is }));
   }
 
@@ -309,7 +275,7 @@ module _ {J I S : Type 0} (task : LookupTask S) (own : J → Feed) (shared : I �
     unreached = subst (λ n. drop n now ≡ drop n inputs.readers.items) (sym (reached_all TextFault read)) others
 
     -- all keys were looked up
-    pub fed_whole : (result : Result Unit Fault) → result ≡ missing_answer missing → Appends mid end (end_of task.options.style) → FedLookupsLeave task own shared (lookup_state inputs old start) (lookup_state left new end) result
+    pub fed_whole : (result : Result Unit Fault) → result ≡ missing_answer missing → Appends mid end (end_of task.options.style) → LookupsLeave task own shared (lookup_state inputs old start) (lookup_state left new end) result
     fed_whole result is last = record {
       reads = reads;
       read = read;
@@ -320,7 +286,7 @@ module _ {J I S : Type 0} (task : LookupTask S) (own : J → Feed) (shared : I �
     }
 
     -- the end of the text was not written whole
-    pub fed_unended : AppendsPrefix mid end (end_of task.options.style) → FedLookupsLeave task own shared (lookup_state inputs old start) (lookup_state left new end) (Err Output)
+    pub fed_unended : AppendsPrefix mid end (end_of task.options.style) → LookupsLeave task own shared (lookup_state inputs old start) (lookup_state left new end) (Err Output)
     fed_unended front = record {
       reads = reads;
       read = read;
@@ -329,15 +295,15 @@ module _ {J I S : Type 0} (task : LookupTask S) (own : J → Feed) (shared : I �
       all = λ other e. absurd (let k = not_missing other Output e in let no : ⊥ = cc in no);
       fails = λ f e other.
           let k : Output ≡ f = cc in
-          subst (FedLookupsFail task read NoMore (lookup_state inputs old start) (lookup_state left new end)) k
+          subst (LookupsFail task read NoMore (lookup_state inputs old start) (lookup_state left new end)) k
           (inr (missing, refl, record { long = h.long; answered = h.answered; written = λ b is. prefix_last start mid end (looked_up task.word b task.options (keys_of_each read)).text (end_of task.options.style) _ (h.written b is) front refl }));
     }
 
 -- ---- the store
 
 -- it was not opened
-unopened_leaves : {J I S : Type 0} (task : LookupTask S) (own : J → Feed) (shared : I → Feed) (inputs : Inputs J I) (old new : S) (start : Option (List ℕ)) (f : ReadFault) → OnlyReads task.store old new → FedLookupsFail task [] NotBegun (lookup_state inputs old start) (lookup_state inputs new start) (Read f)
-    → FedLookupsLeave task own shared (lookup_state inputs old start) (lookup_state inputs new start) (Err (Read f))
+unopened_leaves : {J I S : Type 0} (task : LookupTask S) (own : J → Feed) (shared : I → Feed) (inputs : Inputs J I) (old new : S) (start : Option (List ℕ)) (f : ReadFault) → OnlyReads task.store old new → LookupsFail task [] NotBegun (lookup_state inputs old start) (lookup_state inputs new start) (Read f)
+    → LookupsLeave task own shared (lookup_state inputs old start) (lookup_state inputs new start) (Err (Read f))
 unopened_leaves task own shared inputs old new start f reads fails = record {
   reads = reads;
   read = [];
@@ -346,12 +312,12 @@ unopened_leaves task own shared inputs old new start f reads fails = record {
   all = λ missing e. absurd (let k = not_missing missing (Read f) e in let no : ⊥ = cc in no);
   fails = λ v e other.
       let k : Read f ≡ v = cc in
-      subst (FedLookupsFail task [] NotBegun (lookup_state inputs old start) (lookup_state inputs new start)) k fails;
+      subst (LookupsFail task [] NotBegun (lookup_state inputs old start) (lookup_state inputs new start)) k fails;
 }
 
 pub fed_unopened : {J I S : Type 0} (task : LookupTask S) (own : J → Feed) (shared : I → Feed) (inputs : Inputs J I) (old new : S) (start : Option (List ℕ)) (f : ReadFault) → OpeningFails task.word task.store old new f
-    → FedLookupsLeave task own shared (lookup_state inputs old start) (lookup_state inputs new start) (Err (read_fault f))
-fed_unopened task own shared inputs old new start f h = unopened_by task.word task.store old new (λ f. FedLookupsLeave task own shared (lookup_state inputs old start) (lookup_state inputs new start) (Err (read_fault f)))
+    → LookupsLeave task own shared (lookup_state inputs old start) (lookup_state inputs new start) (Err (read_fault f))
+fed_unopened task own shared inputs old new start f h = unopened_by task.word task.store old new (λ f. LookupsLeave task own shared (lookup_state inputs old start) (lookup_state inputs new start) (Err (read_fault f)))
     (λ short same. unopened_leaves task own shared inputs old new start damage.Short (subst (OnlyReads task.store old) (sym same) (reads_none task.store old)) (record { none = refl; is_stop = refl; same = refl; kept = keeps_self start; why = (short, same) }))
     (λ reads failed. unopened_leaves task own shared inputs old new start damage.Device reads (inr (record { none = refl; is_stop = refl; same = refl; kept = keeps_self start; why = failed }))) f h
 
@@ -360,37 +326,17 @@ in_next : {J I S : Type 0} (task : LookupTask S) (read : List (List Change)) (st
 in_next task read stop old mid new f reads h = record { last = h.last; is_stop = h.is_stop; stops = stops_later task _ old mid.store new.store mid.output new.output f reads h.stops; is_fault = h.is_fault }
 
 begun_fails : {J I S : Type 0} (task : LookupTask S) (read : List (List Change)) (stop : Stop Change TextFault) (old : S) (mid new : LookupState J I S) (f : Fault) → OnlyReads task.store old mid.store → head_size task.word ≤ task.store.size mid.store
-    → FedLookupsFail task read stop mid new f → FedLookupsFail task read stop (lookup_state mid.inputs old mid.output) new f
+    → LookupsFail task read stop mid new f → LookupsFail task read stop (lookup_state mid.inputs old mid.output) new f
 begun_fails task read stop old mid new (Read damage.Short) reads long h = let short = h.why.0 in absurd (let no : ⊥ = omega (arith, long, short) in no)
 begun_fails task read stop old mid new (Read damage.Device) reads long (inl h) = inl (in_next task read stop old mid new _ reads h)
 begun_fails task read stop old mid new (Read damage.Device) reads long (inr h) = inr (record { none = h.none; is_stop = h.is_stop; same = h.same; kept = h.kept; why = let k = reads.failures in let more = h.why in omega (arith, k, more) })
 begun_fails task read stop old mid new Output reads long (inl h) = inl (in_next task read stop old mid new _ reads h)
 begun_fails task read stop old mid new Output reads long (inr h) = inr h
-begun_fails task read stop old mid new (Read (damage.Table n)) reads long h = in_next task read stop old mid new _ reads h
-begun_fails task read stop old mid new (Read (damage.Record place)) reads long h = in_next task read stop old mid new _ reads h
-begun_fails task read stop old mid new (Read (damage.Slot n i)) reads long h = in_next task read stop old mid new _ reads h
-begun_fails task read stop old mid new (Read (damage.Twice place)) reads long h = in_next task read stop old mid new _ reads h
-begun_fails task read stop old mid new (Read (damage.Unindexed place)) reads long h = in_next task read stop old mid new _ reads h
-begun_fails task read stop old mid new (Read damage.NoMemory) reads long h = in_next task read stop old mid new _ reads h
-begun_fails task read stop old mid new (Read damage.Output) reads long h = in_next task read stop old mid new _ reads h
-begun_fails task read stop old mid new (Text n f) reads long h = in_next task read stop old mid new _ reads h
-begun_fails task read stop old mid new (Make f) reads long h = in_next task read stop old mid new _ reads h
-begun_fails task read stop old mid new Duplicate reads long h = in_next task read stop old mid new _ reads h
-begun_fails task read stop old mid new Missing reads long h = in_next task read stop old mid new _ reads h
-begun_fails task read stop old mid new (Walk f) reads long h = in_next task read stop old mid new _ reads h
-begun_fails task read stop old mid new Long reads long h = in_next task read stop old mid new _ reads h
-begun_fails task read stop old mid new Open reads long h = in_next task read stop old mid new _ reads h
-begun_fails task read stop old mid new Rename reads long h = in_next task read stop old mid new _ reads h
-begun_fails task read stop old mid new (Old side) reads long h = in_next task read stop old mid new _ reads h
-begun_fails task read stop old mid new (New side) reads long h = in_next task read stop old mid new _ reads h
-begun_fails task read stop old mid new NoOldTables reads long h = in_next task read stop old mid new _ reads h
-begun_fails task read stop old mid new NoNewTables reads long h = in_next task read stop old mid new _ reads h
-begun_fails task read stop old mid new NoBaseTables reads long h = in_next task read stop old mid new _ reads h
-begun_fails task read stop old mid new NoMemory reads long h = in_next task read stop old mid new _ reads h
+begun_fails task read stop old mid new f reads long h = in_next task read stop old mid new _ reads h
 
 pub fed_begun : {J I S : Type 0} (task : LookupTask S) (own : J → Feed) (shared : I → Feed) (inputs left : Inputs J I) (old mid new last : S) (start now : Option (List ℕ)) (result : Result Unit Fault) → OnlyReads task.store old mid → head_size task.word ≤ task.store.size mid → last ≡ new
-    → FedLookupsLeave task own shared (lookup_state inputs mid start) (lookup_state left new now) result → FedLookupsLeave task own shared (lookup_state inputs old start) (lookup_state left last now) result
-fed_begun task own shared inputs left old mid new last start now result reads long same h = subst (λ v. FedLookupsLeave task own shared (lookup_state inputs old start) (lookup_state left v now) result) (sym same) (record {
+    → LookupsLeave task own shared (lookup_state inputs mid start) (lookup_state left new now) result → LookupsLeave task own shared (lookup_state inputs old start) (lookup_state left last now) result
+fed_begun task own shared inputs left old mid new last start now result reads long same h = subst (λ v. LookupsLeave task own shared (lookup_state inputs old start) (lookup_state left v now) result) (sym same) (record {
   reads = reads_more reads h.reads;
   read = h.read;
   stop = h.stop;

@@ -1,12 +1,15 @@
 -- What the inputs say that a run read, whole or in part: the function of their bytes says the same.
 use Rattle.std.proofs.Common.{◌≡◌, ◌+◌, ℕ, List, [], ◌∷◌, ◌++◌, length, map, refl, sym, ap, subst, ◌∙◌, arith, append_assoc, append-nil, Option, Some, None, Result, Ok, Err, IfSome}
 use Rattle.cdb_show.proofs.Words.{Change, Incoming, IsOfText, TextFault, came, from_input, from_inputs}
+use Rattle.cdb_feed.specs.Given as fed
 use Rattle.cdb_form.specs.Text.Parse.{Parsed}
 use Rattle.cdb_form.specs.Views.KnownBytes.{FromTo}
 use Rattle.cdb_show.specs.Runs.Inputs.{InputForm, HasFaults, Puts, Changes, Lists, input_form, keys_of, OneInput, InputsLeft, IsInputOf, BeginsWithItems, HasItemFault, ReadsOne, ReadsFirstInputs, AreInputs, AreAllInputs, OneBegins, FirstBegins, FirstHas, bytes_of}
 use Rattle.cdb_show.specs.Runs.Inputs as form
 use Rattle.cdb_show.specs.Runs.Incoming.{one_input, KnownFor, Known}
 use Rattle.cdb_show.specs.Runs.Given.{input_parsed, Given, with_input, given_from}
+use Rattle.cdb_show.specs.Runs.Parsing.{input_parsing}
+use Rattle.cdb_show.specs.declared.fault.Fault.{Fault}
 use Rattle.cdb_show.specs.Runs.InputLaws.{text_input, text_begins, text_fails}
 use Rattle.cdb_show.specs.declared.fault.Fault.TheVariants.{Text}
 
@@ -167,3 +170,21 @@ begins_given f g read last inputs shared old rest k are begins =
       ap (λ (v : Given). from_inputs 1 v.items) left.given ∙ inputs_then 1 read others.items ∙ ap (λ t. from_inputs 1 read ++ t) first.1
           ∙ sym (append_assoc (from_inputs 1 read) (from_input (1 + length read) 1 last) first.0) ∙ ap (λ t. t ++ first.0) (sym (came_is read last)),
     )
+
+-- ---- in the words of cdb_feed
+
+abbrev faulty : Option (fed.NumberedFault TextFault) → Option Fault
+faulty None = None
+faulty (Some f) = Some (Text f.number f.fault)
+
+abbrev pub said : fed.Given Change TextFault → Given
+said given = record { items = given.items; fault = faulty given.fault }
+
+same_with : (number : ℕ) (items : List Change) (ends : Result (List ℕ) TextFault) (one : List ℕ → fed.Given Change TextFault) (other : List ℕ → Given) → ((rest : List ℕ) → said (one rest) ≡ other rest) → said (fed.with_input number items ends one) ≡ with_input number items ends other
+same_with number items (Ok rest) one other same = ap (λ (v : Given). let w : Given = record { items = items ∷ v.items; fault = v.fault } in w) (same rest)
+same_with number items (Err fault) one other same = refl
+
+pub same_given : (f : InputForm) (g number : ℕ) (inputs : List (Option (List ℕ))) (shared : List ℕ) → said (fed.given_from (input_parsing f g).parse number inputs shared) ≡ given_from f g number inputs shared
+same_given f g number [] shared = refl
+same_given f g number (Some input ∷ inputs) shared = same_with number (input_parsed f g input).items (input_parsed f g input).ends _ _ (λ rest. same_given f g (number + 1) inputs shared)
+same_given f g number (None ∷ inputs) shared = same_with number (input_parsed f g shared).items (input_parsed f g shared).ends _ _ (λ rest. same_given f g (number + 1) inputs rest)

@@ -1,8 +1,7 @@
 -- What a reader took of the items of an input, whatever its form and whatever bytes agree with it.
 use Rattle.cdb_show.proofs.Words.{BeginsWithItems, Bool, Feed, FromTo, HasFaults, HasInputFault, HasItemFault, InputsBeginWith, IsInput, IsInputOf, IsOfText, KeyValue, List, Puts, Spells, TextFault, [], false, from_weaker, map, refl, true, ℕ, ◌++◌, ◌<◌, ◌∷◌, ◌≡◌, ◌≢◌}
-use Rattle.cdb_form.specs.Fed.FormReader as fed
+use Rattle.cdb_form.specs.Views.FormReader as fed
 use Rattle.cdb_form.specs.Text.Amending.{Change, Putting, SpellsChange}
-use Rattle.cdb_form.specs.Views.FormReader as text
 use Rattle.cdb_form.specs.declared.text.fault.TextFault.TheVariants.{NoMemory}
 use Rattle.cdb_form.specs.declared.text.form_reader.FormReader.{FormReader}
 use Rattle.cdb_form.proofs.NativeTexts.Spelling.{changes, records}
@@ -26,7 +25,7 @@ put_of g feed false t u r h = record {
   spends = h.spends;
 }
 
-pub peeked_put : {F L : Type 0} (g n : ℕ) (held : F → List ℕ) (feed : F → Feed) (removals : Bool) (old : ItemReader F L) (t u : FormReader F L) → old ≡ Form t removals → ((r : KeyValue) → text.HasPeeked held g t n r → fed.GivesItem SpellsChange g feed t u (Putting r))
+pub peeked_put : {F L : Type 0} (g n : ℕ) (held : F → List ℕ) (feed : F → Feed) (removals : Bool) (old : ItemReader F L) (t u : FormReader F L) → old ≡ Form t removals → ((r : KeyValue) → fed.HasPeeked held g t n r → fed.GivesItem SpellsChange g feed t u (Putting r))
     → (r : KeyValue) → HasPeeked held g old n r → GivesItem g feed old (Form u removals) (Putting r)
 peeked_put g n held feed removals old t u e takes = rw e (λ r peeked. put_of g feed removals t u r (takes r peeked))
 
@@ -34,8 +33,8 @@ peeked_put g n held feed removals old t u e takes = rw e (λ r peeked. put_of g 
 
 -- it gave these items so far
 abbrev pub GaveItems : {F L : Type 0} → ℕ → (F → Feed) → Feed → ItemReader F L → List Change → Type 0
-GaveItems g feed start (Form t true) items = text.IsGoing t × GaveSpelled SpellsChange g feed start t.source items
-GaveItems g feed start (Form t false) items = (given : List KeyValue) × (items ≡ map Putting given) × text.IsGoing t × GaveSpelled Spells g feed start t.source given
+GaveItems g feed start (Form t true) items = fed.IsGoing t × GaveSpelled SpellsChange g feed start t.source items
+GaveItems g feed start (Form t false) items = (given : List KeyValue) × (items ≡ map Putting given) × fed.IsGoing t × GaveSpelled Spells g feed start t.source given
 GaveItems g feed start (Map t) items = (given : List KeyValue) × (items ≡ map Putting given) × GaveLines feed start t given
 
 module _ {F L : Type 0} (g : ℕ) (feed : F → Feed) where

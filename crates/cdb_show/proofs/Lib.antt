@@ -3,9 +3,7 @@ pub mod Openings
 pub mod QueryEnds
 pub mod StatsTexts
 pub mod Checks
-pub mod NativeInputs
 pub mod Writers
-pub mod InputTexts
 pub mod SpelledInputs
 pub mod MapInputs
 pub mod KeyInputs
@@ -14,10 +12,8 @@ pub mod NextInputs
 pub mod LookupRuns
 pub mod FedTurns
 pub mod FedLookupRuns
-pub mod FedLookedUp
 pub mod WalksSoFar
 pub mod WholeTexts
-pub mod FedTexts
 pub mod FedLoads
 pub mod WindowLemmas
 pub mod OutputFaults

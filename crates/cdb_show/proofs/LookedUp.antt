@@ -1,18 +1,25 @@
 -- A query of the keys that some inputs give comes to what the function of their bytes says, or to a
--- refusal.
-use Rattle.std.proofs.Common.{◌≡◌, ◌⊎◌, ◌+◌, ◌≤◌, true, false, Bool, ℕ, inl, inr, List, [], ◌∷◌, ◌++◌, length, map, fold, refl, sym, ap, subst, ◌∙◌, arith, append_assoc, append-nil, Option, Some, None, Result, Ok, Err, if◌then◌else◌}
-use Rattle.cdb_show.proofs.Words.{Appends, AppendsPrefix, Change, Fault, Ghosts, Given, Incoming, InputsLeft, IsOfText, Keeps, Known, LookupOptions, LookupTask, Style, TextFault, came, end_of, from_input, from_inputs, given_from, head_size, key_of, keys_form, keys_of, keys_of_each, map-append, prefix_in, ⊤}
+-- refusal: of any bytes that agree with the readers of the inputs as they came back.
+use Rattle.std.proofs.Common.{◌≡◌, ◌≢◌, ◌⊎◌, ◌+◌, ◌<◌, ◌≤◌, true, false, Bool, ℕ, inl, inr, List, [], ◌∷◌, ◌++◌, length, fold, refl, sym, ap, subst, ◌∙◌, arith, append_assoc, append-nil, Option, Some, None, Result, Ok, Err, if◌then◌else◌}
+use Rattle.cdb_show.proofs.Words.{Appends, AppendsPrefix, Change, Fault, Feed, Ghosts, Given, HasLooked, InputForm, Inputs, IsOfText, Keeps, LookupOptions, LookupTask, LookupsStopAt, SharedWindow, Style, TextFault, end_of, fault_in, flat_map-append, given_from, head_size, keys_form, keys_of, keys_of_each, key_of, lookup_state, LookupState, map-append, missing_answer, prefix_in, shared_feed, stop_of, stopped_parsing, ⊤}
 use Rattle.std.proofs.lemmas.Bool.{cond-true, cond-false}
 use Rattle.std.proofs.lemmas.List.Sums.{fold-append}
 use Rattle.std.proofs.KnownBytes.{Appends-kept, Keeps-trans}
+use Rattle.cdb_feed.specs.Given as fed
+use Rattle.cdb_feed.specs.Inputs.{AgreesWith, AreUnread, FirstAgree, IsGiven, HasFault, CutShort, IsUnread, NoMore, Stop, reached}
+use Rattle.cdb_feed.proofs.GivenInputs.{all_given}
+use Rattle.cdb_form.specs.Format.Record.{AreBytes}
 use Rattle.cdb_form.specs.declared.text.fault.TextFault.TheVariants as text
-use Rattle.cdb_read.specs.declared.fault.ReadFault.TheVariants as read
+use Rattle.cdb_read.specs.declared.fault.ReadFault.TheVariants as read_fault
 use Rattle.cdb_show.specs.Runs.Flushed.{FlushedWhole, IsWhole}
 use Rattle.cdb_show.specs.Runs.LookedUp.{Looked, has_ended, looked_up, records_asked, with_end, with_given, with_key}
-use Rattle.cdb_show.specs.Runs.Lookups.{LookupsFail, LookupsLeave, LooksUp, LooksUpAll, HasLooked, LookupsStop, missing_answer}
+use Rattle.cdb_show.specs.Runs.Lookups.{IsUnopened, LookupsFail, LookupsLeave, LooksUp, LooksUpRead, StopsInNext}
+use Rattle.cdb_show.specs.Runs.Parsing.{IsFaultOf, input_parsing}
 use Rattle.cdb_show.specs.Runs.Query.{IsShortForQuery}
+use Rattle.cdb_show.specs.Views.Inputs.{held_of, reader_of}
 use Rattle.cdb_show.specs.declared.fault.Fault.TheVariants.{Text, Make, Duplicate, Missing, Read, Walk, Output, Long, Open, Rename, NoMemory, Old, New, NoOldTables, NoNewTables, NoBaseTables}
-use Rattle.cdb_show.proofs.GivenInputs.{after, all_given, begins_given, first_fails, left_known}
+use Rattle.cdb_show.specs.declared.inputs.SharedWindow.TheVariants.{InHand, Unread}
+use Rattle.cdb_show.proofs.GivenInputs.{same_given, said}
 use Rattle.cdb_show.proofs.LookupRuns.{each_more}
 use Rattle.cdb_show.proofs.Writers.{prefix_kept, whole_prefix}
 
@@ -43,32 +50,43 @@ ComesOf l start end result = LooksSo l start end result ⊎ LookupRefused l star
 
 -- of a file that has a head
 pub record LooksOrShort {S : Type 0} (w : ℕ) (s : Ghosts S) (l : Looked) (old new : S) (start end : Option (List ℕ)) (result : Result Unit Fault) : Type 0 where
-  pub comes : ((result ≡ Err (Read read.Short)) × IsShortForQuery w s old new start end) ⊎ ((head_size w ≤ s.size new) × ComesOf l start end result)
+  pub comes : ((result ≡ Err (Read read_fault.Short)) × IsShortForQuery w s old new start end) ⊎ ((head_size w ≤ s.size new) × ComesOf l start end result)
 
 refused : (l : Looked) (start end : Option (List ℕ)) (f : Fault) → IsLookupRefusal f → AppendsPrefix start end l.text → ComesOf l start end (Err f)
 refused l start end f is p = inr (record { fault = f; is = refl; refusal = is; written = p })
 
--- ---- the keys of some items
+-- ---- the keys of the inputs that were read, and of what was read of one more
 
-abbrev incoming_key : Incoming → List ℕ
-incoming_key c = key_of c.it
+-- what all inputs give, if the run stopped so
+abbrev Gives : List (List Change) → Stop Change TextFault → Given → Type 0
+Gives read stop given = (f : fed.Given Change TextFault) × IsGiven 1 read stop f × (said f ≡ given)
 
-keys_came : (i n : ℕ) (items : List Change) → map incoming_key (from_input i n items) ≡ keys_of items
-keys_came i n [] = refl
-keys_came i n (x ∷ items) = ap (λ k. key_of x ∷ k) (keys_came i (n + 1) items)
+keys_begun : (read others : List (List Change)) (last more : List Change) → keys_of_each (read ++ (last ++ more) ∷ others) ≡ (keys_of_each read ++ keys_of last) ++ (keys_of more ++ keys_of_each others)
+keys_begun read others last more =
+    flat_map-append keys_of read ((last ++ more) ∷ others)
+    ∙ ap (λ k. keys_of_each read ++ (k ++ keys_of_each others)) (map-append key_of last more)
+    ∙ ap (λ k. keys_of_each read ++ k) (append_assoc (keys_of last) (keys_of more) (keys_of_each others))
+    ∙ sym (append_assoc (keys_of_each read) (keys_of last) (keys_of more ++ keys_of_each others))
 
-keys_came_each : (i : ℕ) (items : List (List Change)) → map incoming_key (from_inputs i items) ≡ keys_of_each items
-keys_came_each i [] = refl
-keys_came_each i (xs ∷ items) =
-    map-append incoming_key (from_input i 1 xs) (from_inputs (i + 1) items)
-    ∙ ap (λ k. k ++ map incoming_key (from_inputs (i + 1) items)) (keys_came i 1 xs)
-    ∙ ap (λ k. keys_of xs ++ k) (keys_came_each (i + 1) items)
+-- they are the first of all keys
+abbrev KeysBegin : List (List Change) → List Change → Given → Type 0
+KeysBegin read last given = (more : List (List ℕ)) × (keys_of_each given.items ≡ (keys_of_each read ++ keys_of last) ++ more)
 
--- what came, and more
-keys_begin : (items read : List (List Change)) (last : List Change) (more : List Incoming) → from_inputs 1 items ≡ came read last ++ more → keys_of_each items ≡ (keys_of_each read ++ keys_of last) ++ map incoming_key more
-keys_begin items read last more e =
-    sym (keys_came_each 1 items) ∙ ap (map incoming_key) e ∙ map-append incoming_key (came read last) more
-    ∙ ap (λ k. k ++ map incoming_key more) (keys_came_each 1 (read ++ last ∷ []) ∙ each_more read last)
+whole_begins : (read : List (List Change)) (last : List Change) (fault : Option Fault) (given : Given) → given ≡ record { items = read ++ last ∷ []; fault = fault } → KeysBegin read last given
+whole_begins read last fault given e = ([], ap (λ (v : Given). keys_of_each v.items) e ∙ each_more read last ∙ sym (append-nil (keys_of_each read ++ keys_of last)))
+
+part_begins : (read : List (List Change)) (last : List Change) (f : fed.Given Change TextFault) (given : Given) → IsGiven 1 read (CutShort last) f → said f ≡ given → KeysBegin read last given
+part_begins read last f given (more, others, e) same = (keys_of more ++ keys_of_each others, ap (λ (v : Given). keys_of_each v.items) (sym same) ∙ ap keys_of_each e ∙ keys_begun read others last more)
+
+fault_given : (read : List (List Change)) (last : List Change) (n : ℕ) (t : TextFault) (f : fed.Given Change TextFault) (given : Given) → n ≡ length read + 1 → IsGiven 1 read (HasFault last t) f → said f ≡ given → given ≡ record { items = read ++ last ∷ []; fault = Some (Text n t) }
+fault_given read last n t f given at is same =
+    sym same ∙ ap said is ∙ ap (λ (m : ℕ). let v : Given = record { items = read ++ last ∷ []; fault = Some (Text m t) } in v) (omega (arith, at))
+
+keys_begin : (t : Option TextFault) (read : List (List Change)) (last : List Change) (given : Given) → Gives read (stop_of t last) given → KeysBegin read last given
+keys_begin (Some (text.Syntax at)) read last given (f, is, same) = whole_begins read last _ given (fault_given read last (length read + 1) _ f given refl is same)
+keys_begin (Some (text.Ended at)) read last given (f, is, same) = whole_begins read last _ given (fault_given read last (length read + 1) _ f given refl is same)
+keys_begin (Some (text.Large at)) read last given (f, is, same) = whole_begins read last _ given (fault_given read last (length read + 1) _ f given refl is same)
+keys_begin t read last given (f, is, same) = part_begins read last f given is same
 
 -- ---- more keys
 
@@ -111,162 +129,122 @@ unended : (w : ℕ) (b : List ℕ) (o : LookupOptions) (given : Given) (missing 
     → with_given w b o given ≡ with_end o.style (looked_up w b o (keys_of_each given.items)) given.fault
 unended w b o given missing e = cond-false (has_ended (looked_up w b o (keys_of_each given.items)).answer) _ _ (ap has_ended e ∙ not_ended missing)
 
-pub all_asked : {S : Type 0} (task : LookupTask S) (inputs : List (Option (List ℕ))) (shared : List ℕ) (left : InputsLeft) (store : S) (bytes : List ℕ) (missing : Bool) (Writes : List ℕ → Type 0) → Known inputs shared left → task.store.image store bytes
-    → LooksUpAll task left store missing Writes → ((records_asked task.word task.greatest task.options inputs shared bytes).answer ≡ missing_answer missing) × Writes (records_asked task.word task.greatest task.options inputs shared bytes).text
-all_asked task inputs shared left store bytes missing Writes known is h =
-    let given = all_given (keys_form task.options.style) task.greatest h.read inputs shared left known h.are in
-    let answered = h.answered bytes is in
-    let same : records_asked task.word task.greatest task.options inputs shared bytes ≡ with_end task.options.style (looked_up task.word bytes task.options (keys_of_each h.read)) None =
-    ap (with_given task.word bytes task.options) given ∙ unended task.word bytes task.options (record { items = h.read; fault = None }) missing answered in
-    (ap (λ (l : Looked). l.answer) same ∙ answered, subst Writes (sym (ap (λ (l : Looked). l.text) same)) (h.written bytes is))
+-- a key had no value, or something else was
+is_missing : (f : Fault) → (f ≡ Missing) ⊎ (f ≢ Missing)
+is_missing Missing = inl refl
+is_missing f = inr (λ e. cc)
 
--- ---- it stopped in an input
+module _ {S : Type 0} (task : LookupTask S) (inputs : List (Option (List ℕ))) (shared bytes : List ℕ) where
+  -- what the inputs give, and what comes of it
+  abbrev given : Given
+  given = given_from (keys_form task.options.style) task.greatest 1 inputs shared
 
--- of the keys so far a prefix was written
-part_asked : (w g : ℕ) (o : LookupOptions) (inputs : List (Option (List ℕ))) (shared bytes : List ℕ) (keys more : List (List ℕ)) (start end : Option (List ℕ)) → keys_of_each (given_from (keys_form o.style) g 1 inputs shared).items ≡ keys ++ more
-    → AppendsPrefix start end (looked_up w bytes o keys).text → AppendsPrefix start end (records_asked w g o inputs shared bytes).text
-part_asked w g o inputs shared bytes keys more start end e p =
-    let given = given_from (keys_form o.style) g 1 inputs shared in
-    let all = looked_up w bytes o (keys_of_each given.items) in
-    let same : all ≡ fold (with_key w bytes o) (looked_up w bytes o keys) more = ap (looked_up w bytes o) e ∙ looked_more w bytes o keys more in
-    let grow = keys_grow w bytes o (looked_up w bytes o keys) more in
-    let last = given_grows (has_ended all.answer) o.style all given.fault in
-    prefix_in start end (looked_up w bytes o keys).text (grow.0 ++ last.0) _ p
-    (last.1 ∙ ap (λ t. t ++ last.0) (ap (λ (l : Looked). l.text) same ∙ grow.1) ∙ append_assoc (looked_up w bytes o keys).text grow.0 last.0)
+  abbrev asked : Looked
+  asked = records_asked task.word task.greatest task.options inputs shared bytes
 
--- the last of these keys met a damage
-damage_asked : (w g : ℕ) (o : LookupOptions) (inputs : List (Option (List ℕ))) (shared bytes : List ℕ) (keys more : List (List ℕ)) (start end : Option (List ℕ)) (f : Fault) → keys_of_each (given_from (keys_form o.style) g 1 inputs shared).items ≡ keys ++ more
-    → has_ended (Err f) ≡ true → (looked_up w bytes o keys).answer ≡ Err f → Appends start end (looked_up w bytes o keys).text → ComesOf (records_asked w g o inputs shared bytes) start end (Err f)
-damage_asked w g o inputs shared bytes keys more start end f e ends answered written =
-    let given = given_from (keys_form o.style) g 1 inputs shared in
-    let here = looked_up w bytes o keys in
-    let all : looked_up w bytes o (keys_of_each given.items) ≡ here =
-    ap (looked_up w bytes o) e ∙ looked_more w bytes o keys more ∙ keys_stay w bytes o here more (ap has_ended answered ∙ ends) in
-    let same : records_asked w g o inputs shared bytes ≡ here =
-    ap (λ (l : Looked). if has_ended l.answer then l else with_end o.style l given.fault) all ∙ cond-true (has_ended here.answer) _ _ (ap has_ended answered ∙ ends) in
-    subst (λ l. ComesOf l start end (Err f)) (sym same) (inl (record { is = sym answered; written = written }))
+  all_asked : (read : List (List Change)) (store : S) (missing : Bool) (Writes : List ℕ → Type 0) → task.store.image store bytes → Gives read NoMore given
+      → LooksUpRead task read store missing Writes → (asked.answer ≡ missing_answer missing) × Writes asked.text
+  all_asked read store missing Writes is (f, all, said_so) h =
+      let answered = h.answered bytes is in
+      let whole : Given = record { items = read; fault = None } in
+      let same : asked ≡ with_end task.options.style (looked_up task.word bytes task.options (keys_of_each read)) None =
+      ap (with_given task.word bytes task.options) (sym said_so ∙ ap said all) ∙ unended task.word bytes task.options whole missing answered in
+      (ap (λ (l : Looked). l.answer) same ∙ answered, subst Writes (sym (ap (λ (l : Looked). l.text) same)) (h.written bytes is))
 
--- the text of an input has a fault
-text_asked : {S : Type 0} (task : LookupTask S) (inputs : List (Option (List ℕ))) (shared : List ℕ) (left : InputsLeft) (old new : S) (bytes : List ℕ) (start end : Option (List ℕ)) (n : ℕ) (f : TextFault) → Known inputs shared left → task.store.image new bytes → IsOfText f
-    → (h : LookupsStop task left old new start end (Text n f)) → (missing : Bool) → HasLooked task (keys_of_each h.read ++ keys_of h.last) new start end missing → ComesOf (records_asked task.word task.greatest task.options inputs shared bytes) start end (Err (Text n f))
-text_asked task inputs shared left old new bytes start end n f known is of h missing looked =
-    let form = keys_form task.options.style in
-    let at = h.of_text n f refl in
-    let rest = left_known form task.greatest 1 h.read inputs shared left h.rest known h.are in
-    let fails = first_fails form task.greatest (1 + length h.read) h.last rest.more rest.left h.rest at.1.input f (at.1.has.own of) of rest.is_known at.1.first at.1.has.has in
-    let whole : Given = record { items = h.read ++ h.last ∷ []; fault = Some (Text n f) } in
-    let given : given_from form task.greatest 1 inputs shared ≡ whole =
-    rest.given ∙ ap (after h.read) fails ∙ ap (λ (m : ℕ). let v : Given = record { items = h.read ++ h.last ∷ []; fault = Some (Text m f) } in v) (omega (arith, at.0)) in
-    let keys : keys_of_each (h.read ++ h.last ∷ []) ≡ keys_of_each h.read ++ keys_of h.last = each_more h.read h.last in
-    let answered : (looked_up task.word bytes task.options (keys_of_each (h.read ++ h.last ∷ []))).answer ≡ missing_answer missing =
-    ap (λ k. (looked_up task.word bytes task.options k).answer) keys ∙ looked.answered bytes is in
-    let same : records_asked task.word task.greatest task.options inputs shared bytes ≡ record { text = (looked_up task.word bytes task.options (keys_of_each h.read ++ keys_of h.last)).text; answer = Err (Text n f) } =
-    ap (with_given task.word bytes task.options) given ∙ unended task.word bytes task.options whole missing answered
-    ∙ ap (λ k. with_end task.options.style (looked_up task.word bytes task.options k) (Some (Text n f))) keys in
-    subst (λ l. ComesOf l start end (Err (Text n f))) (sym same) (inl (record { is = refl; written = looked.written bytes is }))
+  -- ---- it stopped in an input
 
--- what the run stopped at
-pub record StopsSo {S : Type 0} (w : ℕ) (s : Ghosts S) (l : Looked) (new : S) (start end : Option (List ℕ)) (f : Fault) : Type 0 where
-  pub long : head_size w ≤ s.size new
-  pub comes : ComesOf l start end (Err f)
+  -- of the keys so far a prefix was written
+  part_asked : (keys more : List (List ℕ)) (start end : Option (List ℕ)) → keys_of_each given.items ≡ keys ++ more → AppendsPrefix start end (looked_up task.word bytes task.options keys).text → AppendsPrefix start end asked.text
+  part_asked keys more start end e p =
+      let w = task.word in
+      let o = task.options in
+      let all = looked_up w bytes o (keys_of_each given.items) in
+      let same : all ≡ fold (with_key w bytes o) (looked_up w bytes o keys) more = ap (looked_up w bytes o) e ∙ looked_more w bytes o keys more in
+      let grow = keys_grow w bytes o (looked_up w bytes o keys) more in
+      let last = given_grows (has_ended all.answer) o.style all given.fault in
+      prefix_in start end (looked_up w bytes o keys).text (grow.0 ++ last.0) _ p
+      (last.1 ∙ ap (λ t. t ++ last.0) (ap (λ (l : Looked). l.text) same ∙ grow.1) ∙ append_assoc (looked_up w bytes o keys).text grow.0 last.0)
 
-stops_asked : {S : Type 0} (task : LookupTask S) (inputs : List (Option (List ℕ))) (shared : List ℕ) (left : InputsLeft) (old new : S) (bytes : List ℕ) (start end : Option (List ℕ)) (f : Fault) (more : List (List ℕ)) → Known inputs shared left → task.store.image new bytes → task.store.failures new ≡ 0
-    → (h : LookupsStop task left old new start end f) → keys_of_each (given_from (keys_form task.options.style) task.greatest 1 inputs shared).items ≡ (keys_of_each h.read ++ keys_of h.last) ++ more → StopsSo task.word task.store (records_asked task.word task.greatest task.options inputs shared bytes) new start end f
-stops_asked task inputs shared left old new bytes start end (Read (read.Table n)) more known is works h keys =
-    record { long = h.stops.long; comes = damage_asked task.word task.greatest task.options inputs shared bytes _ more start end _ keys refl (h.stops.answered bytes is) (h.stops.written bytes is) }
-stops_asked task inputs shared left old new bytes start end (Read (read.Record place)) more known is works h keys =
-    record { long = h.stops.long; comes = damage_asked task.word task.greatest task.options inputs shared bytes _ more start end _ keys refl (h.stops.answered bytes is) (h.stops.written bytes is) }
-stops_asked task inputs shared left old new bytes start end (Read read.Device) more known is works h keys = absurd (let failed = h.stops.0 in let no : ⊥ = omega (arith, failed, works) in no)
-stops_asked task inputs shared left old new bytes start end Output more known is works h keys =
-    record { long = h.stops.0; comes = refused _ start end Output tt (part_asked task.word task.greatest task.options inputs shared bytes _ more start end keys (h.stops.1 bytes is)) }
-stops_asked task inputs shared left old new bytes start end NoMemory more known is works h keys =
-    record { long = h.stops.1.long; comes = refused _ start end NoMemory tt (part_asked task.word task.greatest task.options inputs shared bytes _ more start end keys (whole_prefix start end _ (h.stops.1.written bytes is))) }
-stops_asked task inputs shared left old new bytes start end (Text n (text.Syntax at)) more known is works h keys =
-    record { long = h.stops.1.long; comes = text_asked task inputs shared left old new bytes start end n _ known is tt h h.stops.0 h.stops.1 }
-stops_asked task inputs shared left old new bytes start end (Text n (text.Ended at)) more known is works h keys =
-    record { long = h.stops.1.long; comes = text_asked task inputs shared left old new bytes start end n _ known is tt h h.stops.0 h.stops.1 }
-stops_asked task inputs shared left old new bytes start end (Text n (text.Large at)) more known is works h keys =
-    record { long = h.stops.1.long; comes = text_asked task inputs shared left old new bytes start end n _ known is tt h h.stops.0 h.stops.1 }
-stops_asked task inputs shared left old new bytes start end (Text n text.Input) more known is works h keys =
-    record { long = h.stops.1.long; comes = refused _ start end _ tt (part_asked task.word task.greatest task.options inputs shared bytes _ more start end keys (whole_prefix start end _ (h.stops.1.written bytes is))) }
-stops_asked task inputs shared left old new bytes start end (Text n text.Endless) more known is works h keys =
-    record { long = h.stops.1.long; comes = refused _ start end _ tt (part_asked task.word task.greatest task.options inputs shared bytes _ more start end keys (whole_prefix start end _ (h.stops.1.written bytes is))) }
-stops_asked task inputs shared left old new bytes start end (Text n text.NoMemory) more known is works h keys = absurd ((h.of_text n text.NoMemory refl).1.has.memory refl)
-stops_asked task inputs shared left old new bytes start end (Read read.Short) more known is works h keys = absurd h.stops
-stops_asked task inputs shared left old new bytes start end (Read (read.Slot n i)) more known is works h keys = absurd h.stops
-stops_asked task inputs shared left old new bytes start end (Read (read.Twice place)) more known is works h keys = absurd h.stops
-stops_asked task inputs shared left old new bytes start end (Read (read.Unindexed place)) more known is works h keys = absurd h.stops
-stops_asked task inputs shared left old new bytes start end (Read read.NoMemory) more known is works h keys = absurd h.stops
-stops_asked task inputs shared left old new bytes start end (Read read.Output) more known is works h keys = absurd h.stops
-stops_asked task inputs shared left old new bytes start end Missing more known is works h keys = absurd h.stops
-stops_asked task inputs shared left old new bytes start end (Make f) more known is works h keys = absurd h.stops
-stops_asked task inputs shared left old new bytes start end Duplicate more known is works h keys = absurd h.stops
-stops_asked task inputs shared left old new bytes start end (Walk f) more known is works h keys = absurd h.stops
-stops_asked task inputs shared left old new bytes start end Long more known is works h keys = absurd h.stops
-stops_asked task inputs shared left old new bytes start end Open more known is works h keys = absurd h.stops
-stops_asked task inputs shared left old new bytes start end Rename more known is works h keys = absurd h.stops
-stops_asked task inputs shared left old new bytes start end NoOldTables more known is works h keys = absurd h.stops
-stops_asked task inputs shared left old new bytes start end NoNewTables more known is works h keys = absurd h.stops
-stops_asked task inputs shared left old new bytes start end NoBaseTables more known is works h keys = absurd h.stops
-stops_asked task inputs shared left old new bytes start end (Old side) more known is works h keys = absurd h.stops
-stops_asked task inputs shared left old new bytes start end (New side) more known is works h keys = absurd h.stops
+  -- the last of these keys met a damage
+  damage_asked : (keys more : List (List ℕ)) (start end : Option (List ℕ)) (f : Fault) → keys_of_each given.items ≡ keys ++ more
+      → has_ended (Err f) ≡ true → (looked_up task.word bytes task.options keys).answer ≡ Err f → Appends start end (looked_up task.word bytes task.options keys).text → ComesOf asked start end (Err f)
+  damage_asked keys more start end f e ends answered written =
+      let w = task.word in
+      let o = task.options in
+      let here = looked_up w bytes o keys in
+      let all : looked_up w bytes o (keys_of_each given.items) ≡ here =
+      ap (looked_up w bytes o) e ∙ looked_more w bytes o keys more ∙ keys_stay w bytes o here more (ap has_ended answered ∙ ends) in
+      let same : asked ≡ here =
+      ap (λ (l : Looked). if has_ended l.answer then l else with_end o.style l given.fault) all ∙ cond-true (has_ended here.answer) _ _ (ap has_ended answered ∙ ends) in
+      subst (λ l. ComesOf l start end (Err f)) (sym same) (inl (record { is = sym answered; written = written }))
 
-pub stopped_asked : {S : Type 0} (task : LookupTask S) (inputs : List (Option (List ℕ))) (shared : List ℕ) (left : InputsLeft) (old new : S) (bytes : List ℕ) (start end : Option (List ℕ)) (f : Fault) → Known inputs shared left → task.store.image new bytes → task.store.failures new ≡ 0
-    → LookupsStop task left old new start end f → StopsSo task.word task.store (records_asked task.word task.greatest task.options inputs shared bytes) new start end f
-stopped_asked task inputs shared left old new bytes start end f known is works h =
-    let begins = begins_given (keys_form task.options.style) task.greatest h.read h.last inputs shared left h.rest known h.are h.begins in
-    stops_asked task inputs shared left old new bytes start end f (map incoming_key begins.0) known is works h
-    (keys_begin (given_from (keys_form task.options.style) task.greatest 1 inputs shared).items h.read h.last begins.0 begins.1)
+  -- the text of an input has a fault
+  text_asked : (read : List (List Change)) (last : List Change) (new : S) (start end : Option (List ℕ)) (n : ℕ) (f : TextFault) → task.store.image new bytes → n ≡ length read + 1 → Gives read (HasFault last f) given
+      → (missing : Bool) → HasLooked task (keys_of_each read ++ keys_of last) new start end missing → ComesOf asked start end (Err (Text n f))
+  text_asked read last new start end n f is at (g, has, said_so) missing looked =
+      let w = task.word in
+      let o = task.options in
+      let whole : Given = record { items = read ++ last ∷ []; fault = Some (Text n f) } in
+      let keys : keys_of_each (read ++ last ∷ []) ≡ keys_of_each read ++ keys_of last = each_more read last in
+      let answered : (looked_up w bytes o (keys_of_each (read ++ last ∷ []))).answer ≡ missing_answer missing =
+      ap (λ k. (looked_up w bytes o k).answer) keys ∙ looked.answered bytes is in
+      let same : asked ≡ record { text = (looked_up w bytes o (keys_of_each read ++ keys_of last)).text; answer = Err (Text n f) } =
+      ap (with_given w bytes o) (fault_given read last n f g given at has said_so) ∙ unended w bytes o whole missing answered
+      ∙ ap (λ k. with_end o.style (looked_up w bytes o k) (Some (Text n f))) keys in
+      subst (λ l. ComesOf l start end (Err (Text n f))) (sym same) (inl (record { is = refl; written = looked.written bytes is }))
 
--- ---- the run
+  -- ---- the run
 
-stopped_or : {S : Type 0} (w : ℕ) (s : Ghosts S) (l : Looked) (old new : S) (start end : Option (List ℕ)) (f : Fault) → StopsSo w s l new start end f → LooksOrShort w s l old new start end (Err f)
-stopped_or w s l old new start end f h = record { comes = inr (h.long, h.comes) }
+  module _ (old new : S) (start end : Option (List ℕ)) (is : task.store.image new bytes) (works : task.store.failures new ≡ 0) where
+    -- on a store with a head it comes so
+    long_so : (result : Result Unit Fault) → head_size task.word ≤ task.store.size new → ComesOf asked start end result → LooksOrShort task.word task.store asked old new start end result
+    long_so result long comes = record { comes = inr (long, comes) }
 
-fault_asked : {S : Type 0} (task : LookupTask S) (inputs : List (Option (List ℕ))) (shared : List ℕ) (left : InputsLeft) (old new : S) (bytes : List ℕ) (start end : Option (List ℕ)) (f : Fault) → Known inputs shared left → task.store.image new bytes → task.store.failures new ≡ 0
-    → LookupsStop task left old new start end f → LooksOrShort task.word task.store (records_asked task.word task.greatest task.options inputs shared bytes) old new start end (Err f)
-fault_asked task inputs shared left old new bytes start end f known is works h =
-    stopped_or task.word task.store _ old new start end f (stopped_asked task inputs shared left old new bytes start end f known is works h)
+    stops_asked : (read : List (List Change)) (last : List Change) (f : Fault) → Gives read (stop_of (fault_in (Err f)) last) given → LookupsStopAt task (keys_of_each read ++ keys_of last) old new start end f
+        → IsFaultOf (keys_form task.options.style) (length read + 1) f → LooksOrShort task.word task.store asked old new start end (Err f)
+    stops_asked read last (Read (read_fault.Table n)) gives h of = let k = keys_begin None read last given gives in long_so _ h.long (damage_asked _ k.0 start end _ k.1 refl (h.answered bytes is) (h.written bytes is))
+    stops_asked read last (Read (read_fault.Record place)) gives h of = let k = keys_begin None read last given gives in long_so _ h.long (damage_asked _ k.0 start end _ k.1 refl (h.answered bytes is) (h.written bytes is))
+    stops_asked read last (Read read_fault.Device) gives h of = absurd (let failed = h.0 in let no : ⊥ = omega (arith, failed, works) in no)
+    stops_asked read last Output gives h of = let k = keys_begin None read last given gives in long_so _ h.0 (refused _ start end Output tt (part_asked _ k.0 start end k.1 (h.1 bytes is)))
+    stops_asked read last NoMemory gives h of = let k = keys_begin None read last given gives in long_so _ h.1.long (refused _ start end NoMemory tt (part_asked _ k.0 start end k.1 (whole_prefix start end _ (h.1.written bytes is))))
+    stops_asked read last (Text n (text.Syntax at)) gives h of = long_so _ h.1.long (text_asked read last new start end n _ is (of.number n _ refl) gives h.0 h.1)
+    stops_asked read last (Text n (text.Ended at)) gives h of = long_so _ h.1.long (text_asked read last new start end n _ is (of.number n _ refl) gives h.0 h.1)
+    stops_asked read last (Text n (text.Large at)) gives h of = long_so _ h.1.long (text_asked read last new start end n _ is (of.number n _ refl) gives h.0 h.1)
+    stops_asked read last (Text n text.Input) gives h of = let k = keys_begin (Some text.Input) read last given gives in long_so _ h.1.long (refused _ start end _ tt (part_asked _ k.0 start end k.1 (whole_prefix start end _ (h.1.written bytes is))))
+    stops_asked read last (Text n text.Endless) gives h of = let k = keys_begin (Some text.Endless) read last given gives in long_so _ h.1.long (refused _ start end _ tt (part_asked _ k.0 start end k.1 (whole_prefix start end _ (h.1.written bytes is))))
+    stops_asked read last (Text n text.NoMemory) gives h of = absurd (of.memory n text.NoMemory refl refl)
+    stops_asked read last f gives h of = absurd h
 
-unwritten_asked : {S : Type 0} (task : LookupTask S) (inputs : List (Option (List ℕ))) (shared : List ℕ) (left : InputsLeft) (old new : S) (bytes : List ℕ) (start end : Option (List ℕ)) → Known inputs shared left → task.store.image new bytes → task.store.failures new ≡ 0
-    → LookupsFail task left old new start end Output → LooksOrShort task.word task.store (records_asked task.word task.greatest task.options inputs shared bytes) old new start end (Err Output)
-unwritten_asked task inputs shared left old new bytes start end known is works (inl h) = fault_asked task inputs shared left old new bytes start end Output known is works h
-unwritten_asked task inputs shared left old new bytes start end known is works (inr (missing, h)) =
-    record { comes = inr (h.long, refused _ start end Output tt (all_asked task inputs shared left new bytes missing (AppendsPrefix start end) known is h).1) }
+    module _ {J I : Type 0} (before after : Inputs J I) (read : List (List Change)) (stop : Stop Change TextFault) (gives : Gives read stop given) where
+      abbrev from : LookupState J I S
+      from = lookup_state before old start
 
-answer_asked : {S : Type 0} (task : LookupTask S) (inputs : List (Option (List ℕ))) (shared : List ℕ) (left : InputsLeft) (old new : S) (bytes : List ℕ) (start end : Option (List ℕ)) (missing : Bool) → Known inputs shared left → task.store.image new bytes
-    → LooksUpAll task left new missing (Appends start end) → LooksOrShort task.word task.store (records_asked task.word task.greatest task.options inputs shared bytes) old new start end (missing_answer missing)
-answer_asked task inputs shared left old new bytes start end missing known is h =
-    let all = all_asked task inputs shared left new bytes missing (Appends start end) known is h in
-    record { comes = inr (h.long, inl (record { is = sym all.0; written = all.1 })) }
+      abbrev to : LookupState J I S
+      to = lookup_state after new end
 
-leaves_asked : {S : Type 0} (task : LookupTask S) (inputs : List (Option (List ℕ))) (shared : List ℕ) (left : InputsLeft) (old new : S) (bytes : List ℕ) (start end : Option (List ℕ)) (result : Result Unit Fault) → Known inputs shared left → task.store.image new bytes → task.store.failures new ≡ 0
-    → LookupsLeave task left old new start end result → LooksOrShort task.word task.store (records_asked task.word task.greatest task.options inputs shared bytes) old new start end result
-leaves_asked task inputs shared left old new bytes start end (Ok done) known is works h = answer_asked task inputs shared left old new bytes start end false known is (h.all false refl)
-leaves_asked task inputs shared left old new bytes start end (Err Missing) known is works h = answer_asked task inputs shared left old new bytes start end true known is (h.all true refl)
-leaves_asked task inputs shared left old new bytes start end (Err (Read read.Short)) known is works h = record { comes = inl (refl, h.fails (Read read.Short) refl (λ e. cc)) }
-leaves_asked task inputs shared left old new bytes start end (Err Output) known is works h = unwritten_asked task inputs shared left old new bytes start end known is works (h.fails Output refl (λ e. cc))
-leaves_asked task inputs shared left old new bytes start end (Err (Read (read.Table n))) known is works h = fault_asked task inputs shared left old new bytes start end _ known is works (h.fails _ refl (λ e. cc))
-leaves_asked task inputs shared left old new bytes start end (Err (Read (read.Record place))) known is works h = fault_asked task inputs shared left old new bytes start end _ known is works (h.fails _ refl (λ e. cc))
-leaves_asked task inputs shared left old new bytes start end (Err (Read (read.Slot n i))) known is works h = fault_asked task inputs shared left old new bytes start end _ known is works (h.fails _ refl (λ e. cc))
-leaves_asked task inputs shared left old new bytes start end (Err (Read (read.Twice place))) known is works h = fault_asked task inputs shared left old new bytes start end _ known is works (h.fails _ refl (λ e. cc))
-leaves_asked task inputs shared left old new bytes start end (Err (Read (read.Unindexed place))) known is works h = fault_asked task inputs shared left old new bytes start end _ known is works (h.fails _ refl (λ e. cc))
-leaves_asked task inputs shared left old new bytes start end (Err (Read read.Device)) known is works h = fault_asked task inputs shared left old new bytes start end _ known is works (h.fails _ refl (λ e. cc))
-leaves_asked task inputs shared left old new bytes start end (Err (Read read.NoMemory)) known is works h = fault_asked task inputs shared left old new bytes start end _ known is works (h.fails _ refl (λ e. cc))
-leaves_asked task inputs shared left old new bytes start end (Err (Read read.Output)) known is works h = fault_asked task inputs shared left old new bytes start end _ known is works (h.fails _ refl (λ e. cc))
-leaves_asked task inputs shared left old new bytes start end (Err (Text n f)) known is works h = fault_asked task inputs shared left old new bytes start end _ known is works (h.fails _ refl (λ e. cc))
-leaves_asked task inputs shared left old new bytes start end (Err (Make f)) known is works h = fault_asked task inputs shared left old new bytes start end _ known is works (h.fails _ refl (λ e. cc))
-leaves_asked task inputs shared left old new bytes start end (Err Duplicate) known is works h = fault_asked task inputs shared left old new bytes start end _ known is works (h.fails _ refl (λ e. cc))
-leaves_asked task inputs shared left old new bytes start end (Err (Walk f)) known is works h = fault_asked task inputs shared left old new bytes start end _ known is works (h.fails _ refl (λ e. cc))
-leaves_asked task inputs shared left old new bytes start end (Err Long) known is works h = fault_asked task inputs shared left old new bytes start end _ known is works (h.fails _ refl (λ e. cc))
-leaves_asked task inputs shared left old new bytes start end (Err Open) known is works h = fault_asked task inputs shared left old new bytes start end _ known is works (h.fails _ refl (λ e. cc))
-leaves_asked task inputs shared left old new bytes start end (Err Rename) known is works h = fault_asked task inputs shared left old new bytes start end _ known is works (h.fails _ refl (λ e. cc))
-leaves_asked task inputs shared left old new bytes start end (Err NoMemory) known is works h = fault_asked task inputs shared left old new bytes start end _ known is works (h.fails _ refl (λ e. cc))
-leaves_asked task inputs shared left old new bytes start end (Err (Old side)) known is works h = fault_asked task inputs shared left old new bytes start end _ known is works (h.fails _ refl (λ e. cc))
-leaves_asked task inputs shared left old new bytes start end (Err (New side)) known is works h = fault_asked task inputs shared left old new bytes start end _ known is works (h.fails _ refl (λ e. cc))
-leaves_asked task inputs shared left old new bytes start end (Err NoOldTables) known is works h = fault_asked task inputs shared left old new bytes start end _ known is works (h.fails _ refl (λ e. cc))
-leaves_asked task inputs shared left old new bytes start end (Err NoNewTables) known is works h = fault_asked task inputs shared left old new bytes start end _ known is works (h.fails _ refl (λ e. cc))
-leaves_asked task inputs shared left old new bytes start end (Err NoBaseTables) known is works h = fault_asked task inputs shared left old new bytes start end _ known is works (h.fails _ refl (λ e. cc))
+      next_asked : (f : Fault) → StopsInNext task read stop from to f → LooksOrShort task.word task.store asked old new start end (Err f)
+      next_asked f h = stops_asked read h.last f (subst (λ s. Gives read s given) h.is_stop gives) h.stops h.is_fault
+
+      answer_asked : (missing : Bool) → (stop ≡ NoMore) × LooksUpRead task read new missing (Appends start end) → LooksOrShort task.word task.store asked old new start end (missing_answer missing)
+      answer_asked missing h =
+          let all = all_asked read new missing (Appends start end) is (subst (λ s. Gives read s given) h.0 gives) h.1 in
+          long_so _ h.1.long (inl (record { is = sym all.0; written = all.1 }))
+
+      fails_asked : (f : Fault) → LookupsFail task read stop from to f → LooksOrShort task.word task.store asked old new start end (Err f)
+      fails_asked (Read read_fault.Short) h = record { comes = inl (refl, record { short = h.why.0; unread = h.why.1; kept = h.kept }) }
+      fails_asked (Read read_fault.Device) (inl h) = next_asked _ h
+      fails_asked (Read read_fault.Device) (inr h) = absurd (let failed = h.why in let no : ⊥ = omega (arith, failed, works) in no)
+      fails_asked Output (inl h) = next_asked Output h
+      fails_asked Output (inr (missing, no_more, h)) = long_so _ h.long (refused _ start end Output tt (all_asked read new missing (AppendsPrefix start end) is (subst (λ s. Gives read s given) no_more gives) h).1)
+      fails_asked f h = next_asked f h
+
+      leaves_asked : (result : Result Unit Fault) → ((missing : Bool) → result ≡ missing_answer missing → (stop ≡ NoMore) × LooksUpRead task read new missing (Appends start end))
+          → ((f : Fault) → result ≡ Err f → f ≢ Missing → LookupsFail task read stop from to f) → LooksOrShort task.word task.store asked old new start end result
+      leaves_asked (Ok done) all fails = answer_asked false (all false refl)
+      leaves_asked (Err f) all fails = elim (is_missing f) [
+        | inl e ↦ subst (λ g. LooksOrShort task.word task.store asked old new start end (Err g)) (sym e) (answer_asked true (all true (ap (λ (g : Fault). let r : Result Unit Fault = Err g in r) e)))
+        | inr other ↦ fails_asked f (fails f refl other)
+      ]
 
 -- ---- its flush
 
@@ -294,7 +272,20 @@ flushed_or w s l old new start mid end answer result f h = elim h.comes [
   ]
 ]
 
-pub lookups_asked : {S : Type 0} (task : LookupTask S) (inputs : List (Option (List ℕ))) (shared : List ℕ) (left : InputsLeft) (old new : S) (bytes : List ℕ) (start end : Option (List ℕ)) (result : Result Unit Fault) → Known inputs shared left → task.store.image new bytes → task.store.failures new ≡ 0
-    → LooksUp task left old new start end result → LooksOrShort task.word task.store (records_asked task.word task.greatest task.options inputs shared bytes) old new start end result
-lookups_asked task inputs shared left old new bytes start end result known is works h =
-    flushed_or task.word task.store _ old new start h.mid end h.answer result h.flushed (leaves_asked task inputs shared left old new bytes start h.mid h.answer known is works h.leaves)
+-- bytes that agree with a reader agree with its window
+window_agrees : {I : Type 0} (shared : I → Feed) (w : SharedWindow I) (whole : List ℕ) → AgreesWith AreBytes (shared (reader_of w)) whole → AgreesWith AreBytes (shared_feed shared w) whole
+window_agrees shared (Unread reader) whole a = a
+window_agrees shared (InHand w) whole a = record { fit = a.fit; rest = held_of (InHand w) ++ a.rest; may = record { behind = a.rest; may = a.may; is = refl } }
+
+-- for all bytes of the inputs that were reached and of the shared reader that agree with these readers as they came
+-- back, of which nothing had been read before
+pub lookups_asked : {J I S : Type 0} (task : LookupTask S) (own : J → Feed) (shared : I → Feed) (inputs left : Inputs J I) (each : List (Option (List ℕ))) (whole : List ℕ) (old new : S) (bytes : List ℕ) (start end : Option (List ℕ)) (result : Result Unit Fault)
+    → (h : LooksUp task own shared (lookup_state inputs old start) (lookup_state left new end) result) → AreUnread own inputs.readers.items → IsUnread (shared inputs.shared) → length each ≡ length inputs.readers.items → FirstAgree own AreBytes (reached h.leaves.read h.leaves.stop) each left.readers.items
+    → AgreesWith AreBytes (shared left.shared) whole → task.store.image new bytes → task.store.failures new ≡ 0 → LooksOrShort task.word task.store (records_asked task.word task.greatest task.options each whole bytes) old new start end result
+lookups_asked task own shared inputs left each whole old new bytes start end result h unread first long agree agrees is works =
+    let l = h.leaves in
+    let form = keys_form task.options.style in
+    let agrees_so = window_agrees shared l.are.window whole (subst (λ r. AgreesWith AreBytes (shared r) whole) l.are.handed agrees) in
+    let given = all_given own (shared_feed shared) (stopped_parsing form task.greatest (fault_in h.answer)) l.read l.stop inputs.readers.items left.readers.items (Unread inputs.shared) l.are.window each whole unread first l.are.are agree long agrees_so in
+    flushed_or task.word task.store _ old new start h.mid end h.answer result h.flushed
+    (leaves_asked task each whole bytes old new start h.mid is works inputs left l.read l.stop (_, given, same_given form task.greatest 1 each whole) h.answer l.all l.fails)

@@ -1,6 +1,6 @@
 -- The keys that were looked up so far, and how their query ends.
 use Rattle.cdb_show.proofs.Words.{Appends, AppendsPrefix, BeginsWithItems, Bool, Change, Err, Fault, Feed, Ghosts, InputForm, KeyReader, List, LookupOptions, LookupTask, Ok, OnlyReads, Option, Queries, Result, TextFault, [], ap, append-nil, appends_none, appends_then, arith, false, flat_map-append, fold, form_of, head_size, keys_of, keys_of_each, prefix_last, query_answer, query_text, reader_of, refl, subst, sym, true, ℕ, ◌++◌, ◌∙◌, ◌∷◌, ◌≡◌, ◌≢◌, ◌≤◌}
-use Rattle.cdb_form.specs.Fed.Feed as fed
+use Rattle.cdb_form.specs.Views.Feed as fed
 use Rattle.cdb_form.specs.declared.text.fault.TextFault.TheVariants as text
 use Rattle.cdb_read.specs.declared.fault.ReadFault.TheVariants as read
 use Rattle.cdb_show.specs.Runs.LookedUp.{key_query, Looked, joined, looked_up, with_key, with_one}
@@ -68,24 +68,7 @@ stops_more task listed key old new start mid now missing (Read read.Device) h lo
 stops_more task listed key old new start mid now missing Output h long q other = (q.err.0, prefix_more task listed key old new start mid now missing h q.reads q.err.1.written)
 stops_more task listed key old new start mid now missing (Read read.Short) h long q other = let short = q.err.short in absurd (let no : ⊥ = omega (arith, long, short) in no)
 stops_more task listed key old new start mid now missing Missing h long q other = absurd (other refl)
-stops_more task listed key old new start mid now missing (Read (read.Slot n i)) h long q other = absurd q.err
-stops_more task listed key old new start mid now missing (Read (read.Twice place)) h long q other = absurd q.err
-stops_more task listed key old new start mid now missing (Read (read.Unindexed place)) h long q other = absurd q.err
-stops_more task listed key old new start mid now missing (Read read.NoMemory) h long q other = absurd q.err
-stops_more task listed key old new start mid now missing (Read read.Output) h long q other = absurd q.err
-stops_more task listed key old new start mid now missing (Text n f) h long q other = absurd q.err
-stops_more task listed key old new start mid now missing (Make f) h long q other = absurd q.err
-stops_more task listed key old new start mid now missing Duplicate h long q other = absurd q.err
-stops_more task listed key old new start mid now missing (Walk f) h long q other = absurd q.err
-stops_more task listed key old new start mid now missing Long h long q other = absurd q.err
-stops_more task listed key old new start mid now missing Open h long q other = absurd q.err
-stops_more task listed key old new start mid now missing Rename h long q other = absurd q.err
-stops_more task listed key old new start mid now missing NoOldTables h long q other = absurd q.err
-stops_more task listed key old new start mid now missing NoNewTables h long q other = absurd q.err
-stops_more task listed key old new start mid now missing NoBaseTables h long q other = absurd q.err
-stops_more task listed key old new start mid now missing (Old side) h long q other = absurd q.err
-stops_more task listed key old new start mid now missing (New side) h long q other = absurd q.err
-stops_more task listed key old new start mid now missing NoMemory h long q other = absurd q.err
+stops_more task listed key old new start mid now missing f h long q other = absurd q.err
 
 -- ---- nothing yet
 
@@ -100,24 +83,7 @@ stops_later task listed old mid new start now (Read read.Device) reads h = (let 
 stops_later task listed old mid new start now Output reads h = h
 stops_later task listed old mid new start now (Text n f) reads h = h
 stops_later task listed old mid new start now NoMemory reads h = h
-stops_later task listed old mid new start now (Read read.Short) reads h = absurd h
-stops_later task listed old mid new start now Missing reads h = absurd h
-stops_later task listed old mid new start now (Read (read.Slot n i)) reads h = absurd h
-stops_later task listed old mid new start now (Read (read.Twice place)) reads h = absurd h
-stops_later task listed old mid new start now (Read (read.Unindexed place)) reads h = absurd h
-stops_later task listed old mid new start now (Read read.NoMemory) reads h = absurd h
-stops_later task listed old mid new start now (Read read.Output) reads h = absurd h
-stops_later task listed old mid new start now (Make f) reads h = absurd h
-stops_later task listed old mid new start now Duplicate reads h = absurd h
-stops_later task listed old mid new start now (Walk f) reads h = absurd h
-stops_later task listed old mid new start now Long reads h = absurd h
-stops_later task listed old mid new start now Open reads h = absurd h
-stops_later task listed old mid new start now Rename reads h = absurd h
-stops_later task listed old mid new start now NoOldTables reads h = absurd h
-stops_later task listed old mid new start now NoNewTables reads h = absurd h
-stops_later task listed old mid new start now NoBaseTables reads h = absurd h
-stops_later task listed old mid new start now (Old side) reads h = absurd h
-stops_later task listed old mid new start now (New side) reads h = absurd h
+stops_later task listed old mid new start now f reads h = absurd h
 
 -- ---- a fault of an input
 
@@ -127,12 +93,8 @@ record SameText (n i : ℕ) (f g : TextFault) : Type 0 where
   other : f ≢ text.NoMemory
 
 same_text : (n i : ℕ) (f g : TextFault) → text_fault n f ≡ Text i g → SameText n i f g
-same_text n i (text.Syntax at) g e = record { input = cc; fault = cc; other = λ h. cc }
-same_text n i (text.Ended at) g e = record { input = cc; fault = cc; other = λ h. cc }
-same_text n i (text.Large at) g e = record { input = cc; fault = cc; other = λ h. cc }
-same_text n i text.Input g e = record { input = cc; fault = cc; other = λ h. cc }
-same_text n i text.Endless g e = record { input = cc; fault = cc; other = λ h. cc }
 same_text n i text.NoMemory g e = absurd (let no : ⊥ = cc in no)
+same_text n i f g e = record { input = cc; fault = cc; other = λ h. cc }
 
 pub stops_text : {S : Type 0} (task : LookupTask S) (listed : List (List ℕ)) (old new : S) (start now : Option (List ℕ)) (missing : Bool) (n : ℕ) (f : TextFault) → HasLooked task listed new start now missing → LookupsStopAt task listed old new start now (text_fault n f)
 stops_text task listed old new start now missing n (text.Syntax at) h = (missing, h)

@@ -8,13 +8,7 @@ module _ {S : Type 0} (w : ℕ) (s : Ghosts S) (old new : S) where
   pub unopened_by : (P : ReadFault → Type 0) → (s.size old < head_size w → new ≡ old → P read.Short) → (OnlyReads s old new → s.failures old < s.failures new → P read.Device) → (f : ReadFault) → OpeningFails w s old new f → P f
   unopened_by P short device read.Short fails = short fails.0 fails.1
   unopened_by P short device read.Device fails = device fails.0 fails.1
-  unopened_by P short device (read.Table n) fails = absurd fails
-  unopened_by P short device (read.Record place) fails = absurd fails
-  unopened_by P short device (read.Slot n i) fails = absurd fails
-  unopened_by P short device (read.Twice place) fails = absurd fails
-  unopened_by P short device (read.Unindexed place) fails = absurd fails
-  unopened_by P short device read.NoMemory fails = absurd fails
-  unopened_by P short device read.Output fails = absurd fails
+  unopened_by P short device f fails = absurd fails
 
   pub opening_reads : (f : ReadFault) → OpeningFails w s old new f → OnlyReads s old new
   opening_reads = unopened_by (λ f. OnlyReads s old new) (λ short same. reads_nothing {s = s} old new same) (λ reads failed. reads)

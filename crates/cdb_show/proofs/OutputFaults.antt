@@ -5,6 +5,5 @@ use Rattle.cdb_show.specs.declared.fault.Fault.TheVariants.{Output}
 
 -- it says so whatever has failed
 pub says_more : {O P : Type 0} (result : Result Unit Fault) → (O → P) → OutputSays O result → OutputSays P result
-says_more (Ok done) more says = tt
 says_more (Err Output) more says = more says
-says_more (Err fault) more says = tt
+says_more result more says = tt

@@ -65,13 +65,7 @@ copying_fault : {S : Type 0} (w : ℕ) (s : Ghosts S) (q : Query) (old mid new :
     → WritesQueryPrefix w s q new start now → QueryFails w s q old new start now (read_fault f)
 copying_fault w s q old mid new start now read.Device before reads long fails front = (let p = before.failures in omega (arith, p, fails), front)
 copying_fault w s q old mid new start now read.Output before reads long fails front = (still_long w (reads_more before reads) long, front)
-copying_fault w s q old mid new start now read.Short before reads long fails front = absurd fails
-copying_fault w s q old mid new start now (read.Table n) before reads long fails front = absurd fails
-copying_fault w s q old mid new start now (read.Record place) before reads long fails front = absurd fails
-copying_fault w s q old mid new start now (read.Slot n i) before reads long fails front = absurd fails
-copying_fault w s q old mid new start now (read.Twice place) before reads long fails front = absurd fails
-copying_fault w s q old mid new start now (read.Unindexed place) before reads long fails front = absurd fails
-copying_fault w s q old mid new start now read.NoMemory before reads long fails front = absurd fails
+copying_fault w s q old mid new start now f before reads long fails front = absurd fails
 
 pub copying_fails : {S : Type 0} (w : ℕ) (s : Ghosts S) (q : Query) (old mid new : S) (start now : Option (List ℕ)) (f : ReadFault) → OnlyReads s old mid → OnlyReads s mid new → head_size w ≤ s.size old → CopyingFails s mid new f
     → ((b : List ℕ) → s.image new b → AppendsPrefix start now (query_text w b q)) → Queries w s q old new start now (Err (read_fault f))
@@ -164,13 +158,7 @@ value_fails {s = s} w shown old t u start mid now spans span f found before fail
     by : (f : ReadFault) → CopyingFails s t.reader.now.store u.reader.now.store f → LeftFails w shown old u start now (read_fault f)
     by read.Device fails = (omega (arith, before, fails), some)
     by read.Output fails = some
-    by read.Short fails = absurd fails
-    by (read.Table n) fails = absurd fails
-    by (read.Record place) fails = absurd fails
-    by (read.Slot n i) fails = absurd fails
-    by (read.Twice place) fails = absurd fails
-    by (read.Unindexed place) fails = absurd fails
-    by read.NoMemory fails = absurd fails
+    by f fails = absurd fails
 
 -- ---- all values of a key
 
@@ -210,25 +198,7 @@ module _ {S L : Type 0} {s : Ghosts S} {l : Widths L} (w : ℕ) (key : List ℕ)
   left_fault (Read (read.Record place)) h = answers h.1.spans (Some (damage.Record place)) _ h.1.all refl
   left_fault (Read read.Device) h = (subst (λ x. s.failures x < s.failures u.reader.now.store) same h.0, some_prefix h.1)
   left_fault Output h = (still_long w read_from long, some_prefix h)
-  left_fault (Read read.Short) h = absurd h
-  left_fault (Read (read.Slot n i)) h = absurd h
-  left_fault (Read (read.Twice place)) h = absurd h
-  left_fault (Read (read.Unindexed place)) h = absurd h
-  left_fault (Read read.NoMemory) h = absurd h
-  left_fault (Read read.Output) h = absurd h
-  left_fault (Text n f) h = absurd h
-  left_fault (Make f) h = absurd h
-  left_fault Duplicate h = absurd h
-  left_fault (Walk f) h = absurd h
-  left_fault Long h = absurd h
-  left_fault Open h = absurd h
-  left_fault Rename h = absurd h
-  left_fault NoOldTables h = absurd h
-  left_fault NoNewTables h = absurd h
-  left_fault NoBaseTables h = absurd h
-  left_fault (Old side) h = absurd h
-  left_fault (New side) h = absurd h
-  left_fault NoMemory h = absurd h
+  left_fault f h = absurd h
 
   pub queries_left : (result : Result Unit Fault) → OnOk result (WritesEach w shown t u start now) → IfErr result (LeftFails w shown t u start now) → Queries w s (all_of key shown) old u.reader.now.store start now result
   queries_left (Ok tt) each none = record { reads = read_from; ok = answers each.spans None (Ok tt) each.all (each_found each.spans each.some); err = tt }

@@ -27,25 +27,8 @@ fault_kept w s q old new start mid now (Read read.Short) h k = record { short = 
 fault_kept w s q old new start mid now (Read (read.Table n)) h k = answers_kept w s q new start mid now _ h k
 fault_kept w s q old new start mid now (Read (read.Record place)) h k = answers_kept w s q new start mid now _ h k
 fault_kept w s q old new start mid now (Read read.Device) h k = (h.0, fronts_kept w s q new start mid now h.1 k)
-fault_kept w s q old new start mid now (Read (read.Slot n i)) h k = absurd h
-fault_kept w s q old new start mid now (Read (read.Twice place)) h k = absurd h
-fault_kept w s q old new start mid now (Read (read.Unindexed place)) h k = absurd h
-fault_kept w s q old new start mid now (Read read.NoMemory) h k = absurd h
-fault_kept w s q old new start mid now (Read read.Output) h k = absurd h
 fault_kept w s q old new start mid now Output h k = (h.0, fronts_kept w s q new start mid now h.1 k)
-fault_kept w s q old new start mid now (Text n f) h k = absurd h
-fault_kept w s q old new start mid now (Make f) h k = absurd h
-fault_kept w s q old new start mid now Duplicate h k = absurd h
-fault_kept w s q old new start mid now (Walk f) h k = absurd h
-fault_kept w s q old new start mid now Long h k = absurd h
-fault_kept w s q old new start mid now Open h k = absurd h
-fault_kept w s q old new start mid now Rename h k = absurd h
-fault_kept w s q old new start mid now NoOldTables h k = absurd h
-fault_kept w s q old new start mid now NoNewTables h k = absurd h
-fault_kept w s q old new start mid now NoBaseTables h k = absurd h
-fault_kept w s q old new start mid now (Old side) h k = absurd h
-fault_kept w s q old new start mid now (New side) h k = absurd h
-fault_kept w s q old new start mid now NoMemory h k = absurd h
+fault_kept w s q old new start mid now f h k = absurd h
 
 query_kept : {S : Type 0} (w : ℕ) (s : Ghosts S) (q : Query) (old new : S) (start mid now : Option (List ℕ)) (r : Result Unit Fault) → Queries w s q old new start mid r → Keeps mid now → Queries w s q old new start now r
 query_kept w s q old new start mid now (Ok u) h k = record { reads = h.reads; ok = answers_kept w s q new start mid now _ h.ok k; err = tt }

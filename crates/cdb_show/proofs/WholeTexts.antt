@@ -7,7 +7,7 @@ use Rattle.cdb_form.specs.declared.walk.fault.WalkFault.TheVariants as walk
 use Rattle.cdb_show.specs.Views.Fault.{walk_fault}
 use Rattle.cdb_show.specs.Runs.Form.{Form, IsHeld}
 use Rattle.cdb_show.specs.Runs.WalkText.{closing, walk_text}
-use Rattle.cdb_show.specs.Runs.FedText.{WritesToDamage, WritesTextPrefix, WritesFirst, WritingFails, WritesWalk, KeepsBehind}
+use Rattle.cdb_show.specs.Runs.WalkText.{WritesToDamage, WritesTextPrefix, WritesFirst, WritingFails, WritesWalk, KeepsBehind}
 use Rattle.cdb_show.specs.declared.runs.content.Content.{Content}
 use Rattle.cdb_show.specs.declared.runs.content.Content.TheVariants.{Records, Keys}
 use Rattle.cdb_show.specs.declared.fault.Fault.TheVariants.{Text, Make, Duplicate, Missing, Read, Walk, Output, Long, Open, Rename, NoMemory, Old, New, NoOldTables, NoNewTables, NoBaseTables}
@@ -146,22 +146,9 @@ fails_kept w form file rest old mid new (Walk walk.Short) d k = damage_kept w fo
 fails_kept w form file rest old mid new (Walk (walk.Table n)) d k = damage_kept w form file rest (Some (file_damage.Table n)) old mid new d k
 fails_kept w form file rest old mid new (Walk (walk.Record place)) d k = damage_kept w form file rest (Some (file_damage.Record place)) old mid new d k
 fails_kept w form file rest old mid new (Walk walk.Input) d k = first_kept w form file rest old mid new d k
-fails_kept w form file rest old mid new (Walk walk.NoMemory) d k = absurd d
 fails_kept w form file rest old mid new NoMemory d k = first_kept w form file rest old mid new d k
 fails_kept w form file rest old mid new Output d k = text_prefix_kept w form file rest old mid new d k
-fails_kept w form file rest old mid new (Text input f) d k = absurd d
-fails_kept w form file rest old mid new (Make f) d k = absurd d
-fails_kept w form file rest old mid new Duplicate d k = absurd d
-fails_kept w form file rest old mid new Missing d k = absurd d
-fails_kept w form file rest old mid new (Read f) d k = absurd d
-fails_kept w form file rest old mid new Long d k = absurd d
-fails_kept w form file rest old mid new Open d k = absurd d
-fails_kept w form file rest old mid new Rename d k = absurd d
-fails_kept w form file rest old mid new NoOldTables d k = absurd d
-fails_kept w form file rest old mid new NoNewTables d k = absurd d
-fails_kept w form file rest old mid new NoBaseTables d k = absurd d
-fails_kept w form file rest old mid new (Old side) d k = absurd d
-fails_kept w form file rest old mid new (New side) d k = absurd d
+fails_kept w form file rest old mid new f d k = absurd d
 
 runs_kept : (w : ℕ) (form : Form) (file rest : Feed) (old mid new : Option (List ℕ)) (r : Result Unit Fault) → WritesWalk w form file rest old mid r → Keeps mid new → WritesWalk w form file rest old new r
 runs_kept w form file rest old mid new (Ok u) d k =

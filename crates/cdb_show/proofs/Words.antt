@@ -7,10 +7,9 @@ pub use Rattle.cdb_feed.specs.Parsing.{Parsing}
 pub use Rattle.cdb_feed.specs.declared.input_reader.InputReader.{InputReader}
 pub use Rattle.cdb_form.proofs.Bytes.WritingLemmas.{appends_kept, appends_none, appends_then, prefix_in, prefix_last, prefix_then, same_appends, same_prefix, same_writes, writes_last, writes_prefix}
 pub use Rattle.cdb_form.proofs.Fed.FeedLemmas.{from_both, from_kept, from_taken, from_then, from_weaker, nothing_taken}
-pub use Rattle.cdb_form.proofs.Fed.KnownItems.{known_loses, known_whole}
 pub use Rattle.cdb_form.proofs.MapTexts.WholeMap.{going_on}
-pub use Rattle.cdb_form.specs.Fed.Feed.{Consumes, Feed, FromTo, reader_feed}
-pub use Rattle.cdb_form.specs.Fed.RecordReader.{Fails, GivesEnd, GivesRecord}
+pub use Rattle.cdb_form.specs.Views.Feed.{Consumes, Feed, FromTo, reader_feed}
+pub use Rattle.cdb_form.specs.Views.RecordReader.{Fails, GivesEnd, GivesRecord}
 pub use Rattle.cdb_form.specs.Format.Pair.{head_size}
 pub use Rattle.cdb_form.specs.Format.Record.{KeyValue}
 pub use Rattle.cdb_form.specs.Format.Walk.{Walked}
@@ -41,7 +40,7 @@ pub use Rattle.cdb_show.specs.Runs.Incoming.{Incoming, Known, came, from_input, 
 pub use Rattle.cdb_show.specs.Runs.Inputs.{AreAllInputs, AreInputs, BeginsWithItems, FirstBegins, FirstHas, HasFaultBehind, HasFaults, HasInputFault, HasItemFault, InputForm, InputsBeginWith, InputsLeft, IsInput, IsInputOf, OneBegins, OneInput, Puts, ReadsOne, bytes_of, key_of, keys_form, keys_of, keys_of_each}
 pub use Rattle.cdb_show.specs.Runs.LookedUp.{looked_up}
 pub use Rattle.cdb_show.specs.Runs.LookupTask.{LookupState, LookupTask, lookup_state}
-pub use Rattle.cdb_show.specs.Runs.Lookups.{FaultBehind, HasLooked, LooksUp, LooksUpAll, LookupsFail, LookupsStop, LookupsStopAt, StopsBehind, missing_answer}
+pub use Rattle.cdb_show.specs.Runs.Lookups.{FaultBehind, HasLooked, LookupsStopAt, StopsBehind, missing_answer}
 pub use Rattle.cdb_show.specs.Runs.Parsing.{StopsIn, fault_in, stop_of, stopped_parsing}
 pub use Rattle.cdb_show.specs.Runs.Query.{Queries, Query, QueryAnswers, QueryFails, WritesQueryPrefix, query_answer, query_text}
 pub use Rattle.cdb_show.specs.Runs.StatsText.{keys_line, records_line, sizes_line, tables_line, values_line}

@@ -6,14 +6,11 @@ pub mod Parsing
 pub mod Incoming
 pub mod Form
 pub mod WalkText
-pub mod FedText
 pub mod Load
-pub mod FedLoad
 pub mod Query
 pub mod LookupTask
 pub mod LookedUp
 pub mod Lookups
-pub mod FedLookups
 pub mod StatsText
 pub mod Stats
 pub mod Check

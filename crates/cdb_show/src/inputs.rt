@@ -1,6 +1,6 @@
 // The inputs of a run, whose readers come back.
 ghost use Rattle.std.specs.Prelude.{◌≡◌, IfErr, IfOk, map};
-ghost use Rattle.cdb_form.specs.Fed.Feed.{Consumes, Keeps};
+ghost use Rattle.cdb_form.specs.Views.Feed.{Consumes, Keeps};
 ghost use Rattle.cdb_show.specs.Runs.Inputs.{Own};
 ghost use Rattle.cdb_show.specs.Views.Inputs.{held_of, one_of, reader_of, shared_feed};
 ghost use Rattle.cdb_show.specs.Views.Window.{feed_of};

@@ -1,7 +1,7 @@
 // A window over what gives bytes, from which single bytes come fast.
 ghost use Rattle.std.specs.Prelude.{◌≡◌, ◌<◌, ◌≤◌, [], length, take, min, IfOk, IfErr, OnOk, OnErr};
 ghost use Rattle.std.specs.Prelude.{vec_len};
-ghost use Rattle.cdb_form.specs.Fed.Feed.{Consumes, IsAtEnd, Keeps};
+ghost use Rattle.cdb_form.specs.Views.Feed.{Consumes, IsAtEnd, Keeps};
 
 use cdb_form::{AtHand, Feeds, PIPE};
 use std::alloc::Global;

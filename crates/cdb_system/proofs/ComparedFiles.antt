@@ -70,11 +70,7 @@ module _ {S : Type 0} (w : ℕ) (s : Ghosts S) (old_last new_last : S) (b c : Li
       let out = h b c x.is y.is in
       said_so (Old (read.Table n)) (after_tables looks ∙ ap (λ o. option_or (option_map (λ n. Old (read.Table n)) o) (option_map (λ n. New (read.Table n)) (outside_table w c))) out.0) out.1
   old_ended (read.Record place) looks h = let ordered = (order (none_said looks)).0 in absurd (not_met w b c (damage.Record place) ordered.0 ordered.1 (h b c x.is y.is))
-  old_ended (read.Slot n i) looks h = absurd h
-  old_ended (read.Twice place) looks h = absurd h
-  old_ended (read.Unindexed place) looks h = absurd h
-  old_ended read.NoMemory looks h = absurd h
-  old_ended read.Output looks h = absurd h
+  old_ended fault looks h = absurd h
 
   new_ended : (fault : ReadFault) → ComesAfter w s s old_last new_last (New fault) → DifferenceNotRead (difference_task w s s) (difference_state new old_last start) (difference_state new_last old_last end) fault → Comes true Nothing plain_status (difference_outcome w b c) start end (Err (New fault))
   new_ended read.Short looks h =
@@ -84,11 +80,7 @@ module _ {S : Type 0} (w : ℕ) (s : Ghosts S) (old_last new_last : S) (b c : Li
       let out = h c b y.is x.is in
       said_so (New (read.Table n)) (old_inside looks.0 looks.1 ∙ ap (option_map (λ n. New (read.Table n))) out.0) out.1
   new_ended (read.Record place) looks h = let ordered = (order (none_said looks)).1 in absurd (not_met w c b (damage.Record place) ordered.0 ordered.1 (h c b y.is x.is))
-  new_ended (read.Slot n i) looks h = absurd h
-  new_ended (read.Twice place) looks h = absurd h
-  new_ended (read.Unindexed place) looks h = absurd h
-  new_ended read.NoMemory looks h = absurd h
-  new_ended read.Output looks h = absurd h
+  new_ended fault looks h = absurd h
 
   difference_ended : (fault : Fault) → ComesAfter w s s old_last new_last fault → (heads_fault w b c ≡ None → AppendsPrefix start end (amending_text (difference_of w b c))) → DifferenceFails (difference_task w s s) (difference_state old new start) (difference_state old_last new_last end) fault → Comes true Nothing plain_status (difference_outcome w b c) start end (Err fault)
   difference_ended (Old fault) looks part h = old_ended fault looks h
@@ -97,16 +89,7 @@ module _ {S : Type 0} (w : ℕ) (s : Ghosts S) (old_last new_last : S) (b c : Li
   difference_ended NoMemory looks part h = refused_later NoMemory tt looks part
   difference_ended NoOldTables looks part h = said_so NoOldTables (after_heads looks ∙ cond-true (lacks_tables w b) _ _ (h.lacks b x.is)) h.kept
   difference_ended NoNewTables looks part h = said_so NoNewTables (after_heads looks.0 ∙ cond-false (lacks_tables w b) _ _ (looks.1 b x.is) ∙ cond-true (lacks_tables w c) _ _ (h.lacks c y.is)) h.kept
-  difference_ended NoBaseTables looks part h = absurd h
-  difference_ended (Text input fault) looks part h = absurd h
-  difference_ended (Make fault) looks part h = absurd h
-  difference_ended Duplicate looks part h = absurd h
-  difference_ended Missing looks part h = absurd h
-  difference_ended (Read fault) looks part h = absurd h
-  difference_ended (Walk fault) looks part h = absurd h
-  difference_ended Long looks part h = absurd h
-  difference_ended Open looks part h = absurd h
-  difference_ended Rename looks part h = absurd h
+  difference_ended fault looks part h = absurd h
 
   difference_comes : (result : Result Unit Fault) → TellsDifference (difference_task w s s) (difference_state old new start) (difference_state old_last new_last end) result → Comes true Nothing plain_status (difference_outcome w b c) start end result
   difference_comes (Ok done) h =

@@ -16,7 +16,7 @@ use Rattle.cdb_read.specs.declared.fault.ReadFault.TheVariants as read
 use Rattle.cdb_store.specs.contracts.memory.MemStoreStore.TheImpl.{ghosts as in_memory}
 use Rattle.cdb_show.specs.Runs.Check.{CheckingFails}
 use Rattle.cdb_show.specs.Runs.Stats.{StatsMeetDamage, TellingFails, TellsStats, statistics_text}
-use Rattle.cdb_show.specs.Runs.FedText.{WritesFirst, WritesTextPrefix, WritesToDamage, WritesWalk, WritingFails}
+use Rattle.cdb_show.specs.Runs.WalkText.{WritesFirst, WritesTextPrefix, WritesToDamage, WritesWalk, WritingFails}
 use Rattle.cdb_show.specs.Runs.WalkText.{closing, walk_text}
 use Rattle.cdb_show.specs.Runs.Query.{QueryAnswers, Query, Queries, QueryFails, query_text, query_answer}
 use Rattle.cdb_show.specs.Status.{plain_status, check_status}
@@ -46,28 +46,11 @@ query_ended w s q file last bytes start end (Read read.Short) is size works h =
     let short = subst (λ n. n < head_size w) (sym (size ∙ ap s.size h.unread)) h.short in
     comes_so true Nothing plain_status _ [] start end (Err (Read read.Short)) (short_is w bytes _ _ short) (nothing_written start end h.kept)
 query_ended w s q file last bytes start end (Read read.Device) is size works h = absurd (omega (arith, h.0, works))
-query_ended w s q file last bytes start end (Read (read.Slot n i)) is size works h = absurd h
-query_ended w s q file last bytes start end (Read (read.Twice place)) is size works h = absurd h
-query_ended w s q file last bytes start end (Read (read.Unindexed place)) is size works h = absurd h
-query_ended w s q file last bytes start end (Read read.NoMemory) is size works h = absurd h
-query_ended w s q file last bytes start end (Read read.Output) is size works h = absurd h
 query_ended w s q file last bytes start end Output is size works h =
     let long = subst (λ n. head_size w ≤ n) (sym size) h.0 in
     let text = ap (λ (o : Outcome). o.output) (long_is w bytes _ _ long) ∙ output_of plain_status (query_text w bytes q) (query_answer w bytes q) in
     gives_up true Nothing plain_status _ start end Output refl (subst (AppendsPrefix start end) (sym text) (h.1.written bytes is))
-query_ended w s q file last bytes start end (Text input fault) is size works h = absurd h
-query_ended w s q file last bytes start end (Make fault) is size works h = absurd h
-query_ended w s q file last bytes start end Duplicate is size works h = absurd h
-query_ended w s q file last bytes start end (Walk fault) is size works h = absurd h
-query_ended w s q file last bytes start end Long is size works h = absurd h
-query_ended w s q file last bytes start end Open is size works h = absurd h
-query_ended w s q file last bytes start end Rename is size works h = absurd h
-query_ended w s q file last bytes start end NoOldTables is size works h = absurd h
-query_ended w s q file last bytes start end NoNewTables is size works h = absurd h
-query_ended w s q file last bytes start end NoBaseTables is size works h = absurd h
-query_ended w s q file last bytes start end NoMemory is size works h = absurd h
-query_ended w s q file last bytes start end (Old fault) is size works h = absurd h
-query_ended w s q file last bytes start end (New fault) is size works h = absurd h
+query_ended w s q file last bytes start end fault is size works h = absurd h
 
 query_comes : {S : Type 0} (w : ℕ) (s : Ghosts S) (q : Query) (file last : S) (bytes : List ℕ) (start end : Option (List ℕ)) (result : Result Unit Fault) → s.image last bytes → length bytes ≡ s.size last → s.failures last ≡ 0 → Queries w s q file last start end result → Comes true Nothing plain_status (query_outcome w q bytes) start end result
 query_comes w s q file last bytes start end (Ok done) is size works h = query_answered w s q last bytes start end (Ok tt) is size h.ok
@@ -129,22 +112,9 @@ module _ (w : ℕ) (form : Form) (before left : Feed) (unread : IsUnread before)
   text_ended (Walk (walk.Table n)) h = text_damaged _ _ (λ text. refl) h
   text_ended (Walk (walk.Record place)) h = text_damaged _ _ (λ text. refl) h
   text_ended (Walk walk.Input) h = gives_up true Database plain_status _ start end _ refl (text_first h)
-  text_ended (Walk walk.NoMemory) h = absurd h
   text_ended NoMemory h = gives_up true Database plain_status _ start end _ tt (text_first h)
   text_ended Output h = gives_up true Database plain_status _ start end _ refl (text_prefix h)
-  text_ended (Text input fault) h = absurd h
-  text_ended (Make fault) h = absurd h
-  text_ended Duplicate h = absurd h
-  text_ended Missing h = absurd h
-  text_ended (Read fault) h = absurd h
-  text_ended Long h = absurd h
-  text_ended Open h = absurd h
-  text_ended Rename h = absurd h
-  text_ended NoOldTables h = absurd h
-  text_ended NoNewTables h = absurd h
-  text_ended NoBaseTables h = absurd h
-  text_ended (Old fault) h = absurd h
-  text_ended (New fault) h = absurd h
+  text_ended fault h = absurd h
 
   text_comes : (result : Result Unit Fault) → WritesWalk w form before left start end result → Comes true Database plain_status (text_outcome w form bytes) start end result
   text_comes (Ok done) h = text_walked w form bytes h.ok.walked None start end (Ok tt) (λ text. refl) (of_this before left _ bytes rest unread h.ok.is m).0 h.ok.ends h.ok.appended
@@ -198,29 +168,11 @@ stats_ended reads w s file last bytes start end (Read read.Short) is size works 
 stats_ended reads w s file last bytes start end (Read (read.Table n)) is size works h = stats_damaged reads w s last bytes _ start end is size h
 stats_ended reads w s file last bytes start end (Read (read.Record place)) is size works h = stats_damaged reads w s last bytes _ start end is size h
 stats_ended reads w s file last bytes start end (Read read.Device) is size works h = absurd (omega (arith, h.0, works))
-stats_ended reads w s file last bytes start end (Read (read.Slot n i)) is size works h = absurd h
-stats_ended reads w s file last bytes start end (Read (read.Twice place)) is size works h = absurd h
-stats_ended reads w s file last bytes start end (Read (read.Unindexed place)) is size works h = absurd h
-stats_ended reads w s file last bytes start end (Read read.NoMemory) is size works h = absurd h
-stats_ended reads w s file last bytes start end (Read read.Output) is size works h = absurd h
 stats_ended reads w s file last bytes start end Output is size works h =
     let long = subst (λ n. head_size w ≤ n) (sym size) h.long in
     let text = ap (λ (o : Outcome). o.output) (stats_whole w bytes None long (h.whole bytes is)) in
     gives_up true reads plain_status _ start end Output refl (subst (AppendsPrefix start end) (sym text) (h.written bytes is))
-stats_ended reads w s file last bytes start end (Text input fault) is size works h = absurd h
-stats_ended reads w s file last bytes start end (Make fault) is size works h = absurd h
-stats_ended reads w s file last bytes start end Duplicate is size works h = absurd h
-stats_ended reads w s file last bytes start end Missing is size works h = absurd h
-stats_ended reads w s file last bytes start end (Walk fault) is size works h = absurd h
-stats_ended reads w s file last bytes start end Long is size works h = absurd h
-stats_ended reads w s file last bytes start end Open is size works h = absurd h
-stats_ended reads w s file last bytes start end Rename is size works h = absurd h
-stats_ended reads w s file last bytes start end NoOldTables is size works h = absurd h
-stats_ended reads w s file last bytes start end NoNewTables is size works h = absurd h
-stats_ended reads w s file last bytes start end NoBaseTables is size works h = absurd h
-stats_ended reads w s file last bytes start end NoMemory is size works h = absurd h
-stats_ended reads w s file last bytes start end (Old fault) is size works h = absurd h
-stats_ended reads w s file last bytes start end (New fault) is size works h = absurd h
+stats_ended reads w s file last bytes start end fault is size works h = absurd h
 
 pub stats_comes : {S : Type 0} (reads : Reading) (w : ℕ) (s : Ghosts S) (file last : S) (bytes : List ℕ) (start end : Option (List ℕ)) (result : Result Unit Fault) → s.image last bytes → length bytes ≡ s.size last → s.failures last ≡ 0 → TellsStats w s file last start end result → Comes true reads plain_status (stats_outcome w bytes) start end result
 stats_comes reads w s file last bytes start end (Ok done) is size works h =
@@ -241,23 +193,8 @@ check_ended reads w s file last bytes start end (Read (read.Slot n i)) is works 
 check_ended reads w s file last bytes start end (Read (read.Twice place)) is works k h = check_met reads w bytes (Some (damage.Twice place)) start end (h.first bytes is) k
 check_ended reads w s file last bytes start end (Read (read.Unindexed place)) is works k h = check_met reads w bytes (Some (damage.Unindexed place)) start end (h.first bytes is) k
 check_ended reads w s file last bytes start end (Read read.Device) is works k h = absurd (omega (arith, h, works))
-check_ended reads w s file last bytes start end (Read read.NoMemory) is works k h = absurd h
-check_ended reads w s file last bytes start end (Read read.Output) is works k h = absurd h
 check_ended reads w s file last bytes start end NoMemory is works k h = gives_none false reads check_status _ start end NoMemory tt k
-check_ended reads w s file last bytes start end (Text input fault) is works k h = absurd h
-check_ended reads w s file last bytes start end (Make fault) is works k h = absurd h
-check_ended reads w s file last bytes start end Duplicate is works k h = absurd h
-check_ended reads w s file last bytes start end Missing is works k h = absurd h
-check_ended reads w s file last bytes start end (Walk fault) is works k h = absurd h
-check_ended reads w s file last bytes start end Output is works k h = absurd h
-check_ended reads w s file last bytes start end Long is works k h = absurd h
-check_ended reads w s file last bytes start end Open is works k h = absurd h
-check_ended reads w s file last bytes start end Rename is works k h = absurd h
-check_ended reads w s file last bytes start end NoOldTables is works k h = absurd h
-check_ended reads w s file last bytes start end NoNewTables is works k h = absurd h
-check_ended reads w s file last bytes start end NoBaseTables is works k h = absurd h
-check_ended reads w s file last bytes start end (Old fault) is works k h = absurd h
-check_ended reads w s file last bytes start end (New fault) is works k h = absurd h
+check_ended reads w s file last bytes start end fault is works k h = absurd h
 
 pub check_comes : {S : Type 0} (reads : Reading) (w : ℕ) (s : Ghosts S) (file last : S) (bytes : List ℕ) (start end : Option (List ℕ)) (result : Result Unit Fault) → 0 < w → s.image last bytes → s.failures last ≡ 0 → ChecksStore w start end result s file last → Comes false reads check_status (check_outcome w bytes) start end result
 check_comes reads w s file last bytes start end (Ok done) some is works h = check_met reads w bytes None start end ((sound_is_no_damage w bytes some).0 (h.sound.sound bytes is)) h.kept
@@ -297,23 +234,7 @@ not_taken writes status most before left input rest outcome start end Long plain
     comes_so writes Database status _ [] start end (Err Long) (cond-true (nat_lt most (length input)) _ _ (lt-ltb most (length input) (of_this before left _ input rest unread h m)) ∙ ap (λ n. record { status = n; output = []; lines = fault_line Long }) plain) (nothing_written start end k)
 not_taken writes status most before left input rest outcome start end (Walk walk.Input) plain unread m h k = gives_none writes Database status _ start end _ refl k
 not_taken writes status most before left input rest outcome start end NoMemory plain unread m h k = gives_none writes Database status _ start end _ tt k
-not_taken writes status most before left input rest outcome start end (Walk walk.Short) plain unread m h k = absurd h
-not_taken writes status most before left input rest outcome start end (Walk (walk.Table n)) plain unread m h k = absurd h
-not_taken writes status most before left input rest outcome start end (Walk (walk.Record place)) plain unread m h k = absurd h
-not_taken writes status most before left input rest outcome start end (Walk walk.NoMemory) plain unread m h k = absurd h
-not_taken writes status most before left input rest outcome start end (Text n fault) plain unread m h k = absurd h
-not_taken writes status most before left input rest outcome start end (Make fault) plain unread m h k = absurd h
-not_taken writes status most before left input rest outcome start end Duplicate plain unread m h k = absurd h
-not_taken writes status most before left input rest outcome start end Missing plain unread m h k = absurd h
-not_taken writes status most before left input rest outcome start end (Read fault) plain unread m h k = absurd h
-not_taken writes status most before left input rest outcome start end Output plain unread m h k = absurd h
-not_taken writes status most before left input rest outcome start end Open plain unread m h k = absurd h
-not_taken writes status most before left input rest outcome start end Rename plain unread m h k = absurd h
-not_taken writes status most before left input rest outcome start end NoOldTables plain unread m h k = absurd h
-not_taken writes status most before left input rest outcome start end NoNewTables plain unread m h k = absurd h
-not_taken writes status most before left input rest outcome start end NoBaseTables plain unread m h k = absurd h
-not_taken writes status most before left input rest outcome start end (Old fault) plain unread m h k = absurd h
-not_taken writes status most before left input rest outcome start end (New fault) plain unread m h k = absurd h
+not_taken writes status most before left input rest outcome start end fault plain unread m h k = absurd h
 
 pub on_input : {F I J M : Type 0} (writes : Bool) (status : Fault → ℕ) (most : ℕ) (bytes : List ℕ) (outcome : List ℕ → Outcome) (input : Standard J) (left : Left F M I J) (start end : Option (List ℕ)) (result : Result Unit Fault) (taken : MemStore → MemStore → Type 0)
     → 111 ≡ status Long → IsUnread (input.feed input.reader) → IfSome left.input (λ reader. Agrees (Some bytes) (input.feed reader)) → ((store last : MemStore) → taken store last → Comes writes Database status (outcome (contents store)) start end result)

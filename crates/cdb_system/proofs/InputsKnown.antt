@@ -160,14 +160,13 @@ module _ {I S Item Fault : Type 0} (own : I → Feed) (shared : S → Feed) (p :
 
   last_agrees : (stop : Stop Item Fault) (names : List (List ℕ)) (before after : List (InputReader I)) (files : List (Option (List ℕ))) (old new : S) → StopsSo own shared p stop before after old new → AreOf disk names before files → EachOfBytes files → AgreeInTurn own disk (own_names names before) (own_readers after)
       → FirstAgree own AreBytes (reached [] stop) files after
-  last_agrees NoMore names before after files old new stops of fit agree = tt
-  last_agrees NotBegun names before after files old new stops of fit agree = tt
   last_agrees (HasFault items fault) names (reader ∷ before) (left ∷ after) files old new stops of fit agree = first_agrees _ 0 names before after reader left files old new stops of fit agree (λ names files of fit agree. tt)
   last_agrees (CutShort items) names (reader ∷ before) (left ∷ after) files old new stops of fit agree = first_agrees _ 0 names before after reader left files old new stops of fit agree (λ names files of fit agree. tt)
   last_agrees (HasFault items fault) names [] after files old new stops of fit agree = absurd stops
   last_agrees (HasFault items fault) names (reader ∷ before) [] files old new stops of fit agree = absurd stops
   last_agrees (CutShort items) names [] after files old new stops of fit agree = absurd stops
   last_agrees (CutShort items) names (reader ∷ before) [] files old new stops of fit agree = absurd stops
+  last_agrees stop names before after files old new stops of fit agree = tt
 
   pub reached_agree : (read : List (List Item)) (stop : Stop Item Fault) (names : List (List ℕ)) (before after : List (InputReader I)) (files : List (Option (List ℕ))) (old new : S) → AreRead own shared p read stop before after old new → AreOf disk names before files → EachOfBytes files → AgreeInTurn own disk (own_names names before) (own_readers after)
       → FirstAgree own AreBytes (reached read stop) files after

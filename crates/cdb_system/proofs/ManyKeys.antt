@@ -12,8 +12,6 @@ use Rattle.cdb_show.specs.declared.fault.Fault.TheVariants.{Text, Read, Output, 
 use Rattle.cdb_show.specs.Views.Inputs.{shared_feed}
 use Rattle.cdb_show.specs.declared.inputs.SharedWindow.TheVariants.{Unread}
 use Rattle.cdb_show.specs.declared.runs.lookup_options.LookupOptions.{LookupOptions}
-use Rattle.cdb_show.proofs.FedLookedUp.{fed_looks_up, inputs_of as known_inputs}
-use Rattle.cdb_show.proofs.GivenInputs.{known_all}
 use Rattle.cdb_show.proofs.LookedUp.{IsLookupRefusal, LooksOrShort, lookups_asked}
 use Rattle.cdb_system.specs.Answered.{IsAnswered, IsOfBytes, IsThere, Texts, stores_in, streams_in}
 use Rattle.cdb_system.specs.Oracle.{Disk, Outcome, ended, inputs_of, lookups_outcome, of_file, of_inputs}
@@ -95,11 +93,11 @@ module _ {F I J M N R Y : Type 0} (feed : I → Feed) (s : Ghosts F) (m : Ghosts
       let run = looks.looks.leaves in
       let first = reached_agree feed (shared_feed input.feed) (stopped_parsing (keys_form l.options.style) l.greatest (fault_in looks.looks.answer)) disk run.read run.stop (inputs_read l.inputs) looks.inputs.readers.items looks.handed.readers.items k.files (Unread looks.inputs.shared) run.are.window run.are.are k.of k.own streams in
       let agrees = subst (λ k. IfSome k.input (λ reader. Agrees (Some bytes) (input.feed reader))) looks.are_last standard in
-      let taken = fed_looks_up (lookup_task l.word l.greatest s l.options) feed input.feed looks.inputs looks.handed k.files bytes looks.file looks.last old.output new.output result looks.looks looks.unread (subst (λ r. IsUnread (input.feed r)) (sym looks.shared) unread) k.long first (record { fit = of_bytes.standard; rest = agrees.0; may = agrees.1 }) in
       of_shown true Texts s plain_status (disk l.name) looks.last [] _ old.output new.output result shown.0
       (λ image is works. subst (λ f. Comes true Texts plain_status (of_inputs f (λ files. lookups_outcome l.word l.greatest l.options files bytes image)) old.output new.output result) (sym (inputs_are disk l.inputs ∙ k.are))
       (lookups_come l.word l.greatest s l.options k.files bytes looks.file looks.last image old.output new.output result (sized looks.last image is)
-      (lookups_asked (lookup_task l.word l.greatest s l.options) k.files bytes (known_inputs k.files bytes) looks.file looks.last image old.output new.output result (record { each = refl; known = known_all k.files bytes; own = k.own; bytes = of_bytes.standard }) is works taken)))
+      (lookups_asked (lookup_task l.word l.greatest s l.options) feed input.feed looks.inputs looks.handed k.files bytes looks.file looks.last image old.output new.output result looks.looks looks.unread (subst (λ r. IsUnread (input.feed r)) (sym looks.shared) unread) k.long first
+      (record { fit = of_bytes.standard; rest = agrees.0; may = agrees.1 }) is works)))
 
   pub lookups_foretold : IsSized s → IsOfBytes disk bytes → IsUnread (input.feed input.reader) → EachAnswered s disk (stores_in left) (y.calls old.opened) (y.calls new.opened) → EachAgrees feed disk (streams_in left) (y.calls old.opened) (y.calls new.opened) → IfSome left.input (λ reader. Agrees (Some bytes) (input.feed reader))
       → PerformsLookups (files_of s m feed y) l input old new left result → Comes true Texts plain_status (of_file (disk l.name) (λ image. of_inputs (inputs_of disk l.inputs) (λ files. lookups_outcome l.word l.greatest l.options files bytes image))) old.output new.output result

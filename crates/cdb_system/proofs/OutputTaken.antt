@@ -18,18 +18,4 @@ MayGiveUp writes reads fault = IsRefusal reads fault
 -- an output that did not fail was not refused
 pub taken : {O : Type 0} (writes : Bool) (reads : Reading) (fault : Fault) (result : Result Unit Fault) → (O → ⊥) → OutputSays O result → result ≡ Err fault → MayGiveUp writes reads fault → IsRefusal reads fault
 taken writes reads Output result works says is h = absurd (works (subst (OutputSays _) is says))
-taken writes reads (Text n g) result works says is h = h
-taken writes reads (Make g) result works says is h = h
-taken writes reads Duplicate result works says is h = h
-taken writes reads Missing result works says is h = h
-taken writes reads (Read g) result works says is h = h
-taken writes reads (Walk g) result works says is h = h
-taken writes reads Long result works says is h = h
-taken writes reads Open result works says is h = h
-taken writes reads Rename result works says is h = h
-taken writes reads NoMemory result works says is h = h
-taken writes reads (Old g) result works says is h = h
-taken writes reads (New g) result works says is h = h
-taken writes reads NoOldTables result works says is h = h
-taken writes reads NoNewTables result works says is h = h
-taken writes reads NoBaseTables result works says is h = h
+taken writes reads fault result works says is h = h

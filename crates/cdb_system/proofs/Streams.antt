@@ -2,12 +2,12 @@
 use Rattle.std.proofs.Common.{ℕ, ◌+◌, ◌<◌, List, [], ◌++◌, length, Option, IfOk, IfErr, Result, Ok, Err, ◌≡◌, ◌∙◌, ap, arith, subst, sym}
 use Rattle.std.proofs.lemmas.List.{append-nil, length-append}
 use Rattle.cdb_form.proofs.Fed.FeedLemmas.{consumes_then, from_behind}
-use Rattle.cdb_form.specs.Fed.Feed.{Consumes, Feed, FromTo, Keeps}
-use Rattle.cdb_form.specs.Fed.Taking.{GivesAll, GivesMore}
+use Rattle.cdb_form.specs.Views.Feed.{Consumes, Feed, FromTo, Keeps}
+use Rattle.cdb_form.specs.Views.Taking.{GivesAll, GivesMore}
 use Rattle.cdb_form.specs.declared.walk.fault.WalkFault.TheVariants as walk
 use Rattle.cdb_system.proofs.Words.{Fault, Form, MemStore, WritesFirst, WritesToDamage, WritesWalk, WritingFails, contents}
 use Rattle.cdb_show.specs.declared.fault.Fault.TheVariants.{Text, Make, Duplicate, Missing, Read, Walk, Output, Long, Open, Rename, NoMemory, Old, New, NoOldTables, NoNewTables, NoBaseTables}
-use Rattle.cdb_show.specs.Runs.FedLoad.{LoadStops}
+use Rattle.cdb_show.specs.Runs.Load.{LoadStops}
 use Rattle.cdb_show.specs.Views.Window.{feed_of, held_in, reader_of, window_feed}
 use Rattle.cdb_show.specs.declared.window.Window.{Window}
 use Rattle.cdb_system.specs.Reading.{IsNotLoaded, IsWhole, WritesText}
@@ -31,22 +31,9 @@ module _ (w : ℕ) (form : Form) (old mid new : Feed) (kept : Keeps old mid) (st
   fails_since (Walk (walk.Table n)) h = damage_since _ h
   fails_since (Walk (walk.Record place)) h = damage_since _ h
   fails_since (Walk walk.Input) h = first_since h
-  fails_since (Walk walk.NoMemory) h = absurd h
   fails_since NoMemory h = first_since h
   fails_since Output h = record { walked = h.walked; appended = h.appended; is = from_behind old mid new [] _ kept h.is }
-  fails_since (Text input f) h = absurd h
-  fails_since (Make f) h = absurd h
-  fails_since Duplicate h = absurd h
-  fails_since Missing h = absurd h
-  fails_since (Read f) h = absurd h
-  fails_since Long h = absurd h
-  fails_since Open h = absurd h
-  fails_since Rename h = absurd h
-  fails_since NoOldTables h = absurd h
-  fails_since NoNewTables h = absurd h
-  fails_since NoBaseTables h = absurd h
-  fails_since (Old f) h = absurd h
-  fails_since (New f) h = absurd h
+  fails_since fault h = absurd h
 
   walk_since : (result : Result Unit Fault) → WritesWalk w form mid new start end result → WritesWalk w form old new start end result
   walk_since (Ok done) h = record { ok = record { walked = h.ok.walked; ends = h.ok.ends; appended = h.ok.appended; is = from_behind old mid new [] _ kept h.ok.is }; err = tt }
@@ -92,23 +79,7 @@ why_not : (most : ℕ) (first mid new left : Feed) (held : List ℕ) (fault : Fa
 why_not most first mid new left held Long kept lost h = more_is most first mid new left h.0 held kept h.1 lost
 why_not most first mid new left held (Walk walk.Input) kept lost h = tt
 why_not most first mid new left held NoMemory kept lost h = tt
-why_not most first mid new left held (Walk walk.Short) kept lost h = absurd h
-why_not most first mid new left held (Walk (walk.Table n)) kept lost h = absurd h
-why_not most first mid new left held (Walk (walk.Record place)) kept lost h = absurd h
-why_not most first mid new left held (Walk walk.NoMemory) kept lost h = absurd h
-why_not most first mid new left held (Text input f) kept lost h = absurd h
-why_not most first mid new left held (Make f) kept lost h = absurd h
-why_not most first mid new left held Duplicate kept lost h = absurd h
-why_not most first mid new left held Missing kept lost h = absurd h
-why_not most first mid new left held (Read f) kept lost h = absurd h
-why_not most first mid new left held Output kept lost h = absurd h
-why_not most first mid new left held Open kept lost h = absurd h
-why_not most first mid new left held Rename kept lost h = absurd h
-why_not most first mid new left held NoOldTables kept lost h = absurd h
-why_not most first mid new left held NoNewTables kept lost h = absurd h
-why_not most first mid new left held NoBaseTables kept lost h = absurd h
-why_not most first mid new left held (Old f) kept lost h = absurd h
-why_not most first mid new left held (New f) kept lost h = absurd h
+why_not most first mid new left held fault kept lost h = absurd h
 
 pub is_not_loaded : (most : ℕ) (first mid new left : Feed) (held : List ℕ) (result : Result MemStore Fault) → Keeps first mid → Consumes new left held → IfErr result (LoadStops most mid new) → IfErr result (IsNotLoaded most first left)
 is_not_loaded most first mid new left held (Ok store) kept lost h = tt

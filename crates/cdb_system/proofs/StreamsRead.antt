@@ -1,7 +1,7 @@
 -- That a command which reads a stream performs what it promises, from the steps that it takes.
 use Rattle.cdb_system.proofs.Words.{AreUnread, Fault, Form, IsUnread, Left, List, MemStore, None, OpensInputs, Option, Result, Some, ap, inl, inr, subst, sym, ℕ, ◌∙◌, ◌∷◌, ◌≡◌}
 use Rattle.cdb_names.specs.declared.answer.Answer.TheVariants.{Yes}
-use Rattle.cdb_show.specs.Runs.FedLookups.{FedLooksUp}
+use Rattle.cdb_show.specs.Runs.Lookups.{LooksUp}
 use Rattle.cdb_show.specs.Runs.LookupTask.{lookup_state, lookup_task}
 use Rattle.cdb_show.specs.declared.inputs.Inputs.{Inputs}
 use Rattle.cdb_system.specs.Files.{Files}
@@ -34,7 +34,7 @@ module _ {F I J M N R Y : Type 0} (files : Files F I J M N R Y) (old new : State
 module _ {F I J M N R Y : Type 0} (files : Files F I J M N R Y) (input : Standard J) (old new : State Y) (left : Left F M I J) (result : Result Unit Fault) where
   -- the keys of inputs were looked up, which were opened after the file
   pub keys_looked_up : (l : WantedLookups) (mid : OpenCalls) (file last : F) (inputs handed : Inputs I J) → mid ≡ (AtPlaces, l.name) ∷ calls_in files old → files.system.gives l.name file → OpensInputs files.system l.inputs inputs.readers.items mid (calls_in files new) → AreUnread files.feed inputs.readers.items → inputs.shared ≡ input.reader → left ≡ looked_left last handed
-      → FedLooksUp (lookup_task l.word l.greatest files.stores l.options) files.feed input.feed (lookup_state inputs file old.output) (lookup_state handed last new.output) result → PerformsLookups files l input old new left result
+      → LooksUp (lookup_task l.word l.greatest files.stores l.options) files.feed input.feed (lookup_state inputs file old.output) (lookup_state handed last new.output) result → PerformsLookups files l input old new left result
   keys_looked_up l mid file last inputs handed calls came opens unread shared back looks = inr (inr (record {
     file = file;
     came = came;

@@ -5,7 +5,7 @@ pub use Rattle.cdb_command.specs.Shown.{shown}
 pub use Rattle.cdb_feed.specs.Inputs.{AreUnread, IsUnread}
 pub use Rattle.cdb_feed.specs.declared.input_reader.InputReader.{InputReader}
 pub use Rattle.cdb_form.proofs.Bytes.WritingLemmas.{same_appends, same_writes}
-pub use Rattle.cdb_form.specs.Fed.Feed.{Feed, FromTo}
+pub use Rattle.cdb_form.specs.Views.Feed.{Feed, FromTo}
 pub use Rattle.cdb_form.specs.Format.Pair.{head_size}
 unfoldable pub use Rattle.cdb_form.specs.Format.Walk.{walk_of}
 pub use Rattle.cdb_form.specs.Views.KnownBytes.{AppendsPrefix}
@@ -13,7 +13,7 @@ pub use Rattle.cdb_form.specs.declared.damage.Damage.{Damage}
 pub use Rattle.cdb_names.specs.declared.name_fault.NameFault.{NameFault}
 pub use Rattle.cdb_names.specs.declared.refusal.Cause.{Cause}
 pub use Rattle.cdb_show.specs.Message.{fault_line}
-pub use Rattle.cdb_show.specs.Runs.FedText.{WritesFirst, WritesToDamage, WritesWalk, WritingFails}
+pub use Rattle.cdb_show.specs.Runs.WalkText.{WritesFirst, WritesToDamage, WritesWalk, WritingFails}
 pub use Rattle.cdb_show.specs.Runs.Form.{Form}
 pub use Rattle.cdb_show.specs.Status.{plain_status}
 pub use Rattle.cdb_show.specs.Views.Window.{window_feed}

@@ -1,5 +1,5 @@
 -- The files of a system.
-use Rattle.cdb_form.specs.Fed.Feed.{Feed}
+use Rattle.cdb_form.specs.Views.Feed.{Feed}
 use Rattle.cdb_store.specs.declared.store.Store.{Ghosts}
 use Rattle.cdb_system.specs.declared.system.System.{Ghosts as Systems}
 

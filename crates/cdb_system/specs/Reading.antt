@@ -2,7 +2,7 @@
 use Rattle.std.specs.Prelude.{ℕ, ◌≡◌, ◌⊎◌, ◌<◌, ◌≤◌, ⊤, List, ◌∷◌, length, Option, Result, Err, OnOk, IfErr}
 use Rattle.std.specs.Io.KnownBytes.{Keeps, Appends}
 use Rattle.cdb_feed.specs.Inputs.{AreUnread, IsUnread}
-use Rattle.cdb_form.specs.Fed.Feed.{Feed, FromTo}
+use Rattle.cdb_form.specs.Views.Feed.{Feed, FromTo}
 use Rattle.cdb_form.specs.Views.KnownBytes.{AppendsPrefix}
 use Rattle.cdb_form.specs.declared.walk.fault.WalkFault.TheVariants as walk
 use Rattle.cdb_store.specs.Contents.{contents}
@@ -12,11 +12,11 @@ use Rattle.cdb_store.specs.declared.store.Store.{Ghosts}
 use Rattle.cdb_show.specs.Runs.Check.{FindsSound, CheckingFails}
 use Rattle.cdb_show.specs.Runs.Difference.{TellsDifference, difference_state, difference_task}
 use Rattle.cdb_show.specs.Runs.Form.{Form}
-use Rattle.cdb_show.specs.Runs.FedLookups.{FedLooksUp}
+use Rattle.cdb_show.specs.Runs.Lookups.{LooksUp}
 use Rattle.cdb_show.specs.Runs.LookupTask.{lookup_state, lookup_task}
 use Rattle.cdb_show.specs.Runs.Query.{Queries}
 use Rattle.cdb_show.specs.Runs.Stats.{TellsStats}
-use Rattle.cdb_show.specs.Runs.FedText.{WritesWalk}
+use Rattle.cdb_show.specs.Runs.WalkText.{WritesWalk}
 use Rattle.cdb_show.specs.declared.fault.Fault.{Fault}
 use Rattle.cdb_show.specs.declared.fault.Fault.TheVariants.{Long, Open, NoMemory as NoRoom, Output, Walk}
 use Rattle.cdb_names.specs.declared.answer.Answer.TheVariants as looks
@@ -248,7 +248,7 @@ pub record LooksUpFile {F I J M N R Y : Type 0} (files : Files F I J M N R Y) (l
   pub last : F
   pub handed : Inputs I J
   pub are_last : left ≡ looked_left last handed
-  pub looks : FedLooksUp (lookup_task l.word l.greatest files.stores l.options) files.feed input.feed
+  pub looks : LooksUp (lookup_task l.word l.greatest files.stores l.options) files.feed input.feed
       (lookup_state inputs file old.output) (lookup_state handed last new.output) result
 
 -- an input was not opened, and nothing was written; the file is left as it came

@@ -1,6 +1,6 @@
 -- What a command is given, and what it has requested of the system and written so far.
 use Rattle.std.specs.Prelude.{ℕ, Bool, List, Option}
-use Rattle.cdb_form.specs.Fed.Feed.{Feed}
+use Rattle.cdb_form.specs.Views.Feed.{Feed}
 use Rattle.cdb_names.specs.Folder.{NameCalls}
 use Rattle.cdb_system.specs.Files.{Files}
 use Rattle.cdb_system.specs.Opening.{OpenCalls}

@@ -2,7 +2,7 @@
 use Rattle.std.specs.Prelude.{⊤, ℕ, List, [], ◌∷◌, ◌++◌, Option, Some, None}
 use Rattle.cdb_feed.specs.declared.input_reader.InputReader.{InputReader}
 use Rattle.cdb_feed.specs.declared.input_reader.InputReader.TheVariants.{Own, Shared}
-use Rattle.cdb_form.specs.Fed.Feed.{Feed}
+use Rattle.cdb_form.specs.Views.Feed.{Feed}
 use Rattle.cdb_system.specs.Opening.{OpenCalls}
 use Rattle.cdb_system.specs.declared.open_trace.OpenCall.{OpenCall}
 use Rattle.cdb_system.specs.declared.open_trace.OpenCall.TheVariants.{InTurn}

@@ -18,7 +18,7 @@ use cdb_command::Style;
 use cdb_form::{Feeds, PIPE, Sink, Width};
 use cdb_names::Answer;
 use cdb_show::{
-    Content, Fault, InWindow, Window, check_run, load_fed, query_run, stats_run, text_run_fed,
+    Content, Fault, InWindow, Window, check_run, load_from, query_run, stats_run, text_run,
 };
 use cdb_store::{MemStore, Store};
 use std::alloc::Global;
@@ -80,7 +80,7 @@ fn write_text<L: Width, F: Feeds + Drop, O: Sink>(
 {
     match Window::new(alloc, file, PIPE) {
         Ok(window) => {
-            let (window, answer) = text_run_fed::<L, _, O, InWindow>(
+            let (window, answer) = text_run::<L, _, O, InWindow>(
                 alloc, content, window, style, output,
             );
             (window.into_reader(), answer)
@@ -142,7 +142,7 @@ fn taken<L: Width, F: Feeds + Drop>(alloc: Global, stream: F) -> (F, Result<MemS
 {
     match Window::new(alloc, stream, PIPE) {
         Ok(mut window) => {
-            let taken = load_fed(alloc, &mut window, L::GREATEST);
+            let taken = load_from(alloc, &mut window, L::GREATEST);
             (window.into_reader(), taken)
         }
         Err(refused) => (refused.reader, Err(Fault::NoMemory)),

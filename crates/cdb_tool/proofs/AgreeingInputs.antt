@@ -3,8 +3,8 @@
 use Rattle.std.proofs.Common.{◌≡◌, ◌++◌, ◌∙◌, ℕ, zero, suc, List, [], ◌∷◌, length, map, refl, sym, ap, subst, arith, Option, None, Some, IfSome, Result}
 use Rattle.cdb_tool.proofs.Words.{AgreesWith, AreRead, AreUnread, BeginsSo, Change, CutShort, FailsSo, Fault, FirstAgree, HasFault, HasRead, InputReader, Inputs, IsUnread, NoMore, NotBegun, SharedWindow, Stop, StopsSo, TakesOne, TextFault, WereRead, feeds_of, one_input, parsing, reached, ⊤}
 use Rattle.std.proofs.lemmas.List.{length-map}
-use Rattle.cdb_form.specs.Fed.Feed.{Feed, FromTo, IsSome, Keeps, reader_feed}
-use Rattle.cdb_form.specs.Fed.Rests.{same_remaining}
+use Rattle.cdb_form.specs.Views.Feed.{Feed, FromTo, IsSome, Keeps, reader_feed}
+use Rattle.cdb_form.specs.Views.Rests.{same_remaining}
 use Rattle.cdb_form.specs.Views.KnownBytes.{FromTo as KnownFromTo}
 use Rattle.cdb_feed.specs.declared.input_reader.InputReader.TheVariants.{Own, Shared}
 use Rattle.cdb_show.specs.Runs.Inputs.{InputForm, InputsLeft, IsInputOf, OneInput, Own, bytes_of, own_inputs}
@@ -104,12 +104,11 @@ module _ {R S : Type 0} (own : R → Feed) (shared : S → Feed) where
     one_taken : (whole : Option (List ℕ)) (one : OneInput) (reader left : InputReader R) (old new : S) (rest : Option (List ℕ)) → IsKnown whole (shared old) → TakesOne own shared P reader left old new → OneFound own one reader left → IsLeft whole (shared new) rest → Before whole (shared old) (λ s. Takes P one s rest)
     one_taken whole (form.Own input) (Own reader) (Own left) old new rest known (f, kept) found is = record { left = rest; is = kept_left whole old new rest known kept is; holds = (own_taken input reader left f found, refl) }
     one_taken whole form.Shared Shared Shared old new rest known f found is = shared_taken whole old new rest known f is
-    one_taken whole (form.Own None) (Own reader) Shared old new rest known takes found is = absurd takes
-    one_taken whole (form.Own (Some bytes)) (Own reader) Shared old new rest known takes found is = absurd takes
     one_taken whole (form.Own None) Shared left old new rest known takes found is = absurd found
     one_taken whole (form.Own (Some bytes)) Shared left old new rest known takes found is = absurd found
     one_taken whole form.Shared (Own reader) left old new rest known takes found is = absurd found
     one_taken whole form.Shared Shared (Own left) old new rest known takes found is = absurd takes
+    one_taken whole one (Own reader) Shared old new rest known takes found is = absurd takes
 
   -- ---- the inputs, the last one first
 
@@ -157,12 +156,11 @@ module _ {R S : Type 0} (own : R → Feed) (shared : S → Feed) where
     all_stop (CutShort last) (one ∷ each) (reader ∷ before) (left ∷ after) old new rest known takes found long is =
         let b = one_taken (λ text rest. BeginsSo st g answer last text) whole one reader left old new rest known takes found.0 is in
         record { left = b.left; is = b.is; holds = begins_last last one each b.left rest b.holds }
-    all_stop (HasFault last fault) [] before after old new rest known takes found long is = absurd found
     all_stop (HasFault last fault) (one ∷ each) [] after old new rest known takes found long is = absurd takes
     all_stop (HasFault last fault) (one ∷ each) (reader ∷ before) [] old new rest known takes found long is = absurd takes
-    all_stop (CutShort last) [] before after old new rest known takes found long is = absurd found
     all_stop (CutShort last) (one ∷ each) [] after old new rest known takes found long is = absurd takes
     all_stop (CutShort last) (one ∷ each) (reader ∷ before) [] old new rest known takes found long is = absurd takes
+    all_stop stop [] before after old new rest known takes found long is = absurd found
 
     all_agree : (read : List (List Change)) (stop : Stop Change TextFault) (each : List OneInput) (before after : List (InputReader R)) (old new : S) (rest : Option (List ℕ)) → IsKnown whole (shared old) → AreRead own shared (parsing st g answer) read stop before after old new
         → FirstFound own (reached read stop) each before after → length each ≡ length before → IsLeft whole (shared new) rest → Before whole (shared old) (HasAll read stop each)

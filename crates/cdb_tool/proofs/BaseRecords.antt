@@ -224,13 +224,7 @@ make_says A O make.Writing = tt
 pub unopened_reads : {B : Type 0} (w : ℕ) (t : Ghosts B) (old new : B) (f : ReadFault) → OpeningFails w t old new f → OnlyReads t old new
 unopened_reads w t old new read.Short x = reads_nothing old new x.1
 unopened_reads w t old new read.Device x = x.0
-unopened_reads w t old new (read.Table n) x = absurd x
-unopened_reads w t old new (read.Record place) x = absurd x
-unopened_reads w t old new (read.Slot n k) x = absurd x
-unopened_reads w t old new (read.Twice place) x = absurd x
-unopened_reads w t old new (read.Unindexed place) x = absurd x
-unopened_reads w t old new read.NoMemory x = absurd x
-unopened_reads w t old new read.Output x = absurd x
+unopened_reads w t old new f x = absurd x
 
 unopened_so : {S L B : Type 0} {s : Ghosts S} {l : Widths L} (t : Ghosts B) (old new : B) (m : Maker S L s l) (f : ReadFault) → (l.WORD ≡ 4) ⊎ (l.WORD ≡ 8) → OpeningFails l.WORD t old new f → ((b : List ℕ) → t.image new b → length b ≡ t.size new) → Holds m [] → (b : List ℕ) → t.image new b → (a : List ℕ) → s.image m.store a
     → BaseFails l.WORD (limit_of m) b (read_fault f)

@@ -153,11 +153,9 @@ put_refused t cs i n r start mid old new f h x comes = record { each = λ b is. 
 
 -- a fault of the store comes only if it failed
 pub refused_store : {S L : Type 0} {s : Ghosts S} {l : Widths L} (old new : Maker S L s l) (mode : Mode) (r : KeyValue) (f : MakeFault) → FailsPutting old new mode r f → IsOfStore (make_fault f) → s.failures old.store < s.failures new.store
-refused_store old new mode r make.Broken x is = absurd is
 refused_store old new mode r make.Lookup x is = x.1
-refused_store old new mode r make.TooBig x is = absurd is
-refused_store old new mode r make.NoMemory x is = absurd is
 refused_store old new mode r make.Writing x is = elim x.0 [ inl stays ↦ stays.1.failed | inr torn ↦ torn.0.failed ]
+refused_store old new mode r f x is = absurd is
 
 -- ---- how far a run came that was halted
 
@@ -182,49 +180,32 @@ course_stands t cs start now m h = stands_so t cs start now m m h (record { each
 
 put_halted : {S L : Type 0} {s : Ghosts S} {l : Widths L} (t : Task) (cs : List Incoming) (r : KeyValue) (start mid : Option (List ℕ)) (old new : Maker S L s l) (f : MakeFault) → InCourse t cs start mid old → FailsPutting old new (mode_of t.options.make) r f
     → ComesFrom (s.image old.store) (s.image new.store) → told_count new ≡ told_count old → IsHalt (make_fault f) → MakeStandsAt t cs start mid new
-put_halted t cs r start mid old new make.Broken h x comes count is = absurd is
 put_halted t cs r start mid old new make.Lookup h x comes count is = stands_whole t cs start mid old new h comes count (rests_nothing old new x.0).stays
-put_halted t cs r start mid old new make.TooBig h x comes count is = absurd is
 put_halted t cs r start mid old new make.NoMemory h x comes count is = stands_whole t cs start mid old new h comes count x.0.stays
 put_halted t cs r start mid old new make.Writing h x comes count is = elim x.0 [
   | inl stays ↦ stands_whole t cs start mid old new h comes count stays.0
   | inr torn ↦ stands_broken t cs start mid old new h comes count torn.0.broken
 ]
+put_halted t cs r start mid old new f h x comes count is = absurd is
 
 removal_halted : {S L : Type 0} {s : Ghosts S} {l : Widths L} (t : Task) (cs : List Incoming) (key : List ℕ) (start now : Option (List ℕ)) (old new : Maker S L s l) (f : MakeFault) → InCourse t cs start now old → FailsRemoving old new key f
     → ComesFrom (s.image old.store) (s.image new.store) → told_count new ≡ told_count old → IsHalt (make_fault f) → MakeStandsAt t cs start now new
-removal_halted t cs key start now old new make.Broken h x comes count is = absurd is
 removal_halted t cs key start now old new make.Lookup h x comes count is = stands_whole t cs start now old new h comes count (rests_nothing old new x.0).stays
-removal_halted t cs key start now old new make.TooBig h x comes count is = absurd is
 removal_halted t cs key start now old new make.NoMemory h x comes count is = absurd x
 removal_halted t cs key start now old new make.Writing h x comes count is = stands_broken t cs start now old new h comes count x.broken
+removal_halted t cs key start now old new f h x comes count is = absurd is
 
 -- what a teller answers does not halt a run
 told_halts : (o : RunOptions) (i j : ℕ) (key : List ℕ) (put : Put) (old new : Option (List ℕ)) (f : Fault) → TellFails o (put_at i j key) put old new f → IsHalt f → ⊥
-told_halts o i j key put old new (Text n f) x is = absurd is
 told_halts o i j key put old new (Make f) x is = absurd x
-told_halts o i j key put old new (Walk f) x is = absurd is
-told_halts o i j key put old new Missing x is = absurd is
-told_halts o i j key put old new (Read f) x is = absurd is
-told_halts o i j key put old new Long x is = absurd is
-told_halts o i j key put old new Open x is = absurd is
-told_halts o i j key put old new Rename x is = absurd is
-told_halts o i j key put old new NoOldTables x is = absurd is
-told_halts o i j key put old new NoNewTables x is = absurd is
-told_halts o i j key put old new NoBaseTables x is = absurd is
-told_halts o i j key put old new (Old side) x is = absurd is
-told_halts o i j key put old new (New side) x is = absurd is
 told_halts o i j key put old new NoMemory x is = absurd x
-told_halts o i j key put old new Output x is = absurd is
-told_halts o i j key put old new Duplicate x is = absurd is
+told_halts o i j key put old new other_case x is = absurd is
 
 -- ---- a put that was refused memory
 
 goes_on : (o : RunOptions) (put : Put) → (put ≡ Present → ⊥) → ends o.make (Ok put) ≡ None
-goes_on o Added h = refl
-goes_on o AddedAgain h = refl
 goes_on o Present h = absurd (h refl)
-goes_on o (Replaced n) h = refl
+goes_on o put h = refl
 
 would_take : {S L : Type 0} {s : Ghosts S} {l : Widths L} (t : Task) (cs : List Incoming) (i n : ℕ) (r : KeyValue) (start mid : Option (List ℕ)) (old new : Maker S L s l) → InCourse t cs start mid old → WouldPut old new (mode_of t.options.make) r
     → ComesFrom (s.image old.store) (s.image new.store) → WhereHonest (s.image new.store) (TakesNext l.WORD t cs (putting i n r))

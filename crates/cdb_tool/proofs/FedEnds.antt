@@ -1,6 +1,6 @@
 -- How a run ends whose readers are handed back: for all inputs that agree with what was read, as its maker says.
-use Rattle.cdb_tool.proofs.Words.{AreAllInputs, ArePassed, AreRead, BeginsSo, Bool, Change, ComesFrom, Consumes, CutShort, Err, FailsFinishing, Fault, Feed, Flushed, Ghosts, HasFault, HasFaults, HasItemFault, Holds, InputForm, InputReader, Inputs, InputsLeft, IsFile, IsOfInput, IsOk, KeyValue, List, MakeFault, Maker, NoMore, NotBegun, Ok, Option, Result, RunOptions, SharedWindow, Stop, StopsSo, TakesOne, Task, TextFault, WhereHonest, [], ap, arith, came, drop, drop-length, feeds_of, from_weaker, inl, input_form, inr, is_some, length, limit_of, make_fault, not_ok, nothing_taken, parsing, progress, reached, refl, run_state, shared_feed, some_weaker, subst, sym, terms_of, ℕ, ◌+◌, ◌∙◌, ◌∷◌, ◌≡◌, ◌⊎◌}
-use Rattle.std.proofs.Common.{IfSome}
+use Rattle.cdb_tool.proofs.Words.{AreAllInputs, ArePassed, AreRead, BeginsSo, Bool, Change, ComesFrom, Consumes, CutShort, Err, FailsFinishing, Fault, Feed, Flushed, Ghosts, HasFault, HasFaults, HasItemFault, Holds, InputForm, InputReader, Inputs, InputsLeft, IsFile, IsOfInput, IsOk, KeyValue, List, MakeFault, Maker, NoMore, NotBegun, Ok, Option, Result, RunOptions, SharedWindow, Stop, StopsSo, TakesOne, Task, TextFault, WhereHonest, [], ap, arith, came, drop, drop-length, feeds_of, from_weaker, inl, input_form, inr, is_some, length, limit_of, make_fault, not_ok, nothing_taken, parsing, progress, reached, refl, run_state, shared_feed, subst, sym, terms_of, ℕ, ◌+◌, ◌∙◌, ◌∷◌, ◌≡◌, ◌⊎◌}
+use Rattle.std.proofs.Common.{IfSome, None, Some}
 use Rattle.std.specs.Vec.{with_items}
 use Rattle.std.proofs.lemmas.List.{with_items_is}
 use Rattle.cdb_store.specs.declared.make_fault.MakeFault.TheVariants as make
@@ -19,6 +19,10 @@ use Rattle.cdb_show.specs.declared.inputs.SharedWindow.TheVariants.{Unread}
 use Rattle.cdb_tool.proofs.FedRuns.{reached_whole, read_as}
 use Rattle.cdb_tool.proofs.InputRuns.{form_is}
 use Rattle.cdb_tool.proofs.RunEnds.{runs_flushed, runs_stopped, runs_unfinished, runs_whole}
+
+some_weaker : {A : Type 0} {P Q : A → Type 0} (o : Option A) → ((a : A) → P a → Q a) → IfSome o P → IfSome o Q
+some_weaker None f p = tt
+some_weaker (Some a) f p = f a p
 
 -- ---- the inputs
 
@@ -75,14 +79,13 @@ module _ (form : InputForm) (g : ℕ) (was is : Result Unit Fault) (none : IsNon
   takes_as own shared items Shared (Own left) old new takes = absurd takes
 
   stops_as : {R S : Type 0} (own : R → Feed) (shared : S → Feed) (stop : Stop Change TextFault) (before after : List (InputReader R)) (old new : S) → StopsSo own shared (parsing form g was) stop before after old new → StopsSo own shared (parsing form g is) stop before after old new
-  stops_as own shared NoMore before after old new stops = stops
-  stops_as own shared NotBegun before after old new stops = stops
   stops_as own shared (HasFault items fault) (reader ∷ before) (left ∷ after) old new takes = takes
   stops_as own shared (HasFault items fault) [] after old new takes = absurd takes
   stops_as own shared (HasFault items fault) (reader ∷ before) [] old new takes = absurd takes
   stops_as own shared (CutShort items) (reader ∷ before) (left ∷ after) old new takes = takes_as own shared items reader left old new takes
   stops_as own shared (CutShort items) [] after old new takes = absurd takes
   stops_as own shared (CutShort items) (reader ∷ before) [] old new takes = absurd takes
+  stops_as own shared stop before after old new stops = stops
 
   pub were_as : {J I : Type 0} (own : J → Feed) (shared : I → Feed) (read : List (List Change)) (stop : Stop Change TextFault) (before after : Inputs J I) → WereRead (feeds_of own shared) (parsing form g was) read stop before after → WereRead (feeds_of own shared) (parsing form g is) read stop before after
   were_as own shared read stop before after were = record {
@@ -94,10 +97,8 @@ module _ (form : InputForm) (g : ℕ) (was is : Result Unit Fault) (none : IsNon
   }
 
   stops_in_as : (stop : Stop Change TextFault) (rest : InputsLeft) → StopsIn form g was stop rest → StopsIn form g is stop rest
-  stops_in_as NoMore rest h = h
-  stops_in_as NotBegun rest h = h
-  stops_in_as (HasFault items fault) rest h = h
   stops_in_as (CutShort items) rest h = (h.0, h.1, some_weaker h.0 (λ input begins. begins_as items input begins) h.2)
+  stops_in_as stop rest h = h
 
   pub has_as : (read : List (List Change)) (stop : Stop Change TextFault) (inputs : InputsLeft) → HasRead form g was read stop inputs → HasRead form g is read stop inputs
   has_as read stop inputs h = record { rest = h.rest; are = h.are; stops = stops_in_as stop h.rest h.stops }

@@ -73,8 +73,7 @@ module _ {R S Item F : Type 0} (own : R → Feed) (shared : S → Feed) (p : Par
   first_stops : (stop : Stop Item F) (it left : InputReader R) (others left_others : List (InputReader R)) (mid new : S) → StopsSo own shared p stop (it ∷ []) (left ∷ []) mid new → StopsSo own shared p stop (it ∷ others) (left ∷ left_others) mid new
   first_stops NoMore it left others left_others mid new (none, kept) = absurd (let k : ◌≡◌ {A = List (InputReader R)} (it ∷ []) [] = none in cc)
   first_stops NotBegun it left others left_others mid new kept = kept
-  first_stops (HasFault items fault) it left others left_others mid new takes = takes
-  first_stops (CutShort items) it left others left_others mid new takes = takes
+  first_stops stop it left others left_others mid new takes = takes
 
   pub one_stops : (before now : List (InputReader R)) (it left : InputReader R) (old mid new : S) (i : ℕ) (read : List (List Item)) (stop : Stop Item F) → SoFar read before now old mid i → i < length now → it ≡ slice_index_or now i it
       → StopsSo own shared p stop (it ∷ []) (left ∷ []) mid new → AreRead own shared p read stop before (slice_set now i left) old new

@@ -1,6 +1,6 @@
 -- What a run read of an input through a window, whatever bytes agree with it.
 use Rattle.cdb_tool.proofs.Words.{BeginsSo, BeginsWithItems, Change, Err, FailsSo, Fault, Ghosts, HasItemFault, InputForm, InputReader, IsInputOf, IsOfInput, IsOfText, List, Maker, Ok, OnOk, Option, PutsStop, Result, RunOptions, SharedWindow, Some, StopsBehind, StopsInput, StopsSo, TakesOne, TextFault, [], came, feeds_of, parsing, progress, refl, shared_feed, stop_by, subst, sym, ℕ, ◌++◌, ◌∷◌, ◌≡◌}
-use Rattle.cdb_form.specs.Fed.Feed.{Consumes, Feed, FromTo, Keeps}
+use Rattle.cdb_form.specs.Views.Feed.{Consumes, Feed, FromTo, Keeps}
 use Rattle.cdb_form.specs.declared.text.fault.TextFault.TheVariants as text
 use Rattle.cdb_form.specs.declared.width.Width.{Ghosts as Widths}
 use Rattle.cdb_form.proofs.Fed.FeedLemmas.{from_behind, from_both, from_kept, from_taken, from_then, from_weaker, nothing_taken}

@@ -33,12 +33,8 @@ record SameText (n i : ℕ) (f g : TextFault) : Type 0 where
   other : f ≢ text.NoMemory
 
 same_text : (n i : ℕ) (f g : TextFault) → text_fault n f ≡ Text i g → SameText n i f g
-same_text n i (text.Syntax at) g e = record { input = cc; fault = cc; other = λ h. cc }
-same_text n i (text.Ended at) g e = record { input = cc; fault = cc; other = λ h. cc }
-same_text n i (text.Large at) g e = record { input = cc; fault = cc; other = λ h. cc }
-same_text n i text.Input g e = record { input = cc; fault = cc; other = λ h. cc }
-same_text n i text.Endless g e = record { input = cc; fault = cc; other = λ h. cc }
 same_text n i text.NoMemory g e = absurd (let no : ⊥ = cc in no)
+same_text n i f g e = record { input = cc; fault = cc; other = λ h. cc }
 
 -- whether an item was done with which a run stopped
 abbrev pub last_by : Fault → List Change → Change → List Change
@@ -96,12 +92,8 @@ module _ {F L : Type 0} (g : ℕ) (feed : F → Feed) where
 -- ---- the course up to a fault
 
 pub text_stopped : {S L : Type 0} {s : Ghosts S} {l : Widths L} (t : Task) (cs : List Incoming) (start now : Option (List ℕ)) (m : Maker S L s l) (n : ℕ) (f : TextFault) → InCourse t cs start now m → StoppedAt t cs start now m (text_fault n f)
-text_stopped t cs start now m n (text.Syntax at) h = record { stops = h.goes; stands = λ is. absurd is }
-text_stopped t cs start now m n (text.Ended at) h = record { stops = h.goes; stands = λ is. absurd is }
-text_stopped t cs start now m n (text.Large at) h = record { stops = h.goes; stands = λ is. absurd is }
-text_stopped t cs start now m n text.Input h = record { stops = h.goes; stands = λ is. absurd is }
-text_stopped t cs start now m n text.Endless h = record { stops = h.goes; stands = λ is. absurd is }
 text_stopped t cs start now m n text.NoMemory h = record { stops = h.goes; stands = λ is. course_stands t cs start now m h }
+text_stopped t cs start now m n f h = record { stops = h.goes; stands = λ is. absurd is }
 
 -- a run that had not ended has not met this end
 not_ended : (w : ℕ) (t : Task) (cs : List Incoming) (f : Fault) (start now : Option (List ℕ)) → (course_of w t cs).ended ≡ None → EndsSo w t cs f start now → ⊥

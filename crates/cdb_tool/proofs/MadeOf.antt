@@ -86,9 +86,6 @@ damaged_read w limit o images old new walk made fault (damage, is, has, fits) li
 base_stops : (w limit : ℕ) (o : RunOptions) (images : List ℕ → Type 0) (old new : Option (List ℕ)) (walk : Walked) (made : Made) (f : Fault) → NotAdded w limit walk f → Appends old new [] → ComesOf w o (unless_stopped (walk_fault w limit walk) made) images old new (Err f)
 base_stops w limit o images old new walk made (Make make.TooBig) h lines = stopped_base w o images old new (Make make.TooBig) _ (walk_fault w limit walk) made (large_base w limit walk h) refl lines
 base_stops w limit o images old new walk made (Make make.Writing) h lines = refused w o _ images old new _ tt (part_none o.names _ old new lines)
-base_stops w limit o images old new walk made (Make make.Lookup) h lines = absurd h
-base_stops w limit o images old new walk made (Make make.NoMemory) h lines = absurd h
-base_stops w limit o images old new walk made (Make make.Broken) h lines = absurd h
 base_stops w limit o images old new walk made (Read read.Device) h lines = refused w o _ images old new _ tt (part_none o.names _ old new lines)
 base_stops w limit o images old new walk made (Read read.Short) h lines = damaged_read w limit o images old new walk made read.Short h lines
 base_stops w limit o images old new walk made (Read (read.Table n)) h lines = damaged_read w limit o images old new walk made (read.Table n) h lines
@@ -99,19 +96,7 @@ base_stops w limit o images old new walk made (Read (read.Unindexed place)) h li
 base_stops w limit o images old new walk made (Read read.NoMemory) h lines = damaged_read w limit o images old new walk made read.NoMemory h lines
 base_stops w limit o images old new walk made (Read read.Output) h lines = damaged_read w limit o images old new walk made read.Output h lines
 base_stops w limit o images old new walk made NoMemory h lines = refused w o _ images old new _ tt (part_none o.names _ old new lines)
-base_stops w limit o images old new walk made (Text n f) h lines = absurd h
-base_stops w limit o images old new walk made Duplicate h lines = absurd h
-base_stops w limit o images old new walk made Missing h lines = absurd h
-base_stops w limit o images old new walk made (Walk f) h lines = absurd h
-base_stops w limit o images old new walk made Output h lines = absurd h
-base_stops w limit o images old new walk made Long h lines = absurd h
-base_stops w limit o images old new walk made Open h lines = absurd h
-base_stops w limit o images old new walk made Rename h lines = absurd h
-base_stops w limit o images old new walk made (Old f) h lines = absurd h
-base_stops w limit o images old new walk made (New f) h lines = absurd h
-base_stops w limit o images old new walk made NoOldTables h lines = absurd h
-base_stops w limit o images old new walk made NoNewTables h lines = absurd h
-base_stops w limit o images old new walk made NoBaseTables h lines = absurd h
+base_stops w limit o images old new walk made f h lines = absurd h
 
 some_base_stops : (w g : ℕ) (o : RunOptions) (base : Option (List ℕ)) (images : List ℕ → Type 0) (old new : Option (List ℕ)) (made : Made) (f : Fault) → BaseStops w o.make.limit base old new f → ComesOf w o (unless_stopped (base_fault w o.make.limit base) made) images old new (Err f)
 some_base_stops w g o None images old new made f h = absurd h.fails
@@ -159,20 +144,7 @@ stops_in w g t given cs more images old new (Make make.Lookup) e h = refused_in 
 stops_in w g t given cs more images old new (Make make.Writing) e h = refused_in w t given cs more images old new _ e tt (part_whole t.options.names _ old new h.lines)
 stops_in w g t given cs more images old new NoMemory e h = refused_in w t given cs more images old new _ e tt (part_whole t.options.names _ old new h.lines)
 stops_in w g t given cs more images old new Output e h = refused_in w t given cs more images old new _ e tt h
-stops_in w g t given cs more images old new (Make make.NoMemory) e h = absurd h
-stops_in w g t given cs more images old new (Make make.Broken) e h = absurd h
-stops_in w g t given cs more images old new (Text n f) e h = absurd h
-stops_in w g t given cs more images old new Missing e h = absurd h
-stops_in w g t given cs more images old new (Read f) e h = absurd h
-stops_in w g t given cs more images old new (Walk f) e h = absurd h
-stops_in w g t given cs more images old new Long e h = absurd h
-stops_in w g t given cs more images old new Open e h = absurd h
-stops_in w g t given cs more images old new Rename e h = absurd h
-stops_in w g t given cs more images old new (Old f) e h = absurd h
-stops_in w g t given cs more images old new (New f) e h = absurd h
-stops_in w g t given cs more images old new NoOldTables e h = absurd h
-stops_in w g t given cs more images old new NoNewTables e h = absurd h
-stops_in w g t given cs more images old new NoBaseTables e h = absurd h
+stops_in w g t given cs more images old new f e h = absurd h
 
 stopped_in : (w g : ℕ) (t : Task) (inputs : List (Option (List ℕ))) (shared : List ℕ) (left : InputsLeft) (images : List ℕ → Type 0) (old new : Option (List ℕ)) (f : Fault) → Known inputs shared left → MakeStops w g t left old new f
     → ComesOf w t.options (made_from w t (given_from (make_run.form_of t) g 1 inputs shared)) images old new (Err f)
@@ -231,21 +203,7 @@ inputs_stop w g t inputs shared left images old new (Text n (text.Large at)) k h
 inputs_stop w g t inputs shared left images old new (Text n text.Input) k h = reader_failed w g t inputs shared left images old new n _ k tt tt h
 inputs_stop w g t inputs shared left images old new (Text n text.Endless) k h = reader_failed w g t inputs shared left images old new n _ k tt tt h
 inputs_stop w g t inputs shared left images old new (Text n text.NoMemory) k h = absurd (h.memory refl)
-inputs_stop w g t inputs shared left images old new (Make f) k h = stopped_in w g t inputs shared left images old new _ k h
-inputs_stop w g t inputs shared left images old new Duplicate k h = stopped_in w g t inputs shared left images old new _ k h
-inputs_stop w g t inputs shared left images old new Missing k h = stopped_in w g t inputs shared left images old new _ k h
-inputs_stop w g t inputs shared left images old new (Read f) k h = stopped_in w g t inputs shared left images old new _ k h
-inputs_stop w g t inputs shared left images old new (Walk f) k h = stopped_in w g t inputs shared left images old new _ k h
-inputs_stop w g t inputs shared left images old new Output k h = stopped_in w g t inputs shared left images old new _ k h
-inputs_stop w g t inputs shared left images old new Long k h = stopped_in w g t inputs shared left images old new _ k h
-inputs_stop w g t inputs shared left images old new Open k h = stopped_in w g t inputs shared left images old new _ k h
-inputs_stop w g t inputs shared left images old new Rename k h = stopped_in w g t inputs shared left images old new _ k h
-inputs_stop w g t inputs shared left images old new NoMemory k h = stopped_in w g t inputs shared left images old new _ k h
-inputs_stop w g t inputs shared left images old new (Old f) k h = stopped_in w g t inputs shared left images old new _ k h
-inputs_stop w g t inputs shared left images old new (New f) k h = stopped_in w g t inputs shared left images old new _ k h
-inputs_stop w g t inputs shared left images old new NoOldTables k h = stopped_in w g t inputs shared left images old new _ k h
-inputs_stop w g t inputs shared left images old new NoNewTables k h = stopped_in w g t inputs shared left images old new _ k h
-inputs_stop w g t inputs shared left images old new NoBaseTables k h = stopped_in w g t inputs shared left images old new _ k h
+inputs_stop w g t inputs shared left images old new other_case k h = stopped_in w g t inputs shared left images old new _ k h
 
 -- ---- the run
 

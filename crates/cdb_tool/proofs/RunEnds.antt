@@ -27,17 +27,13 @@ not_made image size written failures w g o None inputs start old new make.NoMemo
 not_made image size written failures w g o None inputs start old new make.Writing h = inr (record { based = tt; fails = stops_none w g (task_of o None) inputs start (Make make.Writing) (goes_none w (task_of o None) start) })
 not_made image size written failures w g o (Some b) inputs start old new make.NoMemory h = inl (record { fails = tt; lines = appends_none start })
 not_made image size written failures w g o (Some b) inputs start old new make.Writing h = inl (record { fails = tt; lines = appends_none start })
-not_made image size written failures w g o x inputs start old new make.Broken h = absurd h
-not_made image size written failures w g o x inputs start old new make.Lookup h = absurd h
-not_made image size written failures w g o x inputs start old new make.TooBig h = absurd h
+not_made image size written failures w g o x inputs start old new f h = absurd h
 
 -- memory was refused, and the store has not failed
 pub unmade_memory : {S : Type 0} (image : S → List ℕ → Type 0) (size written failures : S → ℕ) (old new : S) (f : MakeFault) → MakingFault image size written failures old new f → make_fault f ≡ NoMemory → failures new ≡ failures old
 unmade_memory image size written failures old new make.NoMemory h e = h.3
 unmade_memory image size written failures old new make.Writing h e = absurd (let k : Make make.Writing ≡ NoMemory = e in cc)
-unmade_memory image size written failures old new make.Broken h e = absurd h
-unmade_memory image size written failures old new make.Lookup h e = absurd h
-unmade_memory image size written failures old new make.TooBig h e = absurd h
+unmade_memory image size written failures old new f h e = absurd h
 
 -- a fault of the store comes only if it failed
 pub unmade_store : {S : Type 0} (image : S → List ℕ → Type 0) (size written failures : S → ℕ) (old new : S) (f : MakeFault) → MakingFault image size written failures old new f → IsOfStore (make_fault f) → failures old < failures new
@@ -155,18 +151,16 @@ not_finished g t inputs read start now old new rs b make.TooBig are holds is goe
 
 -- a fault of the store comes only if it failed, and a fault of memory only if it did not
 pub unfinished_store : {S L : Type 0} {s : Ghosts S} {l : Widths L} (old new : Maker S L s l) (f : MakeFault) → FailsFinishing old new f → IsOfStore (make_fault f) → s.failures old.store < s.failures new.store
-unfinished_store old new make.Broken x is = absurd is
-unfinished_store old new make.NoMemory x is = absurd is
 unfinished_store old new make.Writing x is = elim x [ inl stays ↦ stays.1 | inr torn ↦ torn.3 ]
 unfinished_store old new make.Lookup x is = absurd x
 unfinished_store old new make.TooBig x is = absurd x
+unfinished_store old new f x is = absurd is
 
 pub unfinished_memory : {S L : Type 0} {s : Ghosts S} {l : Widths L} (old new : Maker S L s l) (f : MakeFault) → FailsFinishing old new f → make_fault f ≡ NoMemory → s.failures new.store ≡ s.failures old.store
 unfinished_memory old new make.NoMemory x e = x.1
 unfinished_memory old new make.Broken x e = absurd (let k : Make make.Broken ≡ NoMemory = e in cc)
 unfinished_memory old new make.Writing x e = absurd (let k : Make make.Writing ≡ NoMemory = e in cc)
-unfinished_memory old new make.Lookup x e = absurd x
-unfinished_memory old new make.TooBig x e = absurd x
+unfinished_memory old new f x e = absurd x
 
 pub runs_unfinished : {S L B : Type 0} {s : Ghosts S} {l : Widths L} (t : Ghosts B) (base : Option B) (g : ℕ) (o : RunOptions) (inputs : InputsLeft) (read : List (List Change)) (start now : Option (List ℕ)) (begun old new : Maker S L s l) (f : MakeFault)
     → (l.WORD ≡ 4) ⊎ (l.WORD ≡ 8) → HoldsBase l.WORD t base begun → limit_of begun ≡ o.make.limit → AreAllInputs (form.input_form o.make.style (is_some base)) g read inputs
@@ -198,23 +192,10 @@ stops_kept : (w : ℕ) (o : Task) (cs : List Incoming) (old mid new : Option (Li
 stops_kept w o cs old mid new (Make make.TooBig) h k = ends_kept w o cs _ old mid new h k
 stops_kept w o cs old mid new (Make make.Lookup) h k = goes_kept w o cs old mid new h k
 stops_kept w o cs old mid new (Make make.Writing) h k = goes_kept w o cs old mid new h k
-stops_kept w o cs old mid new (Make make.Broken) h k = absurd h
-stops_kept w o cs old mid new (Make make.NoMemory) h k = absurd h
 stops_kept w o cs old mid new Duplicate h k = ends_kept w o cs _ old mid new h k
 stops_kept w o cs old mid new NoMemory h k = goes_kept w o cs old mid new h k
 stops_kept w o cs old mid new Output h k = part_kept o.options.names _ old mid new h k
-stops_kept w o cs old mid new (Text n f) h k = absurd h
-stops_kept w o cs old mid new (Walk f) h k = absurd h
-stops_kept w o cs old mid new Missing h k = absurd h
-stops_kept w o cs old mid new (Read f) h k = absurd h
-stops_kept w o cs old mid new Long h k = absurd h
-stops_kept w o cs old mid new Open h k = absurd h
-stops_kept w o cs old mid new Rename h k = absurd h
-stops_kept w o cs old mid new NoOldTables h k = absurd h
-stops_kept w o cs old mid new NoNewTables h k = absurd h
-stops_kept w o cs old mid new NoBaseTables h k = absurd h
-stops_kept w o cs old mid new (Old side) h k = absurd h
-stops_kept w o cs old mid new (New side) h k = absurd h
+stops_kept w o cs old mid new f h k = absurd h
 
 stop_kept : (w g : ℕ) (o : Task) (inputs : InputsLeft) (old mid new : Option (List ℕ)) (f : Fault) → MakeStops w g o inputs old mid f → Keeps mid new → MakeStops w g o inputs old new f
 stop_kept w g o inputs old mid new f h k = record { read = h.read; last = h.last; rest = h.rest; are = h.are; begins = h.begins; stops = stops_kept w o (came h.read h.last) old mid new f h.stops k }

@@ -3,7 +3,7 @@ pub use Rattle.cdb_feed.specs.Inputs.{AgreesWith, AreRead, AreUnread, CutShort, 
 pub use Rattle.cdb_feed.specs.declared.input_reader.InputReader.{InputReader}
 pub use Rattle.cdb_form.proofs.Bytes.WritingLemmas.{appends_kept, appends_none}
 pub use Rattle.cdb_form.proofs.Fed.FeedLemmas.{from_weaker, nothing_taken}
-pub use Rattle.cdb_form.specs.Fed.Feed.{Consumes, Feed, FromTo}
+pub use Rattle.cdb_form.specs.Views.Feed.{Consumes, Feed, FromTo}
 pub use Rattle.cdb_form.specs.Format.File.{file_size}
 pub use Rattle.cdb_form.specs.Format.Record.{KeyValue}
 pub use Rattle.cdb_form.specs.Format.Walk.{Walked, with_first}
@@ -12,7 +12,6 @@ pub use Rattle.cdb_form.specs.Text.Amending.{Change, Putting, Removing}
 pub use Rattle.cdb_form.specs.Text.Map.{with_newlines}
 pub use Rattle.cdb_form.specs.Views.Pairs.{key_values}
 pub use Rattle.cdb_form.specs.Views.TextFault.{IsOfText, IsReadFault}
-pub use Rattle.cdb_form.specs.Views.TextReader.{unread}
 pub use Rattle.cdb_form.specs.declared.damage.Damage.{Damage}
 pub use Rattle.cdb_form.specs.declared.text.fault.TextFault.{TextFault}
 pub use Rattle.cdb_make.proofs.Callers.{follows_same, holds_fits}
@@ -25,7 +24,6 @@ pub use Rattle.cdb_read.specs.Views.Walk.{left_of}
 pub use Rattle.cdb_read.specs.Views.Walking.{record_in}
 pub use Rattle.cdb_read.specs.declared.fault.ReadFault.{ReadFault}
 pub use Rattle.cdb_show.proofs.ItemInputs.{GaveItems}
-pub use Rattle.cdb_show.proofs.NativeInputs.{some_weaker}
 pub use Rattle.cdb_show.proofs.Writers.{not_ok, prefix_kept, whole_prefix}
 pub use Rattle.cdb_show.specs.Message.{TellsEach, TellsPart, Told}
 pub use Rattle.cdb_show.specs.Runs.Flushed.{Flushed}

@@ -17,10 +17,11 @@ use std::test::Fail;
 #[test]
 fn the_first_record_of_a_text(rt: HostRuntime) -> Result<(), Fail> {
     let text: &[u8] = b"+3,5:one->Hello\n\n";
-    let record = first_record(rt.alloc(), text)?.ok_or("none")?;
-    assert!(rt; record.key.as_slice() == b"one".as_slice());
+    let (rest, record) = first_record(rt.alloc(), text);
+    let record = record?.ok_or("none")?;
+    assert!(rt; record.key.as_slice() == b"one".as_slice() && rest == b"\n".as_slice());
     let none: &[u8] = b"\n";
-    assert!(rt; matches!(first_record(rt.alloc(), none), Ok(None)));
+    assert!(rt; matches!(first_record(rt.alloc(), none), (_, Ok(None))));
     Ok(())
 }
 

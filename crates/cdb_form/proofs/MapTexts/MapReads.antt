@@ -2,9 +2,9 @@
 use Rattle.std.proofs.Common.{All, List, None, Option, Some, [], append_assoc, ap, arith, false, get_or, is_some, length, length-append, refl, subst, sym, take, true, ◌++◌, ◌+◌, ◌<◌, ◌∙◌, ◌∷◌, ◌≡◌, ◌≢◌, ◌≤◌, ℕ}
 use Rattle.cdb_form.proofs.Words.{All-append, All-nil, All-push, AllPass, BeginsWithLine, Consumes, Feed, IsAmidLines, IsAtEnd, IsIgnoredLine, IsLineOf, IsOfText, IsReadFault, IsSpent, Keeps, KeyValue, Kind, Lacks, Source, TextFault, behind_blanks, budget, eqb-true, flat_map-append, is_blank, is_newline, is_of, line_end, line_pair, with_newlines, ◌==◌}
 use Rattle.std.proofs.lemmas.List.{append-nil, length-take}
-use Rattle.cdb_form.specs.Fed.MapParser.{MovesRun, ReadsLine, ReadsPair, ReadsRun, ReadsToEnding, ReadsValue}
-use Rattle.cdb_form.specs.Fed.MapReader.{ReadsLinesOf}
-use Rattle.cdb_form.specs.Fed.Source.{LeavesAmid, Takes}
+use Rattle.cdb_form.specs.Views.MapParser.{MovesRun, ReadsLine, ReadsPair, ReadsRun, ReadsToEnding, ReadsValue}
+use Rattle.cdb_form.specs.Views.MapReader.{ReadsLinesOf}
+use Rattle.cdb_form.specs.Views.Source.{LeavesAmid, Takes}
 use Rattle.cdb_form.specs.declared.text.fault.TextFault.TheVariants.{Syntax, Ended, Large, Input, Endless, NoMemory}
 use Rattle.cdb_form.specs.declared.text.kind.Kind.TheVariants.{Blank, InLine, InWord}
 use Rattle.cdb_form.specs.declared.text.map_parser.LineRead.TheVariants.{Ignored, Last, Pair}

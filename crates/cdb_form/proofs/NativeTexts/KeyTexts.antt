@@ -1,7 +1,7 @@
 -- List texts: how a key is spelled, where its spelling stops, and what a reader answered.
 use Rattle.std.proofs.Common.{◌≡◌, ◌≢◌, ℕ, ◌≤◌, ◌+◌, List, [], ◌∷◌, ◌++◌, length, refl, sym, ap, subst, ◌∙◌, arith, append_assoc, lit≤, codes}
 use Rattle.cdb_form.proofs.Words.{AreBytes, Consumes, FailsIn, FailsItem, Feed, FromTo, IsAtEnd, IsNumeral, Keeps, Leaves, ListReader, ReadsBehind, SpellsKey, SpellsRemoval, TextFault, digits_value, seen, told}
-use Rattle.cdb_form.specs.Fed.ListReader.{Fails}
+use Rattle.cdb_form.specs.Views.ListReader.{Fails}
 use Rattle.cdb_form.specs.Views.ListReader.{HasFailed}
 use Rattle.cdb_form.specs.declared.text.fault.TextFault.TheVariants.{Syntax, Ended}
 use Rattle.cdb_form.proofs.Fed.FeedLemmas.{from_all, from_taken}

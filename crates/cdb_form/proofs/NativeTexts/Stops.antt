@@ -1,7 +1,7 @@
 -- Where a text stops being one of the form.
 use Rattle.cdb_form.proofs.Words.{AreBytes, Change, Consumes, FailsByte, FailsEntry, FailsField, FailsItem, FailsNumber, Feed, FromTo, HasFault, HasNoItem, HasNoText, IsAtEnd, IsNumeral, IsOfText, IsPrefix, IsRecord, Keeps, KeyValue, List, LongestPrefix, Putting, Reads, Removing, Spells, SpellsChange, SpellsRemoval, TextFault, [], ap, append-nil, append_assoc, arith, digit_value, digits_push, digits_value, digits_value_push, get_or, inl, inr, length, length-append, lit≤, refl, seen, subst, suc, sym, take, take_all, take_at, told, zero, ℕ, ◌*◌, ◌++◌, ◌+◌, ◌<◌, ◌∙◌, ◌∷◌, ◌≡◌, ◌≢◌, ◌≤◌, ◌⊎◌}
 use Rattle.std.specs.Prelude.{⊤, Bool, true, false}
-use Rattle.cdb_form.specs.Fed.FormReader.{IsFaultOf}
+use Rattle.cdb_form.specs.Views.FormReader.{IsFaultOf}
 use Rattle.cdb_form.specs.declared.text.fault.TextFault.TheVariants.{Syntax, Ended, Large, Input, Endless, NoMemory}
 use Rattle.cdb_form.proofs.Bytes.ByteLemmas.{AreBytes-nil}
 use Rattle.cdb_form.proofs.Fed.FeedLemmas.{from_all, from_both, from_taken, from_weaker}

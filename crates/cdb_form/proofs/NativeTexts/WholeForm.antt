@@ -1,10 +1,10 @@
 -- A whole text of a form, item after item.
-use Rattle.cdb_form.proofs.Words.{AllByRecursion, IfSome, IsOfText, IsReadFault, List, None, Option, Some, TextFault, Took, [], ap, append_assoc, arith, digit_value, flat_map, get_or, length, length-append, refl, subst, sym, take, ℕ, ⊤, ◌++◌, ◌+◌, ◌-◌, ◌∙◌, ◌∷◌, ◌≡◌, ◌≤◌}
+use Rattle.cdb_form.proofs.Words.{AllByRecursion, List, TextFault, [], ap, append_assoc, arith, digit_value, flat_map, get_or, length, length-append, refl, subst, sym, take, ℕ, ◌++◌, ◌+◌, ◌-◌, ◌∙◌, ◌∷◌, ◌≡◌, ◌≤◌}
 use Rattle.std.proofs.Math.Seq.{take-append-add}
 use Rattle.std.proofs.lemmas.List.{get_or-append-add, length-take-le}
 use Rattle.cdb_form.specs.declared.text.fault.TextFault.TheVariants.{Syntax, Ended, Large, Input, Endless, NoMemory}
 use Rattle.cdb_form.specs.Laws.Text.{IsReadAs}
-use Rattle.cdb_form.specs.Views.FormReader.{ReadsItem, StopsAmid}
+use Rattle.cdb_form.specs.Views.FormReader.{StopsAmid}
 use Rattle.cdb_form.specs.Text.Form.{Spelled, Reads, HasNoItem, WholeItems, IsPrefix, HasNoText, LongestPrefix, LiftsLength, HasFault}
 use Rattle.cdb_form.proofs.NativeTexts.Spelling.{IsSpelling}
 
@@ -110,34 +110,21 @@ fault_behind S s g (i ∷ xs) from to t x f (first, more, sp, e, reads) long h =
     let inside = fault_behind S s g xs (from + length first) to more x f reads (omega (arith, long, all)) h in
     subst (λ u. HasFault S g from u f) (sym e) (fault_behind_one S s g from (from + length first) first more i f sp refl inside)
 
--- ---- what a reader lost, if its bytes are known
+-- ---- what was taken of a text
 
--- it lost the spelling of these items
-abbrev pub SoFar : {X : Type 0} → (ℕ → List ℕ → X → Type 0) → ℕ → Option (List ℕ) → Option (List ℕ) → ℕ → List X → Type 0
-SoFar S g None new taken xs = ⊤
-SoFar S g (Some t) None taken xs = ⊥
-SoFar S g (Some t) (Some mid) taken xs = Spelled S g xs t mid × (taken + length mid ≡ length t)
+-- it is the spelling of these items
+abbrev pub SoFar : {X : Type 0} → (ℕ → List ℕ → X → Type 0) → ℕ → (text rest : List ℕ) → ℕ → List X → Type 0
+SoFar S g text rest taken xs = Spelled S g xs text rest × (taken + length rest ≡ length text)
 
-pub so_far_none : {X : Type 0} (S : ℕ → List ℕ → X → Type 0) (g : ℕ) (o n : Option (List ℕ)) → n ≡ o → SoFar S g o n 0 []
-so_far_none S g None n e = tt
-so_far_none S g (Some t) n e = subst (λ n. SoFar S g (Some t) n 0 []) (sym e) (refl, omega arith)
-
-pub so_far_more : {X : Type 0} (S : ℕ → List ℕ → X → Type 0) (g : ℕ) (o m n : Option (List ℕ)) (from to : ℕ) (xs : List X) (i : X) → SoFar S g o m from xs → ReadsItem S g m n from to i → SoFar S g o n to (xs ++ i ∷ [])
-so_far_more S g None m n from to xs i a b = tt
-so_far_more S g (Some t) None n from to xs i a b = absurd a
-so_far_more S g (Some t) (Some m) None from to xs i a b = absurd b.read
-so_far_more S g (Some t) (Some m) (Some n) from to xs i a b =
-    let split : m ≡ b.text ++ n = b.read in
-    (spelled_push S g xs i t m b.text n a.0 b.spells split, omega (arith, a.1, b.counted, ap length split, length-append b.text n))
+pub so_far_more : {X : Type 0} (S : ℕ → List ℕ → X → Type 0) (g : ℕ) (t m n first : List ℕ) (from to : ℕ) (xs : List X) (i : X) → SoFar S g t m from xs → S g first i → m ≡ first ++ n → to ≡ from + length first → SoFar S g t n to (xs ++ i ∷ [])
+so_far_more S g t m n first from to xs i a spells split counted =
+    (spelled_push S g xs i t m first n a.0 spells split, omega (arith, a.1, counted, ap length split, length-append first n))
 
 -- a fault of what is left is one of the whole, and these were all of its items
-pub so_far_fault : {X : Type 0} (S : ℕ → List ℕ → X → Type 0) → IsSpelling S → (g : ℕ) (o m : Option (List ℕ)) (taken : ℕ) (xs : List X) (f : TextFault) → SoFar S g o m taken xs
-    → IfSome m (λ mid. HasFault S g taken mid f) → IfSome m (λ mid. IsOfText f → HasNoItem S g mid)
-    → IfSome o (λ t. IsOfText f → ((rest : List ℕ) × WholeItems S g t xs rest) × HasFault S g 0 t f)
-so_far_fault S s g None m taken xs f a b none = tt
-so_far_fault S s g (Some t) None taken xs f a b none = absurd a
-so_far_fault S s g (Some t) (Some m) taken xs f a b none = λ of_text.
-    ((m, record { spelled = a.0; no_more = none of_text }), fault_behind S s g xs 0 taken t m f a.0 (omega (arith, a.1)) b)
+pub so_far_fault : {X : Type 0} (S : ℕ → List ℕ → X → Type 0) → IsSpelling S → (g : ℕ) (t m : List ℕ) (taken : ℕ) (xs : List X) (f : TextFault) → SoFar S g t m taken xs
+    → HasFault S g taken m f → HasNoItem S g m → ((rest : List ℕ) × WholeItems S g t xs rest) × HasFault S g 0 t f
+so_far_fault S s g t m taken xs f a b none =
+    ((m, record { spelled = a.0; no_more = none }), fault_behind S s g xs 0 taken t m f a.0 (omega (arith, a.1)) b)
 
 -- ---- a part that a reader gave before it failed
 
@@ -183,13 +170,8 @@ part_ends S s g from to k t mid xs sp long e few has none =
     }
 
 -- what was read of a text whose reader failed is no longer than the text, and ends early
-pub so_far_part : {X : Type 0} (S : ℕ → List ℕ → X → Type 0) → IsSpelling S → (g : ℕ) (o m n : Option (List ℕ)) (from to : ℕ) (xs : List X) (f : TextFault) → SoFar S g o m from xs → Took m n from to
-    → IfSome m (λ mid. IsReadFault f → StopsAmid S g from to mid) → IfSome o (λ t. IsReadFault f → (to ≤ length t) × EndsBehind S g (take to t) xs to)
-so_far_part S s g None m n from to xs f a took b = tt
-so_far_part S s g (Some t) None n from to xs f a took b = absurd a
-so_far_part S s g (Some t) (Some m) None from to xs f a took b = absurd took.read
-so_far_part S s g (Some t) (Some m) (Some n) from to xs f a took b = λ is.
-    let split : m ≡ took.bytes ++ n = took.read in
-    let stops = b is in
-    let few : length took.bytes ≤ length m = omega (arith, ap length split, length-append took.bytes n) in
-    (omega (arith, few, a.1, took.counted), part_ends S s g from to (length took.bytes) t m xs a.0 a.1 took.counted few stops.front stops.no_record)
+pub so_far_part : {X : Type 0} (S : ℕ → List ℕ → X → Type 0) → IsSpelling S → (g : ℕ) (t m n bytes : List ℕ) (from to : ℕ) (xs : List X) → SoFar S g t m from xs → m ≡ bytes ++ n → to ≡ from + length bytes
+    → StopsAmid S g from to m → (to ≤ length t) × EndsBehind S g (take to t) xs to
+so_far_part S s g t m n bytes from to xs a split counted stops =
+    let few : length bytes ≤ length m = omega (arith, ap length split, length-append bytes n) in
+    (omega (arith, few, a.1, counted), part_ends S s g from to (length bytes) t m xs a.0 a.1 counted few stops.front stops.no_record)

@@ -1,7 +1,7 @@
 -- What the head that was read says of the walk of the whole file.
 use Rattle.cdb_form.proofs.Words.{Consumes, Feed, FromTo, KeyValue, List, WalkFault, Walked, WordPair, ap, append_assoc, arith, damaged, drop, empty_slot, fill_by_all, first_table_at, get_or-map-range_with_len, head_at, head_size, inl, inr, least_place, length, length-append, length-drop, length-map-range_with_len, map, mul-le-mul_left, nth_pair, pair_at, pair_size, range_with_len, record_end, replicate, stopped_by, sym, take, walk_from, walk_of, ℕ, ◌*◌, ◌++◌, ◌+◌, ◌<◌, ◌∙◌, ◌≡◌, ◌≤◌, ◌⊎◌}
 use Rattle.std.proofs.lemmas.List.{take-append-le, drop-append-le, drop_at}
-use Rattle.cdb_form.specs.Fed.Taking.{LosesFewer, ReadsFirst, ReadsHead, ReadsNoRecord}
+use Rattle.cdb_form.specs.Views.Taking.{LosesFewer, ReadsFirst, ReadsHead, ReadsNoRecord}
 use Rattle.cdb_form.proofs.Fed.FeedLemmas.{consumes_then, from_taken, from_weaker}
 use Rattle.cdb_form.specs.declared.walk.fault.WalkFault.TheVariants.{Short}
 use Rattle.cdb_form.specs.declared.damage.Damage.TheVariants.{Table}

@@ -1,6 +1,6 @@
 -- A record of a database file at the start of some bytes that are at hand.
 use Rattle.cdb_form.proofs.Words.{Consumes, Feed, FromTo, Header, IsStored, KeyValue, List, ReadsFirst, RecordReader, WordPair, ap, arith, drop, drop-drop, drop-take, header_pair, length, length-append, length-drop, length-take, length-take-le, pair_at, prefix_record, prefix_size, record_size, subst, sym, take, take-append-drop, take-take, take_all, walk_from, with_first, ℕ, ◌*◌, ◌++◌, ◌+◌, ◌-◌, ◌<◌, ◌∙◌, ◌≡◌, ◌≤◌}
-use Rattle.cdb_form.specs.Fed.RecordReader.{GivesRecord}
+use Rattle.cdb_form.specs.Views.RecordReader.{GivesRecord}
 use Rattle.cdb_form.specs.Views.RecordReader.{HasPeeked}
 use Rattle.cdb_form.specs.declared.walk.record_area.RecordArea.{RecordArea}
 use Rattle.cdb_form.specs.declared.walk.record_reader.Progress.{Progress}

@@ -2,9 +2,9 @@
 use Rattle.cdb_form.proofs.Words.{Feed, FromTo, KeyValue, List, Record, RecordReader, WalkFault, Walked, ap, arith, behind_records, drop, drop-drop, drop_at, head_size, inl, inr, key_value, length, no_walk, record_end, refl, subst, sym, take, take-append-drop, walk_from, walk_of, with_first, ℕ, ◌++◌, ◌+◌, ◌-◌, ◌∙◌, ◌≡◌, ◌≤◌}
 use Rattle.std.specs.Prelude.{max, Bool, true, false, MatchBool}
 use Rattle.std.specs.Bool.{OnTrue, OnFalse}
-use Rattle.cdb_form.specs.Fed.RecordReader.{GivesKept, GivesRecord}
+use Rattle.cdb_form.specs.Views.RecordReader.{GivesKept, GivesRecord}
 use Rattle.cdb_form.specs.declared.walk.keeping.Keeping.TheVariants.{Both}
-use Rattle.cdb_form.specs.Fed.Taking.{LosesAtMost, ReadsNoFurther}
+use Rattle.cdb_form.specs.Views.Taking.{LosesAtMost, ReadsNoFurther}
 use Rattle.cdb_form.specs.Views.KnownBytes.{StillFrom}
 use Rattle.cdb_form.specs.Views.WalkFault.{IsDamage, stopped_by}
 use Rattle.cdb_form.specs.declared.walk.fault.WalkFault.TheVariants.{Short, Table, Record as Cut, Input, NoMemory}

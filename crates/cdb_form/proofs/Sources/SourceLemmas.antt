@@ -2,13 +2,13 @@
 use Rattle.cdb_form.proofs.Words.{AllDigits, AreBytes, Consumes, Feed, FromTo, IsAtEnd, IsNumeral, IsRecord, KeyValue, Leaves, List, ReadsBehind, Source, Spells, SpellsRemoval, TextFault, [], ap, append_assoc, arith, budget, codes, digit_value, digits_push, digits_value, digits_value_push, length, length-append, refl, subst, sym, take, take_at, ℕ, ◌*◌, ◌++◌, ◌+◌, ◌-◌, ◌<◌, ◌∙◌, ◌∷◌, ◌≡◌, ◌≢◌, ◌≤◌}
 use Rattle.cdb_form.proofs.Bytes.ByteLemmas.{AreBytes-front}
 use Rattle.cdb_form.specs.declared.text.fault.TextFault.TheVariants.{Syntax, Ended, Large, Input, Endless, NoMemory}
-use Rattle.cdb_form.specs.Fed.Taking.{Took}
+use Rattle.cdb_form.specs.Views.Taking.{Took}
 use Rattle.cdb_form.proofs.Fed.FeedLemmas.{consumes_then, from_all, from_behind, from_taken, from_weaker}
 use Rattle.cdb_form.proofs.Files.Prefixes.{take_past}
 use Rattle.cdb_form.specs.declared.reading.ReadStop.{ReadStop}
 use Rattle.cdb_form.specs.declared.reading.ReadStop.TheVariants as unread
 use Rattle.cdb_form.specs.Views.TextFault.{IsReadFault, IsSpent, LastRead, unread_fault}
-use Rattle.cdb_form.specs.Fed.FormReader.{ReadsItem}
+use Rattle.cdb_form.specs.Views.FormReader.{ReadsItem}
 use Rattle.cdb_form.specs.Views.NativeParser.{FailsBytes, FailsField, seen, told}
 
 -- digits were read that spell a value

@@ -2,13 +2,14 @@
 use Rattle.std.specs.Prelude.{ℕ, List, ◌+◌, ◌*◌, Option}
 use Rattle.cdb_form.specs.Format.Record.{KeyValue}
 use Rattle.cdb_form.specs.Text.Amending.{Change, SpellsChange}
-use Rattle.cdb_form.specs.Views.FormReader as form
 use Rattle.cdb_form.specs.declared.text.fault.TextFault.{TextFault}
 use Rattle.cdb_form.specs.declared.text.amend_reader.AmendReader.{AmendReader}
+use Rattle.cdb_form.specs.Views.Feed.{Feed}
+use Rattle.cdb_form.specs.Views.FormReader as form
 
--- the bytes that its reader has left, if they are known
-abbrev pub unread : {R L : Type 0} → (R → Option (List ℕ)) → AmendReader R L → Option (List ℕ)
-unread remaining t = form.unread remaining t.items
+-- its reader
+abbrev pub reader_of : {R L : Type 0} → AmendReader R L → R
+reader_of t = form.reader_of t.items
 
 -- how many bytes it read
 abbrev pub taken_of : {R L : Type 0} → AmendReader R L → ℕ
@@ -40,7 +41,7 @@ abbrev pub StopsAmid : ℕ → ℕ → ℕ → List ℕ → Type 0
 StopsAmid greatest from to text = form.StopsAmid SpellsChange greatest from to text
 
 -- these bytes spell the change
-abbrev pub ReadsChange : ℕ → Option (List ℕ) → Option (List ℕ) → ℕ → ℕ → Change → Type 0
+abbrev pub ReadsChange : ℕ → Feed → Feed → ℕ → ℕ → Change → Type 0
 ReadsChange greatest old new from to change =
     form.ReadsItem SpellsChange greatest old new from to change
 
@@ -49,24 +50,24 @@ abbrev pub budget : {R L : Type 0} → AmendReader R L → ℕ
 budget t = asks_left t + 1001 * taken_of t
 
 -- a call gave a change, which was spelled by what was unread
-abbrev pub GivesChange : {R L : Type 0} → ℕ → (R → Option (List ℕ)) → AmendReader R L
+abbrev pub GivesChange : {R L : Type 0} → ℕ → (R → Feed) → AmendReader R L
     → AmendReader R L → Change → Type 0
-GivesChange greatest remaining old new change =
-    form.GivesItem SpellsChange greatest remaining old.items new.items change
+GivesChange greatest feed old new change =
+    form.GivesItem SpellsChange greatest feed old.items new.items change
 
 -- a call reported the end: the first such call took the newline that ends the text
-abbrev pub GivesEnd : {R L : Type 0} → (R → Option (List ℕ)) → AmendReader R L
+abbrev pub GivesEnd : {R L : Type 0} → (R → Feed) → AmendReader R L
     → AmendReader R L → Type 0
-GivesEnd remaining old new = form.GivesEnd remaining old.items new.items
+GivesEnd feed old new = form.GivesEnd feed old.items new.items
 
 -- a reader met a fault of an amending text
-abbrev pub MeetsFault : {R L : Type 0} → ℕ → (R → Option (List ℕ)) → AmendReader R L
+abbrev pub MeetsFault : {R L : Type 0} → ℕ → (R → Feed) → AmendReader R L
     → AmendReader R L → TextFault → Type 0
-MeetsFault greatest remaining old new fault =
-    form.MeetsFault SpellsChange greatest remaining old.items.source new.items.source fault
+MeetsFault greatest feed old new fault =
+    form.MeetsFault SpellsChange greatest feed old.items.source new.items.source fault
 
 -- a call answered a fault, as every later one will
-abbrev pub Fails : {R L : Type 0} → ℕ → (R → Option (List ℕ)) → AmendReader R L
+abbrev pub Fails : {R L : Type 0} → ℕ → (R → Feed) → AmendReader R L
     → AmendReader R L → TextFault → Type 0
-Fails greatest remaining old new fault =
-    form.Fails SpellsChange greatest remaining old.items new.items fault
+Fails greatest feed old new fault =
+    form.Fails SpellsChange greatest feed old.items new.items fault

@@ -1,24 +1,20 @@
 -- What a clause reads of a reader of a text of some form, whose items are spelled as `spelling` says.
-use Rattle.std.specs.Io.KnownBytes.{Consumes}
-use Rattle.std.specs.Prelude.{ℕ, List, ◌+◌, ◌-◌, ◌<◌, ◌≤◌, length, take, Option, ◌≡◌, ◌≢◌, IfSome}
-use Rattle.std.specs.Prelude.{Bool, true, false, codes}
+use Rattle.std.specs.Prelude.{ℕ, List, ◌+◌, ◌-◌, ◌<◌, ◌≤◌, length, take, ◌≡◌, Bool, true, false}
+use Rattle.std.specs.Prelude.{codes}
 use Rattle.cdb_form.specs.Format.Record.{KeyValue}
 use Rattle.cdb_form.specs.Text.Amending.{SpellsChange}
 use Rattle.cdb_form.specs.Text.Form.{HasFault, HasNoItem}
 use Rattle.cdb_form.specs.Text.Native.{Spells}
 use Rattle.cdb_form.specs.Views.Prefix.{BeginsWithRecord}
-use Rattle.cdb_form.specs.Views.KnownBytes.{Took}
 use Rattle.cdb_form.specs.Views.Source.{at_hand, budget}
 use Rattle.cdb_form.specs.Views.TextFault.{IsOfText, IsReadFault, IsSpent, LastRead}
 use Rattle.cdb_form.specs.declared.text.fault.TextFault.{TextFault}
-use Rattle.cdb_form.specs.declared.text.fault.TextFault.TheVariants.{Ended, NoMemory}
+use Rattle.cdb_form.specs.declared.text.fault.TextFault.TheVariants.{Ended}
 use Rattle.cdb_form.specs.declared.text.form_reader.FormReader.{FormReader}
 use Rattle.cdb_form.specs.declared.text.going.Going.TheVariants.{On, AtEnd, Failed}
 use Rattle.cdb_form.specs.declared.text.source.Source.{Source}
-
--- the bytes that its reader has left, if they are known
-abbrev pub unread : {R L : Type 0} → (R → Option (List ℕ)) → FormReader R L → Option (List ℕ)
-unread remaining t = remaining t.source.reader
+use Rattle.cdb_form.specs.Views.Feed.{Feed, Consumes, FromTo}
+use Rattle.cdb_form.specs.Views.Taking.{Took}
 
 -- its reader
 abbrev pub reader_of : {R L : Type 0} → FormReader R L → R
@@ -59,56 +55,58 @@ pub record StopsAmid {X : Type 0} (spelling : ℕ → List ℕ → X → Type 0)
 
 -- these bytes spell the item
 pub record ReadsItem {X : Type 0} (spelling : ℕ → List ℕ → X → Type 0) (greatest : ℕ)
-    (old new : Option (List ℕ)) (from to : ℕ) (x : X) : Type 0 where
+    (old new : Feed) (from to : ℕ) (x : X) : Type 0 where
   pub text : List ℕ
   pub spells : spelling greatest text x
   pub read : Consumes old new text
   pub counted : to ≡ from + length text
 
--- A reader met a fault: one of the text, in all that was unread; or it failed or got too many
--- requests, and what it gave is the start of a text. No whole item is there. What was read ends with
--- the byte at the fault's place, and is gone.
+-- A fault is one of a text, from the count `from` on; or the reader failed or got too many requests,
+-- and what was read up to the count `to` is the start of a text. No whole item is there.
+pub record IsFaultOf {X : Type 0} (spelling : ℕ → List ℕ → X → Type 0) (greatest from to : ℕ)
+    (text : List ℕ) (fault : TextFault) : Type 0 where
+  pub exact : HasFault spelling greatest from text fault
+  pub no_record : IsOfText fault → HasNoItem spelling greatest text
+  pub part : IsReadFault fault → StopsAmid spelling greatest from to text
+
+-- A reader met a fault of what was left. What was taken ends with the byte at the fault's place.
 pub record MeetsFault {R X : Type 0} (spelling : ℕ → List ℕ → X → Type 0) (greatest : ℕ)
-    (remaining : R → Option (List ℕ)) (old new : Source R) (fault : TextFault) : Type 0 where
-  pub exact : IfSome (remaining old.reader) (λ text. HasFault spelling greatest old.taken text fault)
-  pub no_record : IfSome (remaining old.reader)
-      (λ text. IsOfText fault → HasNoItem spelling greatest text)
-  pub part : IfSome (remaining old.reader)
-      (λ text. IsReadFault fault → StopsAmid spelling greatest old.taken new.taken text)
-  pub took : fault ≢ NoMemory
-      → Took (remaining old.reader) (remaining new.reader) old.taken new.taken
+    (feed : R → Feed) (old new : Source R) (fault : TextFault) : Type 0 where
+  pub of : FromTo (feed old.reader) (feed new.reader)
+      (λ text rest. IsFaultOf spelling greatest old.taken new.taken text fault)
+  pub took : Took (feed old.reader) (feed new.reader) old.taken new.taken
   pub last : LastRead new.taken fault
   pub spent : IsSpent new.asks fault
   pub spends : budget old ≤ budget new + 1001
 
--- a call gave an item, which was spelled by what was unread
+-- a call gave an item, which was spelled by what was left
 pub record GivesItem {R L X : Type 0} (spelling : ℕ → List ℕ → X → Type 0) (greatest : ℕ)
-    (remaining : R → Option (List ℕ)) (old new : FormReader R L) (x : X) : Type 0 where
-  pub reads : ReadsItem spelling greatest (unread remaining old) (unread remaining new)
-      (taken_of old) (taken_of new) x
+    (feed : R → Feed) (old new : FormReader R L) (x : X) : Type 0 where
+  pub reads : ReadsItem spelling greatest (feed old.source.reader) (feed new.source.reader)
+      old.source.taken new.source.taken x
   pub going : IsGoing new
   pub fewer : asks_left new < asks_left old
   pub spends : budget old.source ≤ budget new.source
 
 -- a call reported the end: the first such call took the newline that ends the text
-pub record Ends {R : Type 0} (remaining : R → Option (List ℕ)) (Going Ended : Type 0) (old new : Source R) :
+pub record Ends {R : Type 0} (feed : R → Feed) (Going Ended : Type 0) (old new : Source R) :
     Type 0 where
   pub ended : Ended
-  pub newline : Going → Consumes (remaining old.reader) (remaining new.reader) (codes "\n")
+  pub newline : Going → Consumes (feed old.reader) (feed new.reader) (codes "\n")
   pub counted : Going → new.taken ≡ old.taken + 1
   pub spends : budget old ≤ budget new
 
-abbrev pub GivesEnd : {R L : Type 0} → (R → Option (List ℕ)) → FormReader R L → FormReader R L → Type 0
-GivesEnd remaining old new = Ends remaining (IsGoing old) (HasEnded new) old.source new.source
+abbrev pub GivesEnd : {R L : Type 0} → (R → Feed) → FormReader R L → FormReader R L → Type 0
+GivesEnd feed old new = Ends feed (IsGoing old) (HasEnded new) old.source new.source
 
 -- a call answered a fault, as every later one will
 pub record Fails {R L X : Type 0} (spelling : ℕ → List ℕ → X → Type 0) (greatest : ℕ)
-    (remaining : R → Option (List ℕ)) (old new : FormReader R L) (fault : TextFault) : Type 0 where
+    (feed : R → Feed) (old new : FormReader R L) (fault : TextFault) : Type 0 where
   pub failed : HasFailed new fault
-  pub meets : IsGoing old → MeetsFault spelling greatest remaining old.source new.source fault
+  pub meets : IsGoing old → MeetsFault spelling greatest feed old.source new.source fault
 
 -- the same of an amending text, if removals are taken, or else of a native one
-abbrev pub FailsAs : Bool → {R L : Type 0} → ℕ → (R → Option (List ℕ)) → FormReader R L
-    → FormReader R L → TextFault → Type 0
-FailsAs true greatest remaining old new fault = Fails SpellsChange greatest remaining old new fault
-FailsAs false greatest remaining old new fault = Fails Spells greatest remaining old new fault
+abbrev pub FailsAs : Bool → {R L : Type 0} → ℕ → (R → Feed) → FormReader R L → FormReader R L
+    → TextFault → Type 0
+FailsAs true greatest feed old new fault = Fails SpellsChange greatest feed old new fault
+FailsAs false greatest feed old new fault = Fails Spells greatest feed old new fault

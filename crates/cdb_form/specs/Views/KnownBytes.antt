@@ -1,19 +1,7 @@
 -- What a call does to the bytes that a reader has left or a writer holds, if they are known.
-use Rattle.std.specs.Io.KnownBytes.{Consumes, Appends}
-use Rattle.std.specs.Prelude.{drop, ◌+◌, ℕ, List, ◌++◌, length, ◌<◌, ◌≤◌, Option, ◌≡◌, ⊤, Some, None}
-use Rattle.std.specs.Prelude.{Result, OnOk, OnErr}
-
--- no more than n bytes are lost
-pub record LosesAtMost (old new : Option (List ℕ)) (n : ℕ) : Type 0 where
-  pub lost : List ℕ
-  pub taken : Consumes old new lost
-  pub few : length lost ≤ n
-
--- fewer than n bytes are lost
-pub record LosesFewer (old new : Option (List ℕ)) (n : ℕ) : Type 0 where
-  pub lost : List ℕ
-  pub taken : Consumes old new lost
-  pub few : length lost < n
+use Rattle.std.specs.Io.KnownBytes.{Appends}
+use Rattle.std.specs.Prelude.{drop, ◌+◌, ℕ, List, ◌++◌, Option, ◌≡◌, ⊤, Some, None, Result, OnOk}
+use Rattle.std.specs.Prelude.{OnErr}
 
 -- a relation of the bytes before and after
 abbrev pub FromTo : Option (List ℕ) → Option (List ℕ) → (List ℕ → List ℕ → Type 0) → Type 0
@@ -37,9 +25,3 @@ pub record Writes {A E : Type 0} (result : Result A E) (old new : Option (List �
     (bytes : List ℕ) : Type 0 where
   pub ok : OnOk result (Appends old new bytes)
   pub err : OnErr result (AppendsPrefix old new bytes)
-
--- bytes were read of what was unread, and the count of bytes went from `from` to `to`
-pub record Took (old new : Option (List ℕ)) (from to : ℕ) : Type 0 where
-  pub bytes : List ℕ
-  pub read : Consumes old new bytes
-  pub counted : to ≡ from + length bytes

@@ -1,15 +1,12 @@
 -- What a clause reads of a reader of a list text.
-use Rattle.std.specs.Prelude.{ℕ, List, ◌<◌, ◌≤◌, Option, ◌≡◌}
+use Rattle.std.specs.Prelude.{ℕ, List, ◌<◌, ◌≤◌, ◌≡◌}
 use Rattle.cdb_form.specs.Text.List.{SpellsKey}
 use Rattle.cdb_form.specs.Views.FormReader.{Ends, MeetsFault, ReadsItem}
 use Rattle.cdb_form.specs.Views.Source.{budget}
 use Rattle.cdb_form.specs.declared.text.fault.TextFault.{TextFault}
 use Rattle.cdb_form.specs.declared.text.going.Going.TheVariants.{On, AtEnd, Failed}
 use Rattle.cdb_form.specs.declared.text.list_reader.ListReader.{ListReader}
-
--- the bytes that its reader has left, if they are known
-abbrev pub unread : {R L : Type 0} → (R → Option (List ℕ)) → ListReader R L → Option (List ℕ)
-unread remaining t = remaining t.source.reader
+use Rattle.cdb_form.specs.Views.Feed.{Feed}
 
 -- its reader
 abbrev pub reader_of : {R L : Type 0} → ListReader R L → R
@@ -35,22 +32,22 @@ HasEnded t = t.going ≡ AtEnd
 abbrev pub HasFailed : {R L : Type 0} → ListReader R L → TextFault → Type 0
 HasFailed t fault = t.going ≡ Failed fault
 
--- a call gave a key, which was spelled by what was unread
-pub record GivesKey {R L : Type 0} (greatest : ℕ) (remaining : R → Option (List ℕ))
-    (old new : ListReader R L) (key : List ℕ) : Type 0 where
+-- a call gave a key, which was spelled by what was left
+pub record GivesKey {R L : Type 0} (greatest : ℕ) (feed : R → Feed) (old new : ListReader R L)
+    (key : List ℕ) : Type 0 where
   pub was : IsGoing old
-  pub reads : ReadsItem SpellsKey greatest (unread remaining old) (unread remaining new)
-      (taken_of old) (taken_of new) key
+  pub reads : ReadsItem SpellsKey greatest (feed old.source.reader) (feed new.source.reader)
+      old.source.taken new.source.taken key
   pub going : IsGoing new
   pub fewer : asks_left new < asks_left old
   pub spends : budget old.source ≤ budget new.source
 
 -- a call reported the end: the first such call took the newline that ends the text
-abbrev pub GivesEnd : {R L : Type 0} → (R → Option (List ℕ)) → ListReader R L → ListReader R L → Type 0
-GivesEnd remaining old new = Ends remaining (IsGoing old) (HasEnded new) old.source new.source
+abbrev pub GivesEnd : {R L : Type 0} → (R → Feed) → ListReader R L → ListReader R L → Type 0
+GivesEnd feed old new = Ends feed (IsGoing old) (HasEnded new) old.source new.source
 
 -- a call answered a fault, as every later one will
-pub record Fails {R L : Type 0} (greatest : ℕ) (remaining : R → Option (List ℕ))
-    (old new : ListReader R L) (fault : TextFault) : Type 0 where
+pub record Fails {R L : Type 0} (greatest : ℕ) (feed : R → Feed) (old new : ListReader R L)
+    (fault : TextFault) : Type 0 where
   pub failed : HasFailed new fault
-  pub meets : IsGoing old → MeetsFault SpellsKey greatest remaining old.source new.source fault
+  pub meets : IsGoing old → MeetsFault SpellsKey greatest feed old.source new.source fault

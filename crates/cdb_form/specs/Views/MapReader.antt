@@ -1,5 +1,5 @@
 -- What a clause reads of a reader of a map text.
-use Rattle.std.specs.Prelude.{All, List, Option, [], flat_map, ◌++◌, ◌<◌, ◌∷◌, ◌≡◌, ℕ}
+use Rattle.std.specs.Prelude.{All, List, [], flat_map, ◌++◌, ◌<◌, ◌∷◌, ◌≡◌, ℕ, codes}
 use Rattle.cdb_form.specs.Format.Record.{KeyValue}
 use Rattle.cdb_form.specs.Text.Map.{IsIgnoredLine, IsLineOf, Lacks, is_newline, line_records}
 use Rattle.cdb_form.specs.Text.Map.{with_newlines}
@@ -10,10 +10,9 @@ use Rattle.cdb_form.specs.declared.text.fault.TextFault.{TextFault}
 use Rattle.cdb_form.specs.declared.text.going.Going.TheVariants.{AtEnd, Failed, On}
 use Rattle.cdb_form.specs.declared.text.map_reader.MapReader.{MapReader}
 use Rattle.cdb_form.specs.declared.text.source.Source.{Source}
-
--- the bytes that its reader has left, if they are known
-abbrev pub unread : {R : Type 0} → (R → Option (List ℕ)) → MapReader R → Option (List ℕ)
-unread remaining t = remaining t.source.reader
+use Rattle.cdb_form.specs.Views.Feed.{Feed}
+use Rattle.cdb_form.specs.declared.text.map_parser.Entry.{Entry}
+use Rattle.cdb_form.specs.declared.text.map_parser.Entry.TheVariants.{Closed, End, Last}
 
 -- its reader
 abbrev pub reader_of : {R : Type 0} → MapReader R → R
@@ -45,24 +44,6 @@ pub record HasPeeked {R : Type 0} (held : R → List ℕ) (t : MapReader R) (n :
   pub going : IsGoing t
   pub begins : BeginsWithLine (at_hand held t.source) n r
 
--- ignored lines were read, and then the line of a record, which ends so
-pub record ReadsLinesOf {R : Type 0} (remaining : R → Option (List ℕ)) (old new : Source R)
-    (r : KeyValue) (ending : List ℕ) : Type 0 where
-  pub ignored : List (List ℕ)
-  pub line : List ℕ
-  pub are_ignored : All IsIgnoredLine ignored
-  pub is : IsLineOf r line
-  pub reads : ReadsToEnding remaining old new (with_newlines ignored ++ line) ending
-
--- ignored lines were read, the last one up to the end of the input
-pub record ReadsIgnored {R : Type 0} (remaining : R → Option (List ℕ)) (old new : Source R) :
-    Type 0 where
-  pub ignored : List (List ℕ)
-  pub line : List ℕ
-  pub are_ignored : All IsIgnoredLine ignored
-  pub is : IsIgnoredLine line
-  pub reads : ReadsToEnding remaining old new (with_newlines ignored ++ line) []
-
 -- ignored lines, and then a part of one more line: no record's line is whole there
 pub record IsAmidLines (bytes : List ℕ) : Type 0 where
   pub ignored : List (List ℕ)
@@ -89,26 +70,51 @@ abbrev pub GoesOn : {R : Type 0} → List ℕ → MapReader R → Type 0
 GoesOn [] t = HasEnded t
 GoesOn (c ∷ bytes) t = IsGoing t
 
+-- ignored lines were read, and then the line of a record, which ends so
+pub record ReadsLinesOf {R : Type 0} (feed : R → Feed) (old new : Source R)
+    (r : KeyValue) (ending : List ℕ) : Type 0 where
+  pub ignored : List (List ℕ)
+  pub line : List ℕ
+  pub are_ignored : All IsIgnoredLine ignored
+  pub is : IsLineOf r line
+  pub reads : ReadsToEnding feed old new (with_newlines ignored ++ line) ending
+
+-- ignored lines were read, the last one up to the end of the input
+pub record ReadsIgnored {R : Type 0} (feed : R → Feed) (old new : Source R) :
+    Type 0 where
+  pub ignored : List (List ℕ)
+  pub line : List ℕ
+  pub are_ignored : All IsIgnoredLine ignored
+  pub is : IsIgnoredLine line
+  pub reads : ReadsToEnding feed old new (with_newlines ignored ++ line) []
+
+-- what was read up to the first record's line
+abbrev pub ReadsEntry : {R : Type 0} → (R → Feed) → Source R → Source R → KeyValue
+    → Entry → Type 0
+ReadsEntry feed old new r End = ReadsIgnored feed old new
+ReadsEntry feed old new r Closed = ReadsLinesOf feed old new r (codes "\n")
+ReadsEntry feed old new r Last = ReadsLinesOf feed old new r []
+
 -- a call gave a record: its line was the first one unread that is not ignored
-pub record GivesRecord {R : Type 0} (remaining : R → Option (List ℕ)) (old new : MapReader R)
+pub record GivesRecord {R : Type 0} (feed : R → Feed) (old new : MapReader R)
     (r : KeyValue) : Type 0 where
   pub was : IsGoing old
   pub ending : List ℕ
-  pub reads : ReadsLinesOf remaining old.source new.source r ending
+  pub reads : ReadsLinesOf feed old.source new.source r ending
   pub going : GoesOn ending new
   pub fewer : asks_left new < asks_left old
 
 -- a call reported the end: the first such call read ignored lines alone, unless the last record came
 -- with the end; then nothing is read
-pub record GivesEnd {R : Type 0} (remaining : R → Option (List ℕ)) (old new : MapReader R) :
+pub record GivesEnd {R : Type 0} (feed : R → Feed) (old new : MapReader R) :
     Type 0 where
   pub ended : HasEnded new
-  pub reads : IsGoing old → ReadsIgnored remaining old.source new.source
+  pub reads : IsGoing old → ReadsIgnored feed old.source new.source
   pub stays : HasEnded old → new ≡ old
 
 -- a call answered a fault, as every later one will: what it read holds no record's whole line
-pub record Fails {R : Type 0} (remaining : R → Option (List ℕ)) (old new : MapReader R)
+pub record Fails {R : Type 0} (feed : R → Feed) (old new : MapReader R)
     (fault : TextFault) : Type 0 where
   pub unended : HasEnded old → ⊥
   pub failed : HasFailed new fault
-  pub meets : IsGoing old → LeavesAmid IsAmidLines remaining old.source new.source fault
+  pub meets : IsGoing old → LeavesAmid IsAmidLines feed old.source new.source fault

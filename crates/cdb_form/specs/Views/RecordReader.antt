@@ -1,12 +1,11 @@
 -- What a clause reads of a reader of the records of a file.
-use Rattle.std.specs.Prelude.{ℕ, ◌^◌, ◌+◌, ◌<◌, IfSome, List, drop, take, Option, ◌≡◌, ⊤, ◌-◌, max}
+use Rattle.std.specs.Prelude.{ℕ, ◌^◌, ◌+◌, ◌<◌, List, drop, take, ◌≡◌, ⊤, ◌-◌, max}
 use Rattle.cdb_form.specs.Format.Pair.{head_size, pair_size}
 use Rattle.cdb_form.specs.Format.Record.{KeyValue}
 use Rattle.cdb_form.specs.Format.Walk.{Walked, walk_of, walk_from, record_end, no_walk, with_first}
-use Rattle.cdb_form.specs.Format.Walk.{with_records}
-use Rattle.cdb_form.specs.Views.KnownBytes.{FromTo, StillFrom}
+use Rattle.cdb_form.specs.Views.KnownBytes.{StillFrom}
 use Rattle.cdb_form.specs.Views.Prefix.{IsStored}
-use Rattle.cdb_form.specs.Views.Reading.{ReadsNoFurther, ReadsNoRecord, ReadsFirst, IsKept}
+use Rattle.cdb_form.specs.Views.Reading.{IsKept}
 use Rattle.cdb_form.specs.Views.WalkFault.{IsDamage, stopped_by}
 use Rattle.cdb_form.specs.declared.record.Record.{Record}
 use Rattle.cdb_form.specs.declared.walk.keeping.Keeping.{Keeping}
@@ -16,6 +15,8 @@ use Rattle.cdb_form.specs.declared.walk.record_reader.RecordReader.{RecordReader
 use Rattle.cdb_form.specs.declared.walk.record_reader.Progress.{Progress}
 use Rattle.cdb_form.specs.declared.walk.record_reader.Progress.TheVariants.{AtHead, At, AtEnd}
 use Rattle.cdb_form.specs.declared.walk.record_reader.Progress.TheVariants.{Failed}
+use Rattle.cdb_form.specs.Views.Feed.{Feed, FromTo}
+use Rattle.cdb_form.specs.Views.Taking.{ReadsFirst, ReadsNoFurther, ReadsNoRecord}
 
 -- the walk of what is unread: of a whole file before its head was read, and then from the next
 -- place on
@@ -45,18 +46,9 @@ is_going (At area) = ⊤
 is_going AtEnd = ⊥
 is_going (Failed fault) = ⊥
 
--- the bytes that its reader has left, if they are known
-abbrev pub unread : {R L : Type 0} → (R → Option (List ℕ)) → RecordReader R L → Option (List ℕ)
-unread remaining t = remaining t.reader
-
 -- its reader
 abbrev pub reader_of : {R L : Type 0} → RecordReader R L → R
 reader_of t = t.reader
-
--- a relation of the bytes that were unread before and after a call
-abbrev pub Between : {R L : Type 0} → (R → Option (List ℕ)) → (old new : RecordReader R L)
-    → (List ℕ → List ℕ → Type 0) → Type 0
-Between remaining old new P = FromTo (unread remaining old) (unread remaining new) P
 
 -- the walk that it is still to give, if these bytes are unread
 abbrev pub walk_left : {R L : Type 0} → ℕ → RecordReader R L → List ℕ → Walked
@@ -97,65 +89,56 @@ pub record HasPeeked {R L : Type 0} (w : ℕ) (held : R → List ℕ) (t : Recor
 abbrev pub behind_records : ℕ → List ℕ → List ℕ
 behind_records w text = drop (max (head_size w) (record_end w text)) text
 
--- a reader of a file gave these records so far: the walk of the file is these records and then the
--- walk that is left,
--- and what follows the record end is still unread
-abbrev pub GaveSoFar : {R L : Type 0} → ℕ → (R → Option (List ℕ)) → Option (List ℕ)
-    → RecordReader R L → List KeyValue → Type 0
-GaveSoFar w remaining file t rs =
-    FromTo file (unread remaining t)
-    (λ text rest. (walk_of w text ≡ with_records rs (walk_left w t rest))
-    × (behind_end w t rest ≡ behind_records w text))
-
 -- how many bytes of the head and of one header are still to be read
 abbrev pub headers_left : ℕ → Progress → ℕ
 headers_left w AtHead = head_size w + pair_size w
 headers_left w _ = pair_size w
 
--- a call gave a record: the first of the walk that was left, whatever follows what was read.
--- What follows the record end is still unread.
-pub record GivesRecord {R L : Type 0} (w : ℕ) (remaining : R → Option (List ℕ))
-    (old new : RecordReader R L) (r : KeyValue) : Type 0 where
-  pub walk : Between remaining old new
-      (λ text rest. walk_left w old text ≡ with_first r (walk_left w new rest))
-  pub cut : ReadsFirst r (walk_left w old) (walk_left w new)
-      (unread remaining old) (unread remaining new)
-  pub behind : Between remaining old new
-      (λ text rest. behind_end w new rest ≡ behind_end w old text)
+-- a relation of the bytes that were left before and after a call
+abbrev pub Between : {R L : Type 0} → (R → Feed) → (old new : RecordReader R L)
+    → (List ℕ → List ℕ → Type 0) → Type 0
+Between feed old new P = FromTo (feed old.reader) (feed new.reader) P
+
+-- a call gave a record: the first of the walk that was left, whatever follows what was taken.
+-- What follows the record end is still left.
+pub record GivesRecord {R L : Type 0} (w : ℕ) (feed : R → Feed) (old new : RecordReader R L)
+    (r : KeyValue) : Type 0 where
+  pub walk : Between feed old new
+      (λ text rest. (walk_left w old text ≡ with_first r (walk_left w new rest))
+      × (behind_end w new rest ≡ behind_end w old text))
+  pub cut : ReadsFirst r (walk_left w old) (walk_left w new) (feed old.reader) (feed new.reader)
   pub going : IsGoing new
   pub fewer : bytes_left new < bytes_left old
 
 -- the same, of a record of which so much was kept; and of one with this key
-abbrev pub GivesKept : {R L : Type 0} → ℕ → (R → Option (List ℕ)) → (old new : RecordReader R L)
+abbrev pub GivesKept : {R L : Type 0} → ℕ → (R → Feed) → (old new : RecordReader R L)
     → Keeping → Record → Type 0
-GivesKept w remaining old new keeping into =
-    (r : KeyValue) × IsKept keeping into r × GivesRecord w remaining old new r
+GivesKept w feed old new keeping into =
+    (r : KeyValue) × IsKept keeping into r × GivesRecord w feed old new r
 
-abbrev pub GivesKey : {R L : Type 0} → ℕ → (R → Option (List ℕ)) → (old new : RecordReader R L)
+abbrev pub GivesKey : {R L : Type 0} → ℕ → (R → Feed) → (old new : RecordReader R L)
     → List ℕ → Type 0
-GivesKey w remaining old new key =
-    (r : KeyValue) × (r.key ≡ key) × GivesRecord w remaining old new r
+GivesKey w feed old new key = (r : KeyValue) × (r.key ≡ key) × GivesRecord w feed old new r
 
 -- a call reported the end: the walk that was left has no record and no damage. What follows the
--- record end is all that is unread.
-pub record GivesEnd {R L : Type 0} (w : ℕ) (remaining : R → Option (List ℕ))
-    (old new : RecordReader R L) : Type 0 where
-  pub walk : IfSome (unread remaining old) (λ text. walk_left w old text ≡ no_walk)
-  pub behind : Between remaining old new
-      (λ text rest. behind_end w new rest ≡ behind_end w old text)
-  pub ended : HasEnded new
+-- record end is all that is left.
+pub record GivesEnd {R L : Type 0} (w : ℕ) (feed : R → Feed) (old new : RecordReader R L) : Type 0
+  where
+    pub walk : Between feed old new
+        (λ text rest. (walk_left w old text ≡ no_walk)
+        × (behind_end w new rest ≡ behind_end w old text))
+    pub ended : HasEnded new
 
 -- A call answered a fault, as every later one will. One of the file is the damage of the walk that
--- was left, with no record before it; no more was read than what was left of the head and one
--- header, or the reader is at its end. Whichever fault it is, what was read is no whole record: the
+-- was left, with no record before it; no more was taken than what was left of the head and one
+-- header, or the reader is at its end. Whichever fault it is, what was taken is no whole record: the
 -- walk that was left has none in it.
-pub record Fails {R L : Type 0} (w : ℕ) (remaining : R → Option (List ℕ))
-    (old new : RecordReader R L) (fault : WalkFault) : Type 0 where
+pub record Fails {R L : Type 0} (w : ℕ) (feed : R → Feed) (old new : RecordReader R L)
+    (fault : WalkFault) : Type 0 where
   pub failed : HasFailed new fault
-  pub exact : IsDamage fault
-      → IfSome (unread remaining old) (λ text. walk_left w old text ≡ stopped_by fault)
-  pub behind : Between remaining old new
-      (λ text rest. StillFrom (size_of_rest w old.walking text) text rest)
-  pub part : ReadsNoRecord (walk_left w old) (unread remaining old) (unread remaining new)
+  pub walk : Between feed old new
+      (λ text rest. (IsDamage fault → walk_left w old text ≡ stopped_by fault)
+      × StillFrom (size_of_rest w old.walking text) text rest)
+  pub part : ReadsNoRecord (walk_left w old) (feed old.reader) (feed new.reader)
   pub no_further : IsGoing old → IsDamage fault
-      → ReadsNoFurther (headers_left w old.walking) (unread remaining old) (unread remaining new)
+      → ReadsNoFurther (headers_left w old.walking) (feed old.reader) (feed new.reader)

@@ -1,10 +1,9 @@
 -- What a source gave of a text, and how many requests it may still get.
-use Rattle.std.specs.Io.KnownBytes.{Consumes}
-use Rattle.std.specs.Prelude.{List, Option, length, take, ◌*◌, ◌+◌, ◌≡◌, ◌≢◌, ◌≤◌, ℕ}
+use Rattle.std.specs.Prelude.{List, length, take, ◌*◌, ◌+◌, ◌≡◌, ◌≤◌, ℕ}
 use Rattle.cdb_form.specs.Views.TextFault.{IsOfText, IsSpent}
 use Rattle.cdb_form.specs.declared.text.fault.TextFault.{TextFault}
-use Rattle.cdb_form.specs.declared.text.fault.TextFault.TheVariants.{NoMemory}
 use Rattle.cdb_form.specs.declared.text.source.Source.{Source}
+use Rattle.cdb_form.specs.Views.Feed.{Feed, Consumes}
 
 -- each byte that a source gave took at most 1001 requests
 abbrev pub budget : {R : Type 0} → Source R → ℕ
@@ -14,17 +13,19 @@ budget s = s.asks + 1001 * s.taken
 abbrev pub at_hand : {R : Type 0} → (R → List ℕ) → Source R → List ℕ
 at_hand held s = take s.asks (held s.reader)
 
--- these bytes were read of what was unread, and were counted
-pub record Takes {R : Type 0} (remaining : R → Option (List ℕ)) (old new : Source R)
-    (bytes : List ℕ) : Type 0 where
-  pub read : Consumes (remaining old.reader) (remaining new.reader) bytes
-  pub counted : new.taken ≡ old.taken + length bytes
+-- these bytes were taken, and were counted
+pub record Takes {R : Type 0} (feed : R → Feed) (old new : Source R) (bytes : List ℕ) : Type 0
+  where
+    pub read : Consumes (feed old.reader) (feed new.reader) bytes
+    pub counted : new.taken ≡ old.taken + length bytes
 
--- What a fault leaves that is not one of the text: bytes with the property P were read. Requests
+-- What a fault leaves that is not one of the text: bytes with the property P were taken. Requests
 -- suffice for 1001 a byte.
-pub record LeavesAmid {R : Type 0} (P : List ℕ → Type 0) (remaining : R → Option (List ℕ))
-    (old new : Source R) (f : TextFault) : Type 0 where
+pub record LeavesAmid {R : Type 0} (P : List ℕ → Type 0) (feed : R → Feed) (old new : Source R)
+    (f : TextFault) : Type 0 where
   pub outside : IsOfText f → ⊥
-  pub part : f ≢ NoMemory → (bytes : List ℕ) × P bytes × Takes remaining old new bytes
+  pub bytes : List ℕ
+  pub are : P bytes
+  pub takes : Takes feed old new bytes
   pub spent : IsSpent new.asks f
   pub spends : budget old ≤ budget new + 1001

@@ -1,14 +1,15 @@
 -- What a clause reads of a reader of a native text.
-use Rattle.std.specs.Prelude.{ℕ, List, ◌+◌, ◌*◌, Option}
+use Rattle.std.specs.Prelude.{ℕ, List, ◌+◌, ◌*◌}
 use Rattle.cdb_form.specs.Format.Record.{KeyValue}
 use Rattle.cdb_form.specs.Text.Native.{Spells}
-use Rattle.cdb_form.specs.Views.FormReader as form
 use Rattle.cdb_form.specs.declared.text.fault.TextFault.{TextFault}
 use Rattle.cdb_form.specs.declared.text.native_reader.TextReader.{TextReader}
+use Rattle.cdb_form.specs.Views.Feed.{Feed}
+use Rattle.cdb_form.specs.Views.FormReader as form
 
--- the bytes that its reader has left, if they are known
-abbrev pub unread : {R L : Type 0} → (R → Option (List ℕ)) → TextReader R L → Option (List ℕ)
-unread remaining t = form.unread remaining t.items
+-- its reader
+abbrev pub reader_of : {R L : Type 0} → TextReader R L → R
+reader_of t = form.reader_of t.items
 
 -- how many bytes it read
 abbrev pub taken_of : {R L : Type 0} → TextReader R L → ℕ
@@ -40,7 +41,7 @@ abbrev pub StopsAmid : ℕ → ℕ → ℕ → List ℕ → Type 0
 StopsAmid greatest from to text = form.StopsAmid Spells greatest from to text
 
 -- these bytes spell the record
-abbrev pub ReadsRecord : ℕ → Option (List ℕ) → Option (List ℕ) → ℕ → ℕ → KeyValue → Type 0
+abbrev pub ReadsRecord : ℕ → Feed → Feed → ℕ → ℕ → KeyValue → Type 0
 ReadsRecord greatest old new from to r = form.ReadsItem Spells greatest old new from to r
 
 -- Each byte takes at most 1001 requests: as many as are made in a row if signals interrupt them.
@@ -48,24 +49,24 @@ abbrev pub budget : {R L : Type 0} → TextReader R L → ℕ
 budget t = asks_left t + 1001 * taken_of t
 
 -- a call gave a record, which was spelled by what was unread
-abbrev pub GivesRecord : {R L : Type 0} → ℕ → (R → Option (List ℕ)) → TextReader R L
+abbrev pub GivesRecord : {R L : Type 0} → ℕ → (R → Feed) → TextReader R L
     → TextReader R L → KeyValue → Type 0
-GivesRecord greatest remaining old new r =
-    form.GivesItem Spells greatest remaining old.items new.items r
+GivesRecord greatest feed old new r =
+    form.GivesItem Spells greatest feed old.items new.items r
 
 -- a call reported the end: the first such call took the newline that ends the text
-abbrev pub GivesEnd : {R L : Type 0} → (R → Option (List ℕ)) → TextReader R L
+abbrev pub GivesEnd : {R L : Type 0} → (R → Feed) → TextReader R L
     → TextReader R L → Type 0
-GivesEnd remaining old new = form.GivesEnd remaining old.items new.items
+GivesEnd feed old new = form.GivesEnd feed old.items new.items
 
 -- a reader met a fault of a native text
-abbrev pub MeetsFault : {R L : Type 0} → ℕ → (R → Option (List ℕ)) → TextReader R L
+abbrev pub MeetsFault : {R L : Type 0} → ℕ → (R → Feed) → TextReader R L
     → TextReader R L → TextFault → Type 0
-MeetsFault greatest remaining old new fault =
-    form.MeetsFault Spells greatest remaining old.items.source new.items.source fault
+MeetsFault greatest feed old new fault =
+    form.MeetsFault Spells greatest feed old.items.source new.items.source fault
 
 -- a call answered a fault, as every later one will
-abbrev pub Fails : {R L : Type 0} → ℕ → (R → Option (List ℕ)) → TextReader R L
+abbrev pub Fails : {R L : Type 0} → ℕ → (R → Feed) → TextReader R L
     → TextReader R L → TextFault → Type 0
-Fails greatest remaining old new fault =
-    form.Fails Spells greatest remaining old.items new.items fault
+Fails greatest feed old new fault =
+    form.Fails Spells greatest feed old.items new.items fault

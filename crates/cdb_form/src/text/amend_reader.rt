@@ -6,6 +6,7 @@ ghost use Rattle.cdb_form.specs.Views.Prefix.{shown_by};
 ghost use Rattle.cdb_form.specs.Views.Pairs.{change_in, change_of};
 ghost use Rattle.cdb_form.specs.Views.Repeats.{Repeats};
 
+use crate::feeds::Feeds;
 use crate::item::{Item, ItemKind};
 use crate::record::Record;
 use crate::text::at_hand::AtHand;
@@ -14,7 +15,6 @@ use crate::text::form_reader::FormReader;
 use crate::text::prefix::PeekedRecord;
 use crate::width::Width;
 use std::alloc::Global;
-use std::io::Read;
 
 /// Reads the items of an amending text, one after the other: the puts of a native text, and
 /// removals of keys.
@@ -27,13 +27,14 @@ pub struct AmendReader<R, L> {
     items: FormReader<R, L>,
 }
 
-impl<R: Read, L: Width> AmendReader<R, L> {
-    ghost use Rattle.cdb_form.specs.Views.AmendReader.{unread, taken_of, asks_left, IsGoing};
+impl<R: Feeds, L: Width> AmendReader<R, L> {
+    ghost use Rattle.cdb_form.specs.Views.AmendReader.{reader_of, taken_of, asks_left, IsGoing};
     ghost use Rattle.cdb_form.specs.Views.AmendReader.{HasEnded, HasFailed, HasPeeked, GivesChange};
     ghost use Rattle.cdb_form.specs.Views.AmendReader.{GivesEnd, Fails};
+
     /// A reader of the text that `reader` gives. It may request bytes 2^48 times.
     pub fn new(alloc: Global, reader: R) -> AmendReader<R, L>
-        ensures unread { unread R.remaining result ≡ R.remaining reader }
+        ensures reader { reader_of result ≡ reader }
         ensures taken { taken_of result ≡ 0 }
         ensures asks { asks_left result ≡ 2 ^ 48 }
         ensures going { IsGoing result }
@@ -44,7 +45,7 @@ impl<R: Read, L: Width> AmendReader<R, L> {
     /// A reader of the text that `reader` gives. It may request bytes `asks` times.
     pub fn with_bound(alloc: Global, reader: R, asks: u64) -> AmendReader<R, L>
         requires { asks ≤ 2 ^ 48 }
-        ensures unread { unread R.remaining result ≡ R.remaining reader }
+        ensures reader { reader_of result ≡ reader }
         ensures taken { taken_of result ≡ 0 }
         ensures asks { asks_left result ≡ asks }
         ensures going { IsGoing result }
@@ -57,7 +58,7 @@ impl<R: Read, L: Width> AmendReader<R, L> {
 
     /// Its reader, which goes on after what was read of it.
     pub fn into_reader(self) -> R
-        ensures { R.remaining result ≡ unread R.remaining self }
+        ensures { result ≡ reader_of self }
     {
         self.items.into_reader()
     }
@@ -68,9 +69,9 @@ impl<R: Read, L: Width> AmendReader<R, L> {
     /// those of `TextReader::next`, of the larger form.
     pub fn next(&mut self) -> Result<Option<Item>, TextFault>
         ensures gives { IfOk result (λ found. MatchOption found
-            (GivesEnd R.remaining self.old self.new)
-            (λ item. GivesChange L.GREATEST R.remaining self.old self.new (change_of item))) }
-        ensures fails { IfErr result (Fails L.GREATEST R.remaining self.old self.new) }
+            (GivesEnd R.feed self.old self.new)
+            (λ item. GivesChange L.GREATEST R.feed self.old self.new (change_of item))) }
+        ensures fails { IfErr result (Fails L.GREATEST R.feed self.old self.new) }
         ensures ended { HasEnded self.old → Repeats (Ok None) self.old self.new result }
         ensures failed { (fault : _) → HasFailed self.old fault
             → Repeats (Err fault) self.old self.new result }
@@ -88,10 +89,10 @@ impl<R: Read, L: Width> AmendReader<R, L> {
     /// `value`; after `None` and after a fault the record holds anything.
     pub fn read_into(&mut self, into: &mut Record) -> Result<Option<ItemKind>, TextFault>
         ensures gives { IfOk result (λ found. MatchOption found
-            (GivesEnd R.remaining self.old self.new)
-            (λ kind. GivesChange L.GREATEST R.remaining self.old self.new
+            (GivesEnd R.feed self.old self.new)
+            (λ kind. GivesChange L.GREATEST R.feed self.old self.new
             (change_in kind into.new))) }
-        ensures fails { IfErr result (Fails L.GREATEST R.remaining self.old self.new) }
+        ensures fails { IfErr result (Fails L.GREATEST R.feed self.old self.new) }
         ensures ended { HasEnded self.old → Repeats (Ok None) self.old self.new result }
         ensures failed { (fault : _) → HasFailed self.old fault
             → Repeats (Err fault) self.old self.new result }
@@ -115,7 +116,7 @@ impl<R: Read, L: Width> AmendReader<R, L> {
     pub fn take_peeked<A: AtHand<R>>(&mut self, len: usize)
         requires { (r : KeyValue) × HasPeeked A.held L.GREATEST self.old len r }
         ensures { (r : KeyValue) → HasPeeked A.held L.GREATEST self.old len r
-            → GivesChange L.GREATEST R.remaining self.old self.new (Putting r) }
+            → GivesChange L.GREATEST R.feed self.old self.new (Putting r) }
     {
         self.items.take_peeked::<A>(len);
     }

@@ -1,6 +1,6 @@
 // The bytes that a reader can give without a request.
 ghost use Rattle.std.specs.Prelude.{◌≡◌, ◌≤◌, ℕ, List, [], length, take};
-ghost use Rattle.cdb_form.specs.Fed.Feed.{Consumes};
+ghost use Rattle.cdb_form.specs.Views.Feed.{Consumes};
 
 use crate::feeds::Feeds;
 

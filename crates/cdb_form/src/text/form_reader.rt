@@ -28,7 +28,7 @@ pub struct FormReader<R, L> {
 }
 
 impl<R: Feeds, L: Width> FormReader<R, L> {
-    ghost use Rattle.cdb_form.specs.Fed.FormReader.{FailsAs, GivesEnd, GivesItem};
+    ghost use Rattle.cdb_form.specs.Views.FormReader.{FailsAs, GivesEnd, GivesItem};
     ghost use Rattle.cdb_form.specs.Views.FormReader.{HasEnded, HasFailed, HasPeeked, IsGoing};
     ghost use Rattle.cdb_form.specs.Views.FormReader.{asks_left, reader_of, taken_of};
 

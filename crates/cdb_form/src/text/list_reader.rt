@@ -8,7 +8,6 @@ use crate::text::fault::TextFault;
 use crate::text::going::Going;
 use crate::text::source::Source;
 use crate::width::Width;
-use std::io::Read;
 use std::marker::PhantomData;
 
 /// Reads the keys of a list text, one after the other.
@@ -22,13 +21,13 @@ pub struct ListReader<R, L> {
     width: PhantomData<L>,
 }
 
-impl<R: Read, L: Width> ListReader<R, L> {
-    ghost use Rattle.cdb_form.specs.Views.ListReader.{unread, taken_of, asks_left, IsGoing};
+impl<R: Feeds, L: Width> ListReader<R, L> {
+    ghost use Rattle.cdb_form.specs.Views.ListReader.{reader_of, taken_of, asks_left, IsGoing};
     ghost use Rattle.cdb_form.specs.Views.ListReader.{HasEnded, HasFailed, GivesKey, GivesEnd, Fails};
 
     /// A reader of the text that `reader` gives. It may request bytes 2^48 times.
     pub fn new(reader: R) -> ListReader<R, L>
-        ensures unread { unread R.remaining result ≡ R.remaining reader }
+        ensures reader { reader_of result ≡ reader }
         ensures taken { taken_of result ≡ 0 }
         ensures asks { asks_left result ≡ 2 ^ 48 }
         ensures going { IsGoing result }
@@ -38,49 +37,6 @@ impl<R: Read, L: Width> ListReader<R, L> {
 
     /// A reader of the text that `reader` gives. It may request bytes `asks` times.
     pub fn with_bound(reader: R, asks: u64) -> ListReader<R, L>
-        requires { asks ≤ 2 ^ 48 }
-        ensures unread { unread R.remaining result ≡ R.remaining reader }
-        ensures taken { taken_of result ≡ 0 }
-        ensures asks { asks_left result ≡ asks }
-        ensures going { IsGoing result }
-    {
-        ListReader::fed(reader, asks)
-    }
-
-    /// Its reader, which goes on after what was read of it.
-    pub fn into_reader(self) -> R
-        ensures { R.remaining result ≡ unread R.remaining self }
-    {
-        self.source.reader
-    }
-
-    /// Reads the next key over that of a record, whose memory it takes, and answers whether there
-    /// is one: none is at the newline that ends the text.
-    ///
-    /// After the end it answers `Ok(false)` for good, and after a fault that fault. The faults are
-    /// those of `TextReader::next`, of a list text. After a key the record's `value` holds any
-    /// bytes; after `false` and after a fault the record holds anything.
-    #[inline(always)]
-    pub fn read_into(&mut self, into: &mut Record) -> Result<bool, TextFault>
-        ensures gives { IfOk result (λ given. MatchBool given
-            (GivesKey L.GREATEST R.remaining self.old self.new into.new.key.items)
-            (GivesEnd R.remaining self.old self.new)) }
-        ensures fails { IfErr result (Fails L.GREATEST R.remaining self.old self.new) }
-        ensures ended { HasEnded self.old → Repeats (Ok false) self.old self.new result }
-        ensures failed { (fault : _) → HasFailed self.old fault
-            → Repeats (Err fault) self.old self.new result }
-    {
-        self.read_fed(into)
-    }
-}
-
-impl<R: Feeds, L: Width> ListReader<R, L> {
-    ghost use Rattle.cdb_form.specs.Fed.ListReader as fed;
-    ghost use Rattle.cdb_form.specs.Views.ListReader.{HasEnded, HasFailed, IsGoing, asks_left, reader_of};
-    ghost use Rattle.cdb_form.specs.Views.ListReader.{taken_of};
-
-    /// A reader of the text that `reader` gives. It may request bytes `asks` times.
-    pub fn fed(reader: R, asks: u64) -> ListReader<R, L>
         requires { asks ≤ 2 ^ 48 }
         ensures reader { reader_of result ≡ reader }
         ensures taken { taken_of result ≡ 0 }
@@ -94,20 +50,25 @@ impl<R: Feeds, L: Width> ListReader<R, L> {
         }
     }
 
-    /// What gives its bytes, which goes on after what was taken.
-    pub fn into_fed(self) -> R
+    /// Its reader, which goes on after what was read of it.
+    pub fn into_reader(self) -> R
         ensures { result ≡ reader_of self }
     {
         self.source.reader
     }
 
-    /// Does what `read_into` does, and says it of any bytes that agree with what was taken.
+    /// Reads the next key over that of a record, whose memory it takes, and answers whether there
+    /// is one: none is at the newline that ends the text.
+    ///
+    /// After the end it answers `Ok(false)` for good, and after a fault that fault. The faults are
+    /// those of `TextReader::next`, of a list text. After a key the record's `value` holds any
+    /// bytes; after `false` and after a fault the record holds anything.
     #[inline(always)]
-    pub fn read_fed(&mut self, into: &mut Record) -> Result<bool, TextFault>
+    pub fn read_into(&mut self, into: &mut Record) -> Result<bool, TextFault>
         ensures gives { IfOk result (λ given. MatchBool given
-            (fed.GivesKey L.GREATEST R.feed self.old self.new into.new.key.items)
-            (fed.GivesEnd R.feed self.old self.new)) }
-        ensures fails { IfErr result (fed.Fails L.GREATEST R.feed self.old self.new) }
+            (GivesKey L.GREATEST R.feed self.old self.new into.new.key.items)
+            (GivesEnd R.feed self.old self.new)) }
+        ensures fails { IfErr result (Fails L.GREATEST R.feed self.old self.new) }
         ensures ended { HasEnded self.old → Repeats (Ok false) self.old self.new result }
         ensures failed { (fault : _) → HasFailed self.old fault
             → Repeats (Err fault) self.old self.new result }

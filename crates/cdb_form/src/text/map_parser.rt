@@ -3,9 +3,9 @@
 ghost use Rattle.std.specs.Prelude.{◌≡◌, ◌<◌, true, ℕ, List, ◌∷◌, OnOk, IfOk, IfErr};
 ghost use Rattle.cdb_form.specs.Format.Record.{AreBytes};
 ghost use Rattle.cdb_form.specs.Text.Map.{Lacks, is_newline};
-ghost use Rattle.cdb_form.specs.Fed.MapParser.{MovesRun, ReadsLine, ReadsPair, ReadsRun, ReadsValue};
-ghost use Rattle.cdb_form.specs.Fed.MapReader.{ReadsEntry};
-ghost use Rattle.cdb_form.specs.Fed.Source.{LeavesAmid};
+ghost use Rattle.cdb_form.specs.Views.MapParser.{MovesRun, ReadsLine, ReadsPair, ReadsRun, ReadsValue};
+ghost use Rattle.cdb_form.specs.Views.MapReader.{ReadsEntry};
+ghost use Rattle.cdb_form.specs.Views.Source.{LeavesAmid};
 ghost use Rattle.cdb_form.specs.Views.MapParser.{is_of, line_end};
 ghost use Rattle.cdb_form.specs.Views.MapReader.{IsAmidLines};
 ghost use Rattle.cdb_form.specs.declared.text.fault.TextFault.TheVariants.{NoMemory};

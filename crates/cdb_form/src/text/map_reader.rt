@@ -15,7 +15,6 @@ use crate::text::prefix::PeekedRecord;
 use crate::text::prefix_line::prefix_line;
 use crate::text::source::Source;
 use std::alloc::Global;
-use std::io::Read;
 
 /// Reads the records of a map text, one after the other.
 ///
@@ -29,13 +28,14 @@ pub struct MapReader<R> {
     going: Going,
 }
 
-impl<R: Read> MapReader<R> {
-    ghost use Rattle.cdb_form.specs.Views.MapReader.{unread, taken_of, asks_left, IsGoing};
+impl<R: Feeds> MapReader<R> {
+    ghost use Rattle.cdb_form.specs.Views.MapReader.{reader_of, taken_of, asks_left, IsGoing};
     ghost use Rattle.cdb_form.specs.Views.MapReader.{HasEnded, HasFailed, HasPeeked, GivesRecord};
     ghost use Rattle.cdb_form.specs.Views.MapReader.{GivesEnd, Fails};
+
     /// A reader of the text that `reader` gives. It may request bytes 2^48 times.
     pub fn new(alloc: Global, reader: R) -> MapReader<R>
-        ensures unread { unread R.remaining result ≡ R.remaining reader }
+        ensures reader { reader_of result ≡ reader }
         ensures taken { taken_of result ≡ 0 }
         ensures asks { asks_left result ≡ 2 ^ 48 }
         ensures going { IsGoing result }
@@ -45,89 +45,6 @@ impl<R: Read> MapReader<R> {
 
     /// A reader of the text that `reader` gives. It may request bytes `asks` times.
     pub fn with_bound(alloc: Global, reader: R, asks: u64) -> MapReader<R>
-        requires { asks ≤ 2 ^ 48 }
-        ensures unread { unread R.remaining result ≡ R.remaining reader }
-        ensures taken { taken_of result ≡ 0 }
-        ensures asks { asks_left result ≡ asks }
-        ensures going { IsGoing result }
-    {
-        MapReader::fed(alloc, reader, asks)
-    }
-
-    /// Its reader, which goes on after what was read of it.
-    pub fn into_reader(self) -> R
-        ensures { R.remaining result ≡ unread R.remaining self }
-    {
-        self.source.reader
-    }
-
-    /// The next record, or `None` at the end of the input.
-    ///
-    /// After the end it answers `Ok(None)` for good, and after a fault that fault. If the last line
-    /// has no newline, its record comes with the end. `Input` comes if the reader failed, or was
-    /// interrupted more than 1000 times in a row; `Endless` if no request is left; `NoMemory` if an
-    /// allocation failed.
-    pub fn next(&mut self) -> Result<Option<Record>, TextFault>
-        ensures gives { IfOk result (λ found. MatchOption found
-            (GivesEnd R.remaining self.old self.new)
-            (λ r. GivesRecord R.remaining self.old self.new (key_value r))) }
-        ensures fails { IfErr result (Fails R.remaining self.old self.new) }
-        ensures ended { HasEnded self.old → Repeats (Ok None) self.old self.new result }
-        ensures failed { (fault : _) → HasFailed self.old fault
-            → Repeats (Err fault) self.old self.new result }
-    {
-        let mut record = Record::empty(self.alloc);
-        Ok(self.read_into(&mut record)?.then_some(record))
-    }
-
-    /// Reads the next record over another one, whose memory it takes, and answers whether there is
-    /// one. The answers are those of `next`, with `false` for `None`; after `false` and after a
-    /// fault the record holds anything.
-    pub fn read_into(&mut self, into: &mut Record) -> Result<bool, TextFault>
-        ensures gives { IfOk result (λ given. MatchBool given
-            (GivesRecord R.remaining self.old self.new (key_value into.new))
-            (GivesEnd R.remaining self.old self.new)) }
-        ensures fails { IfErr result (Fails R.remaining self.old self.new) }
-        ensures ended { HasEnded self.old → Repeats (Ok false) self.old self.new result }
-        ensures failed { (fault : _) → HasFailed self.old fault
-            → Repeats (Err fault) self.old self.new result }
-    {
-        self.read_buffered::<NoneAtHand>(into)
-    }
-
-    /// Does what `read_into` does, and takes bytes at hand without a request. Each counts as a
-    /// request.
-    pub fn read_buffered<A: AtHand<R>>(&mut self, into: &mut Record) -> Result<bool, TextFault>
-        ensures gives { IfOk result (λ given. MatchBool given
-            (GivesRecord R.remaining self.old self.new (key_value into.new))
-            (GivesEnd R.remaining self.old self.new)) }
-        ensures fails { IfErr result (Fails R.remaining self.old self.new) }
-        ensures ended { HasEnded self.old → Repeats (Ok false) self.old self.new result }
-        ensures failed { (fault : _) → HasFailed self.old fault
-            → Repeats (Err fault) self.old self.new result }
-    {
-        self.read_fed::<A>(into)
-    }
-
-    /// Takes the record that `peek` shows, whose `len` this is. Each of its bytes counts as a
-    /// request.
-    #[inline(always)]
-    pub fn take_peeked<A: AtHand<R>>(&mut self, len: usize)
-        requires { (r : KeyValue) × HasPeeked A.held self.old len r }
-        ensures { (r : KeyValue) → HasPeeked A.held self.old len r
-            → GivesRecord R.remaining self.old self.new r }
-    {
-        self.take_fed::<A>(len);
-    }
-}
-
-impl<R: Feeds> MapReader<R> {
-    ghost use Rattle.cdb_form.specs.Fed.MapReader as fed;
-    ghost use Rattle.cdb_form.specs.Views.MapReader.{HasEnded, HasFailed, HasPeeked, IsGoing, asks_left};
-    ghost use Rattle.cdb_form.specs.Views.MapReader.{reader_of, taken_of};
-
-    /// A reader of the text that `reader` gives. It may request bytes `asks` times.
-    pub fn fed(alloc: Global, reader: R, asks: u64) -> MapReader<R>
         requires { asks ≤ 2 ^ 48 }
         ensures reader { reader_of result ≡ reader }
         ensures taken { taken_of result ≡ 0 }
@@ -141,41 +58,54 @@ impl<R: Feeds> MapReader<R> {
         }
     }
 
-    /// What gives its bytes, which goes on after what was taken.
-    pub fn into_fed(self) -> R
+    /// Its reader, which goes on after what was read of it.
+    pub fn into_reader(self) -> R
         ensures { result ≡ reader_of self }
     {
         self.source.reader
     }
 
-    /// The next record, where it lies, if its line is whole at hand, with its newline, and no
-    /// ignored line precedes it. Nothing is taken: `take_peeked` does that.
-    #[inline(always)]
-    pub fn peek<A: AtHand<R>>(&self) -> Option<PeekedRecord<'_>>
-        ensures { IfSome result (λ f. HasPeeked A.held self.now f.len (shown_by f)) }
+    /// The next record, or `None` at the end of the input.
+    ///
+    /// After the end it answers `Ok(None)` for good, and after a fault that fault. If the last line
+    /// has no newline, its record comes with the end. `Input` comes if the reader failed, or was
+    /// interrupted more than 1000 times in a row; `Endless` if no request is left; `NoMemory` if an
+    /// allocation failed.
+    pub fn next(&mut self) -> Result<Option<Record>, TextFault>
+        ensures gives { IfOk result (λ found. MatchOption found
+            (GivesEnd R.feed self.old self.new)
+            (λ r. GivesRecord R.feed self.old self.new (key_value r))) }
+        ensures fails { IfErr result (Fails R.feed self.old self.new) }
+        ensures ended { HasEnded self.old → Repeats (Ok None) self.old self.new result }
+        ensures failed { (fault : _) → HasFailed self.old fault
+            → Repeats (Err fault) self.old self.new result }
     {
-        match self.going {
-            Going::On => prefix_line(self.source.at_hand::<A>()),
-            Going::AtEnd | Going::Failed(_) => None,
-        }
+        let mut record = Record::empty(self.alloc);
+        Ok(self.read_into(&mut record)?.then_some(record))
     }
 
-    /// Takes the record that `peek` shows, as `take_peeked` does.
-    #[inline(always)]
-    pub fn take_fed<A: AtHand<R>>(&mut self, len: usize)
-        requires { (r : KeyValue) × HasPeeked A.held self.old len r }
-        ensures { (r : KeyValue) → HasPeeked A.held self.old len r
-            → fed.GivesRecord R.feed self.old self.new r }
-    {
-        self.source.take_at_hand::<A>(len);
-    }
-
-    /// Does what `read_buffered` does, and says it of any bytes that agree with what was taken.
-    pub fn read_fed<A: AtHand<R>>(&mut self, into: &mut Record) -> Result<bool, TextFault>
+    /// Reads the next record over another one, whose memory it takes, and answers whether there is
+    /// one. The answers are those of `next`, with `false` for `None`; after `false` and after a
+    /// fault the record holds anything.
+    pub fn read_into(&mut self, into: &mut Record) -> Result<bool, TextFault>
         ensures gives { IfOk result (λ given. MatchBool given
-            (fed.GivesRecord R.feed self.old self.new (key_value into.new))
-            (fed.GivesEnd R.feed self.old self.new)) }
-        ensures fails { IfErr result (fed.Fails R.feed self.old self.new) }
+            (GivesRecord R.feed self.old self.new (key_value into.new))
+            (GivesEnd R.feed self.old self.new)) }
+        ensures fails { IfErr result (Fails R.feed self.old self.new) }
+        ensures ended { HasEnded self.old → Repeats (Ok false) self.old self.new result }
+        ensures failed { (fault : _) → HasFailed self.old fault
+            → Repeats (Err fault) self.old self.new result }
+    {
+        self.read_buffered::<NoneAtHand>(into)
+    }
+
+    /// Does what `read_into` does, and takes bytes at hand without a request. Each counts as a
+    /// request.
+    pub fn read_buffered<A: AtHand<R>>(&mut self, into: &mut Record) -> Result<bool, TextFault>
+        ensures gives { IfOk result (λ given. MatchBool given
+            (GivesRecord R.feed self.old self.new (key_value into.new))
+            (GivesEnd R.feed self.old self.new)) }
+        ensures fails { IfErr result (Fails R.feed self.old self.new) }
         ensures ended { HasEnded self.old → Repeats (Ok false) self.old self.new result }
         ensures failed { (fault : _) → HasFailed self.old fault
             → Repeats (Err fault) self.old self.new result }
@@ -198,5 +128,28 @@ impl<R: Feeds> MapReader<R> {
                 Err(fault)
             }
         }
+    }
+
+    /// The next record, where it lies, if its line is whole at hand, with its newline, and no
+    /// ignored line precedes it. Nothing is taken: `take_peeked` does that.
+    #[inline(always)]
+    pub fn peek<A: AtHand<R>>(&self) -> Option<PeekedRecord<'_>>
+        ensures { IfSome result (λ f. HasPeeked A.held self.now f.len (shown_by f)) }
+    {
+        match self.going {
+            Going::On => prefix_line(self.source.at_hand::<A>()),
+            Going::AtEnd | Going::Failed(_) => None,
+        }
+    }
+
+    /// Takes the record that `peek` shows, whose `len` this is. Each of its bytes counts as a
+    /// request.
+    #[inline(always)]
+    pub fn take_peeked<A: AtHand<R>>(&mut self, len: usize)
+        requires { (r : KeyValue) × HasPeeked A.held self.old len r }
+        ensures { (r : KeyValue) → HasPeeked A.held self.old len r
+            → GivesRecord R.feed self.old self.new r }
+    {
+        self.source.take_at_hand::<A>(len);
     }
 }

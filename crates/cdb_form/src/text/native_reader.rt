@@ -5,6 +5,7 @@ ghost use Rattle.cdb_form.specs.Views.Prefix.{shown_by};
 ghost use Rattle.cdb_form.specs.Views.Pairs.{key_value};
 ghost use Rattle.cdb_form.specs.Views.Repeats.{Repeats};
 
+use crate::feeds::Feeds;
 use crate::record::Record;
 use crate::text::at_hand::AtHand;
 use crate::text::fault::TextFault;
@@ -12,7 +13,6 @@ use crate::text::form_reader::FormReader;
 use crate::text::prefix::PeekedRecord;
 use crate::width::Width;
 use std::alloc::Global;
-use std::io::Read;
 
 /// Reads the records of a native text, one after the other.
 ///
@@ -24,13 +24,14 @@ pub struct TextReader<R, L> {
     items: FormReader<R, L>,
 }
 
-impl<R: Read, L: Width> TextReader<R, L> {
-    ghost use Rattle.cdb_form.specs.Views.TextReader.{unread, taken_of, asks_left, IsGoing};
+impl<R: Feeds, L: Width> TextReader<R, L> {
+    ghost use Rattle.cdb_form.specs.Views.TextReader.{reader_of, taken_of, asks_left, IsGoing};
     ghost use Rattle.cdb_form.specs.Views.TextReader.{HasEnded, HasFailed, HasPeeked, GivesRecord};
     ghost use Rattle.cdb_form.specs.Views.TextReader.{GivesEnd, Fails};
+
     /// A reader of the text that `reader` gives. It may request bytes 2^48 times.
     pub fn new(alloc: Global, reader: R) -> TextReader<R, L>
-        ensures unread { unread R.remaining result ≡ R.remaining reader }
+        ensures reader { reader_of result ≡ reader }
         ensures taken { taken_of result ≡ 0 }
         ensures asks { asks_left result ≡ 2 ^ 48 }
         ensures going { IsGoing result }
@@ -41,7 +42,7 @@ impl<R: Read, L: Width> TextReader<R, L> {
     /// A reader of the text that `reader` gives. It may request bytes `asks` times.
     pub fn with_bound(alloc: Global, reader: R, asks: u64) -> TextReader<R, L>
         requires { asks ≤ 2 ^ 48 }
-        ensures unread { unread R.remaining result ≡ R.remaining reader }
+        ensures reader { reader_of result ≡ reader }
         ensures taken { taken_of result ≡ 0 }
         ensures asks { asks_left result ≡ asks }
         ensures going { IsGoing result }
@@ -54,7 +55,7 @@ impl<R: Read, L: Width> TextReader<R, L> {
 
     /// Its reader, which goes on after what was read of it.
     pub fn into_reader(self) -> R
-        ensures { R.remaining result ≡ unread R.remaining self }
+        ensures { result ≡ reader_of self }
     {
         self.items.into_reader()
     }
@@ -67,9 +68,9 @@ impl<R: Read, L: Width> TextReader<R, L> {
     /// row; `Endless` if no request is left; `NoMemory` if an allocation failed.
     pub fn next(&mut self) -> Result<Option<Record>, TextFault>
         ensures gives { IfOk result (λ found. MatchOption found
-            (GivesEnd R.remaining self.old self.new)
-            (λ r. GivesRecord L.GREATEST R.remaining self.old self.new (key_value r))) }
-        ensures fails { IfErr result (Fails L.GREATEST R.remaining self.old self.new) }
+            (GivesEnd R.feed self.old self.new)
+            (λ r. GivesRecord L.GREATEST R.feed self.old self.new (key_value r))) }
+        ensures fails { IfErr result (Fails L.GREATEST R.feed self.old self.new) }
         ensures ended { HasEnded self.old → Repeats (Ok None) self.old self.new result }
         ensures failed { (fault : _) → HasFailed self.old fault
             → Repeats (Err fault) self.old self.new result }
@@ -83,9 +84,9 @@ impl<R: Read, L: Width> TextReader<R, L> {
     /// fault the record holds anything.
     pub fn read_into(&mut self, into: &mut Record) -> Result<bool, TextFault>
         ensures gives { IfOk result (λ given. MatchBool given
-            (GivesRecord L.GREATEST R.remaining self.old self.new (key_value into.new))
-            (GivesEnd R.remaining self.old self.new)) }
-        ensures fails { IfErr result (Fails L.GREATEST R.remaining self.old self.new) }
+            (GivesRecord L.GREATEST R.feed self.old self.new (key_value into.new))
+            (GivesEnd R.feed self.old self.new)) }
+        ensures fails { IfErr result (Fails L.GREATEST R.feed self.old self.new) }
         ensures ended { HasEnded self.old → Repeats (Ok false) self.old self.new result }
         ensures failed { (fault : _) → HasFailed self.old fault
             → Repeats (Err fault) self.old self.new result }
@@ -110,7 +111,7 @@ impl<R: Read, L: Width> TextReader<R, L> {
     pub fn take_peeked<A: AtHand<R>>(&mut self, len: usize)
         requires { (r : KeyValue) × HasPeeked A.held L.GREATEST self.old len r }
         ensures { (r : KeyValue) → HasPeeked A.held L.GREATEST self.old len r
-            → GivesRecord L.GREATEST R.remaining self.old self.new r }
+            → GivesRecord L.GREATEST R.feed self.old self.new r }
     {
         self.items.take_peeked::<A>(len);
     }

@@ -1,7 +1,7 @@
 // A reader of a text, with the count of what it gave and of the requests that it may still get.
 ghost use Rattle.std.specs.Prelude.{◌≡◌, ◌+◌, ◌*◌, ◌^◌, ◌<◌, ◌≤◌, [], ◌∷◌, length, take};
 ghost use Rattle.std.specs.Prelude.{OnOk, OnErr, IfOk, IfErr, MatchOption};
-ghost use Rattle.cdb_form.specs.Fed.Feed.{Consumes, IsAtEnd, Keeps};
+ghost use Rattle.cdb_form.specs.Views.Feed.{Consumes, IsAtEnd, Keeps};
 
 use crate::feeds::Feeds;
 use crate::reading::{some_bytes, vector};
@@ -22,8 +22,8 @@ pub(crate) struct Source<R> {
 
 impl<R: Feeds> Source<R> {
     ghost use Rattle.cdb_form.specs.Format.Record.{AreBytes};
-    ghost use Rattle.cdb_form.specs.Fed.NativeParser.{FailsIn, Leaves};
-    ghost use Rattle.cdb_form.specs.Fed.Source.{Takes};
+    ghost use Rattle.cdb_form.specs.Views.NativeParser.{FailsIn, Leaves};
+    ghost use Rattle.cdb_form.specs.Views.Source.{Takes};
     ghost use Rattle.cdb_form.specs.Views.NativeParser.{FailsBytes};
     ghost use Rattle.cdb_form.specs.Views.Source.{at_hand, budget};
     ghost use Rattle.cdb_form.specs.Views.TextFault.{IsReadFault, IsSpent};

@@ -1,8 +1,8 @@
 // The next record of a database file.
 ghost use Rattle.std.specs.Prelude.{◌≡◌, ◌+◌, ◌-◌, ◌<◌, drop, OnErr, IfOk, IfErr};
-ghost use Rattle.cdb_form.specs.Fed.Feed.{FromTo};
+ghost use Rattle.cdb_form.specs.Views.Feed.{FromTo};
 ghost use Rattle.cdb_form.specs.Format.Pair.{pair_size};
-ghost use Rattle.cdb_form.specs.Fed.Taking.{LosesAtMost, ReadsFirst, ReadsNoFurther, ReadsNoRecord};
+ghost use Rattle.cdb_form.specs.Views.Taking.{LosesAtMost, ReadsFirst, ReadsNoFurther, ReadsNoRecord};
 ghost use Rattle.cdb_form.specs.Views.Reading.{IsKept};
 ghost use Rattle.cdb_form.specs.Format.Record.{KeyValue, record_size};
 ghost use Rattle.cdb_form.specs.Format.Walk.{walk_from, with_first};

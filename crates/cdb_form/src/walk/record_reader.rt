@@ -25,7 +25,6 @@ use crate::walk::prefix::stored_record;
 use crate::walk::record_area::{RecordArea, read_area};
 use crate::width::Width;
 use std::alloc::Global;
-use std::io::Read;
 use std::marker::PhantomData;
 
 /// What a reader of records does next.
@@ -48,17 +47,31 @@ pub struct RecordReader<R, L> {
     width: PhantomData<L>,
 }
 
-impl<R: Read, L: Width> RecordReader<R, L> {
-    ghost use Rattle.cdb_form.specs.Views.RecordReader.{unread, IsFresh, HasEnded, HasFailed};
-    ghost use Rattle.cdb_form.specs.Views.RecordReader.{GivesRecord, GivesEnd, Fails};
-    ghost use Rattle.cdb_form.specs.Views.RecordReader.{GivesKey, HasPeeked};
+impl<R: Feeds, L: Width> RecordReader<R, L> {
+    ghost use Rattle.cdb_form.specs.Views.RecordReader.{Between, Fails, GivesEnd, GivesKept, GivesKey};
+    ghost use Rattle.cdb_form.specs.Views.RecordReader.{GivesRecord, HasEnded, HasFailed, HasPeeked};
+    ghost use Rattle.cdb_form.specs.Views.RecordReader.{IsFresh, IsGoing, behind_end, behind_records};
+    ghost use Rattle.cdb_form.specs.Views.RecordReader.{bytes_left, reader_of, walk_left};
+    ghost use Rattle.cdb_form.specs.Views.Taking.{ReadsFirst, ReadsNoFurther, ReadsNoRecord};
 
     /// A reader of the records of the file that `reader` gives. Nothing is read yet.
     pub fn new(alloc: Global, reader: R) -> RecordReader<R, L>
-        ensures unread { unread R.remaining result ≡ R.remaining reader }
+        ensures reader { reader_of result ≡ reader }
         ensures fresh { IsFresh result }
     {
-        RecordReader::fed(alloc, reader)
+        RecordReader {
+            alloc,
+            reader,
+            walking: Progress::AtHead,
+            width: PhantomData,
+        }
+    }
+
+    /// Its reader, which goes on after what was read of it.
+    pub fn into_reader(self) -> R
+        ensures { result ≡ reader_of self }
+    {
+        self.reader
     }
 
     /// The next record, or `None` at the record end.
@@ -69,9 +82,9 @@ impl<R: Read, L: Width> RecordReader<R, L> {
     /// an allocation failed.
     pub fn next(&mut self) -> Result<Option<Record>, WalkFault>
         ensures gives { IfOk result (λ found. MatchOption found
-            (GivesEnd L.WORD R.remaining self.old self.new)
-            (λ r. GivesRecord L.WORD R.remaining self.old self.new (key_value r))) }
-        ensures fails { IfErr result (Fails L.WORD R.remaining self.old self.new) }
+            (GivesEnd L.WORD R.feed self.old self.new)
+            (λ r. GivesRecord L.WORD R.feed self.old self.new (key_value r))) }
+        ensures fails { IfErr result (Fails L.WORD R.feed self.old self.new) }
         ensures ended { HasEnded self.old → Repeats (Ok None) self.old self.new result }
         ensures failed { (fault : _) → HasFailed self.old fault
             → Repeats (Err fault) self.old self.new result }
@@ -85,14 +98,14 @@ impl<R: Read, L: Width> RecordReader<R, L> {
     /// fault the record holds anything.
     pub fn read_into(&mut self, into: &mut Record) -> Result<bool, WalkFault>
         ensures gives { IfOk result (λ given. MatchBool given
-            (GivesRecord L.WORD R.remaining self.old self.new (key_value into.new))
-            (GivesEnd L.WORD R.remaining self.old self.new)) }
-        ensures fails { IfErr result (Fails L.WORD R.remaining self.old self.new) }
+            (GivesRecord L.WORD R.feed self.old self.new (key_value into.new))
+            (GivesEnd L.WORD R.feed self.old self.new)) }
+        ensures fails { IfErr result (Fails L.WORD R.feed self.old self.new) }
         ensures ended { HasEnded self.old → Repeats (Ok false) self.old self.new result }
         ensures failed { (fault : _) → HasFailed self.old fault
             → Repeats (Err fault) self.old self.new result }
     {
-        self.read_fed(into)
+        self.read_kept(into, Keeping::Both)
     }
 
     /// Reads the key of the next record over another record. It passes over the value, which takes
@@ -100,53 +113,15 @@ impl<R: Read, L: Width> RecordReader<R, L> {
     /// `read_into`.
     pub fn read_key(&mut self, into: &mut Record) -> Result<bool, WalkFault>
         ensures gives { IfOk result (λ given. MatchBool given
-            (GivesKey L.WORD R.remaining self.old self.new into.new.key.items)
-            (GivesEnd L.WORD R.remaining self.old self.new)) }
+            (GivesKey L.WORD R.feed self.old self.new into.new.key.items)
+            (GivesEnd L.WORD R.feed self.old self.new)) }
         ensures value { into.new.value ≡ into.old.value }
-        ensures fails { IfErr result (Fails L.WORD R.remaining self.old self.new) }
+        ensures fails { IfErr result (Fails L.WORD R.feed self.old self.new) }
         ensures ended { HasEnded self.old → Repeats (Ok false) self.old self.new result }
         ensures failed { (fault : _) → HasFailed self.old fault
             → Repeats (Err fault) self.old self.new result }
     {
-        self.read_key_fed(into)
-    }
-
-    /// Takes the record that `peek` shows, whose `len` this is.
-    #[inline(always)]
-    pub fn take_peeked<A: AtHand<R>>(&mut self, len: usize)
-        requires { (r : KeyValue) × HasPeeked L.WORD A.held self.old len r }
-        ensures { (r : KeyValue) → HasPeeked L.WORD A.held self.old len r
-            → GivesRecord L.WORD R.remaining self.old self.new r }
-    {
-        self.take_fed::<A>(len);
-    }
-}
-
-impl<R: Feeds, L: Width> RecordReader<R, L> {
-    ghost use Rattle.cdb_form.specs.Fed.RecordReader as fed;
-    ghost use Rattle.cdb_form.specs.Fed.Taking as taking;
-    ghost use Rattle.cdb_form.specs.Views.RecordReader.{HasEnded, HasFailed, HasPeeked, IsFresh};
-    ghost use Rattle.cdb_form.specs.Views.RecordReader.{IsGoing, behind_end, bytes_left, reader_of};
-    ghost use Rattle.cdb_form.specs.Views.RecordReader.{behind_records, walk_left};
-
-    /// A reader of the records of the file that `reader` gives. Nothing is read yet.
-    pub fn fed(alloc: Global, reader: R) -> RecordReader<R, L>
-        ensures reader { reader_of result ≡ reader }
-        ensures fresh { IsFresh result }
-    {
-        RecordReader {
-            alloc,
-            reader,
-            walking: Progress::AtHead,
-            width: PhantomData,
-        }
-    }
-
-    /// What gives its bytes, which goes on after what was taken.
-    pub fn into_fed(self) -> R
-        ensures { result ≡ reader_of self }
-    {
-        self.reader
+        self.read_kept(into, Keeping::Key)
     }
 
     /// The next record, where it lies, if it is whole at hand and ends before the record end or at
@@ -164,12 +139,12 @@ impl<R: Feeds, L: Width> RecordReader<R, L> {
         }
     }
 
-    /// Takes the record that `peek` shows, as `take_peeked` does.
+    /// Takes the record that `peek` shows, whose `len` this is.
     #[inline(always)]
-    pub fn take_fed<A: AtHand<R>>(&mut self, len: usize)
+    pub fn take_peeked<A: AtHand<R>>(&mut self, len: usize)
         requires { (r : KeyValue) × HasPeeked L.WORD A.held self.old len r }
         ensures { (r : KeyValue) → HasPeeked L.WORD A.held self.old len r
-            → fed.GivesRecord L.WORD R.feed self.old self.new r }
+            → GivesRecord L.WORD R.feed self.old self.new r }
     {
         if let Progress::At(area) = self.walking {
             A::take(&mut self.reader, len);
@@ -180,41 +155,14 @@ impl<R: Feeds, L: Width> RecordReader<R, L> {
         }
     }
 
-    /// Does what `read_into` does, and says it of any bytes that agree with what was taken.
-    pub fn read_fed(&mut self, into: &mut Record) -> Result<bool, WalkFault>
-        ensures gives { IfOk result (λ given. MatchBool given
-            (fed.GivesRecord L.WORD R.feed self.old self.new (key_value into.new))
-            (fed.GivesEnd L.WORD R.feed self.old self.new)) }
-        ensures fails { IfErr result (fed.Fails L.WORD R.feed self.old self.new) }
-        ensures ended { HasEnded self.old → Repeats (Ok false) self.old self.new result }
-        ensures failed { (fault : _) → HasFailed self.old fault
-            → Repeats (Err fault) self.old self.new result }
-    {
-        self.read_kept(into, Keeping::Both)
-    }
-
-    /// Does what `read_key` does, and says it of any bytes that agree with what was taken.
-    pub fn read_key_fed(&mut self, into: &mut Record) -> Result<bool, WalkFault>
-        ensures gives { IfOk result (λ given. MatchBool given
-            (fed.GivesKey L.WORD R.feed self.old self.new into.new.key.items)
-            (fed.GivesEnd L.WORD R.feed self.old self.new)) }
-        ensures value { into.new.value ≡ into.old.value }
-        ensures fails { IfErr result (fed.Fails L.WORD R.feed self.old self.new) }
-        ensures ended { HasEnded self.old → Repeats (Ok false) self.old self.new result }
-        ensures failed { (fault : _) → HasFailed self.old fault
-            → Repeats (Err fault) self.old self.new result }
-    {
-        self.read_kept(into, Keeping::Key)
-    }
-
     /// Reads the next record, of which so much is kept, and notes what to do next.
     #[inline(always)]
     fn read_kept(&mut self, into: &mut Record, keeping: Keeping) -> Result<bool, WalkFault>
         ensures gives { IfOk result (λ given. MatchBool given
-            (fed.GivesKept L.WORD R.feed self.old self.new keeping into.new)
-            (fed.GivesEnd L.WORD R.feed self.old self.new)) }
+            (GivesKept L.WORD R.feed self.old self.new keeping into.new)
+            (GivesEnd L.WORD R.feed self.old self.new)) }
         ensures value { keeping ≡ Key → into.new.value ≡ into.old.value }
-        ensures fails { IfErr result (fed.Fails L.WORD R.feed self.old self.new) }
+        ensures fails { IfErr result (Fails L.WORD R.feed self.old self.new) }
         ensures ended { HasEnded self.old → Repeats (Ok false) self.old self.new result }
         ensures failed { (fault : _) → HasFailed self.old fault
             → Repeats (Err fault) self.old self.new result }
@@ -238,25 +186,25 @@ impl<R: Feeds, L: Width> RecordReader<R, L> {
     fn first(&mut self, into: &mut Record, keeping: Keeping) -> Result<bool, WalkFault>
         ensures record { IfOk result (λ given. OnTrue given
             ((r : KeyValue) × IsKept keeping into.new r
-            × fed.Between R.feed self.old self.new (λ text rest.
+            × Between R.feed self.old self.new (λ text rest.
             (walk_of L.WORD text ≡ with_first r (walk_left L.WORD self.new rest))
             × (behind_end L.WORD self.new rest ≡ behind_records L.WORD text))
-            × taking.ReadsFirst r (walk_of L.WORD) (walk_left L.WORD self.new)
+            × ReadsFirst r (walk_of L.WORD) (walk_left L.WORD self.new)
             (R.feed self.old.reader) (R.feed self.new.reader))) }
         ensures value { keeping ≡ Key → into.new.value ≡ into.old.value }
         ensures fewer { IfOk result (λ given.
             OnTrue given (IsGoing self.new × (bytes_left self.new < 2 ^ 64))) }
         ensures end { IfOk result (λ given.
-            OnFalse given (fed.Between R.feed self.old self.new (λ text rest.
+            OnFalse given (Between R.feed self.old self.new (λ text rest.
             (walk_of L.WORD text ≡ no_walk) × (rest ≡ behind_records L.WORD text)))) }
-        ensures fails { IfErr result (λ f. fed.Between R.feed self.old self.new (λ text rest.
+        ensures fails { IfErr result (λ f. Between R.feed self.old self.new (λ text rest.
             (IsDamage f → walk_of L.WORD text ≡ stopped_by f)
             × StillFrom (max (head_size L.WORD) (record_end L.WORD text)) text rest)) }
         ensures header { IfErr result (λ f.
             IsDamage f →
-            taking.ReadsNoFurther (head_size L.WORD + pair_size L.WORD)
+            ReadsNoFurther (head_size L.WORD + pair_size L.WORD)
             (R.feed self.old.reader) (R.feed self.new.reader)) }
-        ensures part { OnErr result (taking.ReadsNoRecord (walk_of L.WORD)
+        ensures part { OnErr result (ReadsNoRecord (walk_of L.WORD)
             (R.feed self.old.reader) (R.feed self.new.reader)) }
     {
         let area = read_area::<R, L>(&mut self.reader)?;
@@ -273,11 +221,11 @@ impl<R: Feeds, L: Width> RecordReader<R, L> {
     ) -> Result<bool, WalkFault>
         ensures record { IfOk result (λ given. OnTrue given
             ((r : KeyValue) × IsKept keeping into.new r
-            × fed.Between R.feed self.old self.new (λ text rest.
+            × Between R.feed self.old self.new (λ text rest.
             (walk_from L.WORD area.place area.end text
             ≡ with_first r (walk_left L.WORD self.new rest))
             × (behind_end L.WORD self.new rest ≡ drop (area.end - area.place) text))
-            × taking.ReadsFirst r (walk_from L.WORD area.place area.end) (walk_left L.WORD self.new)
+            × ReadsFirst r (walk_from L.WORD area.place area.end) (walk_left L.WORD self.new)
             (R.feed self.old.reader) (R.feed self.new.reader))) }
         ensures value { keeping ≡ Key → into.new.value ≡ into.old.value }
         ensures fewer { IfOk result (λ given.
@@ -285,14 +233,14 @@ impl<R: Feeds, L: Width> RecordReader<R, L> {
         ensures end { IfOk result (λ given.
             OnFalse given (((text : List ℕ) → walk_from L.WORD area.place area.end text ≡ no_walk)
             × (area.place ≡ area.end) × (self.new ≡ self.old))) }
-        ensures fails { IfErr result (λ f. fed.Between R.feed self.old self.new (λ text rest.
+        ensures fails { IfErr result (λ f. Between R.feed self.old self.new (λ text rest.
             (IsDamage f → walk_from L.WORD area.place area.end text ≡ stopped_by f)
             × StillFrom (area.end - area.place) text rest)) }
         ensures header { IfErr result (λ f.
             IsDamage f →
-            taking.ReadsNoFurther (pair_size L.WORD)
+            ReadsNoFurther (pair_size L.WORD)
             (R.feed self.old.reader) (R.feed self.new.reader)) }
-        ensures part { OnErr result (taking.ReadsNoRecord (walk_from L.WORD area.place area.end)
+        ensures part { OnErr result (ReadsNoRecord (walk_from L.WORD area.place area.end)
             (R.feed self.old.reader) (R.feed self.new.reader)) }
     {
         if area.place == area.end {

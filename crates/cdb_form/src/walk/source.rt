@@ -1,12 +1,12 @@
 // Bytes of a file from a reader. That it has no more is a damage of the file.
 ghost use Rattle.std.specs.Prelude.{◌+◌, ◌≡◌, ◌<◌, length, OnOk, OnErr, IfOk, IfErr};
-ghost use Rattle.cdb_form.specs.Fed.Feed.{Consumes};
+ghost use Rattle.cdb_form.specs.Views.Feed.{Consumes};
 ghost use Rattle.cdb_form.specs.Format.Pair.{head_size, pair_size};
 ghost use Rattle.cdb_form.specs.Format.Record.{AreBytes, KeyValue};
 ghost use Rattle.cdb_form.specs.declared.walk.fault.WalkFault.TheVariants.{Short};
 ghost use Rattle.cdb_form.specs.declared.walk.keeping.Keeping.TheVariants.{Key};
-ghost use Rattle.cdb_form.specs.Fed.Taking.{BodyRead, HeadRead, HeaderRead, LosesAtMost, LosesFewer};
-ghost use Rattle.cdb_form.specs.Fed.Taking.{Passes, ReadsShort, ValueRead};
+ghost use Rattle.cdb_form.specs.Views.Taking.{BodyRead, HeadRead, HeaderRead, LosesAtMost, LosesFewer};
+ghost use Rattle.cdb_form.specs.Views.Taking.{Passes, ReadsShort, ValueRead};
 ghost use Rattle.cdb_form.specs.Views.Reading.{IsKept};
 ghost use Rattle.cdb_form.specs.Views.WalkFault.{IsDamage};
 

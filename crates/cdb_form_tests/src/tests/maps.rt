@@ -1,16 +1,16 @@
 // The map reader and the writers of maps and keys, on texts worked out by hand, and over readers
 // and writers that fail.
-ghost use Rattle.std.specs.Prelude.{◌≡◌, ◌≢◌, ◌≤◌, ◌^◌, ◌++◌, List, IfOk, IfErr, IfSome};
+ghost use Rattle.std.specs.Prelude.{◌≡◌, ◌≢◌, ◌≤◌, ◌^◌, ◌++◌, List, IfOk, IfErr};
 ghost use Rattle.cdb_form.specs.Format.Record.{KeyValue};
 ghost use Rattle.cdb_form.specs.Text.Map.{map_lines};
-ghost use Rattle.cdb_form.specs.Views.KnownBytes.{FromTo};
-ghost use Rattle.cdb_form.specs.Views.MapReader.{HasEnded, IsGoing, ReadAmid, unread};
+ghost use Rattle.cdb_form.specs.Views.Feed.{FromTo};
+ghost use Rattle.cdb_form.specs.Views.MapReader.{HasEnded, IsGoing, ReadAmid, reader_of};
 ghost use Rattle.cdb_form.specs.Views.Pairs.{key_values};
 ghost use Rattle.cdb_form.specs.declared.text.fault.TextFault.TheVariants.{NoMemory};
 
 use super::fakes::{Behind, FakeReader, FakeWriter};
 use cdb_form::{
-    MapReader, OutFault, Record, TextFault, write_end, write_list_record, write_map_key,
+    Feeds, MapReader, OutFault, Record, TextFault, write_end, write_list_record, write_map_key,
     write_map_record,
 };
 use std::alloc::{AllocError, Global};
@@ -61,19 +61,20 @@ fn reads<R: Read + Drop>(
 
 /// As many of the next records, or fewer at the end of the input. It shows that the clauses of each
 /// call lead to the whole text.
-fn next_records<R: Read>(
+fn next_records<F: Feeds>(
     alloc: Global,
-    maps: &mut MapReader<R>,
+    maps: &mut MapReader<F>,
     most: usize,
 ) -> Result<Vec<Record>, TextFault>
     requires { IsGoing maps.old }
     ensures some { IfOk result (λ given. IsGoing maps.new
-        → FromTo (unread R.remaining maps.old) (unread R.remaining maps.new) (λ text rest.
+        → FromTo (F.feed (reader_of maps.old)) (F.feed (reader_of maps.new)) (λ text rest.
         map_lines text ≡ key_values given.items ++ map_lines rest)) }
     ensures all { IfOk result (λ given. HasEnded maps.new
-        → IfSome (unread R.remaining maps.old) (λ text. map_lines text ≡ key_values given.items)) }
+        → FromTo (F.feed (reader_of maps.old)) (F.feed (reader_of maps.new)) (λ text rest.
+        map_lines text ≡ key_values given.items)) }
     ensures amid { IfErr result (λ fault. fault ≢ NoMemory
-        → FromTo (unread R.remaining maps.old) (unread R.remaining maps.new) (λ text rest.
+        → FromTo (F.feed (reader_of maps.old)) (F.feed (reader_of maps.new)) (λ text rest.
         (given : List KeyValue) × ReadAmid text rest given)) }
 {
     let mut given = Vec::new(alloc);

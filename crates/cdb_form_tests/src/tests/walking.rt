@@ -1,29 +1,32 @@
 // The reader of records, on worked, damaged and foreign files, and over readers that fail.
-ghost use Rattle.std.specs.Prelude.{◌≡◌, Some, None, IfOk, IfSome, MatchOption};
+ghost use Rattle.std.specs.Prelude.{◌≡◌, None, IfOk, MatchOption};
 ghost use Rattle.cdb_form.specs.Format.Walk.{walk_of};
+ghost use Rattle.cdb_form.specs.Views.Feed.{FromTo};
+ghost use Rattle.cdb_form.specs.Views.RecordReader.{IsFresh, reader_of};
 ghost use Rattle.cdb_form.specs.Views.WalkFault.{IsDamage, damage_of};
 ghost use Rattle.cdb_form.specs.Views.Pairs.{key_values};
 
 use super::fakes::{Behind, FakeReader};
-use cdb_form::{Narrow, Record, RecordReader, WalkFault, Wide, Width};
+use cdb_form::{Feeds, Narrow, Record, RecordReader, WalkFault, Wide, Width};
 use std::alloc::{AllocError, Global};
 use std::io::Read;
 use std::prelude::*;
 use std::test::Fail;
 
 // The records of a file and its fault: a caller that is proved to have the walk.
-fn walk<L: Width, R: Read + Drop>(
+fn walk<L: Width, F: Feeds>(
     alloc: Global,
-    reader: R,
+    reader: &mut RecordReader<F, L>,
 ) -> Result<(Vec<Record>, Option<WalkFault>), AllocError>
+    requires { IsFresh reader.old }
     ensures { IfOk result (λ p. MatchOption p.1
-        (IfSome (R.remaining reader) (λ text. walk_of L.WORD text
-        ≡ record { records = key_values p.0.items; damage = None }))
-        (λ f. IsDamage f → IfSome (R.remaining reader) (λ text. walk_of L.WORD text
-        ≡ record { records = key_values p.0.items; damage = damage_of f }))) }
+        (FromTo (F.feed (reader_of reader.old)) (F.feed (reader_of reader.new)) (λ text rest.
+        walk_of L.WORD text ≡ record { records = key_values p.0.items; damage = None }))
+        (λ f. IsDamage f
+        → FromTo (F.feed (reader_of reader.old)) (F.feed (reader_of reader.new)) (λ text rest.
+        walk_of L.WORD text ≡ record { records = key_values p.0.items; damage = damage_of f }))) }
 {
     let mut records = Vec::new(alloc);
-    let mut reader: RecordReader<R, L> = RecordReader::new(alloc, reader);
     loop {
         match reader.next() {
             Ok(Some(record)) => records.push(record)?,
@@ -40,7 +43,8 @@ fn walks<L: Width, R: Read + Drop>(
     records: usize,
     fault: Option<WalkFault>,
 ) -> Result<bool, AllocError> {
-    let (given, found) = walk::<L, R>(alloc, reader)?;
+    let mut reader: RecordReader<R, L> = RecordReader::new(alloc, reader);
+    let (given, found) = walk::<L, R>(alloc, &mut reader)?;
     Ok(given.len() == records && found == fault)
 }
 
@@ -67,7 +71,7 @@ const TWO_BODY: &[u8] = b"\x03\0\0\0\x05\0\0\0oneHello\x03\0\0\0\x07\0\0\0twoGoo
     \0\0\0\0\0\0\0\0\x81\x5b\x87\x0b\0\x08\0\0";
 
 // The file of two records, whose tables begin at 2082 and 2098.
-pub(super) fn two_file(alloc: Global) -> Result<Vec<u8>, AllocError> {
+fn two_file(alloc: Global) -> Result<Vec<u8>, AllocError> {
     let mut file = Vec::new(alloc);
     for n in 0..256usize {
         let place = match n {
@@ -124,7 +128,8 @@ fn put_words(file: &mut [u8], table: usize, place: u32, slots: u32) {
 
 // Whether a file has exactly these records, and no fault.
 fn gives(alloc: Global, file: &[u8], want: &[(&[u8], &[u8])]) -> Result<bool, AllocError> {
-    let (records, fault) = walk::<Narrow, &[u8]>(alloc, file)?;
+    let mut reader: RecordReader<&[u8], Narrow> = RecordReader::new(alloc, file);
+    let (records, fault) = walk::<Narrow, &[u8]>(alloc, &mut reader)?;
     let mut is_same = fault.is_none() && records.len() == want.len();
     for (record, (key, value)) in records.iter().zip(want.iter()) {
         is_same = is_same && record.key.as_slice() == *key && record.value.as_slice() == *value;

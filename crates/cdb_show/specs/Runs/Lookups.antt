@@ -1,26 +1,26 @@
--- What a query of the keys that some inputs give leaves. An image is one of its store as it was
--- handed back.
-use Rattle.std.specs.Prelude.{ℕ, ◌≡◌, ◌≢◌, ◌+◌, ◌<◌, ◌≤◌, ◌⊎◌, Bool, true, false, List, ◌++◌, length}
-use Rattle.std.specs.Prelude.{Option, Result, Ok, Err, IfSome}
-use Rattle.std.specs.Io.KnownBytes.{Appends}
+-- What a query of the keys that some inputs give leaves, whatever bytes agree with the readers of the
+-- inputs as they come back. An image is one of its store as it was handed back.
+use Rattle.std.specs.Prelude.{ℕ, ◌≡◌, ◌≢◌, ◌+◌, ◌<◌, ◌≤◌, ◌⊎◌, Bool, true, false, List, [], ◌++◌, length}
+use Rattle.std.specs.Prelude.{Option, Result, Ok, Err}
+use Rattle.std.specs.Io.KnownBytes.{Appends, Keeps}
 use Rattle.cdb_store.specs.Reads.{OnlyReads}
-use Rattle.cdb_form.specs.Fed.Feed.{Feed}
-use Rattle.cdb_form.specs.Fed.Feed as fed
+use Rattle.cdb_feed.specs.Inputs.{Stop, NoMore, NotBegun}
+use Rattle.cdb_form.specs.Views.Feed.{Feed, FromTo}
 use Rattle.cdb_form.specs.Format.Pair.{head_size}
 use Rattle.cdb_form.specs.Text.Amending.{Change}
 use Rattle.cdb_form.specs.Views.KnownBytes.{AppendsPrefix}
 use Rattle.cdb_form.specs.Views.TextFault.{IsOfText}
 use Rattle.cdb_form.specs.declared.text.fault.TextFault.{TextFault}
 use Rattle.cdb_form.specs.declared.text.fault.TextFault.TheVariants as text_fault
-use Rattle.cdb_read.specs.declared.fault.ReadFault.TheVariants as read
+use Rattle.cdb_read.specs.declared.fault.ReadFault.TheVariants as read_fault
 use Rattle.cdb_show.specs.Runs.Flushed.{FlushedWhole}
 use Rattle.cdb_show.specs.Runs.Form.{end_of}
-use Rattle.cdb_show.specs.Runs.Inputs.{InputForm, InputsLeft, AreAllInputs, AreInputs, FirstBegins}
-use Rattle.cdb_show.specs.Runs.Inputs.{FirstHas, BeginsWithItems, HasFaults, HasItemFault, keys_form, keys_of}
-use Rattle.cdb_show.specs.Runs.Inputs.{keys_of_each}
+use Rattle.cdb_show.specs.Runs.Inputs.{InputForm, BeginsWithItems, HasFaults, HasItemFault, keys_form}
+use Rattle.cdb_show.specs.Runs.Inputs.{keys_of, keys_of_each}
 use Rattle.cdb_show.specs.Runs.LookedUp.{looked_up}
-use Rattle.cdb_show.specs.Runs.LookupTask.{LookupTask}
-use Rattle.cdb_show.specs.Runs.Query.{IsShortForQuery}
+use Rattle.cdb_show.specs.Runs.LookupTask.{LookupState, LookupTask, lookup_state}
+use Rattle.cdb_show.specs.Runs.Parsing.{IsFaultOf, StopsIn, fault_in, stop_of, stopped_parsing}
+use Rattle.cdb_show.specs.Views.Inputs.{AreReadTo}
 use Rattle.cdb_show.specs.declared.fault.Fault.{Fault}
 use Rattle.cdb_show.specs.declared.fault.Fault.TheVariants.{Text, Missing, Read, Output, NoMemory}
 
@@ -48,11 +48,11 @@ HasLooked t keys store start end missing = ComesTo t keys store start end (missi
 -- and a prefix of their text was appended; or after them
 abbrev pub LookupsStopAt : {S : Type 0} → LookupTask S → List (List ℕ) → (old new : S)
     → (start end : Option (List ℕ)) → Fault → Type 0
-LookupsStopAt t keys old new start end (Read (read.Table n)) =
-    ComesTo t keys new start end (Err (Read (read.Table n)))
-LookupsStopAt t keys old new start end (Read (read.Record place)) =
-    ComesTo t keys new start end (Err (Read (read.Record place)))
-LookupsStopAt t keys old new start end (Read read.Device) =
+LookupsStopAt t keys old new start end (Read (read_fault.Table n)) =
+    ComesTo t keys new start end (Err (Read (read_fault.Table n)))
+LookupsStopAt t keys old new start end (Read (read_fault.Record place)) =
+    ComesTo t keys new start end (Err (Read (read_fault.Record place)))
+LookupsStopAt t keys old new start end (Read read_fault.Device) =
     (t.store.failures old < t.store.failures new)
     × ((b : List ℕ) → t.store.image new b
     → AppendsPrefix start end (looked_up t.word b t.options keys).text)
@@ -66,21 +66,19 @@ LookupsStopAt t keys old new start end (Text input fault) =
     (missing : Bool) × HasLooked t keys new start end missing
 LookupsStopAt t keys old new start end fault = ⊥
 
--- ---- the inputs that give them
+-- ---- the keys of an input
 
--- an input with these bytes has this fault after these items: no failed allocation, and a map text has
--- no fault of its own
-pub record FaultOf (form : InputForm) (greatest : ℕ) (last : List Change) (bytes : Option (List ℕ))
-    (f : TextFault) : Type 0 where
-  pub has : IfSome bytes (HasItemFault form greatest last f)
-  pub own : IsOfText f → HasFaults form
-  pub memory : f ≢ text_fault.NoMemory
+-- a run stopped in this text after these items, with this fault of it or for another reason
+abbrev pub StopsInText : {S : Type 0} → LookupTask S → Option TextFault → List Change
+    → (text rest : List ℕ) → Type 0
+StopsInText t fault last text rest =
+    StopsIn (stopped_parsing (keys_form t.options.style) t.greatest fault) (stop_of fault last) text
 
 -- whatever bytes agree, an input has this fault after these items: no failed allocation, and a map text
 -- has no fault of its own
 pub record FaultBehind (form : InputForm) (greatest : ℕ) (last : List Change) (old new : Feed) (f : TextFault)
     : Type 0 where
-  pub has : fed.FromTo old new (λ text rest. HasItemFault form greatest last f text)
+  pub has : FromTo old new (λ text rest. HasItemFault form greatest last f text)
   pub own : IsOfText f → HasFaults form
   pub memory : f ≢ text_fault.NoMemory
 
@@ -88,64 +86,73 @@ pub record FaultBehind (form : InputForm) (greatest : ℕ) (last : List Change) 
 -- fault of a text is one of this input
 pub record StopsBehind (form : InputForm) (greatest input : ℕ) (last : List Change) (old new : Feed)
     (fault : Fault) : Type 0 where
-  pub begins : fed.FromTo old new (λ text rest. BeginsWithItems form greatest last text)
+  pub begins : FromTo old new (λ text rest. BeginsWithItems form greatest last text)
   pub of_text : (n : ℕ) (f : TextFault) → fault ≡ Text n f
       → (n ≡ input) × FaultBehind form greatest last old new f
 
--- the first of the inputs that are left has this fault, after these items
-pub record HasFaultIn (form : InputForm) (greatest : ℕ) (last : List Change) (rest : InputsLeft)
-    (f : TextFault) : Type 0 where
-  pub input : Option (List ℕ)
-  pub first : FirstHas rest input
-  pub has : FaultOf form greatest last input f
+-- ---- those of all inputs
 
--- in one of the inputs, after the inputs that were read
-pub record LookupsStop {S : Type 0} (t : LookupTask S) (inputs : InputsLeft) (old new : S) (start end : Option (List ℕ)) (fault : Fault) : Type 0
-  where
-    pub read : List (List Change)
-    pub last : List Change
-    pub rest : InputsLeft
-    pub are : AreInputs (keys_form t.options.style) t.greatest read inputs rest
-    pub begins : FirstBegins (keys_form t.options.style) t.greatest last rest
-    pub stops : LookupsStopAt t (keys_of_each read ++ keys_of last) old new start end fault
-    pub of_text : (n : ℕ) (f : TextFault) → fault ≡ Text n f
-        → (n ≡ length read + 1) × HasFaultIn (keys_form t.options.style) t.greatest last rest f
-
--- all keys of all inputs were looked up, and this holds of their text and of what ends it
-pub record LooksUpAll {S : Type 0} (t : LookupTask S) (inputs : InputsLeft) (store : S)
+-- they were looked up, and this holds of their text and of what ends it
+pub record LooksUpRead {S : Type 0} (t : LookupTask S) (read : List (List Change)) (store : S)
     (missing : Bool) (Writes : List ℕ → Type 0) : Type 0 where
-  pub read : List (List Change)
-  pub are : AreAllInputs (keys_form t.options.style) t.greatest read inputs
   pub long : head_size t.word ≤ t.store.size store
   pub answered : (b : List ℕ) → t.store.image store b
       → (looked_up t.word b t.options (keys_of_each read)).answer ≡ missing_answer missing
   pub written : (b : List ℕ) → t.store.image store b
       → Writes ((looked_up t.word b t.options (keys_of_each read)).text ++ end_of t.options.style)
 
--- what a fault leaves: nothing of a store without a head; if the writer failed, a prefix of the text of
--- the keys so far, or of all and of what ends it
-abbrev pub LookupsFail : {S : Type 0} → LookupTask S → InputsLeft → (old new : S)
-    → (start end : Option (List ℕ)) → Fault → Type 0
-LookupsFail t inputs old new start end (Read read.Short) =
-    IsShortForQuery t.word t.store old new start end
-LookupsFail t inputs old new start end Output =
-    LookupsStop t inputs old new start end Output
-    ⊎ ((missing : Bool) × LooksUpAll t inputs new missing (AppendsPrefix start end))
-LookupsFail t inputs old new start end fault = LookupsStop t inputs old new start end fault
+-- after the inputs that were read the run stopped in the next input, after these items
+pub record StopsInNext {J I S : Type 0} (t : LookupTask S) (read : List (List Change))
+    (stop : Stop Change TextFault) (old new : LookupState J I S) (fault : Fault) : Type 0 where
+  pub last : List Change
+  pub is_stop : stop ≡ stop_of (fault_in (Err fault)) last
+  pub stops : LookupsStopAt t (keys_of_each read ++ keys_of last) old.store new.store old.output
+      new.output fault
+  pub is_fault : IsFaultOf (keys_form t.options.style) (length read + 1) fault
+
+-- the store was not opened: no input was begun, and nothing was written
+pub record IsUnopened {J I S : Type 0} (read : List (List Change)) (stop : Stop Change TextFault)
+    (old new : LookupState J I S) (Why : Type 0) : Type 0 where
+  pub none : read ≡ []
+  pub is_stop : stop ≡ NotBegun
+  pub same : new.inputs ≡ old.inputs
+  pub kept : Keeps old.output new.output
+  pub why : Why
+
+-- what a fault leaves: if the writer failed, a prefix of the text of the keys so far, or of all and of
+-- what ends it
+abbrev pub LookupsFail : {J I S : Type 0} → LookupTask S → List (List Change)
+    → Stop Change TextFault → (old new : LookupState J I S) → Fault → Type 0
+LookupsFail t read stop old new (Read read_fault.Short) =
+    IsUnopened read stop old new
+    ((t.store.size old.store < head_size t.word) × (new.store ≡ old.store))
+LookupsFail t read stop old new (Read read_fault.Device) =
+    StopsInNext t read stop old new (Read read_fault.Device)
+    ⊎ IsUnopened read stop old new (t.store.failures old.store < t.store.failures new.store)
+LookupsFail t read stop old new Output =
+    StopsInNext t read stop old new Output
+    ⊎ ((missing : Bool) × (stop ≡ NoMore)
+    × LooksUpRead t read new.store missing (AppendsPrefix old.output new.output))
+LookupsFail t read stop old new fault = StopsInNext t read stop old new fault
 
 -- what the run leaves before its writer is flushed
-pub record LookupsLeave {S : Type 0} (t : LookupTask S) (inputs : InputsLeft) (old new : S)
-    (start end : Option (List ℕ)) (result : Result Unit Fault) : Type 0 where
-  pub reads : OnlyReads t.store old new
+pub record LookupsLeave {J I S : Type 0} (t : LookupTask S) (own : J → Feed) (shared : I → Feed)
+    (old new : LookupState J I S) (result : Result Unit Fault) : Type 0 where
+  pub reads : OnlyReads t.store old.store new.store
+  pub read : List (List Change)
+  pub stop : Stop Change TextFault
+  pub are : AreReadTo own shared
+      (stopped_parsing (keys_form t.options.style) t.greatest (fault_in result)) read stop old.inputs
+      new.inputs
   pub all : (missing : Bool) → result ≡ missing_answer missing
-      → LooksUpAll t inputs new missing (Appends start end)
+      → (stop ≡ NoMore) × LooksUpRead t read new.store missing (Appends old.output new.output)
   pub fails : (fault : Fault) → result ≡ Err fault → fault ≢ Missing
-      → LookupsFail t inputs old new start end fault
+      → LookupsFail t read stop old new fault
 
 -- and then
-pub record LooksUp {S : Type 0} (t : LookupTask S) (inputs : InputsLeft) (old new : S)
-    (start end : Option (List ℕ)) (result : Result Unit Fault) : Type 0 where
+pub record LooksUp {J I S : Type 0} (t : LookupTask S) (own : J → Feed) (shared : I → Feed)
+    (old new : LookupState J I S) (result : Result Unit Fault) : Type 0 where
   pub mid : Option (List ℕ)
   pub answer : Result Unit Fault
-  pub leaves : LookupsLeave t inputs old new start mid answer
-  pub flushed : FlushedWhole mid end answer result
+  pub leaves : LookupsLeave t own shared old (lookup_state new.inputs new.store mid) answer
+  pub flushed : FlushedWhole mid new.output answer result

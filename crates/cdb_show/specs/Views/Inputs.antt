@@ -4,7 +4,7 @@ use Rattle.cdb_feed.specs.Inputs.{AreRead, Stop, reached}
 use Rattle.cdb_feed.specs.Parsing.{Parsing}
 use Rattle.cdb_feed.specs.declared.input_reader.InputReader.{InputReader}
 use Rattle.cdb_feed.specs.declared.input_reader.InputReader.TheVariants as reader
-use Rattle.cdb_form.specs.Fed.Feed.{Feed}
+use Rattle.cdb_form.specs.Views.Feed.{Feed}
 use Rattle.cdb_show.specs.Runs.Inputs.{InputsLeft, OneInput, Own, Shared}
 use Rattle.cdb_show.specs.Views.Window as window
 use Rattle.cdb_show.specs.declared.inputs.Inputs.{Inputs}

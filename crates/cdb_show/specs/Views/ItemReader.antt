@@ -1,13 +1,11 @@
 -- What a clause reads of the reader of an input, whatever its form and whatever gives its bytes.
 use Rattle.std.specs.Prelude.{List, false, true, ◌≡◌, ◌^◌, ℕ}
-use Rattle.cdb_form.specs.Fed.Feed.{Feed}
-use Rattle.cdb_form.specs.Fed.FormReader as fed
-use Rattle.cdb_form.specs.Fed.MapReader as fed_map
+use Rattle.cdb_form.specs.Views.Feed.{Feed}
+use Rattle.cdb_form.specs.Views.FormReader as fed
+use Rattle.cdb_form.specs.Views.MapReader as fed_map
 use Rattle.cdb_form.specs.Format.Record.{KeyValue}
 use Rattle.cdb_form.specs.Text.Amending.{Change, Putting, SpellsChange}
 use Rattle.cdb_form.specs.Text.Native.{Spells}
-use Rattle.cdb_form.specs.Views.FormReader as text
-use Rattle.cdb_form.specs.Views.MapReader as map
 use Rattle.cdb_form.specs.declared.text.fault.TextFault.{TextFault}
 use Rattle.cdb_command.specs.declared.style.Style.TheVariants as style
 use Rattle.cdb_show.specs.Runs.Inputs.{InputForm}
@@ -23,22 +21,22 @@ form_of (Map t) = form.Puts style.Map
 
 -- what gives its bytes
 abbrev pub reader_of : {F L : Type 0} → ItemReader F L → F
-reader_of (Form t removals) = text.reader_of t
-reader_of (Map t) = map.reader_of t
+reader_of (Form t removals) = fed.reader_of t
+reader_of (Map t) = fed_map.reader_of t
 
 -- how many bytes it took, and how many requests its reader may still get
 abbrev pub taken_of : {F L : Type 0} → ItemReader F L → ℕ
-taken_of (Form t removals) = text.taken_of t
-taken_of (Map t) = map.taken_of t
+taken_of (Form t removals) = fed.taken_of t
+taken_of (Map t) = fed_map.taken_of t
 
 abbrev pub asks_left : {F L : Type 0} → ItemReader F L → ℕ
-asks_left (Form t removals) = text.asks_left t
-asks_left (Map t) = map.asks_left t
+asks_left (Form t removals) = fed.asks_left t
+asks_left (Map t) = fed_map.asks_left t
 
 -- it has reported neither the end nor a fault
 abbrev pub IsGoing : {F L : Type 0} → ItemReader F L → Type 0
-IsGoing (Form t removals) = text.IsGoing t
-IsGoing (Map t) = map.IsGoing t
+IsGoing (Form t removals) = fed.IsGoing t
+IsGoing (Map t) = fed_map.IsGoing t
 
 -- nothing was taken yet, and its reader may get 2^48 requests
 pub record IsNew {F L : Type 0} (t : ItemReader F L) : Type 0 where
@@ -48,8 +46,8 @@ pub record IsNew {F L : Type 0} (t : ItemReader F L) : Type 0 where
 
 -- the next item is a record that is whole at hand, spelled by n bytes there
 abbrev pub HasPeeked : {F L : Type 0} → (F → List ℕ) → ℕ → ItemReader F L → ℕ → KeyValue → Type 0
-HasPeeked held greatest (Form t removals) n r = text.HasPeeked held greatest t n r
-HasPeeked held greatest (Map t) n r = map.HasPeeked held t n r
+HasPeeked held greatest (Form t removals) n r = fed.HasPeeked held greatest t n r
+HasPeeked held greatest (Map t) n r = fed_map.HasPeeked held t n r
 
 -- a call gave an item, reported the end, or answered a fault, as a reader of its form does
 abbrev pub GivesItem : {F L : Type 0} → ℕ → (F → Feed) → ItemReader F L → ItemReader F L → Change

@@ -1,12 +1,10 @@
 -- What a clause reads of the reader of the keys of an input, whatever its form and whatever gives its
 -- bytes.
 use Rattle.std.specs.Prelude.{List, ◌≡◌, ◌^◌, ℕ}
-use Rattle.cdb_form.specs.Fed.Feed.{Feed}
-use Rattle.cdb_form.specs.Fed.ListReader as fed_list
-use Rattle.cdb_form.specs.Fed.MapReader as fed_map
+use Rattle.cdb_form.specs.Views.Feed.{Feed}
+use Rattle.cdb_form.specs.Views.ListReader as fed_list
+use Rattle.cdb_form.specs.Views.MapReader as fed_map
 use Rattle.cdb_form.specs.Format.Record.{KeyValue}
-use Rattle.cdb_form.specs.Views.ListReader as lists
-use Rattle.cdb_form.specs.Views.MapReader as map
 use Rattle.cdb_form.specs.declared.text.fault.TextFault.{TextFault}
 use Rattle.cdb_form.specs.declared.text.map_reader.MapReader.{MapReader}
 use Rattle.cdb_command.specs.declared.style.Style.TheVariants as style
@@ -22,22 +20,22 @@ form_of (reader.Map t) = form.Puts style.Map
 
 -- what gives its bytes
 abbrev pub reader_of : {F L : Type 0} → KeyReader F L → F
-reader_of (reader.List t) = lists.reader_of t
-reader_of (reader.Map t) = map.reader_of t
+reader_of (reader.List t) = fed_list.reader_of t
+reader_of (reader.Map t) = fed_map.reader_of t
 
 -- how many bytes it took, and how many requests its reader may still get
 abbrev pub taken_of : {F L : Type 0} → KeyReader F L → ℕ
-taken_of (reader.List t) = lists.taken_of t
-taken_of (reader.Map t) = map.taken_of t
+taken_of (reader.List t) = fed_list.taken_of t
+taken_of (reader.Map t) = fed_map.taken_of t
 
 abbrev pub asks_left : {F L : Type 0} → KeyReader F L → ℕ
-asks_left (reader.List t) = lists.asks_left t
-asks_left (reader.Map t) = map.asks_left t
+asks_left (reader.List t) = fed_list.asks_left t
+asks_left (reader.Map t) = fed_map.asks_left t
 
 -- it has reported neither the end nor a fault
 abbrev pub IsGoing : {F L : Type 0} → KeyReader F L → Type 0
-IsGoing (reader.List t) = lists.IsGoing t
-IsGoing (reader.Map t) = map.IsGoing t
+IsGoing (reader.List t) = fed_list.IsGoing t
+IsGoing (reader.Map t) = fed_map.IsGoing t
 
 -- nothing was taken yet, and its reader may get 2^48 requests
 pub record IsNew {F L : Type 0} (t : KeyReader F L) : Type 0 where

@@ -1,6 +1,6 @@
 -- What is known of a window over a reader.
 use Rattle.std.specs.Prelude.{ℕ, List, ◌≡◌, ◌++◌, ◌-◌, take, drop}
-use Rattle.cdb_form.specs.Fed.Feed.{Feed}
+use Rattle.cdb_form.specs.Views.Feed.{Feed}
 use Rattle.cdb_show.specs.declared.window.Window.{Window}
 
 -- the bytes in the window that were not given yet

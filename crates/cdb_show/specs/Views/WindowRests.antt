@@ -1,7 +1,7 @@
 -- That all bytes of a window determine those that are left.
 use Rattle.std.specs.Prelude.{ℕ, List, ◌≡◌, ◌++◌}
 use Rattle.std.proofs.Common.{sym, ap, ◌∙◌}
-use Rattle.cdb_form.specs.Fed.Feed.{Feed}
+use Rattle.cdb_form.specs.Views.Feed.{Feed}
 use Rattle.cdb_show.specs.Views.Window.{Behind}
 
 pub same_held : {feed : Feed} {held whole xs ys : List ℕ}

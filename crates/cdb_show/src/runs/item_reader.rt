@@ -49,7 +49,7 @@ impl<F: Feeds, L: Width> ItemReader<F, L> {
         ensures fresh { IsNew result }
     {
         match style {
-            Style::Map => ItemReader::Map(MapReader::fed(alloc, reader, 1 << 48)),
+            Style::Map => ItemReader::Map(MapReader::with_bound(alloc, reader, 1 << 48)),
             Style::Native => ItemReader::Form {
                 reader: FormReader::new(reader, 1 << 48),
                 removals: amends,
@@ -77,7 +77,7 @@ impl<F: Feeds, L: Width> ItemReader<F, L> {
     {
         match self {
             ItemReader::Form { reader, .. } => reader.take_peeked::<A>(len),
-            ItemReader::Map(text) => text.take_fed::<A>(len),
+            ItemReader::Map(text) => text.take_peeked::<A>(len),
         }
     }
 
@@ -99,7 +99,7 @@ impl<F: Feeds, L: Width> ItemReader<F, L> {
     {
         match self {
             ItemReader::Form { reader, removals } => reader.read_into(into, *removals),
-            ItemReader::Map(text) => Ok(put_if(text.read_fed::<A>(into)?)),
+            ItemReader::Map(text) => Ok(put_if(text.read_buffered::<A>(into)?)),
         }
     }
 
@@ -109,7 +109,7 @@ impl<F: Feeds, L: Width> ItemReader<F, L> {
     {
         match self {
             ItemReader::Form { reader, .. } => reader.into_reader(),
-            ItemReader::Map(text) => text.into_fed(),
+            ItemReader::Map(text) => text.into_reader(),
         }
     }
 }

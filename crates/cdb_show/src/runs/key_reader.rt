@@ -24,8 +24,8 @@ impl<F: Feeds, L: Width> KeyReader<F, L> {
         ensures fresh { IsNew result }
     {
         match style {
-            Style::Native => KeyReader::List(ListReader::fed(reader, 1 << 48)),
-            Style::Map => KeyReader::Map(MapReader::fed(alloc, reader, 1 << 48)),
+            Style::Native => KeyReader::List(ListReader::with_bound(reader, 1 << 48)),
+            Style::Map => KeyReader::Map(MapReader::with_bound(alloc, reader, 1 << 48)),
         }
     }
 
@@ -39,8 +39,8 @@ impl<F: Feeds, L: Width> KeyReader<F, L> {
         ensures fails { IfErr result (Fails L.GREATEST F.feed self.old self.new) }
     {
         match self {
-            KeyReader::List(text) => text.read_fed(into),
-            KeyReader::Map(text) => text.read_fed::<A>(into),
+            KeyReader::List(text) => text.read_into(into),
+            KeyReader::Map(text) => text.read_buffered::<A>(into),
         }
     }
 
@@ -49,8 +49,8 @@ impl<F: Feeds, L: Width> KeyReader<F, L> {
         ensures { result ≡ reader_of self }
     {
         match self {
-            KeyReader::List(text) => text.into_fed(),
-            KeyReader::Map(text) => text.into_fed(),
+            KeyReader::List(text) => text.into_reader(),
+            KeyReader::Map(text) => text.into_reader(),
         }
     }
 }

@@ -2,7 +2,7 @@
 ghost use Rattle.std.specs.Prelude.{◌≤◌, List, IfSome, IfErr, OnOk};
 ghost use Rattle.std.proofs.Props.{props};
 ghost use Rattle.cdb_show.specs.Views.Output.{OutputSays};
-ghost use Rattle.cdb_form.specs.Fed.Feed as fed;
+ghost use Rattle.cdb_form.specs.Views.Feed as fed;
 ghost use Rattle.cdb_form.specs.Text.Amending.{Change};
 ghost use Rattle.cdb_show.specs.Runs.Inputs.{IsInputOf};
 ghost use Rattle.cdb_show.specs.Runs.LookedUp.{key_query};

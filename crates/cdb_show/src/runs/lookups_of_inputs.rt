@@ -2,9 +2,9 @@
 ghost use Rattle.std.specs.Prelude.{◌≡◌, ◌+◌, ◌≤◌, ◌++◌, ℕ, List, [], Option, None, Err};
 ghost use Rattle.std.specs.Prelude.{IfErr, IfSome, OnOk, drop, length};
 ghost use Rattle.cdb_feed.specs.Inputs.{AreRead, NoMore, TakesOne};
-ghost use Rattle.cdb_form.specs.Fed.Feed.{FromTo};
+ghost use Rattle.cdb_form.specs.Views.Feed.{FromTo};
 ghost use Rattle.cdb_form.specs.Text.Amending.{Change};
-ghost use Rattle.cdb_show.specs.Runs.FedLookups.{FedLookupsLeave, FedLooksUp, StopsInText};
+ghost use Rattle.cdb_show.specs.Runs.Lookups.{LookupsLeave, LooksUp, StopsInText};
 ghost use Rattle.cdb_show.specs.Runs.LookupTask.{lookup_state, lookup_task};
 ghost use Rattle.cdb_show.specs.Runs.Inputs.{IsInputOf, keys_form, keys_of, keys_of_each};
 ghost use Rattle.cdb_show.specs.Runs.Lookups.{HasLooked, LookupsStopAt, StopsBehind};
@@ -181,7 +181,7 @@ impl<'a, S: Store, L: Width> LookUps<'a, S, L> {
         inputs: Inputs<J, I>,
         w: &mut W,
     ) -> (Inputs<J, I>, Result<(), Fault>)
-        ensures leaves { FedLookupsLeave (task_of self.old) J.feed I.feed
+        ensures leaves { LookupsLeave (task_of self.old) J.feed I.feed
             (lookup_state inputs self.old.reader.store (W.contents w.old))
             (lookup_state result.0 self.new.reader.store (W.contents w.new)) result.1 }
         ensures output { OutputSays (W.failed w.new) result.1 }
@@ -222,7 +222,7 @@ fn lookups_unflushed<L: Width, S: Store, J: Feeds + Drop, I: Feeds, W: Sink>(
     w: &mut W,
 ) -> (S, Inputs<J, I>, Result<(), Fault>)
     requires { IfSome options.number (λ j. 1 ≤ j) }
-    ensures leaves { FedLookupsLeave (lookup_task L.WORD L.GREATEST S.Store options) J.feed I.feed
+    ensures leaves { LookupsLeave (lookup_task L.WORD L.GREATEST S.Store options) J.feed I.feed
         (lookup_state inputs store (W.contents w.old))
         (lookup_state result.1 result.0 (W.contents w.new)) result.2 }
     ensures output { OutputSays (W.failed w.new) result.2 }
@@ -275,7 +275,7 @@ pub fn lookups_run<L: Width, S: Store, J: Feeds + Drop, I: Feeds, W: Sink>(
     w: &mut W,
 ) -> (S, Inputs<J, I>, Result<(), Fault>)
     requires { IfSome options.number (λ j. 1 ≤ j) }
-    ensures looks { FedLooksUp (lookup_task L.WORD L.GREATEST S.Store options) J.feed I.feed
+    ensures looks { LooksUp (lookup_task L.WORD L.GREATEST S.Store options) J.feed I.feed
         (lookup_state inputs store (W.contents w.old))
         (lookup_state result.1 result.0 (W.contents w.new)) result.2 }
     ensures output { OutputSays (W.failed w.new) result.2 }

@@ -3,7 +3,7 @@ ghost use Rattle.std.specs.Prelude.{ℕ, List, Option};
 ghost use Rattle.cdb_show.specs.Views.Output.{OutputSays};
 ghost use Rattle.cdb_show.specs.Runs.Form.{form_of, dump_form, list_form};
 ghost use Rattle.cdb_show.specs.Runs.WalkText.{WritesWalk};
-ghost use Rattle.cdb_show.specs.Runs.FedText.{WritesWalk as FedWalk};
+ghost use Rattle.cdb_form.specs.Views.Feed.{reader_feed};
 
 use crate::fault::Fault;
 use crate::runs::content::Content;
@@ -34,10 +34,12 @@ pub fn dump_run<L: Width, R: Read + Drop, W: Sink>(
     w: &mut W,
 ) -> Result<(), Fault>
     ensures writes { (rest : Option (List ℕ)) × WritesWalk L.WORD (dump_form style)
-        (R.remaining reader) rest (W.contents w.old) (W.contents w.new) result }
+        (reader_feed (R.remaining reader)) (reader_feed rest)
+        (W.contents w.old) (W.contents w.new) result }
     ensures output { OutputSays (W.failed w.new) result }
 {
-    text_run_buffered::<L, R, W, NoneAtHand>(alloc, Content::Records, reader, style, w)
+    let (_, answer) = text_run::<L, R, W, NoneAtHand>(alloc, Content::Records, reader, style, w);
+    answer
 }
 
 /// Writes the text of the keys of a database file, as `dump_run` does that of its records. Values
@@ -49,45 +51,30 @@ pub fn list_run<L: Width, R: Read + Drop, W: Sink>(
     w: &mut W,
 ) -> Result<(), Fault>
     ensures writes { (rest : Option (List ℕ)) × WritesWalk L.WORD (list_form style)
-        (R.remaining reader) rest (W.contents w.old) (W.contents w.new) result }
+        (reader_feed (R.remaining reader)) (reader_feed rest)
+        (W.contents w.old) (W.contents w.new) result }
     ensures output { OutputSays (W.failed w.new) result }
 {
-    text_run_buffered::<L, R, W, NoneAtHand>(alloc, Content::Keys, reader, style, w)
-}
-
-/// Does what `dump_run` or `list_run` does, and takes a record that the reader has at hand without
-/// a request.
-pub fn text_run_buffered<L: Width, R: Read + Drop, W: Sink, A: AtHand<R>>(
-    alloc: Global,
-    content: Content,
-    reader: R,
-    style: Style,
-    w: &mut W,
-) -> Result<(), Fault>
-    ensures writes { (rest : Option (List ℕ)) × WritesWalk L.WORD (form_of content style)
-        (R.remaining reader) rest (W.contents w.old) (W.contents w.new) result }
-    ensures output { OutputSays (W.failed w.new) result }
-{
-    let (_, answer) = text_run_fed::<L, R, W, A>(alloc, content, reader, style, w);
+    let (_, answer) = text_run::<L, R, W, NoneAtHand>(alloc, Content::Keys, reader, style, w);
     answer
 }
 
-/// Does what `text_run_buffered` does, with whatever gives the bytes of the file, and returns it,
-/// after a fault too.
+/// Does what `dump_run` or `list_run` does, with whatever gives the bytes of the file, and returns
+/// it, after a fault too. A record that it has at hand is taken without a request.
 ///
 /// So the contract holds of each file that agrees with the bytes that were taken.
-pub fn text_run_fed<L: Width, F: Feeds, W: Sink, A: AtHand<F>>(
+pub fn text_run<L: Width, F: Feeds, W: Sink, A: AtHand<F>>(
     alloc: Global,
     content: Content,
     reader: F,
     style: Style,
     w: &mut W,
 ) -> (F, Result<(), Fault>)
-    ensures writes { FedWalk L.WORD (form_of content style)
+    ensures writes { WritesWalk L.WORD (form_of content style)
         (F.feed reader) (F.feed result.0) (W.contents w.old) (W.contents w.new) result.1 }
     ensures output { OutputSays (W.failed w.new) result.1 }
 {
-    let mut records = RecordReader::<F, L>::fed(alloc, reader);
+    let mut records = RecordReader::<F, L>::new(alloc, reader);
     let answer = write_walk::<L, F, W, A>(alloc, &mut records, content, style, w);
-    (records.into_fed(), answer)
+    (records.into_reader(), answer)
 }

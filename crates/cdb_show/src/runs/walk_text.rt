@@ -4,9 +4,9 @@ ghost use Rattle.cdb_show.specs.Views.Output.{OutputSays};
 ghost use Rattle.cdb_form.specs.Format.Record.{KeyValue};
 ghost use Rattle.cdb_form.specs.Views.KnownBytes.{Writes};
 ghost use Rattle.cdb_form.specs.Views.RecordReader.{reader_of, IsFresh};
-ghost use Rattle.cdb_form.specs.Fed.RecordReader.{GivesRecord, GivesEnd, Fails};
+ghost use Rattle.cdb_form.specs.Views.RecordReader.{GivesRecord, GivesEnd, Fails};
 ghost use Rattle.cdb_show.specs.Runs.Form.{item_of, end_of, form_of, IsHeld};
-ghost use Rattle.cdb_show.specs.Runs.FedText.{WritesWalk};
+ghost use Rattle.cdb_show.specs.Runs.WalkText.{WritesWalk};
 ghost use Rattle.cdb_show.specs.declared.runs.content.Content.TheVariants.{Keys};
 
 use crate::fault::Fault;
@@ -34,8 +34,8 @@ fn read_item<L: Width, R: Feeds>(
     ensures fails { IfErr result (Fails L.WORD R.feed records.old records.new) }
 {
     match content {
-        Content::Records => records.read_fed(into),
-        Content::Keys => records.read_key_fed(into),
+        Content::Records => records.read_into(into),
+        Content::Keys => records.read_key(into),
     }
 }
 
@@ -93,7 +93,7 @@ fn write_unflushed<L: Width, R: Feeds, W: Sink, A: AtHand<R>>(
         if let Some(peeked) = records.peek::<A>() {
             let len = peeked.len;
             let written = write_item(w, content, style, peeked.key, peeked.value);
-            records.take_fed::<A>(len);
+            records.take_peeked::<A>(len);
             written?;
         } else if read_item(records, content, &mut record)? {
             write_item(w, content, style, &record.key, &record.value)?;

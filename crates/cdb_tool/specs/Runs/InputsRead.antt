@@ -1,7 +1,7 @@
 -- What a run read of its inputs, and which inputs agree with it.
 use Rattle.std.specs.Prelude.{ℕ, ◌≡◌, ◌≢◌, ⊤, List, [], ◌∷◌, Option, Result, Err, IfSome, is_some}
 use Rattle.cdb_store.specs.declared.store.Store.{Ghosts}
-use Rattle.cdb_form.specs.Fed.Feed.{Consumes, Feed}
+use Rattle.cdb_form.specs.Views.Feed.{Consumes, Feed}
 use Rattle.cdb_form.specs.Text.Amending.{Change}
 use Rattle.cdb_form.specs.Views.TextFault.{IsOfText}
 use Rattle.cdb_form.specs.declared.text.fault.TextFault.{TextFault}

@@ -1,7 +1,7 @@
 // A database made of the records of a base, if there is one, and of what some inputs say.
 ghost use Rattle.std.specs.Prelude.{◌≡◌, ◌+◌, ◌<◌, ◌≤◌, ℕ, List, [], map, Option, is_some};
 ghost use Rattle.std.specs.Prelude.{Result, Ok, Err, length, IfErr, OnOk};
-ghost use Rattle.cdb_form.specs.Fed.Feed.{FromTo};
+ghost use Rattle.cdb_form.specs.Views.Feed.{FromTo};
 ghost use Rattle.cdb_form.specs.Format.Pair.{head_size};
 ghost use Rattle.cdb_form.specs.Text.Amending.{Change};
 ghost use Rattle.cdb_feed.specs.Inputs.{AreRead, NoMore, TakesOne};

@@ -3,12 +3,13 @@ ghost use Rattle.std.specs.Prelude.{◌≡◌, ℕ, [], List, Option, IfOk, IfEr
 ghost use Rattle.cdb_show.specs.Views.Output.{OutputSays};
 ghost use Rattle.cdb_form.specs.Format.File.{file_bytes};
 ghost use Rattle.cdb_form.specs.Format.Record.{KeyValue};
-ghost use Rattle.cdb_form.specs.Views.TextReader.{unread};
+ghost use Rattle.cdb_form.specs.Views.Feed.{reader_feed};
+ghost use Rattle.cdb_form.specs.Views.TextReader.{reader_of};
 ghost use Rattle.cdb_make.specs.Views.Maker.{Holds, limit_of};
 ghost use Rattle.cdb_show.specs.declared.fault.Fault.TheVariants.{NoMemory};
 ghost use Rattle.cdb_tool.specs.Runs.MakeBytes.{IsNewText, ReadsFitting, TextNotRead, MakesBytes};
 
-use cdb_form::{Record, Sink, TextReader, Width, write_whole};
+use cdb_form::{Feeds, Record, Sink, TextReader, Width, write_whole};
 use cdb_make::{Maker, Mode};
 use cdb_show::{Fault, flushed};
 use cdb_store::MemStore;
@@ -31,16 +32,16 @@ fn maker_in_memory<L: Width>(alloc: Global) -> Result<Maker<MemStore, L>, Fault>
 }
 
 /// The records of a text, up to its end, if their file isn't too large.
-fn fitting_records<L: Width, R: Read>(
+fn fitting_records<L: Width, F: Feeds>(
     alloc: Global,
-    text: &mut TextReader<R, L>,
+    text: &mut TextReader<F, L>,
 ) -> Result<Maker<MemStore, L>, Fault>
     requires { IsNewText text.old }
     ensures ok { IfOk result (λ m. (records : List KeyValue) × Holds m records
-        × ReadsFitting L.WORD L.GREATEST (unread R.remaining text.old) (unread R.remaining text.new)
+        × ReadsFitting L.WORD L.GREATEST (F.feed (reader_of text.old)) (F.feed (reader_of text.new))
         records) }
     ensures err { IfErr result
-        (TextNotRead L.WORD L.GREATEST (unread R.remaining text.old) (unread R.remaining text.new)) }
+        (TextNotRead L.WORD L.GREATEST (F.feed (reader_of text.old)) (F.feed (reader_of text.new))) }
 {
     let mut maker = maker_in_memory::<L>(alloc)?;
     let mut record = Record {
@@ -71,17 +72,17 @@ fn file_in_memory<L: Width>(maker: Maker<MemStore, L>) -> Result<Vec<u8>, Fault>
 }
 
 /// Writes the file of a text, which the writer may keep in a buffer.
-fn make_bytes_unflushed<L: Width, R: Read, W: Sink>(
+fn make_bytes_unflushed<L: Width, F: Feeds, W: Sink>(
     alloc: Global,
-    text: &mut TextReader<R, L>,
+    text: &mut TextReader<F, L>,
     w: &mut W,
 ) -> Result<(), Fault>
     requires { IsNewText text.old }
-    ensures makes { MakesBytes L.WORD L.GREATEST (unread R.remaining text.old) (unread R.remaining text.new)
+    ensures makes { MakesBytes L.WORD L.GREATEST (F.feed (reader_of text.old)) (F.feed (reader_of text.new))
         (W.contents w.old) (W.contents w.new) result }
     ensures output { OutputSays (W.failed w.new) result }
 {
-    let maker = fitting_records::<L, R>(alloc, text)?;
+    let maker = fitting_records::<L, F>(alloc, text)?;
     let file = file_in_memory::<L>(maker)?;
     write_whole(w, &file)?;
     Ok(())
@@ -104,7 +105,8 @@ pub fn make_bytes<L: Width, R: Read + Drop, W: Sink>(
     reader: R,
     w: &mut W,
 ) -> Result<(), Fault>
-    ensures makes { (rest : Option (List ℕ)) × MakesBytes L.WORD L.GREATEST (R.remaining reader) rest
+    ensures makes { (rest : Option (List ℕ)) × MakesBytes L.WORD L.GREATEST
+        (reader_feed (R.remaining reader)) (reader_feed rest)
         (W.contents w.old) (W.contents w.new) result }
     ensures output { OutputSays (W.failed w.new) result }
 {

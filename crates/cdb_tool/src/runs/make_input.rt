@@ -1,7 +1,7 @@
 // The items of an input, one after the other: records are put, and keys removed.
 ghost use Rattle.std.specs.Prelude.{◌≡◌, ◌+◌, ◌<◌, ◌≤◌, ℕ, List, [], ◌∷◌, ◌++◌, length, Option};
 ghost use Rattle.std.specs.Prelude.{◌||◌, None, Ok, OnOk, OnErr, IfErr};
-ghost use Rattle.cdb_form.specs.Fed.Feed.{FromTo};
+ghost use Rattle.cdb_form.specs.Views.Feed.{FromTo};
 ghost use Rattle.cdb_form.specs.Format.Record.{KeyValue};
 ghost use Rattle.cdb_form.specs.Text.Amending.{Change, Putting, Removing};
 ghost use Rattle.cdb_form.specs.Views.Pairs.{change_in};

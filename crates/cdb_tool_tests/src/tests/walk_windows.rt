@@ -6,7 +6,7 @@ use super::through::{InThrough, Through};
 use super::windows::{Dripping, MOST};
 use super::worked::{File, TWO_TEXT};
 use cdb_form::{AtHand, Narrow, NoneAtHand, Record, RecordReader, WalkFault, Wide, Width};
-use cdb_tool::{Content, Fault, Style, text_run_buffered};
+use cdb_tool::{Content, Fault, Style, text_run};
 use std::alloc::{AllocError, Global};
 use std::io::Read;
 use std::prelude::*;
@@ -465,7 +465,7 @@ fn failing(alloc: Global, piece: &[u8]) -> Result<Through<FakeReader<'_>>, Alloc
 fn dump(alloc: Global, piece: &[u8], text: &[u8]) -> Result<(Result<(), Fault>, bool), AllocError> {
     let mut out = Vec::new(alloc);
     let input = failing(alloc, piece)?;
-    let answer = text_run_buffered::<Narrow, _, _, InThrough>(
+    let (_, answer) = text_run::<Narrow, _, _, InThrough>(
         alloc,
         Content::Records,
         input,
@@ -479,7 +479,7 @@ fn dump(alloc: Global, piece: &[u8], text: &[u8]) -> Result<(Result<(), Fault>, 
 fn list(alloc: Global, piece: &[u8], text: &[u8]) -> Result<(Result<(), Fault>, bool), AllocError> {
     let mut out = Vec::new(alloc);
     let input = failing(alloc, piece)?;
-    let answer = text_run_buffered::<Narrow, _, _, InThrough>(
+    let (_, answer) = text_run::<Narrow, _, _, InThrough>(
         alloc,
         Content::Keys,
         input,

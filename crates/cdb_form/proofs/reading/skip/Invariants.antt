@@ -1,5 +1,5 @@
 use Rattle.std.proofs.Common.{◌≡◌, ◌-◌, ◌≤◌, length}
-use Rattle.cdb_form.specs.Fed.Taking.{Passes}
+use Rattle.cdb_form.specs.Views.Taking.{Passes}
 use Rattle.cdb_form.proofs.reading.skip.Given as goal
 
 -- so many bytes were passed

@@ -1,15 +1,38 @@
-use Rattle.std.proofs.lemmas.Result.{IfErr-weaker, IfOk-weaker}
-use Rattle.cdb_form.proofs.Fed.KnownItems.{known_loses, known_whole}
-use Rattle.cdb_form.proofs.Fed.KnownReaders.{known_consumes}
+use Rattle.cdb_form.proofs.Words.{arith, common_steps, rules}
 use Rattle.cdb_form.proofs.reading_whole.read_whole.Goals as goal
 
-pub returns-clause-given : goal.returns-clause-given
-returns-clause-given g c =
-    IfOk-weaker c.read_whole_fed.result _ _ (λ extent h. known_whole c.args.most (g.R.Read.remaining c.args.reader.now) (g.R.Read.remaining c.read_whole_fed.new.reader) c.read_whole_fed.new.into.items extent h) c.read_whole_fed.ensures.given
+pub returns-in-Ok-clause-given : goal.returns-in-Ok-clause-given
+returns-in-Ok-clause-given g c = search rules
 
-pub returns-clause-part : goal.returns-clause-part
-returns-clause-part g c =
-    IfErr-weaker c.read_whole_fed.result _ _ (λ f h. λ failed. known_consumes _ _ _ h) c.read_whole_fed.ensures.part
+pub returns-in-Err-NoMemory-clause-loses : goal.returns-in-Err-NoMemory-clause-loses
+returns-in-Err-NoMemory-clause-loses g c = search rules
 
-pub returns-clause-loses : goal.returns-clause-loses
-returns-clause-loses g c = known_loses _ _ _ c.read_whole_fed.ensures.loses
+pub returns-in-Err-Ended-clause-are : goal.returns-in-Err-Ended-clause-are
+returns-in-Err-Ended-clause-are g c = grind (arith, common_steps)
+
+pub returns-in-Ok-clause-are : goal.returns-in-Ok-clause-are
+returns-in-Ok-clause-are g c = grind (arith, common_steps)
+
+pub returns-in-Err-Failed-clause-part : goal.returns-in-Err-Failed-clause-part
+returns-in-Err-Failed-clause-part g c = grind (arith, common_steps)
+
+pub returns-in-Err-Failed-clause-are : goal.returns-in-Err-Failed-clause-are
+returns-in-Err-Failed-clause-are g c = grind (arith, common_steps)
+
+pub returns-in-Err-Ended-clause-given : goal.returns-in-Err-Ended-clause-given
+returns-in-Err-Ended-clause-given g c = grind (arith, common_steps)
+
+pub returns-in-Err-NoMemory-clause-are : goal.returns-in-Err-NoMemory-clause-are
+returns-in-Err-NoMemory-clause-are g c = grind (arith, common_steps)
+
+pub returns-in-Err-NoMemory-clause-part : goal.returns-in-Err-NoMemory-clause-part
+returns-in-Err-NoMemory-clause-part g c = grind (arith, common_steps)
+
+pub returns-in-Err-Failed-clause-loses : goal.returns-in-Err-Failed-clause-loses
+returns-in-Err-Failed-clause-loses g c = grind (arith, common_steps)
+
+pub returns-in-Err-Ended-clause-loses : goal.returns-in-Err-Ended-clause-loses
+returns-in-Err-Ended-clause-loses g c = grind (arith, common_steps)
+
+pub returns-in-Ok-clause-loses : goal.returns-in-Ok-clause-loses
+returns-in-Ok-clause-loses g c = grind (arith, common_steps)

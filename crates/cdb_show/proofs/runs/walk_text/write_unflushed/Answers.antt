@@ -11,15 +11,15 @@ loop-peeked-init g c = written_none g.L.Width.WORD (form_of c.args.content c.arg
 pub loop-peeked-preserved-in-Continue-1 : goal.loop-peeked-preserved-in-Continue-1
 loop-peeked-preserved-in-Continue-1 g c =
     let f = c.in-Some.peeked in
-    let one = c.take_fed.ensures (shown_by f) c.in-Some.ensures in
-    written_more _ _ _ _ c.loop-peeked.records c.take_fed.new.self _ _ _ (shown_by f) c.loop-peeked.invariant one (c.in_ok-written.ensures.writes (shown_by f) (held_by c.args.content f.key.now f.value.now)).ok
+    let one = c.take_peeked.ensures (shown_by f) c.in-Some.ensures in
+    written_more _ _ _ _ c.loop-peeked.records c.take_peeked.new.self _ _ _ (shown_by f) c.loop-peeked.invariant one (c.in_ok-written.ensures.writes (shown_by f) (held_by c.args.content f.key.now f.value.now)).ok
 
 pub returns-in_err-written-clause-writes : goal.returns-in_err-written-clause-writes
 returns-in_err-written-clause-writes g c =
     let p = err_from_is_err_and c.from_residual.result c.from_residual.ensures.1 in
     let f = c.in-Some.peeked in
-    let one = c.take_fed.ensures (shown_by f) c.in-Some.ensures in
-    rw (p.1, p.2) (record_fails _ _ _ _ c.loop-peeked.records c.take_fed.new.self _ _ _ (shown_by f) c.loop-peeked.invariant one (c.in_err-written.ensures.writes (shown_by f) (held_by c.args.content f.key.now f.value.now)).err)
+    let one = c.take_peeked.ensures (shown_by f) c.in-Some.ensures in
+    rw (p.1, p.2) (record_fails _ _ _ _ c.loop-peeked.records c.take_peeked.new.self _ _ _ (shown_by f) c.loop-peeked.invariant one (c.in_err-written.ensures.writes (shown_by f) (held_by c.args.content f.key.now f.value.now)).err)
 
 -- a record that was read
 pub loop-peeked-preserved : goal.loop-peeked-preserved

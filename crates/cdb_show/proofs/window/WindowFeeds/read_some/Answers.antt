@@ -1,5 +1,5 @@
 use Rattle.cdb_show.proofs.Words.{IfOk, arith, common_steps, feed_of, length, subst, sym, ◌<◌, ◌≡◌}
-use Rattle.cdb_form.specs.Fed.Feed.{IsAtEnd}
+use Rattle.cdb_form.specs.Views.Feed.{IsAtEnd}
 use Rattle.cdb_show.proofs.window.WindowFeeds.read_some.Goals.{in-Ok, in-Err, else-self-2-via-else-self-2, else-self-2-via-then-self-2+in-Ok-1}
 use Rattle.cdb_show.proofs.window.WindowFeeds.read_some.Goals as goal
 

@@ -5,19 +5,19 @@ use Rattle.cdb_tool.proofs.WholeRuns.{holds_so_far_none, holds_so_far_more, read
 use Rattle.cdb_tool.proofs.runs.make_bytes.fitting_records.Goals as goal
 
 pub loop-fault-init : goal.loop-fault-init
-loop-fault-init g c = record { going = c.requires.going; so_far = holds_so_far_none _ _ _ _ _ c.in_ok-maker.ensures.holds (omega (arith, g.met.L.Width.greatest_fits.2)) c.in_ok-maker.ensures.limit c.requires }
+loop-fault-init g c = record { going = c.requires.going; so_far = holds_so_far_none _ _ g.F.Feeds.feed _ _ c.in_ok-maker.ensures.holds (omega (arith, g.met.L.Width.greatest_fits.2)) c.in_ok-maker.ensures.limit c.requires }
 
 pub returns-in-Err-clause-err : goal.returns-in-Err-clause-err
 returns-in-Err-clause-err g c =
     let inv = c.loop-fault.invariant in
-    rw c.of_text.ensures (text_not_read g.L.Width.WORD g.L.Width.GREATEST g.R.Read.remaining _ c.loop-fault.text c.read_into.new.self _ c.in-Err.fault inv.so_far (c.in-Err.ensures.fails.meets inv.going))
+    rw c.of_text.ensures (text_not_read g.L.Width.WORD g.L.Width.GREATEST g.F.Feeds.feed _ c.loop-fault.text c.read_into.new.self _ c.in-Err.fault (g.met.F.Feeds.one_rest c.loop-fault.text.items.source.reader) inv.so_far (c.in-Err.ensures.fails.meets inv.going))
 
 pub returns-in-Ok-false-clause-ok : goal.returns-in-Ok-false-clause-ok
 returns-in-Ok-false-clause-ok g c =
     let inv = c.loop-fault.invariant in
     let held = inv.so_far in
     let end = rw c.in-Ok-false.field-0-test at c.in-Ok-false.ensures.gives in
-    (held.records, held.holds, reads_fitting _ _ _ _ _ _ _ held (end.newline inv.going))
+    (held.records, held.holds, reads_fitting _ _ g.F.Feeds.feed _ c.loop-fault.text c.read_into.new.self _ held (end.newline inv.going))
 
 pub loop-fault-preserved : goal.loop-fault-preserved
 loop-fault-preserved g c =
@@ -32,7 +32,7 @@ loop-fault-preserved g c =
     let fits = (holds_fits m (held.records ++ r ∷ []) g.met.L.Width.four_or_eight holds).each m.store.bytes.items refl in
     record {
       going = one.going;
-      so_far = holds_so_far_more _ _ _ _ _ _ _ _ _ r held one.reads one.spends holds (omega (arith, fits, m.limited)) c.put.ensures.follows.limit;
+      so_far = holds_so_far_more _ _ g.F.Feeds.feed _ c.loop-fault.text c.read_into.new.self _ m r held one holds (omega (arith, fits, m.limited)) c.put.ensures.follows.limit;
     }
 
 pub loop-fault-smaller : goal.loop-fault-smaller
@@ -51,7 +51,7 @@ returns-in_err-put-clause-err g c =
     let fails : FailsPutting c.loop-fault.maker m Add r f =
     subst (λ (v : List ℕ). FailsPutting c.loop-fault.maker m Add (record { key = v; value = r.value }) f) c.deref.ensures.value
     (subst (λ (v : List ℕ). FailsPutting c.loop-fault.maker m Add (record { key = c.deref.result.now; value = v }) f) c.deref-in-loop-fault.ensures.value c.in_err-put.ensures.fails) in
-    rw (p.1, p.2) (refused _ _ _ _ c.loop-fault.text c.read_into.new.self _ m r f m.store.bytes.items held one.reads refl (λ rose. omega arith) fails)
+    rw (p.1, p.2) (refused _ g.F.Feeds.feed _ c.loop-fault.text c.read_into.new.self _ m r f m.store.bytes.items held one refl (λ rose. omega arith) fails)
 
 pub returns-in-Err-clause-ok : goal.returns-in-Err-clause-ok
 returns-in-Err-clause-ok g c = grind (arith, common_steps)

@@ -1,11 +1,38 @@
-use Rattle.std.proofs.lemmas.Result.{IfErr-weaker, IfOk-weaker}
-use Rattle.cdb_form.proofs.Fed.KnownItems.{known_fails_key, known_listed}
+use Rattle.cdb_form.proofs.Words.{arith, common_steps, refl}
+use Rattle.cdb_form.proofs.NativeTexts.KeyTexts.{list_fails}
 use Rattle.cdb_form.proofs.text.list_reader.ListReader.read_into.Goals as goal
 
-pub returns-clause-gives : goal.returns-clause-gives
-returns-clause-gives g c =
-    IfOk-weaker c.read_fed.result _ _ (λ given h. known_listed g.L.Width.GREATEST g.R.Read.remaining c.args.self.now c.read_fed.new.self c.read_fed.new.into.key.items given h) c.read_fed.ensures.gives
+pub returns-in-Err-clause-fails : goal.returns-in-Err-clause-fails
+returns-in-Err-clause-fails g c =
+    let e = c.in-Err.ensures in
+    list_fails g.L.Width.GREATEST _ _ _ c.in-Err.fault refl (rw c.GREATEST.ensures at e.fails) e.leaves
 
-pub returns-clause-fails : goal.returns-clause-fails
-returns-clause-fails g c =
-    IfErr-weaker c.read_fed.result _ _ (λ f h. known_fails_key g.L.Width.GREATEST g.R.Read.remaining c.args.self.now c.read_fed.new.self f h) c.read_fed.ensures.fails
+pub returns-in-Err-clause-failed : goal.returns-in-Err-clause-failed
+returns-in-Err-clause-failed g c = grind (arith, common_steps)
+
+pub returns-then-not-branch-clause-gives : goal.returns-then-not-branch-clause-gives
+returns-then-not-branch-clause-gives g c = grind (arith, common_steps)
+
+pub returns-in-Ok-true-clause-ended : goal.returns-in-Ok-true-clause-ended
+returns-in-Ok-true-clause-ended g c = grind (arith, common_steps)
+
+pub returns-then-not-branch-clause-failed : goal.returns-then-not-branch-clause-failed
+returns-then-not-branch-clause-failed g c = grind (arith, common_steps)
+
+pub returns-in-Err-clause-ended : goal.returns-in-Err-clause-ended
+returns-in-Err-clause-ended g c = grind (arith, common_steps)
+
+pub returns-in-Ok-false-clause-gives : goal.returns-in-Ok-false-clause-gives
+returns-in-Ok-false-clause-gives g c = grind (arith, common_steps)
+
+pub returns-in-Ok-false-clause-failed : goal.returns-in-Ok-false-clause-failed
+returns-in-Ok-false-clause-failed g c = grind (arith, common_steps)
+
+pub returns-in-Ok-true-clause-failed : goal.returns-in-Ok-true-clause-failed
+returns-in-Ok-true-clause-failed g c = grind (arith, common_steps)
+
+pub returns-in-Ok-false-clause-ended : goal.returns-in-Ok-false-clause-ended
+returns-in-Ok-false-clause-ended g c = grind (arith, common_steps)
+
+pub returns-in-Ok-true-clause-gives : goal.returns-in-Ok-true-clause-gives
+returns-in-Ok-true-clause-gives g c = grind (arith, common_steps)

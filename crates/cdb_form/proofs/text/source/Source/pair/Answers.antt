@@ -1,5 +1,5 @@
 use Rattle.cdb_form.proofs.Words.{IfErr-weaker, IfOk-weaker, Lacks, ReadsPair, ReadsValue, [], arith, common_steps, is_newline, line_end, refl, ◌∷◌, ◌≡◌, ◌≢◌}
-use Rattle.cdb_form.specs.Fed.Source.{LeavesAmid}
+use Rattle.cdb_form.specs.Views.Source.{LeavesAmid}
 use Rattle.cdb_form.specs.declared.text.kind.Kind.TheVariants.{InWord}
 use Rattle.cdb_form.proofs.MapTexts.MapReads.{leaves_past, other_than, pair_is, pair_none, pair_value, run_to_end, run_to_newline}
 use Rattle.cdb_form.proofs.text.source.Source.pair.Goals as goal

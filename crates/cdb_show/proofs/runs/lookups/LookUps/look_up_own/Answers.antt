@@ -1,5 +1,5 @@
 use Rattle.cdb_show.proofs.Words.{feed_of, keys_form, nothing_taken, subst, sym, ⊤}
-use Rattle.cdb_form.specs.Fed.Feed.{Keeps}
+use Rattle.cdb_form.specs.Views.Feed.{Keeps}
 use Rattle.cdb_show.specs.Views.LookUps.{task_of}
 use Rattle.cdb_show.proofs.FedLookupRuns.{own_fails, own_ok, own_unread}
 use Rattle.cdb_show.proofs.runs.lookups.LookUps.look_up_own.Goals as goal

@@ -1,6 +1,6 @@
 -- What calls that read take of a reader, and what is then known of the bytes that were left before.
 use Rattle.std.specs.Prelude.{ℕ, ◌≡◌, ◌+◌, ◌<◌, ◌≤◌, ◌⊎◌, ◌++◌, List, [], length}
-use Rattle.cdb_form.specs.Fed.Feed.{Feed, Consumes, FromTo, IsAtEnd}
+use Rattle.cdb_form.specs.Views.Feed.{Feed, Consumes, FromTo, IsAtEnd}
 use Rattle.cdb_form.specs.Format.Pair.{head_size, pair_size}
 use Rattle.cdb_form.specs.Format.Reading.{head_at, pair_at}
 use Rattle.cdb_form.specs.Format.Record.{KeyValue}

@@ -1,0 +1,2 @@
+pub mod WholeMaps
+pub mod WholeWalks
