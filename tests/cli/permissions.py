@@ -6,8 +6,9 @@
 The temporary file is open to this user alone until it is whole. A database that replaces a regular file
 then has its permission bits, or those of one that vanished during the build. If none is replaced, or a link,
 the umask decides, or the default access list of the temporary file's folder, as of any new file there. In
-place nothing changes. An old temporary file has no part in it, nor has the length of the name. In a sticky
-folder another user's temporary file stops a create, and `-t` helps. If the file system knows no access lists,
+place nothing changes. An old temporary file has no part in it, nor has the length of the name. Another user's
+file gives no permissions, to root neither: the new one has those of a plain new file. In a sticky folder
+another user's temporary file stops a create, and `-t` helps. If the file system knows no access lists,
 or the user cannot become another, such rows are left out, and that is said.
 """
 
@@ -164,6 +165,28 @@ def among_strangers(program, words):
         return done.returncode, done.stderr, mode, sorted(os.listdir(folder))
 
 
+def over_a_stranger(program, maker, mask, mode, words=("-c", "x")):
+    """The status and the bits of a database that a user makes over another user's file of these bits, in a folder
+    that both may write, and whose it is; or None if this user cannot become another."""
+    if os.getuid() != 0:
+        return None
+    with tempfile.TemporaryDirectory() as folder:
+        os.chmod(folder, 0o777)
+        path = os.path.join(folder, "x")
+        place(path, mode)
+        os.chown(path, STRANGER, STRANGER)
+        copy = shutil.copy(program, os.path.join(folder, "cdb"))
+
+        def become():
+            if maker:
+                become_another()
+            os.umask(mask)
+
+        how = dict(cwd=folder, input=TWO_TEXT, stderr=subprocess.PIPE, timeout=60, check=False)
+        done = subprocess.run([copy, *words], preexec_fn=become, **how)
+        return done.returncode, mode_of(path), os.stat(path).st_uid, sorted(os.listdir(folder))
+
+
 def main():
     if len(sys.argv) != 2:
         sys.exit(__doc__)
@@ -193,6 +216,12 @@ def main():
     came.append(("another's file", among_strangers(program, ["-c", "x"]), (111, OPEN, None, there)))
     mine = among_strangers(program, ["-cv", "-t", "mine", "x"])
     came.append(("beside another's files", mine, (0, b"", 0o644, sorted([*there, "x"]))))
+    for maker, mask, mode in itertools.product((MAKER, 0), MASKS, (0o000, 0o444, 0o644, 0o666)):
+        left = over_a_stranger(program, maker, mask, mode)
+        came.append((f"{maker} over another's {mode:o} by {mask:o}", left, (0, 0o666 & ~mask, maker, ["cdb", "x"])))
+    # In place the file stays its owner's, with its bits.
+    left = over_a_stranger(program, MAKER, 0o077, 0o666, ("-c", "-t", "-", "x"))
+    came.append(("in place in another's file", left, (0, 0o666, STRANGER, ["cdb", "x"])))
     for what, left, _ in came:
         if left is None:
             print(f"left out: {what}, which needs access lists, or root")

@@ -4,10 +4,9 @@
     tests/faults/syncs.py PROGRAM LIBRARY
 
 The library is refuse.c, built to be loaded ahead of the C library, which notes each call. A create
-writes the temporary file, and once it is whole syncs it, gives it its permissions, syncs it with these,
-renames it, and then syncs the folder of the database's name and no other. If it has the permissions
-already, they are not given, and it is synced once. In place it writes the file, and then syncs it. It
-makes no more of these calls.
+writes the temporary file, and once it is whole gives it its permissions, syncs it with these, renames it,
+and then syncs the folder of the database's name and no other. If its owner may not write it then, it is
+synced before too. In place it writes the file, and then syncs it. It makes no more of these calls.
 """
 
 import os
@@ -23,6 +22,8 @@ CALLS = (*CHANGES, "allow", "sync", "datasync", "rename")
 MASK = 0o022
 # With this one a new file is for this user alone, as the temporary file is.
 PRIVATE_MASK = 0o077
+# With this one its owner may not write it.
+READ_MASK = 0o222
 
 # The words of each create, with the database and its folder; the text is on standard input.
 CREATES = {
@@ -57,8 +58,8 @@ def wrong_with(program, words, database, folder_of, mask):
     is_in_place = "-t" in words and "-" in words
     sealed = [("sync", new)]
     if not is_in_place:
-        given = [("allow", new), ("sync", new)] if mask != PRIVATE_MASK else []
-        sealed = [*sealed, *given, ("rename", new), ("sync", around)]
+        before = [("sync", new)] if mask == READ_MASK else []
+        sealed = [*before, ("allow", new), ("sync", new), ("rename", new), ("sync", around)]
     begin = len(calls) - len(sealed)
     changes = [it for it in calls[:begin] if it[0] not in CHANGES or it[1] != new]
     if changes or calls[begin:] != sealed or begin <= 0:
@@ -72,6 +73,7 @@ def main():
     program = Refusing(*map(os.path.abspath, sys.argv[1:]))
     creates = [(name, *it, MASK) for name, it in CREATES.items()]
     creates += [(f"{name}, for this user alone", *it, PRIVATE_MASK) for name, it in CREATES.items()]
+    creates += [(f"{name}, which nobody may write", *it, READ_MASK) for name, it in CREATES.items()]
     creates.append(("in place", ["-c", "-t", "-", "x"], "x", ".", MASK))
     wrong = 0
     for name, words, database, folder, mask in creates:

@@ -7,7 +7,7 @@ mod records_file;
 
 pub use cdb_names::{
     Answer, Builder, Cause, Found, Lock, NameCall, NameFault, NameTrace, Names, RealNames, Refusal,
-    ReplaceFault, Unrenamed, Unsynced, Wanted, has_name, locked, replace_file,
+    ReplaceFault, Shown, Unrenamed, Unsynced, Wanted, has_name, locked, replace_file,
 };
 pub use fault::FileFault;
 pub use opening::open_file;

@@ -6,7 +6,7 @@ use Rattle.cdb_store.specs.Calls.{Calls, IsSynced, FileImage}
 use Rattle.cdb_names.specs.declared.name_trace.NameCall.{NameCall}
 use Rattle.cdb_names.specs.declared.name_trace.NameCall.TheVariants.{Special, Same, Looked, Opened, NotOpened, Made, NotMade, Locked, Own, Input, Bits, Seen, Set}
 use Rattle.cdb_names.specs.declared.name_trace.NameCall.TheVariants.{Removed, NotRemoved, Renamed, NotRenamed, Synced, NotSynced}
-use Rattle.cdb_names.specs.declared.wanted.Wanted.{Wanted}
+use Rattle.cdb_names.specs.declared.shown.Shown.{Shown}
 use Rattle.cdb_names.specs.Folder.{NameCalls, IsRemoval, IsCleared, MayHave, Has, LeavesFile, AreNamesApart, MayRemove, IsGuarded, EachIsGuarded, AreGuarded}
 use Rattle.cdb_names.specs.Replacing.{NameEvent, IsReady, IsOfReplacing, AreOfReplacing, EachIsStep, AreSteps, AtEach, AtEachMoment, IsNew, IsTrueOf, LeavesOldOrNew, LeavesNew}
 
@@ -229,17 +229,11 @@ pub synced : {t n : List ℕ} {whole : List ℕ → Type 0} {old mid : NameCalls
 synced {n = n} new true are is = step new (Synced, n, [], []) are is tt tt
 synced {n = n} new false are is = step new (NotSynced, n, [], []) are is tt tt
 
--- the bits that are wanted were looked up, and those of the file
-pub wanted_seen : {t n : List ℕ} {whole : List ℕ → Type 0} {old : NameCalls} (mid new : NameCalls) (wanted : Option Wanted) (first : Option ℕ) (file : Calls)
-    → mid ≡ (Bits wanted, n, [], []) ∷ old → new ≡ (Seen first, t, [], file) ∷ mid → AreSteps t n whole old new
-wanted_seen {t = t} {n = n} {old = old} mid new wanted first file asked seen =
-    step new (Seen first, t, [], file) (step mid (Bits wanted, n, [], []) (no_step old) asked tt tt) seen tt tt
-
--- and the system was requested to set them, and the file was looked at once more
-pub set_seen : {t n : List ℕ} {whole : List ℕ → Type 0} {old mid : NameCalls} (set new : NameCalls) (bits : ℕ) (last : Option ℕ) (first file : Calls)
-    → AreSteps t n whole old mid → set ≡ (Set bits, t, [], first) ∷ mid → new ≡ (Seen last, t, [], file) ∷ set → AreSteps t n whole old new
-set_seen {t = t} set new bits last first file are asked seen =
-    step new (Seen last, t, [], file) (step set (Set bits, t, [], first) are asked tt tt) seen tt tt
+-- the old file was looked at, the system was requested to set them, and the file was looked at
+pub set_seen : {t n : List ℕ} {whole : List ℕ → Type 0} {old : NameCalls} (mid set new : NameCalls) (held : Option (Option Shown)) (bits : ℕ) (last : Option Shown) (given file : Calls)
+    → mid ≡ (Bits held, n, [], []) ∷ old → set ≡ (Set bits, t, [], given) ∷ mid → new ≡ (Seen last, t, [], file) ∷ set → AreSteps t n whole old new
+set_seen {t = t} {n = n} {old = old} mid set new held bits last given file looked asked seen =
+    step new (Seen last, t, [], file) (step set (Set bits, t, [], given) (step mid (Bits held, n, [], []) (no_step old) looked tt tt) asked tt tt) seen tt tt
 
 -- ---- what was built
 

@@ -16,9 +16,10 @@ use Rattle.cdb_names.specs.declared.replace.ReplaceFault.{ReplaceFault}
 use Rattle.cdb_names.specs.declared.replace.ReplaceFault.TheVariants as replacing
 use Rattle.cdb_store.specs.Calls.{Calls}
 use Rattle.cdb_store.specs.declared.trace.Call.TheVariants.{Made as FileMade}
-use Rattle.cdb_names.specs.Folder.{NameCalls, IsCleared, WereSeen}
+use Rattle.cdb_names.specs.declared.shown.Shown.{Shown}
+use Rattle.cdb_names.specs.Folder.{NameCalls, IsCleared, SeesBits, SeesUser, WereSeen}
 use Rattle.cdb_names.specs.Wanted.{plain_bits}
-use Rattle.cdb_names.specs.Replacing.{AreSteps, FailsRename, GoesOn, IsAtHand, IsFound, IsFree, IsNotGiven, IsStop, IsUndoing, IsUnmade, MakesNone, LacksBits, LacksMemoryForLock, NameEvent, ReplacingStopsAt, StopsMaking, StopsUnbuilt, TakesLock, of_open}
+use Rattle.cdb_names.specs.Replacing.{AreSteps, FailsRename, GoesOn, IsAtHand, IsFound, IsFree, IsNotGiven, IsStop, IsUndoing, IsUnmade, MakesNone, LacksBits, LacksMemoryForLock, NameEvent, ReplacingStopsAt, StopsMaking, StopsUnbuilt, of_open}
 
 -- ---- calls that go on
 
@@ -87,7 +88,7 @@ stop_since t n old mid before (Opened, one, two, file) on is = absurd is
 stop_since t n old mid before (Made asked, one, two, file) on is = absurd is
 stop_since t n old mid before (Own said, one, two, file) on is = absurd is
 stop_since t n old mid before (Input said, one, two, file) on is = absurd is
-stop_since t n old mid before (Bits (Some wanted), one, two, file) on is = absurd is
+stop_since t n old mid before (Bits (Some held), one, two, file) on is = absurd is
 stop_since t n old mid before (Seen bits, one, two, file) on is = absurd is
 stop_since t n old mid before (Set bits, one, two, file) on is = absurd is
 stop_since t n old mid before (Removed, one, two, file) on is = absurd is
@@ -115,14 +116,14 @@ stops_since t n old mid new replacing.Write on stops = absurd stops
 stops_since t n old mid new (replacing.Build fault) on stops = absurd stops
 
 not_given_since : (t n : List ℕ) (bits : ℕ) (old mid calls : NameCalls) → GoesOn old mid → IsNotGiven t n bits mid calls → IsNotGiven t n bits old calls
-not_given_since t n bits old mid calls on (wanted, first, file, before, since, not, is) =
-    (wanted, first, file, before, further old mid before on since, not, is)
+not_given_since t n bits old mid calls on (held, wanted, file, before, since, not, is) =
+    (held, wanted, file, before, further old mid before on since, not, is)
 
 pub bits_since : (t n : List ℕ) (old mid before : NameCalls) (stop : NameEvent) → GoesOn old mid → LacksBits t n mid stop before → LacksBits t n old stop before
 bits_since t n old mid before (Bits None, one, two, file) on is = is
 bits_since t n old mid before (Seen None, one, two, file) on is = is
-bits_since t n old mid before (Seen (Some bits), one, two, file) on is = (is.0, not_given_since t n bits old mid before on is.1)
-bits_since t n old mid before (Bits (Some wanted), one, two, file) on is = absurd is
+bits_since t n old mid before (Seen (Some shown), one, two, file) on is = (is.0, not_given_since t n shown.bits old mid before on is.1)
+bits_since t n old mid before (Bits (Some held), one, two, file) on is = absurd is
 bits_since t n old mid before (Special said, one, two, file) on is = absurd is
 bits_since t n old mid before (Same said, one, two, file) on is = absurd is
 bits_since t n old mid before (Looked said, one, two, file) on is = absurd is
@@ -189,14 +190,14 @@ was_undone t n file old mid last new made on undoing is =
     (undoing.0, undoing.1, further old mid undoing.1 on undoing.2, inr (undoing.3, subst (λ (f : Calls). IsCleared t f (undoing.0 ∷ undoing.1) new) made (subst (λ (cs : NameCalls). IsCleared t file cs new) undoing.4 is)))
 
 -- nor did the system say which permission bits it has
-pub unseen_undone : (t n : List ℕ) (shown : Option ℕ) (file : Calls) (old mid seen new : NameCalls) → shown ≡ None → file ≡ (FileMade, []) ∷ [] → GoesOn old mid
+pub unseen_undone : (t n : List ℕ) (shown : Option Shown) (file : Calls) (old mid seen new : NameCalls) → shown ≡ None → file ≡ (FileMade, []) ∷ [] → GoesOn old mid
     → seen ≡ (Seen shown, t, [], file) ∷ mid → IsCleared t file seen new → StopsMaking t n old new
 unseen_undone t n shown file old mid seen new none made on is gone =
-    was_undone t n file old mid seen new made on ((Seen None, t, [], file), mid, no_more mid, refl, subst (λ (s : Option ℕ). seen ≡ (Seen s, t, [], file) ∷ mid) none is) gone
+    was_undone t n file old mid seen new made on ((Seen None, t, [], file), mid, no_more mid, refl, subst (λ (s : Option Shown). seen ≡ (Seen s, t, [], file) ∷ mid) none is) gone
 
 -- what was seen stays seen
-pub seen_since : (t n : List ℕ) (bits : ℕ) (mid new : NameCalls) → GoesOn mid new → WereSeen t n bits mid → WereSeen t n bits new
-seen_since t n bits mid new on seen =
+pub seen_since : (t n : List ℕ) (shown : Shown) (mid new : NameCalls) → GoesOn mid new → WereSeen t n shown mid → WereSeen t n shown new
+seen_since t n shown mid new on seen =
     record {
       since = on.0 ++ seen.since;
       at = seen.at;
@@ -204,19 +205,36 @@ seen_since t n bits mid new on seen =
       how = seen.how;
     }
 
+-- the regular file of the name was seen
+pub held_seen : (t n : List ℕ) (old : Shown) (held : Option Shown) (at new : NameCalls) → GoesOn at new → held ≡ Some old → SeesBits n held at → WereSeen t n old new
+held_seen t n old held at new on is (before, are) =
+    record {
+      since = on.0;
+      at = at;
+      are = on.1;
+      how = inr (before, subst (λ (h : Option Shown). at ≡ (Bits (Some h), n, [], []) ∷ before) is are);
+    }
+
 -- a plain file was made and seen, and removed
-pub plain_seen : (t n : List ℕ) (bits : ℕ) (shown : Option ℕ) (file : Calls) (old made locked seen new : NameCalls) → shown ≡ Some bits → file ≡ (FileMade, []) ∷ []
-    → made ≡ (Made plain_bits, t, [], []) ∷ old → TakesLock t made locked → seen ≡ (Seen shown, t, [], file) ∷ locked → IsCleared t file seen new → WereSeen t n bits new
-plain_seen t n bits shown file old made locked seen new some empty is takes sees gone =
-    let one : locked ≡ (Locked takes.lock, t, [], []) ∷ (Made plain_bits, t, [], []) ∷ old = takes.are ∙ ap (λ cs. (Locked takes.lock, t, [], []) ∷ cs) is in
-    let two : seen ≡ (Seen (Some bits), t, [], file) ∷ locked = subst (λ (s : Option ℕ). seen ≡ (Seen s, t, [], file) ∷ locked) some sees in
-    let three : seen ≡ (Seen (Some bits), t, [], (FileMade, []) ∷ []) ∷ locked = subst (λ (f : Calls). seen ≡ (Seen (Some bits), t, [], f) ∷ locked) empty two in
+pub plain_seen : (t n : List ℕ) (one : Shown) (shown : Option Shown) (file : Calls) (old made seen new : NameCalls) → shown ≡ Some one → file ≡ (FileMade, []) ∷ []
+    → made ≡ (Made plain_bits, t, [], []) ∷ old → seen ≡ (Seen shown, t, [], file) ∷ made → IsCleared t file seen new
+    → (whose : Shown) → whose.bits ≡ one.bits → WereSeen t n whose new
+plain_seen t n one shown file old made seen new some empty is sees gone whose same =
+    let two : seen ≡ (Seen (Some one), t, [], file) ∷ made = subst (λ (s : Option Shown). seen ≡ (Seen s, t, [], file) ∷ made) some sees in
+    let three : seen ≡ (Seen (Some one), t, [], (FileMade, []) ∷ []) ∷ made = subst (λ (f : Calls). seen ≡ (Seen (Some one), t, [], f) ∷ made) empty two in
     record {
       since = (gone.0, t, [], file) ∷ [];
       at = seen;
       are = gone.2;
-      how = inl (takes.lock, old, three ∙ ap (λ cs. (Seen (Some bits), t, [], (FileMade, []) ∷ []) ∷ cs) one);
+      how = inl (one, sym same, old, three ∙ ap (λ cs. (Seen (Some one), t, [], (FileMade, []) ∷ []) ∷ cs) is);
     }
+
+-- whose file was made
+pub user_seen : (t : List ℕ) (one : Shown) (shown : Option Shown) (file : Calls) (mid new : NameCalls) → shown ≡ Some one → file ≡ (FileMade, []) ∷ []
+    → new ≡ (Seen shown, t, [], file) ∷ mid → SeesUser t one.user new
+user_seen t one shown file mid new some empty sees =
+    let two : new ≡ (Seen (Some one), t, [], file) ∷ mid = subst (λ (s : Option Shown). new ≡ (Seen s, t, [], file) ∷ mid) some sees in
+    (one, refl, mid, subst (λ (f : Calls). new ≡ (Seen (Some one), t, [], f) ∷ mid) empty two)
 
 pub unbuilt : {E : Type 0} (t n : List ℕ) (old new : NameCalls) (fault : ReplaceFault E) → ReplacingStopsAt t n old new fault → StopsUnbuilt t n old new fault
 unbuilt t n old new replacing.Open stops = inr stops

@@ -4,7 +4,6 @@ use Rattle.std.specs.Prelude.{Bool, true, false}
 use Rattle.cdb_store.specs.Calls.{Calls, IsSynced, FileImage}
 use Rattle.cdb_store.specs.declared.trace.Call.TheVariants.{Made as FileMade, Synced as FileSynced}
 use Rattle.cdb_names.specs.declared.answer.Answer.TheVariants.{Yes, No}
-use Rattle.cdb_names.specs.declared.answer.Lock.{Lock}
 use Rattle.cdb_names.specs.declared.answer.Lock.TheVariants.{Held}
 use Rattle.cdb_names.specs.declared.name_trace.NameCall.{NameCall}
 use Rattle.cdb_names.specs.declared.name_trace.NameCall.TheVariants.{Special, Same, Opened, Made}
@@ -12,8 +11,8 @@ use Rattle.cdb_names.specs.declared.name_trace.NameCall.TheVariants.{Locked, Own
 use Rattle.cdb_names.specs.declared.name_trace.NameCall.TheVariants.{Removed, NotRemoved}
 use Rattle.cdb_names.specs.declared.name_trace.NameCall.TheVariants.{Renamed, NotRenamed, Synced}
 use Rattle.cdb_names.specs.declared.wanted.Wanted.{Wanted}
-use Rattle.cdb_names.specs.declared.wanted.Wanted.TheVariants.{Old}
-use Rattle.cdb_names.specs.Wanted.{IsOldOr, Suits, plain_bits, wanted_bits}
+use Rattle.cdb_names.specs.declared.shown.Shown.{Shown}
+use Rattle.cdb_names.specs.Wanted.{IsUnwritable, IsWanted, Suits, plain_bits, wanted_bits}
 
 -- the calls, each with its name, its other name, and the calls on its file
 abbrev pub NameCalls : Type 0
@@ -92,6 +91,21 @@ HasLock name ((Removed, one, other, file) ∷ calls) = (one ≢ name) × HasLock
 HasLock name ((NotRemoved, one, other, file) ∷ calls) = (one ≢ name) × HasLock name calls
 HasLock name ((_, one, other, file) ∷ calls) = HasLock name calls
 
+-- this process made the file of a name that it opened or made last, as a plain new one, to look at it: no
+-- create builds in such a file, so it may be removed without its lock
+abbrev pub HasPlain : (name : List ℕ) → NameCalls → Type 0
+HasPlain name [] = ⊥
+HasPlain name ((Made asked, one, other, file) ∷ calls) =
+    ((one ≡ name) × (asked ≡ plain_bits)) ⊎ ((one ≢ name) × HasPlain name calls)
+HasPlain name ((Opened, one, other, file) ∷ calls) = (one ≢ name) × HasPlain name calls
+HasPlain name ((Removed, one, other, file) ∷ calls) = (one ≢ name) × HasPlain name calls
+HasPlain name ((NotRemoved, one, other, file) ∷ calls) = (one ≢ name) × HasPlain name calls
+HasPlain name ((_, one, other, file) ∷ calls) = HasPlain name calls
+
+-- it may take a name from its file: it holds the lock, or made the file to look at it
+abbrev pub MayTake : (name : List ℕ) → NameCalls → Type 0
+MayTake name calls = HasLock name calls ⊎ HasPlain name calls
+
 -- a name was seen to have that file
 abbrev pub IsOwn : (name : List ℕ) → NameCalls → Type 0
 IsOwn name [] = ⊥
@@ -120,61 +134,49 @@ IsPlain name ((Special No, one, other, file) ∷ calls) = (one ≡ name) ⊎ IsP
 IsPlain name ((Special answer, one, other, file) ∷ calls) = (one ≢ name) × IsPlain name calls
 IsPlain name ((_, one, other, file) ∷ calls) = IsPlain name calls
 
--- the last answers: the permission bits for a file that gets a name, and those that the file of the other
--- name was seen to have, on which these calls were made
-abbrev pub seen_first : (from to : List ℕ) (wanted : Wanted) (first : ℕ) (file : Calls)
+-- the last calls: an answer what the regular file of a name shows, and a request that the system give the file
+-- of the other name, on which these calls were made, the permission bits that are wanted then
+abbrev pub asked_for : (from to : List ℕ) (held : Option Shown) (wanted : Wanted) (file : Calls)
     → NameCalls → NameCalls
-seen_first from to wanted first file calls =
-    (Seen (Some first), from, [], file) ∷ (Bits (Some wanted), to, [], []) ∷ calls
+asked_for from to held wanted file calls =
+    (Set (wanted_bits wanted), from, [], file) ∷ (Bits (Some held), to, [], []) ∷ calls
 
--- and then the system was requested to give it those that are wanted
-abbrev pub asked_for : (from to : List ℕ) (wanted : Wanted) (first : ℕ) (file : Calls)
-    → NameCalls → NameCalls
-asked_for from to wanted first file calls =
-    (Set (wanted_bits wanted), from, [], file) ∷ seen_first from to wanted first file calls
-
--- a file on which the first calls were made was synced once more and nothing else, if its permission bits
--- are others than they were
-abbrev pub IsResynced : (first last : ℕ) (was now : Calls) → Type 0
-IsResynced first last was now =
-    ((last ≡ first) × (now ≡ was)) ⊎ ((last ≢ first) × (now ≡ (FileSynced, []) ∷ was))
-
--- the last calls made a plain file under a name, locked it, and saw these permission bits of it
+-- the last calls made a plain file under a name, and saw these permission bits of it
 abbrev pub SeesPlain : (from : List ℕ) (bits : ℕ) → NameCalls → Type 0
-SeesPlain from bits calls = (lock : Lock) × (before : NameCalls)
-    × (calls ≡ (Seen (Some bits), from, [], (FileMade, []) ∷ []) ∷ (Locked lock, from, [], [])
+SeesPlain from bits calls = (shown : Shown) × (shown.bits ≡ bits) × (before : NameCalls)
+    × (calls ≡ (Seen (Some shown), from, [], (FileMade, []) ∷ [])
     ∷ (Made plain_bits, from, [], []) ∷ before)
 
--- the last call answered that these permission bits are wanted for a name
-abbrev pub SeesBits : (name : List ℕ) (wanted : Wanted) → NameCalls → Type 0
-SeesBits name wanted calls = (before : NameCalls) × (calls ≡ (Bits (Some wanted), name, [], []) ∷ before)
+-- the last call answered that the regular file of a name shows this, or that none has it
+abbrev pub SeesBits : (name : List ℕ) (held : Option Shown) → NameCalls → Type 0
+SeesBits name held calls = (before : NameCalls) × (calls ≡ (Bits (Some held), name, [], []) ∷ before)
 
--- or an earlier one did
-abbrev pub WereWanted : (name : List ℕ) (wanted : Wanted) → NameCalls → Type 0
-WereWanted name wanted calls =
-    (since : NameCalls) × (at : NameCalls) × (calls ≡ since ++ at) × SeesBits name wanted at
+-- the last call saw whose a file is that was just made under a name
+abbrev pub SeesUser : (from : List ℕ) (user : ℕ) → NameCalls → Type 0
+SeesUser from user calls = (shown : Shown) × (shown.user ≡ user) × (before : NameCalls)
+    × (calls ≡ (Seen (Some shown), from, [], (FileMade, []) ∷ []) ∷ before)
 
 -- these permission bits were seen: those of a file that was made as a plain one under a name, or
--- those of a regular file of the other
-pub record WereSeen (from to : List ℕ) (bits : ℕ) (calls : NameCalls) : Type 0 where
+-- those of a regular file of the other, of this user
+pub record WereSeen (from to : List ℕ) (shown : Shown) (calls : NameCalls) : Type 0 where
   pub since : NameCalls
   pub at : NameCalls
   pub are : calls ≡ since ++ at
-  pub how : SeesPlain from bits at ⊎ SeesBits to (Old bits) at
+  pub how : SeesPlain from shown.bits at ⊎ SeesBits to (Some shown) at
 
--- the bytes of the file of a name, on which these calls were made, were synced; and then it had the
--- permission bits with which it may get the other name, or was given them, and synced once more.
--- They are those of a file that has the other name, or else these
-pub record HasBits (from to : List ℕ) (bits : ℕ) (file : Calls) (old new : NameCalls) : Type 0 where
+-- the file of a name, on which these calls were made, was given the permission bits with which it may get the
+-- other name, was seen to have such, and was synced then; if its owner may not write it with them, its bytes
+-- were synced before too. They are those of a file of this user that has the other name, or else these
+pub record HasBits (from to : List ℕ) (shown : Shown) (file : Calls) (old new : NameCalls) : Type 0 where
+  pub held : Option Shown
   pub wanted : Wanted
-  pub old_or : IsOldOr bits wanted
-  pub first : ℕ
-  pub was : Calls
-  pub synced : IsSynced was
-  pub how : ((first ≡ wanted_bits wanted) × (file ≡ was)
-      × (new ≡ seen_first from to wanted first was old))
-      ⊎ ((last : ℕ) × Suits wanted last × IsResynced first last was file
-      × (new ≡ (Seen (Some last), from, [], was) ∷ asked_for from to wanted first was old))
+  pub is_wanted : IsWanted held shown.user shown.bits wanted
+  pub given : Calls
+  pub sure : IsUnwritable (wanted_bits wanted) → IsSynced given
+  pub last : Shown
+  pub suits : Suits wanted last.bits
+  pub synced : file ≡ (FileSynced, []) ∷ given
+  pub are : new ≡ (Seen (Some last), from, [], given) ∷ asked_for from to held wanted given old
 
 -- the file of a name, on which these calls were made, may get the other one in place of what has it
 pub record MayReplace (from to : List ℕ) (file : Calls) (before : NameCalls) : Type 0 where
@@ -182,7 +184,8 @@ pub record MayReplace (from to : List ℕ) (file : Calls) (before : NameCalls) :
   pub own : IsOwn from before
   pub apart : AreNamesApart from to before
   pub earlier : NameCalls
-  pub shown : ℕ
+  pub shown : Shown
+  pub user : SeesUser from shown.user earlier
   pub seen : WereSeen from to shown earlier
   pub bits : HasBits from to shown file earlier before
   pub plain : IsPlain to before
@@ -199,10 +202,10 @@ pub record MayUndo (gone : List ℕ) (before : NameCalls) : Type 0 where
   pub lock : HasLock gone before
   pub made : HasMade gone before
 
--- a name may be taken from its file: this process holds the lock, and made the file, or saw that it is
--- not the file of the name that is replaced
+-- a name may be taken from its file: this process holds the lock, or made the file to look at it; and
+-- made the file, or saw that it is not the file of the name that is replaced
 pub record MayRemove (gone name : List ℕ) (before : NameCalls) : Type 0 where
-  pub lock : HasLock gone before
+  pub lock : MayTake gone before
   pub other : HasMade gone before ⊎ AreNamesApart gone name before
 
 -- a replacement of the file of a name takes a name from a file, or tries to, only if it may; and gives

@@ -24,6 +24,7 @@ use Rattle.cdb_names.specs.declared.name_trace.NameCall.TheVariants.{NotSynced}
 use Rattle.cdb_names.specs.declared.replace.ReplaceFault.{ReplaceFault}
 use Rattle.cdb_names.specs.declared.replace.ReplaceFault.TheVariants.{Open, NoMemory, Rename, Write}
 use Rattle.cdb_names.specs.declared.replace.ReplaceFault.TheVariants.{Build}
+use Rattle.cdb_names.specs.declared.shown.Shown.{Shown}
 use Rattle.cdb_names.specs.declared.wanted.Wanted.{Wanted}
 use Rattle.cdb_names.specs.Folder.{NameCalls, IsCleared, MayHave, AreNamesApart, IsGuarded, IsPlain}
 use Rattle.cdb_names.specs.Folder.{asked_for}
@@ -220,17 +221,17 @@ StopsUnbuilt temporary name old new (Build fault) = ⊥
 -- the system was requested, since the old calls, to give the file permission bits with which it may get
 -- the name, and it has others
 abbrev pub IsNotGiven : (temporary name : List ℕ) (bits : ℕ) (old calls : NameCalls) → Type 0
-IsNotGiven temporary name bits old calls = (wanted : Wanted) × (first : ℕ) × (file : Calls)
+IsNotGiven temporary name bits old calls = (held : Option Shown) × (wanted : Wanted) × (file : Calls)
     × (before : NameCalls) × GoesOn old before × (Suits wanted bits → ⊥)
-    × (calls ≡ asked_for temporary name wanted first file before)
+    × (calls ≡ asked_for temporary name held wanted file before)
 
 -- the system did not say which permission bits the file is to have, or which it has, or did not give them
 abbrev pub LacksBits : (temporary name : List ℕ) (old : NameCalls) → NameEvent
     → (before : NameCalls) → Type 0
 LacksBits temporary name old (Bits None, one, other, file) before = one ≡ name
 LacksBits temporary name old (Seen None, one, other, file) before = one ≡ temporary
-LacksBits temporary name old (Seen (Some bits), one, other, file) before =
-    (one ≡ temporary) × IsNotGiven temporary name bits old before
+LacksBits temporary name old (Seen (Some shown), one, other, file) before =
+    (one ≡ temporary) × IsNotGiven temporary name shown.bits old before
 LacksBits temporary name old (call, one, other, file) before = ⊥
 
 -- since the old calls the file that was built did not get its permission bits, or was not synced
@@ -276,12 +277,14 @@ IsUndoing temporary name old calls =
     × (calls ≡ stop ∷ before)
 
 -- a file was made for this user alone, its lock taken, its name seen to have it, and both names to be
--- of two files
+-- of two files; and it was looked at
 pub record IsMadeApart (temporary name : List ℕ) (old new : NameCalls) : Type 0 where
   pub locked : NameCalls
   pub takes : TakesLock temporary ((Made private_bits, temporary, [], []) ∷ old) locked
-  pub are : new ≡ (Same answer.No, temporary, name, []) ∷ (Own answer.Yes, temporary, [], [])
-      ∷ locked
+  pub seen : Option Shown
+  pub file : Calls
+  pub are : new ≡ (Seen seen, temporary, [], file) ∷ (Same answer.No, temporary, name, [])
+      ∷ (Own answer.Yes, temporary, [], []) ∷ locked
 
 -- and the name leads to a regular file or to nothing
 pub record IsReadyToBuild (temporary name : List ℕ) (calls : NameCalls) : Type 0 where

@@ -6,7 +6,7 @@ ghost use Rattle.cdb_names.specs.declared.name_trace.NameCall.{NameCall};
 
 use crate::answer::{Answer, Found, Lock};
 use crate::name_fault::NameFault;
-use crate::wanted::Wanted;
+use crate::shown::Shown;
 use cdb_store::Trace;
 use std::marker::{Model, PhantomData};
 
@@ -33,10 +33,10 @@ pub enum NameCall {
     Own(Answer),
     /// Whether standard input is the file of the name.
     Input(Answer),
-    /// The permission bits for a file that gets the name, if the system said.
-    Bits(Option<Wanted>),
-    /// The permission bits that the file of the name was seen to have, if the system said.
-    Seen(Option<u32>),
+    /// What the system shows of the regular file that has the name, or that none has it, if it said.
+    Bits(Option<Option<Shown>>),
+    /// What it shows of the open file of the name, if it said.
+    Seen(Option<Shown>),
     /// The system was requested to give the file of the name these permission bits.
     Set(u32),
     /// The name was taken from its file, or had none.

@@ -1,9 +1,8 @@
 // Names in folders, by the calls on them.
 ghost use Rattle.std.specs.Prelude.{◌≡◌, [], ◌∷◌, IfOk, IfErr, IfSome, OnOk};
 ghost use Rattle.cdb_store.specs.declared.trace.Call.TheVariants.{Made as FileMade};
-ghost use Rattle.cdb_names.specs.Folder.{IsCleared, HasLock, NameCalls};
+ghost use Rattle.cdb_names.specs.Folder.{IsCleared, MayTake, NameCalls};
 ghost use Rattle.cdb_names.specs.Refusals.{IsNameRefusal};
-ghost use Rattle.cdb_names.specs.Wanted.{IsOldOr};
 ghost use Rattle.cdb_names.specs.declared.name_trace.NameCall.TheVariants.{
   Special,
   Same,
@@ -28,7 +27,7 @@ ghost use Rattle.std.specs.Prelude.{cond};
 use crate::answer::{Answer, Found, Lock};
 use crate::name_fault::NameFault;
 use crate::refusal::Refusal;
-use crate::wanted::Wanted;
+use crate::shown::Shown;
 use cdb_store::RawFile;
 
 /// A file that was not renamed, and why.
@@ -100,14 +99,13 @@ pub trait Names {
     fn is_input(&mut self, name: &str) -> Answer
         ensures { calls self.new ≡ (Input result, name.now, [], []) ∷ calls self.old };
 
-    /// The permission bits for a file that is to get a name: those of the regular file there, which
-    /// is not followed as a link, or else these. `None`: the system did not say what is there.
-    fn bits_for(&mut self, name: &str, bits: u32) -> Option<Wanted>
-        ensures trace { calls self.new ≡ (Bits result, name.now, [], []) ∷ calls self.old }
-        ensures old_or { IfSome result (IsOldOr bits) };
+    /// What the regular file of a name, which is not followed as a link, shows: its permission bits
+    /// and whose it is. `Some(None)`: no regular file has the name. `None`: the system did not say.
+    fn bits_for(&mut self, name: &str) -> Option<Option<Shown>>
+        ensures { calls self.new ≡ (Bits result, name.now, [], []) ∷ calls self.old };
 
-    /// The permission bits of an open file of a name. `None`: the system did not say.
-    fn bits_of(&mut self, name: &str, file: &Self::File) -> Option<u32>
+    /// What an open file of a name shows. `None`: the system did not say.
+    fn bits_of(&mut self, name: &str, file: &Self::File) -> Option<Shown>
         ensures { calls self.new
             ≡ (Seen result, name.now, [], Self.File.calls file.now) ∷ calls self.old };
 
@@ -118,9 +116,10 @@ pub trait Names {
         ensures { calls self.new
             ≡ (Set bits, name.now, [], Self.File.calls file.now) ∷ calls self.old };
 
-    /// Takes a name from an open file whose lock is held, if the file still has it.
+    /// Takes a name from an open file, if the file still has it: one whose lock is held, or that was
+    /// made to look at it.
     fn remove_own(&mut self, name: &str, file: &Self::File)
-        requires { HasLock name.now (calls self.old) }
+        requires { MayTake name.now (calls self.old) }
         ensures { IsCleared name.now (Self.File.calls file.now) (calls self.old) (calls self.new) };
 
     /// Gives an open file, which is closed then, the other name in place of its own and of what had

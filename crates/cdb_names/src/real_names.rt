@@ -1,10 +1,9 @@
 // The names of the system: the lines that call it, and note what it answered.
-ghost use Rattle.std.specs.Prelude.{◌≡◌, [], ◌∷◌, IfErr, IfOk, None, OnOk, Some, string_bytes, true};
+ghost use Rattle.std.specs.Prelude.{◌≡◌, [], ◌∷◌, IfErr, None, OnOk, Some, string_bytes, true};
 ghost use Rattle.cdb_names.specs.declared.answer.Answer.TheVariants.{Yes};
 ghost use Rattle.cdb_names.specs.declared.name_trace.NameCall.TheVariants.{NotMade, NotOpened, Renamed, NotRenamed, Same};
 ghost use Rattle.std.specs.Option.{ForSome};
-ghost use Rattle.cdb_names.specs.Folder.{IsRemoval, HasLock, IsCleared};
-ghost use Rattle.cdb_names.specs.Wanted.{IsOldOr};
+ghost use Rattle.cdb_names.specs.Folder.{IsRemoval, IsCleared};
 ghost use Rattle.cdb_names.specs.Refusals.{refused_for, is_of_system, may_be_for, refused_name};
 
 use crate::answer::{Answer, Found, Lock};
@@ -14,9 +13,9 @@ use crate::name_fault::NameFault;
 use crate::name_trace::{NameCall, NameTrace};
 use crate::names::{Names, Unrenamed};
 use crate::refusal::{Cause, Refusal};
+use crate::shown::Shown;
 use crate::standard_input::input_look;
 use crate::system_links::is_system_link;
-use crate::wanted::Wanted;
 use cdb_store::{RealFile, Trace};
 use std::fs::{self, File, Metadata, Permissions};
 use std::io::{self, ErrorKind};
@@ -97,9 +96,12 @@ impl<'a, R: Files<File = File> + AllocGlobal> RealNames<'a, R> {
 /// The permission bits for all, of a file's mode.
 const FOR_ALL: u32 = 0o777;
 
-/// The permission bits of what was looked at, for all.
-fn bits_in(found: &Metadata) -> u32 {
-    found.permissions().mode() & FOR_ALL
+/// The permission bits of what was looked at, for all, and whose it is.
+fn shown_by(found: &Metadata) -> Shown {
+    Shown {
+        bits: found.permissions().mode() & FOR_ALL,
+        user: found.uid(),
+    }
 }
 
 /// Removes what a name has, if it is an open file. Otherwise it was not removed: the number of the
@@ -115,14 +117,12 @@ fn removed<R: Files<File = File>>(rt: &R, name: &str, file: &RealFile) -> Result
     fs::remove_file(rt, name).map_err(|error| error.raw_os_error())
 }
 
-/// The permission bits of what was looked at, if it is a regular file, or else these. If the system
-/// did not say: the number of its error.
-fn wanted_of(look: &Look, bits: u32) -> Result<Wanted, Option<i32>>
-    ensures { IfOk result (IsOldOr bits) }
-{
+/// What is shown of what was looked at, if it is a regular file. If the system did not say: the
+/// number of its error.
+fn held_in(look: &Look) -> Result<Option<Shown>, Option<i32>> {
     match look {
-        Look::There(found) if found.is_file() => Ok(Wanted::Old(bits_in(found))),
-        Look::There(_) | Look::Missing => Ok(Wanted::New(bits)),
+        Look::There(found) if found.is_file() => Ok(Some(shown_by(found))),
+        Look::There(_) | Look::Missing => Ok(None),
         Look::Unknown(number) => Err(*number),
     }
 }
@@ -363,11 +363,11 @@ impl<'a, R: Files<File = File> + AllocGlobal> Names for RealNames<'a, R> {
     }
 
     // Shown by tests/cli/permissions.py and tests/faults/names.py.
-    fn bits_for(&mut self, name: &str, bits: u32) -> Option<Wanted> {
-        match wanted_of(&looked(fs::symlink_metadata(self.rt, name)), bits) {
-            Ok(wanted) => {
-                self.note(&NameCall::Bits(Some(wanted)), name, "");
-                Some(wanted)
+    fn bits_for(&mut self, name: &str) -> Option<Option<Shown>> {
+        match held_in(&looked(fs::symlink_metadata(self.rt, name))) {
+            Ok(held) => {
+                self.note(&NameCall::Bits(Some(held)), name, "");
+                Some(held)
             }
             Err(number) => {
                 let cause = Cause::of_number(number);
@@ -378,17 +378,17 @@ impl<'a, R: Files<File = File> + AllocGlobal> Names for RealNames<'a, R> {
     }
 
     // Shown by tests/cli/permissions.py and tests/faults/names.py.
-    fn bits_of(&mut self, name: &str, file: &RealFile) -> Option<u32> {
+    fn bits_of(&mut self, name: &str, file: &RealFile) -> Option<Shown> {
         match file.metadata() {
             Ok(found) => {
-                let bits = bits_in(&found);
+                let shown = shown_by(&found);
                 self.trace.note(
-                    &NameCall::Seen(Some(bits)),
+                    &NameCall::Seen(Some(shown)),
                     name.as_bytes(),
                     b"",
                     file.trace(),
                 );
-                Some(bits)
+                Some(shown)
             }
             Err(error) => {
                 let cause = Cause::of_error(&error);

@@ -6,27 +6,33 @@ ghost use Rattle.cdb_store.specs.FileStore.{calls_of, failures_of, images_of};
 ghost use Rattle.cdb_store.specs.Images.{SameImages};
 ghost use Rattle.cdb_store.specs.declared.trace.Call.TheVariants.{Made as FileMade};
 ghost use Rattle.cdb_store.specs.declared.trace.Call.TheVariants.{Synced as FileSynced};
-ghost use Rattle.cdb_names.specs.Folder.{AreNamesApart, AreGuarded, HasBits, IsPlain, SeesBits, WereSeen, WereWanted, MayRemove, MayReplace, MayUndo, NameCalls};
+ghost use Rattle.cdb_names.specs.Folder.{AreNamesApart, AreGuarded, HasBits, IsPlain, SeesBits, SeesUser, WereSeen, MayRemove, MayReplace, MayUndo, NameCalls};
 ghost use Rattle.cdb_names.specs.declared.answer.Answer.TheVariants.{Yes, No};
 ghost use Rattle.cdb_names.specs.declared.answer.Lock.TheVariants.{Held};
 ghost use Rattle.cdb_names.specs.declared.name_trace.NameCall.TheVariants.{Same, Locked, Own};
 ghost use Rattle.cdb_names.specs.declared.name_fault.NameFault.{NameFault};
+ghost use Rattle.cdb_names.specs.declared.shown.Shown.{Shown};
 ghost use Rattle.cdb_names.specs.declared.replace.ReplaceFault.TheVariants.{
   Open,
   NoMemory,
   Rename,
   Write,
 };
+ghost use Rattle.cdb_names.specs.Wanted.{IsUnwritable};
 ghost use Rattle.cdb_names.specs.Replacing.{AreOfReplacing, AreSteps, AtEachMoment, ClearsFile, EndsIn, FailsRename, FailsToBuild, FailsToSeal, IsFree, IsMadeApart, IsNoName, IsOfBuilder, IsReadyToBuild, IsRenamed, IsUndoing, IsUnmade, LeavesNew, LeavesOldOrNew, RenamesFile, ReplacingStopsAt, StopsUnbuilt, TakesLock, BuilderTells, of_name, of_open, renames};
 
 use crate::answer::{Answer, Found, Lock};
 use crate::name_fault::NameFault;
 use crate::names::{Names, Unrenamed};
+use crate::shown::Shown;
 use crate::wanted::Wanted;
 use cdb_store::{FileStore, READ_AND_WRITTEN, RawFile, Store};
 
 /// The permission bits of a file that this user alone may read and write.
 const PRIVATE: u32 = 0o600;
+
+/// The permission bit by which its owner may write a file.
+const OWNER_WRITES: u32 = 0o200;
 
 /// What builds a file in a store that is empty.
 pub trait Builder<S: Store> {
@@ -107,12 +113,12 @@ fn open_fault<E>(fault: NameFault) -> ReplaceFault<E>
 }
 
 /// Sees that the names can be those of a replacement: they are two, and the name leads to a regular
-/// file or to nothing. Answers the permission bits of a file that has the name.
+/// file or to nothing. Answers what a regular file that has the name shows.
 fn see_names<N: Names, E: Drop>(
     names: &mut N,
     name: &str,
     temporary: &str,
-) -> Result<Wanted, ReplaceFault<E>>
+) -> Result<Option<Shown>, ReplaceFault<E>>
     ensures apart { OnOk result (temporary.now ≢ name.now) }
     ensures one_name { (temporary.now ≢ name.now) ⊎ (N.calls names.new ≡ N.calls names.old) }
     ensures no_name { (IsNoName name.now → ⊥)
@@ -120,7 +126,7 @@ fn see_names<N: Names, E: Drop>(
     ensures steps { AreSteps temporary.now name.now (λ _. ⊥) (N.calls names.old)
         (N.calls names.new) }
     ensures plain { OnOk result (IsPlain name.now (N.calls names.new)) }
-    ensures seen { IfOk result (λ wanted. SeesBits name.now wanted (N.calls names.new)) }
+    ensures seen { IfOk result (λ held. SeesBits name.now held (N.calls names.new)) }
     ensures unmade { IsUnmade temporary.now (N.calls names.old) (N.calls names.new) }
     ensures renames { renames (N.calls names.new) ≡ renames (N.calls names.old) }
     ensures err { IfErr result
@@ -138,8 +144,8 @@ fn see_names<N: Names, E: Drop>(
         Answer::Yes => return Err(ReplaceFault::Rename),
         Answer::Unknown => return Err(ReplaceFault::Open),
     }
-    match names.bits_for(name, PRIVATE) {
-        Some(wanted) => Ok(wanted),
+    match names.bits_for(name) {
+        Some(held) => Ok(held),
         None => Err(ReplaceFault::Open),
     }
 }
@@ -240,21 +246,19 @@ fn is_own_apart<N: Names>(names: &mut N, name: &str, temporary: &str, file: &N::
     }
 }
 
-/// The permission bits of a file that gets the name: those of the file that has it, or those that
-/// the system gives a plain new file of the folder, by the umask and the folder's access list. A
-/// file that is made under the temporary name, which nothing has, shows these, and is removed
-/// again.
+/// The permission bits that the system gives a plain new file of the folder, by the umask and the
+/// folder's access list. A file that is made under the temporary name, which nothing has, shows
+/// these, and is removed again. Its lock is not requested: whoever may read the file could hold it.
 fn show_bits<N: Names, E: Drop>(
     names: &mut N,
     name: &str,
     temporary: &str,
-    wanted: Wanted,
 ) -> Result<u32, ReplaceFault<E>>
     requires free { IsFree temporary.now [] (N.calls names.old) }
-    requires seen { WereWanted name.now wanted (N.calls names.old) }
     ensures steps { AreSteps temporary.now name.now (λ _. ⊥) (N.calls names.old)
         (N.calls names.new) }
-    ensures seen { IfOk result (λ bits. WereSeen temporary.now name.now bits (N.calls names.new)) }
+    ensures seen { IfOk result (λ bits. (shown : Shown) → shown.bits ≡ bits
+        → WereSeen temporary.now name.now shown (N.calls names.new)) }
     ensures free { (first : NameCalls) → IsFree temporary.now first (N.calls names.old)
         → OnOk result (IsFree temporary.now first (N.calls names.new)) }
     ensures ready { OnOk result (IsFree temporary.now [] (N.calls names.new)) }
@@ -264,41 +268,36 @@ fn show_bits<N: Names, E: Drop>(
         → IfErr result (ReplacingStopsAt temporary.now name.now first (N.calls names.new)) }
     ensures not_built { IfErr result (IsOfBuilder (λ _. ⊥)) }
 {
-    if let Wanted::Old(bits) = wanted {
-        return Ok(bits);
-    }
     let file = match names.make_new(temporary, READ_AND_WRITTEN) {
         Ok(file) => file,
         Err(fault) => return Err(open_fault(fault)),
     };
-    if !is_locked(names, temporary, &file) {
-        return Err(ReplaceFault::Open);
-    }
     let shown = names.bits_of(temporary, &file);
     names.remove_own(temporary, &file);
     match shown {
-        Some(bits) => Ok(bits),
+        Some(shown) => Ok(shown.bits),
         None => Err(ReplaceFault::Open),
     }
 }
 
 /// Makes a file under the temporary name, which nothing has, for this user alone, and takes its
-/// lock.
+/// lock. Answers whose file it is too.
 fn make_own<N: Names, E: Drop>(
     names: &mut N,
     name: &str,
     temporary: &str,
-) -> Result<FileStore<N::File>, ReplaceFault<E>>
+) -> Result<(FileStore<N::File>, u32), ReplaceFault<E>>
     requires free { IsFree temporary.now [] (N.calls names.old) }
     ensures steps { AreSteps temporary.now name.now (λ _. ⊥) (N.calls names.old)
         (N.calls names.new) }
     ensures made { OnOk result
         (IsMadeApart temporary.now name.now (N.calls names.old) (N.calls names.new)) }
+    ensures user { IfOk result (λ m. SeesUser temporary.now m.1 (N.calls names.new)) }
     ensures renames { renames (N.calls names.new) ≡ renames (N.calls names.old) }
     ensures err { (first : NameCalls) → IsFree temporary.now first (N.calls names.old)
         → IfErr result (ReplacingStopsAt temporary.now name.now first (N.calls names.new)) }
     ensures not_built { IfErr result (IsOfBuilder (λ _. ⊥)) }
-    ensures empty { IfOk result (λ s. calls_of s ≡ (FileMade, []) ∷ []) }
+    ensures empty { IfOk result (λ m. calls_of m.0 ≡ (FileMade, []) ∷ []) }
 {
     let file = match names.make_new(temporary, PRIVATE) {
         Ok(file) => file,
@@ -311,17 +310,49 @@ fn make_own<N: Names, E: Drop>(
         names.remove_own(temporary, &file);
         return Err(ReplaceFault::Open);
     }
-    Ok(FileStore::made(file))
+    let Some(shown) = names.bits_of(temporary, &file) else {
+        names.remove_own(temporary, &file);
+        return Err(ReplaceFault::Open);
+    };
+    Ok((FileStore::made(file), shown.user))
+}
+
+/// Makes a file under the temporary name, which nothing has, that is to have the permission bits of
+/// a plain new file.
+fn make_plain<N: Names, E: Drop>(
+    names: &mut N,
+    name: &str,
+    temporary: &str,
+) -> Result<(FileStore<N::File>, Shown), ReplaceFault<E>>
+    requires free { IsFree temporary.now [] (N.calls names.old) }
+    requires plain { IsPlain name.now (N.calls names.old) }
+    ensures steps { AreSteps temporary.now name.now (λ _. ⊥) (N.calls names.old)
+        (N.calls names.new) }
+    ensures made { OnOk result (IsReadyToBuild temporary.now name.now (N.calls names.new)) }
+    ensures renames { renames (N.calls names.new) ≡ renames (N.calls names.old) }
+    ensures err { (first : NameCalls) → IsFree temporary.now first (N.calls names.old)
+        → IfErr result (ReplacingStopsAt temporary.now name.now first (N.calls names.new)) }
+    ensures empty { IfOk result (λ m. calls_of m.0 ≡ (FileMade, []) ∷ []) }
+    ensures seen { IfOk result (λ m. WereSeen temporary.now name.now m.1 (N.calls names.new)) }
+    ensures user { IfOk result (λ m. SeesUser temporary.now m.1.user (N.calls names.new)) }
+    ensures not_built { IfErr result (IsOfBuilder (λ _. ⊥)) }
+{
+    let bits = show_bits(names, name, temporary)?;
+    let made = make_own(names, name, temporary)?;
+    let user = made.1;
+    Ok((made.0, Shown { bits, user }))
 }
 
 /// Makes a file under the temporary name, in place of an old one of that name that is not the file
 /// to be replaced and that no other create holds. Answers the permission bits too that the file is
-/// to have if nothing has the name by then.
+/// to have if no file of this user has the name by then, and whose it is. They are those of the
+/// file that has the name now, if it is of the user of the file that was made. Another user chose
+/// those of his: then that file is removed again, and made anew as if nothing had the name.
 fn make_temporary<N: Names, E: Drop>(
     names: &mut N,
     name: &str,
     temporary: &str,
-) -> Result<(FileStore<N::File>, u32), ReplaceFault<E>>
+) -> Result<(FileStore<N::File>, Shown), ReplaceFault<E>>
     ensures apart { OnOk result (temporary.now ≢ name.now) }
     ensures one_name { (temporary.now ≢ name.now) ⊎ (N.calls names.new ≡ N.calls names.old) }
     ensures no_name { (IsNoName name.now → ⊥)
@@ -334,13 +365,20 @@ fn make_temporary<N: Names, E: Drop>(
         (StopsUnbuilt temporary.now name.now (N.calls names.old) (N.calls names.new)) }
     ensures empty { IfOk result (λ s. calls_of s.0 ≡ (FileMade, []) ∷ []) }
     ensures seen { IfOk result (λ s. WereSeen temporary.now name.now s.1 (N.calls names.new)) }
+    ensures user { IfOk result (λ s. SeesUser temporary.now s.1.user (N.calls names.new)) }
     ensures not_built { IfErr result (IsOfBuilder (λ _. ⊥)) }
 {
-    let wanted = see_names(names, name, temporary)?;
+    let held = see_names(names, name, temporary)?;
     clear(names, name, temporary)?;
-    let bits = show_bits(names, name, temporary, wanted)?;
-    let empty = make_own(names, name, temporary)?;
-    Ok((empty, bits))
+    let Some(old) = held else {
+        return make_plain(names, name, temporary);
+    };
+    let made = make_own(names, name, temporary)?;
+    if made.1 == old.user {
+        return Ok((made.0, old));
+    }
+    names.remove_own(temporary, made.0.file());
+    make_plain(names, name, temporary)
 }
 
 /// Syncs a file.
@@ -358,20 +396,39 @@ fn sync<F: RawFile, E>(store: &mut FileStore<F>) -> Result<(), ReplaceFault<E>>
     }
 }
 
-/// Syncs the file that was built, and then gives it the permission bits with which it may get its
-/// name, unless it has them. A look says what the file system made of them. If they changed, the
-/// file is synced once more. So what a create that is killed leaves is open to this user alone
-/// until its bytes are sure. If no regular file has the name, it gets the bits that are passed.
+/// Syncs a file that its owner may not write once it has these permission bits: a create that is
+/// killed then leaves a file that he cannot open to remove it, but whose bytes are sure.
+fn sync_unwritable<F: RawFile, E>(
+    store: &mut FileStore<F>,
+    bits: u32,
+) -> Result<(), ReplaceFault<E>>
+    ensures sure { OnOk result (IsUnwritable bits → IsSynced (calls_of store.new)) }
+    ensures images { SameImages (images_of store.old) (images_of store.new) }
+    ensures failures { OnOk result (failures_of store.new ≡ failures_of store.old) }
+    ensures failed { OnErr result (failures_of store.old < failures_of store.new) }
+    ensures err { IfErr result (λ f. f ≡ Write) }
+{
+    if bits & OWNER_WRITES != 0 {
+        return Ok(());
+    }
+    sync(store)
+}
+
+/// Gives the file that was built the permission bits with which it may get its name, and then syncs
+/// it with them. A look says what the file system made of them. If the owner may not write it then,
+/// it is synced before too: so what a create that is killed leaves is a file that he may write, and
+/// so remove, until its bytes are sure. If no regular file of the user that is passed has the name,
+/// it gets the bits that are passed.
 fn seal<N: Names, E>(
     names: &mut N,
     store: &mut FileStore<N::File>,
     name: &str,
     temporary: &str,
-    bits: u32,
+    shown: Shown,
 ) -> Result<(), ReplaceFault<E>>
     ensures steps { AreSteps temporary.now name.now (λ _. ⊥) (N.calls names.old)
         (N.calls names.new) }
-    ensures ok { OnOk result (HasBits temporary.now name.now bits (calls_of store.new)
+    ensures ok { OnOk result (HasBits temporary.now name.now shown (calls_of store.new)
         (N.calls names.old) (N.calls names.new)) }
     ensures may { MayRemove temporary.now name.now (N.calls names.old)
         → MayRemove temporary.now name.now (N.calls names.new) }
@@ -382,25 +439,17 @@ fn seal<N: Names, E>(
     ensures images { SameImages (images_of store.old) (images_of store.new) }
     ensures failed { result ≡ Err Write → failures_of store.old < failures_of store.new }
 {
-    sync(store)?;
-    let Some(wanted) = names.bits_for(name, bits) else {
+    let Some(held) = names.bits_for(name) else {
         return Err(ReplaceFault::Open);
     };
-    let Some(first) = names.bits_of(temporary, store.file()) else {
-        return Err(ReplaceFault::Open);
-    };
-    if first == wanted.bits() {
-        return Ok(());
-    }
+    let wanted = Wanted::of(held, shown.user, shown.bits);
+    sync_unwritable(store, wanted.bits())?;
     names.set_bits(temporary, store.file(), wanted.bits());
     let Some(last) = names.bits_of(temporary, store.file()) else {
         return Err(ReplaceFault::Open);
     };
-    if !wanted.suits(last) {
+    if !wanted.suits(last.bits) {
         return Err(ReplaceFault::Open);
-    }
-    if last == first {
-        return Ok(());
     }
     sync(store)
 }
@@ -458,11 +507,11 @@ fn publish<N: Names, E: Drop>(
 /// An old regular file of the temporary name is removed first, once its lock is taken, unless it is
 /// the file to be replaced or another create holds it. Whatever else has that name stays, a link
 /// too, and so does a file that came there after the look. The new file is made for this user alone
-/// and locked until after the rename, so no other create takes it. Once it is whole it is synced,
-/// and then it gets the permission bits of the regular file that it replaces, and is synced once
-/// more if they changed. If there is none by then, it gets those of the one that was there before
-/// the build, or those of a plain new file: one that was made under the temporary name showed them
-/// before. After a fault the temporary name is taken from the file, if it still has it. A folder
+/// and locked until after the rename, so no other create takes it. Once it is whole it gets the
+/// permission bits of the regular file that it replaces, if that is of the same user, and is synced
+/// with them; if its owner may not write it then, it is synced before too. If there is none of this
+/// user by then, it gets those of the one that was there before the build, or those of a plain new
+/// file: one that was made under the temporary name showed them before. After a fault the temporary name is taken from the file, if it still has it. A folder
 /// that cannot be synced is no fault.
 ///
 /// If the system did not say what a name has, nothing is touched: `Open`.
@@ -479,11 +528,12 @@ pub fn replace_file<N: Names, B: Builder<FileStore<N::File>>>(
     // Nothing but the rename touches the name, and it comes after a sync that no write follows.
     ensures calls { AreOfReplacing temporary.now name.now (B.builds builder result.0)
         (N.calls names.old) (N.calls names.new) }
-    // A name is taken only from a file whose lock this create holds. A file is renamed only if its
-    // lock is held, its name was seen to have it, the two names were seen to be of two files, and
-    // the name led to a regular file or to nothing. Its bytes were synced before it got permission
-    // bits, and it was synced once more after that; it has those of the file that it replaces, or
-    // no others than a plain new file.
+    // A name is taken only from a file whose lock this create holds, or that it made to look at it.
+    // A file is renamed only if its lock is held, its name was seen to have it, the two names were
+    // seen to be of two files, and the name led to a regular file or to nothing. It was synced once
+    // it had its permission bits, and before too if its owner may not write it with them; they are
+    // those of a file of the name that is of the same user as the new one, which this process made,
+    // or no others than those of a plain new file. So another user's file gives none.
     ensures guarded { AreGuarded name.now (N.calls names.old) (N.calls names.new) }
     ensures ok { OnOk result.1 (IsRenamed temporary.now name.now (N.calls names.new)) }
     ensures renames_ok { OnOk result.1
@@ -517,7 +567,7 @@ pub fn replace_file<N: Names, B: Builder<FileStore<N::File>>>(
     ensures sure { OnOk result.1
         (LeavesNew name.now (B.builds builder result.0) (N.calls names.new)) }
 {
-    let (empty, bits) = match make_temporary(names, name, temporary) {
+    let (empty, shown) = match make_temporary(names, name, temporary) {
         Ok(made) => made,
         Err(fault) => return (builder.give_up(), Err(fault)),
     };
@@ -526,7 +576,7 @@ pub fn replace_file<N: Names, B: Builder<FileStore<N::File>>>(
         names.remove_own(temporary, store.file());
         return (back, Err(ReplaceFault::Build(fault)));
     }
-    if let Err(fault) = seal(names, &mut store, name, temporary, bits) {
+    if let Err(fault) = seal(names, &mut store, name, temporary, shown) {
         names.remove_own(temporary, store.file());
         return (back, Err(fault));
     }

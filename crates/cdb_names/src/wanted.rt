@@ -1,17 +1,31 @@
 // The permission bits that a file is to have before it gets its name.
 ghost use Rattle.std.specs.Prelude.{◌≡◌, ◌↔◌, IsTrue};
-ghost use Rattle.cdb_names.specs.Wanted.{Suits, wanted_bits};
+ghost use Rattle.cdb_names.specs.Wanted.{IsWanted, Suits, wanted_bits};
+
+use crate::shown::Shown;
 
 /// The permission bits that a file is to have before it gets its name.
 #[derive(Clone, Copy, Debug, PartialEq, Eq)]
 pub enum Wanted {
-    /// Those of the file that it replaces: it gets the same.
+    /// Those of this user's file that it replaces: it gets the same.
     Old(u32),
-    /// It replaces none: it gets no others than these, but may have fewer.
+    /// It replaces none of this user: it gets no others than these, but may have fewer.
     New(u32),
 }
 
 impl Wanted {
+    /// What this user's file is to have where the regular file that has its name, if there is one,
+    /// shows this: its bits if it is his too, or else these. Those of another user's file are that
+    /// user's choice.
+    pub fn of(held: Option<Shown>, user: u32, bits: u32) -> Wanted
+        ensures { IsWanted held user bits result }
+    {
+        match held {
+            Some(old) if old.user == user => Wanted::Old(old.bits),
+            Some(_) | None => Wanted::New(bits),
+        }
+    }
+
     /// The bits.
     pub fn bits(self) -> u32
         ensures { result ≡ wanted_bits self }

@@ -5,7 +5,7 @@ ghost use Rattle.cdb_names.specs.declared.name_trace.NameCall.TheVariants.{Renam
 
 use super::fake_file::FakeFile;
 use cdb_files::{
-    Answer, Found, Lock, NameCall, NameFault, NameTrace, Names, Refusal, Unrenamed, Wanted,
+    Answer, Found, Lock, NameCall, NameFault, NameTrace, Names, Refusal, Shown, Unrenamed, Wanted,
 };
 use cdb_store::Trace;
 use std::alloc::Global;
@@ -43,6 +43,8 @@ pub struct FakeNames {
     pub keeps_bits: bool,
     /// The permission bits that the database is to have, which a plain new file shows if it is new.
     pub wanted: Wanted,
+    /// What another user's database shows, if it replaces one.
+    pub others: Option<Shown>,
     /// How many calls were made.
     pub calls: u64,
     alloc: Global,
@@ -54,6 +56,9 @@ pub struct FakeNames {
 
 /// The permission bits of a file that one user alone may read and write.
 pub const PRIVATE: u32 = 0o600;
+
+/// The user who makes a database.
+pub const MAKER: u32 = 1001;
 
 /// The name of the database; any other is the temporary name.
 pub const DATABASE: &str = "db";
@@ -70,6 +75,7 @@ impl FakeNames {
             bits: PRIVATE,
             keeps_bits: true,
             wanted: Wanted::Old(0o644),
+            others: None,
             calls: 0,
             alloc,
             first,
@@ -214,21 +220,28 @@ impl Names for FakeNames {
         is
     }
 
-    fn bits_for(&mut self, name: &str, bits: u32) -> Option<Wanted> {
-        let wanted = match (self.fails(), self.wanted) {
+    fn bits_for(&mut self, name: &str) -> Option<Option<Shown>> {
+        let held = match (self.fails(), self.wanted) {
             (true, _) => None,
-            (false, Wanted::New(_)) => Some(Wanted::New(bits)),
-            (false, Wanted::Old(old)) => Some(Wanted::Old(old)),
+            (false, Wanted::New(_)) => Some(self.others),
+            (false, Wanted::Old(bits)) => Some(Some(Shown { bits, user: MAKER })),
         };
-        self.note(&NameCall::Bits(wanted), name, "");
-        wanted
+        self.note(&NameCall::Bits(held), name, "");
+        held
     }
 
-    fn bits_of(&mut self, name: &str, file: &FakeFile) -> Option<u32> {
-        let bits = if self.fails() { None } else { Some(self.bits) };
+    fn bits_of(&mut self, name: &str, file: &FakeFile) -> Option<Shown> {
+        let shown = if self.fails() {
+            None
+        } else {
+            Some(Shown {
+                bits: self.bits,
+                user: MAKER,
+            })
+        };
         self.trace
-            .note(&NameCall::Seen(bits), name.as_bytes(), b"", file.trace());
-        bits
+            .note(&NameCall::Seen(shown), name.as_bytes(), b"", file.trace());
+        shown
     }
 
     fn set_bits(&mut self, name: &str, file: &FakeFile, bits: u32) {

@@ -1,18 +1,21 @@
 // Each call on a name, and each on the file, fails in turn, alone and with all that come after it.
-use super::fake_names::{DATABASE, FakeNames, Held, PRIVATE};
-use cdb_files::{FileFault, Found, Wanted, make_file_in};
+use super::fake_names::{DATABASE, FakeNames, Held, MAKER, PRIVATE};
+use cdb_files::{FileFault, Found, Shown, Wanted, make_file_in};
 use cdb_form::{Narrow, Record};
 use std::alloc::Global;
 use std::test::Fail;
 
-/// How many calls on names a make takes that can fail: special, wanted bits, look, compare, open,
-/// lock, remove, make, lock, look at the own name, compare, wanted bits, bits, set them, bits,
-/// rename, sync.
+/// How many calls on names a make takes that can fail: special, old bits, look, compare, open, lock,
+/// remove, make, lock, look at the own name, compare, bits, old bits, set bits, bits, rename, sync.
 const NAME_CALLS: u64 = 17;
 
-/// How many it takes of a new name: after the removal it makes a plain file too, locks it, looks at
-/// its bits and removes it.
-const NEW_NAME_CALLS: u64 = 21;
+/// How many it takes of a new name: after the removal it makes a plain file too, looks at its bits
+/// and removes it.
+const NEW_NAME_CALLS: u64 = 20;
+
+/// How many it takes over another user's file: it makes its own before, sees whose it is, and
+/// removes it.
+const OTHERS_NAME_CALLS: u64 = 26;
 
 /// More calls than a make takes of the file.
 const FILE_CALLS: u64 = 40;
@@ -43,17 +46,26 @@ fn is_right(names: &FakeNames, made: bool) -> bool {
 fn each_call_on_a_name_fails(rt: HostRuntime) -> Result<(), Fail> {
     let records = two_records(rt.alloc())?;
     let rows = [
-        (Wanted::Old(0o644), NAME_CALLS),
-        (Wanted::New(0o644), NEW_NAME_CALLS),
+        (Wanted::Old(0o644), None, NAME_CALLS),
+        (Wanted::New(0o644), None, NEW_NAME_CALLS),
+        (
+            Wanted::New(0o644),
+            Some(Shown {
+                bits: 0o666,
+                user: MAKER + 1,
+            }),
+            OTHERS_NAME_CALLS,
+        ),
     ];
-    for (wanted, calls) in rows {
+    for (wanted, others, calls) in rows {
         for first in 0..=calls {
             for count in [1, 100] {
                 let mut names = FakeNames::new(rt.alloc(), first, count, 1 << 40);
                 names.wanted = wanted;
+                names.others = others;
                 // A new file is left its own bits if the system gives it no others.
-                let is_set = first == NEW_NAME_CALLS - 4 && count == 1;
-                let keeps_bits = is_set && calls == NEW_NAME_CALLS;
+                let is_set = first == calls - 4 && count == 1;
+                let keeps_bits = is_set && calls != NAME_CALLS;
                 let made = make_file_in::<Narrow, FakeNames>(
                     &mut names,
                     rt.alloc(),

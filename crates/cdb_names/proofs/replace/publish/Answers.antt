@@ -1,4 +1,4 @@
-use Rattle.std.proofs.Common.{inr, rules}
+use Rattle.std.proofs.Common.{inl, inr, rules}
 use Rattle.cdb_names.specs.declared.name_trace.NameCall.TheVariants.{Renamed, NotRenamed}
 use Rattle.cdb_names.specs.Folder.{MayRemove}
 use Rattle.cdb_names.proofs.Replacing.{no_step, step, cleared, synced, ready, sure}
@@ -19,7 +19,7 @@ returns-in-Ok-clause-sure g c =
 pub returns-in-Err-clause-steps : goal.returns-in-Err-clause-steps
 returns-in-Err-clause-steps g c =
     let file = g.N.File.RawFile.calls c.args.file in
-    let may : MayRemove c.args.temporary.now c.args.name.now (g.N.Names.calls c.args.names.now) = record { lock = c.requires.ready.lock; other = inr c.requires.ready.apart } in
+    let may : MayRemove c.args.temporary.now c.args.name.now (g.N.Names.calls c.args.names.now) = record { lock = inl c.requires.ready.lock; other = inr c.requires.ready.apart } in
     cleared {mid = g.N.Names.calls c.rename.new.self} _ (step _ (NotRenamed c.args.len _, c.args.temporary.now, c.args.name.now, file) (no_step (g.N.Names.calls c.args.names.now)) c.in-Err.ensures.err (ready c.args.len file c.requires.settled (λ b is. is)) c.requires.ready) (may_after _ _ _ _ _ _ _ c.in-Err.ensures.err may) c.remove_own.ensures
 
 pub returns-in-Err-clause-cleared : goal.returns-in-Err-clause-cleared

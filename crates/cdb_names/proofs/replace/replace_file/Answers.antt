@@ -9,7 +9,7 @@ use Rattle.cdb_names.specs.declared.replace.ReplaceFault.{ReplaceFault}
 use Rattle.cdb_names.specs.declared.replace.ReplaceFault.TheVariants.{Open, Build, Write}
 use Rattle.cdb_names.specs.declared.replace.ReplaceFault.TheVariants as replacing
 use Rattle.cdb_store.specs.Images.{SameImages}
-use Rattle.cdb_names.proofs.Locking.{built_removable}
+use Rattle.cdb_names.proofs.Locking.{built_removable, may_replace}
 use Rattle.cdb_names.proofs.Replacing.{weaker, go_on, cleared, are_of_replacing, are_guarded, at_each_moment, weaker_sure, of_file}
 use Rattle.cdb_names.proofs.Stops.{bits_since, further, rename_since, steps_go_on}
 use Rattle.std.proofs.lemmas.Result.{on_ok_weaker}
@@ -219,3 +219,7 @@ returns-clause-told g c =
 pub returns-clause-sure : goal.returns-clause-sure
 returns-clause-sure g c =
     on_ok_weaker c.publish-published.result (weaker_sure c.args.name.now _ (of_file _ _ _ _ c.len-len.ensures (ap g.N.File.RawFile.calls c.into_file.ensures) (λ b is. (rw c.in_default.is at c.build-store.ensures.built) b (c.seal.ensures.images.no_other b is)))) c.publish-published.ensures.sure
+
+pub publish-published-requires-clause-ready : goal.publish-published-requires-clause-ready
+publish-published-requires-clause-ready g c =
+    may_replace c.args.temporary.now c.args.name.now c.in-Ok.made.1 _ _ _ _ (ap g.N.File.RawFile.calls c.into_file.ensures) c.in-Ok.ensures.made c.in-Ok.ensures.user c.in-Ok.ensures.seen c.in_default-seal.ensures.ok
