@@ -206,6 +206,11 @@ def compares(old, new, text, line=None, given=("-D",)):
     return case([*given, "x", "y"], b"", text, line, 0 if line is None else 111, {"x": old, "y": new})
 
 
+def new_of(records):
+    """The text by which records are new, of which no two have one key."""
+    return b"".join(b"-%d:%s\n" % (len(key), key) + text_of([(key, value)])[:-1] for key, value in records) + b"\n"
+
+
 def of_old(line):
     """The line of a fault of the old one of two databases."""
     return f"old database: {line}"
@@ -952,13 +957,13 @@ CASES = {
     "a key with another value": compares(
         TWO_FILE, file_of([(b"one", b"Hi"), (b"two", b"Goodbye")]), b"-3:one\n+3,2:one->Hi\n\n"
     ),
-    "all keys are new": compares(EMPTY_FILE, TWO_FILE, TWO_TEXT),
+    "all keys are new": compares(EMPTY_FILE, TWO_FILE, new_of([(b"one", b"Hello"), (b"two", b"Goodbye")])),
     "all keys are gone": compares(TWO_FILE, EMPTY_FILE, b"-3:one\n-3:two\n\n"),
     "an empty key is gone": compares(BARE_FILE, EMPTY_FILE, b"-0:\n\n"),
     "removals before records": compares(
         file_of([(b"a", b"1"), (b"b", b"2"), (b"c", b"3"), (b"a", b"4")]),
         file_of([(b"d", b"5"), (b"b", b"2"), (b"a", b"4"), (b"a", b"1")]),
-        b"-1:a\n-1:c\n+1,1:d->5\n+1,1:a->4\n+1,1:a->1\n\n",
+        b"-1:a\n-1:c\n-1:d\n+1,1:d->5\n+1,1:a->4\n+1,1:a->1\n\n",
     ),
     "one value less": compares(of_a(b"1", b"2"), of_a(b"1"), b"-1:a\n+1,1:a->1\n\n"),
     "one value more": compares(of_a(b"1"), of_a(b"1", b"1"), b"-1:a\n+1,1:a->1\n+1,1:a->1\n\n"),
@@ -972,7 +977,7 @@ CASES = {
         file_of([(b"b", b"2"), (b"a", b"1"), (b"a", b"3")]), b"\n",
     ),
     "no difference of another program's file": compares(FOREIGN_FILE, of_a(b"1"), b"\n"),
-    "a difference of any bytes": compares(EMPTY_FILE, ODD_FILE, text_of(ODD)),
+    "a difference of any bytes": compares(EMPTY_FILE, ODD_FILE, new_of(ODD)),
     "a database is compared with itself": reads(["-D", "x", "x"], TWO_FILE, b"\n"),
     "a database is compared with a link to it": case(
         ["-D", "x", "y"], b"", b"\n", files={"x": TWO_FILE, "y": Link("x")}
@@ -1006,7 +1011,7 @@ CASES = {
         WIDE_TWO, TWO_FILE, b"", of_new(SHORT), ("-D", "-W")
     ),
     "a wide difference from an empty file": compares(
-        WIDE_EMPTY, WIDE_FILE, b"+3,5:one->Hello\n\n", given=("-D", "-W")
+        WIDE_EMPTY, WIDE_FILE, b"-3:one\n+3,5:one->Hello\n\n", given=("-D", "-W")
     ),
     "a wide difference to an empty file": compares(WIDE_FILE, WIDE_EMPTY, b"-3:one\n\n", given=("-D", "-W")),
     "a wide difference of an empty narrow file": compares(EMPTY_FILE, WIDE_FILE, b"", of_old(SHORT), ("-D", "-W")),

@@ -4,7 +4,8 @@
     tests/cli/differences.py PROGRAM
 
 The model is a plain list of records. Each amended database is compared with one that is made here of the
-records that survive, and what changed between it and the new one must be nothing. After the drawn cases come
+records that survive, and what changed between it and the new one must be nothing. The text is done again, to the
+new one and to a database of other records. After the drawn cases come
 values of several pieces and of many records, lists of which whole parts moved, and then each byte of a small
 database is changed in turn, and each of its prefixes compared. If its head alone shows that it is damaged, the
 program says so, and writes nothing.
@@ -35,10 +36,16 @@ def values_of(records, key):
 
 
 def changed_between(old, new):
-    """The changes from some records to others: a key whose values differ is removed, and put with the new ones."""
+    """The changes from some records to others: a key whose values differ is removed, and put with the new ones. One
+    that is new is removed just before it is put."""
     differ = {key for key, _ in old + new if values_of(old, key) != values_of(new, key)}
-    removed = [(key, None) for key in dict(old) if key in differ]
-    return removed + [(key, value) for first in dict(new) if first in differ for key, value in new if key == first]
+    had = dict(old)
+    changes = [(key, None) for key in had if key in differ]
+    for key in dict(new):
+        if key in differ:
+            changes += [] if key in had else [(key, None)]
+            changes += [(key, value) for value in values_of(new, key)]
+    return changes
 
 
 def survivors(old, changes):
@@ -94,9 +101,9 @@ class Folder:
         done = subprocess.run([self.program, *words], cwd=self.path, input=stdin, capture_output=True, timeout=60)
         return done.returncode, done.stdout, done.stderr
 
-    def amended(self, text, *options):
-        """The database that the text leaves of the old one, or None."""
-        if self.run("-c", *options, "-b", "old", "out", stdin=text) != (0, b"", b""):
+    def amended(self, text, *options, base="old"):
+        """The database that the text leaves of the old one or of another, or None."""
+        if self.run("-c", *options, "-b", base, "out", stdin=text) != (0, b"", b""):
             return None
         with open(os.path.join(self.path, "out"), "rb") as file:
             return file.read()
@@ -114,6 +121,19 @@ class Folder:
             and self.amended(spelled(changes), *options) == file_of(after, bytes_of)
             and all(values_of(after, key) == values_of(new, key) for key, _ in old + new)
             and self.run("-D", *options, "out", "new") == (0, NOTHING, b"")
+            and survivors(after, changes) == after
+            and self.amended(spelled(changes), *options, base="out") == file_of(after, bytes_of)
+        )
+
+    def is_done_to(self, others, old, new):
+        """Whether the text that was written last does to other records what it did to the old ones."""
+        self.write("others", file_of(others))
+        changes = changed_between(old, new)
+        after = survivors(others, changes)
+        return (
+            self.amended(spelled(changes), base="others") == file_of(after)
+            and all(values_of(after, key) == values_of(new, key) for key, _ in changes)
+            and self.amended(spelled(changes), base="out") == file_of(after)
         )
 
 
@@ -126,7 +146,8 @@ def drawn_case(folder, number):
         return folder.compares(old, new, bytes_of=wide_words)
     if number % 4 == 1:
         return folder.compares(old, new, (foreign_file_of(chosen, old), foreign_file_of(chosen, new)))
-    return folder.compares(old, new)
+    others = new if number % 4 == 2 else altered(chosen, new)
+    return folder.compares(old, new) and folder.is_done_to(others, old, new)
 
 
 def large_pairs():

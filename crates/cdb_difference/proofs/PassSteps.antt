@@ -21,18 +21,18 @@ module _ (w : ℕ) (kind : ItemKind) (b c : List ℕ) (old new : Walked) (place 
         (same_appends start mid _ _ (sym (append-nil (changes_text so_far.changes))) so_far.written);
   }
 
-  changed_list : true ≡ (marked && is_first_changed w b c key pair.value.place) → PassList w kind b c new next (so_far.changes ++ changes_at kind w b key)
-  changed_list is = pass_more w kind b c old new place next so_far.changes (changes_at kind w b key) pair key marked true some agree so_far.listed first lies ends inside key_is is refl
+  changed_list : true ≡ (marked && is_first_changed w b c key pair.value.place) → PassList w kind b c new next (so_far.changes ++ changes_at kind w b c key)
+  changed_list is = pass_more w kind b c old new place next so_far.changes (changes_at kind w b c key) pair key marked true some agree so_far.listed first lies ends inside key_is is refl
 
-  pub changed : true ≡ (marked && is_first_changed w b c key pair.value.place) → Appends mid now (changes_text (changes_at kind w b key)) → PassSoFar w kind b c new next start now
+  pub changed : true ≡ (marked && is_first_changed w b c key pair.value.place) → Appends mid now (changes_text (changes_at kind w b c key)) → PassSoFar w kind b c new next start now
   changed is said = record {
-    changes = so_far.changes ++ changes_at kind w b key;
+    changes = so_far.changes ++ changes_at kind w b c key;
     listed = changed_list is;
-    written = same_appends start now _ _ (sym (text_append so_far.changes (changes_at kind w b key))) (appends_then start mid now _ _ so_far.written said);
+    written = same_appends start now _ _ (sym (text_append so_far.changes (changes_at kind w b c key))) (appends_then start mid now _ _ so_far.written said);
   }
 
-  pub changed_prefix : true ≡ (marked && is_first_changed w b c key pair.value.place) → AppendsPrefix mid now (changes_text (changes_at kind w b key)) → WritesPassPrefix w kind b c start now
-  changed_prefix is front = pass_prefix w kind b c new next so_far.changes (changes_at kind w b key) start mid now (changed_list is) so_far.written front
+  pub changed_prefix : true ≡ (marked && is_first_changed w b c key pair.value.place) → AppendsPrefix mid now (changes_text (changes_at kind w b c key)) → WritesPassPrefix w kind b c start now
+  changed_prefix is front = pass_prefix w kind b c new next so_far.changes (changes_at kind w b c key) start mid now (changed_list is) so_far.written front
 
 -- the pass stopped between two keys
 pub stopped : (w : ℕ) (kind : ItemKind) (b c : List ℕ) (left : Walked) (place : ℕ) (start now : Option (List ℕ)) → PassSoFar w kind b c left place start now → WritesPassPrefix w kind b c start now

@@ -7,12 +7,12 @@ use Rattle.std.proofs.lemmas.List.Sums.{sum_by-append, sum_by-cons}
 use Rattle.cdb_form.specs.Format.Pair.{head_size, pair_size}
 use Rattle.cdb_form.specs.Format.Record.{KeyValue, record_size}
 use Rattle.cdb_form.specs.declared.item.ItemKind.TheVariants as kind
-use Rattle.cdb_read.specs.Difference.{first_keys, is_changed, values_eq}
+use Rattle.cdb_read.specs.Difference.{first_keys, is_changed, removal_of_new, values_eq}
 use Rattle.cdb_read.specs.InOrder.{FindsInOrder, spans_from}
 use Rattle.cdb_read.proofs.Differences.{same_unchanged, there}
 use Rattle.cdb_read.proofs.FirstKeys.{chosen_push, first_keys_more}
 use Rattle.cdb_read.proofs.InOrderFiles.{spans_has, spans_other}
-use Rattle.cdb_difference.specs.Difference.{changes_at, changes_text, first_at, is_first_changed, key_changes, pass_of, values_at, WritesPass, WritesPassPrefix}
+use Rattle.cdb_difference.specs.Difference.{changes_at, changes_text, first_at, is_first_changed, key_changes, pass_of, puts_at, values_at, WritesPass, WritesPassPrefix}
 
 -- ---- the first record of a key
 
@@ -52,7 +52,7 @@ abbrev chosen : ℕ → (b c : List ℕ) → List KeyValue → List (List ℕ)
 chosen w b c rs = filter (is_changed (records_of w b) (records_of w c)) (first_keys rs)
 
 abbrev said_of : ItemKind → ℕ → (b c : List ℕ) → List KeyValue → List Change
-said_of kind w b c rs = flat_map (key_changes kind (records_of w b)) (chosen w b c rs)
+said_of kind w b c rs = flat_map (key_changes kind (records_of w b) (records_of w c)) (chosen w b c rs)
 
 -- the walk gave some records, up to a place, of which these are the changes
 pub record PassList (w : ℕ) (kind : ItemKind) (b c : List ℕ) (left : Walked) (place : ℕ) (changes : List Change) : Type 0 where
@@ -66,13 +66,15 @@ unfolding first_keys
 pass_none w kind b c left place is here = record { done = []; all = sym is; here = omega arith; are = λ one two. refl }
 
 -- the changes of a key, as a look-up gives them
-changes_are : (kind : ItemKind) (w : ℕ) (b key : List ℕ) → FindsInOrder w b → changes_at kind w b key ≡ key_changes kind (records_of w b) key
-changes_are kind.Put w b key order = ap (map (λ value. Putting (record { key = key; value = value }))) (order.values key)
-changes_are kind.Remove w b key order = refl
+changes_are : (kind : ItemKind) (w : ℕ) (b c key : List ℕ) → FindsInOrder w b → FindsInOrder w c → changes_at kind w b c key ≡ key_changes kind (records_of w b) (records_of w c) key
+changes_are kind.Put w b c key one two =
+    ap (λ us. removal_of_new us key ++ puts_at w b key) (two.values key)
+    ∙ ap (λ vs. removal_of_new (values_of key (records_of w c)) key ++ map (λ value. Putting (record { key = key; value = value })) vs) (one.values key)
+changes_are kind.Remove w b c key one two = refl
 
-one_key : (kind : ItemKind) (w : ℕ) (b key : List ℕ) (changed : Bool) → FindsInOrder w b → cond changed (changes_at kind w b key) [] ≡ flat_map (key_changes kind (records_of w b)) (cond changed (key ∷ []) [])
-one_key kind w b key true order = changes_are kind w b key order ∙ sym (append-nil (key_changes kind (records_of w b) key))
-one_key kind w b key false order = refl
+one_key : (kind : ItemKind) (w : ℕ) (b c key : List ℕ) (changed : Bool) → FindsInOrder w b → FindsInOrder w c → cond changed (changes_at kind w b c key) [] ≡ flat_map (key_changes kind (records_of w b) (records_of w c)) (cond changed (key ∷ []) [])
+one_key kind w b c key true one two = changes_are kind w b c key one two ∙ sym (append-nil (key_changes kind (records_of w b) (records_of w c) key))
+one_key kind w b c key false one two = refl
 
 -- a key that isn't marked isn't chosen
 only_marked : (marked first differs : Bool) → (marked ≡ false → differs ≡ false) → (marked && (first && differs)) ≡ (first && differs)
@@ -81,7 +83,7 @@ only_marked false first differs none = sym (and_right first differs (none refl))
 
 -- one record more, and what was said of it
 pub pass_more : (w : ℕ) (kind : ItemKind) (b c : List ℕ) (old new : Walked) (place next : ℕ) (changes said : List Change) (pair : Pair) (key : List ℕ) (marked changed : Bool) → 0 < w → (marked ≡ false → values_of key (records_of w b) ≡ values_of key (records_of w c)) → PassList w kind b c old place changes → old ≡ with_first (record_in b pair) new → LiesAt w place pair → next ≡ behind pair → behind pair ≤ length b
-    → key ≡ bytes_of b pair.key → changed ≡ (marked && is_first_changed w b c key pair.value.place) → said ≡ cond changed (changes_at kind w b key) [] → PassList w kind b c new next (changes ++ said)
+    → key ≡ bytes_of b pair.key → changed ≡ (marked && is_first_changed w b c key pair.value.place) → said ≡ cond changed (changes_at kind w b c key) [] → PassList w kind b c new next (changes ++ said)
 pass_more w kind b c old new place next changes said pair key marked changed some agree so_far first lies ends inside key_is changed_is said_is =
     let r = record_in b pair in
     let done = so_far.done in
@@ -116,15 +118,15 @@ pass_more w kind b c old new place next changes said pair key marked changed som
           ap (λ k. cond (not (there k done) && is_changed (records_of w b) (records_of w c) k) (k ∷ []) []) key_is in
           ap (λ xs. xs ++ said) (so_far.are one two)
           ∙ ap (λ xs. said_of kind w b c done ++ xs)
-          (said_is ∙ one_key kind w b key changed one ∙ ap (λ v. flat_map (key_changes kind (records_of w b)) (cond v (key ∷ []) [])) test ∙ ap (flat_map (key_changes kind (records_of w b))) key_of)
-          ∙ sym (ap (flat_map (key_changes kind (records_of w b))) push ∙ flat_map-append (key_changes kind (records_of w b)) (chosen w b c done) (cond (not (there r.key done) && is_changed (records_of w b) (records_of w c) r.key) (r.key ∷ []) []));
+          (said_is ∙ one_key kind w b c key changed one two ∙ ap (λ v. flat_map (key_changes kind (records_of w b) (records_of w c)) (cond v (key ∷ []) [])) test ∙ ap (flat_map (key_changes kind (records_of w b) (records_of w c))) key_of)
+          ∙ sym (ap (flat_map (key_changes kind (records_of w b) (records_of w c))) push ∙ flat_map-append (key_changes kind (records_of w b) (records_of w c)) (chosen w b c done) (cond (not (there r.key done) && is_changed (records_of w b) (records_of w c) r.key) (r.key ∷ []) []));
     }
 
 -- what was said is the first of all that the pass says
 pub pass_front : (w : ℕ) (kind : ItemKind) (b c : List ℕ) (left : Walked) (place : ℕ) (changes : List Change) → PassList w kind b c left place changes → FindsInOrder w b → FindsInOrder w c → (more : List ℕ) × (changes_text (pass_of kind w b c) ≡ changes_text changes ++ more)
 pass_front w kind b c left place changes h one two =
     let changed = is_changed (records_of w b) (records_of w c) in
-    let say = key_changes kind (records_of w b) in
+    let say = key_changes kind (records_of w b) (records_of w c) in
     let keys = first_keys_more h.done left.records in
     let records : records_of w b ≡ h.done ++ left.records = ap (λ (x : Walked). x.records) h.all in (
       changes_text (flat_map say (filter changed keys.0)),

@@ -2,23 +2,23 @@
 use Rattle.cdb_difference.proofs.Words.{Appends, AppendsPrefix, KeyValue, List, Option, [], ap, append_assoc, appends_none, appends_then, codes, flat_map, map, prefix_in, prefix_last, prefix_then, refl, same_appends, sym, walk_of, ℕ, ◌++◌, ◌∙◌, ◌∷◌, ◌≡◌}
 use Rattle.cdb_form.specs.Text.Amending.{Change, Removing, amending_text}
 use Rattle.cdb_form.specs.declared.item.ItemKind.TheVariants.{Put, Remove}
-use Rattle.cdb_read.specs.Difference.{changed_keys, difference, puts_of}
+use Rattle.cdb_read.specs.Difference.{all_of, changed_keys, difference}
 use Rattle.cdb_difference.specs.Difference.{changes_text, difference_of, key_changes, pass_changes, pass_of, WritesDifference, WritesPass, WritesPassPrefix, WritesDifferencePrefix}
 use Rattle.cdb_difference.proofs.Passes.{text_append}
 
-removals_are : (rs : List KeyValue) (ks : List (List ℕ)) → map Removing ks ≡ flat_map (key_changes Remove rs) ks
-removals_are rs [] = refl
-removals_are rs (k ∷ ks) = ap (λ xs. Removing k ∷ xs) (removals_are rs ks)
+removals_are : (rs ss : List KeyValue) (ks : List (List ℕ)) → map Removing ks ≡ flat_map (key_changes Remove rs ss) ks
+removals_are rs ss [] = refl
+removals_are rs ss (k ∷ ks) = ap (λ xs. Removing k ∷ xs) (removals_are rs ss ks)
 
-puts_are : (rs : List KeyValue) (ks : List (List ℕ)) → flat_map (puts_of rs) ks ≡ flat_map (key_changes Put rs) ks
-puts_are rs [] = refl
-puts_are rs (k ∷ ks) = ap (λ xs. puts_of rs k ++ xs) (puts_are rs ks)
+puts_are : (rs ss : List KeyValue) (ks : List (List ℕ)) → flat_map (all_of rs ss) ks ≡ flat_map (key_changes Put ss rs) ks
+puts_are rs ss [] = refl
+puts_are rs ss (k ∷ ks) = ap (λ xs. all_of rs ss k ++ xs) (puts_are rs ss ks)
 
 two_passes : (rs ss : List KeyValue) → difference rs ss ≡ pass_changes Remove rs ss ++ pass_changes Put ss rs
 unfolding difference
 two_passes rs ss =
-    ap (λ xs. xs ++ flat_map (puts_of ss) (changed_keys ss rs)) (removals_are rs (changed_keys rs ss))
-    ∙ ap (λ xs. pass_changes Remove rs ss ++ xs) (puts_are ss (changed_keys ss rs))
+    ap (λ xs. xs ++ flat_map (all_of rs ss) (changed_keys ss rs)) (removals_are rs ss (changed_keys rs ss))
+    ∙ ap (λ xs. pass_changes Remove rs ss ++ xs) (puts_are rs ss (changed_keys ss rs))
 
 -- the text of two lists of changes
 text_of_two : (xs ys : List Change) → amending_text (xs ++ ys) ≡ changes_text xs ++ (changes_text ys ++ codes "\n")

@@ -1,6 +1,6 @@
 -- What writing the difference of two databases leaves, in words of w bytes. An image is one of its
 -- store as it is left.
-use Rattle.std.specs.Prelude.{ℕ, ◌≡◌, ◌<◌, ◌==◌, ◌&&◌, ◌⊎◌, ⊤, Bool, false, not, List, [], ◌∷◌, map}
+use Rattle.std.specs.Prelude.{ℕ, ◌≡◌, ◌<◌, ◌==◌, ◌&&◌, ◌⊎◌, ⊤, Bool, false, not, List, [], ◌∷◌, ◌++◌, map}
 use Rattle.std.specs.Prelude.{flat_map, Option, None, Some, Result, OnOk, IfErr}
 use Rattle.std.specs.Io.KnownBytes.{Appends}
 use Rattle.cdb_store.specs.declared.store.Store.{Ghosts}
@@ -13,7 +13,7 @@ use Rattle.cdb_form.specs.declared.damage.Damage.{Damage}
 use Rattle.cdb_form.specs.declared.damage.Damage.TheVariants as damage
 use Rattle.cdb_form.specs.declared.item.ItemKind.{ItemKind}
 use Rattle.cdb_form.specs.declared.item.ItemKind.TheVariants as kind
-use Rattle.cdb_read.specs.Difference.{changed_keys, difference, puts_of, values_eq}
+use Rattle.cdb_read.specs.Difference.{all_of, changed_keys, difference, removal_of_new, values_eq}
 use Rattle.cdb_read.specs.InOrder.{FindsInOrder}
 use Rattle.cdb_read.specs.Lookup.{bytes_of, lookup_of}
 use Rattle.cdb_read.specs.Values.{values_of}
@@ -39,10 +39,19 @@ abbrev pub is_first_changed : ℕ → (b c key : List ℕ) → ℕ → Bool
 is_first_changed w b c key place = first_at place (lookup_of w b key).spans
     && not (values_eq (values_at w b key) (values_at w c key))
 
--- what is written of a changed key: its removal, or a put for each value that a look-up gives
-abbrev pub changes_at : ItemKind → ℕ → (b key : List ℕ) → List Change
-changes_at kind.Put w b key = map (λ value. Putting (record_of key value)) (values_at w b key)
-changes_at kind.Remove w b key = Removing key ∷ []
+-- a put for each value that a look-up gives
+abbrev pub puts_at : ℕ → (b key : List ℕ) → List Change
+puts_at w b key = map (λ value. Putting (record_of key value)) (values_at w b key)
+
+-- the removal of a key that c lacks
+abbrev pub removal_at : ℕ → (c key : List ℕ) → List Change
+removal_at w c key = removal_of_new (values_at w c key) key
+
+-- what is written of a key whose values in c are others: its removal; or its puts, and its removal
+-- before them if c lacks it
+abbrev pub changes_at : ItemKind → ℕ → (b c key : List ℕ) → List Change
+changes_at kind.Put w b c key = removal_at w c key ++ puts_at w b key
+changes_at kind.Remove w b c key = Removing key ∷ []
 
 -- some record has a key
 abbrev pub WalkHasKey : List ℕ → List KeyValue → Type 0
@@ -72,12 +81,12 @@ abbrev pub changes_text : List Change → List ℕ
 changes_text changes = flat_map change_line changes
 
 -- the changes of a pass over rs, beside ss
-abbrev pub key_changes : ItemKind → List KeyValue → List ℕ → List Change
-key_changes kind.Put rs key = puts_of rs key
-key_changes kind.Remove rs key = Removing key ∷ []
+abbrev pub key_changes : ItemKind → (rs ss : List KeyValue) → List ℕ → List Change
+key_changes kind.Put rs ss key = all_of ss rs key
+key_changes kind.Remove rs ss key = Removing key ∷ []
 
 abbrev pub pass_changes : ItemKind → (rs ss : List KeyValue) → List Change
-pass_changes kind rs ss = flat_map (key_changes kind rs) (changed_keys rs ss)
+pass_changes kind rs ss = flat_map (key_changes kind rs ss) (changed_keys rs ss)
 
 abbrev pub pass_of : ItemKind → ℕ → (b c : List ℕ) → List Change
 pass_of kind w b c = pass_changes kind (walk_of w b).records (walk_of w c).records

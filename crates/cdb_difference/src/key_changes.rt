@@ -6,10 +6,12 @@ ghost use Rattle.cdb_form.specs.Views.KnownBytes.{Writes};
 ghost use Rattle.cdb_store.specs.Reads.{OnlyReads};
 ghost use Rattle.cdb_read.specs.Lookup.{bytes_of};
 ghost use Rattle.cdb_read.specs.Views.Reads.{CopyingFails};
-ghost use Rattle.cdb_difference.specs.Difference.{changes_at, changes_text, LookHas, ReadingStops};
+ghost use Rattle.cdb_difference.specs.Difference.{changes_at, changes_text, puts_at, removal_at};
+ghost use Rattle.cdb_difference.specs.Difference.{InBoth, LookHas, ReadingStops, StopsBy};
+ghost use Rattle.cdb_difference.specs.Views.Looking.{ReadBoth};
 ghost use Rattle.cdb_read.specs.declared.fault.ReadFault.TheVariants.{Output};
-ghost use Rattle.cdb_form.specs.declared.item.ItemKind.TheVariants.{Put};
 
+use crate::stop::Stop;
 use cdb_form::{ItemKind, OutFault, Sink, Width, write_pieces, write_removal, write_whole};
 use cdb_read::{Finder, ReadFault, Reader, Span};
 use cdb_store::Store;
@@ -65,7 +67,7 @@ fn write_puts<L: Width, S: Store, W: Sink>(
     ensures reads { OnlyReads S.Store reader.old.store reader.new.store }
     ensures writes { (b : List ℕ) → S.image reader.new.store b
         → Writes result (W.contents w.old) (W.contents w.new)
-        (changes_text (changes_at Put L.WORD b key.now)) }
+        (changes_text (puts_at L.WORD b key.now)) }
     ensures fails { IfErr result
         (ReadingStops S.Store reader.old.store reader.new.store
         (LookHas L.WORD S.Store reader.new.store key.now) (W.failed w.new)) }
@@ -77,24 +79,57 @@ fn write_puts<L: Width, S: Store, W: Sink>(
     Ok(())
 }
 
-/// Writes what the difference says of a changed key: that it is removed, or its puts. After a fault
-/// the writer holds a prefix of that.
-pub(crate) fn write_changes<L: Width, S: Store, W: Sink>(
-    reader: &mut Reader<S, L>,
-    kind: ItemKind,
+/// Writes the removal of a key if a database lacks it. After a fault the writer holds a prefix of
+/// that.
+fn write_removal_of_new<L: Width, T: Store, W: Sink>(
+    reader: &mut Reader<T, L>,
     key: &[u8],
     w: &mut W,
 ) -> Result<(), ReadFault>
-    ensures reads { OnlyReads S.Store reader.old.store reader.new.store }
-    ensures writes { (b : List ℕ) → S.image reader.new.store b
+    ensures reads { OnlyReads T.Store reader.old.store reader.new.store }
+    ensures writes { (c : List ℕ) → T.image reader.new.store c
         → Writes result (W.contents w.old) (W.contents w.new)
-        (changes_text (changes_at kind L.WORD b key.now)) }
+        (changes_text (removal_at L.WORD c key.now)) }
     ensures fails { IfErr result
-        (ReadingStops S.Store reader.old.store reader.new.store
-        (LookHas L.WORD S.Store reader.new.store key.now) (W.failed w.new)) }
+        (ReadingStops T.Store reader.old.store reader.new.store
+        (LookHas L.WORD T.Store reader.new.store key.now) (W.failed w.new)) }
+{
+    let mut finder = reader.find(key);
+    if let Some(_) = finder.next()? {
+        return Ok(());
+    }
+    write_removal(w, key)?;
+    Ok(())
+}
+
+/// Writes what the difference says of a key whose values in the other database are others: that it
+/// is removed; or its puts, after its removal if the other database lacks it. So the text may be
+/// done again, and to a database that has the key. After a `Stop` the writer holds a prefix of
+/// that.
+pub(crate) fn write_changes<L: Width, S: Store, T: Store, W: Sink>(
+    own: &mut Reader<S, L>,
+    other: &mut Reader<T, L>,
+    kind: ItemKind,
+    key: &[u8],
+    w: &mut W,
+) -> Result<(), Stop>
+    ensures reads { ReadBoth own.old own.new other.old other.new }
+    ensures writes { InBoth S.Store T.Store own.new.store other.new.store (λ b c.
+        Writes result (W.contents w.old) (W.contents w.new)
+        (changes_text (changes_at kind L.WORD b c key.now))) }
+    ensures fails { IfErr result (StopsBy S.Store T.Store own.old.store own.new.store
+        other.old.store other.new.store (LookHas L.WORD S.Store own.new.store key.now)
+        (LookHas L.WORD T.Store other.new.store key.now) (W.failed w.new)) }
 {
     match kind {
-        ItemKind::Put => write_puts(reader, key, w),
+        ItemKind::Put => {
+            match write_removal_of_new(other, key, w) {
+                Ok(()) => {}
+                Err(fault) => return Err(Stop::Other(fault)),
+            }
+            write_puts(own, key, w)?;
+            Ok(())
+        }
         ItemKind::Remove => {
             write_removal(w, key)?;
             Ok(())

@@ -82,7 +82,7 @@ pub(crate) fn write_pass<L: Width, S: Store, T: Store, W: Sink>(
     let mut bookmark = walk(own).bookmark();
     while let Some(pair) = next_record(own, &mut bookmark)? {
         if is_change(own, other, marks, pair, &mut key, &mut mine, &mut theirs)? {
-            write_changes(own, kind, &key, w)?;
+            write_changes(own, other, kind, &key, w)?;
         }
     }
     Ok(())

@@ -15,7 +15,9 @@ use std::alloc::Global;
 ///
 /// Each key of the old database that has other values in the new one, or none, is removed, in the
 /// order of the first records of these keys. Then each key of the new one that has other values in
-/// the old one is put with all its values. If no key has, the text is a newline.
+/// the old one is put with all its values, and one that the old one lacks is removed before that.
+/// So the text may be done again, and to other databases: each key that it names has its new values
+/// then. If no key differs, the text is a newline.
 ///
 /// The text is that of the difference of the two walks if the look-ups of both files give each key
 /// its records in the order of the walk, as they do in every file that a maker of this format made.

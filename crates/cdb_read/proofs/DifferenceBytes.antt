@@ -1,5 +1,5 @@
 -- The records that a difference leaves are lists of bytes, and so is what it says.
-use Rattle.cdb_read.proofs.Words.{AllByRecursion, AreBytes, Bool, IsRecord, KeyValue, List, [], after_change, amended, brought_up, bytes_eq, cases_Bool, changed_keys, cond-false, cond-true, difference, filter, first_keys, flat_map, inl, inr, is_changed, map, not, puts_of, record_of, subst, sym, values_of, ℕ, ⊤, ◌++◌, ◌∷◌}
+use Rattle.cdb_read.proofs.Words.{AllByRecursion, AreBytes, Bool, IsRecord, KeyValue, List, [], after_change, all_of, amended, brought_up, bytes_eq, cases_Bool, changed_keys, cond-false, cond-true, difference, filter, first_keys, flat_map, inl, inr, is_changed, map, not, puts_of, record_of, removal_of_new, subst, sym, values_of, ℕ, ⊤, ◌++◌, ◌∷◌}
 use Rattle.cdb_form.specs.Text.Amending.{Change, Putting, Removing}
 
 all_filtered : {X : Type 0} (P : X → Type 0) (q : X → Bool) (xs : List X) → AllByRecursion P xs → AllByRecursion P (filter q xs)
@@ -37,18 +37,23 @@ values_put : (k : List ℕ) (vs : List (List ℕ)) → AreBytes k → AllByRecur
 values_put k [] key all = tt
 values_put k (v ∷ vs) key all = (record { key = key; value = all.0 }, values_put k vs key all.1)
 
-keys_put : (ss : List KeyValue) (ks : List (List ℕ)) → AllByRecursion IsRecord ss → AllByRecursion AreBytes ks → AllByRecursion PutsRecord (flat_map (puts_of ss) ks)
-keys_put ss [] all keys = tt
-keys_put ss (k ∷ ks) all keys =
-    all_appended PutsRecord (puts_of ss k) (flat_map (puts_of ss) ks)
-    (values_put k (values_of k ss) keys.0 (fields_bytes (filter (λ r. bytes_eq r.key k) ss) (all_filtered IsRecord (λ r. bytes_eq r.key k) ss all)))
-    (keys_put ss ks all keys.1)
+new_put : (vs : List (List ℕ)) (k : List ℕ) → AllByRecursion PutsRecord (removal_of_new vs k)
+new_put [] k = (tt, tt)
+new_put (v ∷ vs) k = tt
+
+keys_put : (rs ss : List KeyValue) (ks : List (List ℕ)) → AllByRecursion IsRecord ss → AllByRecursion AreBytes ks → AllByRecursion PutsRecord (flat_map (all_of rs ss) ks)
+keys_put rs ss [] all keys = tt
+keys_put rs ss (k ∷ ks) all keys =
+    all_appended PutsRecord (all_of rs ss k) (flat_map (all_of rs ss) ks)
+    (all_appended PutsRecord (removal_of_new (values_of k rs) k) (puts_of ss k) (new_put (values_of k rs) k)
+    (values_put k (values_of k ss) keys.0 (fields_bytes (filter (λ r. bytes_eq r.key k) ss) (all_filtered IsRecord (λ r. bytes_eq r.key k) ss all))))
+    (keys_put rs ss ks all keys.1)
 
 difference_puts : (rs ss : List KeyValue) → AllByRecursion IsRecord ss → AllByRecursion PutsRecord (difference rs ss)
 unfolding difference
 difference_puts rs ss all =
-    all_appended PutsRecord (map Removing (changed_keys rs ss)) (flat_map (puts_of ss) (changed_keys ss rs)) (removals_put (changed_keys rs ss))
-    (keys_put ss (changed_keys ss rs) all (all_filtered AreBytes (is_changed ss rs) (first_keys ss) (keys_bytes ss all)))
+    all_appended PutsRecord (map Removing (changed_keys rs ss)) (flat_map (all_of rs ss) (changed_keys ss rs)) (removals_put (changed_keys rs ss))
+    (keys_put rs ss (changed_keys ss rs) all (all_filtered AreBytes (is_changed ss rs) (first_keys ss) (keys_bytes ss all)))
 
 amended_records : (rs : List KeyValue) (changes : List Change) → AllByRecursion IsRecord rs → AllByRecursion PutsRecord changes → AllByRecursion IsRecord (amended rs changes)
 amended_records rs [] all puts = all

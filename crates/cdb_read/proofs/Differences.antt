@@ -1,6 +1,6 @@
 -- The difference of two lists of records, done to the first, gives each key what it has in the second.
 use Rattle.cdb_read.proofs.Words.{Bool, KeyValue, List, Putting, Removing, [], and_from, and_parts, and_right, ap, append-nil, append_assoc, both_ways, bytes_eq, bytes_eq-Decides, cases_Bool, cond, cond-false, cond-true, false, filter, filter-append, flat_map, fold-append, inl, inr, map, map-append, not, not_from_false, not_from_true, record_of, refl, sym, true, values_of, ℕ, ◌&&◌, ◌++◌, ◌∙◌, ◌∷◌, ◌≡◌}
-use Rattle.cdb_read.specs.Difference.{after_change, amended, changed_keys, difference, first_keys, is_changed, puts_of, values_eq}
+use Rattle.cdb_read.specs.Difference.{after_change, all_of, amended, changed_keys, difference, first_keys, is_changed, puts_of, removal_of_new, values_eq}
 use Rattle.cdb_read.specs.Laws.{brought_up, EmptyIsSame}
 
 -- ---- tests
@@ -184,7 +184,7 @@ at_key_more : {A : Type 0} (b : Bool) (x : A) (xs : List A) → cond b (x ∷ []
 at_key_more true x xs = refl
 at_key_more false x xs = refl
 
-put_values : (key k : List ℕ) (vs : List (List ℕ)) (rs : List KeyValue) → values_of key (amended rs (map (λ value. Putting (record_of k value)) vs)) ≡ values_of key rs ++ at_key key vs k
+pub put_values : (key k : List ℕ) (vs : List (List ℕ)) (rs : List KeyValue) → values_of key (amended rs (map (λ value. Putting (record_of k value)) vs)) ≡ values_of key rs ++ at_key key vs k
 put_values key k [] rs = sym (ap (λ v. values_of key rs ++ v) (cond_nothing (bytes_eq k key)) ∙ append-nil (values_of key rs))
 put_values key k (v ∷ vs) rs =
     put_values key k vs (rs ++ record_of k v ∷ [])
@@ -199,80 +199,165 @@ own_values key k ss = elim (cases_Bool (bytes_eq k key)) [
   | inr f ↦ cond-false (bytes_eq k key) (values_of k ss) [] f ∙ sym (cond-false (bytes_eq k key) (values_of key ss) [] f)
 ]
 
-put_keys : (key : List ℕ) (ss : List KeyValue) (ks : List (List ℕ)) (rs : List KeyValue) → values_of key (amended rs (flat_map (puts_of ss) ks)) ≡ values_of key rs ++ flat_map (at_key key (values_of key ss)) ks
-put_keys key ss [] rs = sym (append-nil (values_of key rs))
-put_keys key ss (k ∷ ks) rs =
-    let first = amended rs (puts_of ss k) in
-    ap (values_of key) (fold-append after_change rs (puts_of ss k) (flat_map (puts_of ss) ks))
-    ∙ put_keys key ss ks first
-    ∙ ap (λ x. x ++ flat_map (at_key key (values_of key ss)) ks) (put_values key k (values_of k ss) rs ∙ ap (λ x. values_of key rs ++ x) (own_values key k ss))
-    ∙ append_assoc (values_of key rs) (at_key key (values_of key ss) k) (flat_map (at_key key (values_of key ss)) ks)
+-- nothing, if a key was new
+cleared : {A B : Type 0} → List A → List B → List B
+cleared [] ys = []
+cleared (x ∷ xs) ys = ys
+
+cleared_nothing : {A B : Type 0} (xs : List A) → cleared xs [] ≡ (let none : List B = [] in none)
+unfolding cleared
+cleared_nothing [] = refl
+cleared_nothing (x ∷ xs) = refl
+
+either_way : {A : Type 0} (b : Bool) (x : A) → x ≡ cond b x x
+either_way true x = refl
+either_way false x = refl
+
+new_removed : (key k : List ℕ) (us : List (List ℕ)) (ts : List KeyValue) → values_of key (amended ts (removal_of_new us k)) ≡ cond (bytes_eq k key) (cleared us (values_of key ts)) (values_of key ts)
+unfolding cleared
+new_removed key k [] ts = removed_one key k ts
+new_removed key k (u ∷ us) ts = either_way (bytes_eq k key) (values_of key ts)
+
+own_cleared : (key k : List ℕ) (rs : List KeyValue) (vs : List (List ℕ)) → cond (bytes_eq k key) (cleared (values_of k rs) vs) vs ≡ cond (bytes_eq k key) (cleared (values_of key rs) vs) vs
+own_cleared key k rs vs = elim (cases_Bool (bytes_eq k key)) [
+  | inl t ↦ ap (λ x. cond (bytes_eq k key) (cleared (values_of x rs) vs) vs) ((bytes_eq-Decides k key).0 t)
+  | inr f ↦ cond-false (bytes_eq k key) (cleared (values_of k rs) vs) vs f ∙ sym (cond-false (bytes_eq k key) (cleared (values_of key rs) vs) vs f)
+]
+
+-- ---- what comes of a key of which all is said
+
+said_part : {A : Type 0} (b : Bool) (xs ys vs : List A) → cond b xs vs ++ cond b ys [] ≡ cond b (xs ++ ys) vs
+said_part true xs ys vs = refl
+said_part false xs ys vs = append-nil vs
+
+said_one : (key k : List ℕ) (rs ss ts : List KeyValue) → values_of key (amended ts (all_of rs ss k)) ≡ cond (bytes_eq k key) (cleared (values_of key rs) (values_of key ts) ++ values_of key ss) (values_of key ts)
+said_one key k rs ss ts =
+    let removal = removal_of_new (values_of k rs) k in
+    ap (values_of key) (fold-append after_change ts removal (puts_of ss k))
+    ∙ put_values key k (values_of k ss) (amended ts removal)
+    ∙ ap (λ x. x ++ at_key key (values_of k ss) k) (new_removed key k (values_of k rs) ts ∙ own_cleared key k rs (values_of key ts))
+    ∙ ap (λ x. cond (bytes_eq k key) (cleared (values_of key rs) (values_of key ts)) (values_of key ts) ++ x) (own_values key k ss)
+    ∙ said_part (bytes_eq k key) (cleared (values_of key rs) (values_of key ts)) (values_of key ss) (values_of key ts)
+
+-- for each hit
+told : {A B : Type 0} → List A → (us ws vs : List B) → List B
+told [] us ws vs = vs
+told (x ∷ hits) us ws vs = told hits us ws (cleared us vs ++ ws)
+
+told_more : {A B : Type 0} (b : Bool) (x : A) (hits : List A) (us ws vs : List B) → told hits us ws (cond b (cleared us vs ++ ws) vs) ≡ told (cond b (x ∷ []) [] ++ hits) us ws vs
+unfolding told
+told_more true x hits us ws vs = refl
+told_more false x hits us ws vs = refl
+
+said : (key : List ℕ) (rs ss : List KeyValue) (ks : List (List ℕ)) (ts : List KeyValue) → values_of key (amended ts (flat_map (all_of rs ss) ks)) ≡ told (flat_map (at_key key (key ∷ [])) ks) (values_of key rs) (values_of key ss) (values_of key ts)
+unfolding told
+said key rs ss [] ts = refl
+said key rs ss (k ∷ ks) ts =
+    let hits = flat_map (at_key key (key ∷ [])) ks in
+    ap (values_of key) (fold-append after_change ts (all_of rs ss k) (flat_map (all_of rs ss) ks))
+    ∙ said key rs ss ks (amended ts (all_of rs ss k))
+    ∙ ap (told hits (values_of key rs) (values_of key ss)) (said_one key k rs ss ts)
+    ∙ told_more (bytes_eq k key) key hits (values_of key rs) (values_of key ss) (values_of key ts)
 
 -- ---- the laws
 
--- the values of both parts, by whether the key is there and whether it is changed
-both_parts : (key : List ℕ) (rs ss : List KeyValue)
-    → values_of key (brought_up rs ss) ≡ kept (cond (there key rs && is_changed rs ss key) (key ∷ []) []) (values_of key rs) ++ cond (there key ss && is_changed ss rs key) (values_of key ss) []
+-- what comes of a key, by whether it is there and whether it is changed
+both_parts : (key : List ℕ) (rs ss ts : List KeyValue)
+    → values_of key (amended ts (difference rs ss)) ≡ told (cond (there key ss && is_changed ss rs key) (key ∷ []) []) (values_of key rs) (values_of key ss) (kept (cond (there key rs && is_changed rs ss key) (key ∷ []) []) (values_of key ts))
 unfolding difference
-both_parts key rs ss =
+both_parts key rs ss ts =
     let gone = map Removing (changed_keys rs ss) in
-    let new = flat_map (puts_of ss) (changed_keys ss rs) in
-    ap (values_of key) (fold-append after_change rs gone new)
-    ∙ put_keys key ss (changed_keys ss rs) (amended rs gone)
-    ∙ ap (λ x. x ++ flat_map (at_key key (values_of key ss)) (changed_keys ss rs)) (removed key (changed_keys rs ss) rs ∙ ap (λ x. kept x (values_of key rs)) (once key (key ∷ []) (is_changed rs ss) rs))
-    ∙ ap (λ x. kept (cond (there key rs && is_changed rs ss key) (key ∷ []) []) (values_of key rs) ++ x) (once key (values_of key ss) (is_changed ss rs) ss)
-
--- of a key that is changed nothing is left, and all is put
-old_gone : (key : List ℕ) (rs : List KeyValue) (changed : Bool) → changed ≡ true → kept (cond (there key rs && changed) (key ∷ []) []) (values_of key rs) ≡ []
-unfolding kept
-old_gone key rs changed is = elim (cases_Bool (there key rs)) [
-  | inl t ↦ ap (λ v. kept (cond v (key ∷ []) []) (values_of key rs)) (and_from (there key rs) changed t is)
-  | inr f ↦ ap (kept (cond (there key rs && changed) (key ∷ []) [])) (none_there key rs f) ∙ kept_nothing (cond (there key rs && changed) (key ∷ []) [])
-]
-
-new_there : (key : List ℕ) (ss : List KeyValue) (changed : Bool) → changed ≡ true → cond (there key ss && changed) (values_of key ss) [] ≡ values_of key ss
-new_there key ss changed is = elim (cases_Bool (there key ss)) [
-  | inl t ↦ cond-true (there key ss && changed) (values_of key ss) [] (and_from (there key ss) changed t is)
-  | inr f ↦ ap (λ x. cond (there key ss && changed) x []) (none_there key ss f) ∙ cond_nothing (there key ss && changed) ∙ sym (none_there key ss f)
-]
-
--- of any other all is left, and nothing is put
-old_kept : (key : List ℕ) (rs : List KeyValue) (changed : Bool) → changed ≡ false → kept (cond (there key rs && changed) (key ∷ []) []) (values_of key rs) ≡ values_of key rs
-unfolding kept
-old_kept key rs changed is = ap (λ v. kept (cond v (key ∷ []) []) (values_of key rs)) (and_right (there key rs) changed is)
-
-new_none : (key : List ℕ) (ss : List KeyValue) (changed : Bool) → changed ≡ false → cond (there key ss && changed) (values_of key ss) [] ≡ []
-new_none key ss changed is = cond-false (there key ss && changed) (values_of key ss) [] (and_right (there key ss) changed is)
+    ap (values_of key) (fold-append after_change ts gone (flat_map (all_of rs ss) (changed_keys ss rs)))
+    ∙ said key rs ss (changed_keys ss rs) (amended ts gone)
+    ∙ ap (λ hits. told hits (values_of key rs) (values_of key ss) (values_of key (amended ts gone))) (once key (key ∷ []) (is_changed ss rs) ss)
+    ∙ ap (told (cond (there key ss && is_changed ss rs key) (key ∷ []) []) (values_of key rs) (values_of key ss))
+    (removed key (changed_keys rs ss) ts ∙ ap (λ x. kept x (values_of key ts)) (once key (key ∷ []) (is_changed rs ss) rs))
 
 -- a key is changed either way, or neither
 pub same_unchanged : (rs ss : List KeyValue) (key : List ℕ) → values_of key rs ≡ values_of key ss → is_changed rs ss key ≡ false
 same_unchanged rs ss key same = not_from_true (values_eq (values_of key rs) (values_of key ss)) (ap (λ vs. values_eq vs (values_of key ss)) same ∙ values_eq-itself (values_of key ss))
 
-other_changed : (rs ss : List KeyValue) (key : List ℕ) → values_eq (values_of key rs) (values_of key ss) ≡ false → is_changed ss rs key ≡ true
-other_changed rs ss key other = elim (cases_Bool (values_eq (values_of key ss) (values_of key rs))) [
-  | inl t ↦
-      (let same = sym (values_eq-same (values_of key ss) (values_of key rs) t) in
-      absurd (both_ways (values_eq (values_of key rs) (values_of key ss)) other (ap (λ vs. values_eq vs (values_of key ss)) same ∙ values_eq-itself (values_of key ss))))
-  | inr f ↦ not_from_false (values_eq (values_of key ss) (values_of key rs)) f
+-- the values are the same, if they are not changed
+same_values : (rs ss : List KeyValue) (key : List ℕ) → is_changed rs ss key ≡ false → values_of key rs ≡ values_of key ss
+same_values rs ss key f = elim (cases_Bool (values_eq (values_of key rs) (values_of key ss))) [
+  | inl t ↦ values_eq-same (values_of key rs) (values_of key ss) t
+  | inr g ↦ absurd (both_ways (not (values_eq (values_of key rs) (values_of key ss))) f (not_from_false (values_eq (values_of key rs) (values_of key ss)) g))
 ]
 
+unchanged_back : (rs ss : List KeyValue) (key : List ℕ) → is_changed ss rs key ≡ false → is_changed rs ss key ≡ false
+unchanged_back rs ss key f = same_unchanged rs ss key (sym (same_values ss rs key f))
+
+pub changed_back : (rs ss : List KeyValue) (key : List ℕ) → is_changed ss rs key ≡ true → is_changed rs ss key ≡ true
+changed_back rs ss key t = elim (cases_Bool (is_changed rs ss key)) [
+  | inl u ↦ u
+  | inr f ↦ absurd (both_ways (is_changed ss rs key) (unchanged_back ss rs key f) t)
+]
+
+-- a key that has no values now, and is changed, had some
+has_been : (key : List ℕ) (rs ss : List KeyValue) → values_of key ss ≡ [] → is_changed ss rs key ≡ true → there key rs ≡ true
+has_been key rs ss none is = elim (cases_Bool (there key rs)) [
+  | inl t ↦ t
+  | inr f ↦ absurd (both_ways (is_changed ss rs key) (same_unchanged ss rs key (none ∙ sym (none_there key rs f))) is)
+]
+
+-- of a key that is changed nothing is left before its puts
+left_clear : (key : List ℕ) (rs : List KeyValue) (vs : List (List ℕ)) (changed : Bool) → changed ≡ true → cleared (values_of key rs) (kept (cond (there key rs && changed) (key ∷ []) []) vs) ≡ []
+unfolding kept cleared
+left_clear key rs vs changed is = elim (cases_Bool (there key rs)) [
+  | inl t ↦ ap (λ v. cleared (values_of key rs) (kept (cond v (key ∷ []) []) vs)) (and_from (there key rs) changed t is) ∙ cleared_nothing (values_of key rs)
+  | inr f ↦ ap (λ us. cleared us (kept (cond (there key rs && changed) (key ∷ []) []) vs)) (none_there key rs f)
+]
+
+-- and of the old records nothing before the puts of all
+pub changed_gone : (key : List ℕ) (rs ss : List KeyValue) → is_changed ss rs key ≡ true → values_of key (amended rs (map Removing (changed_keys rs ss))) ≡ []
+unfolding kept
+changed_gone key rs ss is =
+    let hits = cond (there key rs && is_changed rs ss key) (key ∷ []) [] in
+    removed key (changed_keys rs ss) rs
+    ∙ ap (λ x. kept x (values_of key rs)) (once key (key ∷ []) (is_changed rs ss) rs)
+    ∙ elim (cases_Bool (there key rs)) [
+      | inl t ↦ ap (λ v. kept (cond v (key ∷ []) []) (values_of key rs)) (and_from (there key rs) (is_changed rs ss key) t (changed_back rs ss key is))
+      | inr f ↦ ap (kept hits) (none_there key rs f) ∙ kept_nothing hits
+    ]
+
+-- whatever records it is done to, a key that is changed has its new values then, and any other what it
+-- had
+pub changed_comes : (key : List ℕ) (rs ss ts : List KeyValue) → is_changed ss rs key ≡ true → values_of key (amended ts (difference rs ss)) ≡ values_of key ss
+unfolding told kept
+changed_comes key rs ss ts is =
+    let was = kept (cond (there key rs && is_changed rs ss key) (key ∷ []) []) (values_of key ts) in
+    let back : is_changed rs ss key ≡ true = changed_back rs ss key is in
+    both_parts key rs ss ts ∙ elim (cases_Bool (there key ss)) [
+      | inl t ↦
+          ap (λ v. told (cond v (key ∷ []) []) (values_of key rs) (values_of key ss) was) (and_from (there key ss) (is_changed ss rs key) t is)
+          ∙ ap (λ x. x ++ values_of key ss) (left_clear key rs (values_of key ts) (is_changed rs ss key) back)
+      | inr f ↦
+          (let none : values_of key ss ≡ [] = none_there key ss f in
+          ap (λ v. told (cond (v && is_changed ss rs key) (key ∷ []) []) (values_of key rs) (values_of key ss) was) f
+          ∙ ap (λ v. kept (cond v (key ∷ []) []) (values_of key ts)) (and_from (there key rs) (is_changed rs ss key) (has_been key rs ss none is) back)
+          ∙ sym none)
+    ]
+
+pub unchanged_stays : (key : List ℕ) (rs ss ts : List KeyValue) → is_changed ss rs key ≡ false → values_of key (amended ts (difference rs ss)) ≡ values_of key ts
+unfolding told kept
+unchanged_stays key rs ss ts is =
+    let was = kept (cond (there key rs && is_changed rs ss key) (key ∷ []) []) (values_of key ts) in
+    both_parts key rs ss ts
+    ∙ ap (λ v. told (cond v (key ∷ []) []) (values_of key rs) (values_of key ss) was) (and_right (there key ss) (is_changed ss rs key) is)
+    ∙ ap (λ v. kept (cond v (key ∷ []) []) (values_of key ts)) (and_right (there key rs) (is_changed rs ss key) (unchanged_back rs ss key is))
+
+-- done to the records that it was made of, it brings them up
 pub brings_up : (rs ss : List KeyValue) (key : List ℕ) → values_of key (brought_up rs ss) ≡ values_of key ss
-brings_up rs ss key = both_parts key rs ss ∙ elim (cases_Bool (values_eq (values_of key rs) (values_of key ss))) [
-  | inl t ↦
-      (let same = values_eq-same (values_of key rs) (values_of key ss) t in
-      ap (λ x. x ++ cond (there key ss && is_changed ss rs key) (values_of key ss) []) (old_kept key rs (is_changed rs ss key) (same_unchanged rs ss key same) ∙ same)
-      ∙ ap (λ x. values_of key ss ++ x) (new_none key ss (is_changed ss rs key) (same_unchanged ss rs key (sym same)))
-      ∙ append-nil (values_of key ss))
-  | inr f ↦
-      ap (λ x. x ++ cond (there key ss && is_changed ss rs key) (values_of key ss) []) (old_gone key rs (is_changed rs ss key) (not_from_false (values_eq (values_of key rs) (values_of key ss)) f))
-      ∙ new_there key ss (is_changed ss rs key) (other_changed rs ss key f)
+brings_up rs ss key = elim (cases_Bool (is_changed ss rs key)) [
+  | inl t ↦ changed_comes key rs ss rs t
+  | inr f ↦ unchanged_stays key rs ss rs f ∙ sym (same_values ss rs key f)
 ]
 
 pub same_is_empty : (rs ss : List KeyValue) → ((key : List ℕ) → values_of key rs ≡ values_of key ss) → difference rs ss ≡ []
 unfolding difference
 same_is_empty rs ss same =
-    ap (λ ks. map Removing ks ++ flat_map (puts_of ss) (changed_keys ss rs)) (filter_none (is_changed rs ss) (first_keys rs) (λ key. same_unchanged rs ss key (same key)))
-    ∙ ap (flat_map (puts_of ss)) (filter_none (is_changed ss rs) (first_keys ss) (λ key. same_unchanged ss rs key (sym (same key))))
+    ap (λ ks. map Removing ks ++ flat_map (all_of rs ss) (changed_keys ss rs)) (filter_none (is_changed rs ss) (first_keys rs) (λ key. same_unchanged rs ss key (same key)))
+    ∙ ap (flat_map (all_of rs ss)) (filter_none (is_changed ss rs) (first_keys ss) (λ key. same_unchanged ss rs key (sym (same key))))
 
 pub empty_is_same : (rs ss : List KeyValue) → EmptyIsSame rs ss
 empty_is_same rs ss = (

@@ -7,6 +7,7 @@ pub mod Probing
 pub mod Counting
 pub mod Checks
 pub mod Differences
+pub mod DoneAgain
 pub mod DifferenceBytes
 pub mod InOrderFiles
 pub mod FirstKeys

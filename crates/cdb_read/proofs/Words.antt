@@ -25,7 +25,7 @@ unfoldable pub use Rattle.cdb_form.specs.Views.SlotBytes.{slots_in}
 pub use Rattle.cdb_form.specs.declared.damage.Damage.{Damage}
 pub use Rattle.cdb_form.specs.declared.head.Pointer.{Pointer}
 pub use Rattle.cdb_form.specs.declared.header.Header.{Header}
-pub use Rattle.cdb_read.specs.Difference.{after_change, amended, changed_keys, is_changed, puts_of}
+pub use Rattle.cdb_read.specs.Difference.{after_change, all_of, amended, changed_keys, is_changed, puts_of, removal_of_new}
 unfoldable pub use Rattle.cdb_read.specs.Difference.{difference, first_keys}
 pub use Rattle.cdb_read.specs.Faults.{entry_fault, fault_if, faults_behind, is_right_slot, is_same, lost_fault, slot_fault, table_fault, used_fault}
 unfoldable pub use Rattle.cdb_read.specs.Faults.{first_fault, first_of, slots_fault}

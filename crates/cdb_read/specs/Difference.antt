@@ -29,11 +29,20 @@ changed_keys rs ss = filter (is_changed rs ss) (first_keys rs)
 abbrev pub puts_of : List KeyValue → List ℕ → List Change
 puts_of ss key = map (λ value. Putting (record_of key value)) (values_of key ss)
 
+-- a key that had no values is removed as well, before it is put
+abbrev pub removal_of_new : List (List ℕ) → List ℕ → List Change
+removal_of_new [] key = Removing key ∷ []
+removal_of_new (v ∷ vs) key = []
+
+abbrev pub all_of : List KeyValue → List KeyValue → List ℕ → List Change
+all_of rs ss key = removal_of_new (values_of key rs) key ++ puts_of ss key
+
 -- each key of rs whose values in ss are others is removed, and then each key of ss whose values in
--- rs are others is put
+-- rs are others is put; one that rs lacks is removed before that. So the difference may be done
+-- again, and to other records
 unfoldable pub difference : List KeyValue → List KeyValue → List Change
 difference rs ss =
-    map Removing (changed_keys rs ss) ++ flat_map (puts_of ss) (changed_keys ss rs)
+    map Removing (changed_keys rs ss) ++ flat_map (all_of rs ss) (changed_keys ss rs)
 
 -- the records after a change: a put adds one after the others, a removal takes out all of its key
 abbrev pub after_change : List KeyValue → Change → List KeyValue

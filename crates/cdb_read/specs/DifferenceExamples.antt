@@ -19,7 +19,7 @@ new_records =
     ∷ pair (codes "a") (codes "55") ∷ []
 
 changes_are : difference old_records new_records
-    ≡ Removing (codes "a") ∷ Removing (codes "b") ∷ Putting (pair (codes "c") (codes "4"))
+    ≡ Removing (codes "a") ∷ Removing (codes "b") ∷ Removing (codes "c") ∷ Putting (pair (codes "c") (codes "4"))
     ∷ Putting (pair (codes "a") (codes "1")) ∷ Putting (pair (codes "a") (codes "55")) ∷ []
 unfolding difference first_keys values_eq pair old_records new_records
 changes_are = refl

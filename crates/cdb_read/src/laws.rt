@@ -1,9 +1,9 @@
 //! Laws of look-ups, of sound files and of differences. Each is the contract of a function whose
 //! parameters are what it ranges over.
-ghost use Rattle.std.specs.Prelude.{◌≡◌, ◌≤◌, []};
+ghost use Rattle.std.specs.Prelude.{◌≡◌, ◌≤◌, [], false, true};
 ghost use Rattle.cdb_form.specs.Format.File.{file_bytes, file_size};
 ghost use Rattle.cdb_form.specs.Views.Pairs.{key_values};
-ghost use Rattle.cdb_read.specs.Difference.{difference};
+ghost use Rattle.cdb_read.specs.Difference.{amended, difference, is_changed};
 ghost use Rattle.cdb_read.specs.InOrder.{FindsInOrder};
 ghost use Rattle.cdb_read.specs.Laws.{FindsValues, FindsWalked, SoundIsNoDamage};
 ghost use Rattle.cdb_read.specs.Laws.{brought_up, EmptyIsSame, FindsAsIn};
@@ -67,4 +67,22 @@ pub fn lookup_of_brought_up<L: Width>(_old: &[Record], _new: &[Record], _key: &[
 pub fn brought_up_does_not_differ(_old: &[Record], _new: &[Record])
     ensures { difference (brought_up (key_values _old.now) (key_values _new.now))
         (key_values _new.now) ≡ [] }
+{}
+
+/// Whatever records the difference of two lists is done to, each key whose values differ has those
+/// of the second then, and each other key what it had. Done again it leaves the same records.
+pub fn difference_again(_old: &[Record], _new: &[Record], _other: &[Record], _key: &[u8])
+    ensures changed { is_changed (key_values _new.now) (key_values _old.now) _key.now ≡ true
+        → values_of _key.now (amended (key_values _other.now)
+        (difference (key_values _old.now) (key_values _new.now)))
+        ≡ values_of _key.now (key_values _new.now) }
+    ensures others { is_changed (key_values _new.now) (key_values _old.now) _key.now ≡ false
+        → values_of _key.now (amended (key_values _other.now)
+        (difference (key_values _old.now) (key_values _new.now)))
+        ≡ values_of _key.now (key_values _other.now) }
+    ensures again { amended (amended (key_values _other.now)
+        (difference (key_values _old.now) (key_values _new.now)))
+        (difference (key_values _old.now) (key_values _new.now))
+        ≡ amended (key_values _other.now)
+        (difference (key_values _old.now) (key_values _new.now)) }
 {}

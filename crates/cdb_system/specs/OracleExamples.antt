@@ -120,7 +120,7 @@ unfolding disk name other comes two_stats two_file put_at words_of repeat walk_o
 unindexed_is = refl
 
 -- what changed from the one file to the other
-difference_is : command_outcome (Difference name other false) disk [] ≡ comes 0 (codes "-3:one\n-3:two\n+1,1:a->1\n\n") []
+difference_is : command_outcome (Difference name other false) disk [] ≡ comes 0 (codes "-3:one\n-3:two\n-1:a\n+1,1:a->1\n\n") []
 unfolding disk name other comes two_stats two_file foreign_file put_at words_of repeat walk_of walk_from whole_records record_end head_at lookup_of met_slots found_at statistics_of statistics_damage distances_in stats_text distance_lines first_fault first_of slots_fault all_slots entries_from digits difference first_keys values_eq lacks_tables
 difference_is = refl
 

@@ -27,7 +27,7 @@ const OLD: &[u8] = b"+1,1:a->1\n+1,1:b->2\n+1,1:a->3\n+0,0:->\n\n";
 
 const NEW: &[u8] = b"+1,1:c->4\n+1,1:a->1\n+0,0:->\n+1,2:a->55\n\n";
 
-const CHANGE: &[u8] = b"-1:a\n-1:b\n+1,1:c->4\n+1,1:a->1\n+1,2:a->55\n\n";
+const CHANGE: &[u8] = b"-1:a\n-1:b\n-1:c\n+1,1:c->4\n+1,1:a->1\n+1,2:a->55\n\n";
 
 /// Two texts, and the text of their difference.
 const ROWS: [(&[u8], &[u8], &[u8]); 8] = [
@@ -56,8 +56,8 @@ const ROWS: [(&[u8], &[u8], &[u8]); 8] = [
     ),
 ];
 
-/// The values of a key come together, where its first record is.
-const OLD_PUT: &[u8] = b"+1,1:a->1\n+1,1:a->3\n+1,1:b->2\n+0,0:->\n\n";
+/// The values of a key come together, where its first record is. A new key is removed before.
+const OLD_PUT: &[u8] = b"-1:a\n+1,1:a->1\n+1,1:a->3\n-1:b\n+1,1:b->2\n-0:\n+0,0:->\n\n";
 
 #[test]
 fn differences_are_written(rt: HostRuntime) -> Result<(), Fail> {

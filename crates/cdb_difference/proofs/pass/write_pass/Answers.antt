@@ -1,8 +1,8 @@
-use Rattle.cdb_difference.proofs.Words.{List, Walked, ap, arith, behind, bytes_of, common_steps, err_from_is_err_and, inl, inr, is_marked, lookup_of, next_place, reads_more, reads_none, reads_nothing, record_in, refl, rules, subst, sym, walk_ahead, walk_of, ℕ, ◌∙◌, ◌≤◌}
+use Rattle.cdb_difference.proofs.Words.{List, Walked, ap, arith, behind, bytes_of, common_steps, err_from_is_err_and, inl, inr, is_marked, lookup_of, next_place, reads_more, reads_none, reads_nothing, record_in, refl, rules, subst, sym, walk_ahead, walk_of, ℕ, ◌∙◌, ◌≡◌, ◌≤◌}
 use Rattle.cdb_form.proofs.Bytes.WritingLemmas.{same_appends, same_prefix}
 use Rattle.cdb_read.proofs.Walked.WalkedLengths.{some_word}
 use Rattle.cdb_difference.specs.Difference.{WalkHasKey, IsOneDamaged, LookHas, OtherLookHas, OwnLookHas, changes_at, changes_text}
-use Rattle.cdb_difference.proofs.PassStops.{both_since, passed_key, stops_since}
+use Rattle.cdb_difference.proofs.PassStops.{both_since, passed_key}
 use Rattle.cdb_difference.proofs.PassSteps.{changed, changed_prefix, ended, so_far_none, stopped, unchanged}
 use Rattle.cdb_difference.proofs.pass.write_pass.Goals as goal
 
@@ -31,23 +31,24 @@ loop-key-preserved-in-Continue-branch-4 g c =
     let first = c.is_change.ensures in
     let said = c.write_changes.ensures in
     record {
-      reads = record { own = reads_more (reads_more (reads_more inv.reads.own c.next_record.ensures.reads) first.reads.own) said.reads; other = reads_more inv.reads.other first.reads.other };
+      reads = record { own = reads_more (reads_more (reads_more inv.reads.own c.next_record.ensures.reads) first.reads.own) said.reads.own; other = reads_more (reads_more inv.reads.other first.reads.other) said.reads.other };
       walked = λ b is.
-          let mine = first.reads.own.images b (said.reads.images b is) in
+          let mine = first.reads.own.images b (said.reads.own.images b is) in
           inv.walked b (c.next_record.ensures.reads.images b mine) ∙ ap (λ (x : Walked). x.damage) (one.first b mine);
       passed = λ b d is it.
-          let second = said.reads.images b is in
+          let second = said.reads.own.images b is in
+          let beside = said.reads.other.images d it in
           let mine = first.reads.own.images b second in
           let earlier = c.next_record.ensures.reads.images b mine in
-          let theirs = first.reads.other.images d it in
+          let theirs = first.reads.other.images d beside in
           let key = bytes_of b pair.key in
-          let test = sym c.if-branch.true ∙ c.in_ok-is_change.ensures.change b d second it in
+          let test = sym c.if-branch.true ∙ c.in_ok-is_change.ensures.change b d second beside in
           let key_is = c.in_ok-is_change.ensures.key b second (cc) in
           changed w c.args.kind b d _ _ _ _ pair key (is_marked c.args.marks.now.words.items key) _ _ _ some
           (λ no. c.requires.agree b d (inv.reads.own.images b earlier) (inv.reads.other.images d theirs) key no)
           (inv.passed b d earlier theirs) (one.first b mine) one.lies one.next
           (subst (λ (n : ℕ). behind pair ≤ n) (sym (g.met.S.Store.image_size c.next_record.new.reader.store b mine)) one.inside) refl test
-          (same_appends _ _ _ _ (ap (λ k. changes_text (changes_at c.args.kind w b k)) (c.deref.ensures.value ∙ key_is)) (c.in_ok-write_changes.ensures.writes b is).ok);
+          (same_appends _ _ _ _ (ap (λ k. changes_text (changes_at c.args.kind w b d k)) (c.deref.ensures.value ∙ key_is)) (c.in_ok-write_changes.ensures.writes b d is it).ok);
     }
 
 pub loop-key-preserved : goal.loop-key-preserved
@@ -132,18 +133,23 @@ returns-in_err-write_changes-clause-fails g c =
     let first = c.is_change.ensures in
     let said = c.write_changes.ensures in
     let before = reads_more (reads_more inv.reads.own c.next_record.ensures.reads) first.reads.own in
-    let own = c.write_changes.new.reader.store in
-    let other = c.is_change.new.other.store in
-    rw (p.1, p.2)
-    (stops_since g.S.Store c.args.own.now.store c.is_change.new.own.store own own
-    (LookHas w g.S.Store own c.deref.result.now) (IsOneDamaged w g.S.Store g.T.Store own other) _ _ c.in_err-write_changes.field-0.0 before.failures (omega arith)
-    (λ damage found b d is it.
-    let second = said.reads.images b is in
-    let mine = first.reads.own.images b second in
+    let beside = reads_more inv.reads.other first.reads.other in
+    let own = c.write_changes.new.own.store in
+    let other = c.write_changes.new.other.store in
+    let key_is : (b : List ℕ) → g.S.Store.image c.write_changes.new.own.store b → c.deref.result.now ≡ bytes_of b pair.key =
+    λ b is. c.deref.ensures.value ∙ c.in_ok-is_change.ensures.key b (said.reads.own.images b is) (cc) in
+    let has : (b d : List ℕ) → g.S.Store.image c.write_changes.new.own.store b → g.T.Store.image c.write_changes.new.other.store d → WalkHasKey (bytes_of b pair.key) (walk_of w b).records =
+    λ b d is it.
+    let mine = first.reads.own.images b (said.reads.own.images b is) in
     let earlier = c.next_record.ensures.reads.images b mine in
-    let listed = (inv.passed b d earlier (first.reads.other.images d it)).listed in
-    let key_is = c.deref.ensures.value ∙ c.in_ok-is_change.ensures.key b second (cc) in
-    inr (bytes_of b pair.key, inl (passed_key w b listed.done _ _ (record_in b pair) listed.all (one.first b mine)), ap (λ k. (lookup_of w b k).damage) (sym key_is) ∙ found b is))
+    let listed = (inv.passed b d earlier (first.reads.other.images d (said.reads.other.images d it))).listed in
+    passed_key w b listed.done _ _ (record_in b pair) listed.all (one.first b mine) in
+    rw (p.1, p.2)
+    (both_since g.S.Store g.T.Store c.args.own.now.store c.is_change.new.own.store own c.args.other.now.store c.is_change.new.other.store other
+    (LookHas w g.S.Store own c.deref.result.now) (IsOneDamaged w g.S.Store g.T.Store own other) (LookHas w g.T.Store other c.deref.result.now) (IsOneDamaged w g.T.Store g.S.Store other own) _ _
+    c.in_err-write_changes.field-0.0 before.failures beside.failures
+    (λ damage found b d is it. inr (bytes_of b pair.key, inl (has b d is it), ap (λ k. (lookup_of w b k).damage) (sym (key_is b is)) ∙ found b is))
+    (λ damage found d b it is. inr (bytes_of b pair.key, inr (has b d is it), ap (λ k. (lookup_of w d k).damage) (sym (key_is b is)) ∙ found d it))
     (λ failed. failed)
     c.in_err-write_changes.ensures.fails)
 
@@ -159,20 +165,21 @@ returns-in_err-write_changes-clause-front g c =
     let said = c.write_changes.ensures in
     rw p.1
     (λ b d is it.
-    let here : g.S.Store.image c.write_changes.new.reader.store b = search rules in
-    let theirs : g.T.Store.image c.is_change.new.other.store d = search rules in
-    let second = said.reads.images b here in
+    let here : g.S.Store.image c.write_changes.new.own.store b = search rules in
+    let theirs : g.T.Store.image c.write_changes.new.other.store d = search rules in
+    let second = said.reads.own.images b here in
+    let beside = said.reads.other.images d theirs in
     let mine = first.reads.own.images b second in
     let earlier = c.next_record.ensures.reads.images b mine in
-    let before = first.reads.other.images d theirs in
+    let before = first.reads.other.images d beside in
     let key = bytes_of b pair.key in
-    let test = sym c.if-branch.true ∙ c.in_ok-is_change.ensures.change b d second theirs in
+    let test = sym c.if-branch.true ∙ c.in_ok-is_change.ensures.change b d second beside in
     let key_is = c.in_ok-is_change.ensures.key b second (cc) in
     changed_prefix w c.args.kind b d _ _ _ _ pair key (is_marked c.args.marks.now.words.items key) _ _ _ some
     (λ no. c.requires.agree b d (inv.reads.own.images b earlier) (inv.reads.other.images d before) key no)
     (inv.passed b d earlier before) (one.first b mine) one.lies one.next
     (subst (λ (n : ℕ). behind pair ≤ n) (sym (g.met.S.Store.image_size c.next_record.new.reader.store b mine)) one.inside) refl test
-    (same_prefix _ _ _ _ (ap (λ k. changes_text (changes_at c.args.kind w b k)) (c.deref.ensures.value ∙ key_is)) (c.in_err-write_changes.ensures.writes b here).err))
+    (same_prefix _ _ _ _ (ap (λ k. changes_text (changes_at c.args.kind w b d k)) (c.deref.ensures.value ∙ key_is)) (c.in_err-write_changes.ensures.writes b d here theirs).err))
 
 pub returns-clause-ok : goal.returns-clause-ok
 returns-clause-ok g c = λ b d is it.
