@@ -44,6 +44,7 @@ struct kept {
   uint64_t end, count;  /* where the records end, and how many there are, with those in cdb_buf */
   uint32_t held;        /* how many bytes of records are in cdb_buf */
   int fd;               /* the descriptor of the start */
+  dev_t dev; ino_t ino; /* and its file */
   _Bool is_adding;      /* whether no other call was made yet */
 };
 static_assert(sizeof(struct kept) <= sizeof(((struct cdb_make *)0)->cdb_rec), "it has room");
@@ -143,6 +144,7 @@ int cdb_make_start(struct cdb_make *m, int fd)
   m->cdb_fd = kept_of(m)->fd = fd;
   m->cdb_dpos = HEAD_SIZE;
   if (!is_writable(fd, &found) || !is_laid_out(fd) || !give(fd, &file)) return -1;
+  kept_of(m)->dev = found.st_dev, kept_of(m)->ino = found.st_ino;
   if (empty(fd) < 0) return free(file.at), -1;
   int said = answer(cdb_c_make_start(handle_of(m), file), error_before);
   kept_of(m)->end = HEAD_SIZE;
@@ -157,6 +159,8 @@ static int32_t look(struct cdb_make *m)
   struct kept *k = kept_of(m);
   struct stat found;
   if (!is_writable(k->fd, &found)) return WRITING;
+  /* Another file may have its number by now. */
+  if (found.st_dev != k->dev || found.st_ino != k->ino) return errno = EBADF, WRITING;
   if ((uint64_t)found.st_size < cdb_c_make_written(&k->handle)) return errno = EPROTO, WRITING;
   return 0;
 }
