@@ -17,6 +17,7 @@ use cdb_names::RealNames;
 use cdb_store::LAST_STANDARD;
 use cdb_system::{RealSystem, Seen, SeenReader, SeenWriter, refuse_unbuffered};
 use cdb_tool::{Output, Usage};
+use std::env::{Env, FillError};
 use std::fs::File;
 use std::io::{ErrorKind, Stderr, Stdout};
 use std::os::fd::AsRawFd;
@@ -121,9 +122,29 @@ fn standard(file: File) -> Option<File> {
     }
 }
 
+/// The command line with an empty word for the program's own name, which need be no text.
+#[derive(Drop)]
+struct Unnamed<'a> {
+    rt: &'a HostRuntime,
+}
+
+impl Env for Unnamed<'_> {
+    fn arg(&self, i: usize, buf: &mut [u8]) -> Result<usize, FillError> {
+        if i == 0 { Ok(0) } else { self.rt.arg(i, buf) }
+    }
+
+    fn var(&self, name: &str, buf: &mut [u8]) -> Result<usize, FillError> {
+        self.rt.var(name, buf)
+    }
+
+    fn var_at(&self, i: usize, buf: &mut [u8]) -> Result<usize, FillError> {
+        self.rt.var_at(i, buf)
+    }
+}
+
 /// The words of the command line. One that is no text is not understood.
 fn words_of(rt: &HostRuntime) -> Result<Vec<String>, Usage> {
-    match std::env::args(rt) {
+    match std::env::args(&(Unnamed { rt }, rt.alloc())) {
         Err(e) if e.kind() == ErrorKind::OutOfMemory => Err(Usage::NoMemory),
         Err(_) => Err(Usage::Words),
         Ok(args) => Ok(args.collect::<Vec<String>>(rt.alloc())?),
