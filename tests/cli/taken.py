@@ -20,6 +20,8 @@ from waiting import waits
 
 RENAME = b"cdb: database cannot be renamed\n"
 WHY = RENAME + b"cdb: x: its file was replaced or removed\n"
+WHY_REPLACED = RENAME + b"cdb: x: its temporary file was replaced\n"
+WHY_REMOVED = RENAME + b"cdb: x: its temporary file was removed\n"
 FAULT = b"cdb: input 1: byte 34: not a record\n"
 OTHER = b"the file of another create"
 BAD_TEXT = TWO_TEXT[:-1] + b"*"
@@ -82,6 +84,9 @@ def cases():
         before = {} if old is None else {"x": old}
         for name, text, takes, status, line, left in rows:
             yield f"{name}, over {old}", APART, text, takes, old, (status, line, {**before, **left})
+    explained = ["-v", *APART]
+    yield "another file, with -v", explained, TWO_TEXT, replaced, b"old", (111, WHY_REPLACED, {"x": b"old", "x.tmp": OTHER})
+    yield "no file, with -v", explained, TWO_TEXT, os.remove, b"old", (111, WHY_REMOVED, {"x": b"old"})
     by_name, other = ["-c", "-t", "x", "x"], {"x": OTHER}
     yield "in place", IN_PLACE, TWO_TEXT, stays, b"old", (0, b"", {"x": TWO_FILE})
     yield "in place, another file has the name", IN_PLACE, TWO_TEXT, replaced, b"old", (111, RENAME, other)

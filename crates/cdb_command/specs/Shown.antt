@@ -9,11 +9,12 @@ use Rattle.std.specs.List.{list_any}
 use Rattle.std.specs.Str.{continuation_len, is_utf8}
 
 -- a character that could end the line, command a terminal, turn the order of what is read, or be taken for
--- the number of a byte: a control, a separator of lines or paragraphs, what embeds, overrides or isolates a
--- direction, and the backslash
+-- the number of a byte: a control, a separator of lines or paragraphs, what marks, embeds, overrides or isolates
+-- a direction, a tag character, and the backslash
 abbrev pub is_hidden : (character : ℕ) → Bool
 is_hidden c =
-    is_control c || (is_in_range 0x2028 0x202E c || (is_in_range 0x2066 0x2069 c || (c == code "\\")))
+    is_control c || (is_in_range 0x2028 0x202E c || (is_in_range 0x2066 0x2069 c
+    || (is_in_range 0x200E 0x200F c || (c == 0x061C || (is_in_range 0xE0000 0xE007F c || (c == code "\\"))))))
 
 abbrev pub has_hidden : (text : List ℕ) → Bool
 has_hidden text = list_any is_hidden (chars text)

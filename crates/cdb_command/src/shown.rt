@@ -10,7 +10,15 @@ fn is_hidden(character: char) -> bool
     ensures { result ≡ is_hidden character }
 {
     character.is_control()
-        || matches!(character, '\u{2028}'..='\u{202E}' | '\u{2066}'..='\u{2069}' | '\\')
+        || matches!(
+            character,
+            '\u{2028}'..='\u{202E}'
+                | '\u{2066}'..='\u{2069}'
+                | '\u{200E}'..='\u{200F}'
+                | '\u{061C}'
+                | '\u{E0000}'..='\u{E007F}'
+                | '\\'
+        )
 }
 
 /// Whether a text has such a character.
@@ -64,8 +72,8 @@ fn first_piece(bytes: &[u8]) -> &[u8]
 
 /// How many bytes the character has that some bytes begin with, if a line shows it as it is: or
 /// else 0. All of UTF-8 is shown so but control characters, the separators of lines and paragraphs,
-/// characters that embed, override or isolate a direction of writing, and the backslash. Of 0 the
-/// first byte is shown `escaped`.
+/// characters that mark, embed, override or isolate a direction of writing, tag characters, and the
+/// backslash. Of 0 the first byte is shown `escaped`.
 pub fn printable_len(bytes: &[u8]) -> usize
     ensures exact { result ≡ printable_len bytes.now }
     ensures bound { result ≤ length bytes.now }

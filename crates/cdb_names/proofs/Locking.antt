@@ -40,7 +40,7 @@ pub plain_removable : (t n : List ℕ) (seen : Option Shown) (file : Calls) (old
     → new ≡ (Seen seen, t, [], file) ∷ made → MayRemove t n new
 plain_removable t n seen file old made new is sees =
     let after : MayRemove t n ((Seen seen, t, [], file) ∷ (Made plain_bits, t, [], []) ∷ old) =
-          record { lock = inr (inl (refl, refl)); other = inl (inl refl) } in
+    record { lock = inr (inl (refl, refl)); other = inl (inl refl) } in
     let are : new ≡ (Seen seen, t, [], file) ∷ (Made plain_bits, t, [], []) ∷ old = sees ∙ ap (λ cs. (Seen seen, t, [], file) ∷ cs) is in
     subst (λ (cs : NameCalls). MayRemove t n cs) (sym are) after
 

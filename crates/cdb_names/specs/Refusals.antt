@@ -56,6 +56,10 @@ abbrev is_held : Cause → Bool
 is_held cause.Held = true
 is_held why = false
 
+abbrev is_locked : Cause → Bool
+is_locked cause.Locked = true
+is_locked why = false
+
 abbrev is_input : Cause → Bool
 is_input cause.Input = true
 is_input why = false
@@ -68,6 +72,10 @@ abbrev is_replaced : Cause → Bool
 is_replaced cause.Replaced = true
 is_replaced why = false
 
+abbrev is_removed : Cause → Bool
+is_removed cause.Removed = true
+is_removed why = false
+
 -- for which causes: what the call found, or else the system's. A name that changes between two looks is that of
 -- another create
 abbrev pub may_be_for : NameCall → Cause → Bool
@@ -76,11 +84,11 @@ may_be_for (call.Same answer.Yes) why = is_same why || is_held why
 may_be_for (call.Looked found.Other) why = is_link why || is_special why
 may_be_for (call.NotOpened fault) why = is_special why || is_held why || is_of_system why
 may_be_for (call.NotMade fault) why = is_held why || is_of_system why
-may_be_for (call.Locked locking.Held) why = is_held why || is_of_system why
+may_be_for (call.Locked locking.Held) why = is_held why || is_locked why || is_of_system why
 may_be_for (call.Own answer.No) why = is_held why
 may_be_for (call.Input answer.Yes) why = is_input why
 may_be_for (call.Set bits) why = is_bits why || is_of_system why
-may_be_for (call.NotRenamed len fault) why = is_replaced why || is_of_system why
+may_be_for (call.NotRenamed len fault) why = is_replaced why || is_removed why || is_of_system why
 may_be_for call why = is_of_system why
 
 -- both names of the newest call that refused a name, if this may be why

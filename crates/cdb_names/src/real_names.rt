@@ -1,7 +1,8 @@
 // The names of the system: the lines that call it, and note what it answered.
 ghost use Rattle.std.specs.Prelude.{◌≡◌, [], ◌∷◌, IfErr, None, OnOk, Some, string_bytes, true};
 ghost use Rattle.cdb_names.specs.declared.answer.Answer.TheVariants.{Yes};
-ghost use Rattle.cdb_names.specs.declared.name_trace.NameCall.TheVariants.{NotMade, NotOpened, Renamed, NotRenamed, Same};
+ghost use Rattle.cdb_names.specs.declared.answer.Lock.TheVariants.{Held};
+ghost use Rattle.cdb_names.specs.declared.name_trace.NameCall.TheVariants.{Locked, NotMade, NotOpened, Renamed, NotRenamed, Same};
 ghost use Rattle.std.specs.Option.{ForSome};
 ghost use Rattle.cdb_names.specs.Folder.{IsRemoval, IsCleared};
 ghost use Rattle.cdb_names.specs.Refusals.{refused_for, is_of_system, may_be_for, refused_name};
@@ -13,6 +14,7 @@ use crate::name_fault::NameFault;
 use crate::name_trace::{NameCall, NameTrace};
 use crate::names::{Names, Unrenamed};
 use crate::refusal::{Cause, Refusal};
+use crate::replace::PRIVATE;
 use crate::shown::Shown;
 use crate::standard_input::input_look;
 use crate::system_links::is_system_link;
@@ -157,6 +159,18 @@ fn unmade(error: &io::Error, unremoved: Option<i32>, _fault: NameFault) -> Cause
         _ if error.kind() != ErrorKind::AlreadyExists => Cause::of_error(error),
         Some(number) => Cause::System(number),
         None => Cause::Held,
+    }
+}
+
+/// Why a lock is not to be had. What another process holds may be a file that a create left whole: a
+/// file that is built has other permission bits.
+fn held_by(file: &RealFile, cause: Cause) -> Cause
+    requires { may_be_for (Locked Held) cause ≡ true }
+    ensures { may_be_for (Locked Held) result ≡ true }
+{
+    match (cause, file.metadata()) {
+        (Cause::Held, Ok(found)) if shown_by(&found).bits & !PRIVATE != 0 => Cause::Locked,
+        _ => cause,
     }
 }
 
@@ -314,6 +328,7 @@ impl<'a, R: Files<File = File> + AllocGlobal> Names for RealNames<'a, R> {
                 Lock::Unsupported
             }
             Err(cause) => {
+                let cause = held_by(file, cause);
                 self.refuse(&NameCall::Locked(Lock::Held), name, "", cause);
                 Lock::Held
             }
@@ -482,10 +497,14 @@ fn renamed<R: Files<File = File>>(
         Err(error) => return Err((NameFault::Failed, Cause::of_error(&error))),
     };
     let is_whole = matches!(&found, Look::There(found) if found.len() == len);
-    let is_own = match is_one(&looked(fs::symlink_metadata(rt, name)), &found) {
+    let now = looked(fs::symlink_metadata(rt, name));
+    let is_own = match is_one(&now, &found) {
         Ok(is_own) => is_own,
         Err(number) => return Err((NameFault::Failed, Cause::of_number(number))),
     };
+    if matches!(now, Look::Missing) {
+        return Err((NameFault::Failed, Cause::Removed));
+    }
     if !is_own || !is_whole {
         return Err((NameFault::Failed, Cause::Replaced));
     }

@@ -14,6 +14,9 @@ pub enum Cause {
     Failed,
     /// Another process holds the file, took its name or gave it another one.
     Held,
+    /// Another process holds the lock of a file that has the permission bits of a whole one, so
+    /// maybe no create makes it.
+    Locked,
     /// The name is that of a link.
     Link,
     /// The name is that of no regular file.
@@ -26,12 +29,16 @@ pub enum Cause {
     Input,
     /// The temporary file is not the one that was made, or not as long.
     Replaced,
+    /// The temporary file was removed.
+    Removed,
     /// The name has not got the file any more that was opened under it.
     Lost,
     /// The file did not get its permission bits.
     Bits,
     /// The file got the number of a standard stream that is closed.
     Closed,
+    /// The file is that of standard output.
+    Output,
 }
 
 impl Cause {

@@ -29,7 +29,7 @@ use crate::wanted::Wanted;
 use cdb_store::{FileStore, READ_AND_WRITTEN, RawFile, Store};
 
 /// The permission bits of a file that this user alone may read and write.
-const PRIVATE: u32 = 0o600;
+pub(crate) const PRIVATE: u32 = 0o600;
 
 /// The permission bit by which its owner may write a file.
 const OWNER_WRITES: u32 = 0o200;

@@ -37,6 +37,37 @@ pub struct RealFile {
     trace: Trace,
     /// The system's number of the error that the last call which failed met.
     error: Option<i32>,
+    /// What it was as it was opened, if a read fails once it is another.
+    seen: Option<Stamp>,
+    /// Whether a read failed for that.
+    is_changed: bool,
+}
+
+/// A file's length in bytes, and the time of its last change in seconds and nanoseconds.
+#[derive(Clone, Copy)]
+struct Stamp {
+    len: u64,
+    seconds: i64,
+    nanoseconds: i64,
+}
+
+impl Stamp {
+    /// That of an open file.
+    fn of(file: &File) -> io::Result<Stamp> {
+        let found = file.metadata()?;
+        Ok(Stamp {
+            len: found.len(),
+            seconds: found.mtime(),
+            nanoseconds: found.mtime_nsec(),
+        })
+    }
+
+    /// Whether both are of one moment.
+    fn is(&self, other: &Stamp) -> bool {
+        self.len == other.len
+            && self.seconds == other.seconds
+            && self.nanoseconds == other.nanoseconds
+    }
 }
 
 impl RealFile {
@@ -50,7 +81,20 @@ impl RealFile {
             file,
             trace: Trace::new(),
             error: None,
+            seen: None,
+            is_changed: false,
         }
+    }
+
+    /// A file that was just opened, and whose reads fail once its length or the time of its last
+    /// change is another than now: what was read before and what is read then may be of two files.
+    pub fn watched(file: File) -> io::Result<RealFile>
+        ensures { IfOk result (λ f. f.trace.events ≡ []) }
+    {
+        let seen = Stamp::of(&file)?;
+        let mut watched = RealFile::opened(file);
+        watched.seen = Some(seen);
+        Ok(watched)
     }
 
     /// A file that was just made or emptied.
@@ -139,11 +183,7 @@ impl RealFile {
 
     /// The file of the system, which stays open.
     pub fn into_file(self) -> File {
-        let RealFile {
-            file,
-            trace,
-            error: _,
-        } = self;
+        let RealFile { file, trace, .. } = self;
         drop(trace);
         file
     }
@@ -153,6 +193,32 @@ impl RealFile {
     /// nothing.
     pub fn last_error(&self) -> Option<i32> {
         self.error
+    }
+
+    /// Whether a read failed since the file changed.
+    pub fn is_changed(&self) -> bool {
+        self.is_changed
+    }
+
+    /// What a read did, unless the file changed since it was opened.
+    fn unchanged(&mut self, read: Result<usize, RawFault>) -> Result<usize, RawFault>
+        ensures same { IfOk result (λ n. read ≡ Ok n) }
+        ensures trace { self.new.trace ≡ self.old.trace }
+    {
+        let Some(seen) = self.seen else {
+            return read;
+        };
+        match Stamp::of(&self.file) {
+            Ok(now) if now.is(&seen) => read,
+            Ok(_) => {
+                self.is_changed = true;
+                Err(RawFault::Failed)
+            }
+            Err(error) => {
+                self.error = error.raw_os_error();
+                Err(RawFault::Failed)
+            }
+        }
     }
 
     /// The calls on it, which only clauses read.
@@ -202,9 +268,10 @@ fn part_of(answer: io::Result<usize>, error: &mut Option<i32>) -> Result<usize, 
 impl RawFile for RealFile {
     ghost calls = { λ f. f.trace.events };
 
-    // Shown by tests/faults/run.py, with short and interrupted calls.
+    // Shown by tests/faults/run.py, with short and interrupted calls, and by tests/cli/inputs.py.
     fn read_some(&mut self, pos: u64, into: &mut [u8]) -> Result<usize, RawFault> {
-        let answer = part_of(self.file.read_at(into, pos), &mut self.error);
+        let read = part_of(self.file.read_at(into, pos), &mut self.error);
+        let answer = self.unchanged(read);
         note_part(&mut self.trace, Call::Read(pos), Call::Failed, into, answer);
         answer
     }

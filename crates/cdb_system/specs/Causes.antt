@@ -44,15 +44,18 @@ abbrev pub cause_words : Asked → Cause → (name other : List ℕ) → Option 
 cause_words command (cause.System number) name other = Some (error_words number)
 cause_words command cause.Failed name other = None
 cause_words command cause.Held name other = Some (codes "another create is at work on it")
+cause_words command cause.Locked name other = Some (codes "locked by another process")
 cause_words command cause.Link name other = Some (codes "is a link")
 cause_words command cause.Special name other = Some (codes "is no regular file")
 cause_words command cause.NoPlaces name other = Some (codes "a pipe or a device has no places")
 cause_words command cause.Same name other = same_words command name other
 cause_words command cause.Input name other = Some (codes "is an input")
 cause_words command cause.Replaced name other = Some (codes "its temporary file was replaced")
+cause_words command cause.Removed name other = Some (codes "its temporary file was removed")
 cause_words command cause.Lost name other = Some (codes "its file was replaced or removed")
 cause_words command cause.Bits name other = Some (codes "does not get its permissions")
 cause_words command cause.Closed name other = Some (codes "a standard stream is closed")
+cause_words command cause.Output name other = Some (codes "is the output")
 
 -- what is said of a name that was refused: of an empty one that it is empty
 abbrev pub refusal_words : Asked → Cause → (name other : List ℕ) → Option (List ℕ)
@@ -87,6 +90,14 @@ IsNoNameOf command name said = ⊥
 abbrev pub IsOfSystem : (said : Option (List ℕ)) → Type 0
 IsOfSystem said = (number : Option ℤ) × (said ≡ option_map error_words number)
 
+-- of a file that was read: why a read failed, or that the file changed meanwhile
+abbrev pub IsOfFile : (said : Option (List ℕ)) → Type 0
+IsOfFile said = IsOfSystem said ⊎ (said ≡ Some (codes "changed while it was read"))
+
+-- of an input: why a read failed, or that standard output writes into it
+abbrev pub IsOfInput : (said : Option (List ℕ)) → Type 0
+IsOfInput said = IsOfSystem said ⊎ (said ≡ Some (codes "is the output"))
+
 -- a line
 abbrev pub IsOfLine : (said : Option (List ℕ)) → Type 0
 IsOfLine said = (line : ℕ) × (said ≡ Some (line_words line))
@@ -96,12 +107,12 @@ abbrev pub IsOfTextOf : TextFault → (said : Option (List ℕ)) → Type 0
 IsOfTextOf (text.Syntax at) said = IsOfLine said
 IsOfTextOf (text.Ended at) said = IsOfLine said
 IsOfTextOf (text.Large at) said = IsOfLine said
-IsOfTextOf text.Input said = IsOfSystem said
+IsOfTextOf text.Input said = IsOfInput said
 IsOfTextOf fault said = said ≡ None
 
 -- of a database: why it was not read, and of damage nothing
 abbrev pub IsOfRead : ReadFault → (said : Option (List ℕ)) → Type 0
-IsOfRead read.Device said = IsOfSystem said
+IsOfRead read.Device said = IsOfFile said
 IsOfRead fault said = said ≡ None
 
 abbrev pub IsOfWalk : WalkFault → (said : Option (List ℕ)) → Type 0

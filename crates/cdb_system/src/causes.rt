@@ -5,7 +5,7 @@ ghost use Rattle.cdb_show.specs.declared.fault.Fault.TheVariants.{Open};
 ghost use Rattle.cdb_system.specs.CauseLine.{error_words, reason_name, said_of};
 ghost use Rattle.cdb_system.specs.Causes.{IsCause, IsCreate, IsMadeName, IsNoNameOf, IsOfDatabase, IsOfRead};
 ghost use Rattle.cdb_system.specs.Causes.{HasNoDatabase, IsFailedStream, MayHaveNoCause, NamesNothing};
-ghost use Rattle.cdb_system.specs.Causes.{IsOfSystem, IsOfTextOf, IsRefusedOpening};
+ghost use Rattle.cdb_system.specs.Causes.{IsOfFile, IsOfInput, IsOfSystem, IsOfTextOf, IsRefusedOpening};
 ghost use Rattle.cdb_system.specs.Causes.{cause_words, input_name, new_name, read_name, refusal_words, same_words};
 
 use crate::left::LeftOf;
@@ -45,6 +45,9 @@ pub struct Reason<'a> {
 
 /// What is said of an empty name.
 const EMPTY: &str = "the name is empty";
+
+/// What is said of an input into which standard output writes.
+const OUTPUT: &str = "is the output";
 
 /// The name of standard output.
 const STANDARD_OUTPUT: &str = "standard output";
@@ -100,15 +103,18 @@ fn of_cause(command: &Command, refusal: &Refusal) -> Told
         Cause::System(number) => Told::Error(number),
         Cause::Failed => Told::Name,
         Cause::Held => Told::Words("another create is at work on it"),
+        Cause::Locked => Told::Words("locked by another process"),
         Cause::Link => Told::Words("is a link"),
         Cause::Special => Told::Words("is no regular file"),
         Cause::NoPlaces => Told::Words("a pipe or a device has no places"),
         Cause::Same => of_same(command, refusal.name.as_str(), refusal.other.as_str()),
         Cause::Input => Told::Words("is an input"),
         Cause::Replaced => Told::Words("its temporary file was replaced"),
+        Cause::Removed => Told::Words("its temporary file was removed"),
         Cause::Lost => Told::Words("its file was replaced or removed"),
         Cause::Bits => Told::Words("does not get its permissions"),
         Cause::Closed => Told::Words("a standard stream is closed"),
+        Cause::Output => Told::Words(OUTPUT),
     }
 }
 
@@ -225,14 +231,15 @@ fn new_name(command: &Command) -> &str
     }
 }
 
-/// What is said of a database that was not read: that its file failed, or its name.
-fn of_unread(name: &str, fault: ReadFault, number: Option<i32>) -> Option<Reason<'_>>
+/// What is said of a database that was not read: why its file failed, or its name.
+fn of_unread(name: &str, fault: ReadFault, file: Told) -> Option<Reason<'_>>
+    requires { IsOfFile (said_of file) }
     ensures name { IfSome result (λ r. reason_name r ≡ name.now) }
     ensures told { IfSome result (λ r. IsOfRead fault (said_of r.told)) }
     ensures none { result ≡ None → NamesNothing fault }
 {
     match fault {
-        ReadFault::Device => Some(of_name(name, of_number(number))),
+        ReadFault::Device => Some(of_name(name, file)),
         ReadFault::NoMemory | ReadFault::Output => None,
         _ => Some(of_name(name, Told::Name)),
     }
@@ -247,6 +254,41 @@ where
         Some(file) => system.store_error(file),
         None => None,
     }
+}
+
+/// Whether a base that was read is another file than the one that was opened.
+fn is_changed<Y>(system: &Y, file: &Option<Y::File>) -> bool
+where
+    Y: System,
+{
+    match file {
+        Some(file) => system.is_changed(file),
+        None => false,
+    }
+}
+
+/// What is said of a file that was read and failed.
+fn of_file<Y>(system: &Y, file: &Option<Y::File>) -> Told
+where
+    Y: System,
+    ensures { IsOfFile (said_of result) }
+{
+    if is_changed::<Y>(system, file) {
+        return Told::Words("changed while it was read");
+    }
+    of_number(read_number::<Y>(system, file))
+}
+
+/// What is said of an input that was not read.
+fn of_input<Y>(system: &Y) -> Told
+where
+    Y: System,
+    ensures { IsOfInput (said_of result) }
+{
+    if system.reads_output() {
+        return Told::Words(OUTPUT);
+    }
+    of_number(system.read_error())
 }
 
 /// The name of an input of a command.
@@ -271,7 +313,7 @@ where
         TextFault::Syntax(at) | TextFault::Ended(at) | TextFault::Large(at) => {
             Told::Line(lines.line_at(at))
         }
-        TextFault::Input => of_number(system.read_error()),
+        TextFault::Input => of_input(system),
         TextFault::Endless | TextFault::NoMemory => Told::Name,
     }
 }
@@ -397,12 +439,12 @@ where
 {
     match *fault {
         Fault::Read(fault) | Fault::Old(fault) => {
-            let number = read_number::<Y>(system, &left.read);
-            of_unread(read_name(command), fault, number)
+            let file = of_file::<Y>(system, &left.read);
+            of_unread(read_name(command), fault, file)
         }
         Fault::New(fault) => {
-            let number = read_number::<Y>(system, &left.other);
-            of_unread(new_name(command), fault, number)
+            let file = of_file::<Y>(system, &left.other);
+            of_unread(new_name(command), fault, file)
         }
         Fault::Walk(_) | Fault::NoOldTables | Fault::NoBaseTables => {
             Some(of_name(read_name(command), Told::Name))

@@ -31,7 +31,7 @@ pub fn open_base<Y: System>(system: &mut Y, name: &Option<String>) -> Result<Opt
     ensures output { OutputSays ⊥ result }
 {
     match name {
-        Some(name) => Ok(Some(system.open_store(name.as_str())?)),
+        Some(name) => Ok(Some(system.open_base(name.as_str())?)),
         None => Ok(None),
     }
 }

@@ -53,6 +53,7 @@ where
         Ok(store) => store,
         Err(fault) => return (none_left(), Err(fault)),
     };
+    system.keep_apart();
     match open_inputs::<Y>(alloc, system, wanted.inputs, input) {
         Ok(inputs) => {
             let (store, inputs, answer) = lookups_run::<L, Y::File, Y::Stream, Y::Input, O>(

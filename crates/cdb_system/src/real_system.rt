@@ -1,13 +1,13 @@
 // The system's files: the lines that open them, and note it.
-ghost use Rattle.std.specs.Prelude.{◌≡◌, [], ◌∷◌, IfErr, None, Some, string_bytes, true};
+ghost use Rattle.std.specs.Prelude.{◌≡◌, [], ◌∷◌, IfErr, None, OnOk, Some, string_bytes, true};
 ghost use Rattle.std.specs.Option.{ForSome};
 ghost use Rattle.cdb_names.specs.Refusals.{is_of_system};
-ghost use Rattle.cdb_system.specs.Opening.{refused_by, refused_open, unopened};
-ghost use Rattle.cdb_system.specs.declared.open_trace.OpenCall.TheVariants.{Unopened};
+ghost use Rattle.cdb_system.specs.Opening.{Misses, refused_by, refused_open, unopened};
+ghost use Rattle.cdb_system.specs.declared.open_trace.OpenCall.TheVariants.{AtPlaces, Unopened};
 
 use crate::loaded::LoadedStore;
 use crate::open_trace::{OpenCall, OpenTrace};
-use crate::seen::{Seen, SeenReader};
+use crate::seen::{FileNumber, Seen, SeenReader};
 use crate::system::System;
 use cdb_feed::NotedReader;
 use cdb_names::{Answer, Cause, Lock, NameFault, RealNames, Refusal, has_name, locked};
@@ -17,6 +17,12 @@ use std::fs::{self, File};
 use std::io::{self, ErrorKind, Stdin};
 use std::os::fd::AsRawFd;
 use std::rt::Files;
+
+/// The name under which the system shows the file of standard input.
+const INPUT: &str = "/proc/self/fd/0";
+
+/// The name under which it shows that of standard output.
+const OUTPUT: &str = "/proc/self/fd/1";
 
 /// The files of the system, by their names.
 #[derive(Drop)]
@@ -80,6 +86,26 @@ impl<'a, R: Files<File = File> + AllocGlobal> RealSystem<'a, R> {
             NameFault::NoMemory => Fault::NoMemory,
         }
     }
+
+    /// Notes that the file of a name was opened to be read at places, or was not.
+    fn given(
+        &mut self,
+        opened: Result<FileStore, Why>,
+        name: &str,
+    ) -> Result<LoadedStore<FileStore>, Fault>
+        ensures calls { OnOk result
+            (self.new.trace.events ≡ (AtPlaces, name.now) ∷ self.old.trace.events) }
+        ensures fails { IfErr result
+            (Misses name.now self.old.trace.events self.new.trace.events) }
+    {
+        match opened {
+            Ok(store) => {
+                self.note(&OpenCall::AtPlaces, name);
+                Ok(LoadedStore::new(self.rt.alloc(), store))
+            }
+            Err(why) => Err(self.refused(why, name)),
+        }
+    }
 }
 
 impl<'a, R: Files<File = File> + AllocGlobal> System for RealSystem<'a, R> {
@@ -109,12 +135,20 @@ impl<'a, R: Files<File = File> + AllocGlobal> System for RealSystem<'a, R> {
         file.inner().file().last_error()
     }
 
+    fn is_changed(&self, file: &LoadedStore<FileStore>) -> bool {
+        file.inner().file().is_changed()
+    }
+
     fn made_error(&self, file: &FileStore) -> Option<i32> {
         file.file().last_error()
     }
 
     fn read_error(&self) -> Option<i32> {
         self.seen.read_error()
+    }
+
+    fn reads_output(&self) -> bool {
+        self.seen.reads_output()
     }
 
     fn output_error(&self) -> Option<i32> {
@@ -127,19 +161,35 @@ impl<'a, R: Files<File = File> + AllocGlobal> System for RealSystem<'a, R> {
 
     // Shown by tests/cli/cases.py and tests/faults/names.py.
     fn open_store(&mut self, name: &str) -> Result<LoadedStore<FileStore>, Fault> {
-        match opened_at_places(self.rt, name) {
-            Ok(store) => {
-                self.note(&OpenCall::AtPlaces, name);
-                Ok(LoadedStore::new(self.rt.alloc(), store))
-            }
-            Err(why) => Err(self.refused(why, name)),
+        let opened = match opened_at_places(self.rt, name) {
+            Ok(file) => store_over(RealFile::opened(file)),
+            Err(why) => Err(why),
+        };
+        self.given(opened, name)
+    }
+
+    // Shown by tests/cli/inputs.py.
+    fn open_base(&mut self, name: &str) -> Result<LoadedStore<FileStore>, Fault> {
+        let opened = match opened_at_places(self.rt, name) {
+            Ok(file) => store_watching(file),
+            Err(why) => Err(why),
+        };
+        self.given(opened, name)
+    }
+
+    // Shown by tests/cli/inputs.py.
+    fn keep_apart(&self) {
+        let output = file_of(self.rt, OUTPUT);
+        self.seen.keep_apart(output);
+        if output.is_some() && output == file_of(self.rt, INPUT) {
+            self.seen.refuse_input();
         }
     }
 
     // Shown by tests/cli/cases.py and tests/faults/closed.py.
     /// The file is given up if it got the number of a standard stream that is closed.
     fn open(&mut self, name: &str) -> Result<NotedReader<SeenReader<'a, File>>, Fault> {
-        match opened_in_turn(self.rt, name) {
+        match opened_in_turn(self.rt, name, self.seen.output_file()) {
             Ok(file) => {
                 self.note(&OpenCall::InTurn, name);
                 Ok(NotedReader::over(SeenReader::new(file, self.seen)))
@@ -237,17 +287,31 @@ impl<'a, R: Files<File = File> + AllocGlobal> System for RealSystem<'a, R> {
 }
 
 /// Opens the file of a name at places. It has none if it is a pipe or a device.
-fn opened_at_places<R: Files<File = File>>(rt: &R, name: &str) -> Result<FileStore, Why> {
+fn opened_at_places<R: Files<File = File>>(rt: &R, name: &str) -> Result<File, Why> {
     match is_stream(rt, name) {
         Ok(false) => {}
         Ok(true) => return Err(found(Cause::NoPlaces)),
         Err(cause) => return Err(found(cause)),
     }
-    let file = match File::open(rt, name) {
-        Ok(file) => file,
-        Err(error) => return Err(of_error(&error)),
-    };
-    match FileStore::over(RealFile::opened(file)) {
+    match File::open(rt, name) {
+        Ok(file) => Ok(file),
+        Err(error) => Err(of_error(&error)),
+    }
+}
+
+/// A store in a file that was just opened, whose reads fail once it changes.
+fn store_watching(file: File) -> Result<FileStore, Why> {
+    match RealFile::watched(file) {
+        Ok(file) => store_over(file),
+        Err(error) => Err(of_error(&error)),
+    }
+}
+
+/// A store in a file that was just opened.
+fn store_over(file: RealFile) -> Result<FileStore, Why>
+    requires { file.trace.events ≡ [] }
+{
+    match FileStore::over(file) {
         Ok(store) => Ok(store),
         Err(StoreFault::Device) => Err(found(Cause::Failed)),
         Err(StoreFault::NoMemory) => Err(Why {
@@ -257,12 +321,34 @@ fn opened_at_places<R: Files<File = File>>(rt: &R, name: &str) -> Result<FileSto
     }
 }
 
-/// Opens the file of a name from its start on, unless it gets the number of a standard stream.
-fn opened_in_turn<R: Files<File = File>>(rt: &R, name: &str) -> Result<File, Why> {
-    match File::open(rt, name) {
-        Ok(file) if file.as_raw_fd() <= LAST_STANDARD => Err(found(Cause::Closed)),
-        Ok(file) => Ok(file),
+/// Opens the file of a name from its start on, unless it gets the number of a standard stream, or is
+/// this one.
+fn opened_in_turn<R: Files<File = File>>(
+    rt: &R,
+    name: &str,
+    other: Option<FileNumber>,
+) -> Result<File, Why> {
+    let file = match File::open(rt, name) {
+        Ok(file) if file.as_raw_fd() <= LAST_STANDARD => return Err(found(Cause::Closed)),
+        Ok(file) => file,
+        Err(error) => return Err(of_error(&error)),
+    };
+    if other.is_none() {
+        return Ok(file);
+    }
+    match file.metadata() {
+        Ok(now) if other == Some(FileNumber::of(&now)) => Err(found(Cause::Output)),
+        Ok(_) => Ok(file),
         Err(error) => Err(of_error(&error)),
+    }
+}
+
+/// The regular file that a name leads to. `None`: it leads to another or to none, or the system does
+/// not say.
+fn file_of<R: Files<File = File>>(rt: &R, name: &str) -> Option<FileNumber> {
+    match fs::metadata(rt, name) {
+        Ok(found) if found.is_file() => Some(FileNumber::of(&found)),
+        _ => None,
     }
 }
 

@@ -2,10 +2,29 @@
 ghost use Rattle.std.specs.Prelude.{◌≡◌};
 
 use std::cell::Cell;
-use std::io::{self, Read, Write};
+use std::fs::Metadata;
+use std::io::{self, ErrorKind, Read, Write};
+use std::os::unix::fs::MetadataExt;
 
 /// The number of the system's error for a descriptor that is not open.
 const NOT_OPEN: i32 = 9;
+
+/// By what the system tells one file from another.
+#[derive(Clone, Copy, PartialEq, Eq)]
+pub struct FileNumber {
+    device: u64,
+    inode: u64,
+}
+
+impl FileNumber {
+    /// That of the file that was looked at.
+    pub fn of(found: &Metadata) -> FileNumber {
+        FileNumber {
+            device: found.dev(),
+            inode: found.ino(),
+        }
+    }
+}
 
 /// What was seen last of what is read and written. It is kept in cells, of which no clause says
 /// anything.
@@ -13,6 +32,12 @@ const NOT_OPEN: i32 = 9;
 pub struct Seen {
     /// The number of the error of the last read that failed.
     read_error: Cell<Option<i32>>,
+    /// The regular file into which standard output writes, if no input may be that.
+    output_file: Cell<Option<FileNumber>>,
+    /// Whether standard input is not read, since standard output writes into its file.
+    is_own: Cell<bool>,
+    /// Whether the last read that failed was refused for that.
+    reads_output: Cell<bool>,
     /// The number of the error of the last write on standard output that failed.
     output_error: Cell<Option<i32>>,
     /// The number of the error of the last write on standard error that failed.
@@ -24,6 +49,9 @@ impl Seen {
     pub fn new() -> Seen {
         Seen {
             read_error: Cell::new(None),
+            output_file: Cell::new(None),
+            is_own: Cell::new(false),
+            reads_output: Cell::new(false),
             output_error: Cell::new(None),
             errors_error: Cell::new(None),
         }
@@ -32,6 +60,32 @@ impl Seen {
     /// The number of the error of the last read that failed, if the system gave one.
     pub fn read_error(&self) -> Option<i32> {
         self.read_error.get()
+    }
+
+    /// Whether the last read that failed was refused: standard output writes into the file.
+    pub fn reads_output(&self) -> bool {
+        self.reads_output.get()
+    }
+
+    /// The regular file into which standard output writes, if no input may be that.
+    pub fn output_file(&self) -> Option<FileNumber> {
+        self.output_file.get()
+    }
+
+    /// Lets no later input be this regular file, into which standard output writes.
+    pub fn keep_apart(&self, output: Option<FileNumber>) {
+        self.output_file.set(output);
+    }
+
+    /// Refuses each later read of standard input.
+    pub fn refuse_input(&self) {
+        self.is_own.set(true);
+    }
+
+    /// A read failed with an error of this number, or was refused.
+    fn fail_read(&self, number: Option<i32>, reads_output: bool) {
+        self.read_error.set(number);
+        self.reads_output.set(reads_output);
     }
 
     /// The number of the error of the last write on standard output that failed, if the system gave
@@ -62,6 +116,8 @@ impl Seen {
 pub struct SeenReader<'a, R> {
     reader: R,
     seen: &'a Seen,
+    /// Whether it is standard input.
+    is_input: bool,
     /// Whether it is standard input, and closed: the file that holds its place fails for a reason
     /// of its own.
     is_closed: bool,
@@ -73,6 +129,7 @@ impl<'a, R> SeenReader<'a, R> {
         SeenReader {
             reader,
             seen,
+            is_input: false,
             is_closed: false,
         }
     }
@@ -82,6 +139,7 @@ impl<'a, R> SeenReader<'a, R> {
         SeenReader {
             reader,
             seen,
+            is_input: true,
             is_closed,
         }
     }
@@ -93,7 +151,7 @@ impl<'a, R> SeenReader<'a, R> {
         } else {
             error.raw_os_error()
         };
-        self.seen.read_error.set(number);
+        self.seen.fail_read(number, false);
     }
 }
 
@@ -101,6 +159,10 @@ impl<'a, R: Read> Read for SeenReader<'a, R> {
     ghost remaining = { λ r. R.remaining r.reader };
 
     fn read(&mut self, buf: &mut [u8]) -> io::Result<usize> {
+        if self.is_input && self.seen.is_own.get() {
+            self.seen.fail_read(None, true);
+            return Err(io::Error::from(ErrorKind::InvalidInput));
+        }
         let read = self.reader.read(buf);
         if let Err(error) = &read {
             self.fail(error);

@@ -51,8 +51,14 @@ pub trait System {
     /// The number of the error of the last call that failed on a file that is made.
     fn made_error(&self, file: &Self::Made) -> Option<i32>;
 
+    /// Whether a read of a base failed since the file had changed.
+    fn is_changed(&self, file: &Self::File) -> bool;
+
     /// The number of the error of the last read of an input that failed.
     fn read_error(&self) -> Option<i32>;
+
+    /// Whether that read failed since standard output writes into the file.
+    fn reads_output(&self) -> bool;
 
     /// The number of the error of the last write on standard output that failed.
     fn output_error(&self) -> Option<i32>;
@@ -66,6 +72,17 @@ pub trait System {
         ensures calls { OnOk result (calls self.new ≡ (AtPlaces, name.now) ∷ calls self.old) }
         ensures gives { IfOk result (gives name.now) }
         ensures fails { IfErr result (Misses name.now (calls self.old) (calls self.new)) };
+
+    /// Opens the base of a create, as `open_store` does a file. Its reads fail once another process
+    /// has changed the file: what was read before and after that may belong to two databases.
+    fn open_base(&mut self, name: &str) -> Result<Self::File, Fault>
+        ensures calls { OnOk result (calls self.new ≡ (AtPlaces, name.now) ∷ calls self.old) }
+        ensures gives { IfOk result (gives name.now) }
+        ensures fails { IfErr result (Misses name.now (calls self.old) (calls self.new)) };
+
+    /// Refuses from now on to read the file into which standard output writes: it is not opened, and
+    /// as standard input its reads fail. What is written there would be read, without an end.
+    fn keep_apart(&self);
 
     /// Opens the file of a name, to be read from its start on: nothing was taken of it yet. `Open`:
     /// it cannot be opened.
