@@ -3,3 +3,4 @@ pub mod SoundFiles
 pub mod FaultLaws
 pub mod LookupLaws
 pub mod SoundLookups
+pub mod Searched

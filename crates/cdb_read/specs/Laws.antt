@@ -7,6 +7,7 @@ use Rattle.cdb_form.specs.Format.Walk.{walk_of}
 use Rattle.cdb_read.specs.Difference.{amended, difference}
 use Rattle.cdb_read.specs.Faults.{first_fault}
 use Rattle.cdb_read.specs.Lookup.{bytes_of, lookup_of}
+use Rattle.cdb_read.specs.Search.{search_of}
 use Rattle.cdb_read.specs.Sound.{IsSound}
 use Rattle.cdb_read.specs.Values.{values_of}
 
@@ -22,6 +23,10 @@ pub record FindsWalked (w : ℕ) (bytes key : List ℕ) : Type 0 where
   pub values : IsPermutation (values_of key (walk_of w bytes).records)
       (map (bytes_of bytes) (lookup_of w bytes key).spans)
   pub sound : (lookup_of w bytes key).damage ≡ None
+
+-- a search as the author of the format describes it finds the values that a look-up gives, in their order
+abbrev pub FindsSearched : ℕ → (bytes key : List ℕ) → Type 0
+FindsSearched w bytes key = search_of w bytes key ≡ map (bytes_of bytes) (lookup_of w bytes key).spans
 
 -- a file is sound exactly when it has no first fault
 abbrev pub SoundIsNoDamage : ℕ → List ℕ → Type 0

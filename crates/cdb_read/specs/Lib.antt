@@ -1,5 +1,6 @@
 -- What a look-up finds in any bytes, and what clauses read of this crate's types.
 pub mod Lookup
+pub mod Search
 pub mod Values
 pub mod Sound
 pub mod Faults

@@ -1,12 +1,14 @@
 //! Laws of look-ups, of sound files and of differences. Each is the contract of a function whose
 //! parameters are what it ranges over.
-ghost use Rattle.std.specs.Prelude.{◌≡◌, ◌≤◌, [], false, true};
+ghost use Rattle.std.specs.Prelude.{◌≡◌, ◌≤◌, [], None, false, true};
 ghost use Rattle.cdb_form.specs.Format.File.{file_bytes, file_size};
 ghost use Rattle.cdb_form.specs.Views.Pairs.{key_values};
 ghost use Rattle.cdb_read.specs.Difference.{amended, difference, is_changed};
 ghost use Rattle.cdb_read.specs.InOrder.{FindsInOrder};
-ghost use Rattle.cdb_read.specs.Laws.{FindsValues, FindsWalked, SoundIsNoDamage};
+ghost use Rattle.cdb_read.specs.Laws.{FindsSearched, FindsValues, FindsWalked, SoundIsNoDamage};
 ghost use Rattle.cdb_read.specs.Laws.{brought_up, EmptyIsSame, FindsAsIn};
+ghost use Rattle.cdb_read.specs.Lookup.{lookup_of};
+ghost use Rattle.cdb_read.specs.Search.{search_of};
 ghost use Rattle.cdb_read.specs.Sound.{IsSound};
 ghost use Rattle.cdb_read.specs.Values.{values_of};
 
@@ -29,6 +31,22 @@ pub fn file_is_sound<L: Width>(_records: &[Record])
 /// walk of the file, each as often as it is there, and meets no damage.
 pub fn sound_lookup<L: Width>(_bytes: &[u8], _key: &[u8])
     ensures { IsSound L.WORD _bytes.now → FindsWalked L.WORD _bytes.now _key.now }
+{}
+
+/// A search as the author of the format describes it, by which other readers go, finds the values
+/// that a look-up gives, in their order, unless that meets a damage, which it does in no sound file.
+pub fn search_is_lookup<L: Width>(_bytes: &[u8], _key: &[u8])
+    ensures undamaged { (lookup_of L.WORD _bytes.now _key.now).damage ≡ None
+        → FindsSearched L.WORD _bytes.now _key.now }
+    ensures sound { IsSound L.WORD _bytes.now → FindsSearched L.WORD _bytes.now _key.now }
+{}
+
+/// Such a search in the file of some records, if its size fits, finds the values of the key, in the
+/// order of the records.
+pub fn search_of_file<L: Width>(_records: &[Record], _key: &[u8])
+    ensures { file_size L.WORD (key_values _records.now) ≤ L.GREATEST →
+        search_of L.WORD (file_bytes L.WORD (key_values _records.now)) _key.now
+        ≡ values_of _key.now (key_values _records.now) }
 {}
 
 /// A file is sound exactly if it has no first fault.

@@ -49,7 +49,7 @@ size_least w b =
     let least : (m n : ℕ) → 2 * w ≤ 2 * w + m + n = λ m n. omega arith in
     least (pair_at w b).first (pair_at w b).second
 
-unequal : (xs ys : List ℕ) → xs ≢ ys → bytes_eq xs ys ≡ false
+pub unequal : (xs ys : List ℕ) → xs ≢ ys → bytes_eq xs ys ≡ false
 unequal xs ys h =
     let d = bytes_eq-Decides xs ys in
     let f : (v : Bool) → (v ≡ true → xs ≡ ys) → v ≡ false = λ v. elim v as (λ v. (v ≡ true → xs ≡ ys) → v ≡ false) [ true ↦ λ k. absurd (h (k refl)) | false ↦ λ k. refl ] in

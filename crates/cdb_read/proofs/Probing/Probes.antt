@@ -5,6 +5,7 @@ use Rattle.std.proofs.Math.Nat.{add-mod_left}
 use Rattle.cdb_form.specs.declared.damage.Damage.TheVariants.{Record}
 use Rattle.cdb_read.proofs.WholeFiles.LookupLaws.{same_found}
 use Rattle.cdb_read.proofs.Lists.Meeting.{met, met-used, met-unused, met-none}
+use Rattle.cdb_read.specs.Search.{slot_at}
 
 -- so many slots from one on
 abbrev pub ahead : ℕ → ℕ → List WordPair → List WordPair
@@ -54,10 +55,6 @@ ahead-more slot left slots d low few =
 -- the slots with a hash that are still to be met
 abbrev pub met_ahead : ℕ → ℕ → ℕ → List WordPair → List WordPair
 met_ahead h slot left slots = met is_used (has_hash h) (ahead slot left slots)
-
--- the slot at a place of a table in a list of bytes
-abbrev pub slot_at : ℕ → List ℕ → WordPair → ℕ → WordPair
-slot_at w b p slot = pair_at w (drop (p.first + 2 * w * slot) b)
 
 pub slot_is : (w : ℕ) (b : List ℕ) (p : WordPair) (slot : ℕ) → slot < p.second → get_or (slots_at w b p) slot empty_slot ≡ slot_at w b p slot
 slot_is w b p slot low =
