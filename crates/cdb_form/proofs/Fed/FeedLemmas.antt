@@ -1,5 +1,5 @@
 -- What was taken, piece after piece, and relations one after another.
-use Rattle.cdb_form.proofs.Words.{Consumes, Feed, FromTo, IsAtEnd, Keeps, List, LosesAtMost, [], append-nil, append_assoc, length, refl, subst, sym, take, ℕ, ◌++◌, ◌≡◌, ◌≤◌}
+use Rattle.cdb_form.proofs.Words.{Consumes, Feed, FromTo, IsAtEnd, Keeps, List, LosesAtMost, [], append-nil, append_assoc, length, subst, sym, take, ℕ, ◌++◌, ◌≡◌, ◌≤◌}
 
 pub consumes_then : (old mid new : Feed) (xs ys : List ℕ) → Consumes old mid xs → Consumes mid new ys → Consumes old new (xs ++ ys)
 consumes_then old mid new xs ys a b = record {

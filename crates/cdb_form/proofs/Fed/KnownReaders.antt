@@ -2,7 +2,6 @@
 use Rattle.cdb_form.proofs.Words.{Consumes, FromTo, IsAtEnd, List, None, Option, Some, [], ap, length, reader_feed, refl, subst, sym, ℕ, ◌++◌, ◌<◌, ◌≡◌}
 use Rattle.std.specs.Io.KnownBytes.{Consumes as KnownConsumes, IsAtEnd as KnownEnd, ReadConsumes}
 use Rattle.std.specs.Prelude.{Result, Ok, Err, IfOk, IfSome}
-use Rattle.cdb_form.specs.Views.KnownBytes.{FromTo as KnownFromTo}
 
 some_eq : {xs ys : List ℕ} → ◌≡◌ {A = Option (List ℕ)} (Some xs) (Some ys) → xs ≡ ys
 some_eq e = cc
@@ -37,18 +36,6 @@ known_reader (Some text) None P f = elim (f.known tt) [ ]
 known_reader (Some text) (Some rest) P f =
     let t = f.back tt [] rest refl in
     (rest, refl, subst (λ x. P x rest) (sym (some_eq t.1)) t.2)
-
--- the same, as a relation of both
-pub known_from : (old new : Option (List ℕ)) (P : List ℕ → List ℕ → Type 0) → FromTo (reader_feed old) (reader_feed new) P → KnownFromTo old new P
-known_from None new P f = tt
-known_from (Some text) new P f =
-    let t = known_reader (Some text) new P f in
-    subst (λ o. KnownFromTo (Some text) o P) (sym t.1) t.2
-
--- what holds of the text that was left before
-pub known_text : (old new : Option (List ℕ)) (P : List ℕ → Type 0) → FromTo (reader_feed old) (reader_feed new) (λ text rest. P text) → IfSome old P
-known_text None new P f = tt
-known_text (Some text) new P f = (known_reader (Some text) new (λ text rest. P text) f).2
 
 -- none are left
 pub known_end : (remaining : Option (List ℕ)) → IsAtEnd (reader_feed remaining) → KnownEnd remaining

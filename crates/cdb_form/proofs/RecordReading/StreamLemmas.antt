@@ -8,7 +8,7 @@ use Rattle.cdb_form.specs.Views.Taking.{LosesAtMost, ReadsNoFurther}
 use Rattle.cdb_form.specs.Views.KnownBytes.{StillFrom}
 use Rattle.cdb_form.specs.Views.WalkFault.{IsDamage, stopped_by}
 use Rattle.cdb_form.specs.declared.walk.fault.WalkFault.TheVariants.{Short, Table, Record as Cut, Input, NoMemory}
-use Rattle.cdb_form.proofs.Fed.FeedLemmas.{from_both, from_kept, from_taken, from_then, from_weaker, nothing_taken}
+use Rattle.cdb_form.proofs.Fed.FeedLemmas.{from_both, from_taken, from_then, from_weaker}
 use Rattle.cdb_form.proofs.RecordReading.RecordReads.{loses_then}
 
 still_from : (lost rest : List ℕ) (n : ℕ) → length lost ≤ n → StillFrom n (lost ++ rest) rest

@@ -4,7 +4,6 @@ use Rattle.std.specs.Prelude.{ℕ, List, ◌++◌, length, flat_map, ◌≤◌, 
 use Rattle.cdb_form.specs.Format.Record.{KeyValue, AreBytes}
 use Rattle.cdb_form.specs.Text.Form as form
 use Rattle.cdb_form.specs.Text.Native.{IsNumeral, Spells, spelling_of}
-use Rattle.cdb_form.specs.declared.text.fault.TextFault.{TextFault}
 
 -- an item puts a record, or removes a key
 pub data Change : Type 0 where
@@ -31,19 +30,6 @@ SpelledChanges greatest changes text rest = form.Spelled SpellsChange greatest c
 -- the text is an amending one, spelled changes and a newline, and then the rest
 abbrev pub ReadsChanges : ℕ → List Change → List ℕ → List ℕ → Type 0
 ReadsChanges greatest changes text rest = form.Reads SpellsChange greatest changes text rest
-
--- no spelled change is at the start of the input
-abbrev pub HasNoChange : ℕ → List ℕ → Type 0
-HasNoChange greatest input = form.HasNoItem SpellsChange greatest input
-
--- the spelled changes at the start of the input, all of them, and the rest after them
-abbrev pub WholeChanges : ℕ → List ℕ → List Change → List ℕ → Type 0
-WholeChanges greatest input changes rest =
-    form.WholeItems SpellsChange greatest input changes rest
-
--- the fault of an input as an amending text, whose first byte is at `from`
-abbrev pub HasAmendingFault : ℕ → ℕ → List ℕ → TextFault → Type 0
-HasAmendingFault greatest from input fault = form.HasFault SpellsChange greatest from input fault
 
 -- the spelling of a removal with the shortest numeral
 abbrev pub removal_line : List ℕ → List ℕ

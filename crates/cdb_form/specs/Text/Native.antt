@@ -37,10 +37,6 @@ Reads greatest rs text rest = form.Reads Spells greatest rs text rest
 abbrev pub HasNoRecord : ℕ → List ℕ → Type 0
 HasNoRecord greatest input = form.HasNoItem Spells greatest input
 
--- the spelled records at the start of the input, all of them, and the rest after them
-abbrev pub WholeRecords : ℕ → List ℕ → List KeyValue → List ℕ → Type 0
-WholeRecords greatest input rs rest = form.WholeItems Spells greatest input rs rest
-
 -- the fault of an input as a native text, whose first byte is at `from`
 abbrev pub HasFault : ℕ → ℕ → List ℕ → TextFault → Type 0
 HasFault greatest from input fault = form.HasFault Spells greatest from input fault

@@ -1,5 +1,5 @@
 -- What a clause reads of a reader of an amending text.
-use Rattle.std.specs.Prelude.{ℕ, List, ◌+◌, ◌*◌, Option}
+use Rattle.std.specs.Prelude.{ℕ, List, ◌+◌, ◌*◌}
 use Rattle.cdb_form.specs.Format.Record.{KeyValue}
 use Rattle.cdb_form.specs.Text.Amending.{Change, SpellsChange}
 use Rattle.cdb_form.specs.declared.text.fault.TextFault.{TextFault}
@@ -39,11 +39,6 @@ HasPeeked held greatest t n r = form.HasPeeked held greatest t.items n r
 -- whole one; no whole change is there
 abbrev pub StopsAmid : ℕ → ℕ → ℕ → List ℕ → Type 0
 StopsAmid greatest from to text = form.StopsAmid SpellsChange greatest from to text
-
--- these bytes spell the change
-abbrev pub ReadsChange : ℕ → Feed → Feed → ℕ → ℕ → Change → Type 0
-ReadsChange greatest old new from to change =
-    form.ReadsItem SpellsChange greatest old new from to change
 
 -- Each byte takes at most 1001 requests: as many as are made in a row if signals interrupt them.
 abbrev pub budget : {R L : Type 0} → AmendReader R L → ℕ

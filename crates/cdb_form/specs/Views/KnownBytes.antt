@@ -1,6 +1,6 @@
 -- What a call does to the bytes that a reader has left or a writer holds, if they are known.
 use Rattle.std.specs.Io.KnownBytes.{Appends}
-use Rattle.std.specs.Prelude.{drop, ◌+◌, ℕ, List, ◌++◌, Option, ◌≡◌, ⊤, Some, None, Result, OnOk}
+use Rattle.std.specs.Prelude.{drop, ℕ, List, ◌++◌, Option, ◌≡◌, ⊤, Some, None, Result, OnOk}
 use Rattle.std.specs.Prelude.{OnErr}
 
 -- a relation of the bytes before and after

@@ -40,10 +40,6 @@ HasPeeked held greatest t n r = form.HasPeeked held greatest t.items n r
 abbrev pub StopsAmid : ℕ → ℕ → ℕ → List ℕ → Type 0
 StopsAmid greatest from to text = form.StopsAmid Spells greatest from to text
 
--- these bytes spell the record
-abbrev pub ReadsRecord : ℕ → Feed → Feed → ℕ → ℕ → KeyValue → Type 0
-ReadsRecord greatest old new from to r = form.ReadsItem Spells greatest old new from to r
-
 -- Each byte takes at most 1001 requests: as many as are made in a row if signals interrupt them.
 abbrev pub budget : {R L : Type 0} → TextReader R L → ℕ
 budget t = asks_left t + 1001 * taken_of t
