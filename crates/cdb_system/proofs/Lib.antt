@@ -3,7 +3,6 @@ pub mod ComparedFiles
 pub mod Explained
 pub mod FilesRead
 pub mod InputsKnown
-pub mod LoadedLemmas
 pub mod ManyKeys
 pub mod Opens
 pub mod OutputTaken

@@ -19,13 +19,11 @@ pub use Rattle.cdb_show.specs.Status.{plain_status}
 pub use Rattle.cdb_show.specs.Views.Window.{window_feed}
 pub use Rattle.cdb_show.specs.declared.fault.Fault.{Fault}
 pub use Rattle.cdb_store.specs.Contents.{contents}
-pub use Rattle.cdb_store.specs.Images.{ImagesHold, part}
 pub use Rattle.cdb_store.specs.declared.memory.MemStore.{MemStore}
 pub use Rattle.cdb_store.specs.declared.store.Store.{Ghosts}
 pub use Rattle.cdb_system.specs.Answered.{AreAnswered, IsAnswered, Reading, Shows}
 pub use Rattle.cdb_system.specs.CauseLine.{name_ending, reason_name}
 pub use Rattle.cdb_system.specs.Files.{files_of}
-pub use Rattle.cdb_system.specs.Given.{AgreeAll}
 pub use Rattle.cdb_system.specs.Inputs.{OpensEach, OpensInputs, inputs_read}
 pub use Rattle.cdb_system.specs.Opening.{OpenCalls, unopened}
 pub use Rattle.cdb_system.specs.Oracle.{Disk, Outcome, ended, of_file}
@@ -36,7 +34,7 @@ pub use Rattle.cdb_system.specs.Telling.{Says, SaysLine}
 pub use Rattle.cdb_system.specs.declared.left.Left.{Left}
 pub use Rattle.cdb_system.specs.declared.open_trace.OpenCall.{OpenCall}
 pub use Rattle.cdb_system.specs.declared.open_trace.OpenTrace.{OpenTrace}
-pub use Rattle.std.proofs.Common.{Bool, Err, IfOk, IfSome, List, None, Ok, Option, Result, Some, [], ap, append_assoc, arith, codes, false, inl, inr, length, map, refl, rules, string_bytes, subst, sym, take, true, ℕ, ◌++◌, ◌+◌, ◌<◌, ◌∙◌, ◌∷◌, ◌≡◌, ◌≤◌}
+pub use Rattle.std.proofs.Common.{Bool, Err, IfOk, IfSome, List, None, Ok, Option, Result, Some, [], ap, append_assoc, arith, codes, false, inl, inr, length, map, refl, string_bytes, subst, sym, take, true, ℕ, ◌++◌, ◌+◌, ◌<◌, ◌∙◌, ◌∷◌, ◌≡◌, ◌≤◌}
 pub use Rattle.std.proofs.lemmas.Bool.{cond-false, cond-true, le-ltb, lt-ltb}
 pub use Rattle.std.proofs.lemmas.List.{append-nil}
 pub use Rattle.std.proofs.lemmas.Result.{err_from_is_err_and}

@@ -2,9 +2,7 @@ pub mod Answered
 pub mod CauseLine
 pub mod Causes
 pub mod Files
-pub mod Given
 pub mod Inputs
-pub mod LoadedStore
 pub mod NotedExamples
 pub mod Opening
 pub mod Oracle

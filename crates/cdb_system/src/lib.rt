@@ -7,7 +7,6 @@ mod differing;
 mod explaining;
 mod inputs;
 mod left;
-mod loaded;
 mod looking;
 mod open_trace;
 mod places;
@@ -26,7 +25,6 @@ pub use left::{
     Left, LeftOf, Performed, base_left, both_left, input_left, looked_left, none_left, read_left,
     stream_left,
 };
-pub use loaded::LoadedStore;
 pub use looking::{KeyLookups, lookups};
 pub use open_trace::{OpenCall, OpenTrace};
 pub use places::is_in_place;

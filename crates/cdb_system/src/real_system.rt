@@ -5,7 +5,6 @@ ghost use Rattle.cdb_names.specs.Refusals.{is_of_system};
 ghost use Rattle.cdb_system.specs.Opening.{Misses, refused_by, refused_open, unopened};
 ghost use Rattle.cdb_system.specs.declared.open_trace.OpenCall.TheVariants.{AtPlaces, Unopened};
 
-use crate::loaded::LoadedStore;
 use crate::open_trace::{OpenCall, OpenTrace};
 use crate::seen::{FileNumber, Seen, SeenReader};
 use crate::system::System;
@@ -92,7 +91,7 @@ impl<'a, R: Files<File = File> + AllocGlobal> RealSystem<'a, R> {
         &mut self,
         opened: Result<FileStore, Why>,
         name: &str,
-    ) -> Result<LoadedStore<FileStore>, Fault>
+    ) -> Result<FileStore, Fault>
         ensures calls { OnOk result
             (self.new.trace.events ≡ (AtPlaces, name.now) ∷ self.old.trace.events) }
         ensures fails { IfErr result
@@ -101,7 +100,7 @@ impl<'a, R: Files<File = File> + AllocGlobal> RealSystem<'a, R> {
         match opened {
             Ok(store) => {
                 self.note(&OpenCall::AtPlaces, name);
-                Ok(LoadedStore::new(self.rt.alloc(), store))
+                Ok(store)
             }
             Err(why) => Err(self.refused(why, name)),
         }
@@ -109,7 +108,7 @@ impl<'a, R: Files<File = File> + AllocGlobal> RealSystem<'a, R> {
 }
 
 impl<'a, R: Files<File = File> + AllocGlobal> System for RealSystem<'a, R> {
-    type File = LoadedStore<FileStore>;
+    type File = FileStore;
 
     type Stream = NotedReader<SeenReader<'a, File>>;
 
@@ -131,12 +130,12 @@ impl<'a, R: Files<File = File> + AllocGlobal> System for RealSystem<'a, R> {
         self.last.as_ref()
     }
 
-    fn store_error(&self, file: &LoadedStore<FileStore>) -> Option<i32> {
-        file.inner().file().last_error()
+    fn store_error(&self, file: &FileStore) -> Option<i32> {
+        file.file().last_error()
     }
 
-    fn is_changed(&self, file: &LoadedStore<FileStore>) -> bool {
-        file.inner().file().is_changed()
+    fn is_changed(&self, file: &FileStore) -> bool {
+        file.file().is_changed()
     }
 
     fn made_error(&self, file: &FileStore) -> Option<i32> {
@@ -160,7 +159,7 @@ impl<'a, R: Files<File = File> + AllocGlobal> System for RealSystem<'a, R> {
     }
 
     // Shown by tests/cli/cases.py and tests/faults/names.py.
-    fn open_store(&mut self, name: &str) -> Result<LoadedStore<FileStore>, Fault> {
+    fn open_store(&mut self, name: &str) -> Result<FileStore, Fault> {
         let opened = match opened_at_places(self.rt, name) {
             Ok(file) => store_over(RealFile::opened(file)),
             Err(why) => Err(why),
@@ -169,7 +168,7 @@ impl<'a, R: Files<File = File> + AllocGlobal> System for RealSystem<'a, R> {
     }
 
     // Shown by tests/cli/inputs.py.
-    fn open_base(&mut self, name: &str) -> Result<LoadedStore<FileStore>, Fault> {
+    fn open_base(&mut self, name: &str) -> Result<FileStore, Fault> {
         let opened = match opened_at_places(self.rt, name) {
             Ok(file) => store_watching(file),
             Err(why) => Err(why),
