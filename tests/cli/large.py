@@ -1,23 +1,31 @@
 #!/usr/bin/env python3
-"""Runs the commands that read no value on databases with one of more than 1 GB, and of nearly 4 GiB.
+"""Runs the commands that read no value on databases with one of more than 1 GB, and of nearly 4 GiB, and
+looks all keys of files of 60 MB up in little memory.
 
     tests/cli/large.py PROGRAM
 
-The files are sparse: their values are zeros, which take no room.
+The files of one value are sparse: it is of zeros, which take no room. The peak of memory is the one that the
+system shows of a program that waits for its output to be read, shortly before its end.
 """
 
 import os
+import random
 import subprocess
 import sys
 import tempfile
 
 from cases import statistics
-from files import hash_of, words
+from files import file_of, hash_of, text_of, words
 
 KEY = b"one"
 HASH = hash_of(KEY)
 # The greatest has its table's end at the greatest place.
 SIZES = (1_200_000_000, 2**32 - 1 - 16 - 2048 - 8 - len(KEY))
+# How many records two more files have, how long a value is, and the most memory that a run may take.
+RECORDS, LENGTH = 30_000, 2_000
+PEAK = 4 << 20
+# More than a pipe and the program's buffer hold, so that the program still waits.
+LEFT = 1 << 20
 
 
 def make(path, size):
@@ -49,6 +57,45 @@ def commands_of(size):
     }
 
 
+def records(letter):
+    """Records whose values have this letter."""
+    return [(b"key %05d" % number, letter * LENGTH) for number in range(RECORDS)]
+
+
+def make_many(folder):
+    """Makes two databases of many records with other values, and a list of their keys in no order. Answers
+    the commands that look all of them up, with how many bytes they write."""
+    keys = [key for key, _ in records(b"")]
+    removals = b"".join(b"-%d:%s\n" % (len(key), key) for key in keys)
+    random.Random(1).shuffle(keys)
+    asked = b"".join(b"+%d:%s\n" % (len(key), key) for key in keys) + b"\n"
+    files = {"x": file_of(records(b"a")), "y": file_of(records(b"b")), "keys": asked}
+    for name, what in files.items():
+        with open(os.path.join(folder, name), "wb") as file:
+            file.write(what)
+    text = len(text_of(records(b"a")))
+    return {("-q", "-i", "x", "keys"): text, ("-D", "x", "y"): len(removals) + text}
+
+
+def peak_of(program, given, folder, size):
+    """How a command that writes so many bytes ended, how many it wrote, and its peak of memory."""
+    with subprocess.Popen([program, *given], cwd=folder, stdout=subprocess.PIPE) as running:
+        written = len(running.stdout.read(size - LEFT))
+        with open(f"/proc/{running.pid}/status", encoding="ascii") as status:
+            peak = next(int(line.split()[1]) << 10 for line in status if line.startswith("VmHWM:"))
+        written += len(running.stdout.read())
+    return running.returncode, written, peak
+
+
+def looks_within(program):
+    """Whether each command that looks many keys up writes all, in as much memory as it may take."""
+    with tempfile.TemporaryDirectory() as folder:
+        for given, size in make_many(folder).items():
+            status, written, peak = peak_of(program, given, folder, size)
+            print(f"{' '.join(given)} takes {peak >> 10} KiB")
+            yield (status, written) == (0, size) and peak <= PEAK
+
+
 def main():
     if len(sys.argv) != 2:
         sys.exit(__doc__)
@@ -62,6 +109,8 @@ def main():
                 passed, failed = passed + (left == wanted), failed + (left != wanted)
                 if left != wanted:
                     print(f"a value of {size} bytes, {' '.join(given)}: {left!r:.300}")
+    for held in looks_within(program):
+        passed, failed = passed + held, failed + (not held)
     print(f"{passed} passed, {failed} failed")
     sys.exit(1 if failed else 0)
 

@@ -63,9 +63,7 @@ def draw(chosen, program, folder):
     with open(os.path.join(folder, "x"), "wb") as file:
         file.write(file_of(records, wide_words if wide else words))
     number = chosen.choice([None, None, 1, 2, 3])
-    # After a few dozen look-ups a file this small is read whole.
-    most = chosen.choice([5, 5, 5, 100])
-    asked = [[chosen.choice(keys) for _ in range(chosen.randint(0, most))] for _ in range(chosen.randint(1, 3))]
+    asked = [[chosen.choice(keys) for _ in range(chosen.randint(0, 5))] for _ in range(chosen.randint(1, 3))]
     names, stdin = [], b""
     for n, each in enumerate(asked):
         text = listed(chosen, each, as_map)

@@ -53,8 +53,6 @@ SOME = RECORDS[90:110]
 LATER = [*SOME[1:4], (b"key94", b"again"), *SOME[5:], (b"new", b"one")]
 # Keys that a query looks up, of which one has no value and one a long one.
 KEYS = b"".join(b"+%d:%s\n" % (len(key), key) for key in [*(key for key, _ in RECORDS[90:110]), b"none"]) + b"\n"
-# The keys of the first of them, the last first: each record lies before the one that was read last.
-BACKWARDS = b"".join(b"+%d:%s\n" % (len(key), key) for key, _ in reversed(SOME[:10])) + b"\n"
 CHANGES = b"-4:key3\n+4,5:key7->again\n+3,3:new->one\n" * 3 + b"\n"
 COMMANDS = {
     "create on output": Command(["-c", "-"], TEXT),
@@ -73,7 +71,6 @@ COMMANDS = {
     "query": Command(["-q", "x", "key7"], b"", {"x": DATABASE}),
     "query of a line": Command(["-qm", "-n", "1", "x", "key9"], b"", {"x": DATABASE}),
     "query of many keys": Command(["-q", "-i", "x", "in", "-"], KEYS, {"x": DATABASE, "in": KEYS}),
-    "query of so many keys that the file is read whole": Command(["-q", "-i", "x", *["in"] * 3], b"", {"x": file_of(SOME[:10]), "in": BACKWARDS}),
     "query of many keys of a map": Command(["-qim", "-n", "1", "x"], b"key7\nkey9 more\nnone\n", {"x": DATABASE}),
     "dump": Command(["-d"], DATABASE),
     "dump of a file": Command(["-d", "x"], b"", {"x": DATABASE}),
