@@ -184,7 +184,7 @@ def is_naming(create, calls, number):
     before = [it.what for it in calls[: number - 1]]
     if is_in_place(create):
         return "sync" in before or before[-1:] == ["lock"] or before[-2:] == ["lock", "look"]
-    return before.count("sync") == 2
+    return before.count("sync") == 1
 
 
 def is_of_open(create, calls, number):

@@ -6,9 +6,9 @@ locks, or locks of another kind.
 
 The library is refuse.c, built to be loaded ahead of the C library. In the rows of MEETS another program
 puts something in place of a name just before one call of the create. It must stay, and the create must
-end by the status 111 and its line, with the database as it was. With the errors of HELD the lock of an
-old file is refused: it may be another create's, and stays. With those of FREE there are no locks, and
-the database is made.
+end by the status 111 and its line, with the database as it was. A reader who locks the file that shows
+permissions stops nothing. With the errors of HELD the lock of an old file is refused: it may be another
+create's, and stays. With those of FREE there are no locks, and the database is made.
 """
 
 import errno
@@ -21,7 +21,7 @@ import tempfile
 
 import commands
 from files import ONE_FILE, TWO_FILE, TWO_TEXT
-from names import CREATES, LAST, NO_DATABASE, NO_FILE, NO_NAME, PRIVATE, found_in, made_of, place, run, told
+from names import CREATES, LAST, MADE, MODE, NO_DATABASE, NO_FILE, NO_NAME, PRIVATE, found_in, made_of, place, run, told
 from places import Link
 from refusing import Refusing
 
@@ -60,6 +60,10 @@ MEETS = {
     "a file, as a database in place is synced": (KEPT, IN_PLACE, "take", "sync", 1, "x", NO_NAME),
     "a pipe, as a database in place is synced": (KEPT, IN_PLACE, "pipe", "sync", 1, "x", NO_NAME),
 }
+# Before which call of a first create, among those on the temporary name and on open files, a reader locks the file
+# that shows permissions; and the one that is built, which nobody else can open.
+READ = {"looked at": ("look", 3), "looked at by its name": ("look", 4), "removed": ("remove", 1)}
+BUILT = ("lock", 1)
 # The folder of the database, the one that holds the place of a closed stream, what leads to standard input, and
 # those whose links are not replaced.
 SYSTEM = (".", "/", "/proc/self/fd/0", "/dev", "/proc")
@@ -169,6 +173,33 @@ def followed(path, library, words):
     return None if is_right else f"{done.returncode} {done.stderr}, {told(left)}"
 
 
+def read_by(path, library, row):
+    """The status and the line of a first create before one of whose calls a reader locks the temporary file, whether he
+    got the lock, and what is left."""
+    call, number = row
+    with tempfile.TemporaryDirectory() as folder:
+        place(folder, FIRST)
+        reading = Refusing(path, library, "calls", ACT="hold", ONLY=call, NAME="x.tmp")
+        done, calls = reading.trace(PLAIN, TWO_TEXT, number, number, folder)
+        has_lock = [it.answer for it in calls if it.what == "hold"] == [0]
+        return done.returncode, done.stderr, has_lock, found_in(folder)
+
+
+def unstopped(path, library, row):
+    """What is wrong with a first create the file of which that shows permissions is locked by a reader, or None."""
+    status, line, has_lock, left = read_by(path, library, row)
+    is_right = (status, line, has_lock) == (0, b"", True) and left.pop("x", None) == (TWO_FILE, MADE)
+    return None if is_right and left == {"y": (b"kept", MODE)} else f"{status} {line}, {has_lock}, {told(left)}"
+
+
+def stopped(path, library, row):
+    """What is wrong with a first create whose file is locked once it is made, or None: it may be another's, and stays."""
+    status, line, has_lock, left = read_by(path, library, row)
+    wanted = {"y": (b"kept", MODE), "x.tmp": (b"", PRIVATE)}
+    is_right = (status, line, has_lock, left) == (111, NO_FILE, True, wanted)
+    return None if is_right else f"{status} {line}, {has_lock}, {told(left)}"
+
+
 def longer(path, library, call):
     """What is wrong with a create to whose file another program adds a byte just before a call, or None."""
     with tempfile.TemporaryDirectory() as folder:
@@ -273,6 +304,8 @@ def checks():
     yield from ((name, meets, row) for name, row in MEETS.items())
     yield from ((f"a lock refused by {errno.errorcode[it]}", held, it) for it in HELD)
     yield from ((f"each lock refused by {errno.errorcode[it]}", free, it) for it in FREE)
+    yield from ((f"a reader's lock, as the file that shows permissions is {it}", unstopped, row) for it, row in READ.items())
+    yield "a lock of another's, as the new one is made", stopped, BUILT
     yield "a file that has another name too, as a database in place is locked", emptied, "lock"
     yield "a link with the inode of its file, in place", followed, IN_PLACE
     yield "a link with the inode of its file, in place by its name", followed, ["-c", "-t", "x", "x"]

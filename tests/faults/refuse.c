@@ -15,7 +15,12 @@
  *   link   first a link to y replaces it
  *   take   first another file, which has a few bytes, replaces it
  *   grow   first a byte is added to the file that has the name in REFUSE_NAME
+ *   hold   first a reader opens that file and locks it, for as long as the program runs
  *   none   it is not made, and answers 0
+ *
+ * Once a call was refused, more of those that REFUSE_ALSO names are, by EIO: from then on the ones from
+ * REFUSE_ALSO_FIRST to REFUSE_ALSO_LAST. If REFUSE_ALSO_KILL is set, the program is killed before the first
+ * of them. A close is counted only where REFUSE_ONLY or REFUSE_ALSO names it.
  *
  * REFUSE_SHORT is the most bytes that a read or a write takes. With REFUSE_ALIKE all files have one
  * inode, each on a device of its own. With REFUSE_REMOTE a file must be opened to write to be locked, as
@@ -33,6 +38,7 @@
 #include <stdio.h>
 #include <stdlib.h>
 #include <string.h>
+#include <sys/file.h>
 #include <sys/mman.h>
 #include <sys/stat.h>
 #include <sys/syscall.h>
@@ -45,9 +51,9 @@ extern void *__libc_realloc(void *old, size_t size);
 extern void *__libc_memalign(size_t alignment, size_t size);
 
 static unsigned long early[2], *asks = early;
-static unsigned long first, last, most;
-static int are_calls, are_alike, are_remote, error = EIO, trace = -1;
-static const char *only, *act, *named;
+static unsigned long first, last, most, also_first, also_last, also_asks;
+static int are_calls, are_alike, are_remote, error = EIO, trace = -1, was_refused, also_kills;
+static const char *only, *act, *named, *also;
 
 /* A descriptor that the program does not get for a file of its own. */
 #define FAR 100
@@ -74,7 +80,7 @@ __attribute__((constructor)) static void begin(void)
 	void *counted = MAP_FAILED;
 	if (file >= 0) {
 		counted = mmap(NULL, sizeof early, PROT_READ | PROT_WRITE, MAP_SHARED, file, 0);
-		close(file);
+		syscall(SYS_close, file);
 	}
 	if (counted == MAP_FAILED)
 		_exit(99);
@@ -87,6 +93,10 @@ __attribute__((constructor)) static void begin(void)
 	only = getenv("REFUSE_ONLY");
 	act = getenv("REFUSE_ACT");
 	named = getenv("REFUSE_NAME");
+	also = getenv("REFUSE_ALSO");
+	also_first = number("REFUSE_ALSO_FIRST");
+	also_last = number("REFUSE_ALSO_LAST");
+	also_kills = getenv("REFUSE_ALSO_KILL") != NULL;
 	if (getenv("REFUSE_ERROR"))
 		error = number("REFUSE_ERROR");
 	asks = counted;
@@ -94,7 +104,7 @@ __attribute__((constructor)) static void begin(void)
 	if (path) {
 		file = syscall(SYS_openat, AT_FDCWD, path, O_WRONLY | O_APPEND);
 		trace = fcntl(file, F_DUPFD_CLOEXEC, FAR);
-		close(file);
+		syscall(SYS_close, file);
 	}
 }
 
@@ -157,6 +167,21 @@ static int is_counted(const struct call *call)
 	return !named || !call->name || strcmp(named, call->name) == 0;
 }
 
+/* Whether a call is one of those that are refused once one was. */
+static int is_refused_too(const struct call *call)
+{
+	if (!was_refused || !also || !is_in(also, call->what))
+		return 0;
+	++also_asks;
+	return also_asks >= also_first && also_asks <= also_last;
+}
+
+/* Whether a list names a close, of which others are not counted. */
+static int counts_closes(void)
+{
+	return (only && is_in(only, "close")) || (also && is_in(also, "close"));
+}
+
 static int acts(const char *how)
 {
 	return act && strcmp(act, how) == 0;
@@ -173,7 +198,7 @@ static void replace(void)
 	} else {
 		int file = syscall(SYS_openat, AT_FDCWD, named, O_WRONLY | O_CREAT | O_EXCL, 0644);
 		syscall(SYS_write, file, "another's", 9);
-		close(file);
+		syscall(SYS_close, file);
 	}
 }
 
@@ -182,7 +207,17 @@ static void grow(void)
 {
 	int file = syscall(SYS_openat, AT_FDCWD, named, O_WRONLY | O_APPEND);
 	syscall(SYS_write, file, "*", 1);
-	close(file);
+	syscall(SYS_close, file);
+}
+
+/* Locks what has the name, as somebody who may read it. It is noted as a call. */
+static void hold(void)
+{
+	struct call call = { "hold", named, -1, 0 };
+	int file = syscall(SYS_openat, AT_FDCWD, named, O_RDONLY);
+	unsigned long found = inode(&call);
+	note(&call, found, syscall(SYS_flock, fcntl(file, F_DUPFD_CLOEXEC, FAR), LOCK_SH | LOCK_NB));
+	syscall(SYS_close, file);
 }
 
 /* What a call of the system answers, unless it is refused. */
@@ -190,14 +225,22 @@ static long answer(const struct call *call, long number, long a, long b, long c,
 {
 	unsigned long file = inode(call);
 	int is_chosen = is_counted(call) && is_among();
+	int is_too = !is_chosen && is_refused_too(call);
 	long answered = -1;
-	if (is_chosen && !act) {
+	if (is_too && also_kills)
+		syscall(SYS_kill, getpid(), SIGKILL);
+	was_refused |= is_chosen;
+	if (is_too) {
+		errno = EIO;
+	} else if (is_chosen && !act) {
 		errno = error;
 	} else if (is_chosen && acts("none")) {
 		answered = 0;
 	} else {
 		if (is_chosen && acts("grow"))
 			grow();
+		else if (is_chosen && acts("hold"))
+			hold();
 		else if (is_chosen && named && !acts("kill"))
 			replace();
 		answered = syscall(number, a, b, c, d, e);
@@ -287,6 +330,12 @@ int fchmod(int file, mode_t mode)
 {
 	struct call call = { "allow", NULL, file, mode };
 	return answer(&call, SYS_fchmod, file, mode, 0, 0, 0);
+}
+
+int close(int file)
+{
+	struct call call = { "close", NULL, file, 0 };
+	return counts_closes() ? answer(&call, SYS_close, file, 0, 0, 0, 0) : syscall(SYS_close, file);
 }
 
 int rename(const char *from, const char *to)
