@@ -7,9 +7,10 @@ The temporary file is open to this user alone until it is whole. A database that
 then has its permission bits, or those of one that vanished during the build. If none is replaced, or a link,
 the umask decides, or the default access list of the temporary file's folder, as of any new file there. In
 place nothing changes. An old temporary file has no part in it, nor has the length of the name. Another user's
-file gives no permissions, to root neither: the new one has those of a plain new file. In a sticky folder
-another user's temporary file stops a create, and `-t` helps. If the file system knows no access lists,
-or the user cannot become another, such rows are left out, and that is said.
+file gives no permissions, to root neither: the new one has those of a plain new file, and that user the rights of
+others. If several users make a map in turn, each keeps the bits of one's own file alone. In a sticky folder
+another user's temporary file stops a create, and `-t` helps. If the file system knows no access lists, or the
+user cannot become another, such rows are left out, and that is said.
 """
 
 import errno
@@ -34,6 +35,10 @@ USER, GROUP, MASK, OTHER, NAMED = 0x01, 0x04, 0x10, 0x20, 0x02
 NOBODY = 0xFFFFFFFF
 # A user who makes a database, and a stranger.
 MAKER, STRANGER = 1001, 1002
+# Who makes a database that several users make in turn, and the bits that it gets afterwards, if others; and what it has
+# after each create.
+TURNS = [(MAKER, 0o640), (MAKER, None), (STRANGER, 0o600), (STRANGER, None), (MAKER, None), (0, 0o640), (0, None), (STRANGER, None)]
+TURNED = [0o644, 0o640, 0o644, 0o600, 0o644, 0o644, 0o640, 0o644]
 OPEN = b"cdb: file cannot be opened\n"
 LISTS = {
     "others are kept out": ([(USER, 7, NOBODY), (GROUP, 5, NOBODY), (OTHER, 0, NOBODY)], 0o640),
@@ -139,12 +144,26 @@ def named(program, size):
         return done.returncode, mode_of(os.path.join(folder, "n" * size)), len(os.listdir(folder))
 
 
-def become_another():
+def become_another(user=MAKER):
     """Takes root's rights from this process."""
     os.umask(0o022)
     os.setgroups([])
-    os.setgid(MAKER)
-    os.setuid(MAKER)
+    os.setgid(user)
+    os.setuid(user)
+
+
+def opens(path, how):
+    """Whether the stranger may open a file."""
+    process = os.fork()
+    if process == 0:
+        status = 1
+        try:
+            become_another(STRANGER)
+            os.close(os.open(path, how))
+            status = 0
+        finally:
+            os._exit(status)
+    return os.waitstatus_to_exitcode(os.waitpid(process, 0)[1]) == 0
 
 
 def among_strangers(program, words):
@@ -165,13 +184,14 @@ def among_strangers(program, words):
         return done.returncode, done.stderr, mode, sorted(os.listdir(folder))
 
 
-def over_a_stranger(program, maker, mask, mode, words=("-c", "x")):
+def over_a_stranger(program, maker, mask, mode, words=("-c", "x"), sticky=0):
     """The status and the bits of a database that a user makes over another user's file of these bits, in a folder
-    that both may write, and whose it is; or None if this user cannot become another."""
+    that both may write, whose it is, what is there, and whether that other user may read and write it then; or None
+    if this user cannot become another."""
     if os.getuid() != 0:
         return None
     with tempfile.TemporaryDirectory() as folder:
-        os.chmod(folder, 0o777)
+        os.chmod(folder, 0o777 | sticky)
         path = os.path.join(folder, "x")
         place(path, mode)
         os.chown(path, STRANGER, STRANGER)
@@ -184,7 +204,33 @@ def over_a_stranger(program, maker, mask, mode, words=("-c", "x")):
 
         how = dict(cwd=folder, input=TWO_TEXT, stderr=subprocess.PIPE, timeout=60, check=False)
         done = subprocess.run([copy, *words], preexec_fn=become, **how)
-        return done.returncode, mode_of(path), os.stat(path).st_uid, sorted(os.listdir(folder))
+        found = done.returncode, mode_of(path), os.stat(path).st_uid, sorted(os.listdir(folder))
+        return found, opens(path, os.O_RDONLY), opens(path, os.O_WRONLY)
+
+
+def beside_stranger(mask, maker):
+    """What `over_a_stranger` is to answer: the stranger has the rights of others."""
+    plain = 0o666 & ~mask
+    return (0, plain, maker, ["cdb", "x"]), bool(plain & 0o004), bool(plain & 0o002)
+
+
+def in_turn(program):
+    """The status, the owner and the bits of a database after each of some creates in a folder that several users may
+    write, and what is there then; or None if this user cannot become another. The owner narrows it twice."""
+    if os.getuid() != 0:
+        return None
+    came = []
+    with tempfile.TemporaryDirectory() as folder:
+        os.chmod(folder, 0o777)
+        path = os.path.join(folder, "x")
+        copy = shutil.copy(program, os.path.join(folder, "cdb"))
+        for user, bits in TURNS:
+            how = dict(cwd=folder, input=TWO_TEXT, timeout=60, check=False)
+            done = subprocess.run([copy, "-cv", "x"], preexec_fn=lambda: become_another(user), **how)
+            came.append((done.returncode, os.stat(path).st_uid, mode_of(path), sorted(os.listdir(folder))))
+            if bits is not None:
+                os.chmod(path, bits)
+    return came
 
 
 def main():
@@ -218,10 +264,15 @@ def main():
     came.append(("beside another's files", mine, (0, b"", 0o644, sorted([*there, "x"]))))
     for maker, mask, mode in itertools.product((MAKER, 0), MASKS, (0o000, 0o444, 0o644, 0o666)):
         left = over_a_stranger(program, maker, mask, mode)
-        came.append((f"{maker} over another's {mode:o} by {mask:o}", left, (0, 0o666 & ~mask, maker, ["cdb", "x"])))
+        came.append((f"{maker} over another's {mode:o} by {mask:o}", left, beside_stranger(mask, maker)))
+    for mask, mode in itertools.product((0o022, 0o077), (0o000, 0o666)):
+        left = over_a_stranger(program, 0, mask, mode, sticky=0o1000)
+        came.append((f"in a sticky folder over another's {mode:o} by {mask:o}", left, beside_stranger(mask, 0)))
+    turned = [(0, user, bits, ["cdb", "x"]) for (user, _), bits in zip(TURNS, TURNED)]
+    came.append(("several users in turn", in_turn(program), turned))
     # In place the file stays its owner's, with its bits.
     left = over_a_stranger(program, MAKER, 0o077, 0o666, ("-c", "-t", "-", "x"))
-    came.append(("in place in another's file", left, (0, 0o666, STRANGER, ["cdb", "x"])))
+    came.append(("in place in another's file", left, ((0, 0o666, STRANGER, ["cdb", "x"]), True, True)))
     for what, left, _ in came:
         if left is None:
             print(f"left out: {what}, which needs access lists, or root")

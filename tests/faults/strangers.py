@@ -8,8 +8,7 @@ again and lock what they get: none of some hundred first creates fails, nor one 
 once one of their calls is made. The file that is built he cannot open until it has its permissions, and the next
 create succeeds. From then on he may lock what is left, as far as these permissions let him read, and also an empty
 file that shows permissions: each create fails and says so while he does, and succeeds once he is gone. His lock of the database itself stops a create in place and
-no other. In a folder that he may write he can neither write nor read what is made over his file, if a plain new
-file's permissions keep him out. All this takes root; without it every row is left out, and that is said.
+no other. All this takes root; without it every row is left out, and that is said.
 """
 
 import contextlib
@@ -199,34 +198,6 @@ def beside_lock(program, _, words):
     return None if (answer, left) == (MADE, {"x": TWO_FILE}) else f"the next create {answer}, {sorted(left)}"
 
 
-def opens(path, how):
-    """Whether the stranger may open a file."""
-    process = os.fork()
-    if process == 0:
-        status = 1
-        try:
-            become_stranger()
-            os.close(os.open(path, how))
-            status = 0
-        finally:
-            os._exit(status)
-    return os.waitstatus_to_exitcode(os.waitpid(process, 0)[1]) == 0
-
-
-def kept_out(program, _, row):
-    """What is wrong with the permissions of what is made over a stranger's file, or None."""
-    folder_mode, mode, mask = row
-    with folder_of(folder_mode, {"x": b"", "in": TWO_TEXT}) as folder:
-        path = os.path.join(folder, "x")
-        os.chown(path, STRANGER, STRANGER)
-        os.chmod(path, mode)
-        answer = created(program, folder, mask=mask)
-        came = answer, left_in(folder), os.stat(path).st_mode & 0o7777, opens(path, os.O_RDONLY), opens(path, os.O_WRONLY)
-    plain = 0o666 & ~mask
-    wanted = MADE, {"x": TWO_FILE}, plain, bool(plain & 0o004), bool(plain & 0o002)
-    return None if came == wanted else f"{came} and not {wanted}"
-
-
 def checks():
     """Each check: its name, its function, and what that is given."""
     yield "first creates beside a reader who locks", beside_reader, False
@@ -234,8 +205,6 @@ def checks():
     yield from ((f"a create that is killed {name}", after_kill, row) for name, row in KILLS.items())
     yield "a database that a stranger locks, replaced", beside_lock, CREATE
     yield "a database that a stranger locks, in place", beside_lock, ["-cv", "-t", "-", "x", "in"]
-    for folder, mode, mask in ((0o1777, 0o666, MASK), (0o1777, 0o000, MASK), (0o777, 0o644, 0o077), (0o777, 0o666, 0o002)):
-        yield f"over a stranger's {mode:o} in a folder of {folder:o}, by {mask:o}", kept_out, (folder, mode, mask)
 
 
 def main():
