@@ -370,14 +370,19 @@ static void record_that_is_too_big(void)
   cdb_free(&c);
 }
 
-/* Puts records of a key, so that some are written: by the mode, of so many bytes in all. */
-static int put_many(struct cdb_make *m, enum cdb_put_mode mode, unsigned size)
+/* Puts records of keys from one on, so that some are written: by the mode, of so many bytes in all. */
+static int put_from(struct cdb_make *m, unsigned first, enum cdb_put_mode mode, unsigned size)
 {
   static char value[1000 - 8 - sizeof(unsigned)];
   int said = 0;
-  for (unsigned n = 0; n < size / 1000 && said == 0; n++)
+  for (unsigned n = first; n < first + size / 1000 && said == 0; n++)
     said = cdb_make_put(m, &n, sizeof n, value, sizeof value, mode);
   return said;
+}
+
+static int put_many(struct cdb_make *m, enum cdb_put_mode mode, unsigned size)
+{
+  return put_from(m, 0, mode, size);
 }
 
 /* Whether no look-up takes a file for a database. */
@@ -445,6 +450,69 @@ static void descriptor_that_appends(void)
        cdb_make_finish(&m) == 0 && !is_damaged(fd), "the maker after it");
   want(cdb_make_start(&m, fd) == 0 && put_many(&m, CDB_PUT_ADD, 1000) == 0 && close(fd) == 0, "a start");
   want(FAILS(cdb_make_finish(&m), -1, EBADF), "a finish by a descriptor that is closed");
+}
+
+/* Puts a file of so many bytes under the number of a descriptor that was closed. */
+static void take_number(int fd, size_t size)
+{
+  char *bytes = malloc(size);
+  int other = open("another", O_RDWR | O_CREAT | O_TRUNC, 0666);
+  want(bytes && other == fd, "another file has another number");
+  memset(bytes, 'P', size);
+  want(syscall(SYS_pwrite64, fd, bytes, size, (off_t)0) == (ssize_t)size, "no bytes of another file");
+  free(bytes);
+}
+
+/* Whether a file is as take_number made it. */
+static int is_as_taken(int fd, size_t size)
+{
+  char *bytes = malloc(size + 1);
+  int holds = bytes && syscall(SYS_pread64, fd, bytes, size + 1, (off_t)0) == (ssize_t)size;
+  for (size_t n = 0; holds && n < size; n++) holds = bytes[n] == 'P';
+  free(bytes);
+  return holds;
+}
+
+/* A descriptor is closed under a maker, and its number is another file's by then: short adds, long ones and a finish
+ * leave that file as it is. In the other modes a maker looks at the finish alone, which does not cut it. */
+static void descriptor_of_another_file(void)
+{
+  static const enum cdb_put_mode MODES[] = { CDB_PUT_ADD, CDB_PUT_REPLACE, CDB_PUT_INSERT };
+  static const off_t SIZES[] = { 3000, 300000 };
+  static char value[2 * PIECE];
+  struct cdb_make m;
+  struct cdb c;
+  for (unsigned n = 0; n < 6; n++) {
+    enum cdb_put_mode mode = MODES[n / 2];
+    off_t size = SIZES[n % 2];
+    int fd = file_named("closed");
+    want(cdb_make_start(&m, fd) == 0 && put_many(&m, mode, PIECE / 2) == 0 && close(fd) == 0, "a start");
+    take_number(fd, size);
+    want(FAILS(cdb_make_put(&m, "a", 1, value, sizeof value, mode), -1, EBADF), "a long put to another file");
+    want(is_as_taken(fd, size), "a long put writes to another file");
+    want(FAILS(cdb_make_finish(&m), -1, EBADF) && is_as_taken(fd, size), "a finish in another file");
+    want(FAILS(cdb_make_finish(&m), -1, EPROTO), "a finish after it");
+    close(fd);
+    fd = file_named("closed");
+    want(cdb_make_start(&m, fd) == 0 && put_many(&m, mode, 2 * PIECE) == 0 && close(fd) == 0, "a start");
+    take_number(fd, size);
+    int said = put_from(&m, PIECE, mode, 2 * PIECE);
+    want(mode != CDB_PUT_ADD || (said == -1 && is_as_taken(fd, size)), "adds to another file");
+    want(FAILS(cdb_make_finish(&m), -1, EBADF) && lseek(fd, 0, SEEK_END) >= size, "a finish cuts another file");
+    close(fd);
+    fd = file_named("closed");
+    want(cdb_make_start(&m, fd) == 0 && put_many(&m, mode, PIECE / 2) == 0 && close(fd) == 0, "a start");
+    take_number(fd, size);
+    cdb_make_abort(&m);
+    want(is_as_taken(fd, size), "a maker that is given up writes to another file");
+    close(fd);
+  }
+  /* The same file by another descriptor is still the maker's. */
+  int fd = file_named("closed");
+  want(cdb_make_start(&m, fd) == 0 && put_many(&m, CDB_PUT_ADD, 2 * PIECE) == 0 && close(fd) == 0 &&
+       open("closed", O_RDWR) == fd && cdb_make_finish(&m) == 0, "the same file counts as another");
+  want(!is_damaged(fd) && cdb_init(&c, fd) == 0 && c.cdb_fsize == HEAD + 131 * 1016, "no database in the same file");
+  cdb_free(&c);
 }
 
 /* Two records that come to so many bytes, and what is found of them. */
@@ -667,6 +735,7 @@ static const struct { void (*rows)(void); const char *name; } GROUPS[] = {
   { record_that_is_too_big, "a record that is too big" },
   { file_that_is_cut, "a file that is cut" },
   { descriptor_that_appends, "a descriptor that appends" },
+  { descriptor_of_another_file, "a descriptor of another file" },
   { records_that_fill_the_buffer, "records that fill the buffer" },
   { pieces_of_a_file, "pieces of a file" },
   { limit_of_a_file, "the limit of a file" },
