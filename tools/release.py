@@ -27,7 +27,7 @@ SUMS = "release/SHA256SUMS"
 OBJECTS = "objects"
 # What the tarball has of the commit, beside its own Makefile.
 HELD = (
-    *("LICENSE", "VERSION", "README.md", "CHANGELOG.md", "CONTRIBUTING.md", "docs", "man", "clib", "completion", SUMS),
+    *("LICENSE", "VERSION", "README.md", "CHANGELOG.md", "CONTRIBUTING.md", "SECURITY.md", "docs", "man", "clib", "completion", SUMS),
     *("tools/install.mk", "tools/installed.sh", "tools/package.py"),
     *("tests/run.py", "tests/cli", "tests/clib", "tests/faults", "tests/growth", "tests/package"),
 )
