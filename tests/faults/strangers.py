@@ -3,12 +3,12 @@
 
     tests/faults/strangers.py PROGRAM LIBRARY
 
-The library is refuse.c, built to be loaded ahead of the C library. Two processes of his open the temporary name again and
-again and lock what they get: none of some hundred first creates fails, nor one over his own file. Creates are killed
-once one of their calls is made. The file that is built he cannot open until it has its permissions, and the next
-create succeeds. From then on he may lock what is left, as far as these permissions let him read, and also an empty
-file that shows permissions: each create fails and says so while he does, and succeeds once he is gone. His lock of the database itself stops a create in place and
-no other. All this takes root; without it every row is left out, and that is said.
+The library is refuse.c, built to be loaded ahead of the C library. Two processes of his open the temporary name
+again and again and lock what they get: none of some hundred first creates fails, nor one over his own file. Creates
+are killed once one of their calls is made. The file that is built he cannot open until it has its permissions, and
+the next create succeeds. What is left from then on, and an empty file that shows permissions, he may lock if these
+let him read it: each create fails and says so while he does, and succeeds once he is gone. His lock of the database
+itself stops a create in place and no other. All this takes root; without it every row is left out, and that is said.
 """
 
 import contextlib
@@ -18,7 +18,6 @@ import signal
 import subprocess
 import sys
 import tempfile
-import time
 
 import commands  # noqa: F401, which makes the files of tests/cli known
 from files import ONE_FILE, TWO_FILE, TWO_TEXT
@@ -31,8 +30,9 @@ CREATES = 300
 KEPT_OPEN = 500
 MASK = 0o022
 OPEN = b"cdb: file cannot be opened\n"
-HELD = b"another create is at work on it"
-WHY = OPEN + b"cdb: %s: " + HELD + b"\n"
+# Of a temporary file that others may read, and of a database that is made in place.
+HELD = OPEN + b"cdb: x.tmp: locked by another process\n"
+AT_WORK = OPEN + b"cdb: x: another create is at work on it\n"
 MADE = (0, b"")
 CREATE = ["-cv", "x", "in"]
 # Once which call a create is killed, of those on the temporary name and on open files, how many of these there were
@@ -179,7 +179,7 @@ def after_kill(program, library, row):
             if is_held != may_open:
                 return f"a stranger {'opens' if is_held else 'cannot open'} a file of mode {os.stat(path).st_mode:o}"
             answers = [created(program, folder, mask=mask) for _ in range(3 if is_held else 0)]
-            if answers != [(111, WHY % b"x.tmp")] * len(answers):
+            if answers != [(111, HELD)] * len(answers):
                 return f"beside the stranger {answers}"
         answer, left = created(program, folder, mask=mask), left_in(folder)
     return None if (answer, left) == (MADE, {"x": TWO_FILE}) else f"the next create {answer}, {sorted(left)}"
@@ -191,7 +191,7 @@ def beside_lock(program, _, words):
     with folder_of(0o755, {"x": ONE_FILE, "in": TWO_TEXT}) as folder:
         with locked(os.path.join(folder, "x")) as is_held:
             answer, left = created(program, folder, words), left_in(folder)
-        wanted = ((111, WHY % b"x"), {"x": ONE_FILE}) if in_place else (MADE, {"x": TWO_FILE})
+        wanted = ((111, AT_WORK), {"x": ONE_FILE}) if in_place else (MADE, {"x": TWO_FILE})
         if not is_held or (answer, left) != wanted:
             return f"{answer}, {sorted(left)}"
         answer, left = created(program, folder, words), left_in(folder)
