@@ -99,6 +99,7 @@ def parts_of(program, is_gate):
         Part("tests/cli/orders.py", (program, orders), (c,), (orders,)),
         Part("tests/cli/permissions.py", (program,)),
         Part("tests/cli/standard.py", (program,)),
+        Part("tests/cli/stack.py", (program,), (static,)),
         Part("tests/cli/amends.py", (program,)),
         Part("tests/cli/differences.py", (program,)),
         Part("tests/cli/lookups.py", (program,)),

@@ -37,7 +37,8 @@ NOBODY = 0xFFFFFFFF
 MAKER, STRANGER = 1001, 1002
 # Who makes a database that several users make in turn, and the bits that it gets afterwards, if others; and what it has
 # after each create.
-TURNS = [(MAKER, 0o640), (MAKER, None), (STRANGER, 0o600), (STRANGER, None), (MAKER, None), (0, 0o640), (0, None), (STRANGER, None)]
+TURNS = [(MAKER, 0o640), (MAKER, None), (STRANGER, 0o600), (STRANGER, None)]
+TURNS += [(MAKER, None), (0, 0o640), (0, None), (STRANGER, None)]
 TURNED = [0o644, 0o640, 0o644, 0o600, 0o644, 0o644, 0o640, 0o644]
 OPEN = b"cdb: file cannot be opened\n"
 LISTS = {

@@ -3,13 +3,13 @@
 
     tests/faults/pairs.py PROGRAM LIBRARY
 
-The library is refuse.c, built to be loaded ahead of the C library. Each call of each create of CREATES is refused alone,
-by each error of ERRORS, and with it more that comes after it: each removal or each close is refused, or each look
-from some one on, or one call of any kind, or this and all later ones; or the program is killed there. The create
+The library is refuse.c, built to be loaded ahead of the C library. Each call of each create of CREATES is refused
+alone, by each error of ERRORS, and with it more that comes after it: each removal or each close is refused, or each
+look from some one on, or one call of any kind, or this and all later ones; or the program is killed there. The create
 ends by the status 0 or 111. With 0 the database is the new one, else the old or the new one, whole and with
-permissions that it may have; only one that is made in place may be any. The inputs are as they were, and no
-other name is there but the temporary one, whose file is for this user alone until it has the permissions of the
-database. A create that follows succeeds, and leaves no other file.
+permissions that it may have; only one that is made in place may be any. The inputs are as they were, and no other
+name is there but the temporary one, whose file is for this user alone until it has the permissions of the database. A
+create that follows succeeds, and leaves no other file.
 """
 
 import errno
@@ -38,6 +38,7 @@ SHORT = [(b"o%d" % n, b"w" * 50) for n in range(50)]
 CHANGE = [(b"new", b"1")]
 INPUTS = {"in": text_of(LONG), "change": text_of(CHANGE)}
 OLD = {**INPUTS, "x": file_of(SHORT)}
+BASE = {**OLD, "base": file_of(LONG)}
 
 
 @dataclass
@@ -54,7 +55,7 @@ CREATES = {
     "a first one": Create(["-c", "x", "in"], INPUTS),
     "one over a database": Create(["-c", "x", "in"], OLD),
     "one beside an old temporary file": Create(["-c", "x", "in"], {**OLD, "x.tmp": b"old"}),
-    "one with a base": Create(["-c", "-b", "base", "x", "change"], {**OLD, "base": file_of(LONG)}, file_of(LONG + CHANGE)),
+    "one with a base": Create(["-c", "-b", "base", "x", "change"], BASE, file_of(LONG + CHANGE)),
     "one that amends the database": Create(["-cr", "-b", "x", "x", "change"], OLD, file_of(SHORT + CHANGE)),
     "one by another temporary name": Create(["-cr", "-t", "y", "x", "in"], OLD, temporary="y"),
     "one that replaces each record": Create(["-cr", "x", "in", "in"], OLD),
