@@ -29,8 +29,10 @@ CALLS = "look,open,lock,allow,remove,rename,sync,read,write,pread,pwrite,cut"
 LAST = 2**63 - 1
 # So many second faults are drawn for each first one.
 DRAWN = 3
-# The latest call after the refused one that a second fault is drawn of, and the latest look.
-LATEST, LATEST_LOOK = 30, 12
+# Which call after the refused one a second fault is drawn of, most often one of the next, by which a create ends; and
+# the latest look.
+NUMBERS = [*range(1, 9)] * 4 + [*range(9, 31)]
+LATEST_LOOK = 12
 # In how many parts the pairs of a create are tried.
 PARTS = 6
 LONG = [(b"k%d" % n, b"v" * 300) for n in range(600)]
@@ -91,7 +93,7 @@ def seconds():
     found = [Second("remove", 1, LAST), Second("close", 1, LAST)]
     found += [Second("remove", number, number, True) for number in (1, 2)]
     found += [Second("look", number, LAST) for number in range(1, LATEST_LOOK + 1)]
-    for number in range(1, LATEST + 1):
+    for number in NUMBERS:
         found += [Second(CALLS, number, number), Second(CALLS, number, LAST), Second(CALLS, number, number, True)]
     return found
 
