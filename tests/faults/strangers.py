@@ -8,7 +8,8 @@ again and again and lock what they get: none of some hundred first creates fails
 are killed once one of their calls is made. The file that is built he cannot open until it has its permissions, and
 the next create succeeds. What is left from then on, and an empty file that shows permissions, he may lock if these
 let him read it: each create fails and says so while he does, and succeeds once he is gone. His lock of the database
-itself stops a create in place and no other. All this takes root; without it every row is left out, and that is said.
+itself stops a create in place and no other. This takes root: without it that lock is another process's of the same
+user, and all other rows are left out, which is said.
 """
 
 import contextlib
@@ -50,7 +51,9 @@ KILLS = {
 
 
 def become_stranger():
-    """Takes root's rights from this process."""
+    """Takes root's rights from this process, if it has them."""
+    if os.getuid() != 0:
+        return
     os.setgroups([])
     os.setgid(STRANGER)
     os.setuid(STRANGER)
@@ -87,7 +90,7 @@ def spin(path, told):
 
 @contextlib.contextmanager
 def strangers(what, *given):
-    """Processes of the stranger which do something for ever; and what they told is counted in the end."""
+    """Has processes of the stranger do something for ever. What they told is counted in the end."""
     ends = os.pipe2(os.O_NONBLOCK)
     running = []
     for _ in range(ATTACKERS):
@@ -113,7 +116,7 @@ def strangers(what, *given):
 
 @contextlib.contextmanager
 def locked(path):
-    """A process of the stranger that holds the lock of a file, and whether it could open it."""
+    """Has a process of the stranger hold the lock of a file, and gives whether it could open that."""
     ends = os.pipe()
     process = os.fork()
     if process == 0:
@@ -211,12 +214,11 @@ def main():
     if len(sys.argv) != 3:
         sys.exit(__doc__)
     program, library = map(os.path.abspath, sys.argv[1:])
-    rows = list(checks())
+    rows, wrong = list(checks()), 0
     if os.getuid() != 0:
-        for name, _, _ in rows:
+        for name, _, _ in (it for it in rows if it[1] != beside_lock):
             print(f"left out: {name}, which needs root")
-        rows = []
-    wrong = 0
+        rows = [it for it in rows if it[1] == beside_lock]
     for name, check, given in rows:
         fault = check(program, library, given)
         wrong += fault is not None
