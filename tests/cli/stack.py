@@ -1,9 +1,9 @@
 #!/usr/bin/env python3
 """Runs each command with a small stack, and creates with little memory in all.
 
-    tests/cli/stack.py PROGRAM
+    tests/cli/stack.py PROGRAM [--least]
 
-With a stack of STACK KiB each command of COMMANDS ends as with a usual one, and writes and leaves the same. Creates
+With --least it prints how much stack each command needs, and tries nothing. With a stack of STACK KiB each command of COMMANDS ends as with a usual one, and writes and leaves the same. Creates
 that remove most records of a large base run under forty limits of the memory that they may have, from where a program
 hardly starts to where all is done: each ends by the status 0, or by 111 and `no memory`, never by a signal. After a
 fault the old database is whole and no temporary file is there. What the system puts at the top of a stack at random
@@ -23,6 +23,8 @@ from files import TWO_FILE, file_of, text_of
 
 KIB = 1024
 STACK = 128
+# A page of memory, in KiB.
+PAGE = 4
 LIMITS = [KIB * (2200 + 2992 * number // 39) for number in range(40)]
 NO_MEMORY = b"cdb: no memory\n"
 # What personality(2) calls the flag by which addresses are not random.
@@ -66,7 +68,7 @@ COMMANDS = {
     "an amending": ("-c -b base x changes", None),
     "an amending that replaces": ("-c -r -b base x text", None),
     "an amending of the database": ("-c -r -b x x text", None),
-    "an amending in place, which explains": ("-c -r -w -v -t - -b base x text", None),
+    "an amending that replaces and explains": ("-c -r -w -v -b base x text", None),
     "an amending on output": ("-c -r -b base -", "text"),
     "a query": ("-q base k77", None),
     "a query of a line": ("-q -m -n 1 base k77", None),
@@ -125,11 +127,15 @@ def run(program, words, given=None, limits=()):
         return done.returncode, done.stdout, done.stderr, found_in(folder)
 
 
+def with_stack(program, row, size):
+    """What a command leaves with so many KiB of stack, or with the usual one."""
+    words, given = row
+    return run(program, words.split(), given, [(resource.RLIMIT_STACK, size * KIB)] if size else [])
+
+
 def small(program, row):
     """What is wrong with a command with a small stack, or None."""
-    words, given = row
-    usual = run(program, words.split(), given)
-    left = run(program, words.split(), given, [(resource.RLIMIT_STACK, STACK * KIB)])
+    usual, left = with_stack(program, row, None), with_stack(program, row, STACK)
     return None if left == usual else f"status {left[0]} and not {usual[0]}, {left[2]!r:.100}, {sorted(left[3])}"
 
 
@@ -141,6 +147,16 @@ def limited(program, size):
     return None if is_right else f"status {status}, {lines!r:.100}, {sorted(left)}"
 
 
+def least(program, row):
+    """With how many KiB of stack a command ends as with a usual one: so many pages as it needs."""
+    usual = with_stack(program, row, None)
+    few, enough = 0, 2 * STACK // PAGE
+    while enough - few > 1:
+        pages = (few + enough) // 2
+        few, enough = (few, pages) if with_stack(program, row, PAGE * pages) == usual else (pages, enough)
+    return PAGE * enough
+
+
 def checks():
     """Each check: its name, its function, and what that is given."""
     yield from ((f"{name}, with {STACK} KiB of stack", small, row) for name, row in COMMANDS.items())
@@ -148,9 +164,13 @@ def checks():
 
 
 def main():
-    if len(sys.argv) != 2:
+    if len(sys.argv) != 2 and sys.argv[2:] != ["--least"]:
         sys.exit(__doc__)
     program = os.path.abspath(sys.argv[1])
+    if sys.argv[2:]:
+        for name, row in COMMANDS.items():
+            print(f"{least(program, row):4} KiB: {name}", flush=True)
+        return
     passed = failed = 0
     for name, check, given in checks():
         fault = check(program, given)
