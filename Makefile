@@ -2,7 +2,8 @@
 # make try        runs the program unproved, in 3 minutes: makes a small database, bin/try.cdb, and queries it
 # make quick      runs the tests that need no proof, on what is compiled without one, in 5 to 8 minutes
 # make demo       builds it, and shows it at work on a small alias map
-# make test       the gate: builds, proves everything from nothing, tries wrong bodies and runs every test
+# make test       the gate: builds, proves the program and its libraries from nothing, tries wrong bodies and runs every test
+# make test TESTS=proved  proves the crates of tests too, as before a release
 # make wrong      tries every wrong body over what was built, where the gate tries those of a list
 # make tests BIN=bin/cdb  runs all tests that need no proof on a program that is built
 # make clib       builds the C library, bin/libcdb.so.1 and bin/libcdb.a (needs a C compiler)
@@ -63,7 +64,7 @@ proofs: $(OUT)/cdb $(OUT)/libcdb_c.a
 	@RT='$(RT)' $(PYTHON) tools/build.py crates/cdb_uses
 
 test:
-	@RT='$(RT)' CC='$(CC)' $(PYTHON) tools/gate.py
+	@RT='$(RT)' CC='$(CC)' TESTS='$(TESTS)' $(PYTHON) tools/gate.py
 
 wrong: proofs
 	@RT='$(RT)' $(PYTHON) tools/wrong.py --all

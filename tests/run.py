@@ -3,11 +3,11 @@
 
     tests/run.py PROGRAM [--gate]
 
-With --gate it also runs those that need what the proof of the whole repository leaves, its programs
-of tests, and each part must pass as many as tools/floors.txt says. A part that this machine cannot run is left out
-and named at the end; in CI, which the variable CI of the environment says, that is a failure. What the parts need is
-built beside the program if that is below bin, else in bin. A release has no sources: there the parts that read them are
-no parts. The last line counts all that passed and failed.
+With --gate it also runs those that need the programs of the crates' tests, which the gate makes, and each part must pass
+as many as tools/floors.txt says. A part that this machine cannot run is left out and named at the end; in CI, which the
+variable CI of the environment says, that is a failure. What the parts need is built beside the program if that is below
+bin, else in bin. A release has no sources: there the parts that read them are no parts. The last line counts all that
+passed and failed.
 """
 
 import os

@@ -3,22 +3,24 @@
 
     tools/gate.py
 
-At the top of the repository. The checker's own gate, `rt ci`, proves each crate from nothing and runs its tests, on a
-copy of the files that git tracks, as they are now, without the wrong bodies. What it leaves is tested: the program is
+At the top of the repository. First tools/unproved.py runs the tests of the crates NAME_tests, compiled with checks and
+without a proof. The checker's own gate, `rt ci`, then proves each other crate from nothing, on a copy of the files that git
+tracks, as they are now, without the wrong bodies. If the environment's TESTS is `proved`, it proves the crates of tests too,
+and runs their tests once more. What it leaves is tested: the program is
 linked of its object, and the C library made over its libraries, in bin/tested. If an earlier run on this machine proved
 the program, there is no object, and its crate alone is proved again over these libraries. Then tools/wrong.py tries the wrong bodies that are not known as
 refused, over proofs that are made and kept for them alone, and at last tests/run.py runs.
 
 A line a minute says what is done and about how long the rest takes, on a terminal one line that is rewritten. In the
 end a table has the time of each part, and below it is each crate and wrong body that failed. Nothing passes because
-it was left out: each crate must be proved, each listed wrong body be tried, and each part of the tests pass as many as
-tools/floors.txt says. The last line counts the tests that passed and failed, and each other part that failed as one
-more. What the parts say goes to files in bin.
+it was left out: each crate must be proved or its tests run, each listed wrong body be tried, and each part of the tests and
+each crate's tests pass as many as tools/floors.txt says. The last line counts the tests that passed and failed, and each other
+part that failed as one more. What the parts say goes to files in bin.
 """
 
 import contextlib
 import ctypes
-import filecmp
+import hashlib
 import os
 import re
 import shutil
@@ -31,7 +33,8 @@ import time
 from build import BYTES_A_SECOND, GATE_DISK, QUIET_SECONDS, checker, interrupt, missing, processors, show_end, work_of
 from edits import FOLDER, edits_of
 from link import links_statically
-from trees import KEPT, Trees, alone_now, crates_below, lines_of, read
+from trees import KEPT, Trees, alone_now, crates_below, files_of, lines_of, read
+from unproved import TESTS, crates_of_tests, floors, program_of
 from wrong import Refusals, chosen
 
 TOOLS = os.path.dirname(os.path.abspath(__file__))
@@ -39,13 +42,13 @@ TOOLS = os.path.dirname(os.path.abspath(__file__))
 BUILT, TESTED = "bin", os.path.join("bin", "tested")
 ARCHIVE, LOADED = "libcdb_c.a", "loaded"
 COPY = os.path.join("bin", "gate")
-FLOORS = "tools/floors.txt"
-BODIES = "wrong bodies"
-# What is no source, if git does not say what is.
-NOT_SOURCES = ("bin", "dist", KEPT, ".git", "__pycache__")
+BODIES, OF_CRATES = "wrong bodies", "crates' tests"
 COUNTED = re.compile(r"^(\d+) passed, (\d+) failed")
-# What the parts say of a crate, a wrong body and a part of the tests that is done.
+# What the parts say of a crate, a crate's tests, a wrong body and a part of the tests that is done.
 PROVED = re.compile(r"rt: (\w+) (?:proved$|is kept:)")
+RAN = re.compile(r"(\w+): \d+ passed, \d+ failed, \d+ s$")
+# What they say of a test that failed, or of a crate of tests with which something is wrong.
+FAILED = re.compile(rf"test \S+ \.\.\. FAILED$|\w+{TESTS}: (?!\d+ passed, 0 failed)")
 TRIED = re.compile(r"(\w+/[^\s:]+)")
 DONE = re.compile(r"tests/\S+.*: \d+ s, (\d+) of (\d+) parts$")
 LIBC = ctypes.CDLL(None)
@@ -58,57 +61,56 @@ STOP_SECONDS = 10
 LOOK_SECONDS = 0.2
 
 
-def files_of(top):
-    """The files of the repository: those that git tracks, or all if this is no clone."""
-    listed = subprocess.run(["git", "ls-files", "-z"], cwd=top, capture_output=True, text=True, check=False)
-    found = listed.stdout.split("\0") if listed.returncode == 0 else []
-    if not any(found):
-        for place, folders, names in os.walk(top):
-            folders[:] = [it for it in folders if it not in NOT_SOURCES]
-            found += [os.path.relpath(os.path.join(place, it), top) for it in names]
-    return [it for it in found if os.path.isfile(os.path.join(top, it))]
+def sources_of(top):
+    """The repository's files without the wrong bodies, each with a sum of its bytes."""
+    return {it: sum_of(os.path.join(top, it)) for it in files_of(top) if FOLDER not in it.split(os.sep)}
 
 
-def copy_sources(top, copy):
-    """Copies the repository's files without the wrong bodies, and answers which."""
-    files = [it for it in files_of(top) if FOLDER not in it.split(os.sep)]
+def sum_of(path):
+    """A sum of a file's bytes, None if there is no such file."""
+    try:
+        with open(path, "rb") as file:
+            return hashlib.sha256(file.read()).digest()
+    except OSError:
+        return None
+
+
+def copy_sources(top, copy, files, left_out=()):
+    """Copies these files of the repository, but nothing of the crates that are left out."""
     shutil.rmtree(copy, ignore_errors=True)
     for it in files:
+        if it.split(os.sep)[:1] == ["crates"] and it.split(os.sep)[1] in left_out:
+            continue
         os.makedirs(os.path.dirname(os.path.join(copy, it)), exist_ok=True)
         shutil.copy2(os.path.join(top, it), os.path.join(copy, it))
+    # Of the list the other lines stay as they are.
+    lines = [line for line in read(top, "crates.txt").splitlines(keepends=True) if crate_of(line) not in left_out]
+    with open(os.path.join(copy, "crates.txt"), "w", encoding="utf-8") as file:
+        file.writelines(lines)
     # The checker looks for the top of a repository.
     os.makedirs(os.path.join(copy, ".git"))
     with contextlib.suppress(OSError):
         subprocess.run(["git", "init", "-q"], cwd=copy, capture_output=True, check=False)
-    return files
 
 
-def is_same(one, other):
-    """Whether two files have the same bytes."""
-    try:
-        return filecmp.cmp(one, other, shallow=False)
-    except OSError:
-        return False
+def crate_of(line):
+    """The crate that a line of crates.txt lists, or None."""
+    head = line.split("#")[0].split(":")[0].split()
+    return head[0] if head else None
 
 
 def take_tests(top, copy):
     """Takes the programs of tests that the checker made in the copy: the tests of refused memory run them."""
     for crate in os.listdir(os.path.join(copy, "crates")):
-        name = os.path.join("crates", crate, KEPT, f"{crate}_tests")
-        if os.path.isfile(os.path.join(copy, name)):
-            os.makedirs(os.path.dirname(os.path.join(top, name)), exist_ok=True)
-            shutil.move(os.path.join(copy, name), os.path.join(top, name))
+        made, target = program_of(copy, crate), program_of(top, crate)
+        if os.path.isfile(made):
+            os.makedirs(os.path.dirname(target), exist_ok=True)
+            shutil.move(made, target)
 
 
 def begin():
     """What a part does first: it asks to be ended if this process ends in whatever way."""
     LIBC.prctl(SIGNAL_AT_END, signal.SIGTERM)
-
-
-def floors(top):
-    """How many of each part must pass at least."""
-    lines = [line.rsplit(None, 1) for line in read(top, FLOORS).splitlines() if line and not line.startswith("#")]
-    return {name: int(least) for name, least in lines}
 
 
 class Part:
@@ -168,8 +170,10 @@ class Gate:
 
     def __init__(self, top):
         self.top, self.began, self.said = top, time.monotonic(), time.monotonic()
-        self.parts, self.failed, self.wrong = [], 0, []
-        self.crates = list(lines_of(top))
+        self.parts, self.passed, self.failed, self.wrong = [], 0, 0, []
+        self.of_tests = crates_of_tests(top)
+        # The crates that are proved.
+        self.crates = [it for it in lines_of(top) if is_proved(it)]
         self.trees = Trees(top, os.path.join(top, "bin", "trees"))
         self.edits = chosen(self.trees, [], False)[0]
         self.bodies = {str(it) for found in self.edits.values() for it in found}
@@ -188,6 +192,8 @@ class Gate:
             work = sum(work_of(self.trees.folder(it)) for it in left) / BYTES_A_SECOND
             minutes = work / processors() / USED / 60
             return f"rt ci: {len(part.done)} of {len(self.crates)} crates proved, about {minutes:.0f} minutes left of it"
+        if part.name == OF_CRATES:
+            return f"{OF_CRATES}: those of {len(part.done)} of {len(self.of_tests)} crates have run"
         if part.name == BODIES:
             return f"{BODIES}: {len(part.done)} of {len(self.bodies)} tried"
         return f"tests: {part.step[1]} of {part.step[2]} parts" if part.step else part.name
@@ -229,6 +235,13 @@ class Gate:
             return True
         return False
 
+    def has_failed(self, line):
+        """Whether a line says that a test failed, or what else is wrong with a crate of tests."""
+        if FAILED.match(line):
+            self.wrong.append(line)
+            return True
+        return False
+
     def count(self, part, least):
         """Takes how many of a part passed and failed, which must be so many."""
         passed, failed = part.counted()
@@ -239,21 +252,37 @@ class Gate:
         self.failed += failed
         if failed:
             show_end(part.log, f"{part.name} failed.")
+        return passed
 
-    def prove(self, copy):
-        """Proves all from nothing."""
-        files = copy_sources(self.top, copy)
+    def lack(self, lacking):
+        """Takes lines of what was left out, which count as one failure."""
+        for it in lacking:
+            self.wrong.append(it)
+            self.show(it)
+        self.failed += len(lacking) > 0
+
+    def run_tests(self):
+        """Runs the tests of the crates of tests, which are not proved for that."""
+        words = [sys.executable, os.path.join(TOOLS, "unproved.py")]
+        tests = self.begin(OF_CRATES, words, log="bin/unproved.log", steps=RAN)
+        self.wait(tests, shows=self.has_failed)
+        self.passed += self.count(tests, sum(it for name, it in self.floors.items() if is_of_tests(name)))
+        lacking = [f"the tests of {it} did not run" for it in self.of_tests if it not in tests.done and tests.counted()[1] == 0]
+        lacking += [f"{it} has no floor" for it in self.of_tests if it not in self.floors]
+        lacking += [f"{it} has a floor and is not in crates.txt" for it in self.floors if is_of_tests(it) and it not in self.of_tests]
+        self.lack(lacking)
+
+    def prove(self, copy, files):
+        """Proves all from nothing, of these files with their sums."""
+        copy_sources(self.top, copy, files, [it for it in self.of_tests if it not in self.crates])
         ci = self.begin("rt ci", [checker(), "ci"], folder=copy, log="bin/gate.log", steps=PROVED)
         self.wait(ci, shows=self.is_wrong)
         self.count(ci, len(self.crates))
         # A crate that failed is named by its own line.
         lacking = [f"{it} was not proved" for it in self.crates if it not in ci.done and ci.counted()[1] == 0]
         lacking += [f"{it} was proved, and crates.txt does not list it" for it in sorted(ci.done - set(self.crates))]
-        lacking += [f"{it} was changed while the gate ran" for it in files if not is_same(os.path.join(self.top, it), os.path.join(copy, it))]
-        for it in lacking:
-            self.wrong.append(it)
-            self.show(it)
-        self.failed += len(lacking) > 0
+        lacking += [f"{it} was changed while the gate ran" for it, was in files.items() if sum_of(os.path.join(self.top, it)) != was]
+        self.lack(lacking)
 
     def over(self, copy, crate, target):
         """Builds a crate over the libraries that `rt ci` left, and answers whether that succeeded."""
@@ -299,7 +328,7 @@ class Gate:
         self.count(bodies, max(len(self.bodies), self.floors[BODIES]))
 
     def test(self, place):
-        """Runs the tests on what is built in a folder, and answers how many passed and failed."""
+        """Runs the tests on what is built in a folder, and counts how many passed and failed."""
         words = [sys.executable, os.path.join("tests", "run.py"), os.path.join(place, "cdb"), "--gate"]
         part = self.begin("tests", words, log="bin/tests.log", steps=DONE)
         # The counts are the last line of all.
@@ -307,11 +336,11 @@ class Gate:
         if not COUNTED.match(part.last):
             self.show(part.last)
         passed, failed = part.counted()
-        least = sum(it for name, it in self.floors.items() if name != BODIES)
+        least = sum(it for name, it in self.floors.items() if name != BODIES and not is_of_tests(name))
         if failed == 0 and passed < least:
             self.wrong.append(f"tests: {passed} passed, and not {least}")
             failed = 1
-        return passed, failed
+        self.passed, self.failed = self.passed + passed, self.failed + failed
 
     def table(self):
         """The time of each part."""
@@ -329,18 +358,30 @@ class Gate:
             it.reader.join(STOP_SECONDS)
 
     def run(self, copy):
-        """Runs the gate, and answers how many passed and failed."""
+        """Runs the gate, and counts how many passed and failed."""
+        files = sources_of(self.top)
+        self.run_tests()
         try:
-            self.prove(copy)
+            self.prove(copy, files)
             place = self.take(copy)
         finally:
             # The checker takes a list of crates below the top for a mistake.
             shutil.rmtree(copy, ignore_errors=True)
         if place is None and not self.build():
-            return 0, 1 + self.failed
+            self.failed += 1
+            return
         self.refuse()
-        passed, failed = self.test(place or BUILT)
-        return passed, failed + self.failed
+        self.test(place or BUILT)
+
+
+def is_of_tests(name):
+    """Whether a name is that of a crate of tests."""
+    return name.endswith(TESTS)
+
+
+def is_proved(crate):
+    """Whether the gate proves a crate: one of tests if that is asked for."""
+    return os.environ.get("TESTS") == "proved" or not is_of_tests(crate)
 
 
 def is_wrong(line):
@@ -356,7 +397,7 @@ def refused(top):
 
 
 def main():
-    if len(sys.argv) != 1:
+    if len(sys.argv) != 1 or os.environ.get("TESTS", "") not in ("", "proved"):
         sys.exit(__doc__)
     top = os.getcwd()
     os.makedirs("bin", exist_ok=True)
@@ -369,7 +410,7 @@ def main():
                 signal.signal(it, interrupt)
             gate = Gate(top)
             try:
-                passed, failed = gate.run(os.path.join(top, COPY))
+                gate.run(os.path.join(top, COPY))
             except KeyboardInterrupt:
                 gate.stop()
                 sys.exit("\nThe gate was stopped. What is proved so far is kept.")
@@ -377,8 +418,8 @@ def main():
         sys.exit("The gate runs in this folder already.")
     for line in [*gate.table(), *(f"failed: {it}" for it in gate.wrong)]:
         gate.show(line)
-    print(f"{passed} passed, {failed} failed")
-    sys.exit(1 if failed else 0)
+    print(f"{gate.passed} passed, {gate.failed} failed")
+    sys.exit(1 if gate.failed else 0)
 
 
 if __name__ == "__main__":

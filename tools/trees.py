@@ -10,6 +10,7 @@ import contextlib
 import fcntl
 import os
 import shutil
+import subprocess
 
 KEPT = "out"
 SOURCES = ("src", "specs", "proofs")
@@ -17,12 +18,25 @@ SOURCES = ("src", "specs", "proofs")
 PROVED = os.path.join(KEPT, "incremental")
 # What the check of a crate reads of those below it.
 READ_BELOW = (*SOURCES, os.path.join(KEPT, "rlib"))
+# What is no source, if git does not say what is.
+NOT_SOURCES = ("bin", "dist", KEPT, ".git", "__pycache__")
 
 
 def read(*path):
     """The text of a file."""
     with open(os.path.join(*path), encoding="utf-8") as file:
         return file.read()
+
+
+def files_of(top):
+    """The files of the repository: those that git tracks, or all if this is no clone."""
+    listed = subprocess.run(["git", "ls-files", "-z"], cwd=top, capture_output=True, text=True, check=False)
+    found = listed.stdout.split("\0") if listed.returncode == 0 else []
+    if not any(found):
+        for place, folders, names in os.walk(top):
+            folders[:] = [it for it in folders if it not in NOT_SOURCES]
+            found += [os.path.relpath(os.path.join(place, it), top) for it in names]
+    return [it for it in found if os.path.isfile(os.path.join(top, it))]
 
 
 def lines_of(top):

@@ -5,7 +5,7 @@ it was told in the file that the environment's JOURNAL names, and keeps what the
 The environment's MEET names crates that wait for each other in the midst of their checks, FAIL a crate that
 is not proved, and HANG crates that are not done before they are ended. `check` goes by the first word of a
 function's body: see WAYS. `ci` is the crate of that name, adds a line to the file that CHANGE names, proves none of
-the crates that LEFT_OUT names, and those of TWICE once more.
+the crates that LEFT_OUT names, and those of TWICE once more. The tests of a crate with the word `heedless` are not proved.
 """
 
 import fcntl
@@ -152,6 +152,15 @@ def try_tests():
     return 0
 
 
+def is_heedless(crate):
+    """Whether a crate has a test that does not keep a `requires`."""
+    path = os.path.join("crates", crate, "src", "lib.rt")
+    if not os.path.isfile(path):
+        return False
+    with open(path, encoding="utf-8") as file:
+        return "heedless" in file.read()
+
+
 def gate():
     """What the checker's own gate does at the top of a repository."""
     note("begins", "ci", *sorted(os.listdir(".")))
@@ -168,7 +177,10 @@ def gate():
         with open(os.path.join("crates", crate, "out", f"{crate}_tests"), "w", encoding="utf-8") as file:
             file.write("tests")
         print(f"rt: {crate} {'NOT PROVED' if crate in named('FAIL_CI') else 'proved'}", flush=True)
-    failed = len(named("FAIL_CI"))
+    heedless = [it for it in crates if is_heedless(it)]
+    for crate in heedless:
+        print(f"rt: {crate}: its tests are NOT PROVED", flush=True)
+    failed = len(named("FAIL_CI") + heedless)
     note("ends", "ci")
     print(f"{len(crates) - failed} passed, {failed} failed")
     return 1 if failed else 0

@@ -3,7 +3,8 @@
 
     tests/faults/calls.py LIBRARY
 
-The library is refuse.c, built to be loaded ahead of the C library. Each test of TESTS makes a call,
+The library is refuse.c, built to be loaded ahead of the C library. The programs of tests are those that
+tools/unproved.py leaves, or `rt ci` if it proved them. Each test of TESTS makes a call,
 asserts its answer, and prints what came: `Whole`, `NoMemory` where the call answered that and then,
 on fresh inputs or made again, gave all, or `NoInputs` where there was no memory to make the call.
 It is run once with nothing refused, which counts its asks, and then once for each of them. A
@@ -138,7 +139,7 @@ def main():
     for crate, tests in TESTS.items():
         built = os.path.abspath(os.path.join(CRATES, crate, "out", f"{crate}_tests"))
         if not os.path.isfile(built):
-            print(f"{crate}: its tests were not proved: there is no {os.path.relpath(built)}")
+            print(f"{crate}: the gate made no program of its tests: there is no {os.path.relpath(built)}")
             failed += 1
             continue
         program = Refusing(built, library)
