@@ -87,11 +87,7 @@ impl<'a, R: Files<File = File> + AllocGlobal> RealSystem<'a, R> {
     }
 
     /// Notes that the file of a name was opened to be read at places, or was not.
-    fn given(
-        &mut self,
-        opened: Result<FileStore, Why>,
-        name: &str,
-    ) -> Result<FileStore, Fault>
+    fn given(&mut self, opened: Result<FileStore, Why>, name: &str) -> Result<FileStore, Fault>
         ensures calls { OnOk result
             (self.new.trace.events ≡ (AtPlaces, name.now) ∷ self.old.trace.events) }
         ensures fails { IfErr result
