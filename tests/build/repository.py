@@ -77,7 +77,7 @@ class Repository:
     def build(self, *words, **named):
         """Builds, and gives the status and what was said."""
         with self.running(*words, **named) as process:
-            output, errors = process.communicate(timeout=60)
+            output, errors = process.communicate(timeout=300)
         return process.returncode, output, errors
 
     def lines_of(self, what):
