@@ -9,7 +9,7 @@ ones, by each error of ERRORS. The status and the line must be those of that cal
 new database is whole, has its permissions, and nothing else has changed. If permissions are refused that
 no old database had, it is for this user alone. A look before a removal is made once more. Else the database,
 the inputs and the base are as they were, and so are their permissions; a database that is made in place is as
-it was unless its sync or the look after that was refused. A temporary file may be left, for this user alone until it is whole; or an
+it was unless its sync or the look after that was refused, or one at the base while it is read. A temporary file may be left, for this user alone until it is whole; or an
 empty one with the permissions of a new database, if no old one has any.
 """
 
@@ -26,6 +26,8 @@ from refusing import Refusing, try_each
 
 ERRORS = (errno.EIO, errno.EACCES, errno.ENOMEM, errno.ELOOP)
 CALLS = "look,open,lock,allow,remove,rename,sync"
+# What a look is that follows a read of the same file: whether a base is still as it was opened.
+READ = "look after a read"
 NO_FILE = b"cdb: file cannot be opened\n"
 NO_NAME = b"cdb: database cannot be renamed\n"
 NO_DATABASE = b"cdb: database cannot be read or written\n"
@@ -130,7 +132,10 @@ def run(program, create, first=0, last=0):
         place(folder, create.files)
         before = found_in(folder)
         done, calls = program.trace(["-c", *create.words], b"", first, last, folder, MASK)
-        return before, done, [it for it in calls if it.what in CALLS.split(",")], found_in(folder)
+        for call, last_call in zip(calls[1:], calls):
+            if call.what == "look" and (last_call.what, last_call.name) == ("pread", call.name):
+                call.what = READ
+        return before, done, [it for it in calls if it.what in (*CALLS.split(","), READ)], found_in(folder)
 
 
 def new(create, before, made=MADE):
@@ -145,12 +150,12 @@ def made_of(create, before, made=MADE):
     return {**left, "x": new(create, before, made)}
 
 
-def may_be_left(create, before, left, has_synced, may_stay):
+def may_be_left(create, before, left, is_begun, may_stay):
     """Whether a create that is not done may have left this."""
     wanted, found = dict(before), dict(left)
     if is_in_place(create) and create.made is not None:
         old, now = wanted.pop("x", None), found.pop("x", None)
-        begun = old is None or has_synced
+        begun = old is None or is_begun
         is_new = begun and now is not None and now[1] == new(create, before)[1]
         return wanted == found and (now == old or is_new)
     if create.made is not None or create.temporary not in before:
@@ -175,7 +180,7 @@ def line_of(call, error, is_naming):
         return NO_MEMORY
     if call.what == "rename" or call.what == "look" and is_naming:
         return NO_NAME
-    return NO_DATABASE if call.what == "sync" else NO_FILE
+    return NO_DATABASE if call.what in ("sync", READ) else NO_FILE
 
 
 def is_naming(create, calls, number):
@@ -190,7 +195,7 @@ def is_naming(create, calls, number):
 def is_of_open(create, calls, number):
     """Whether a call is a look at a file that was just opened, which is a part of its open; or in place at one
     that is about to be emptied."""
-    before = [it.what for it in calls[: number - 1] if it.what != "look"]
+    before = [it.what for it in calls[: number - 1] if it.what not in ("look", READ)]
     is_late = is_in_place(create) and before[-1:] == ["lock"] and not is_naming(create, calls, number)
     return calls[number - 1].what == "look" and (before[-1:] == ["open"] or is_late)
 
@@ -238,7 +243,9 @@ def wrong_with(create, number, error, is_lasting, freely, refused):
     may_stay = is_lasting or call.what == "lock" or free.returncode and call.what in ("look", "remove")
     # One that shows permissions, and is not removed, is in the way of the one that is built.
     may_stay = may_stay or call.what == "remove" and shown(before) is not None
-    if not may_be_left(create, before, left, "sync" in (*names, call.what), may_stay):
+    # One that is made in place is begun by then.
+    is_begun = "sync" in (*names, call.what) or call.what == READ and "lock" in names
+    if not may_be_left(create, before, left, is_begun, may_stay):
         return f"left {told(left)} of {told(before)}"
     return None
 
