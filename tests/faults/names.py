@@ -22,12 +22,10 @@ from dataclasses import dataclass, field
 import commands  # noqa: F401, which makes the files of tests/cli known
 from files import ONE_FILE, TWO_FILE, TWO_TEXT
 from places import FOLDER, Link
-from refusing import Refusing, try_each
+from refusing import READ, Refusing, marked, try_each
 
 ERRORS = (errno.EIO, errno.EACCES, errno.ENOMEM, errno.ELOOP)
 CALLS = "look,open,lock,allow,remove,rename,sync"
-# What a look is that follows a read of the same file: whether a base is still as it was opened.
-READ = "look after a read"
 NO_FILE = b"cdb: file cannot be opened\n"
 NO_NAME = b"cdb: database cannot be renamed\n"
 NO_DATABASE = b"cdb: database cannot be read or written\n"
@@ -132,10 +130,7 @@ def run(program, create, first=0, last=0):
         place(folder, create.files)
         before = found_in(folder)
         done, calls = program.trace(["-c", *create.words], b"", first, last, folder, MASK)
-        for call, last_call in zip(calls[1:], calls):
-            if call.what == "look" and (last_call.what, last_call.name) == ("pread", call.name):
-                call.what = READ
-        return before, done, [it for it in calls if it.what in (*CALLS.split(","), READ)], found_in(folder)
+        return before, done, [it for it in marked(calls) if it.what in (*CALLS.split(","), READ)], found_in(folder)
 
 
 def new(create, before, made=MADE):

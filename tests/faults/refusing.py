@@ -29,6 +29,18 @@ def call_of(line):
     return Call(what, int(file), int(answer), int(detail), name)
 
 
+# What a look is that follows a read of the same file: whether a base is still as it was opened.
+READ = "look after a read"
+
+
+def marked(calls):
+    """Calls, of which those looks that are a part of a read have a name of their own."""
+    for call, before in zip(calls[1:], calls):
+        if call.what == "look" and (before.what, before.name) == ("pread", call.name):
+            call.what = READ
+    return calls
+
+
 class Refusing:
     """A program, with the library of refuse.c loaded ahead of it, by which asks for memory are
     refused, or calls of the system. More of what the library reads in its environment may be set, such

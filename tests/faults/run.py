@@ -20,7 +20,7 @@ import tempfile
 from concurrent.futures import ProcessPoolExecutor
 
 from commands import COMMANDS
-from refusing import Refusing
+from refusing import READ, Refusing, marked
 
 NO_MEMORY = b"cdb: no memory\n"
 NO_FILE = b"cdb: file cannot be opened\n"
@@ -34,6 +34,7 @@ NO_INPUTS = {b"cdb: input %d: cannot be read\n" % number for number in (1, 2, 3)
 CALL_LINES = {
     "open": {NO_FILE},
     "look": {NO_FILE, NO_NAME},
+    READ: {NO_DATABASE},
     "lock": {NO_FILE},
     "allow": {NO_FILE},
     "remove": {NO_FILE},
@@ -85,7 +86,7 @@ def run(program, command, first=0, last=0):
         for name in os.listdir(folder):
             with open(os.path.join(folder, name), "rb") as file:
                 files[name] = file.read()
-    return Left(done, files, asks, [it.what for it in calls])
+    return Left(done, files, asks, [it.what for it in marked(calls)])
 
 
 def lines_of(command, left, first, last):
