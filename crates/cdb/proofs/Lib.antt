@@ -1,4 +1,5 @@
 mod Agreeing
+mod MadeAlike
 mod HandedBack
 mod Databases
 mod Asks

@@ -8,6 +8,8 @@ use cdb_store::Store;
 use cdb_tool::Fault;
 
 /// Reads the head of a base, and hands the base back.
+// In line it leaves the room of a reader on the stack of the whole create.
+#[inline(never)]
 fn see_head<L: Width, F: Store>(base: F) -> (F, Result<(), Fault>)
     ensures sees { SeesHead L.WORD F.Store base result.0 result.1 }
     ensures output { OutputSays ⊥ result.1 }

@@ -5,6 +5,7 @@ mod base_head;
 mod building;
 mod contents;
 mod creating;
+pub mod laws;
 mod performing;
 mod placing;
 mod steps;

@@ -44,15 +44,21 @@ module _ {R : Type 0} (feed : R → Feed) where
       → All IsIgnoredLine ignored → IsLineOf r line → ReadsToEnding feed t.source u.source (with_newlines ignored ++ line) ending → GoesOn ending u → Gave feed start u (rs ++ r ∷ [])
   to_line start t u rs r ignored line [] so are is reads goes =
       let new = feed (reader_of u) in
-      inr (goes, from_weaker start new _ (λ text rest. map_lines text ≡ rs ++ r ∷ [])
-      (from_then start (feed (reader_of t)) new (λ text rest. ReadLines text rest rs) _ so (to_ending (feed (reader_of t)) new ((with_newlines ignored ++ line) ++ []) [] reads.takes.read reads.ends))
-      (λ text rest s. read_last text s.0 rest rs (r ∷ []) ignored line s.1 are is.whole is.holds s.2.0 s.2.1))
+      inr (
+        goes,
+        from_weaker start new _ (λ text rest. map_lines text ≡ rs ++ r ∷ [])
+            (from_then start (feed (reader_of t)) new (λ text rest. ReadLines text rest rs) _ so (to_ending (feed (reader_of t)) new ((with_newlines ignored ++ line) ++ []) [] reads.takes.read reads.ends))
+            (λ text rest s. read_last text s.0 rest rs (r ∷ []) ignored line s.1 are is.whole is.holds s.2.0 s.2.1),
+      )
   to_line start t u rs r ignored line (c ∷ bytes) so are is reads goes =
       let new = feed (reader_of u) in
       let read : List ℕ = with_newlines ignored ++ line in
-      inl (goes, from_weaker start new _ (λ text rest. ReadLines text rest (rs ++ r ∷ []))
-      (from_then start (feed (reader_of t)) new (λ text rest. ReadLines text rest rs) _ so (to_ending (feed (reader_of t)) new (read ++ c ∷ bytes) (c ∷ bytes) reads.takes.read reads.ends))
-      (λ text rest s. read_more text s.0 rest rs r ignored line s.1 are is (s.2.0 ∙ ap (λ e. (read ++ e) ++ rest) s.2.1)))
+      inl (
+        goes,
+        from_weaker start new _ (λ text rest. ReadLines text rest (rs ++ r ∷ []))
+            (from_then start (feed (reader_of t)) new (λ text rest. ReadLines text rest rs) _ so (to_ending (feed (reader_of t)) new (read ++ c ∷ bytes) (c ∷ bytes) reads.takes.read reads.ends))
+            (λ text rest s. read_more text s.0 rest rs r ignored line s.1 are is (s.2.0 ∙ ap (λ e. (read ++ e) ++ rest) s.2.1)),
+      )
 
   pub gave_more : (start : Feed) (t u : MapReader R) (rs : List KeyValue) (r : KeyValue) → Gave feed start t rs → GivesRecord feed t u r → Gave feed start u (rs ++ r ∷ [])
   gave_more start t u rs r h m = elim h [

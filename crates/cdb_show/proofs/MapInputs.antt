@@ -41,8 +41,11 @@ to_ending old new bytes ending c e = record {
 
 module _ {R : Type 0} (feed : R → Feed) where
   pub lines_none : (t : MapReader R) → IsGoing t → taken_of t ≡ 0 → asks_left t ≡ 2 ^ 48 → GaveLines feed (feed t.source.reader) t []
-  lines_none t going taken asks = inl (going, from_kept (feed t.source.reader) (feed t.source.reader) (SoFar t []) (nothing_taken (feed t.source.reader)) (λ text.
-      record { lines = read_none text; counted = omega (arith, taken); asked = omega (arith, taken, asks) }))
+  lines_none t going taken asks = inl (
+    going,
+    from_kept (feed t.source.reader) (feed t.source.reader) (SoFar t []) (nothing_taken (feed t.source.reader)) (λ text.
+        record { lines = read_none text; counted = omega (arith, taken); asked = omega (arith, taken, asks) }),
+  )
 
   -- ---- one record more
 
@@ -50,22 +53,28 @@ module _ {R : Type 0} (feed : R → Feed) where
       → All IsIgnoredLine ignored → IsLineOf r line → ReadsToEnding feed t.source u.source (with_newlines ignored ++ line) ending → GoesOn ending u → GaveLines feed start u (rs ++ r ∷ [])
   to_line start t u rs r ignored line [] so are is reads goes =
       let new = feed u.source.reader in
-      inr (goes, from_weaker start new _ (IsInput style.Map 0 (rs ++ r ∷ []))
-      (from_then start (feed t.source.reader) new (SoFar t rs) _ so (to_ending (feed t.source.reader) new ((with_newlines ignored ++ line) ++ []) [] reads.takes.read reads.ends))
-      (λ text rest s. (read_last text s.0 rest rs (r ∷ []) ignored line s.1.lines are is.whole is.holds s.2.0 s.2.1, s.2.1)))
+      inr (
+        goes,
+        from_weaker start new _ (IsInput style.Map 0 (rs ++ r ∷ []))
+            (from_then start (feed t.source.reader) new (SoFar t rs) _ so (to_ending (feed t.source.reader) new ((with_newlines ignored ++ line) ++ []) [] reads.takes.read reads.ends))
+            (λ text rest s. (read_last text s.0 rest rs (r ∷ []) ignored line s.1.lines are is.whole is.holds s.2.0 s.2.1, s.2.1)),
+      )
   to_line start t u rs r ignored line (c ∷ bytes) so are is reads goes =
       let new = feed u.source.reader in
       let read : List ℕ = with_newlines ignored ++ line in
       let one : length (c ∷ bytes) ≡ 1 = ap length reads.ends in
-      inl (goes, from_weaker start new _ (SoFar u (rs ++ r ∷ []))
-      (from_then start (feed t.source.reader) new (SoFar t rs) _ so (to_ending (feed t.source.reader) new (read ++ c ∷ bytes) (c ∷ bytes) reads.takes.read reads.ends))
-      (λ text rest s.
-      let long : length s.0 ≡ length (read ++ c ∷ bytes) + length rest = ap length s.2.0 ∙ length-append (read ++ c ∷ bytes) rest in
-      record {
-        lines = read_more text s.0 rest rs r ignored line s.1.lines are is (s.2.0 ∙ ap (λ e. (read ++ e) ++ rest) s.2.1);
-        counted = omega (arith, s.1.counted, long, reads.takes.counted);
-        asked = omega (arith, s.1.asked, reads.spends, one);
-      }))
+      inl (
+        goes,
+        from_weaker start new _ (SoFar u (rs ++ r ∷ []))
+            (from_then start (feed t.source.reader) new (SoFar t rs) _ so (to_ending (feed t.source.reader) new (read ++ c ∷ bytes) (c ∷ bytes) reads.takes.read reads.ends))
+            (λ text rest s.
+            let long : length s.0 ≡ length (read ++ c ∷ bytes) + length rest = ap length s.2.0 ∙ length-append (read ++ c ∷ bytes) rest in
+            record {
+              lines = read_more text s.0 rest rs r ignored line s.1.lines are is (s.2.0 ∙ ap (λ e. (read ++ e) ++ rest) s.2.1);
+              counted = omega (arith, s.1.counted, long, reads.takes.counted);
+              asked = omega (arith, s.1.asked, reads.spends, one);
+            }),
+      )
 
   pub lines_more : (start : Feed) (t u : MapReader R) (rs : List KeyValue) (r : KeyValue) → GaveLines feed start t rs → GivesRecord feed t u r → GaveLines feed start u (rs ++ r ∷ [])
   lines_more start t u rs r h m = elim h [

@@ -81,7 +81,7 @@ fails_read w g feed start t u b f one h meets no_memory =
     let mid = feed (reader_of t) in
     let new = feed (reader_of u) in
     let both = from_then start mid new (λ text rest. SoFar Spells g text rest from h.records) (λ text rest. IsFaultOf Spells g from to text f × (text ≡ bytes ++ rest)) h.so_far.0
-        (from_both mid new (λ text rest. IsFaultOf Spells g from to text f) (λ text rest. text ≡ bytes ++ rest) one meets.of (from_taken mid new bytes (λ text rest. text ≡ bytes ++ rest) meets.took.read (λ rest. refl))) in
+    (from_both mid new (λ text rest. IsFaultOf Spells g from to text f) (λ text rest. text ≡ bytes ++ rest) one meets.of (from_taken mid new bytes (λ text rest. text ≡ bytes ++ rest) meets.took.read (λ rest. refl))) in
     record {
       first = refl;
       memory = no_memory;

@@ -12,8 +12,8 @@ pub use cdb_command::{
 pub use cdb_show::{
     BAD_USAGE, Content, DONE, FAILED, Fault, InWindow, Inputs, Lines, LookupOptions, NoWindow,
     Noted, Output, STANDARD_INPUT, Shown, Window, check_run, difference_run, dump_run, flushed,
-    input_at, list_run, load, load_from, lookups_run, query_from, query_run, stats_run,
-    status_of, text_run, write_fault, write_word_fault,
+    input_at, list_run, load, load_from, lookups_run, query_from, query_run, stats_run, status_of,
+    text_run, write_fault, write_word_fault,
 };
 pub use runs::context::RunContext;
 pub use runs::make::{make_run, make_run_from, put_inputs};

@@ -19,6 +19,8 @@ use std::alloc::Global;
 /// - `NoMemory`: memory ran out. 13 bytes are taken for each record.
 ///
 /// The store is handed back whatever the answer, and was only read.
+// In line it takes room on the stack of a check of standard input, beside that of this call.
+#[inline(never)]
 pub fn check_run<L: Width, S: Store>(alloc: Global, store: S) -> (S, Result<(), Fault>)
     ensures reads { OnlyReads S.Store store result.0 }
     ensures sound { OnOk result.1 (FindsSound L.WORD S.Store result.0) }
