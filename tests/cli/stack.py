@@ -22,7 +22,7 @@ import tempfile
 from files import TWO_FILE, file_of, text_of
 
 KIB = 1024
-STACK = 128
+STACK = 96
 # A page of memory, in KiB.
 PAGE = 4
 LIMITS = [KIB * (2200 + 2992 * number // 39) for number in range(40)]
