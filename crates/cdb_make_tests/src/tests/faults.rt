@@ -150,7 +150,7 @@ fn faults_of_a_removal_of_three(rt: HostRuntime) -> Result<(), Fail> {
 fn faults_of_a_long_move(rt: HostRuntime) -> Result<(), Fail> {
     let ten = long(rt.alloc(), 10000)?;
     let script = [add(b"a", b"1"), add(b"b", &ten), replace(b"a", b"2")];
-    assert_faults(&rt, rt.alloc(), &script, [19, 19, 16], [19, 19, 17])
+    assert_faults(&rt, rt.alloc(), &script, [17, 17, 14], [17, 17, 15])
 }
 
 #[test]
@@ -163,7 +163,7 @@ fn faults_of_two_long_moves(rt: HostRuntime) -> Result<(), Fail> {
         add(b"c", &five),
         replace(b"a", b"3"),
     ];
-    assert_faults(&rt, rt.alloc(), &script, [27, 27, 23], [27, 27, 24])
+    assert_faults(&rt, rt.alloc(), &script, [25, 25, 21], [25, 25, 22])
 }
 
 #[test]
