@@ -23,6 +23,8 @@ from waiting import waits
 
 OPEN = b"cdb: file cannot be opened\n"
 WHY = OPEN + b"cdb: %s: another create is at work on it\n"
+# In its last sync a create's file has its permissions.
+WHOLE = OPEN + b"cdb: %s: locked by another process\n"
 OLD = file_of([(b"old", b"database")])
 IN_PLACE = ["-c", "-t", "-", "x"]
 ROUNDS = 200
@@ -176,7 +178,8 @@ def begun(program, folder, text):
 
 
 def crowd_is_right(program, has_old):
-    """Of creates that begin at once each makes the database or says that another is at work on it."""
+    """Of creates that begin at once each makes the database or says that another is at work on it, or holds the whole
+    file."""
 
     def run(folder, read_file):
         if not has_old:
@@ -186,7 +189,7 @@ def crowd_is_right(program, has_old):
             text.write(TWO_TEXT)
         running = [subprocess.Popen([program, "-vc", "x", "text"], **how) for _ in range(CROWD)]
         answers = {(it.returncode, lines) for it in running for _, lines in [it.communicate(timeout=60)]}
-        wanted = {(0, b""), (111, WHY % b"x.tmp")}
+        wanted = {(0, b""), (111, WHY % b"x.tmp"), (111, WHOLE % b"x.tmp")}
         return answers <= wanted and (0, b"") in answers and read_file("x") == TWO_FILE and read_file("x.tmp") is None
 
     return in_folder(run)
