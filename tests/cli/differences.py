@@ -22,7 +22,7 @@ import tempfile
 from amends import drawn, foreign_file_of, spelled
 from files import TWO_FILE, file_of, wide_words, words
 
-CASES = 2000
+CASES = 1000
 PIECE = 4096
 WINDOW = 65536
 HEAD = 2048
