@@ -4,7 +4,7 @@
 # make demo       builds it, and shows it at work on a small alias map
 # make test       the gate: builds, proves the program and its libraries from nothing, tries wrong bodies and runs every test
 # make test TESTS=proved  proves the crates of tests too, as before a release
-# make wrong      tries every wrong body over what was built, where the gate tries those of a list
+# make wrong      tries every wrong body, where the gate tries those of a list
 # make tests BIN=bin/cdb  runs all tests that need no proof on a program that is built
 # make clib       builds the C library, bin/libcdb.so.1 and bin/libcdb.a (needs a C compiler)
 # make dist       makes the tarball of the sources that are committed, dist/pezundrix-VERSION.tar.gz, and if they are
@@ -35,7 +35,7 @@ KIT = $(dir $(shell $(RT) doc 2> /dev/null))
 HEAP = $(KIT)c/liblibc_c.a $(KIT)c/libos_c.a
 
 
-.PHONY: help all try quick demo proofs test wrong tests heap dist deb install interop bench clean
+.PHONY: help all try quick demo test wrong tests heap dist deb install interop bench clean
 
 all: $(OUT)/cdb
 
@@ -59,14 +59,10 @@ demo:
 	@$(MAKE) -s $(OUT)/cdb
 	@sh demo/run.sh $(OUT)/cdb
 
-# The proofs of each crate that has wrong bodies.
-proofs: $(OUT)/cdb $(OUT)/libcdb_c.a
-	@RT='$(RT)' $(PYTHON) tools/build.py crates/cdb_uses
-
 test:
 	@RT='$(RT)' CC='$(CC)' TESTS='$(TESTS)' $(PYTHON) tools/gate.py
 
-wrong: proofs
+wrong:
 	@RT='$(RT)' $(PYTHON) tools/wrong.py --all
 
 tests:

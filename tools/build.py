@@ -1,8 +1,8 @@
 #!/usr/bin/env python3
 """Proves a program or a static library and the crates that it stands on, builds it, and copies it to where it
-is wanted. With no TARGET it proves a crate and those below it.
+is wanted.
 
-    tools/build.py CRATE [TARGET]
+    tools/build.py CRATE TARGET
 
 Each crate is proved and built as soon as those below it are, as many at once as the machine has the
 processors and the memory for. The checker works alone in the folders of a crate and of those below it, so
@@ -10,8 +10,8 @@ each gets a tree of its own: see trees.py. Of the crates that are ready the one 
 comes first, and gets two processors if the others leave them. CRATE comes last; on a PC it is built for each processor of x86-64.
 
 As it goes, the command says how many functions are proved: on a terminal in one line that it rewrites, else
-in a line a minute. All that the checker says goes to the file build.log beside the target, or in bin; if a step
-fails, the end of it is shown. The checker is the command in the environment's RT, else `rt`.
+in a line a minute. All that the checker says goes to the file build.log beside the target; if a step fails, the end of
+it is shown. The checker is the command in the environment's RT, else `rt`.
 """
 
 import contextlib
@@ -316,9 +316,9 @@ class Proofs:
             self.changed.wait_for(lambda: not self.running, STOP_SECONDS)
 
 
-def most_at_once(trees):
-    """How many checks this machine can run side by side."""
-    most = max(1, min(processors(), memory() // CHECK_MEMORY))
+def most_at_once(trees, each=CHECK_MEMORY):
+    """How many checks this machine can run side by side, of which each takes so much memory."""
+    most = max(1, min(processors(), memory() // each))
     has_disk = trees.has_links() or shutil.disk_usage(trees.place).free >= DISK + COPIES
     return most if has_disk else 1
 
@@ -360,27 +360,21 @@ def interrupt(*_):
     raise KeyboardInterrupt
 
 
-def words_of():
-    """The crate's folder, what is made of it or None, and the folder for what is said."""
-    if len(sys.argv) not in (2, 3):
-        sys.exit(__doc__)
-    target = sys.argv[2] if len(sys.argv) == 3 else None
-    return sys.argv[1], target, os.path.dirname(target) if target else "bin"
-
-
 def main():
-    crate, target, beside = words_of()
+    if len(sys.argv) != 3:
+        sys.exit(__doc__)
+    crate, target = sys.argv[1:]
+    beside = os.path.dirname(target)
     place = os.path.join(os.path.abspath(beside), "trees")
     trees = Trees(os.path.abspath(os.path.join(crate, "..", "..")), place)
     crates = crates_below(trees.libraries, os.path.basename(os.path.normpath(crate)))
     why = missing(trees, crates)
     if why is not None:
-        sys.exit(f"{target or crate} cannot be built: {why}")
+        sys.exit(f"{target} cannot be built: {why}")
     path = os.path.join(beside, "build.log")
     os.makedirs(beside or ".", exist_ok=True)
-    print(f"Proves {len(crates)} crates{f' and builds {target}' if target else ''}.")
-    if target:
-        print(f"With nothing kept, the program took {TOOK} at its last release, and {DISK / 1e9:.1f} GB of disk.")
+    print(f"Proves {len(crates)} crates and builds {target}.")
+    print(f"With nothing kept, the program took {TOOK} at its last release, and {DISK / 1e9:.1f} GB of disk.")
     print(f"What is proved is kept. What the checker says goes to {path}.", flush=True)
     began = time.monotonic()
     for it in (signal.SIGTERM, signal.SIGHUP):
@@ -389,9 +383,6 @@ def main():
     if not prove_all(trees, crates, path):
         show_end(path)
         sys.exit(1)
-    if not target:
-        print(f"{crate} is proved, in {time.monotonic() - began:.0f} s.")
-        return
     with alone_in(trees.folder(crates[-1])):
         how = put(trees, crates[-1], target)
     print(f"{target} is built: proved, in {time.monotonic() - began:.0f} s{how}.")

@@ -4,13 +4,11 @@ Beside a wrong body `must-fail/NAME.edit` of a crate may lie `must-fail/NAME.tes
 passes on the right body and fails on the wrong one, as the checker runs both without a proof.
 """
 
-import os
 import re
 import subprocess
 
 from build import checker
-from edits import applied, test_of
-from trees import read
+from edits import applied, test_of, texts_of
 
 MODULE = "counterexample"
 ENDED = re.compile(rf"^test {MODULE}::\S+ \.\.\. (ok|FAILED)$", re.MULTILINE)
@@ -21,17 +19,16 @@ def is_shown(trees, edit, room):
     test = test_of(edit)
     if test is None:
         return False
-    folder = trees.folder(edit.crate)
-    wrong, _ = applied(edit, {}, folder)
-    right, failed = (ends_of(trees, edit.crate, with_test(folder, texts, test), room) for texts in ({}, wrong))
+    texts = texts_of(trees.folder(edit.crate))
+    bodies = texts, applied(edit, texts)[0]
+    right, failed = (ends_of(trees, edit.crate, with_test(it, test), room) for it in bodies)
     return set(right) == {"ok"} and "FAILED" in failed
 
 
-def with_test(folder, texts, test):
-    """The texts of a crate's files, with a test."""
-    root = next(it for it in ("src/lib.rt", "src/main.rt") if os.path.isfile(os.path.join(folder, it)))
-    text = texts.get(root) or read(folder, root)
-    return {**texts, root: f"{text}\nmod {MODULE};\n", f"src/{MODULE}.rt": test}
+def with_test(texts, test):
+    """The texts of a crate's code, with a test."""
+    root = next(it for it in ("src/lib.rt", "src/main.rt") if it in texts)
+    return {**texts, root: f"{texts[root]}\nmod {MODULE};\n", f"src/{MODULE}.rt": test}
 
 
 def ends_of(trees, crate, texts, room):

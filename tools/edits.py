@@ -17,8 +17,10 @@ LIST = "tools/wrong_bodies.txt"
 UNSHOWN = "tools/unshown_bodies.txt"
 GATE, OTHER = "gate", "-"
 FUNCTION = re.compile(r"^( *)(?:pub(?:\([^)]*\))? )?(?:const )?(?:unsafe )?(?:extern \"C\" )?fn (\w+)", re.MULTILINE)
-# The head of an `impl`, with the words of its trait if it has one, or that of a trait: and the type's own name.
-OWNER = re.compile(r"^(?:unsafe )?(?:impl(?:<.*?>)? (.+ for )?|(?:pub(?:\([^)]*\))? )?trait )(?:\w+::)*(\w+)", re.MULTILINE)
+# The head of an `impl`, with the name of its trait if it has one, or that of a trait: and the type's own name.
+OWNER = re.compile(
+    r"^(?:unsafe )?(?:impl(?:<.*?>)? (?:(?:\w+::)*(\w+)(?:<.*>)? for )?|(?:pub(?:\([^)]*\))? )?trait )(?:\w+::)*(\w+)", re.MULTILINE
+)
 
 
 class BadEdit(Exception):
@@ -107,48 +109,43 @@ def heads_at(text, at):
     return heads, end.start() if end else len(text)
 
 
-def function_at(text, at):
-    """The function in whose text a place is: the pattern that the name of its type has, if it has one, and its own
-    name. None outside of functions."""
-    heads, end = heads_at(text, at)
-    if not heads or at > end:
-        return None
-    within = [it for it in OWNER.finditer(text) if it.start() < heads[-1].start()]
-    if not heads[-1][1] or not within:
-        return "", heads[-1][2]
-    # The checker names an `impl` of a trait by the type and the trait.
-    more = r"\w+" if within[-1][1] else ""
-    return f"{within[-1][2]}{more}::", heads[-1][2]
-
-
 def module_of(path):
     """The module of a source file, `` for the root."""
     inside = path.removeprefix("src/").removesuffix(".rt")
     return "" if inside in ("lib", "main") else inside.replace("/", "::")
 
 
-def named(functions, path, function):
-    """The functions of a crate that are meant by one of a file. An `impl` may stand in another module than its type."""
-    owner, name = function
-    module = module_of(path)
-    before = re.escape(f"{module}::") if module else ""
-    here = {it for it in functions if re.fullmatch(f"{before}{owner}{name}", it)}
-    return here or {it for it in functions if owner and re.fullmatch(f"(?:.*::)?{owner}{name}", it)}
+def texts_of(folder):
+    """The texts of a crate's code, by the paths of its files."""
+    paths = [os.path.join(place, it) for place, _, names in os.walk(os.path.join(folder, "src")) for it in names]
+    return {os.path.relpath(it, folder): read(it) for it in sorted(paths)}
 
 
-def applied(edit, texts, folder):
-    """The texts of a crate's files with an edit applied, over texts that others made, and for each place that it
-    changes the file and its function, or None."""
+def function_at(texts, path, at):
+    """The function in whose text a place of a file is, as the checker names it below its crate. None outside of functions."""
+    heads, end = heads_at(texts[path], at)
+    if not heads or at > end:
+        return None
+    names = [heads[-1][2]]
+    owners = [it for it in OWNER.finditer(texts[path]) if it.start() < heads[-1].start()]
+    if heads[-1][1] and owners:
+        # An `impl` may stand in another module than its type, whose name goes before that of its trait.
+        trait, kind = owners[-1].groups("")
+        declares = re.compile(rf"^(?:pub(?:\([^)]*\))? )?(?:struct|enum|trait) {kind}\b", re.MULTILINE)
+        path = next((it for it in [path, *texts] if declares.search(texts[it])), path)
+        names.insert(0, f"{kind}{trait}")
+    return "::".join(filter(None, [module_of(path), *names]))
+
+
+def applied(edit, texts):
+    """The texts of a crate's code with an edit applied, and for each place that it changes the file and its function, or None."""
     texts, places = dict(texts), []
     for path, old, new in edit.pairs:
         if path not in texts:
-            try:
-                texts[path] = read(folder, path)
-            except OSError:
-                raise BadEdit(f"there is no file {path}") from None
+            raise BadEdit(f"there is no file {path}")
         if texts[path].count(old) != 1:
             raise BadEdit(f"an old text is in {path} {texts[path].count(old)} times, and not once")
-        places.append((path, function_at(texts[path], texts[path].index(old))))
+        places.append((path, function_at(texts, path, texts[path].index(old))))
         texts[path] = texts[path].replace(old, new)
     if not places:
         raise BadEdit("it has no pair of an old and a new text")

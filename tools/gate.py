@@ -6,16 +6,16 @@
 At the top of the repository. First tools/unproved.py runs the tests of the crates NAME_tests, compiled with checks and
 without a proof. The checker's own gate, `rt ci`, then proves each other crate from nothing, on a copy of the files that git
 tracks, as they are now, without the wrong bodies. If the environment's TESTS is `proved`, it proves the crates of tests too,
-and runs their tests once more. What it leaves is tested: the program is
-linked of its object, and the C library made over its libraries, in bin/tested. If an earlier run on this machine proved
-the program, there is no object, and its crate alone is proved again over these libraries. Then tools/wrong.py tries the wrong bodies that are not known as
-refused, over proofs that are made and kept for them alone, and at last tests/run.py runs.
+and runs their tests once more. What it leaves is tested: the program is linked of its object, and the C library made over its
+libraries, in bin/tested. If an earlier run on this machine proved the program, there is no object, and its crate alone is proved
+again over these libraries. Then tools/wrong.py tries the wrong bodies that are not known as refused, and at last tests/run.py
+runs.
 
 A line a minute says what is done and about how long the rest takes, on a terminal one line that is rewritten. In the
-end a table has the time of each part, and below it is each crate and wrong body that failed. Nothing passes because
-it was left out: each crate must be proved or its tests run, each listed wrong body be tried, and each part of the tests and
-each crate's tests pass as many as tools/floors.txt says. The last line counts the tests that passed and failed, and each other
-part that failed as one more. What the parts say goes to files in bin.
+end a table has the time of each part, and below it is each part of the tests that was left out, and each crate and wrong
+body that failed. Nothing passes because it was left out: each crate must be proved or its tests run, each listed wrong body be
+tried, and each part of the tests and each crate's tests pass as many as tools/floors.txt says. The last line counts the tests
+that passed and failed, and each other part that failed as one more. What the parts say goes to files in bin.
 """
 
 import contextlib
@@ -33,9 +33,9 @@ import time
 from build import BYTES_A_SECOND, GATE_DISK, QUIET_SECONDS, checker, interrupt, missing, processors, show_end, work_of
 from edits import FOLDER, edits_of
 from link import links_statically
-from trees import KEPT, Trees, alone_now, crates_below, files_of, lines_of, read
+from trees import KEPT, Trees, alone_now, files_of, lines_of, read
 from unproved import TESTS, crates_of_tests, floors, program_of
-from wrong import Refusals, chosen
+from wrong import chosen
 
 TOOLS = os.path.dirname(os.path.abspath(__file__))
 # What is built by `make`, and of what `rt ci` left.
@@ -170,13 +170,12 @@ class Gate:
 
     def __init__(self, top):
         self.top, self.began, self.said = top, time.monotonic(), time.monotonic()
-        self.parts, self.passed, self.failed, self.wrong = [], 0, 0, []
+        self.parts, self.passed, self.failed, self.wrong, self.left_out = [], 0, 0, [], []
         self.of_tests = crates_of_tests(top)
         # The crates that are proved.
         self.crates = [it for it in lines_of(top) if is_proved(it)]
         self.trees = Trees(top, os.path.join(top, "bin", "trees"))
-        self.edits = chosen(self.trees, [], False)[0]
-        self.bodies = {str(it) for found in self.edits.values() for it in found}
+        self.bodies = {str(it) for found in chosen(self.trees, [], False)[0].values() for it in found}
         self.floors = floors(top)
 
     def begin(self, *words, **named):
@@ -241,6 +240,13 @@ class Gate:
             self.wrong.append(line)
             return True
         return False
+
+    def is_of_now(self, line):
+        """Whether a line of the tests is shown at once. What they left out is said at the end."""
+        if line.startswith("left out: "):
+            self.left_out.append(line)
+            return False
+        return True
 
     def count(self, part, least):
         """Takes how many of a part passed and failed, which must be so many."""
@@ -312,16 +318,7 @@ class Gate:
         return build.status == 0
 
     def refuse(self):
-        """Tries the wrong bodies, of crates with one that is not known as refused over proofs that are kept."""
-        refusals = Refusals(self.trees)
-        unknown = [it for it, found in self.edits.items() if not all(map(refusals.has, found))]
-        # A crate is proved with those above it.
-        tops = [it for it in unknown if not any(it in crates_below(self.trees.libraries, of)[:-1] for of in unknown)]
-        for crate in tops:
-            proofs = self.begin(f"for {crate}", [sys.executable, os.path.join(TOOLS, "build.py"), f"crates/{crate}"])
-            self.wait(proofs)
-            if proofs.status != 0:
-                self.wrong.append(f"{crate} was not proved for its wrong bodies")
+        """Tries the wrong bodies that are not known as refused."""
         words = [sys.executable, os.path.join(TOOLS, "wrong.py")]
         bodies = self.begin(BODIES, words, log="bin/bodies.log", steps=TRIED)
         self.wait(bodies, shows=lambda line: self.is_wrong(line) or line.startswith("warning: "))
@@ -332,7 +329,7 @@ class Gate:
         words = [sys.executable, os.path.join("tests", "run.py"), os.path.join(place, "cdb"), "--gate"]
         part = self.begin("tests", words, log="bin/tests.log", steps=DONE)
         # The counts are the last line of all.
-        self.wait(part, holds=1)
+        self.wait(part, shows=self.is_of_now, holds=1)
         if not COUNTED.match(part.last):
             self.show(part.last)
         passed, failed = part.counted()
@@ -416,7 +413,7 @@ def main():
                 sys.exit("\nThe gate was stopped. What is proved so far is kept.")
     except BlockingIOError:
         sys.exit("The gate runs in this folder already.")
-    for line in [*gate.table(), *(f"failed: {it}" for it in gate.wrong)]:
+    for line in [*gate.table(), *gate.left_out, *(f"failed: {it}" for it in gate.wrong)]:
         gate.show(line)
     print(f"{gate.passed} passed, {gate.failed} failed")
     sys.exit(1 if gate.failed else 0)

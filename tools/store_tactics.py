@@ -7,8 +7,8 @@ CRATE is a crate that a check has proved, as cdb_form, and FUNCTION its function
 text/line/read_line; all if none is named. A goal without an answer in its function's Answers.antt is tried by
 `search`, which reads every fact of every step, and then by `grind`. With `grind (arith, common_steps)` stored the
 search is spared. So each goal of LEAST steps and more gets that answer in a copy, each answer of that text there is
-left out of another, and both copies are checked. An answer that gains a quarter, and more than what it adds to each
-check of the function, is stored; one that gains nothing is taken out. The last line has the steps before and after.
+left out of another, and both copies are checked. An answer that gains LEAST steps and a quarter, with what it adds to
+each check of the function, is stored; one that gains fewer is taken out. The last line has the steps before and after.
 """
 
 import collections
@@ -20,9 +20,9 @@ from pathlib import Path
 
 from build import checker
 from slow_goals import proofs_of
-from trees import KEPT, Trees
+from trees import KEPT, PROVED, Trees
 
-LEAST, SHARE = 200_000, 0.25
+LEAST, SHARE = 500_000, 0.25
 RECORD = re.compile(r"Rattle-\w+-proofs\.(.+)\.(Proof|Answers|Goals|Lts\.View)\.decls\.oantt")
 TACTIC = "grind (arith, common_steps)"
 STORED = re.compile(rf"\n\npub (\S+) : goal\.\1\n\1 g(?: c)? = {re.escape(TACTIC)}\n")
@@ -58,7 +58,7 @@ def with_answers(crate, text, function, goals):
 
 def checked(trees, crate, texts):
     """Checks a copy of a crate with these texts of answers: its steps, and the answers that failed."""
-    with trees.room_of(crate, f"{crate}-tactics", texts) as folder:
+    with trees.room_of(crate, f"{crate}-tactics", texts, os.path.join(trees.folder(crate), PROVED)) as folder:
         words = [checker(), "check", "--jobs", "2", "--allow-holes"]
         ran = subprocess.run(words, cwd=folder, capture_output=True, text=True, errors="replace", check=False)
         return steps_of(folder)[0], set(FAILED.findall(ran.stdout + ran.stderr))
@@ -90,13 +90,13 @@ def main(words):
         kept = []
         for goal in goals[it]:
             old, new = before[it, "Proof"][goal], with_all[it, "Answers"][goal] + each
-            if (it, goal) not in failed and old - new > SHARE * old:
+            if (it, goal) not in failed and old - new > max(LEAST, SHARE * old):
                 kept.append(goal)
                 gained += old - new
         text = with_answers(crate, texts[it], it, kept) if kept else texts[it]
         for goal in STORED.findall(texts[it]):
             old, new = before[it, "Answers"][goal], without[it, "Proof"][goal]
-            if 0 < new <= old:
+            if 0 < new < old + LEAST:
                 text = re.sub(STORED.pattern.replace(r"(\S+)", f"({re.escape(goal)})", 1), "\n", text)
                 taken += old - new
         if text != texts[it]:

@@ -9,6 +9,7 @@ which the checker keeps what it proved, moves into the tree and back.
 import contextlib
 import fcntl
 import os
+import re
 import shutil
 import subprocess
 
@@ -132,9 +133,9 @@ class Trees:
             yield inside
 
     @contextlib.contextmanager
-    def room_of(self, crate, name, texts):
+    def room_of(self, crate, name, texts, kept=None):
         """Makes a tree of a crate with these texts instead of those of its files, gives the crate's folder there, and
-        removes the tree in the end. What the checker kept is there by hard links, so the crate's own stays as it is."""
+        removes the tree in the end. What a folder kept of proofs is there by hard links, so the folder stays as it is."""
         tree = os.path.join(self.place, name)
         try:
             with contextlib.ExitStack() as held:
@@ -142,7 +143,8 @@ class Trees:
                     held.enter_context(alone_in(self.folder(it), fcntl.LOCK_SH))
                 shutil.rmtree(tree, ignore_errors=True)
                 inside = self.make_sources(crate, tree)
-                self.copy(crate, PROVED, tree, link_proved)
+            if kept is not None:
+                shutil.copytree(kept, os.path.join(inside, PROVED), copy_function=link_proved)
             for path, text in texts.items():
                 os.makedirs(os.path.dirname(os.path.join(inside, path)), exist_ok=True)
                 with open(os.path.join(inside, path), "w", encoding="utf-8") as file:
@@ -150,6 +152,20 @@ class Trees:
             yield inside
         finally:
             shutil.rmtree(tree, ignore_errors=True)
+
+    def give_proved(self, crate, to):
+        """Gives what the checker kept of a crate and of those below it second names in a folder, where it is newer than what is there."""
+        for it in crates_below(self.libraries, crate):
+            kept, own = os.path.join(self.folder(it), PROVED), re.compile(rf"Rattle-{it}[.-].*\.oantt")
+            with alone_in(self.folder(it), fcntl.LOCK_SH):
+                for place, _, names in os.walk(kept):
+                    there = os.path.join(to, os.path.relpath(place, kept))
+                    os.makedirs(there, exist_ok=True)
+                    for name in filter(own.fullmatch, names):
+                        source, target = os.path.join(place, name), os.path.join(there, name)
+                        if not os.path.exists(target) or os.path.getmtime(target) < os.path.getmtime(source):
+                            link(source, f"{target}.new")
+                            os.replace(f"{target}.new", target)
 
     def make(self, crate):
         """Makes the tree of a crate, and answers the crate's folder there."""

@@ -1,18 +1,19 @@
 #!/usr/bin/env python3
-"""Tries wrong bodies over what a build kept of the right ones: the prover must refuse each, by its clause.
+"""Tries wrong bodies over the sources of the crates below: the prover must refuse each, by its clause.
 
     tools/wrong.py [--all] [--note] [--anew] [CRATE | CRATE/EDIT ..]
 
 A wrong body is an edit of a crate's folder must-fail. Those that tools/wrong_bodies.txt marks for the gate are tried,
-with --all each, of the crates that are named, or of all; an edit that is named is tried in any case. Each crate must
-be proved and kept, as `make` leaves it.
+with --all each, of the crates that are named, or of all; an edit that is named is tried in any case.
 
-Wrong bodies of different functions are tried in one check, over hard links of what was kept: so the check
+First the right bodies of the functions that the edits touch are proved, with all that they call, over what `make` or `rt check`
+kept. This is kept in bin/right for the next run. A refusal shows nothing if the right body is refused too. No library is built.
+Then wrong bodies of different functions are tried in one check, over hard links of what is kept: so the check
 proves the functions that they touch, and nothing else. One counts as refused if a goal of its own function
 stays open, and the goal has no stored proof that names a call or an argument which the edit took away: such a proof would be
 refused for a right body too. The goal's clause must be the one that the edit's line of the list names. Whatever does not
 pass so is tried once more, alone. Else the test beside the edit must show it wrong (counterexamples.py), or the list
-tools/unshown_bodies.txt name it: then a line warns.
+tools/unshown_bodies.txt name it: then a line warns. A check that ends without its last line refuses nothing.
 
 With --note that line is written anew where the clause did not refuse the edit.
 
@@ -25,6 +26,7 @@ import argparse
 import contextlib
 import functools
 import hashlib
+import itertools
 import os
 import re
 import shutil
@@ -37,29 +39,33 @@ import time
 from concurrent.futures import ThreadPoolExecutor
 from dataclasses import dataclass, field
 
+import over
 from answers import answer_of, named_in, taken_by
-from build import CPU, QUIET_SECONDS, checker, interrupt, is_program, most_at_once
+from build import GIB, QUIET_SECONDS, checker, interrupt, missing, most_at_once
 from counterexamples import is_shown
-from edits import LIST, UNSHOWN, BadEdit, applied, edits_of, function_at, listed, named, note_clause, test_of, unshown
+from edits import LIST, UNSHOWN, BadEdit, applied, edits_of, function_at, listed, module_of, note_clause, test_of, texts_of, unshown
 from trees import PROVED, SOURCES, Trees, alone_now, crates_below, read
 
 LOG = "bin/wrong.log"
+# Where it is kept what is proved of the right bodies.
+RIGHT = "bin/right"
 # Where it is kept what was refused: beside the toolchain's folder, or in the repository.
 BESIDE_KIT = "cdb-refused"
 REFUSED = "bin/refused"
 TOOLS = os.path.dirname(os.path.abspath(__file__))
-# A check costs ten seconds before any proof, which these share; with more, one check would take as long as all others.
+# A check costs ten seconds and more before any proof, which these share; with more, one check would take as long as all others.
 MOST_AT_ONCE = 10
+# How much memory a check takes at most: reading the sources of the program's crates takes 3.2 GB.
+MEMORY = 5 * GIB
 
 # A stored proof that names something which is not there.
 LOST = re.compile(r"has no field|is not in scope|has no `|was not admitted|has no returns-")
 # What the checker says of a goal that it did not prove: of one with a stored proof, of one without at its place in
 # the source, and of those of a function.
-STORED = re.compile(r"(?:note: )?(?:\./)?proofs/(.+)/(?:Answers|Proof|Invariants)\.antt:\d+:\d+: error: (.*)")
-SEARCHED = re.compile(r"note: (src/\S+?):(\d+):\d+: .*not proved.* \(`([^`]+)`\)")
+STORED = re.compile(r"^(?:note: )?(?:\./)?proofs/(.+)/(?:Answers|Proof|Invariants)\.antt:\d+:\d+: error: (.*)", re.MULTILINE)
+SEARCHED = re.compile(r"^note: (src/\S+?):(\d+):\d+: .*not proved.* \(`([^`]+)`\)", re.MULTILINE)
 UNANSWERED = re.compile(r"^fn (\S+): .*`search` did not prove ((?:`[^`]+`(?:, | and )?)+)", re.MULTILINE)
-UNPROVED = re.compile(r"^fn \S+: (?:not proved|no proof)", re.MULTILINE)
-FUNCTION = re.compile(r"Rattle-(\w+)-proofs\.(.+)\.Proof\.oantt")
+ENDED = re.compile(r"^only=\d+ proved=\d+$", re.MULTILINE)
 
 
 def clause_of(goal):
@@ -102,12 +108,11 @@ class Told:
         return [it for name, found in self.open.items() if functions is None or name in functions for it in found]
 
 
-def told_of(output, status, functions, texts, naming=lambda function, goal: None):
-    """What a check of these functions with these texts said. `naming` is what the stored proof of a goal names that an edit
-    took away."""
+def told_of(output, status, crate, texts, naming=lambda function, goal: None):
+    """What a check of a crate with these texts said. `naming` is what the stored proof of a goal names that an edit took away."""
     # What is said of one goal may go on in further lines.
     output = re.sub(r"\n {2,}", " ", output)
-    told = Told(is_read=bool(UNPROVED.search(output)), is_proved=status == 0)
+    told = Told(is_read=status in (0, 1) and bool(ENDED.search(output)), is_proved=status == 0)
     errors = [it for it in output.splitlines() if ": error" in it or it.startswith("rattle: no verdict")]
     told.error = (errors or output.splitlines()[-1:] or ["the checker said nothing"])[0][:200]
     for function, said in STORED.findall(output):
@@ -116,40 +121,42 @@ def told_of(output, status, functions, texts, naming=lambda function, goal: None
         name = naming(function, goal[1]) if goal else None
         kept = told.lost if LOST.search(said) else told.naming if name else told.open
         told.add(kept, function.replace("/", "::"), (clause, name) if kept is told.naming else clause)
-    goals = [(named_at(texts, path, int(line), functions), goal) for path, line, goal in SEARCHED.findall(output)]
+    goals = [(named_at(texts, path, int(line)), goal) for path, line, goal in SEARCHED.findall(output) if path in texts]
     for name, found in UNANSWERED.findall(output):
-        goals += [({name.partition("::")[2]}, it) for it in re.findall(r"`([^`]+)`", found)]
-    for found, goal in goals:
-        for function in found:
-            # A goal whose stored proof has lost it says nothing of the body.
-            if clause_of(goal) not in told.lost.get(function, ()):
-                told.add(told.open, function, clause_of(goal))
+        goals += [(name.removeprefix(f"{crate}::"), it) for it in re.findall(r"`([^`]+)`", found)]
+    for function, goal in goals:
+        # A goal whose stored proof has lost it says nothing of the body.
+        if function and clause_of(goal) not in told.lost.get(function, ()):
+            told.add(told.open, function, clause_of(goal))
     return told
 
 
-def named_at(texts, path, line, functions):
-    """The functions that the checker means by a line of a file: that of a function's body, or where its item begins."""
-    lines = texts[path].splitlines(keepends=True) if path in texts else []
+def named_at(texts, path, line):
+    """The function that the checker means by a line of a file: that of a function's body, or where its item begins."""
+    lines = texts[path].splitlines(keepends=True)
     while line < len(lines) and lines[line - 1].lstrip().startswith(("#[", "//")):
         line += 1
-    place = function_at("".join(lines), len("".join(lines[:line])) - 1)
-    return named(functions, path, place) if place else set()
+    return function_at(texts, path, len("".join(lines[:line])) - 1)
 
 
 class Trial:
     """A wrong body that is tried."""
 
-    def __init__(self, edit, functions, folder):
+    def __init__(self, edit, texts):
         self.edit, self.why, self.is_last = edit, None, False
         # Whether only a stored proof refused it that names what it took away.
         self.is_unshown = False
+        # What is checked, by the checker's names, and the functions that it touches: of a change outside of functions the
+        # modules, and None.
+        self.asked = self.functions = None
         try:
-            _, places = applied(edit, {}, folder)
-            found = [named(functions, path, it) if it else set() for path, it in places]
-            # A change outside of functions touches all of them.
-            self.functions = set().union(*found) if all(found) else None
+            _, places = applied(edit, texts)
         except BadEdit as why:
-            self.functions, self.why = None, f"cannot be tried: {why}"
+            self.why = f"cannot be tried: {why}"
+            return
+        self.asked = {f"{edit.crate}::{function or module_of(path)}" for path, function in places}
+        if all(function for _, function in places):
+            self.functions = {function for _, function in places}
 
     def is_of(self, function):
         """Whether it touches a function."""
@@ -157,6 +164,9 @@ class Trial:
 
     def judge(self, told):
         """What is wrong with how a check ended, or None if the edit's clause refused it; and the clauses that did."""
+        self.is_unshown = False
+        if not told.is_read:
+            return f"cannot be tried: {told.error}", []
         clauses, noted = told.clauses(self.functions), self.edit.clause
         names = dict(it for function, found in told.naming.items() if self.is_of(function) for it in found)
         self.is_unshown = noted in names and noted not in clauses
@@ -169,8 +179,6 @@ class Trial:
                 return None, clauses
             beside = f"has the clause {noted}" if noted else "has no clause"
             return f"is refused by {', '.join(clauses)}, and {LIST} {beside}", clauses
-        if not told.is_read:
-            return f"cannot be tried: {told.error}", clauses
         lost = [it for name, found in told.lost.items() if self.is_of(name) for it in found]
         if lost:
             self.is_unshown = test_of(self.edit) is not None
@@ -203,23 +211,6 @@ def fits(trial, group):
     return len(group) < MOST_AT_ONCE and all(trial.functions and it.functions and not trial.functions & it.functions for it in group)
 
 
-def cpu_of(trees, crate):
-    """The words for the processor, with which the build proved a program or a static library."""
-    is_static = "staticlib" in trees.lines[crate].split(":")[0].split()
-    return CPU if is_static or is_program(trees, crate) else []
-
-
-def proved_functions(folder, crate):
-    """The functions of a crate, by what the checker kept of it."""
-    found = set()
-    for _, _, files in os.walk(os.path.join(folder, PROVED)):
-        for name in files:
-            said = FUNCTION.fullmatch(name)
-            if said and said[1] == crate:
-                found.add(said[2].replace(".", "::"))
-    return found
-
-
 def is_own(folder):
     """Whether a folder is there that this user alone may write in."""
     try:
@@ -231,9 +222,7 @@ def is_own(folder):
 
 def refused_folder(top):
     """The folder in which it is kept what was refused: beside the toolchain, for every clone, if that can be."""
-    said = subprocess.run([checker(), "doc"], capture_output=True, text=True, check=False).stdout.strip()
-    beside = os.path.join(os.path.dirname(os.path.dirname(said)), BESIDE_KIT)
-    for folder in [beside] * os.path.isabs(said) + [os.path.join(top, REFUSED)]:
+    for folder in (os.path.join(os.path.dirname(over.toolchain()), BESIDE_KIT), os.path.join(top, REFUSED)):
         with contextlib.suppress(OSError):
             os.makedirs(folder, 0o755, exist_ok=True)
         if is_own(folder):
@@ -285,7 +274,7 @@ class Refusals:
 
     def said_of(self, edit):
         """What the file of an edit that was refused has."""
-        return f"{edit} was refused by {edit.clause}\n"
+        return f"{edit} was refused\n"
 
     def keep(self, edit):
         """Keeps that an edit was refused, if that can be done: at once or not at all."""
@@ -306,70 +295,85 @@ class Trials:
         self.refusals = Refusals(trees)
         # The places of those that are tried, as they were when the run began.
         self.places = {}
-        self.most = most_at_once(trees)
-        self.lock = threading.Condition()
-        self.running, self.processes, self.rooms = 0, [], 0
+        self.most = most_at_once(trees, MEMORY)
+        self.lock = threading.Lock()
+        self.kit = over.toolchain()
+        self.module = over.module_of(self.kit)
+        self.processes, self.rooms = [], itertools.count()
         self.tried = self.count = self.passed = self.failed = 0
         self.is_stopped, self.said = False, time.monotonic()
-        # The wrong bodies that a first check did not settle, each as a group.
+        # The wrong bodies that are to be tried, in groups.
         self.left = []
 
-    @contextlib.contextmanager
-    def lane(self):
-        """Waits until another check may run."""
-        with self.lock:
-            while self.running >= self.most:
-                self.lock.wait()
-            self.running, self.rooms = self.running + 1, self.rooms + 1
-            room = self.rooms
-        try:
-            yield room
-        finally:
-            with self.lock:
-                self.running -= 1
-                self.lock.notify_all()
+    def words_over(self, crate, *flags):
+        """The checker's command for a crate over the sources of those below it. A crate that does not list `core` names its items
+        through `std`: if `core` is there, it names them otherwise, and nothing fits that was kept."""
+        made = self.module.Crate(self.trees.folder(crate), self.trees.top, {})
+        words = made.words(list(flags), as_source=True)
+        listing = [it.name for it in [*made.below(), made] if "core" in it.of_kit]
+        words = [it if it.partition(":")[0] in listing else it.replace(":core,", ":", 1) for it in words]
+        if not listing:
+            at = next(number for number, it in enumerate(words) if it.startswith("core="))
+            del words[at - 1 : at + 1]
+        return [os.path.join(self.kit, "bin", "rattle"), "check", *words]
 
-    def check(self, crate, texts, functions, room):
-        """Checks these functions of a crate with these texts, and answers the status and what was said."""
-        words = [checker(), "check", "--jobs", "1", *cpu_of(self.trees, crate)]
-        words += [word for it in sorted(functions or ()) for word in ("--only", it)]
-        how = {"stdin": subprocess.DEVNULL, "stdout": subprocess.PIPE, "stderr": subprocess.STDOUT}
-        with self.trees.room_of(crate, f"{crate}-{room}", texts) as folder:
-            with self.lock:
-                if self.is_stopped:
-                    return 2, "stopped"
-                process = subprocess.Popen(words, cwd=folder, text=True, errors="replace", **how)
-                self.processes.append(process)
-            output, _ = process.communicate()
+    def check(self, crate, trials, folder, kept, jobs=1):
+        """Checks the functions of these trials in a folder of a crate, over what is kept, and answers the status and what was said."""
+        words = self.words_over(crate, "--jobs", str(jobs), "--incremental", kept)
+        words += [word for name in sorted(set().union(*(it.asked for it in trials))) for word in ("--only", name)]
+        how = {"stdin": subprocess.DEVNULL, "stdout": subprocess.PIPE, "stderr": subprocess.STDOUT, "start_new_session": True}
+        began = time.monotonic()
+        with self.lock:
+            if self.is_stopped:
+                return 2, "stopped"
+            process = subprocess.Popen(words, cwd=folder, text=True, errors="replace", **how)
+            self.processes.append(process)
+        output, _ = process.communicate()
+        with self.lock:
+            names = ", ".join(it.edit.name for it in trials) if folder != self.trees.folder(crate) else "right bodies"
+            self.log.write(f"== {crate}: {names}: {time.monotonic() - began:.0f} s, status {process.returncode}\n{output}\n")
+            self.log.flush()
         return process.returncode, output
+
+    def prove(self, crate, trials):
+        """Proves the right bodies that wrong bodies of a crate stand for, and groups these. If a right one is not proved, none is tried."""
+        began, kept = time.monotonic(), os.path.join(self.trees.top, RIGHT)
+        self.trees.give_proved(crate, kept)
+        for jobs in (self.most, 1):
+            status, output = self.check(crate, trials, self.trees.folder(crate), kept, jobs)
+            told = told_of(output, status, crate, {})
+            if told.is_read or self.is_stopped:
+                break
+        if told.is_read and told.is_proved:
+            print(f"{crate}: the right bodies are proved, in {time.monotonic() - began:.0f} s", flush=True)
+            self.left += [(crate, it) for it in passes_of(trials)]
+        elif not self.is_stopped:
+            for it in trials:
+                self.end(it, f"cannot be tried: the right body is not proved: {told.error}", [])
 
     def run(self, crate, group):
         """Tries the wrong bodies of a group at once, and takes down how each ended."""
-        folder, texts = self.trees.folder(crate), {}
+        if self.is_stopped:
+            return None
+        folder = self.trees.folder(crate)
+        texts = texts_of(folder)
         for it in group:
             try:
-                texts, _ = applied(it.edit, texts, folder)
+                texts, _ = applied(it.edit, texts)
             except BadEdit:
                 # Another edit changed its line: it is tried alone.
                 return [self.put_off(crate, it) for it in group]
-        functions = None if any(it.functions is None for it in group) else set().union(*(it.functions for it in group))
-        with self.lane() as room:
-            if self.is_stopped:
-                return None
-            began = time.monotonic()
-            status, output = self.check(crate, texts, functions, room)
-            if self.is_stopped:
-                return None
+        room = f"{crate}-{next(self.rooms)}"
+        with self.trees.room_of(crate, room, texts, os.path.join(self.trees.top, RIGHT)) as inside:
+            status, output = self.check(crate, group, inside, PROVED)
+        if self.is_stopped:
+            return None
         naming = functools.partial(naming_of, group, folder)
-        told = told_of(output, status, functions or proved_functions(folder, crate), self.texts_of(folder, texts), naming)
-        with self.lock:
-            names = ", ".join(it.edit.name for it in group)
-            self.log.write(f"== {crate}: {names}: {time.monotonic() - began:.0f} s, status {status}\n{output}\n")
-            self.log.flush()
+        told = told_of(output, status, crate, texts, naming)
         for it in group:
             why, clauses = it.judge(told)
             if it.is_unshown:
-                why = self.shown(it.edit, why, f"{crate}-{room}")
+                why = self.shown(it.edit, why, room)
             is_noted = self.words.note and clauses
             # A check that came to no end says nothing of any body.
             if why is not None and (len(group) > 1 or status not in (0, 1)) and not (it.is_last or is_noted):
@@ -387,15 +391,6 @@ class Trials:
             print(f"warning: {edit} {why}, see {UNSHOWN}", flush=True)
             return None
         return f"{why}, and no test beside it shows it"
-
-    def texts_of(self, folder, texts):
-        """The texts of a crate's code, with those that edits made."""
-        found = {}
-        for place, _, names in os.walk(os.path.join(folder, "src")):
-            for name in names:
-                path = os.path.relpath(os.path.join(place, name), folder)
-                found[path] = texts.get(path) or read(folder, path)
-        return found
 
     def put_off(self, crate, trial):
         """Takes down that a wrong body is to be tried alone."""
@@ -434,30 +429,33 @@ class Trials:
         self.places = {it.edit: self.refusals.place_of(it.edit) for found in trials.values() for it in found}
         for it in [it for found in trials.values() for it in found if it.why]:
             self.end(it, it.why, [])
-        groups = []
-        for crate, found in trials.items():
-            groups += [(crate, it) for it in passes_of([it for it in found if not it.why])]
-        # The checks with most to prove come first.
-        groups.sort(key=lambda it: -len(it[1]))
-        while groups and not self.is_stopped:
-            self.left = []
-            with ThreadPoolExecutor(max(1, self.most)) as pool:
-                running = [pool.submit(self.run, crate, group) for crate, group in groups]
-                try:
-                    for done in running:
-                        done.result()
-                except KeyboardInterrupt:
-                    self.stop()
-                    raise
-            groups = self.left
+        ready = {crate: [it for it in found if not it.why] for crate, found in trials.items()}
+        self.at_once([(self.prove, crate, found) for crate, found in ready.items() if found], 1)
+        while self.left and not self.is_stopped:
+            # The checks with most to prove come first.
+            groups, self.left = sorted(self.left, key=lambda it: -len(it[1])), []
+            self.at_once([(self.run, *it) for it in groups], self.most)
+
+    def at_once(self, calls, most):
+        """Makes calls, so many at once."""
+        with ThreadPoolExecutor(most) as pool:
+            running = [pool.submit(*it) for it in calls]
+            try:
+                for done in running:
+                    done.result()
+            except KeyboardInterrupt:
+                self.stop()
+                raise
 
     def stop(self):
         """Ends the checks that run."""
         with self.lock:
             self.is_stopped = True
             for process in self.processes:
-                process.terminate()
-            self.lock.notify_all()
+                # It has copies of itself at work.
+                with contextlib.suppress(ProcessLookupError):
+                    if process.returncode is None:
+                        os.killpg(process.pid, signal.SIGTERM)
 
 
 def best_of(clauses):
@@ -482,15 +480,9 @@ def chosen(trees, names, is_all):
 
 
 def trials_of(trees, edits):
-    """The trials of wrong bodies, and what is wrong with crates that nothing was kept of."""
-    trials, wrong = {}, []
-    for crate, found in edits.items():
-        functions = proved_functions(trees.folder(crate), crate)
-        if functions:
-            trials[crate] = [Trial(it, functions, trees.folder(crate)) for it in found]
-        else:
-            wrong.append(f"no proofs of {crate} are kept: run make wrong")
-    return trials, wrong
+    """The trials of wrong bodies, by crate."""
+    texts = {crate: texts_of(trees.folder(crate)) for crate in edits}
+    return {crate: [Trial(it, texts[crate]) for it in found] for crate, found in edits.items()}
 
 
 def words_of():
@@ -508,13 +500,12 @@ def try_them(top, place, words):
     trees = Trees(top, place)
     edits, wrong = chosen(trees, words.names, words.all)
     refused = refused_before(trees, edits, words)
-    trials, unproved = trials_of(trees, edits)
-    for line in [*wrong, *unproved]:
+    for line in wrong:
         print(line, flush=True)
     with open(os.path.join(top, LOG), "w", encoding="utf-8") as log:
         run = Trials(trees, log, words)
-        run.try_all(trials)
-    return refused + run.passed, run.failed + len(wrong) + len(unproved)
+        run.try_all(trials_of(trees, edits))
+    return refused + run.passed, run.failed + len(wrong)
 
 
 def refused_before(trees, edits, words):
@@ -537,13 +528,19 @@ def main():
     words = words_of()
     top = os.getcwd()
     place = os.path.join(top, "bin", "rooms")
-    os.makedirs(place, exist_ok=True)
+    why = missing(Trees(top, place), [])
+    if why is not None:
+        sys.exit(f"No wrong body can be tried: {why}")
+    for it in (place, RIGHT):
+        os.makedirs(it, exist_ok=True)
     for it in (signal.SIGTERM, signal.SIGHUP):
         signal.signal(it, interrupt)
     try:
         with alone_now(place):
-            passed, failed = try_them(top, place, words)
-            shutil.rmtree(place)
+            try:
+                passed, failed = try_them(top, place, words)
+            finally:
+                shutil.rmtree(place)
     except BlockingIOError:
         sys.exit("Wrong bodies are tried in this folder already.")
     except KeyboardInterrupt:

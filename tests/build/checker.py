@@ -3,8 +3,8 @@
 it was told in the file that the environment's JOURNAL names, and keeps what the real one keeps.
 
 The environment's MEET names crates that wait for each other in the midst of their checks, FAIL a crate that
-is not proved, and HANG crates that are not done before they are ended. `check` goes by the first word of a
-function's body: see WAYS. `ci` is the crate of that name, adds a line to the file that CHANGE names, proves none of
+is not proved, and HANG crates that are not done before they are ended. `check`, which the toolchain's own command is told, goes by
+the first word of a function's body: see WAYS. `ci` is the crate of that name, adds a line to the file that CHANGE names, proves none of
 the crates that LEFT_OUT names, and those of TWICE once more. The tests of a crate with the word `heedless` are not proved.
 """
 
@@ -98,6 +98,8 @@ STORED = "./proofs/{name}/Answers.antt:4:9: error: `returns-then-some-clause-{cl
 SEARCHED = "note: src/lib.rt:{line}:5: it is not proved that it holds when it returns (`returns-clause-{clause}-2`)"
 LOST = "./proofs/{name}/Answers.antt:2:9: error: `returns-clause-{clause}`: module `Goals` has no `returns-clause-{clause}`"
 WAYS = {"right": [], "stored": [STORED], "searched": [SEARCHED], "lost": [LOST], "renamed": [LOST, SEARCHED]}
+# After these a check comes to no end, or the checker cannot tell: its status, and whether its last line is there.
+BROKEN = {"cut": (1, False), "killed": (-9, False), "limit": (3, True)}
 
 
 def body_of(function):
@@ -108,36 +110,50 @@ def body_of(function):
     return lines[at + 2].split(), at + 3
 
 
-def replace_kept():
-    """Writes what was kept anew, as the checker does: under another name first."""
-    for place, _, names in list(os.walk(os.path.join("out", "incremental"))):
-        for name in [*names, "of_this_check"]:
-            with open(os.path.join(place, "new"), "w", encoding="utf-8") as file:
-                file.write("another")
-            os.replace(os.path.join(place, "new"), os.path.join(place, name))
+def keep(place, functions):
+    """Keeps what was proved, as the checker does: under another name first. In a room it replaces all that was kept."""
+    is_room = "rooms" in os.getcwd().split(os.sep)
+    os.makedirs(place, exist_ok=True)
+    for name in [*os.listdir(place), "of_this_check"] if is_room else [f"{it}.Proof.oantt" for it in functions]:
+        with open(os.path.join(place, "new"), "w", encoding="utf-8") as file:
+            file.write("another" if is_room else name)
+        os.replace(os.path.join(place, "new"), os.path.join(place, name))
+    return is_room
 
 
 def check(crate, words):
     """Says which functions are not proved, and answers the status."""
-    functions = [after for word, after in zip(words, words[1:]) if word == "--only"]
-    note("checks", crate, *functions)
-    replace_kept()
+    told = {word: [after for it, after in zip(words, words[1:]) if it == word] for word in ("--only", "--incremental")}
+    functions = [it.removeprefix(f"{crate}::") for it in told["--only"]]
+    is_room = keep(os.path.join(told["--incremental"][0], "a-kit"), functions)
+    note("checks" if is_room else "rights", crate, *functions)
+    end = time.monotonic() + SECONDS
+    while named("HANG") == ["checks" if is_room else "rights"] and time.monotonic() < end:
+        time.sleep(0.01)
+    note("ends", crate)
     bodies = {it: body_of(it) for it in functions}
-    unread = [it for it, (body, _) in bodies.items() if body[0] not in [*WAYS, "waits"]]
+    unread = [it for it, (body, _) in bodies.items() if body[0] not in [*WAYS, *BROKEN, "waits"]]
     if unread:
         print(f"src/lib.rt:1:1: error: `{bodies[unread[0]][0][0]}` is no word")
         return 1
     others = [it for it, (body, _) in bodies.items() if body[0] not in ("right", "waits")]
     wrong = [it for it, (body, _) in bodies.items() if body[0] != "right"]
+    status, has_end = 1 if wrong else 0, True
     for name in wrong:
         (way, clause, *_), line = bodies[name]
+        status, has_end = BROKEN.get(way, (status, has_end))
         # Of a function that calls a wrong one nothing is known.
-        said = WAYS[way] if way != "waits" else [] if others else [STORED]
+        said = WAYS.get(way, [STORED]) if way != "waits" else [] if others else [STORED]
         for it in said:
             print(it.format(name=name, clause=clause, line=line))
     for name in functions:
         print(f"fn {crate}::{name}: {'not proved' if name in wrong else 'proved'}")
-    return 1 if wrong else 0
+    if has_end:
+        print(f"only={len(functions)} proved={len(functions) - len(wrong)}")
+    sys.stdout.flush()
+    if status < 0:
+        os.kill(os.getpid(), -status)
+    return status
 
 
 def try_tests():

@@ -103,10 +103,10 @@ class Repository:
         place = os.path.join(self.top, "bin", "trees")
         return os.path.isdir(place) and os.listdir(place) != []
 
-    def wait_for(self, *crates):
+    def wait_for(self, *crates, what="begins"):
         """Waits until these checks have begun."""
         end = time.monotonic() + 20
-        while not set(crates).issubset(self.noted("begins")) and time.monotonic() < end:
+        while not set(crates).issubset(self.noted(what)) and time.monotonic() < end:
             time.sleep(0.01)
 
     def read(self, name):

@@ -30,7 +30,7 @@ INSTALLED = """bin/cdb share/man/man1/cdb.1 share/man/man5/cdb.5 share/doc/pezun
     share/bash-completion/completions/cdb share/zsh/site-functions/_cdb share/fish/vendor_completions.d/cdb.fish
     include/cdb.h lib/libcdb.so.1 lib/libcdb.a lib/pkgconfig/libcdb.pc share/man/man3/cdb.3""".split()
 # The targets of the tree that need the toolchain, or a checkout.
-TARGETS = "all try quick demo proofs test wrong clib dist deb install install-clib interop bench".split()
+TARGETS = "all try quick demo test wrong clib dist deb install install-clib interop bench".split()
 # Compilers: one that links nothing statically, as where there is no static C library, and one whose programs do not
 # run, as with a C library for which the objects are not made.
 NO_STATIC = """#!/bin/sh
