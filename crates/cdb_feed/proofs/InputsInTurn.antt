@@ -1,7 +1,7 @@
 -- The inputs that a run read, one part of them after another.
-use Rattle.std.proofs.Common.{◌≡◌, ℕ, List, [], ◌∷◌, ◌++◌, length, take, drop, ap, refl, subst, suc, sym}
+use Rattle.std.proofs.Common.{◌≡◌, ◌<◌, ℕ, List, [], ◌∷◌, ◌++◌, length, take, drop, ap, arith, inl, inr, refl, slice_set, subst, suc, sym, zero}
 use Rattle.cdb_form.specs.Views.Feed.{Feed, FromTo, Keeps}
-use Rattle.cdb_feed.specs.Inputs.{Stop, NoMore, HasFault, CutShort, NotBegun, TakesOne, StopsSo, AreRead, reached}
+use Rattle.cdb_feed.specs.Inputs.{ReaderFailed, SomeFailed, Stop, NoMore, HasFault, CutShort, NotBegun, TakesOne, StopsSo, AreRead, reached}
 use Rattle.cdb_feed.specs.Parsing.{Parsing}
 use Rattle.cdb_feed.specs.declared.input_reader.InputReader.{InputReader}
 use Rattle.cdb_feed.specs.declared.input_reader.InputReader.TheVariants.{Own, Shared}
@@ -82,3 +82,18 @@ module _ {R S Item Fault : Type 0} (own : R → Feed) (shared : S → Feed) (p :
   read_then read more stop before between after old mid new first same others =
       let same' = subst (λ n. take n between ≡ take n after) (sym (begun_none read)) same in
       read_on read more stop before after old mid new (same_read read NotBegun before between after old mid same' first) others
+
+-- ---- a reader of some has failed
+
+-- that of the input that was read
+pub some_failed : {R T : Type 0} (own : R → Feed) (shared : T → Feed) (xs : List (InputReader R)) (i : ℕ) (x : InputReader R) (it : T) → i < length xs → ReaderFailed own shared x it → SomeFailed own shared (slice_set xs i x) it
+some_failed own shared [] i x it within failed = absurd (let no : ⊥ = omega (arith, within) in no)
+some_failed own shared (y ∷ ys) zero x it within failed = inl failed
+some_failed own shared (y ∷ ys) (suc i) x it within failed = inr (some_failed own shared ys i x it (omega (arith, within)) failed)
+
+-- and what they share, as another reader gives it
+pub some_through : {R S T : Type 0} (own : R → Feed) (was : S → Feed) (is : T → Feed) (readers : List (InputReader R)) (old : S) (new : T) → ((was old).failed → (is new).failed) → SomeFailed own was readers old → SomeFailed own is readers new
+some_through own was is [] old new on h = on h
+some_through own was is (Own reader ∷ readers) old new on (inl h) = inl h
+some_through own was is (Shared ∷ readers) old new on (inl h) = inl (on h)
+some_through own was is (reader ∷ readers) old new on (inr h) = inr (some_through own was is readers old new on h)

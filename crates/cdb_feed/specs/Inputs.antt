@@ -1,5 +1,5 @@
 -- The inputs of a run: how far it read them, and which bytes agree with what their readers gave.
-use Rattle.std.specs.Prelude.{◌≡◌, ℕ, zero, suc, ◌+◌, List, [], ◌∷◌, ◌++◌, length, Option, Some, None, ⊤}
+use Rattle.std.specs.Prelude.{◌≡◌, ℕ, zero, suc, ◌+◌, List, [], ◌∷◌, ◌++◌, length, Option, Some, None, ⊤, ◌⊎◌}
 use Rattle.cdb_form.specs.Views.Feed.{Feed, FromTo, Keeps}
 use Rattle.cdb_feed.specs.Given.{Given}
 use Rattle.cdb_feed.specs.Parsing.{Parsing}
@@ -65,6 +65,19 @@ reached [] NotBegun = 0
 reached [] (HasFault items fault) = 1
 reached [] (CutShort items) = 1
 reached (items ∷ read) stop = suc (reached read stop)
+
+-- the reader of an input has failed, its own or the one that it shares
+abbrev pub ReaderFailed : {R S : Type 0} → (own : R → Feed) → (shared : S → Feed) → InputReader R → S
+    → Type 0
+ReaderFailed own shared (Own reader) it = (own reader).failed
+ReaderFailed own shared Shared it = (shared it).failed
+
+-- that of one of them has, or the one that they share
+abbrev pub SomeFailed : {R S : Type 0} → (own : R → Feed) → (shared : S → Feed)
+    → List (InputReader R) → S → Type 0
+SomeFailed own shared [] it = (shared it).failed
+SomeFailed own shared (reader ∷ readers) it =
+    ReaderFailed own shared reader it ⊎ SomeFailed own shared readers it
 
 -- these bytes fit, and agree with what is known of their reader
 pub record AgreesWith (fits : List ℕ → Type 0) (feed : Feed) (whole : List ℕ) : Type 0 where

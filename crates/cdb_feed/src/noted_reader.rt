@@ -1,5 +1,7 @@
 // A reader that notes what it gave.
-ghost use Rattle.std.specs.Prelude.{◌≡◌, ◌<◌, ◌≤◌, List, ℕ, [], length, take, IfOk, OnErr};
+ghost use Rattle.std.specs.Prelude.{◌≡◌, ◌<◌, ◌≤◌, List, ℕ, [], length, take, true, false};
+ghost use Rattle.std.specs.Prelude.{IfOk, OnErr, OnOk};
+ghost use Rattle.std.specs.Io.KnownBytes.{ReadConsumes};
 ghost use Rattle.cdb_form.specs.Views.Feed.{Consumes, IsAtEnd, Keeps, StillAgrees};
 ghost use Rattle.cdb_feed.specs.Inputs.{IsUnread};
 ghost use Rattle.cdb_feed.specs.Noted.{noted_feed, came_of};
@@ -18,6 +20,8 @@ pub struct NotedReader<R> {
     reader: R,
     ended: bool,
     trace: ReadTrace,
+    /// What it refused: a read that failed is an answer with no bytes.
+    refused: ReadTrace,
 }
 
 impl<R> NotedReader<R> {
@@ -26,11 +30,14 @@ impl<R> NotedReader<R> {
         ensures nothing { came_of result.trace.events ≡ [] }
         ensures unread { IsUnread (noted_feed result) }
         ensures agrees { (whole : List ℕ) → (noted_feed result).may whole whole }
+        ensures inner { result.reader ≡ reader }
+        ensures unrefused { (noted_feed result).failed → ⊥ }
     {
         NotedReader {
             reader,
             ended: false,
             trace: ReadTrace::new(),
+            refused: ReadTrace::new(),
         }
     }
 }
@@ -55,11 +62,25 @@ impl<R: Read> Feeds for NotedReader<R> {
             (take n into.new) ((n ≡ 0) × (0 < length into.old))) }
         ensures agrees_err { OnErr result
             (StillAgrees (noted_feed self.old) (noted_feed self.new) [] ⊥) }
+        // And it answers what its reader gave, for every reader that reports its bytes: so nothing
+        // that was taken is lost, and an end is one of the reader, or came before.
+        ensures given { self.old.ended ≡ false → ReadConsumes (R.remaining self.old.reader)
+            (R.remaining self.new.reader) result into.new }
+        ensures stays { self.old.ended ≡ true → self.new.reader ≡ self.old.reader }
+        // And it notes each read that failed, and no other.
+        ensures failed { OnErr result (noted_feed self.new).failed }
+        ensures unrefused { OnOk result (self.new.refused ≡ self.old.refused) }
     {
         if self.ended {
             return Ok(0);
         }
-        let n = self.reader.read(into)?;
+        let n = match self.reader.read(into) {
+            Ok(n) => n,
+            Err(error) => {
+                self.refused.note(&ReadCall::Ended, &[]);
+                return Err(error);
+            }
+        };
         if n == 0 && !into.is_empty() {
             self.ended = true;
             self.trace.note(&ReadCall::Ended, &[]);

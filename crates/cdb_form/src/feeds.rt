@@ -18,7 +18,8 @@ pub trait Feeds {
         ensures bytes { IfOk result (λ n.
             Consumes (feed self.old) (feed self.new) (take n into.new)) }
         ensures end { IfOk result (λ n. n ≡ 0 → 0 < length into.old → IsAtEnd (feed self.new)) }
-        ensures kept { OnErr result (Keeps (feed self.old) (feed self.new)) };
+        ensures kept { OnErr result (Keeps (feed self.old) (feed self.new)) }
+        ensures failed { OnErr result (feed self.new).failed };
 
     /// All its bytes determine which are left.
     ghost one_rest: { (it : Self) → (whole first second : List ℕ)

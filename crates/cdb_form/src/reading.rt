@@ -1,11 +1,11 @@
 // Bytes from a reader: some of them, all that are wanted, or a vector of them.
 ghost use Rattle.std.specs.Prelude.{◌≡◌, ◌≢◌, ℕ, ◌+◌, ◌*◌, ◌^◌, ◌<◌, ◌≤◌, List, ◌++◌, length, take};
-ghost use Rattle.std.specs.Prelude.{OnOk, OnErr, IfOk, IfErr};
+ghost use Rattle.std.specs.Prelude.{OnOk, OnErr, IfOk, IfErr, ◌⊎◌};
 ghost use Rattle.cdb_form.specs.Views.Feed.{Consumes, IsAtEnd, Keeps};
 ghost use Rattle.cdb_form.specs.Format.Record.{AreBytes};
-ghost use Rattle.cdb_form.specs.Views.Taking.{LosesAtMost, LosesFewer, Passes, ReadsShort};
+ghost use Rattle.cdb_form.specs.Views.Taking.{IsWhy, LosesAtMost, LosesFewer, Passes, ReadsShort};
 ghost use Rattle.cdb_form.specs.Views.Reading.{IsOfReader};
-ghost use Rattle.cdb_form.specs.declared.reading.ReadStop.TheVariants.{Ended, Failed, Spent};
+ghost use Rattle.cdb_form.specs.declared.reading.ReadStop.TheVariants.{Ended};
 ghost use Rattle.cdb_form.specs.declared.reading.ReadStop.TheVariants.{NoMemory};
 
 use crate::feeds::Feeds;
@@ -58,7 +58,8 @@ pub(crate) fn some_bytes<R: Feeds>(
     ensures fewer { OnOk result (asks.new < asks.old) }
     ensures no_more { asks.new ≤ asks.old }
     ensures spends { asks.old ≤ asks.new + 1001 }
-    ensures spent { IfErr result (λ f. f ≡ Spent → asks.new ≡ 0) }
+    ensures one { OnOk result ((R.feed reader.new).failed ⊎ (asks.old ≤ asks.new + 1)) }
+    ensures why { IfErr result (IsWhy (R.feed reader.new) 1 asks.old asks.new) }
     ensures fails { IfErr result IsOfReader }
 {
     for _ in 0..RETRIES + 1 {
@@ -95,6 +96,7 @@ pub(crate) fn all_bytes<R: Feeds>(
     ensures loses_fewer { OnErr result (LosesFewer (R.feed reader.old)
         (R.feed reader.new) (length into.old)) }
     ensures memory { IfErr result (λ f. f ≢ NoMemory) }
+    ensures why { IfErr result (IsWhy (R.feed reader.new) (length into.old) asks.old asks.new) }
 {
     let mut done = 0;
     while done < into.len() {
@@ -147,7 +149,8 @@ fn some_behind<R: Feeds>(
     ensures fewer { OnOk result (asks.new < asks.old) }
     ensures no_more { asks.new ≤ asks.old }
     ensures spends { asks.old ≤ asks.new + 1001 }
-    ensures spent { IfErr result (λ f. f ≡ Spent → asks.new ≡ 0) }
+    ensures one { OnOk result ((R.feed reader.new).failed ⊎ (asks.old ≤ asks.new + 1)) }
+    ensures why { IfErr result (IsWhy (R.feed reader.new) 1 asks.old asks.new) }
 {
     let end = held + most;
     if lengthen(into, end).is_err() {
@@ -194,7 +197,7 @@ pub(crate) fn vector<R: Feeds>(
     ensures each { piece ≤ 4096 → length into.new.items + 4096 * asks.new ≤ 4096 * asks.old }
     ensures spends { OnOk result (asks.old ≤ asks.new + 1001 * length into.new.items) }
     ensures spends_err { OnErr result (asks.old ≤ asks.new + 1001 * length into.new.items + 1001) }
-    ensures spent { IfErr result (λ f. f ≡ Spent → asks.new ≡ 0) }
+    ensures why { IfErr result (IsWhy (R.feed reader.new) len asks.old asks.new) }
 {
     let mut done = 0;
     while (done as u64) < len {
@@ -221,6 +224,7 @@ pub(crate) fn skip<R: Feeds>(
     ensures loses_fewer { OnErr result
         (LosesFewer (R.feed reader.old) (R.feed reader.new) len) }
     ensures memory { IfErr result (λ f. f ≢ NoMemory) }
+    ensures why { IfErr result (IsWhy (R.feed reader.new) len asks.old asks.new) }
 {
     let mut done = 0;
     while done < len {

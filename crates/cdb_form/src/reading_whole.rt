@@ -65,6 +65,7 @@ pub fn read_whole<R: Feeds>(
         into.new.items) }
     ensures part { OnErr result (Consumes (R.feed reader.old) (R.feed reader.new)
         into.new.items) }
+    ensures failed { IfErr result (λ f. f ≡ Failed → (R.feed reader.new).failed) }
     ensures few { IfErr result (λ _. length into.new.items ≤ most) }
     ensures are { AreBytes into.new.items }
     ensures loses { LosesAtMost (R.feed reader.old) (R.feed reader.new) (most + 1) }

@@ -5,19 +5,21 @@ pub consumes_then : (old mid new : Feed) (xs ys : List ℕ) → Consumes old mid
 consumes_then old mid new xs ys a b = record {
   known = λ k. b.known (a.known k);
   back = λ k whole rest m. subst (old.may whole) (sym (append_assoc xs ys rest)) (a.back k whole (ys ++ rest) (b.back (a.known k) whole rest m));
+  stays = λ f. b.stays (a.stays f);
 }
 
 pub consumes_kept : (old mid new : Feed) (xs : List ℕ) → Consumes old mid xs → Keeps mid new → Consumes old new xs
 consumes_kept old mid new xs a b = record {
   known = λ k. b.known (a.known k);
   back = λ k whole rest m. a.back k whole rest (b.back (a.known k) whole rest m);
+  stays = λ f. b.stays (a.stays f);
 }
 
 pub consumes_no_more : (old mid new : Feed) (xs ys : List ℕ) (n : ℕ) → n ≡ 0 → Consumes old mid xs → Consumes mid new (take n ys) → Consumes old new xs
 consumes_no_more old mid new xs ys n none a b = consumes_kept old mid new xs a (subst (λ k. Consumes mid new (take k ys)) none b)
 
 pub nothing_taken : (feed : Feed) → Consumes feed feed []
-nothing_taken feed = record { known = λ k. k; back = λ k whole rest m. m }
+nothing_taken feed = record { known = λ k. k; back = λ k whole rest m. m; stays = λ f. f }
 
 pub loses_these : (old new : Feed) (n : ℕ) (xs : List ℕ) → Consumes old new xs → length xs ≤ n → LosesAtMost old new n
 loses_these old new n xs a few = record { lost = xs; taken = a; few = few }

@@ -7,11 +7,12 @@ some_eq : {xs ys : List ℕ} → ◌≡◌ {A = Option (List ℕ)} (Some xs) (So
 some_eq e = cc
 
 pub reader_gives : (old new : Option (List ℕ)) (bytes : List ℕ) → KnownConsumes old new bytes → Consumes (reader_feed old) (reader_feed new) bytes
-reader_gives None new bytes c = record { known = λ k. elim k [ ]; back = λ k. elim k [ ] }
+reader_gives None new bytes c = record { known = λ k. elim k [ ]; back = λ k. elim k [ ]; stays = λ f. f }
 reader_gives (Some xs) None bytes c = elim c [ ]
 reader_gives (Some xs) (Some ys) bytes c = record {
   known = λ k. tt;
   back = λ k whole rest m. ap Some (subst (λ z. xs ≡ bytes ++ z) (some_eq m) c);
+  stays = λ f. f;
 }
 
 reader_end : (remaining : Option (List ℕ)) → KnownEnd remaining → IsAtEnd (reader_feed remaining)

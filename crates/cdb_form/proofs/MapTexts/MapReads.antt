@@ -1,10 +1,10 @@
 -- What the parser of a map text took, piece after piece.
 use Rattle.std.proofs.Common.{All, List, None, Option, Some, [], append_assoc, ap, arith, false, get_or, is_some, length, length-append, refl, subst, sym, take, true, ◌++◌, ◌+◌, ◌<◌, ◌∙◌, ◌∷◌, ◌≡◌, ◌≢◌, ◌≤◌, ℕ}
-use Rattle.cdb_form.proofs.Words.{All-append, All-nil, All-push, AllPass, BeginsWithLine, Consumes, Feed, IsAmidLines, IsAtEnd, IsIgnoredLine, IsLineOf, IsOfText, IsReadFault, IsSpent, Keeps, KeyValue, Kind, Lacks, Source, TextFault, behind_blanks, budget, eqb-true, flat_map-append, is_blank, is_newline, is_of, line_end, line_pair, with_newlines, ◌==◌}
+use Rattle.cdb_form.proofs.Words.{All-append, All-nil, All-push, AllPass, BeginsWithLine, Consumes, Feed, IsAmidLines, IsAtEnd, IsIgnoredLine, IsLineOf, IsOfText, IsReadFault, Keeps, KeyValue, Kind, Lacks, Source, TextFault, behind_blanks, budget, eqb-true, flat_map-append, is_blank, is_newline, is_of, line_end, line_pair, with_newlines, ◌==◌}
 use Rattle.std.proofs.lemmas.List.{append-nil, length-take}
 use Rattle.cdb_form.specs.Views.MapParser.{MovesRun, ReadsLine, ReadsPair, ReadsRun, ReadsToEnding, ReadsValue}
 use Rattle.cdb_form.specs.Views.MapReader.{ReadsLinesOf}
-use Rattle.cdb_form.specs.Views.Source.{LeavesAmid, Takes}
+use Rattle.cdb_form.specs.Views.Source.{IsTold, LeavesAmid, Takes}
 use Rattle.cdb_form.specs.declared.text.fault.TextFault.TheVariants.{Syntax, Ended, Large, Input, Endless, NoMemory}
 use Rattle.cdb_form.specs.declared.text.kind.Kind.TheVariants.{Blank, InLine, InWord}
 use Rattle.cdb_form.specs.declared.text.map_parser.LineRead.TheVariants.{Ignored, Last, Pair}
@@ -107,27 +107,27 @@ run_ended kind feed old mid new bytes so kept end counted spends = record {
 }
 
 -- or a fault after it
-pub run_left : {R : Type 0} (kind : Kind) (feed : R → Feed) (old new : Source R) (bytes : List ℕ) (f : TextFault) → RunSoFar kind feed old new bytes → (IsOfText f → ⊥) → IsSpent new.asks f
+pub run_left : {R : Type 0} (kind : Kind) (feed : R → Feed) (old new : Source R) (bytes : List ℕ) (f : TextFault) → RunSoFar kind feed old new bytes → (IsOfText f → ⊥) → IsTold (feed new.reader) new.asks f
     → LeavesAmid (Lacks is_newline) feed old new f
-run_left kind feed old new bytes f so outside spent = record {
+run_left kind feed old new bytes f so outside is_told = record {
   outside = outside;
   bytes = bytes;
   are = run_lacks kind bytes so.each;
   takes = so.takes;
-  spent = spent;
+  told = is_told;
   spends = omega (arith, so.spends);
 }
 
 -- or a fault of the reader
 pub run_failed : {R : Type 0} (kind : Kind) (feed : R → Feed) (old mid new : Source R) (bytes : List ℕ) (f : TextFault) → RunSoFar kind feed old mid bytes
-    → Keeps (feed mid.reader) (feed new.reader) → new.taken ≡ mid.taken → mid.asks ≤ new.asks + 1001 → (IsOfText f → ⊥) → IsSpent new.asks f
+    → Keeps (feed mid.reader) (feed new.reader) → new.taken ≡ mid.taken → mid.asks ≤ new.asks + 1001 → (IsOfText f → ⊥) → IsTold (feed new.reader) new.asks f
     → LeavesAmid (Lacks is_newline) feed old new f
-run_failed kind feed old mid new bytes f so kept counted spends outside spent = record {
+run_failed kind feed old mid new bytes f so kept counted spends outside is_told = record {
   outside = outside;
   bytes = bytes ++ [];
   are = All-append (λ c. is_newline c ≡ false) bytes [] (run_lacks kind bytes so.each) (All-nil _);
   takes = takes_then feed old mid new bytes [] so.takes (record { read = kept; counted = omega (arith, counted) });
-  spent = spent;
+  told = is_told;
   spends = omega (arith, so.spends, spends, counted);
 }
 
@@ -148,7 +148,7 @@ leaves_behind P Q feed old mid new first f takes spends grows l = record {
   bytes = first ++ l.bytes;
   are = grows l.bytes l.are;
   takes = takes_then feed old mid new first l.bytes takes l.takes;
-  spent = l.spent;
+  told = l.told;
   spends = omega (arith, spends, l.spends);
 }
 

@@ -16,7 +16,7 @@ fails_with S g feed old new f failed fails leaves = record {
     of = met S g old.source.taken new.source.taken (feed old.source.reader) (feed new.source.reader) f fails;
     took = leaves.took;
     last = leaves.last;
-    spent = leaves.spent;
+    told = leaves.told;
     spends = leaves.spends;
   };
 }

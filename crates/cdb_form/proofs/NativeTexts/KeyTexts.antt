@@ -122,7 +122,7 @@ list_fails g feed old new f failed fails leaves = record {
     of = met SpellsKey g old.source.taken new.source.taken (feed old.source.reader) (feed new.source.reader) f fails;
     took = leaves.took;
     last = leaves.last;
-    spent = leaves.spent;
+    told = leaves.told;
     spends = leaves.spends;
   };
 }

@@ -1,5 +1,11 @@
 -- What a reader gave, request after request.
-use Rattle.cdb_form.proofs.Words.{AreBytes, Consumes, Feed, List, ap, append_assoc, arith, length, length-append, length-replicate, length-take-le, replicate, sym, take, take-append-le, take-take, ℕ, ◌++◌, ◌+◌, ◌∙◌, ◌≡◌, ◌≤◌}
+use Rattle.cdb_form.specs.Views.Taking.{IsUnread, IsWhy}
+use Rattle.cdb_form.specs.Views.Reading.{IsOfReader}
+use Rattle.cdb_form.specs.Views.WalkFault.{IsDamage, unread_walk}
+use Rattle.cdb_form.specs.declared.reading.ReadStop.{ReadStop}
+use Rattle.cdb_form.specs.declared.reading.ReadStop.TheVariants as unread
+use Rattle.cdb_form.specs.declared.walk.fault.WalkFault.{WalkFault}
+use Rattle.cdb_form.proofs.Words.{Keeps, inl, inr, refl, subst, ◌<◌, ◌⊎◌, AreBytes, Consumes, Feed, List, ap, append_assoc, arith, length, length-append, length-replicate, length-take-le, replicate, sym, take, take-append-le, take-take, ℕ, ◌++◌, ◌+◌, ◌∙◌, ◌≡◌, ◌≤◌}
 use borrow.Rule.Slice.PartMut.{put_mid, post_of}
 use Rattle.cdb_form.proofs.Bytes.ByteLemmas.{AreBytes-append, AreBytes-take}
 use Rattle.cdb_form.proofs.Files.Prefixes.{take_past}
@@ -9,6 +15,54 @@ use Rattle.cdb_form.proofs.Fed.FeedLemmas.{consumes_then}
 pub take_read : (a k n : ℕ) (xs ys : List ℕ) → a ≤ length xs → n ≤ length ys → take (a + n) (put_mid a k xs ys) ≡ take a xs ++ take n ys
 take_read a k n xs ys within few =
     take_past (take a xs) (ys ++ post_of a k xs) a n (length-take-le a xs within) ∙ ap (λ t. take a xs ++ t) (take-append-le n ys (post_of a k xs) few)
+
+-- ---- why bytes did not come
+
+pub why_ended : (new : Feed) (n asked asks : ℕ) → IsWhy new n asked asks unread.Ended
+why_ended new n asked asks = record { spent = λ e. absurd (let no : ⊥ = cc in no); used = λ e. absurd (let no : ⊥ = cc in no); failed = λ e. absurd (let no : ⊥ = cc in no) }
+
+pub why_memory : (new : Feed) (n asked asks : ℕ) → IsWhy new n asked asks unread.NoMemory
+why_memory new n asked asks = record { spent = λ e. absurd (let no : ⊥ = cc in no); used = λ e. absurd (let no : ⊥ = cc in no); failed = λ e. absurd (let no : ⊥ = cc in no) }
+
+-- after some bytes, each by a request of its own
+pub why_on : (mid new : Feed) (n done first asked asks : ℕ) (stop : ReadStop) → mid.failed ⊎ (first ≤ asked + done) → Keeps mid new → done < n → IsWhy new 1 asked asks stop → IsWhy new n first asks stop
+why_on mid new n done first asked asks stop used kept few why = record {
+  spent = why.spent;
+  used = λ e. elim used [
+    | inl f ↦ inl (kept.stays f)
+    | inr some ↦ elim (why.used e) [
+      | inl f ↦ inl f
+      | inr none ↦ inr (omega (arith, some, none, few))
+    ]
+  ];
+  failed = why.failed;
+}
+
+-- a request more, which gave some
+pub used_more : (mid new : Feed) (done n first asked asks : ℕ) (bytes : List ℕ) → mid.failed ⊎ (first ≤ asked + done) → Consumes mid new bytes → new.failed ⊎ (asked ≤ asks + 1) → 0 < n → new.failed ⊎ (first ≤ asks + (done + n))
+used_more mid new done n first asked asks bytes used read one some = elim used [
+  | inl f ↦ inl (read.stays f)
+  | inr so_far ↦ elim one [
+    | inl f ↦ inl f
+    | inr few ↦ inr (omega (arith, so_far, few, some))
+  ]
+]
+
+-- with as many requests as that the reader failed
+pub why_failed : (new : Feed) (n asked asks : ℕ) (stop : ReadStop) → IsWhy new n asked asks stop → n ≤ asked → IsOfReader stop → new.failed
+why_failed new n asked asks unread.Failed why enough of = why.failed refl
+why_failed new n asked asks unread.Spent why enough of = elim (why.used refl) [
+  | inl f ↦ f
+  | inr few ↦ absurd (let no : ⊥ = omega (arith, few, enough) in no)
+]
+why_failed new n asked asks unread.Ended why enough of = absurd of
+why_failed new n asked asks unread.NoMemory why enough of = absurd of
+
+pub unread_so : (new : Feed) (n asked asks : ℕ) (early : WalkFault) (stop : ReadStop) → IsWhy new n asked asks stop → n ≤ asked → IsDamage early → IsUnread new (unread_walk early stop)
+unread_so new n asked asks early unread.Ended why enough damage = λ e. absurd (subst IsDamage e damage)
+unread_so new n asked asks early unread.Failed why enough damage = λ e. why_failed new n asked asks unread.Failed why enough tt
+unread_so new n asked asks early unread.Spent why enough damage = λ e. why_failed new n asked asks unread.Spent why enough tt
+unread_so new n asked asks early unread.NoMemory why enough damage = λ e. absurd (let no : ⊥ = cc in no)
 
 -- a piece more was read
 pub record ReadMore (old new : Feed) (so_far piece : List ℕ) (count : ℕ) : Type 0 where

@@ -1,5 +1,5 @@
 -- What a source read, piece after piece.
-use Rattle.cdb_form.proofs.Words.{AllDigits, AreBytes, Consumes, Feed, FromTo, IsAtEnd, IsNumeral, IsRecord, KeyValue, Leaves, List, ReadsBehind, Source, Spells, SpellsRemoval, TextFault, [], ap, append_assoc, arith, budget, codes, digit_value, digits_push, digits_value, digits_value_push, length, length-append, refl, subst, sym, take, take_at, ℕ, ◌*◌, ◌++◌, ◌+◌, ◌-◌, ◌<◌, ◌∙◌, ◌∷◌, ◌≡◌, ◌≢◌, ◌≤◌}
+use Rattle.cdb_form.proofs.Words.{AllDigits, AreBytes, Consumes, Feed, FromTo, IsAtEnd, IsNumeral, IsOfText, IsRecord, KeyValue, Leaves, List, ReadsBehind, Source, Spells, SpellsRemoval, TextFault, [], ap, append_assoc, arith, budget, codes, digit_value, digits_push, digits_value, digits_value_push, length, length-append, refl, subst, sym, take, take_at, ℕ, ◌*◌, ◌++◌, ◌+◌, ◌-◌, ◌<◌, ◌∙◌, ◌∷◌, ◌≡◌, ◌≢◌, ◌≤◌}
 use Rattle.cdb_form.proofs.Bytes.ByteLemmas.{AreBytes-front}
 use Rattle.cdb_form.specs.declared.text.fault.TextFault.TheVariants.{Syntax, Ended, Large, Input, Endless, NoMemory}
 use Rattle.cdb_form.specs.Views.Taking.{Took}
@@ -7,7 +7,8 @@ use Rattle.cdb_form.proofs.Fed.FeedLemmas.{consumes_then, from_all, from_behind,
 use Rattle.cdb_form.proofs.Files.Prefixes.{take_past}
 use Rattle.cdb_form.specs.declared.reading.ReadStop.{ReadStop}
 use Rattle.cdb_form.specs.declared.reading.ReadStop.TheVariants as unread
-use Rattle.cdb_form.specs.Views.TextFault.{IsReadFault, IsSpent, LastRead, unread_fault}
+use Rattle.cdb_form.specs.Views.TextFault.{IsReadFault, LastRead, unread_fault}
+use Rattle.cdb_form.specs.Views.Source.{IsTold}
 use Rattle.cdb_form.specs.Views.FormReader.{ReadsItem}
 use Rattle.cdb_form.specs.Views.NativeParser.{FailsBytes, FailsField, seen, told}
 
@@ -60,13 +61,22 @@ took_behind old mid new from at to first read counted t = record {
   counted = omega (arith, length-append first t.bytes, t.counted);
 }
 
+-- a fault of the text is none of the reader
+pub told_of_text : (new : Feed) (asks : ℕ) (f : TextFault) → IsOfText f → IsTold new asks f
+told_of_text new asks (Syntax at) h = record { spent = λ e. absurd (let no : ⊥ = cc in no); failed = λ e. absurd (let no : ⊥ = cc in no) }
+told_of_text new asks (Ended at) h = record { spent = λ e. absurd (let no : ⊥ = cc in no); failed = λ e. absurd (let no : ⊥ = cc in no) }
+told_of_text new asks (Large at) h = record { spent = λ e. absurd (let no : ⊥ = cc in no); failed = λ e. absurd (let no : ⊥ = cc in no) }
+told_of_text new asks Input h = absurd h
+told_of_text new asks Endless h = absurd h
+told_of_text new asks NoMemory h = absurd h
+
 -- the same after some bytes and the byte that ends them
 pub leaves_past : {R : Type 0} (feed : R → Feed) (old mid new : Source R) (bytes : List ℕ) (c : ℕ) (f : TextFault)
     → Consumes (feed old.reader) (feed mid.reader) (bytes ++ c ∷ []) → mid.taken ≡ old.taken + (length bytes + 1) → budget old ≤ budget mid → Leaves feed mid new f → Leaves feed old new f
 leaves_past feed old mid new bytes c f read counted spends l = record {
   took = took_behind _ _ _ _ _ _ (bytes ++ c ∷ []) read (omega (arith, counted, length-append bytes (c ∷ []))) l.took;
   last = l.last;
-  spent = l.spent;
+  told = l.told;
   spends = omega (arith, l.spends);
 }
 
@@ -97,11 +107,11 @@ digits_took old mid new greatest start at value byte from to s read begin counte
 pub digits_leave : {R : Type 0} (feed : R → Feed) (old mid new : Source R) (greatest start value byte : ℕ) (f : TextFault)
     → DigitsSoFar (feed old.reader) (feed mid.reader) greatest start mid.taken value → start ≡ old.taken → budget old ≤ budget mid
     → Consumes (feed mid.reader) (feed new.reader) (byte ∷ []) → new.taken ≡ mid.taken + 1 → mid.asks ≤ new.asks + 1001
-    → LastRead new.taken f → IsSpent new.asks f → Leaves feed old new f
-digits_leave feed old mid new greatest start value byte f so_far begin spent read counted spends last is_spent = record {
+    → LastRead new.taken f → IsTold (feed new.reader) new.asks f → Leaves feed old new f
+digits_leave feed old mid new greatest start value byte f so_far begin spent read counted spends last is_told = record {
   took = digits_took _ _ _ greatest start mid.taken value byte _ _ so_far read begin counted;
   last = last;
-  spent = is_spent;
+  told = is_told;
   spends = omega (arith, spent, spends, counted);
 }
 

@@ -3,14 +3,17 @@
 use Rattle.std.specs.Prelude.{◌≡◌, ℕ, List, [], ◌++◌, Option, Some, None, ⊤}
 
 -- Whether anything is known of a reader, and which bytes agree with it: all of them from the start, and those left.
+-- And that it has failed: of a `Read` nobody knows it.
 pub record Feed : Type 1 where
   pub known : Type 0
   pub may : (whole rest : List ℕ) → Type 0
+  pub failed : Type 0
 
--- These bytes were taken: whatever may be left now may have been left before, after these.
+-- These bytes were taken: whatever may be left now may have been left before, after these. A failure stays.
 pub record Consumes (old new : Feed) (bytes : List ℕ) : Type 0 where
   pub known : old.known → new.known
   pub back : old.known → (whole rest : List ℕ) → new.may whole rest → old.may whole (bytes ++ rest)
+  pub stays : old.failed → new.failed
 
 -- nothing was taken
 abbrev pub Keeps : (old new : Feed) → Type 0
@@ -38,4 +41,4 @@ IsSome (Some rest) = ⊤
 -- what is known of a reader by the standard library alone
 abbrev pub reader_feed : (remaining : Option (List ℕ)) → Feed
 reader_feed remaining =
-    record { known = IsSome remaining; may = λ whole rest. remaining ≡ Some rest }
+    record { known = IsSome remaining; may = λ whole rest. remaining ≡ Some rest; failed = ⊤ }

@@ -6,8 +6,8 @@ use Rattle.cdb_form.specs.Text.Amending.{SpellsChange}
 use Rattle.cdb_form.specs.Text.Form.{HasFault, HasNoItem}
 use Rattle.cdb_form.specs.Text.Native.{Spells}
 use Rattle.cdb_form.specs.Views.Prefix.{BeginsWithRecord}
-use Rattle.cdb_form.specs.Views.Source.{at_hand, budget}
-use Rattle.cdb_form.specs.Views.TextFault.{IsOfText, IsReadFault, IsSpent, LastRead}
+use Rattle.cdb_form.specs.Views.Source.{IsTold, at_hand, budget}
+use Rattle.cdb_form.specs.Views.TextFault.{IsOfText, IsReadFault, LastRead}
 use Rattle.cdb_form.specs.declared.text.fault.TextFault.{TextFault}
 use Rattle.cdb_form.specs.declared.text.fault.TextFault.TheVariants.{Ended}
 use Rattle.cdb_form.specs.declared.text.form_reader.FormReader.{FormReader}
@@ -76,7 +76,7 @@ pub record MeetsFault {R X : Type 0} (spelling : ℕ → List ℕ → X → Type
       (λ text rest. IsFaultOf spelling greatest old.taken new.taken text fault)
   pub took : Took (feed old.reader) (feed new.reader) old.taken new.taken
   pub last : LastRead new.taken fault
-  pub spent : IsSpent new.asks fault
+  pub told : IsTold (feed new.reader) new.asks fault
   pub spends : budget old ≤ budget new + 1001
 
 -- a call gave an item, which was spelled by what was left

@@ -7,13 +7,13 @@ use Rattle.std.specs.Str.Parse.{AllDigits, digits_value}
 use Rattle.cdb_form.specs.Format.Record.{AreBytes}
 use Rattle.cdb_form.specs.Text.Amending.{SpellsChange}
 use Rattle.cdb_form.specs.Text.Native.{Spells}
-use Rattle.cdb_form.specs.Views.TextFault.{IsOfText, IsSpent, LastRead}
+use Rattle.cdb_form.specs.Views.TextFault.{IsOfText, LastRead}
 use Rattle.cdb_form.specs.declared.text.fault.TextFault.{TextFault}
 use Rattle.cdb_form.specs.declared.text.fault.TextFault.TheVariants.{Syntax, Ended, Large, Input}
 use Rattle.cdb_form.specs.declared.text.fault.TextFault.TheVariants.{Endless}
 use Rattle.cdb_form.specs.Views.Feed.{Feed, Consumes, FromTo}
 use Rattle.cdb_form.specs.Views.Taking.{Took}
-use Rattle.cdb_form.specs.Views.Source.{budget}
+use Rattle.cdb_form.specs.Views.Source.{IsTold, budget}
 use Rattle.cdb_form.specs.declared.text.source.Source.{Source}
 use Rattle.cdb_form.specs.Text.Form as form
 
@@ -115,5 +115,5 @@ pub record Leaves {R : Type 0} (feed : R → Feed) (old new : Source R) (f : Tex
   where
     pub took : Took (feed old.reader) (feed new.reader) old.taken new.taken
     pub last : LastRead new.taken f
-    pub spent : IsSpent new.asks f
+    pub told : IsTold (feed new.reader) new.asks f
     pub spends : budget old ≤ budget new + 1001

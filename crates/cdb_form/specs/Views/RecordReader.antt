@@ -16,7 +16,7 @@ use Rattle.cdb_form.specs.declared.walk.record_reader.Progress.{Progress}
 use Rattle.cdb_form.specs.declared.walk.record_reader.Progress.TheVariants.{AtHead, At, AtEnd}
 use Rattle.cdb_form.specs.declared.walk.record_reader.Progress.TheVariants.{Failed}
 use Rattle.cdb_form.specs.Views.Feed.{Feed, FromTo}
-use Rattle.cdb_form.specs.Views.Taking.{ReadsFirst, ReadsNoFurther, ReadsNoRecord}
+use Rattle.cdb_form.specs.Views.Taking.{IsUnread, ReadsFirst, ReadsNoFurther, ReadsNoRecord}
 
 -- the walk of what is unread: of a whole file before its head was read, and then from the next
 -- place on
@@ -140,5 +140,6 @@ pub record Fails {R L : Type 0} (w : ℕ) (feed : R → Feed) (old new : RecordR
       (λ text rest. (IsDamage fault → walk_left w old text ≡ stopped_by fault)
       × StillFrom (size_of_rest w old.walking text) text rest)
   pub part : ReadsNoRecord (walk_left w old) (feed old.reader) (feed new.reader)
+  pub unread : IsGoing old → IsUnread (feed new.reader) fault
   pub no_further : IsGoing old → IsDamage fault
       → ReadsNoFurther (headers_left w old.walking) (feed old.reader) (feed new.reader)

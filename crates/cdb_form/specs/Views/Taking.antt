@@ -8,10 +8,25 @@ use Rattle.cdb_form.specs.Format.Walk.{Walked, walk_of, walk_from, with_first}
 use Rattle.cdb_form.specs.Views.Pairs.{head_pairs, header_pair}
 use Rattle.cdb_form.specs.declared.head.Head.{Head}
 use Rattle.cdb_form.specs.declared.header.Header.{Header}
+use Rattle.cdb_form.specs.declared.reading.ReadStop.{ReadStop}
+use Rattle.cdb_form.specs.declared.reading.ReadStop.TheVariants.{Failed, Spent}
 use Rattle.cdb_form.specs.declared.reading_whole.Extent.{Extent}
 use Rattle.cdb_form.specs.declared.reading_whole.Extent.TheVariants.{All, More}
+use Rattle.cdb_form.specs.declared.walk.fault.WalkFault.{WalkFault}
+use Rattle.cdb_form.specs.declared.walk.fault.WalkFault.TheVariants.{Input}
 use Rattle.cdb_form.specs.declared.walk.keeping.Keeping.{Keeping}
 use Rattle.cdb_form.specs.declared.walk.keeping.Keeping.TheVariants.{Both}
+
+-- why fewer than n bytes came, of a reader that might get so many requests: it failed, or no request is left.
+-- Each request gives a byte, or fails
+pub record IsWhy (new : Feed) (n asked asks : ℕ) (stop : ReadStop) : Type 0 where
+  pub spent : stop ≡ Spent → asks ≡ 0
+  pub used : stop ≡ Spent → new.failed ⊎ (asked < n)
+  pub failed : stop ≡ Failed → new.failed
+
+-- a walk was not read on: by its reader only if that failed
+abbrev pub IsUnread : (new : Feed) → WalkFault → Type 0
+IsUnread new fault = fault ≡ Input → new.failed
 
 -- no more than n bytes were taken
 pub record LosesAtMost (old new : Feed) (n : ℕ) : Type 0 where

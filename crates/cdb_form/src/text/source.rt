@@ -23,10 +23,10 @@ pub(crate) struct Source<R> {
 impl<R: Feeds> Source<R> {
     ghost use Rattle.cdb_form.specs.Format.Record.{AreBytes};
     ghost use Rattle.cdb_form.specs.Views.NativeParser.{FailsIn, Leaves};
-    ghost use Rattle.cdb_form.specs.Views.Source.{Takes};
+    ghost use Rattle.cdb_form.specs.Views.Source.{IsTold, Takes};
     ghost use Rattle.cdb_form.specs.Views.NativeParser.{FailsBytes};
     ghost use Rattle.cdb_form.specs.Views.Source.{at_hand, budget};
-    ghost use Rattle.cdb_form.specs.Views.TextFault.{IsReadFault, IsSpent};
+    ghost use Rattle.cdb_form.specs.Views.TextFault.{IsReadFault};
 
     /// A reader that gave nothing yet, and may get `asks` requests.
     pub(crate) fn new(reader: R, asks: u64) -> Source<R>
@@ -59,7 +59,7 @@ impl<R: Feeds> Source<R> {
             (R.feed self.new.reader)) }
         ensures same { OnErr result (self.new.taken ≡ self.old.taken) }
         ensures fails { IfErr result IsReadFault }
-        ensures spent { IfErr result (IsSpent self.new.asks) }
+        ensures told { IfErr result (IsTold (R.feed self.new.reader) self.new.asks) }
     {
         let mut one = [0u8; 1];
         let n = match some_bytes(&mut self.reader, &mut self.asks, &mut one) {
@@ -112,7 +112,7 @@ impl<R: Feeds> Source<R> {
             (R.feed self.new.reader)) }
         ensures same { OnErr result (self.new.taken ≡ self.old.taken) }
         ensures fails { IfErr result IsReadFault }
-        ensures spent { IfErr result (IsSpent self.new.asks) }
+        ensures told { IfErr result (IsTold (R.feed self.new.reader) self.new.asks) }
     {
         let Some(&byte) = self.at_hand::<A>().first() else {
             return self.byte();

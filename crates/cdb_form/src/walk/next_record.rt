@@ -2,7 +2,7 @@
 ghost use Rattle.std.specs.Prelude.{◌≡◌, ◌+◌, ◌-◌, ◌<◌, drop, OnErr, IfOk, IfErr};
 ghost use Rattle.cdb_form.specs.Views.Feed.{FromTo};
 ghost use Rattle.cdb_form.specs.Format.Pair.{pair_size};
-ghost use Rattle.cdb_form.specs.Views.Taking.{LosesAtMost, ReadsFirst, ReadsNoFurther, ReadsNoRecord};
+ghost use Rattle.cdb_form.specs.Views.Taking.{IsUnread, LosesAtMost, ReadsFirst, ReadsNoFurther, ReadsNoRecord};
 ghost use Rattle.cdb_form.specs.Views.Reading.{IsKept};
 ghost use Rattle.cdb_form.specs.Format.Record.{KeyValue, record_size};
 ghost use Rattle.cdb_form.specs.Format.Walk.{walk_from, with_first};
@@ -44,6 +44,7 @@ pub(crate) fn read_record<R: Feeds, L: Width>(
     ensures header { IfErr result (λ f.
         IsDamage f → ReadsNoFurther (pair_size L.WORD) (R.feed reader.old)
         (R.feed reader.new)) }
+    ensures unread { IfErr result (IsUnread (R.feed reader.new)) }
     ensures loses { LosesAtMost (R.feed reader.old)
         (R.feed reader.new) (area.end - area.place) }
     ensures part { OnErr result (ReadsNoRecord (walk_from L.WORD area.place area.end)

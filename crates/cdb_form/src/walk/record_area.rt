@@ -2,7 +2,7 @@
 ghost use Rattle.std.specs.Prelude.{◌≡◌, ◌≤◌, drop};
 ghost use Rattle.std.specs.Prelude.{OnErr, IfOk, IfErr};
 ghost use Rattle.cdb_form.specs.Views.Feed.{FromTo};
-ghost use Rattle.cdb_form.specs.Views.Taking.{LosesAtMost, ReadsHead, ReadsNoRecord};
+ghost use Rattle.cdb_form.specs.Views.Taking.{IsUnread, LosesAtMost, ReadsHead, ReadsNoRecord};
 ghost use Rattle.cdb_form.specs.Format.Pair.{head_size};
 ghost use Rattle.cdb_form.specs.Format.Walk.{record_end, walk_of, walk_from};
 ghost use Rattle.cdb_form.specs.Views.WalkFault.{IsDamage, stopped_by};
@@ -34,6 +34,7 @@ pub(crate) fn read_area<R: Feeds, L: Width>(reader: &mut R) -> Result<RecordArea
         (R.feed reader.old) (R.feed reader.new)) }
     ensures part { OnErr result
         (ReadsNoRecord (walk_of L.WORD) (R.feed reader.old) (R.feed reader.new)) }
+    ensures unread { IfErr result (IsUnread (R.feed reader.new)) }
     ensures loses { LosesAtMost (R.feed reader.old)
         (R.feed reader.new) (head_size L.WORD) }
 {

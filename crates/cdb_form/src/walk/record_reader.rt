@@ -52,7 +52,7 @@ impl<R: Feeds, L: Width> RecordReader<R, L> {
     ghost use Rattle.cdb_form.specs.Views.RecordReader.{GivesRecord, HasEnded, HasFailed, HasPeeked};
     ghost use Rattle.cdb_form.specs.Views.RecordReader.{IsFresh, IsGoing, behind_end, behind_records};
     ghost use Rattle.cdb_form.specs.Views.RecordReader.{bytes_left, reader_of, walk_left};
-    ghost use Rattle.cdb_form.specs.Views.Taking.{ReadsFirst, ReadsNoFurther, ReadsNoRecord};
+    ghost use Rattle.cdb_form.specs.Views.Taking.{IsUnread, ReadsFirst, ReadsNoFurther, ReadsNoRecord};
 
     /// A reader of the records of the file that `reader` gives. Nothing is read yet.
     pub fn new(alloc: Global, reader: R) -> RecordReader<R, L>
@@ -204,6 +204,7 @@ impl<R: Feeds, L: Width> RecordReader<R, L> {
             IsDamage f →
             ReadsNoFurther (head_size L.WORD + pair_size L.WORD)
             (R.feed self.old.reader) (R.feed self.new.reader)) }
+        ensures unread { IfErr result (IsUnread (R.feed self.new.reader)) }
         ensures part { OnErr result (ReadsNoRecord (walk_of L.WORD)
             (R.feed self.old.reader) (R.feed self.new.reader)) }
     {
@@ -240,6 +241,7 @@ impl<R: Feeds, L: Width> RecordReader<R, L> {
             IsDamage f →
             ReadsNoFurther (pair_size L.WORD)
             (R.feed self.old.reader) (R.feed self.new.reader)) }
+        ensures unread { IfErr result (IsUnread (R.feed self.new.reader)) }
         ensures part { OnErr result (ReadsNoRecord (walk_from L.WORD area.place area.end)
             (R.feed self.old.reader) (R.feed self.new.reader)) }
     {

@@ -5,7 +5,7 @@ ghost use Rattle.cdb_form.specs.Format.Pair.{head_size, pair_size};
 ghost use Rattle.cdb_form.specs.Format.Record.{AreBytes, KeyValue};
 ghost use Rattle.cdb_form.specs.declared.walk.fault.WalkFault.TheVariants.{Short};
 ghost use Rattle.cdb_form.specs.declared.walk.keeping.Keeping.TheVariants.{Key};
-ghost use Rattle.cdb_form.specs.Views.Taking.{BodyRead, HeadRead, HeaderRead, LosesAtMost, LosesFewer};
+ghost use Rattle.cdb_form.specs.Views.Taking.{BodyRead, HeadRead, HeaderRead, IsUnread, LosesAtMost, LosesFewer};
 ghost use Rattle.cdb_form.specs.Views.Taking.{Passes, ReadsShort, ValueRead};
 ghost use Rattle.cdb_form.specs.Views.Reading.{IsKept};
 ghost use Rattle.cdb_form.specs.Views.WalkFault.{IsDamage};
@@ -30,12 +30,14 @@ const PASSED: usize = 512;
 
 /// Fills all of `into`, or answers `early` if the reader ends before that.
 fn fill<R: Feeds>(reader: &mut R, into: &mut [u8], early: WalkFault) -> Result<(), WalkFault>
+    requires { IsDamage early }
     ensures bytes { OnOk result (Consumes (R.feed reader.old)
         (R.feed reader.new) into.new) }
     ensures are { OnOk result (AreBytes into.new) }
     ensures fails { IfErr result (λ f.
         IsDamage f → (f ≡ early) × ReadsShort (length into.old) (R.feed reader.old)
         (R.feed reader.new)) }
+    ensures unread { IfErr result (IsUnread (R.feed reader.new)) }
     ensures loses { LosesAtMost (R.feed reader.old)
         (R.feed reader.new) (length into.old) }
     ensures loses_fewer { OnErr result (LosesFewer
@@ -55,6 +57,7 @@ fn bytes<R: Feeds>(
     len: u64,
     early: WalkFault,
 ) -> Result<(), WalkFault>
+    requires { IsDamage early }
     ensures read { OnOk result (Consumes (R.feed reader.old)
         (R.feed reader.new) into.new.items) }
     ensures are { AreBytes into.new.items }
@@ -62,6 +65,7 @@ fn bytes<R: Feeds>(
     ensures fails { IfErr result (λ f.
         IsDamage f → (f ≡ early) × ReadsShort len (R.feed reader.old)
         (R.feed reader.new)) }
+    ensures unread { IfErr result (IsUnread (R.feed reader.new)) }
     ensures loses { LosesAtMost (R.feed reader.old) (R.feed reader.new) len }
     ensures loses_fewer { OnErr result (LosesFewer
         (R.feed reader.old) (R.feed reader.new) len) }
@@ -78,6 +82,7 @@ pub(crate) fn file_head<R: Feeds, L: Width>(reader: &mut R) -> Result<Head, Walk
     ensures read { IfOk result (HeadRead L.WORD (R.feed reader.old) (R.feed reader.new)) }
     ensures fails { IfErr result (λ f. IsDamage f → (f ≡ Short)
         × ReadsShort (head_size L.WORD) (R.feed reader.old) (R.feed reader.new)) }
+    ensures unread { IfErr result (IsUnread (R.feed reader.new)) }
     ensures loses { LosesAtMost
         (R.feed reader.old) (R.feed reader.new) (head_size L.WORD) }
     ensures loses_fewer { OnErr result (LosesFewer
@@ -94,10 +99,12 @@ pub(crate) fn record_header<R: Feeds, L: Width>(
     reader: &mut R,
     early: WalkFault,
 ) -> Result<Header, WalkFault>
+    requires { IsDamage early }
     ensures read { IfOk result
         (HeaderRead L.WORD (R.feed reader.old) (R.feed reader.new)) }
     ensures fails { IfErr result (λ f. IsDamage f → (f ≡ early)
         × ReadsShort (pair_size L.WORD) (R.feed reader.old) (R.feed reader.new)) }
+    ensures unread { IfErr result (IsUnread (R.feed reader.new)) }
     ensures loses { LosesAtMost
         (R.feed reader.old) (R.feed reader.new) (pair_size L.WORD) }
     ensures loses_fewer { OnErr result (LosesFewer
@@ -111,10 +118,12 @@ pub(crate) fn record_header<R: Feeds, L: Width>(
 
 /// Passes over the next `len` bytes, or answers `early` if the reader ends before.
 fn pass<R: Feeds>(reader: &mut R, len: u64, early: WalkFault) -> Result<(), WalkFault>
+    requires { IsDamage early }
     ensures read { OnOk result
         (Passes len (R.feed reader.old) (R.feed reader.new)) }
     ensures fails { IfErr result (λ f. IsDamage f → (f ≡ early)
         × ReadsShort len (R.feed reader.old) (R.feed reader.new)) }
+    ensures unread { IfErr result (IsUnread (R.feed reader.new)) }
     ensures loses { LosesAtMost (R.feed reader.old) (R.feed reader.new) len }
     ensures loses_fewer { OnErr result (LosesFewer
         (R.feed reader.old) (R.feed reader.new) len) }
@@ -134,12 +143,14 @@ fn record_value<R: Feeds>(
     keeping: Keeping,
     early: WalkFault,
 ) -> Result<(), WalkFault>
+    requires { IsDamage early }
     ensures read { OnOk result (ValueRead keeping len
         (R.feed reader.old) (R.feed reader.new) into.new.items) }
     ensures same { keeping ≡ Key → into.new ≡ into.old }
     ensures are { AreBytes into.new.items }
     ensures fails { IfErr result (λ f. IsDamage f → (f ≡ early)
         × ReadsShort len (R.feed reader.old) (R.feed reader.new)) }
+    ensures unread { IfErr result (IsUnread (R.feed reader.new)) }
     ensures loses { LosesAtMost (R.feed reader.old) (R.feed reader.new) len }
     ensures loses_fewer { OnErr result (LosesFewer
         (R.feed reader.old) (R.feed reader.new) len) }
@@ -158,12 +169,14 @@ pub(crate) fn record_body<R: Feeds>(
     keeping: Keeping,
     early: WalkFault,
 ) -> Result<(), WalkFault>
+    requires { IsDamage early }
     ensures read { OnOk result ((r : KeyValue) × IsKept keeping into.new r
         × BodyRead (R.feed reader.old) (R.feed reader.new) header r) }
     ensures value { keeping ≡ Key → into.new.value ≡ into.old.value }
     ensures fails { IfErr result (λ f. IsDamage f → (f ≡ early)
         × ReadsShort (header.klen + header.vlen)
         (R.feed reader.old) (R.feed reader.new)) }
+    ensures unread { IfErr result (IsUnread (R.feed reader.new)) }
     ensures loses { LosesAtMost
         (R.feed reader.old) (R.feed reader.new) (header.klen + header.vlen) }
     ensures loses_fewer { OnErr result (LosesFewer

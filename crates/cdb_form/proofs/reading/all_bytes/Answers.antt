@@ -1,7 +1,7 @@
-use Rattle.cdb_form.proofs.Words.{AreBytes, Consumes, arith, common_steps, length, length-drop, length-take-le, rules, subst, sym, take, ◌+◌, ◌-◌, ◌∙◌, ◌≡◌}
+use Rattle.cdb_form.proofs.Words.{AreBytes, Consumes, arith, common_steps, err_from_is_err_and, length, length-drop, length-take-le, rules, subst, sym, take, ◌+◌, ◌-◌, ◌∙◌, ◌≡◌}
 use borrow.Rule.Slice.PartMut.{put_mid, same_len_mid}
 use Rattle.cdb_form.proofs.Fed.FeedLemmas.{loses_these, consumes_kept, consumes_no_more}
-use Rattle.cdb_form.proofs.Sources.AskingLemmas.{take_read, read_more}
+use Rattle.cdb_form.proofs.Sources.AskingLemmas.{take_read, read_more, used_more, why_ended, why_on}
 use Rattle.cdb_form.proofs.reading.all_bytes.Goals as goal
 
 pub loop-done-preserved : goal.loop-done-preserved
@@ -19,11 +19,20 @@ loop-done-preserved g c =
       read = subst (Consumes _ _) (sym front) more.read;
       are = subst AreBytes (sym front) more.are;
       within = omega (arith, same_len_mid done (length xs - done) xs ys c.some_bytes.auto.into, inv.within, room, c.in_ok-n.ensures.bound);
+      used = used_more _ _ done n _ _ _ _ inv.used c.in_ok-n.ensures.bytes c.in_ok-n.ensures.one (omega arith);
     }
 
 pub returns-in_err-n-clause-loses : goal.returns-in_err-n-clause-loses
 returns-in_err-n-clause-loses g c =
     loses_these _ _ _ _ (consumes_kept _ _ _ _ c.loop-done.invariant.read c.in_err-n.ensures.kept) (grind (arith, common_steps))
+
+pub returns-in_err-n-clause-why : goal.returns-in_err-n-clause-why
+returns-in_err-n-clause-why g c =
+    let p = err_from_is_err_and c.from_residual.result c.from_residual.ensures.1 in
+    rw (p.1, p.2) (why_on _ _ _ c.loop-done.done _ _ _ c.in_err-n.field-0.0 c.loop-done.invariant.used c.in_err-n.ensures.kept (omega arith) c.in_err-n.ensures.why)
+
+pub returns-then-n-eq0-clause-why : goal.returns-then-n-eq0-clause-why
+returns-then-n-eq0-clause-why g c = why_ended _ _ _ _
 
 pub returns-clause-are : goal.returns-clause-are
 returns-clause-are g c = grind (arith, common_steps)

@@ -1,4 +1,4 @@
-use Rattle.cdb_form.proofs.Words.{AreBytes, Consumes, length, take, ◌-◌, ◌≤◌}
+use Rattle.cdb_form.proofs.Words.{◌+◌, ◌⊎◌, AreBytes, Consumes, length, take, ◌-◌, ◌≤◌}
 use Rattle.cdb_form.proofs.reading.all_bytes.Given as goal
 
 -- the bytes so far
@@ -8,6 +8,7 @@ invariant-loop-done g l =
       read : Consumes (g.R.Feeds.feed l.fn.reader) (g.R.Feeds.feed l.reader) (take l.done l.into);
       are : AreBytes (take l.done l.into);
       within : l.done ≤ length l.into;
+      used : (g.R.Feeds.feed l.reader).failed ⊎ (l.fn.asks ≤ l.asks + l.done);
     }
 
 abbrev pub decreases-loop-done : goal.decreases-loop-done

@@ -24,8 +24,8 @@ returns-in-Ok-clause-read g c =
       length-take-le n ys e.bound,
     )
 
-pub returns-in-Ok-eq0-clause-spent : goal.returns-in-Ok-eq0-clause-spent
-returns-in-Ok-eq0-clause-spent g c = grind (arith, common_steps)
+pub returns-in-Ok-eq0-clause-why : goal.returns-in-Ok-eq0-clause-why
+returns-in-Ok-eq0-clause-why g c = grind (arith, common_steps)
 
 pub returns-in-Err-clause-holds : goal.returns-in-Err-clause-holds
 returns-in-Err-clause-holds g c = grind (arith, common_steps)
@@ -54,14 +54,14 @@ slice_bounds-some_bytes-count g c = grind (arith, common_steps)
 pub returns-in-Err-clause-within : goal.returns-in-Err-clause-within
 returns-in-Err-clause-within g c = grind (arith, common_steps)
 
-pub returns-then-is_err-clause-spent : goal.returns-then-is_err-clause-spent
-returns-then-is_err-clause-spent g c = search rules
+pub returns-then-is_err-clause-why : goal.returns-then-is_err-clause-why
+returns-then-is_err-clause-why g c = search rules
 
 pub returns-in-Err-clause-no_more : goal.returns-in-Err-clause-no_more
 returns-in-Err-clause-no_more g c = grind (arith, common_steps)
 
-pub returns-in-Err-clause-spent : goal.returns-in-Err-clause-spent
-returns-in-Err-clause-spent g c = grind (arith, common_steps)
+pub returns-in-Err-clause-why : goal.returns-in-Err-clause-why
+returns-in-Err-clause-why g c = grind (arith, common_steps)
 
 pub returns-in-Ok-eq0-clause-no_more : goal.returns-in-Ok-eq0-clause-no_more
 returns-in-Ok-eq0-clause-no_more g c = grind (arith, common_steps)

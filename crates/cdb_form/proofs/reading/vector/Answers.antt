@@ -1,4 +1,5 @@
-use Rattle.cdb_form.proofs.Words.{AreBytes, Consumes, arith, common_steps, rules, subst, sym, take, ◌++◌, ◌+◌, ◌≡◌, ◌≤◌}
+use Rattle.cdb_form.proofs.Sources.AskingLemmas.{used_more, why_on}
+use Rattle.cdb_form.proofs.Words.{AreBytes, Consumes, arith, common_steps, err_from_is_err_and, rules, subst, sym, take, ◌++◌, ◌+◌, ◌≡◌, ◌≤◌}
 use Rattle.cdb_form.proofs.Bytes.ByteLemmas.{AreBytes-append}
 use Rattle.cdb_form.proofs.Fed.FeedLemmas.{consumes_then}
 use Rattle.cdb_form.proofs.reading.vector.Goals as goal
@@ -21,7 +22,13 @@ loop-done-preserved g c =
       each = λ few. omega (arith, few, e.bound, c.min-most.ensures, e.fewer, inv.each few);
       fewer = omega (arith, e.fewer, inv.fewer);
       spent = omega (arith, e.bound, e.spends, inv.spent);
+      used = used_more _ _ done n _ _ _ piece inv.used e.read.1 e.one (omega (arith, e.bound));
     }
+
+pub returns-in_err-done-clause-why : goal.returns-in_err-done-clause-why
+returns-in_err-done-clause-why g c =
+    let p = err_from_is_err_and c.from_residual.result c.from_residual.ensures.1 in
+    rw (p.1, p.2) (why_on _ _ _ c.loop-done.done _ _ _ c.in_err-done.field-0.0 c.loop-done.invariant.used c.in_err-done.ensures.kept (omega arith) c.in_err-done.ensures.why)
 
 pub returns-in_err-done-clause-short : goal.returns-in_err-done-clause-short
 returns-in_err-done-clause-short g c = search rules

@@ -1,4 +1,4 @@
-use Rattle.cdb_form.proofs.Words.{AreBytes, Consumes, length, take, ◌*◌, ◌+◌, ◌-◌, ◌≤◌}
+use Rattle.cdb_form.proofs.Words.{◌⊎◌, AreBytes, Consumes, length, take, ◌*◌, ◌+◌, ◌-◌, ◌≤◌}
 use Rattle.cdb_form.proofs.reading.vector.Given as goal
 
 -- the bytes so far, each of which took at least one request and at most 1001
@@ -12,6 +12,7 @@ invariant-loop-done g l =
       each : l.piece ≤ 4096 → l.done + 4096 * l.asks ≤ 4096 * l.fn.asks;
       fewer : l.asks ≤ l.fn.asks;
       spent : l.fn.asks ≤ l.asks + 1001 * l.done;
+      used : (g.R.Feeds.feed l.reader).failed ⊎ (l.fn.asks ≤ l.asks + l.done);
     }
 
 abbrev pub decreases-loop-done : goal.decreases-loop-done

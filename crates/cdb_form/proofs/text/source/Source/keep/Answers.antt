@@ -64,7 +64,7 @@ returns-in_err-byte-clause-leaves g c =
     let m = c.in_ok-keep_at_hand.ensures.moved in
     let p = err_from_is_err_and c.from_residual-in_err-byte.result c.from_residual-in_err-byte.ensures.1 in
     let run = run_at_hand _ _ _ _ _ so.run.0 _ _ so.run.2 m in
-    rw (p.1, p.2) (run_failed _ _ _ _ c.next_byte.new.self (so.run.0 ++ m.bytes) c.in_err-byte.field-0.0 run e.kept e.same e.spends (read_fault_outside _ e.fails) e.spent)
+    rw (p.1, p.2) (run_failed _ _ _ _ c.next_byte.new.self (so.run.0 ++ m.bytes) c.in_err-byte.field-0.0 run e.kept e.same e.spends (read_fault_outside _ e.fails) e.told)
 
 pub returns-in_err-push-2-clause-are : goal.returns-in_err-push-2-clause-are
 returns-in_err-push-2-clause-are g c =
@@ -107,4 +107,4 @@ returns-in_err-push-2-clause-leaves g c =
     let of_kind : is_of c.args.kind c.in-Some.byte ≡ true = grind arith in
     let p = err_from_is_err_and c.from_residual-in_err-push-2.result c.from_residual-in_err-push-2.ensures.1 in
     let run = run_more _ _ _ _ _ _ _ (run_at_hand _ _ _ _ _ so.run.0 _ _ so.run.2 m) read counted e.fewer e.spends of_kind in
-    rw (p.1, p.2) (run_left _ _ _ _ _ _ run (λ h. h) (λ h. cc))
+    rw (p.1, p.2) (run_left _ _ _ _ _ _ run (λ h. h) (record { spent = λ h. cc; failed = λ h. absurd (let no : ⊥ = cc in no) }))

@@ -1,5 +1,5 @@
 use Rattle.cdb_form.proofs.Words.{ap, arith, common_steps, digit_value, rules, ◌*◌, ◌+◌, ◌∙◌, ◌≡◌}
-use Rattle.cdb_form.proofs.Sources.SourceLemmas.{digit_more, digits_leave}
+use Rattle.cdb_form.proofs.Sources.SourceLemmas.{digit_more, digits_leave, told_of_text}
 use Rattle.cdb_form.proofs.text.source.Source.number.Goals as goal
 
 pub loop-byte-preserved : goal.loop-byte-preserved
@@ -20,13 +20,13 @@ pub returns-in-None-with_digit-clause-leaves : goal.returns-in-None-with_digit-c
 returns-in-None-with_digit-clause-leaves g c =
     let counted = rw c.in-Some.is at c.in_ok-byte.ensures.counted in
     digits_leave _ _ c.loop-byte.self _ _ _ _ _ _ c.loop-byte.invariant.so_far c.loop-byte.invariant.start c.loop-byte.invariant.spent
-    (rw c.in-Some.is at c.in_ok-byte.ensures.bytes) counted c.in_ok-byte.ensures.spends counted (search rules)
+    (rw c.in-Some.is at c.in_ok-byte.ensures.bytes) counted c.in_ok-byte.ensures.spends counted (told_of_text _ _ _ tt)
 
 pub returns-else-byte-stop-clause-leaves : goal.returns-else-byte-stop-clause-leaves
 returns-else-byte-stop-clause-leaves g c =
     let counted = rw c.in-Some.is at c.in_ok-byte.ensures.counted in
     digits_leave _ _ c.loop-byte.self _ _ _ _ _ _ c.loop-byte.invariant.so_far c.loop-byte.invariant.start c.loop-byte.invariant.spent
-    (rw c.in-Some.is at c.in_ok-byte.ensures.bytes) counted c.in_ok-byte.ensures.spends counted (search rules)
+    (rw c.in-Some.is at c.in_ok-byte.ensures.bytes) counted c.in_ok-byte.ensures.spends counted (told_of_text _ _ _ tt)
 
 pub returns-in_default-clause-leaves : goal.returns-in_default-clause-leaves
 returns-in_default-clause-leaves g c = grind (arith, common_steps)
