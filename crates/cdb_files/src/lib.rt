@@ -6,8 +6,9 @@ mod opening;
 mod records_file;
 
 pub use cdb_names::{
-    Answer, Builder, Cause, Found, Lock, NameCall, NameFault, NameTrace, Names, RealNames, Refusal,
-    ReplaceFault, Shown, Unrenamed, Unsynced, Wanted, has_name, locked, replace_file,
+    Answer, Builder, Cause, Found, Lock, NameCall, NameFault, NameTrace, Names, Newest, RealNames,
+    Refusal, ReplaceFault, Shown, Unrenamed, Unsynced, Wanted, has_name, is_no_name, locked,
+    replace_file,
 };
 pub use fault::FileFault;
 pub use opening::open_file;

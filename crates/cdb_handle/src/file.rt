@@ -37,7 +37,9 @@ impl GivenFile {
     }
 
     /// The file. Its box is freed.
-    pub(crate) fn into_file(self) -> File {
+    pub(crate) fn into_file(self) -> File
+        ensures { result ≡ self.file }
+    {
         Box::into_inner(self.into_parts().into_box())
     }
 }

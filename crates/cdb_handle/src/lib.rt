@@ -9,6 +9,7 @@ mod address;
 mod database;
 mod file;
 mod handle;
+mod left;
 mod making;
 mod parts;
 

@@ -1,6 +1,8 @@
 // The calls of a maker whose handle a program in C holds.
 ghost use Rattle.cdb_form.specs.Format.Record.{record_of};
-ghost use Rattle.std.specs.Prelude.{◌≡◌, ◌⊎◌, Some, None, Err, IfOk, IfErr, OnOk, OnErr, MatchOption, length};
+ghost use Rattle.std.specs.Prelude.{◌≡◌, ◌⊎◌, Some, None, Err, IfOk, IfErr, IsSome, OnOk, OnErr, length};
+ghost use Rattle.std.specs.Fd.{file_raw_fd};
+ghost use Rattle.cdb_store.specs.BufferedStore.{inner_of, capacity_of};
 ghost use Rattle.cdb_store.specs.declared.make_fault.MakeFault.TheVariants.{Broken, NoMemory, Writing};
 ghost use Rattle.cdb_make.specs.Views.Maker.{Puts, FailsPutting, Follows};
 ghost use Rattle.cdb_make.specs.Views.Maker.{Removes, FailsRemoving, FailsFinishing};
@@ -8,67 +10,95 @@ ghost use Rattle.cdb_make.specs.Views.Maker.{WritesNothing, FailsLooking, SameCo
 ghost use Rattle.cdb_make.specs.Views.Appending.{AppendsAll, FailsAppending};
 ghost use Rattle.cdb_form.specs.Format.Walk.{whole_records};
 ghost use Rattle.cdb_handle.specs.Kept.{kept_in};
+ghost use Rattle.cdb_handle.specs.Left.{file_of_kept};
 ghost use Rattle.cdb_handle.specs.Calls.{BetweenCalls, HasNoMaker, HasNewMaker, IsHandleFinished};
 ghost use Rattle.cdb_handle.specs.Calls.{FindsKey, IsNew, HandleCounts, HandleWrote};
 
 use crate::database::{Database, Finished, Making};
 use crate::file::GivenFile;
 use crate::handle::Handle;
+use crate::left::{file_of, leave_open, taken_file};
 use cdb_form::{Narrow, Width};
-use cdb_make::{MakeFault, Maker, Mode, Put};
+use cdb_make::{MakeFault, Maker, Mode, Put, Refused};
 use cdb_store::{BufferedStore, FileStore, RealFile, Store};
 use std::alloc::Global;
 use std::fs::File;
 use std::mem::replace;
-use std::os::fd::IntoRawFd;
+use std::os::fd::{AsRawFd, IntoRawFd};
 
 /// How many bytes are written at once.
 const WINDOW: usize = 65536;
 
-/// Gives up the file of a store. It stays open.
-fn give_up(store: BufferedStore<FileStore<RealFile>>) {
-    keep_open(store.discard());
+/// The number of the descriptor of a file that C gives, which stays open. C compares it with the
+/// number that it wrote into the block: so it sees whether a file is laid out as it takes it to be.
+pub fn number(file: GivenFile) -> i32
+    ensures { result ≡ file_raw_fd file.file }
+{
+    let file = file.into_file();
+    let number = file.as_raw_fd();
+    // So it is not closed.
+    let _ = file.into_raw_fd();
+    number
 }
 
-/// Gives up a file. It stays open.
-fn keep_open(store: FileStore<RealFile>) {
-    let _ = store.into_file().into_file().into_raw_fd();
-}
-
-/// Gives up the file of a database. It stays open.
-fn leave(database: Database) {
-    match database {
-        Database::Open(making) => give_up(making.maker.into_store()),
-        Database::Made(finished) => give_up(finished.store),
-        Database::Lent => {}
+/// A store that collects what is written, until it has a window of it.
+fn collecting(
+    alloc: Global,
+    file: FileStore<RealFile>,
+) -> Result<BufferedStore<FileStore<RealFile>>, Refused<FileStore<RealFile>>>
+    ensures inner { IfOk result (λ store. inner_of store ≡ file) }
+    ensures window { IfOk result (λ store. capacity_of store ≡ 65536) }
+    ensures kept { IfErr result (λ refused. refused.store ≡ file) }
+    ensures fault { IfErr result (λ refused. refused.fault ≡ NoMemory) }
+{
+    match BufferedStore::new(alloc, file, WINDOW) {
+        Ok(store) => Ok(store),
+        Err(failed) => Err(Refused {
+            store: failed.value,
+            fault: MakeFault::NoMemory,
+        }),
     }
 }
 
-/// The number of the descriptor of a file that C gives, which stays open. C compares it with the
-/// number that it wrote into the block: so it sees whether a file is laid out as it takes it to be.
-pub fn number(file: GivenFile) -> i32 {
-    file.into_file().into_raw_fd()
-}
-
-/// A new maker of an empty file of less than 4 GiB.
-fn begin(alloc: Global, file: File) -> Result<Making, MakeFault>
+/// A new maker of an empty file of less than 4 GiB. The file is handed back if that failed.
+fn begin(alloc: Global, file: File) -> Result<Making, Refused<FileStore<RealFile>>>
     ensures new { IfOk result IsNew }
-    ensures fault { IfErr result (λ f. (f ≡ NoMemory) ⊎ (f ≡ Writing)) }
+    ensures fault { IfErr result (λ r. (r.fault ≡ NoMemory) ⊎ (r.fault ≡ Writing)) }
 {
-    let store = FileStore::made(RealFile::made(file));
-    let store = match BufferedStore::new(alloc, store, WINDOW) {
-        Ok(store) => store,
-        Err(failed) => {
-            keep_open(failed.value);
-            return Err(MakeFault::NoMemory);
-        }
-    };
+    let store = collecting(alloc, FileStore::made(RealFile::made(file)))?;
     match Maker::lazy(alloc, store, Narrow::GREATEST) {
         Ok(maker) => Ok(Making { maker }),
-        Err(refused) => {
-            give_up(refused.store);
-            Err(refused.fault)
+        Err(refused) => Err(Refused {
+            store: refused.store.discard(),
+            fault: refused.fault,
+        }),
+    }
+}
+
+/// Begins a database as `start` does, and hands over the file that no database has then: that of
+/// the database before, or the given one if it failed.
+fn begin_in(
+    alloc: Global,
+    handle: &mut Handle,
+    file: File,
+) -> (Result<(), MakeFault>, Option<FileStore<RealFile>>)
+    ensures ok { OnOk result.0 (HasNewMaker (kept_in handle.new)) }
+    ensures older { OnOk result.0 (result.1 ≡ file_of_kept (kept_in handle.old)) }
+    ensures err { OnErr result.0 (kept_in handle.new ≡ kept_in handle.old) }
+    ensures given { OnErr result.0 (IsSome result.1) }
+    ensures fault { IfErr result.0 (λ f. (f ≡ NoMemory) ⊎ (f ≡ Writing)) }
+{
+    let making = match begin(alloc, file) {
+        Ok(making) => making,
+        Err(refused) => return (Err(refused.fault), Some(refused.store)),
+    };
+    match Box::new(alloc, Database::Open(making)) {
+        Ok(database) => {
+            let older = taken_file(alloc, handle);
+            *handle = Handle::of(database);
+            (Ok(()), older)
         }
+        Err(failed) => (Err(MakeFault::NoMemory), file_of(failed.value)),
     }
 }
 
@@ -82,18 +112,9 @@ pub fn start(alloc: Global, handle: &mut Handle, file: GivenFile) -> Result<(), 
     ensures err { OnErr result (kept_in handle.new ≡ kept_in handle.old) }
     ensures fault { IfErr result (λ f. (f ≡ NoMemory) ⊎ (f ≡ Writing)) }
 {
-    let making = begin(alloc, file.into_file())?;
-    match Box::new(alloc, Database::Open(making)) {
-        Ok(database) => {
-            release(alloc, handle);
-            *handle = Handle::of(database);
-            Ok(())
-        }
-        Err(failed) => {
-            leave(failed.value);
-            Err(MakeFault::NoMemory)
-        }
-    }
+    let (answer, left) = begin_in(alloc, handle, file.into_file());
+    leave_open(left);
+    answer
 }
 
 /// Appends the whole records at the start of some bytes, if the database has an open maker.
@@ -352,7 +373,5 @@ pub fn finish(alloc: Global, handle: &mut Handle) -> Result<(), MakeFault>
 pub fn release(alloc: Global, handle: &mut Handle)
     ensures { kept_in handle.new ≡ None }
 {
-    if let Some(database) = handle.take(alloc) {
-        leave(Box::into_inner(database));
-    }
+    leave_open(taken_file(alloc, handle));
 }

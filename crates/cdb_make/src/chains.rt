@@ -49,12 +49,13 @@ pub(crate) struct Chains {
 }
 
 impl Chains {
-    ghost use Rattle.cdb_make.specs.Views.Chains.{LinksIfRoom, LinksNext, HasRoomFor};
+    ghost use Rattle.cdb_make.specs.Views.Chains.{LinksIfRoom, LinksNext, HasRoomFor, HasNoRoom};
 
     /// Chains of no entries.
     pub(crate) fn new(alloc: Global) -> Chains
         ensures heads { result.heads.items ≡ [] }
         ensures before { result.before.items ≡ [] }
+        ensures none { HasNoRoom result }
     {
         Chains {
             heads: Vec::new(alloc),
@@ -95,14 +96,18 @@ impl Chains {
         self.last_linked(hashes, marks, hash, at)
     }
 
-    /// Where such a search begins: at the entry before `end`, or at the last of the bucket.
+    /// Where such a search begins: at the entry before `end` if that has the hash and no mark, so
+    /// that no entry of a hash is looked at twice, or at the last of the bucket.
     fn start(&self, hashes: &[u32], marks: &[Mark], hash: u32, end: usize) -> usize
         requires chained { AreChained self.now.heads.items self.now.before.items hashes.now (gone_of (all_marks (length hashes.now) marks.now)) }
         requires long { length marks.now ≤ length hashes.now }
         requires end { end ≤ length self.now.before.items }
         requires some { 0 < end }
-        ensures { Reaches (length self.now.heads.items) hash hashes.now (gone_of (all_marks (length hashes.now) marks.now))
+        ensures reaches { Reaches (length self.now.heads.items) hash hashes.now (gone_of (all_marks (length hashes.now) marks.now))
             (length self.now.before.items) end result }
+        ensures next { end < length self.now.before.items
+            → Has hash hashes.now (gone_of (all_marks (length hashes.now) marks.now)) end
+            → result ≡ slice_index self.now.before.items end }
     {
         if end < self.before.len() && is_left(hashes, marks, hash, end) {
             return self.before[end] as usize;
@@ -377,6 +382,7 @@ impl Chains {
         requires found { HaveHash hash hashes.now marks.old }
         ensures chained { AreChained self.new.heads.items self.new.before.items hashes.now (gone_of marks.new) }
         ensures marks { marks.new ≡ map taken marks.old }
+        ensures same { length self.new.before.items ≡ length self.old.before.items }
     {
         self.take_linked(hashes, marks, hash);
         take_each(marks, self.before.len());

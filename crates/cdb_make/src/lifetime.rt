@@ -76,6 +76,7 @@ impl<S: Store, L: Width> Maker<S, L> {
     ghost use Rattle.cdb_make.specs.Views.Maker.{Holds, Begins, is_lazy, IsUsable, IsFile, made_size, FinishWrites};
     ghost use Rattle.cdb_make.specs.Views.Maker.{PutsHeadLast, ComesFrom, SameCounts, FailsFinishing};
     ghost use Rattle.cdb_make.specs.Views.Maker.{CompactsAll, FailsCompactingAll, Follows, HasNotFailed};
+    ghost use Rattle.cdb_make.specs.Views.Chains.{HasNoRoom};
 
     /// A maker that takes records out at once, or later, as `new` and `lazy` make one.
     fn begun(alloc: Global, store: S, limit: u64, lazy: bool) -> Result<Maker<S, L>, Refused<S>>
@@ -161,6 +162,7 @@ impl<S: Store, L: Width> Maker<S, L> {
         ensures follows { Follows self.old self.new }
         ensures counts { SameCounts self.old self.new }
         ensures fine { OnOk result (HasNotFailed self.old self.new) }
+        ensures freed { OnOk result (HasNoRoom self.new.roll.chains) }
     {
         self.compact_all()?;
         self.roll.unchain(self.alloc);

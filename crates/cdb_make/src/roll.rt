@@ -150,7 +150,7 @@ pub(crate) struct Roll<L: Width> {
 }
 
 impl<L: Width> Roll<L> {
-    ghost use Rattle.cdb_make.specs.Views.Chains.{LinksIfRoom, LinksNext, HasRoomFor};
+    ghost use Rattle.cdb_make.specs.Views.Chains.{LinksIfRoom, LinksNext, HasRoomFor, HasNoRoom};
     ghost use Rattle.cdb_make.specs.Views.Roll.{searched, sought_in, marks_in, IsSought, HasRoom, SameRecords};
 
     /// No records.
@@ -312,8 +312,8 @@ impl<L: Width> Roll<L> {
     }
 
     /// Makes room in each column for one more record, and in the chains for as many as the columns
-    /// have room for. If memory is refused, no record has changed, and `most` says for how many the
-    /// columns have room.
+    /// have room for. The chains stay. If memory is refused, no record has changed, and `most` says
+    /// for how many the columns have room.
     #[cold]
     #[inline(never)]
     fn grow(&mut self) -> Result<(), AllocError>
@@ -327,6 +327,8 @@ impl<L: Width> Roll<L> {
         ensures kept_marks { self.new.marks.items ≡ self.old.marks.items }
         ensures gone { self.new.gone ≡ self.old.gone }
         ensures found { self.new.found ≡ self.old.found }
+        ensures heads { self.new.chains.heads.items ≡ self.old.chains.heads.items }
+        ensures before { self.new.chains.before.items ≡ self.old.chains.before.items }
     {
         reserve_one(&mut self.hashes)?;
         reserve_tag(self.tagged, &mut self.tags)?;
@@ -336,8 +338,8 @@ impl<L: Width> Roll<L> {
         self.chains.reserve(self.most)
     }
 
-    /// Makes room for one more record, and in the chains too if memory is given for them. If memory
-    /// is refused, nothing has changed.
+    /// Makes room for one more record, and in the chains too if memory is given for them. The chains
+    /// stay. If memory is refused, nothing has changed.
     #[inline(always)]
     pub(crate) fn reserve(&mut self) -> Result<(), AllocError>
         ensures room { OnOk result (HasRoom self.new) }
@@ -348,6 +350,8 @@ impl<L: Width> Roll<L> {
         ensures kept_marks { self.new.marks.items ≡ self.old.marks.items }
         ensures gone { self.new.gone ≡ self.old.gone }
         ensures found { self.new.found ≡ self.old.found }
+        ensures heads { self.new.chains.heads.items ≡ self.old.chains.heads.items }
+        ensures before { self.new.chains.before.items ≡ self.old.chains.before.items }
     {
         if self.hashes.len() < self.most {
             return Ok(());
@@ -438,6 +442,7 @@ impl<L: Width> Roll<L> {
         ensures same { SameRecords self.old self.new }
         ensures tagged { self.new.tagged ≡ self.old.tagged }
         ensures kept { self.new.gone ≡ self.old.gone }
+        ensures chains { self.new.chains ≡ self.old.chains }
         ensures room { HasRoom self.old → HasRoom self.new }
     {
         self.mark_all();
@@ -459,6 +464,7 @@ impl<L: Width> Roll<L> {
             ≡ or_each (gone_of (marks_in self.old)) (found_of (marks_in self.old)) }
         ensures count { self.new.gone.count ≡ self.old.gone.count + self.old.found.count }
         ensures size { self.new.gone.size ≡ self.old.gone.size + self.old.found.size }
+        ensures linked { length self.new.chains.before.items ≡ length self.old.chains.before.items }
     {
         // Else a record that is put would take as long as all those before it that are in no chain.
         if self.found.count == 0 {
@@ -482,6 +488,7 @@ impl<L: Width> Roll<L> {
         ensures gone { gone_of (marks_in self.new) ≡ gone_of (marks_in self.old) }
         ensures found { AreNone (found_of (marks_in self.new)) }
         ensures picked { self.new.gone ≡ self.old.gone }
+        ensures chains { self.new.chains ≡ self.old.chains }
         ensures room { vec_capacity self.new.hashes ≡ vec_capacity self.old.hashes }
         ensures place_room { self.new.places ≡ self.old.places }
         ensures mark_room { vec_capacity self.new.marks ≡ vec_capacity self.old.marks }
@@ -524,6 +531,7 @@ impl<L: Width> Roll<L> {
         ensures kept_marks { self.new.marks ≡ self.old.marks }
         ensures gone { self.new.gone ≡ self.old.gone }
         ensures found { self.new.found ≡ self.old.found }
+        ensures freed { HasNoRoom self.new.chains }
     {
         self.chains = Chains::new(alloc);
     }

@@ -144,6 +144,8 @@ impl Names for FakeNames {
 
     ghost calls = { λ n. n.trace.events };
 
+    ghost lacks = { λ _. Unit {0} };
+
     fn refusal(&self) -> Option<&Refusal> {
         None
     }

@@ -12,6 +12,10 @@ abbrev pub LinksNext : ℕ → Chains → Chains → Type 0
 LinksNext n old new = n ≡ length old.before.items → n < length old.heads.items → n < vec_capacity old.before
     → length new.before.items ≡ n + 1
 
+-- there is room for none, so the chains take no memory
+abbrev pub HasNoRoom : Chains → Type 0
+HasNoRoom c = (vec_capacity c.heads ≡ 0) × (vec_capacity c.before ≡ 0)
+
 -- there is room for so many entries, or for as many as can be in chains
 abbrev pub HasRoomFor : ℕ → Chains → Type 0
 HasRoomFor count c = min count (2 ^ 32 - 1) ≤ min (vec_capacity c.before) (vec_capacity c.heads)

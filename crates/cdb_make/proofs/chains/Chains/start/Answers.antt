@@ -2,8 +2,8 @@ use Rattle.cdb_make.proofs.Words.{all_marks, IsIn, IsLast, List, arith, get_or_d
 use Rattle.cdb_make.proofs.Linking.{reaches_from}
 use Rattle.cdb_make.proofs.chains.Chains.start.Goals as goal
 
-pub returns : goal.returns
-returns c =
+pub returns-clause-reaches : goal.returns-clause-reaches
+returns-clause-reaches c =
     let s = c.args.self.now in
     let hs : List ℕ = c.args.hashes.now in
     let ms = gone_of (all_marks (length c.args.hashes.now) c.args.marks.now) in
