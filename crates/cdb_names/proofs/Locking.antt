@@ -13,9 +13,8 @@ use Rattle.cdb_names.specs.Wanted.{plain_bits, private_bits}
 
 -- the lock of a file was taken
 has_lock : (t : List ℕ) (lock : Lock) (mid : NameCalls) → lock ≢ Held → HasLock t ((Locked lock, t, [], []) ∷ mid)
-has_lock t Taken mid free = inl refl
-has_lock t Unsupported mid free = inl refl
 has_lock t Held mid free = absurd (free refl)
+has_lock t lock mid free = inl refl
 
 -- an old file of another name may be removed then
 pub old_removable : (t n : List ℕ) (old mid new : NameCalls) → AreNamesApart t n old → mid ≡ (Opened, t, [], []) ∷ old → TakesLock t mid new

@@ -40,20 +40,7 @@ weaker_one t n f (NotRenamed len fault, from, to, file) r =
 weaker_one t n f (Made asked, one, other, file) r = r
 weaker_one t n f (Removed, one, other, file) r = r
 weaker_one t n f (NotRemoved, one, other, file) r = r
-weaker_one t n f (Special is, one, other, file) r = tt
-weaker_one t n f (Same is, one, other, file) r = tt
-weaker_one t n f (Looked is, one, other, file) r = tt
-weaker_one t n f (Opened, one, other, file) r = tt
-weaker_one t n f (NotOpened fault, one, other, file) r = tt
-weaker_one t n f (NotMade fault, one, other, file) r = tt
-weaker_one t n f (Locked lock, one, other, file) r = tt
-weaker_one t n f (Own is, one, other, file) r = tt
-weaker_one t n f (Bits bits, one, other, file) r = tt
-weaker_one t n f (Input is, one, other, file) r = tt
-weaker_one t n f (Seen bits, one, other, file) r = tt
-weaker_one t n f (Set bits, one, other, file) r = tt
-weaker_one t n f (Synced, one, other, file) r = tt
-weaker_one t n f (NotSynced, one, other, file) r = tt
+weaker_one t n f other_case r = tt
 
 weaker_all : (t n : List ℕ) {P Q : List ℕ → Type 0} → ((b : List ℕ) → P b → Q b) → (since old : NameCalls)
     → EachIsStep t n P since old → EachIsStep t n Q since old
@@ -128,19 +115,7 @@ keeps n place old now (NotRenamed len fault, from, to, file) may before first he
 keeps n place old now (NotRenamed len fault, from, to, file) may before first held (inr (inl is)) = inr (inr (subst (λ name. place name ≡ true) may.from_is is.0))
 keeps n place old now (NotRenamed len fault, from, to, file) may before first held (inr (inr was)) = before first held was
 keeps n place old now (Synced, one, other, file) may before first held is = before first held is.0
-keeps n place old now (Special is, one, other, file) may before first held was = before first held was
-keeps n place old now (Same is, one, other, file) may before first held was = before first held was
-keeps n place old now (Looked is, one, other, file) may before first held was = before first held was
-keeps n place old now (Opened, one, other, file) may before first held was = before first held was
-keeps n place old now (NotOpened fault, one, other, file) may before first held was = before first held was
-keeps n place old now (NotMade fault, one, other, file) may before first held was = before first held was
-keeps n place old now (Locked lock, one, other, file) may before first held was = before first held was
-keeps n place old now (Own is, one, other, file) may before first held was = before first held was
-keeps n place old now (Bits bits, one, other, file) may before first held was = before first held was
-keeps n place old now (Input is, one, other, file) may before first held was = before first held was
-keeps n place old now (Seen bits, one, other, file) may before first held was = before first held was
-keeps n place old now (Set bits, one, other, file) may before first held was = before first held was
-keeps n place old now (NotSynced, one, other, file) may before first held was = before first held was
+keeps n place old now call may before first held was = before first held was
 
 all_keep : (t n : List ℕ) (whole : List ℕ → Type 0) (place : List ℕ → Bool) (old since : NameCalls)
     → AllByRecursion (IsOfReplacing t n whole) since → Keeps place t whole old (since ++ old)

@@ -75,28 +75,7 @@ stop_since t n old mid before (Looked found.Other, one, two, file) on is = (is.0
 stop_since t n old mid before (Looked found.Unknown, one, two, file) on is = (is.0, unmade_further t old mid before on is.1)
 stop_since t n old mid before (NotOpened Failed, one, two, file) on is = (is.0, unmade_further t old mid before on is.1)
 stop_since t n old mid before (Locked locking.Held, one, two, file) on is = (is.0, hand_since t old mid before on is.1)
-stop_since t n old mid before (Special answer.Yes, one, two, file) on is = absurd is
-stop_since t n old mid before (Special answer.No, one, two, file) on is = absurd is
-stop_since t n old mid before (Same answer.No, one, two, file) on is = absurd is
-stop_since t n old mid before (Looked found.Nothing, one, two, file) on is = absurd is
-stop_since t n old mid before (Looked found.File, one, two, file) on is = absurd is
-stop_since t n old mid before (NotOpened NoMemory, one, two, file) on is = absurd is
-stop_since t n old mid before (NotMade NoMemory, one, two, file) on is = absurd is
-stop_since t n old mid before (Locked locking.Taken, one, two, file) on is = absurd is
-stop_since t n old mid before (Locked locking.Unsupported, one, two, file) on is = absurd is
-stop_since t n old mid before (Opened, one, two, file) on is = absurd is
-stop_since t n old mid before (Made asked, one, two, file) on is = absurd is
-stop_since t n old mid before (Own said, one, two, file) on is = absurd is
-stop_since t n old mid before (Input said, one, two, file) on is = absurd is
-stop_since t n old mid before (Bits (Some held), one, two, file) on is = absurd is
-stop_since t n old mid before (Seen bits, one, two, file) on is = absurd is
-stop_since t n old mid before (Set bits, one, two, file) on is = absurd is
-stop_since t n old mid before (Removed, one, two, file) on is = absurd is
-stop_since t n old mid before (NotRemoved, one, two, file) on is = absurd is
-stop_since t n old mid before (Renamed len, one, two, file) on is = absurd is
-stop_since t n old mid before (NotRenamed len fault, one, two, file) on is = absurd is
-stop_since t n old mid before (Synced, one, two, file) on is = absurd is
-stop_since t n old mid before (NotSynced, one, two, file) on is = absurd is
+stop_since t n old mid before stop on is = absurd is
 
 making_since : (t n : List ℕ) (old mid new : NameCalls) → IsUnmade t old mid → StopsMaking t n mid new → StopsMaking t n old new
 making_since t n old mid new on (stop, before, since, inl (is, are)) =
@@ -111,9 +90,7 @@ memory_since t old mid new on (before, inr (is, free)) =
 pub stops_since : {E : Type 0} (t n : List ℕ) (old mid new : NameCalls) (fault : ReplaceFault E) → IsUnmade t old mid → ReplacingStopsAt t n mid new fault → ReplacingStopsAt t n old new fault
 stops_since t n old mid new replacing.Open on stops = making_since t n old mid new on stops
 stops_since t n old mid new replacing.NoMemory on stops = memory_since t old mid new on stops
-stops_since t n old mid new replacing.Rename on stops = absurd stops
-stops_since t n old mid new replacing.Write on stops = absurd stops
-stops_since t n old mid new (replacing.Build fault) on stops = absurd stops
+stops_since t n old mid new fault on stops = absurd stops
 
 not_given_since : (t n : List ℕ) (bits : ℕ) (old mid calls : NameCalls) → GoesOn old mid → IsNotGiven t n bits mid calls → IsNotGiven t n bits old calls
 not_given_since t n bits old mid calls on (held, wanted, file, before, since, not, is) =
@@ -123,24 +100,7 @@ pub bits_since : (t n : List ℕ) (old mid before : NameCalls) (stop : NameEvent
 bits_since t n old mid before (Bits None, one, two, file) on is = is
 bits_since t n old mid before (Seen None, one, two, file) on is = is
 bits_since t n old mid before (Seen (Some shown), one, two, file) on is = (is.0, not_given_since t n shown.bits old mid before on is.1)
-bits_since t n old mid before (Bits (Some held), one, two, file) on is = absurd is
-bits_since t n old mid before (Special said, one, two, file) on is = absurd is
-bits_since t n old mid before (Same said, one, two, file) on is = absurd is
-bits_since t n old mid before (Looked said, one, two, file) on is = absurd is
-bits_since t n old mid before (Opened, one, two, file) on is = absurd is
-bits_since t n old mid before (NotOpened fault, one, two, file) on is = absurd is
-bits_since t n old mid before (Made asked, one, two, file) on is = absurd is
-bits_since t n old mid before (NotMade fault, one, two, file) on is = absurd is
-bits_since t n old mid before (Locked lock, one, two, file) on is = absurd is
-bits_since t n old mid before (Own said, one, two, file) on is = absurd is
-bits_since t n old mid before (Input said, one, two, file) on is = absurd is
-bits_since t n old mid before (Set bits, one, two, file) on is = absurd is
-bits_since t n old mid before (Removed, one, two, file) on is = absurd is
-bits_since t n old mid before (NotRemoved, one, two, file) on is = absurd is
-bits_since t n old mid before (Renamed len, one, two, file) on is = absurd is
-bits_since t n old mid before (NotRenamed len fault, one, two, file) on is = absurd is
-bits_since t n old mid before (Synced, one, two, file) on is = absurd is
-bits_since t n old mid before (NotSynced, one, two, file) on is = absurd is
+bits_since t n old mid before stop on is = absurd is
 
 pub rename_since : (t n : List ℕ) (old mid new : NameCalls) (fault : NameFault) → GoesOn old mid → FailsRename t n mid new fault → FailsRename t n old new fault
 rename_since t n old mid new fault on (len, file, before, since, is) = (len, file, before, further old mid before on since, is)
@@ -239,6 +199,4 @@ user_seen t one shown file mid new some empty sees =
 pub unbuilt : {E : Type 0} (t n : List ℕ) (old new : NameCalls) (fault : ReplaceFault E) → ReplacingStopsAt t n old new fault → StopsUnbuilt t n old new fault
 unbuilt t n old new replacing.Open stops = inr stops
 unbuilt t n old new replacing.NoMemory stops = stops
-unbuilt t n old new replacing.Rename stops = absurd stops
-unbuilt t n old new replacing.Write stops = absurd stops
-unbuilt t n old new (replacing.Build fault) stops = absurd stops
+unbuilt t n old new fault stops = absurd stops

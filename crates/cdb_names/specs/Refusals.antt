@@ -1,5 +1,5 @@
 -- Which call on names was refused last, on which name, and for which causes.
-use Rattle.std.specs.Prelude.{ℕ, ◌≡◌, ◌||◌, Bool, true, false, List, [], ◌∷◌, Option, None, Some, string_bytes}
+use Rattle.std.specs.Prelude.{ℕ, ◌≡◌, ◌||◌, Bool, true, false, List, [], ◌∷◌, Option, None, Some, string_bytes, ⊤}
 use Rattle.cdb_names.specs.declared.answer.Answer.TheVariants.{Yes, No}
 use Rattle.cdb_names.specs.declared.answer.Answer.TheVariants as answer
 use Rattle.cdb_names.specs.declared.answer.Found.TheVariants as found
@@ -8,6 +8,8 @@ use Rattle.cdb_names.specs.declared.name_trace.NameCall.{NameCall}
 use Rattle.cdb_names.specs.declared.name_trace.NameCall.TheVariants as call
 use Rattle.cdb_names.specs.declared.refusal.Cause.{Cause}
 use Rattle.cdb_names.specs.declared.refusal.Cause.TheVariants as cause
+use Rattle.cdb_names.specs.declared.refusal.Newest.{Newest}
+use Rattle.cdb_names.specs.declared.refusal.Newest.TheVariants as newest
 use Rattle.cdb_names.specs.declared.refusal.Refusal.{Refusal}
 use Rattle.cdb_names.specs.Folder.{NameCalls}
 
@@ -107,3 +109,27 @@ refused_for why ((call, name, other, file) ∷ calls) =
 abbrev pub IsNameRefusal : Refusal → NameCalls → Type 0
 IsNameRefusal refusal calls =
     refused_for refusal.cause calls ≡ Some (string_bytes refusal.name, string_bytes refusal.other)
+
+-- the name that the newest call refused, of those that refused one
+abbrev pub or_older : (name older : Option (List ℕ)) → Option (List ℕ)
+or_older None older = older
+or_older (Some name) older = Some name
+
+abbrev pub refused_last : NameCalls → Option (List ℕ)
+refused_last [] = None
+refused_last ((call, name, other, file) ∷ calls) =
+    or_older (refused_name call name other) (refused_last calls)
+
+-- none did
+abbrev pub IsUnrefused : NameCalls → Type 0
+IsUnrefused calls = refused_last calls ≡ None
+
+-- what is kept of that call: its names and the cause
+abbrev pub refusal_in : Newest → Option Refusal
+refusal_in (newest.Refused refusal) = Some refusal
+refusal_in kept = None
+
+-- or nothing, for want of memory
+abbrev pub IsUnkept : Newest → Type 0
+IsUnkept newest.Unkept = ⊤
+IsUnkept kept = ⊥

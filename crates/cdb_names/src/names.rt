@@ -1,8 +1,8 @@
 // Names in folders, by the calls on them.
-ghost use Rattle.std.specs.Prelude.{◌≡◌, [], ◌∷◌, IfOk, IfErr, IfSome, OnOk};
+ghost use Rattle.std.specs.Prelude.{◌≡◌, ◌⊎◌, [], ◌∷◌, IfOk, IfErr, IfSome, None, OnOk};
 ghost use Rattle.cdb_store.specs.declared.trace.Call.TheVariants.{Made as FileMade};
 ghost use Rattle.cdb_names.specs.Folder.{IsCleared, MayTake, NameCalls};
-ghost use Rattle.cdb_names.specs.Refusals.{IsNameRefusal};
+ghost use Rattle.cdb_names.specs.Refusals.{IsNameRefusal, IsUnrefused};
 ghost use Rattle.cdb_names.specs.declared.name_trace.NameCall.TheVariants.{
   Special,
   Same,
@@ -48,9 +48,14 @@ pub trait Names {
     /// The calls, the newest first.
     ghost calls: { Self → NameCalls };
 
-    /// The name that was refused last, and why. `None`: none was, or it is not known.
+    /// Memory for a copy of the name that was refused last was refused.
+    ghost lacks: { Self → Type 0 };
+
+    /// The name that was refused last, and why. `None`: none was, or there was no memory for a copy
+    /// of it.
     fn refusal(&self) -> Option<&Refusal>
-        ensures { IfSome result (λ refusal. IsNameRefusal refusal.now (calls self.now)) };
+        ensures why { IfSome result (λ refusal. IsNameRefusal refusal.now (calls self.now)) }
+        ensures none { result ≡ None → IsUnrefused (calls self.now) ⊎ lacks self.now };
 
     /// The number of the error of the last call that failed on the file from which a name was taken
     /// last, if the system gave one.

@@ -4,8 +4,9 @@ ghost use Rattle.cdb_names.specs.declared.answer.Answer.TheVariants.{Yes};
 ghost use Rattle.cdb_names.specs.declared.answer.Lock.TheVariants.{Held};
 ghost use Rattle.cdb_names.specs.declared.name_trace.NameCall.TheVariants.{Locked, NotMade, NotOpened, Renamed, NotRenamed, Same};
 ghost use Rattle.std.specs.Option.{ForSome};
+ghost use Rattle.cdb_names.specs.declared.refusal.Newest.TheVariants.{Nothing};
 ghost use Rattle.cdb_names.specs.Folder.{IsRemoval, IsCleared};
-ghost use Rattle.cdb_names.specs.Refusals.{refused_for, is_of_system, may_be_for, refused_name};
+ghost use Rattle.cdb_names.specs.Refusals.{IsUnkept, IsUnrefused, is_of_system, may_be_for, refusal_in, refused_for, refused_name};
 
 use crate::answer::{Answer, Found, Lock};
 use crate::locks::locked;
@@ -13,7 +14,7 @@ use crate::looks::{Look, folder_of, has_name, is_link, is_one, is_one_of, looked
 use crate::name_fault::NameFault;
 use crate::name_trace::{NameCall, NameTrace};
 use crate::names::{Names, Unrenamed};
-use crate::refusal::{Cause, Refusal};
+use crate::refusal::{Cause, Newest, Refusal};
 use crate::replace::PRIVATE;
 use crate::shown::Shown;
 use crate::standard_input::input_look;
@@ -30,14 +31,15 @@ pub struct RealNames<'a, R> {
     rt: &'a R,
     trace: NameTrace,
     /// The name that was refused last, if there was memory for it.
-    last: Option<Refusal>,
+    last: Newest,
     /// The number of the error of the last call that failed on the file whose name was removed
     /// last.
     file_error: Option<i32>,
     /// The number of the error of the last removal, if that failed.
     unremoved: Option<i32>,
-    ghost newest: { ForSome last (λ refusal. refused_for refusal.cause trace.events
+    ghost newest: { ForSome (refusal_in last) (λ refusal. refused_for refusal.cause trace.events
         ≡ Some (string_bytes refusal.name, string_bytes refusal.other)) },
+    ghost none: { last ≡ Nothing → IsUnrefused trace.events },
 }
 
 impl<'a, R: Files<File = File> + AllocGlobal> RealNames<'a, R> {
@@ -48,7 +50,7 @@ impl<'a, R: Files<File = File> + AllocGlobal> RealNames<'a, R> {
         RealNames {
             rt,
             trace: NameTrace::new(),
-            last: None,
+            last: Newest::Nothing,
             file_error: None,
             unremoved: None,
         }
@@ -89,7 +91,7 @@ impl<'a, R: Files<File = File> + AllocGlobal> RealNames<'a, R> {
         ensures trace { self.new.trace.events
             ≡ (call.now, name.now, other.now, file.now.events) ∷ self.old.trace.events }
     {
-        self.last = Refusal::new(self.rt.alloc(), refused, other, cause).ok();
+        self.last = Newest::copied(self.rt.alloc(), refused, other, cause);
         self.trace
             .note(call, name.as_bytes(), other.as_bytes(), file);
     }
@@ -191,8 +193,13 @@ impl<'a, R: Files<File = File> + AllocGlobal> Names for RealNames<'a, R> {
 
     ghost calls = { λ n. n.trace.events };
 
+    ghost lacks = { λ n. IsUnkept n.last };
+
     fn refusal(&self) -> Option<&Refusal> {
-        self.last.as_ref()
+        match &self.last {
+            Newest::Refused(refusal) => Some(refusal),
+            Newest::Nothing | Newest::Unkept => None,
+        }
     }
 
     fn file_error(&self) -> Option<i32> {

@@ -60,6 +60,36 @@ impl Cause {
     }
 }
 
+/// What is kept of the newest call that refused a name.
+#[derive(Drop)]
+pub enum Newest {
+    /// No call refused one.
+    Nothing,
+    /// The name, and why.
+    Refused(Refusal),
+    /// A call did, and memory for a copy of its name was refused.
+    Unkept,
+}
+
+impl Newest {
+    ghost use Rattle.std.specs.Prelude.{IfSome, string_bytes};
+    ghost use Rattle.cdb_names.specs.Refusals.{refusal_in};
+    ghost use Rattle.cdb_names.specs.declared.refusal.Newest.TheVariants.{Nothing};
+
+    /// The refusal of a call on a name, and on another one, if there is memory for their copies.
+    pub fn copied(alloc: Global, name: &str, other: &str, cause: Cause) -> Newest
+        ensures name { IfSome (refusal_in result) (λ r. string_bytes r.name ≡ name.now) }
+        ensures other { IfSome (refusal_in result) (λ r. string_bytes r.other ≡ other.now) }
+        ensures cause { IfSome (refusal_in result) (λ r. r.cause ≡ cause) }
+        ensures refused { result ≡ Nothing → ⊥ }
+    {
+        match Refusal::new(alloc, name, other, cause) {
+            Ok(refusal) => Newest::Refused(refusal),
+            Err(_) => Newest::Unkept,
+        }
+    }
+}
+
 /// A name on which a call was refused, and why.
 #[derive(Drop)]
 pub struct Refusal {

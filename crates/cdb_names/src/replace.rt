@@ -93,7 +93,7 @@ pub enum ReplaceFault<E> {
 }
 
 /// Whether no file can have this name: it is empty or ends in a slash.
-fn is_no_name(name: &str) -> bool
+pub fn is_no_name(name: &str) -> bool
     ensures { IsTrue result ↔ IsNoName name.now }
 {
     match name.as_bytes().last() {

@@ -1,6 +1,8 @@
 -- What a query of the keys of some inputs came to, by the readers of the inputs as they come back.
 use Rattle.cdb_show.proofs.Words.{Appends, AppendsPrefix, AreRead, BeginsWithItems, Bool, Change, Err, Fault, FaultBehind, Ghosts, HasItemFault, HasLooked, IfErr, InputForm, InputReader, Inputs, IsInputOf, List, LookupState, LookupTask, LookupsStopAt, NoMore, None, NotBegun, Ok, OnOk, OnlyReads, OpeningFails, Option, Parsing, ReadFault, Result, SharedWindow, Some, Stop, StopsBehind, StopsSo, Style, TakesOne, TextFault, [], ap, append-nil, appends_then, arith, drop, end_of, false, feed_of, head_size, inl, inr, keys_form, keys_of, keys_of_each, length, looked_up, lookup_state, missing_answer, prefix_last, reached, read_fault, reads_more, reads_none, refl, slice_index_or, slice_set, subst, sym, true, ℕ, ⊤, ◌++◌, ◌+◌, ◌<◌, ◌∙◌, ◌∷◌, ◌≡◌, ◌≤◌}
 use Rattle.cdb_read.specs.declared.fault.ReadFault.TheVariants as damage
+use Rattle.cdb_feed.proofs.InputsInTurn.{some_failed, some_through}
+use Rattle.cdb_feed.specs.Inputs.{ReaderFailed, SomeFailed}
 use Rattle.cdb_feed.specs.declared.input_reader.InputReader.TheVariants.{Own, Shared}
 use Rattle.cdb_form.specs.Views.Feed.{Feed, Consumes, FromTo, Keeps}
 use Rattle.cdb_form.specs.declared.text.fault.TextFault.TheVariants as kind
@@ -40,13 +42,15 @@ text_lost a b c held P f lost = record {
 stops_lost : (form : InputForm) (g n : ℕ) (last : List Change) (a b c : Feed) (held : List ℕ) (fault : Fault) → StopsBehind form g n last a b fault → Consumes b c held → StopsBehind form g n last a c fault
 stops_lost form g n last a b c held fault h lost = record {
   begins = text_lost a b c held (BeginsWithItems form g last) h.begins lost;
-  of_text = λ i f e. let t = h.of_text i f e in (t.0, record { has = text_lost a b c held (HasItemFault form g last f) t.1.has lost; own = t.1.own; memory = t.1.memory });
+  of_text = λ i f e. let t = h.of_text i f e in (t.0, record { has = text_lost a b c held (HasItemFault form g last f) t.1.has lost; own = t.1.own; memory = t.1.memory; failed = λ is. lost.stays (t.1.failed is) });
+  of_run = h.of_run;
 }
 
 stops_kept : (form : InputForm) (g n : ℕ) (last : List Change) (a b c : Feed) (fault : Fault) → Keeps a b → StopsBehind form g n last b c fault → StopsBehind form g n last a c fault
 stops_kept form g n last a b c fault kept h = record {
   begins = from_behind a b c [] (λ text rest. BeginsWithItems form g last text) kept h.begins;
-  of_text = λ i f e. let t = h.of_text i f e in (t.0, record { has = from_behind a b c [] (λ text rest. HasItemFault form g last f text) kept t.1.has; own = t.1.own; memory = t.1.memory });
+  of_text = λ i f e. let t = h.of_text i f e in (t.0, record { has = from_behind a b c [] (λ text rest. HasItemFault form g last f text) kept t.1.has; own = t.1.own; memory = t.1.memory; failed = t.1.failed });
+  of_run = h.of_run;
 }
 
 -- memory for its window was refused before anything was read of it
@@ -54,16 +58,31 @@ stops_unread : (form : InputForm) (g n : ℕ) (a b : Feed) → Keeps a b → Sto
 stops_unread form g n a b kept = record {
   begins = from_kept a b (λ text rest. BeginsWithItems form g [] text) kept (λ text. begins_none form g (Some text));
   of_text = λ i f e. absurd (let no : ⊥ = cc in no);
+  of_run = tt;
 }
 
 -- ---- a stop, by its fault
 
-pub is_fault_of : (form : InputForm) (g n : ℕ) (last : List Change) (a b : Feed) (fault : Fault) → StopsBehind form g n last a b fault → IsFaultOf form n fault
+pub is_fault_of : (form : InputForm) (g n : ℕ) (last : List Change) (a b : Feed) (fault : Fault) → StopsBehind form g n last a b fault → IsFaultOf form n b.failed fault
 is_fault_of form g n last a b fault h = record {
   number = λ i f e. (h.of_text i f e).0;
   own = λ i f e. (h.of_text i f e).1.own;
   memory = λ i f e. (h.of_text i f e).1.memory;
+  failed = λ i e. (h.of_text i kind.Input e).1.failed refl;
+  of_run = h.of_run;
 }
+
+-- by a weaker reason
+pub fault_weaker : (form : InputForm) (n : ℕ) (A B : Type 0) (fault : Fault) → (A → B) → IsFaultOf form n A fault → IsFaultOf form n B fault
+fault_weaker form n A B fault k h = record { number = h.number; own = h.own; memory = h.memory; failed = λ i e. k (h.failed i e); of_run = h.of_run }
+
+-- the reader that some share, without its window
+handed_failed : {I : Type 0} (shared : I → Feed) (window : SharedWindow I) → (shared_feed shared window).failed → (shared (reader_of window)).failed
+handed_failed shared (Unread reader) h = h
+handed_failed shared (InHand w) h = h
+
+some_handed : {R I : Type 0} (own : R → Feed) (shared : I → Feed) (readers : List (InputReader R)) (window : SharedWindow I) → SomeFailed own (shared_feed shared) readers window → SomeFailed own shared readers (reader_of window)
+some_handed own shared readers window h = some_through own (shared_feed shared) shared readers window (reader_of window) (handed_failed shared window) h
 
 -- what is known of a fault of an input
 abbrev FaultIs : InputForm → ℕ → List Change → Feed → Feed → Option TextFault → Type 0
@@ -118,7 +137,7 @@ StopsTurn style g own shared fault last before after old new = TakesOne own (sha
 
 module _ {J I : Type 0} (style : Style) (g n : ℕ) (own : J → Feed) (shared : I → Feed) (Looks : List Change → Type 0) (Stops : List Change → Fault → Type 0) where
   abbrev TurnFails : (before after : InputReader J) → (old new : SharedWindow I) → Fault → Type 0
-  TurnFails before after old new fault = (last : List Change) × StopsTurn style g own shared (fault_in (Err fault)) last before after old new × IsFaultOf (keys_form style) n fault × Stops last fault
+  TurnFails before after old new fault = (last : List Change) × StopsTurn style g own shared (fault_in (Err fault)) last before after old new × IsFaultOf (keys_form style) n (ReaderFailed own (shared_feed shared) after new) fault × Stops last fault
 
   pub own_turn_ok : (turn : InputReader J) (reader left : J) (window : SharedWindow I) (result : Result Unit Fault) → turn ≡ Own reader → OnOk result ((last : List Change) × FromTo (own reader) (own left) (λ text left. (rest : List ℕ) × IsInputOf (keys_form style) g last text rest) × Looks last)
       → OnOk result ((last : List Change) × TakesOne own (shared_feed shared) (IsInputOf (keys_form style) g last) turn (Own left) window window × Looks last)
@@ -153,7 +172,7 @@ module _ {J I : Type 0} (style : Style) (g n : ℕ) (own : J → Feed) (shared :
       let f = stops_in (keys_form style) g n last (shared_feed shared old) (shared_feed shared new) fault one h in (
         last,
         subst (λ t. StopsTurn style g own shared (fault_in (Err fault)) last t after old new) (sym b) (subst (λ t. StopsTurn style g own shared (fault_in (Err fault)) last Shared t old new) (sym e) f),
-        is_fault_of (keys_form style) g n last (shared_feed shared old) (shared_feed shared new) fault h,
+        subst (λ t. IsFaultOf (keys_form style) n (ReaderFailed own (shared_feed shared) t new) fault) (sym e) (is_fault_of (keys_form style) g n last (shared_feed shared old) (shared_feed shared new) fault h),
         stops,
       )
 
@@ -206,16 +225,16 @@ module _ {J I S L : Type 0} {s : Ghosts S} {l : Widths L} (task : LookupTask S) 
           looked = λ begun k. subst (λ v. HasLooked task v next.reader.store begun written next.missing) (sym (ap keys_of_each more.1 ∙ each_more h.so_far.read last)) (looks (keys_of_each h.so_far.read) begun (h.looked begun k));
         }
 
-    pub fed_stops : (fault : Fault) → OnlyReads task.store first.reader.store at.reader.store → (last : List Change) × StopsTurn task.options.style task.greatest own shared (fault_in (Err fault)) last it left window further × IsFaultOf (keys_form task.options.style) (i + 1) fault × StopsFurther task last at next mid written fault
+    pub fed_stops : (fault : Fault) → OnlyReads task.store first.reader.store at.reader.store → (last : List Change) × StopsTurn task.options.style task.greatest own shared (fault_in (Err fault)) last it left window further × IsFaultOf (keys_form task.options.style) (i + 1) (ReaderFailed own (shared_feed shared) left further) fault × StopsFurther task last at next mid written fault
         → (read : List (List Change)) × (last : List Change) × AreRead own (shared_feed shared) (keys_parsing task.options.style task.greatest (fault_in (Err fault))) read (stop_of (fault_in (Err fault)) last) before (slice_set now i left) start further
-        × (drop (length read + 1) (slice_set now i left) ≡ drop (length read + 1) before) × IsFaultOf (keys_form task.options.style) (length read + 1) fault
+        × (drop (length read + 1) (slice_set now i left) ≡ drop (length read + 1) before) × IsFaultOf (keys_form task.options.style) (length read + 1) (SomeFailed own (shared_feed shared) (slice_set now i left) further) fault
         × ((begun : Option (List ℕ)) → HasLooked task [] first.reader.store begun out first.missing → LookupsStopAt task (keys_of_each read ++ keys_of last) first.reader.store next.reader.store begun written fault)
     fed_stops fault reads (last, stop, is, stops) = (
       h.so_far.read,
       last,
       one_stops own (shared_feed shared) (keys_parsing task.options.style task.greatest) before now it left start window further i (stop_of (fault_in (Err fault)) last) (fault_in (Err fault)) h.so_far within e (λ others rest. stops_on task.options.style task.greatest own shared (fault_in (Err fault)) last it left others rest window further stop),
       others_same own (shared_feed shared) (keys_parsing task.options.style task.greatest) before now it left start window i h.so_far within e,
-      subst (λ n. IsFaultOf (keys_form task.options.style) (n + 1) fault) (sym h.so_far.count) is,
+      subst (λ n. IsFaultOf (keys_form task.options.style) (n + 1) (SomeFailed own (shared_feed shared) (slice_set now i left) further) fault) (sym h.so_far.count) (fault_weaker _ _ _ _ fault (some_failed own (shared_feed shared) now i left further within) is),
       λ begun k. stops_later task _ first.reader.store at.reader.store next.reader.store begun written fault reads (stops (keys_of_each h.so_far.read) begun (h.looked begun k)),
     )
 
@@ -256,7 +275,7 @@ module _ {J I S : Type 0} (task : LookupTask S) (own : J → Feed) (shared : I �
 
   -- it stopped in an input
   pub fed_stopped : (end : Option (List ℕ)) (f : Fault) → (read : List (List Change)) × (last : List Change) × AreRead own (shared_feed shared) (keys_parsing task.options.style task.greatest (fault_in (Err f))) read (stop_of (fault_in (Err f)) last) inputs.readers.items now (Unread inputs.shared) window
-      × (drop (length read + 1) now ≡ drop (length read + 1) inputs.readers.items) × IsFaultOf (keys_form task.options.style) (length read + 1) f × LookupsStopAt task (keys_of_each read ++ keys_of last) old new start end f
+      × (drop (length read + 1) now ≡ drop (length read + 1) inputs.readers.items) × IsFaultOf (keys_form task.options.style) (length read + 1) (SomeFailed own (shared_feed shared) now window) f × LookupsStopAt task (keys_of_each read ++ keys_of last) old new start end f
       → LookupsLeave task own shared (lookup_state inputs old start) (lookup_state left new end) (Err f)
   fed_stopped end f (read, last, are, others, is, stops) = record {
     reads = reads;
@@ -267,7 +286,10 @@ module _ {J I S : Type 0} (task : LookupTask S) (own : J → Feed) (shared : I �
     fails = λ v e other.
         let k : f ≡ v = cc in
         subst (LookupsFail task read (stop_of (fault_in (Err f)) last) (lookup_state inputs old start) (lookup_state left new end)) k
-        (fails_in task read (stop_of (fault_in (Err f)) last) (lookup_state inputs old start) (lookup_state left new end) f (record { last = last; is_stop = refl; stops = stops; is_fault = is }));
+        (fails_in task read (stop_of (fault_in (Err f)) last) (lookup_state inputs old start) (lookup_state left new end) f (record { last = last; is_stop = refl; stops = stops; is_fault = fault_weaker _ _ _ _ f (λ h. tt) is }));
+    failed = λ n e.
+        let k : f ≡ Text n kind.Input = cc in
+        subst (λ it. SomeFailed own shared left.readers.items it) (sym handed) (subst (λ xs. SomeFailed own shared xs (reader_of window)) (sym same) (some_handed own shared now window (is.failed n k)));
   }
 
   module _ (read : List (List Change)) (mid end : Option (List ℕ)) (missing : Bool) (are : AreRead own (shared_feed shared) (keys_parsing task.options.style task.greatest None) read NoMore inputs.readers.items now (Unread inputs.shared) window) (others : drop (length read) now ≡ drop (length read) inputs.readers.items) (h : HasLooked task (keys_of_each read) new start mid missing) where
@@ -283,6 +305,7 @@ module _ {J I S : Type 0} (task : LookupTask S) (own : J → Feed) (shared : I �
       are = handed_back (fault_in result) read NoMore (subst (λ f. AreRead own (shared_feed shared) (keys_parsing task.options.style task.greatest f) read NoMore inputs.readers.items now (Unread inputs.shared) window) (sym (ap fault_in is ∙ no_fault missing)) are) unreached;
       all = λ other e. (refl, record { long = h.long; answered = λ b at. h.answered b at ∙ sym is ∙ e; written = λ b at. appends_then start mid end _ _ (h.written b at) last });
       fails = λ f e other. absurd (other (not_missing missing f (sym e ∙ is)));
+      failed = λ n e. let k = not_missing missing (Text n kind.Input) (sym e ∙ is) in absurd (let no : ⊥ = cc in no);
     }
 
     -- the end of the text was not written whole
@@ -297,6 +320,7 @@ module _ {J I S : Type 0} (task : LookupTask S) (own : J → Feed) (shared : I �
           let k : Output ≡ f = cc in
           subst (LookupsFail task read NoMore (lookup_state inputs old start) (lookup_state left new end)) k
           (inr (missing, refl, record { long = h.long; answered = h.answered; written = λ b is. prefix_last start mid end (looked_up task.word b task.options (keys_of_each read)).text (end_of task.options.style) _ (h.written b is) front refl }));
+      failed = λ n e. absurd (let no : ⊥ = cc in no);
     }
 
 -- ---- the store
@@ -313,6 +337,7 @@ unopened_leaves task own shared inputs old new start f reads fails = record {
   fails = λ v e other.
       let k : Read f ≡ v = cc in
       subst (LookupsFail task [] NotBegun (lookup_state inputs old start) (lookup_state inputs new start)) k fails;
+  failed = λ n e. absurd (let no : ⊥ = cc in no);
 }
 
 pub fed_unopened : {J I S : Type 0} (task : LookupTask S) (own : J → Feed) (shared : I → Feed) (inputs : Inputs J I) (old new : S) (start : Option (List ℕ)) (f : ReadFault) → OpeningFails task.word task.store old new f
@@ -343,4 +368,5 @@ fed_begun task own shared inputs left old mid new last start now result reads lo
   are = h.are;
   all = h.all;
   fails = λ f e other. begun_fails task h.read h.stop old (lookup_state inputs mid start) (lookup_state left new now) f reads long (h.fails f e other);
+  failed = h.failed;
 })

@@ -2,7 +2,7 @@
 use Rattle.cdb_show.proofs.Words.{BeginsWithItems, Bool, Feed, FromTo, HasFaults, HasInputFault, HasItemFault, InputsBeginWith, IsInput, IsInputOf, IsOfText, KeyValue, List, Puts, Spells, TextFault, [], false, from_weaker, map, refl, true, ℕ, ◌++◌, ◌<◌, ◌∷◌, ◌≡◌, ◌≢◌}
 use Rattle.cdb_form.specs.Views.FormReader as fed
 use Rattle.cdb_form.specs.Text.Amending.{Change, Putting, SpellsChange}
-use Rattle.cdb_form.specs.declared.text.fault.TextFault.TheVariants.{NoMemory}
+use Rattle.cdb_form.specs.declared.text.fault.TextFault.TheVariants.{Input, NoMemory}
 use Rattle.cdb_form.specs.declared.text.form_reader.FormReader.{FormReader}
 use Rattle.cdb_form.proofs.NativeTexts.Spelling.{changes, records}
 use Rattle.cdb_command.specs.declared.style.Style.TheVariants as style
@@ -10,7 +10,7 @@ use Rattle.cdb_show.specs.Views.ItemReader.{Fails, GivesEnd, GivesItem, HasPeeke
 use Rattle.cdb_show.specs.declared.runs.item_reader.ItemReader.{ItemReader}
 use Rattle.cdb_show.specs.declared.runs.item_reader.ItemReader.TheVariants.{Form, Map}
 use Rattle.cdb_show.proofs.KeyInputs.{more_puts}
-use Rattle.cdb_show.proofs.MapInputs.{GaveLines, lines_all, lines_begin, lines_behind, lines_fault, lines_more, lines_none, lines_own}
+use Rattle.cdb_show.proofs.MapInputs.{GaveLines, lines_all, lines_begin, lines_behind, lines_fault, lines_more, lines_none, lines_own, lines_told}
 use Rattle.cdb_show.proofs.SpelledInputs.{GaveSpelled, spelled_all, spelled_begins, spelled_behind, spelled_fault, spelled_more, spelled_none}
 
 -- ---- a record that is taken
@@ -98,6 +98,13 @@ module _ {F L : Type 0} (g : ℕ) (feed : F → Feed) where
   items_still start (Map t) (Map u) items f h m =
       from_weaker start (feed u.source.reader) (λ text rest. InputsBeginWith style.Map g h.0 text) (λ text rest. BeginsWithItems (Puts style.Map) g items text) (lines_behind feed g start t u h.0 f h.2 m) (λ text rest is. (h.0, h.1, is))
   items_still start t u items f h m = absurd m
+
+  -- a reader failed, if that is the fault
+  pub items_told : (start : Feed) (t u : ItemReader F L) (items : List Change) (f : TextFault) → GaveItems g feed start t items → Fails g feed t u f → f ≡ Input → (feed (reader_of u)).failed
+  items_told start (Form t true) (Form u true) items f h m is = (m.meets h.0).told.failed is
+  items_told start (Form t false) (Form u false) items f h m is = (m.meets h.2).told.failed is
+  items_told start (Map t) (Map u) items f h m is = lines_told feed start t u h.0 f h.2 m is
+  items_told start t u items f h m is = absurd m
 
   -- a map text has none of its own
   pub items_own : (start : Feed) (t u : ItemReader F L) (items : List Change) (f : TextFault) → GaveItems g feed start t items → Fails g feed t u f → IsOfText f → HasFaults (form_of t)

@@ -3,13 +3,13 @@ use Rattle.cdb_show.proofs.Words.{Change, Feed, FromTo, IsOfText, KeyReader, Key
 use Rattle.cdb_form.specs.Text.List.{ReadsKeys, SpelledKeys, SpellsKey}
 use Rattle.cdb_form.specs.Text.Parse.{listed}
 use Rattle.cdb_form.specs.Views.ListReader as lists
-use Rattle.cdb_form.specs.declared.text.fault.TextFault.TheVariants.{NoMemory}
+use Rattle.cdb_form.specs.declared.text.fault.TextFault.TheVariants.{Input, NoMemory}
 use Rattle.cdb_form.proofs.NativeTexts.KeyTexts.{keys}
 use Rattle.cdb_command.specs.declared.style.Style.TheVariants as style
 use Rattle.cdb_show.specs.Runs.Inputs.{BeginsWithItems, HasFaults, HasInputFault, HasItemFault, HasKeyFault, InputsBeginWith, IsInput, IsInputOf, Lists, Puts, key_of, keys_of}
 use Rattle.cdb_show.specs.Views.KeyReader.{Fails, GivesEnd, GivesKey, IsNew, form_of, reader_of}
 use Rattle.cdb_show.specs.declared.runs.key_reader.KeyReader.TheVariants as reader
-use Rattle.cdb_show.proofs.MapInputs.{GaveLines, lines_all, lines_begin, lines_behind, lines_fault, lines_more, lines_none, lines_own}
+use Rattle.cdb_show.proofs.MapInputs.{GaveLines, lines_all, lines_begin, lines_behind, lines_fault, lines_more, lines_none, lines_own, lines_told}
 use Rattle.cdb_show.proofs.SpelledInputs.{GaveSpelled, spelled_all, spelled_begins, spelled_behind, spelled_fault, spelled_more, spelled_none}
 
 -- it gave the keys of these items so far
@@ -93,6 +93,12 @@ module _ {F L : Type 0} (g : ℕ) (feed : F → Feed) where
   keys_still start (reader.Map t) (reader.Map u) items f h m =
       from_weaker start (feed u.source.reader) (λ text rest. InputsBeginWith style.Map g h.0 text) (λ text rest. BeginsWithItems (Puts style.Map) g items text) (lines_behind feed g start t u h.0 f h.2 m) (λ text rest is. (h.0, h.1, is))
   keys_still start t u items f h m = absurd m
+
+  -- a reader failed, if that is the fault
+  pub keys_told : (start : Feed) (t u : KeyReader F L) (items : List Change) (f : TextFault) → GaveKeys g feed start t items → Fails g feed t u f → f ≡ Input → (feed (reader_of u)).failed
+  keys_told start (reader.List t) (reader.List u) items f h m is = (m.meets h.2).told.failed is
+  keys_told start (reader.Map t) (reader.Map u) items f h m is = lines_told feed start t u h.0 f h.2 m is
+  keys_told start t u items f h m is = absurd m
 
   -- a map text has none of its own
   pub keys_own : (start : Feed) (t u : KeyReader F L) (items : List Change) (f : TextFault) → GaveKeys g feed start t items → Fails g feed t u f → IsOfText f → HasFaults (form_of t)

@@ -201,7 +201,7 @@ module _ {S : Type 0} (task : LookupTask S) (inputs : List (Option (List ℕ))) 
     long_so result long comes = record { comes = inr (long, comes) }
 
     stops_asked : (read : List (List Change)) (last : List Change) (f : Fault) → Gives read (stop_of (fault_in (Err f)) last) given → LookupsStopAt task (keys_of_each read ++ keys_of last) old new start end f
-        → IsFaultOf (keys_form task.options.style) (length read + 1) f → LooksOrShort task.word task.store asked old new start end (Err f)
+        → IsFaultOf (keys_form task.options.style) (length read + 1) ⊤ f → LooksOrShort task.word task.store asked old new start end (Err f)
     stops_asked read last (Read (read_fault.Table n)) gives h of = let k = keys_begin None read last given gives in long_so _ h.long (damage_asked _ k.0 start end _ k.1 refl (h.answered bytes is) (h.written bytes is))
     stops_asked read last (Read (read_fault.Record place)) gives h of = let k = keys_begin None read last given gives in long_so _ h.long (damage_asked _ k.0 start end _ k.1 refl (h.answered bytes is) (h.written bytes is))
     stops_asked read last (Read read_fault.Device) gives h of = absurd (let failed = h.0 in let no : ⊥ = omega (arith, failed, works) in no)

@@ -5,10 +5,11 @@ use Rattle.cdb_form.specs.declared.text.fault.TextFault.TheVariants as text
 use Rattle.cdb_read.specs.declared.fault.ReadFault.TheVariants as read
 use Rattle.cdb_show.specs.Runs.LookedUp.{key_query, Looked, joined, looked_up, with_key, with_one}
 use Rattle.cdb_show.specs.Runs.Lookups.{FaultBehind, StopsBehind, ComesTo, missing_answer, HasLooked, LookupsStopAt}
+use Rattle.cdb_show.specs.Runs.Parsing.{IsOfRun}
 use Rattle.cdb_show.specs.Views.Fault.{text_fault}
 use Rattle.cdb_show.specs.Views.KeyReader as views
 use Rattle.cdb_show.specs.declared.fault.Fault.TheVariants.{Text, Make, Duplicate, Missing, Read, Walk, Output, Long, Open, Rename, NoMemory, Old, New, NoOldTables, NoNewTables, NoBaseTables}
-use Rattle.cdb_show.proofs.KeyInputs.{GaveKeys, keys_fault, keys_own, keys_still}
+use Rattle.cdb_show.proofs.KeyInputs.{GaveKeys, keys_fault, keys_own, keys_still, keys_told}
 
 -- ---- one key more
 
@@ -104,6 +105,11 @@ stops_text task listed old new start now missing n text.Input h = (missing, h)
 stops_text task listed old new start now missing n text.Endless h = (missing, h)
 stops_text task listed old new start now missing n text.NoMemory h = (missing, h)
 
+-- a fault of a text is one of a run
+pub text_of_run : (n : ℕ) (f : TextFault) → IsOfRun (text_fault n f)
+text_of_run n text.NoMemory = tt
+text_of_run n f = tt
+
 pub text_stops : {F L : Type 0} (g : ℕ) (feed : F → Feed) (n : ℕ) (start : Feed) (t u : KeyReader F L) (form : InputForm) (last : List Change) (f : TextFault) → ((it : F) (whole a b : List ℕ) → (feed it).may whole a → (feed it).may whole b → a ≡ b)
     → form_of t ≡ form → GaveKeys g feed start t last → views.Fails g feed t u f → StopsBehind form g n last start (feed (reader_of u)) (text_fault n f)
 text_stops g feed n start t u form last f one same gave fails = subst (λ v. StopsBehind v g n last start (feed (reader_of u)) (text_fault n f)) same (record {
@@ -115,19 +121,30 @@ text_stops g feed n start t u form last f one same gave fails = subst (λ v. Sto
           has = keys_fault g feed start t u last f one gave fails k.other;
           own = keys_own g feed start t u last f gave fails;
           memory = k.other;
+          failed = keys_told g feed start t u last f gave fails;
         }),
       );
+  of_run = text_of_run n f;
 })
 
 -- a fault of the store, of the writer or of a damage is none of a text
 no_text : {S : Type 0} (w : ℕ) (s : Ghosts S) (q : _) (old new : S) (mid now : Option (List ℕ)) (n : ℕ) (f : TextFault) → Queries w s q old new mid now (Err (Text n f)) → ⊥
 no_text w s q old new mid now n f h = h.err
 
+of_query : {S : Type 0} (w : ℕ) (s : Ghosts S) (q : _) (old new : S) (mid now : Option (List ℕ)) (f : Fault) → Queries w s q old new mid now (Err f) → IsOfRun f
+of_query w s q old new mid now Open h = absurd h.err
+of_query w s q old new mid now Rename h = absurd h.err
+of_query w s q old new mid now (Walk fault) h = absurd h.err
+of_query w s q old new mid now (Old fault) h = absurd h.err
+of_query w s q old new mid now (New fault) h = absurd h.err
+of_query w s q old new mid now f h = tt
+
 pub key_stops : {S : Type 0} (w g : ℕ) (s : Ghosts S) (q : _) (n : ℕ) (form : InputForm) (last : List Change) (start end : Feed) (old new : S) (mid now : Option (List ℕ)) (f : Fault)
     → fed.FromTo start end (λ text rest. BeginsWithItems form g last text) → Queries w s q old new mid now (Err f) → StopsBehind form g n last start end f
 key_stops w g s q n form last start end old new mid now f begins query = record {
   begins = begins;
   of_text = λ i v e. absurd (no_text w s q old new mid now i v (subst (λ x. Queries w s q old new mid now (Err x)) e query));
+  of_run = of_query w s q old new mid now f query;
 }
 
 -- after the keys up to the last one

@@ -5,7 +5,7 @@ use Rattle.std.specs.Prelude.{All}
 use Rattle.cdb_form.specs.Text.Map.{IsIgnoredLine, IsLineOf}
 use Rattle.cdb_form.specs.Views.MapParser.{EndsLine, ReadsToEnding}
 use Rattle.cdb_form.specs.Views.MapReader.{Fails, GivesEnd, GivesRecord, GoesOn, HasEnded, IsGoing, ReadAmid, ReadLines, asks_left, taken_of}
-use Rattle.cdb_form.specs.declared.text.fault.TextFault.TheVariants.{NoMemory}
+use Rattle.cdb_form.specs.declared.text.fault.TextFault.TheVariants.{Input, NoMemory}
 use Rattle.cdb_form.proofs.MapTexts.WholeMap.{read_amid, read_last, read_more, read_none, read_rest}
 use Rattle.cdb_command.specs.declared.style.Style.TheVariants as style
 use Rattle.cdb_show.proofs.SpelledInputs.{from_lost}
@@ -133,7 +133,7 @@ module _ {R : Type 0} (feed : R → Feed) where
               lines = record { lines = amid.lines.lines; whole = amid.lines.whole; split = ap (λ t. lines ++ t) (sym (append-nil amid.part)); records = amid.lines.records };
               within = amid.within;
             };
-            asked = λ endless. omega (arith, s.1.counted, s.1.asked, long, middle, meets.takes.counted, meets.spent endless, meets.spends);
+            asked = λ endless. omega (arith, s.1.counted, s.1.asked, long, middle, meets.takes.counted, meets.told.spent endless, meets.spends);
           };
         })
     | inr ended ↦ absurd (m.unended ended.0)
@@ -144,6 +144,13 @@ module _ {R : Type 0} (feed : R → Feed) where
     | inl so ↦
         let meets = m.meets so.0 in
         from_lost start (feed t.source.reader) (feed u.source.reader) (SoFar t rs) (λ text. InputsBeginWith style.Map g rs text) meets.bytes so.1 meets.takes.read (begins t rs)
+    | inr ended ↦ absurd (m.unended ended.0)
+  ]
+
+  -- a reader failed, if that is the fault
+  pub lines_told : (start : Feed) (t u : MapReader R) (rs : List KeyValue) (f : TextFault) → GaveLines feed start t rs → Fails feed t u f → f ≡ Input → (feed u.source.reader).failed
+  lines_told start t u rs f h m is = elim h [
+    | inl so ↦ (m.meets so.0).told.failed is
     | inr ended ↦ absurd (m.unended ended.0)
   ]
 

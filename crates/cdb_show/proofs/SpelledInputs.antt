@@ -79,7 +79,7 @@ module _ {R X : Type 0} (S : ℕ → List ℕ → X → Type 0) (g : ℕ) (feed 
       from_weaker start new _ (λ text rest. HasFaultOf (HasFaultBehind S g text xs f) (λ part. HasFaultBehind S g part xs (Ended (length part))) f text)
       (from_then start mid new (λ text rest. SoFar S g text rest s.taken xs) (λ text rest. IsFaultOf S g s.taken t.taken text f × (text ≡ bytes ++ rest)) h.0
       (from_both mid new (λ text rest. IsFaultOf S g s.taken t.taken text f) (λ text rest. text ≡ bytes ++ rest) one m.of (from_taken mid new bytes (λ text rest. text ≡ bytes ++ rest) m.took.read (λ rest. refl))))
-      (λ text rest so. fault_at spelling s t xs f bytes text so.0 rest so.1 h.1 so.2.0 so.2.1 m.took.counted m.spent m.spends)
+      (λ text rest so. fault_at spelling s t xs f bytes text so.0 rest so.1 h.1 so.2.0 so.2.1 m.took.counted m.told.spent m.spends)
 
   pub spelled_behind : (start : Feed) (s t : Source R) (xs : List X) (f : TextFault) → GaveSpelled S g feed start s xs → MeetsFault S g feed s t f → FromTo start (feed t.reader) (λ text rest. (more : List ℕ) × Spelled S g xs text more)
   spelled_behind start s t xs f h m =

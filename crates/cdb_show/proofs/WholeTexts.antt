@@ -1,7 +1,7 @@
 -- The text of a file, up to its record end or its damage.
 use Rattle.cdb_show.proofs.Words.{Appends, AppendsPrefix, Damage, Err, Fails, Fault, Feed, Flushed, GivesEnd, GivesRecord, IsDamage, IsOk, Keeps, List, None, Ok, Option, RecordReader, Result, Some, WalkFault, Walked, [], ap, append-nil, append_assoc, appends_kept, appends_none, appends_then, damage_of, flat_map, flat_map-append, from_weaker, inl, inr, prefix_last, prefix_then, refl, subst, sym, walk_of, ℕ, ◌++◌, ◌∙◌, ◌∷◌, ◌≡◌}
 use Rattle.cdb_form.specs.Format.Record.{KeyValue, record_of}
-use Rattle.cdb_form.specs.Views.RecordReader.{reader_of, behind_records, IsFresh}
+use Rattle.cdb_form.specs.Views.RecordReader.{reader_of, behind_records, IsFresh, IsGoing, is_going}
 use Rattle.cdb_form.specs.declared.damage.Damage.TheVariants as file_damage
 use Rattle.cdb_form.specs.declared.walk.fault.WalkFault.TheVariants as walk
 use Rattle.cdb_show.specs.Views.Fault.{walk_fault}
@@ -17,13 +17,14 @@ use Rattle.cdb_show.proofs.WalksSoFar.{walked, GaveSoFar, GaveFirst, gave_none, 
 -- the texts of the records that were given were appended
 pub record WrittenSoFar {R L : Type 0} (w : ℕ) (form : Form) (feed : R → Feed) (file : Feed) (t : RecordReader R L) (old new : Option (List ℕ)) : Type 0 where
   pub records : List KeyValue
+  pub going : IsGoing t
   pub gave : GaveSoFar w feed file t records
   pub read : ReadSoFar w feed file t records
   pub appended : Appends old new (flat_map form.item records)
 
 -- at first
 pub written_none : {R L : Type 0} (w : ℕ) (form : Form) (feed : R → Feed) (t : RecordReader R L) (old : Option (List ℕ)) → IsFresh t → WrittenSoFar w form feed (feed (reader_of t)) t old old
-written_none w form feed t old fresh = record { records = []; gave = gave_none w feed t fresh; read = read_none w feed t fresh; appended = appends_none old }
+written_none w form feed t old fresh = record { records = []; going = subst is_going (sym fresh) tt; gave = gave_none w feed t fresh; read = read_none w feed t fresh; appended = appends_none old }
 
 texts_more : (form : Form) (rs : List KeyValue) (r : KeyValue) → flat_map form.item (rs ++ r ∷ []) ≡ flat_map form.item rs ++ form.item r
 texts_more form rs r = flat_map-append form.item rs (r ∷ []) ∙ ap (λ t. flat_map form.item rs ++ t) (append-nil (form.item r))
@@ -33,6 +34,7 @@ pub written_more : {R L : Type 0} (w : ℕ) (form : Form) (feed : R → Feed) (f
     → GivesRecord w feed t u r → Appends mid new (form.item r) → WrittenSoFar w form feed file u old new
 written_more w form feed file t u old mid new r d one appended = record {
   records = d.records ++ r ∷ [];
+  going = one.going;
   gave = gave_more w feed file t u d.records r d.gave one;
   read = read_more w feed file t u d.records r d.read one.cut;
   appended = subst (Appends old new) (sym (texts_more form d.records r)) (appends_then old mid new (flat_map form.item d.records) (form.item r) d.appended appended);
@@ -119,7 +121,7 @@ reader_fault : {R L : Type 0} (w : ℕ) (form : Form) (feed : R → Feed) (file 
 reader_fault w form feed file t u old new walk.Short d fails = written_damage w form feed file t u old new walk.Short file_damage.Short refl tt d fails
 reader_fault w form feed file t u old new (walk.Table n) d fails = written_damage w form feed file t u old new (walk.Table n) (file_damage.Table n) refl tt d fails
 reader_fault w form feed file t u old new (walk.Record place) d fails = written_damage w form feed file t u old new (walk.Record place) (file_damage.Record place) refl tt d fails
-reader_fault w form feed file t u old new walk.Input d fails = written_first w form feed file t u old new walk.Input d fails
+reader_fault w form feed file t u old new walk.Input d fails = (written_first w form feed file t u old new walk.Input d fails, fails.unread d.going refl)
 reader_fault w form feed file t u old new walk.NoMemory d fails = written_first w form feed file t u old new walk.NoMemory d fails
 
 pub reader_fails : {R L : Type 0} (w : ℕ) (form : Form) (feed : R → Feed) (file : Feed) (t u : RecordReader R L) (old new : Option (List ℕ)) (fault : WalkFault) → WrittenSoFar w form feed file t old new
@@ -145,7 +147,7 @@ fails_kept : (w : ℕ) (form : Form) (file rest : Feed) (old mid new : Option (L
 fails_kept w form file rest old mid new (Walk walk.Short) d k = damage_kept w form file rest (Some file_damage.Short) old mid new d k
 fails_kept w form file rest old mid new (Walk (walk.Table n)) d k = damage_kept w form file rest (Some (file_damage.Table n)) old mid new d k
 fails_kept w form file rest old mid new (Walk (walk.Record place)) d k = damage_kept w form file rest (Some (file_damage.Record place)) old mid new d k
-fails_kept w form file rest old mid new (Walk walk.Input) d k = first_kept w form file rest old mid new d k
+fails_kept w form file rest old mid new (Walk walk.Input) d k = (first_kept w form file rest old mid new d.0 k, d.1)
 fails_kept w form file rest old mid new NoMemory d k = first_kept w form file rest old mid new d k
 fails_kept w form file rest old mid new Output d k = text_prefix_kept w form file rest old mid new d k
 fails_kept w form file rest old mid new f d k = absurd d

@@ -12,6 +12,7 @@ holds_rest feed held bytes more split = record {
     may = m.may;
     is = ap (λ r. bytes ++ r) m.is ∙ sym (append_assoc bytes more m.behind) ∙ ap (λ h. h ++ m.behind) (sym split);
   };
+  stays = λ f. f;
 }
 
 -- n bytes of the window are taken

@@ -1,5 +1,6 @@
 // A writer of the system, and what it took.
-ghost use Rattle.std.specs.Prelude.{◌≡◌, [], Some};
+ghost use Rattle.std.specs.Prelude.{◌≡◌, ◌<◌, ◌≤◌, [], Some, length, take, IfOk, OnErr};
+ghost use Rattle.std.specs.Io.KnownBytes.{Appends, Keeps};
 
 use cdb_form::{OutFault, Sink, flush_whole, write_some};
 use cdb_store::{Call, Trace};
@@ -36,7 +37,20 @@ impl<W: Write> Sink for Noted<W> {
     ghost failed = { λ n. HasFailed n.trace.events };
 
     #[inline(always)]
-    fn write_some(&mut self, bytes: &[u8]) -> Result<usize, OutFault> {
+    fn write_some(&mut self, bytes: &[u8]) -> Result<usize, OutFault>
+        requires { 0 < length bytes.now }
+        ensures count { IfOk result (λ n. (0 < n) × (n ≤ length bytes.now)) }
+        ensures ok { IfOk result (λ n. Appends (Some (noted_by self.old)) (Some (noted_by self.new))
+            (take n bytes.now)) }
+        ensures err { OnErr result (Keeps (Some (noted_by self.old)) (Some (noted_by self.new))) }
+        ensures failed { OnErr result (HasFailed self.new.trace.events) }
+        ensures stays { HasFailed self.old.trace.events → HasFailed self.new.trace.events }
+        // And its writer took these bytes, of every writer that reports what it holds.
+        ensures passes { IfOk result (λ n.
+            Appends (W.contents self.old.writer) (W.contents self.new.writer) (take n bytes.now)) }
+        ensures passes_none { OnErr result
+            (Keeps (W.contents self.old.writer) (W.contents self.new.writer)) }
+    {
         match write_some(&mut self.writer, bytes) {
             Ok(n) => {
                 self.trace.note(&Call::Wrote(0), &bytes[..n]);
@@ -51,7 +65,12 @@ impl<W: Write> Sink for Noted<W> {
     }
 
     #[inline(always)]
-    fn flush_whole(&mut self) -> Result<(), OutFault> {
+    fn flush_whole(&mut self) -> Result<(), OutFault>
+        ensures bytes { Keeps (Some (noted_by self.old)) (Some (noted_by self.new)) }
+        ensures failed { OnErr result (HasFailed self.new.trace.events) }
+        ensures stays { HasFailed self.old.trace.events → HasFailed self.new.trace.events }
+        ensures passes { Keeps (W.contents self.old.writer) (W.contents self.new.writer) }
+    {
         match flush_whole(&mut self.writer) {
             Ok(()) => Ok(()),
             Err(fault) => {

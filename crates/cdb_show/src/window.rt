@@ -108,6 +108,7 @@ impl<F: Feeds> Window<F> {
         ensures end { OnOk result
             (self.new.start ≡ self.new.end → IsAtEnd (feed_of F.feed self.new)) }
         ensures empty { OnErr result (self.new.start ≡ self.new.end) }
+        ensures failed { OnErr result (feed_of F.feed self.new).failed }
     {
         if self.end == self.window.len() {
             self.grow();
@@ -133,6 +134,7 @@ impl<F: Feeds> Window<F> {
         ensures end { IfOk result (λ n.
             n ≡ 0 → 0 < length buf.old → IsAtEnd (feed_of F.feed self.new)) }
         ensures kept { OnErr result (Keeps (feed_of F.feed self.old) (feed_of F.feed self.new)) }
+        ensures failed { OnErr result (feed_of F.feed self.new).failed }
     {
         match self.reader.read_some(buf) {
             Ok(n) => Ok(n),

@@ -111,7 +111,7 @@ module _ (w : ℕ) (form : Form) (before left : Feed) (unread : IsUnread before)
   text_ended (Walk walk.Short) h = text_damaged _ _ (λ text. refl) h
   text_ended (Walk (walk.Table n)) h = text_damaged _ _ (λ text. refl) h
   text_ended (Walk (walk.Record place)) h = text_damaged _ _ (λ text. refl) h
-  text_ended (Walk walk.Input) h = gives_up true Database plain_status _ start end _ refl (text_first h)
+  text_ended (Walk walk.Input) h = gives_up true Database plain_status _ start end _ refl (text_first h.0)
   text_ended NoMemory h = gives_up true Database plain_status _ start end _ tt (text_first h)
   text_ended Output h = gives_up true Database plain_status _ start end _ refl (text_prefix h)
   text_ended fault h = absurd h

@@ -30,7 +30,7 @@ module _ (w : ℕ) (form : Form) (old mid new : Feed) (kept : Keeps old mid) (st
   fails_since (Walk walk.Short) h = damage_since _ h
   fails_since (Walk (walk.Table n)) h = damage_since _ h
   fails_since (Walk (walk.Record place)) h = damage_since _ h
-  fails_since (Walk walk.Input) h = first_since h
+  fails_since (Walk walk.Input) h = (first_since h.0, h.1)
   fails_since NoMemory h = first_since h
   fails_since Output h = record { walked = h.walked; appended = h.appended; is = from_behind old mid new [] _ kept h.is }
   fails_since fault h = absurd h
@@ -77,7 +77,7 @@ is_whole most first mid new left held (Err fault) kept lost h = tt
 
 why_not : (most : ℕ) (first mid new left : Feed) (held : List ℕ) (fault : Fault) → Keeps first mid → Consumes new left held → LoadStops most mid new fault → IsNotLoaded most first left fault
 why_not most first mid new left held Long kept lost h = more_is most first mid new left h.0 held kept h.1 lost
-why_not most first mid new left held (Walk walk.Input) kept lost h = tt
+why_not most first mid new left held (Walk walk.Input) kept lost h = lost.stays h.1
 why_not most first mid new left held NoMemory kept lost h = tt
 why_not most first mid new left held fault kept lost h = absurd h
 

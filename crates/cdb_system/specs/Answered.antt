@@ -23,6 +23,7 @@ use Rattle.cdb_system.specs.Streams.{AgreeInTurn, Agrees, names_in_turn, own_rea
 use Rattle.cdb_system.specs.declared.left.Left.{Left}
 use Rattle.cdb_system.specs.declared.open_trace.OpenCall.{OpenCall}
 use Rattle.cdb_system.specs.declared.open_trace.OpenCall.TheVariants.{AtPlaces, InTurn, Stream, Emptied, Locked, Own, ToEmpty, Unopened}
+use Rattle.cdb_system.specs.declared.open_trace.OpenCall.TheVariants.{Watched}
 
 -- ---- the calls, and the files that were opened
 
@@ -42,6 +43,7 @@ IsThere (Some bytes) = ⊤
 -- fail, and other processes may lock what is made in place, or take its name from it
 abbrev pub IsAnswered : {F : Type 0} → Ghosts F → Disk → List F → OpenCall → List ℕ → Type 0
 IsAnswered s disk stores AtPlaces name = Shows s (disk name) stores
+IsAnswered s disk stores Watched name = Shows s (disk name) stores
 IsAnswered s disk stores InTurn name = IsThere (disk name)
 IsAnswered s disk stores (Stream answer) name = answer ≡ No
 IsAnswered s disk stores ToEmpty name = ⊤
@@ -54,6 +56,7 @@ IsAnswered s disk stores (Unopened why.NoMemory found) name = ⊤
 -- the stores without the one of a call
 abbrev pub stores_before : {F : Type 0} → OpenCall → List F → List F
 stores_before AtPlaces (store ∷ stores) = stores
+stores_before Watched (store ∷ stores) = stores
 stores_before call stores = stores
 
 -- so was each call, of which those at places opened these stores; the newest comes first

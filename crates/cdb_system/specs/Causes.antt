@@ -16,6 +16,7 @@ use Rattle.cdb_names.specs.declared.refusal.Cause.{Cause}
 use Rattle.cdb_names.specs.declared.refusal.Cause.TheVariants as cause
 use Rattle.cdb_names.specs.Folder.{NameCalls}
 use Rattle.cdb_names.specs.Refusals.{refused_for}
+use Rattle.cdb_names.specs.Refusals.{IsUnrefused as IsNoNameRefused}
 use Rattle.cdb_names.specs.Replacing.{IsNoName}
 use Rattle.cdb_show.specs.declared.fault.Fault.{Fault}
 use Rattle.cdb_show.specs.declared.fault.Fault.TheVariants.{Text, Make, Read, Walk, Output, Open}
@@ -23,7 +24,7 @@ use Rattle.cdb_show.specs.declared.fault.Fault.TheVariants.{Rename, NoMemory, Ol
 use Rattle.cdb_show.specs.declared.fault.Fault.TheVariants.{NoOldTables, NoNewTables, NoBaseTables}
 use Rattle.cdb_system.specs.CauseLine.{cause_line, error_words, line_words}
 use Rattle.cdb_system.specs.Places.{IsInPlace, temporary_of}
-use Rattle.cdb_system.specs.Opening.{OpenCalls, refused_open}
+use Rattle.cdb_system.specs.Opening.{IsUnrefused, OpenCalls, refused_open}
 
 -- ---- what is said of a name that was refused
 
@@ -62,22 +63,44 @@ abbrev pub refusal_words : Asked → Cause → (name other : List ℕ) → Optio
 refusal_words command why name other =
     if nat_lt 0 (length name) then cause_words command why name other else Some (codes "the name is empty")
 
--- a name was refused last, for a cause: of the files that are opened, or of those that are replaced
-abbrev pub IsRefusedFor : (opened : OpenCalls) → (named : NameCalls) → Cause
-    → (name other : List ℕ) → Type 0
-IsRefusedFor opened named why name other =
-    (refused_open why opened ≡ Some (name, other, why))
-    ⊎ (refused_for why named ≡ Some (name, other))
+-- the calls on files, and those on names; and of each that memory for a copy of the name which was refused
+-- last was refused
+pub record Called : Type 1 where
+  pub opened : OpenCalls
+  pub unkept_file : Type 0
+  pub named : NameCalls
+  pub unkept_name : Type 0
 
-abbrev pub IsRefusedOpening : Asked → (opened : OpenCalls) → (named : NameCalls) → (name : List ℕ)
-    → (said : Option (List ℕ)) → Type 0
-IsRefusedOpening command opened named name said = (why : Cause) × (other : List ℕ)
-    × IsRefusedFor opened named why name other × (said ≡ refusal_words command why name other)
+abbrev pub called_of : OpenCalls → (unkept_file : Type 0) → NameCalls → (unkept_name : Type 0) → Called
+called_of opened unkept_file named unkept_name =
+    record { opened = opened; unkept_file = unkept_file; named = named; unkept_name = unkept_name }
+
+-- no call on a file refused a name, or it is not known, for want of memory; nor did one on a name
+abbrev pub OpensNoRefusal : Called → Type 0
+OpensNoRefusal called = IsUnrefused called.opened ⊎ called.unkept_file
+
+abbrev pub NamesNoRefusal : Called → Type 0
+NamesNoRefusal called = OpensNoRefusal called × (IsNoNameRefused called.named ⊎ called.unkept_name)
+
+-- a name was refused last, for a cause: of the files that are opened, or else of those that are replaced
+abbrev pub IsRefusedFor : Called → Cause → (name other : List ℕ) → Type 0
+IsRefusedFor called why name other =
+    (refused_open why called.opened ≡ Some (name, other, why))
+    ⊎ (OpensNoRefusal called × (refused_for why called.named ≡ Some (name, other)))
+
+abbrev pub IsRefusedOpening : Asked → Called → (name : List ℕ) → (said : Option (List ℕ)) → Type 0
+IsRefusedOpening command called name said = (why : Cause) × (other : List ℕ)
+    × IsRefusedFor called why name other × (said ≡ refusal_words command why name other)
 
 -- the name of a database that no file can have: it is empty or ends in a slash
 abbrev pub no_name_words : (name : List ℕ) → List ℕ
 no_name_words [] = codes "the name is empty"
 no_name_words (c ∷ name) = codes "the name ends in a slash"
+
+-- a create gives such a name
+abbrev pub GivesNoName : Asked → Type 0
+GivesNoName (asked.Create database base inputs temporary options wide) = IsNoName database
+GivesNoName command = ⊥
 
 abbrev pub IsNoNameOf : Asked → (name : List ℕ) → (said : Option (List ℕ)) → Type 0
 IsNoNameOf (asked.Create database base inputs temporary options wide) name said =
@@ -177,19 +200,19 @@ IsFailedStream unwritten name = (unwritten × (name ≡ codes "standard output")
     ⊎ ((unwritten → ⊥) × (name ≡ codes "standard error"))
 
 -- the file of a fault, and what is said of it
-abbrev pub IsCause : Asked → Fault → (unwritten : Type 0) → (opened : OpenCalls) → (named : NameCalls)
-    → (name : List ℕ) → (said : Option (List ℕ)) → Type 0
-IsCause command Open unwritten opened named name said =
-    IsRefusedOpening command opened named name said ⊎ IsNoNameOf command name said
-IsCause command Rename unwritten opened named name said =
-    IsRefusedOpening command opened named name said
-IsCause command NoMemory unwritten opened named name said =
-    IsRefusedOpening command opened named name said
-IsCause command (Text input fault) unwritten opened named name said =
+abbrev pub IsCause : Asked → Fault → (unwritten : Type 0) → Called → (name : List ℕ)
+    → (said : Option (List ℕ)) → Type 0
+IsCause command Open unwritten called name said =
+    IsRefusedOpening command called name said ⊎ IsNoNameOf command name said
+IsCause command Rename unwritten called name said =
+    IsRefusedOpening command called name said
+IsCause command NoMemory unwritten called name said =
+    IsRefusedOpening command called name said
+IsCause command (Text input fault) unwritten called name said =
     (name ≡ input_name command input) × IsOfTextOf fault said
-IsCause command (Make fault) unwritten opened named name said = IsMadeName command name × IsOfSystem said
-IsCause command Output unwritten opened named name said = IsFailedStream unwritten name × IsOfSystem said
-IsCause command fault unwritten opened named name said = IsOfDatabase command fault name said
+IsCause command (Make fault) unwritten called name said = IsMadeName command name × IsOfSystem said
+IsCause command Output unwritten called name said = IsFailedStream unwritten name × IsOfSystem said
+IsCause command fault unwritten called name said = IsOfDatabase command fault name said
 
 -- ---- a fault of which no file is named
 
@@ -215,27 +238,30 @@ HasNoDatabase NoBaseTables = ⊥
 HasNoDatabase NoNewTables = ⊥
 HasNoDatabase fault = ⊤
 
--- nor any other file: the fault is one of the records or of memory, or that of a name whose refusal was not kept
-abbrev pub MayHaveNoCause : Asked → Fault → Type 0
-MayHaveNoCause command (Text input fault) = ⊥
-MayHaveNoCause command Output = ⊥
-MayHaveNoCause command (Make make.Writing) = IsCreate command → ⊥
-MayHaveNoCause command (Make make.Lookup) = IsCreate command → ⊥
-MayHaveNoCause command fault = HasNoDatabase fault
+-- nor any other file: the fault is one of the records or of memory, or that of a name of which no call is known
+-- to have refused it
+abbrev pub MayHaveNoCause : Asked → Fault → Called → Type 0
+MayHaveNoCause command Open called = NamesNoRefusal called × (GivesNoName command → ⊥)
+MayHaveNoCause command Rename called = NamesNoRefusal called
+MayHaveNoCause command NoMemory called = NamesNoRefusal called
+MayHaveNoCause command (Text input fault) called = ⊥
+MayHaveNoCause command Output called = ⊥
+MayHaveNoCause command (Make make.Writing) called = IsCreate command → ⊥
+MayHaveNoCause command (Make make.Lookup) called = IsCreate command → ⊥
+MayHaveNoCause command fault called = HasNoDatabase fault
 
 -- ---- the line that says it
 
 -- after the line of a fault that is to be explained comes the line of its cause; or nothing, if no file is
 -- named of it. After that of another comes nothing
-abbrev pub SaysCause : Asked → Fault → (unwritten : Type 0) → (opened : OpenCalls) → (named : NameCalls)
-    → (more : List ℕ) → Type 0
-SaysCause command fault unwritten opened named more = (name : List ℕ) × (said : Option (List ℕ))
-    × IsCause command fault unwritten opened named name said × (more ≡ cause_line name said)
+abbrev pub SaysCause : Asked → Fault → (unwritten : Type 0) → Called → (more : List ℕ) → Type 0
+SaysCause command fault unwritten called more = (name : List ℕ) × (said : Option (List ℕ))
+    × IsCause command fault unwritten called name said × (more ≡ cause_line name said)
 
-abbrev pub Explains : (explained : Bool) → Asked → Result Unit Fault → (unwritten : Type 0)
-    → (opened : OpenCalls) → (named : NameCalls) → (more : List ℕ) → Type 0
-Explains false command result unwritten opened named more = more ≡ []
-Explains true command (Ok done) unwritten opened named more = more ≡ []
-Explains true command (Err fault) unwritten opened named more =
-    (MayHaveNoCause command fault × (more ≡ []))
-    ⊎ SaysCause command fault unwritten opened named more
+abbrev pub Explains : (explained : Bool) → Asked → Result Unit Fault → (unwritten : Type 0) → Called
+    → (more : List ℕ) → Type 0
+Explains false command result unwritten called more = more ≡ []
+Explains true command (Ok done) unwritten called more = more ≡ []
+Explains true command (Err fault) unwritten called more =
+    (MayHaveNoCause command fault called × (more ≡ []))
+    ⊎ SaysCause command fault unwritten called more

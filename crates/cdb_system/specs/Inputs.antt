@@ -5,7 +5,7 @@ use Rattle.cdb_feed.specs.declared.input_reader.InputReader.TheVariants.{Own, Sh
 use Rattle.cdb_show.specs.declared.fault.Fault.{Fault}
 use Rattle.cdb_show.specs.declared.fault.Fault.TheVariants.{NoMemory}
 use Rattle.cdb_system.specs.Opening.{OpenCalls, Misses}
-use Rattle.cdb_system.specs.declared.open_trace.OpenCall.TheVariants.{AtPlaces, InTurn}
+use Rattle.cdb_system.specs.declared.open_trace.OpenCall.TheVariants.{InTurn, Watched}
 use Rattle.cdb_system.specs.declared.system.System.{Ghosts as Systems}
 
 -- the name of standard input
@@ -17,12 +17,12 @@ abbrev pub inputs_read : List (List ℕ) → List (List ℕ)
 inputs_read [] = codes "-" ∷ []
 inputs_read (name ∷ names) = name ∷ names
 
--- the base was opened, if there is one
+-- the base was opened, if there is one, and is watched
 abbrev pub OpensBase : {F I J M N R Y : Type 0} → Systems Y F I M J N R → Option (List ℕ) → Option F
     → (old new : OpenCalls) → Type 0
 OpensBase y None None old new = new ≡ old
 OpensBase y (Some name) (Some file) old new =
-    (new ≡ (AtPlaces, name) ∷ old) × y.gives name file
+    (new ≡ (Watched, name) ∷ old) × y.gives name file
 OpensBase y name file old new = ⊥
 
 -- or it was not

@@ -14,6 +14,7 @@ fresh reader = record {
   reader = reader;
   ended = false;
   trace = record { marker = record {}; events = [] };
+  refused = record { marker = record {}; events = [] };
 }
 
 pub fresh_is_unread : {R : Type 0} (reader : R) → IsUnread (noted_feed (fresh reader))
@@ -25,6 +26,7 @@ noted reader came = record {
   reader = reader;
   ended = false;
   trace = record { marker = record {}; events = (Gave, came) ∷ [] };
+  refused = record { marker = record {}; events = [] };
 }
 
 abbrev pub ended : {R : Type 0} → R → (came : List ℕ) → NotedReader R
@@ -32,6 +34,7 @@ ended reader came = record {
   reader = reader;
   ended = true;
   trace = record { marker = record {}; events = (Ended, []) ∷ (Gave, came) ∷ [] };
+  refused = record { marker = record {}; events = [] };
 }
 
 -- all bytes that begin with these agree; once the end came, these alone

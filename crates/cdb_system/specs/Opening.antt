@@ -128,3 +128,7 @@ refused_open why ((call, name) ∷ calls) =
 abbrev pub IsOpenRefusal : Refusal → OpenCalls → Type 0
 IsOpenRefusal refusal calls = refused_open refusal.cause calls
     ≡ Some (string_bytes refusal.name, string_bytes refusal.other, refusal.cause)
+
+-- no call refused a name
+abbrev pub IsUnrefused : OpenCalls → Type 0
+IsUnrefused calls = (why : Cause) → refused_open why calls ≡ None

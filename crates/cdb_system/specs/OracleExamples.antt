@@ -186,6 +186,7 @@ Reader = NotedReader (List ℕ)
 of_disk : Disk → Systems OpenCalls MemStore Reader MemStore Reader Unit Unit
 of_disk disk = record {
   calls = λ calls. calls;
+  lacks = λ calls. ⊥;
   gives = λ name store. disk name ≡ Some (contents store);
   reads = λ name stream. disk name ≡ Some stream.reader;
   makes = λ name store. ⊤;

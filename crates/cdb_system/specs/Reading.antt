@@ -121,7 +121,7 @@ pub record ChecksStore {S : Type 0} (w : ℕ) (start end : Option (List ℕ))
 -- why a stream is not taken into memory
 abbrev pub IsNotLoaded : (most : ℕ) → (before after : Feed) → Fault → Type 0
 IsNotLoaded most before after Long = FromTo before after (λ stream rest. most < length stream)
-IsNotLoaded most before after (Walk walk.Input) = ⊤
+IsNotLoaded most before after (Walk walk.Input) = after.failed
 IsNotLoaded most before after NoRoom = ⊤
 IsNotLoaded most before after fault = ⊥
 

@@ -50,10 +50,12 @@ with_calls files state = record {
   errors = state.errors;
 }
 
--- that standard output failed, or standard error
+-- that standard output failed, or standard error; or that memory for a copy of the name was refused which a
+-- call on names refused last
 pub record Failed : Type 1 where
   pub output : Type 0
   pub errors : Type 0
+  pub copy : Type 0
 
-abbrev pub failed_of : (output errors : Type 0) → Failed
-failed_of output errors = record { output = output; errors = errors }
+abbrev pub failed_of : (output errors copy : Type 0) → Failed
+failed_of output errors copy = record { output = output; errors = errors; copy = copy }

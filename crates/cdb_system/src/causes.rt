@@ -4,9 +4,9 @@ ghost use Rattle.cdb_show.specs.Command.{asked_in};
 ghost use Rattle.cdb_show.specs.declared.fault.Fault.TheVariants.{Open};
 ghost use Rattle.cdb_system.specs.CauseLine.{error_words, reason_name, said_of};
 ghost use Rattle.cdb_system.specs.Causes.{IsCause, IsCreate, IsMadeName, IsNoNameOf, IsOfDatabase, IsOfRead};
-ghost use Rattle.cdb_system.specs.Causes.{HasNoDatabase, IsFailedStream, MayHaveNoCause, NamesNothing};
+ghost use Rattle.cdb_system.specs.Causes.{GivesNoName, HasNoDatabase, IsFailedStream, MayHaveNoCause, NamesNoRefusal, NamesNothing};
 ghost use Rattle.cdb_system.specs.Causes.{IsOfFile, IsOfInput, IsOfSystem, IsOfTextOf, IsRefusedOpening};
-ghost use Rattle.cdb_system.specs.Causes.{cause_words, input_name, new_name, read_name, refusal_words, same_words};
+ghost use Rattle.cdb_system.specs.Causes.{called_of, cause_words, input_name, new_name, read_name, refusal_words, same_words};
 
 use crate::left::LeftOf;
 use crate::places::is_in_place;
@@ -14,7 +14,7 @@ use crate::request::Request;
 use crate::system::System;
 use cdb_command::Command;
 use cdb_form::{TextFault, WalkFault};
-use cdb_names::{Cause, Names, Refusal};
+use cdb_names::{Cause, Names, Refusal, is_no_name};
 use cdb_read::ReadFault;
 use cdb_show::{Fault, Lines, STANDARD_INPUT, input_at};
 use cdb_store::MakeFault;
@@ -135,62 +135,62 @@ fn of_refusal<'a>(command: &Command, refusal: &'a Refusal) -> Reason<'a>
 
 /// What is said of the name of a create that no file can have.
 fn of_no_name(command: &Command) -> Option<Reason<'_>>
-    ensures { IfSome result (λ r.
+    ensures cause { IfSome result (λ r.
         IsNoNameOf (asked_in command.now) (reason_name r) (said_of r.told)) }
+    ensures none { result ≡ None → GivesNoName (asked_in command.now) → ⊥ }
 {
     let Command::Create { name, .. } = command else {
         return None;
     };
-    let told = match name.as_bytes().last() {
-        None => Told::Words(EMPTY),
-        Some(b'/') => Told::Words("the name ends in a slash"),
-        Some(_) => return None,
+    if !is_no_name(name.as_str()) {
+        return None;
+    }
+    let told = if name.is_empty() {
+        EMPTY
+    } else {
+        "the name ends in a slash"
     };
-    Some(of_name(name.as_str(), told))
+    Some(of_name(name.as_str(), Told::Words(told)))
 }
 
-/// Whether a call on another name than that of the database of a create was refused, as files were
-/// opened.
-fn is_of_another<Y: System>(command: &Command, system: &Y) -> bool {
-    match (command, system.refusal()) {
+/// Whether a refusal, as files were opened, is of another name than that of the database of a
+/// create.
+fn is_of_another(command: &Command, opened: Option<&Refusal>) -> bool
+    ensures { result ≡ true → opened.entry ≡ None → ⊥ }
+{
+    match (command, opened) {
         (Command::Create { name, .. }, Some(refusal)) => name.as_str() != refusal.name.as_str(),
         _ => false,
     }
 }
 
-/// What is said of a name that was not opened or made. A name that no file can have is named for
-/// that, unless another name was refused before it.
-fn of_unopened<'a, Y>(
+/// What is said of a name that was refused, if one was. If it was to be opened or made, a name that
+/// no file can have is named for that, unless another name was refused before it.
+fn of_refused<'a, Y>(
     command: &'a Command,
+    is_open: bool,
     system: &'a Y,
     names: &'a Y::Names,
 ) -> Option<Reason<'a>>
 where
     Y: System,
-    ensures { IfSome result (λ r. IsRefusedOpening (asked_in command.now) (Y.calls system.now)
-        (Y.Names.calls names.now) (reason_name r) (said_of r.told)
-        ⊎ IsNoNameOf (asked_in command.now) (reason_name r) (said_of r.told)) }
+    ensures cause { IfSome result (λ r. IsRefusedOpening (asked_in command.now)
+        (called_of (Y.calls system.now) (Y.lacks system.now) (Y.Names.calls names.now)
+        (Y.Names.lacks names.now)) (reason_name r) (said_of r.told)
+        ⊎ ((is_open ≡ true) × IsNoNameOf (asked_in command.now) (reason_name r) (said_of r.told))) }
+    ensures none { result ≡ None → NamesNoRefusal
+        (called_of (Y.calls system.now) (Y.lacks system.now) (Y.Names.calls names.now)
+        (Y.Names.lacks names.now)) }
+    ensures named { result ≡ None → is_open ≡ true → GivesNoName (asked_in command.now) → ⊥ }
 {
-    if !is_of_another::<Y>(command, system)
+    let opened = system.refusal();
+    if is_open
+        && !is_of_another(command, opened)
         && let Some(reason) = of_no_name(command)
     {
         return Some(reason);
     }
-    of_refusals::<Y>(command, system, names)
-}
-
-/// What is said of a name that was refused, if one was.
-fn of_refusals<'a, Y>(
-    command: &'a Command,
-    system: &'a Y,
-    names: &'a Y::Names,
-) -> Option<Reason<'a>>
-where
-    Y: System,
-    ensures { IfSome result (λ r. IsRefusedOpening (asked_in command.now) (Y.calls system.now)
-        (Y.Names.calls names.now) (reason_name r) (said_of r.told)) }
-{
-    if let Some(refusal) = system.refusal() {
+    if let Some(refusal) = opened {
         return Some(of_refusal(command, refusal));
     }
     if let Some(refusal) = names.refusal() {
@@ -403,14 +403,16 @@ pub fn reason_of<'a, Y>(
 where
     Y: System,
     ensures cause { IfSome result (λ r. IsCause (asked_in request.entry.command.now) fault.now
-        (unwritten ≡ true) (Y.calls system.now) (Y.Names.calls names.now) (reason_name r)
-        (said_of r.told)) }
-    ensures none { result ≡ None → MayHaveNoCause (asked_in request.entry.command.now) fault.now }
+        (unwritten ≡ true) (called_of (Y.calls system.now) (Y.lacks system.now) (Y.Names.calls names.now)
+        (Y.Names.lacks names.now)) (reason_name r) (said_of r.told)) }
+    ensures none { result ≡ None → MayHaveNoCause (asked_in request.entry.command.now) fault.now
+        (called_of (Y.calls system.now) (Y.lacks system.now) (Y.Names.calls names.now)
+        (Y.Names.lacks names.now)) }
 {
     let command = request.command;
     match *fault {
-        Fault::Open => of_unopened::<Y>(command, system, names),
-        Fault::Rename | Fault::NoMemory => { of_refusals::<Y>(command, system, names) }
+        Fault::Open => of_refused::<Y>(command, true, system, names),
+        Fault::Rename | Fault::NoMemory => of_refused::<Y>(command, false, system, names),
         Fault::Text(number, fault) => { Some(of_text::<Y>(request, number, fault, system)) }
         Fault::Make(MakeFault::Writing) | Fault::Make(MakeFault::Lookup) => {
             of_made::<Y>(command, system, names, left)

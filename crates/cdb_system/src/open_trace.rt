@@ -11,6 +11,8 @@ use std::marker::{Model, PhantomData};
 pub enum OpenCall {
     /// It was opened, to be read at places.
     AtPlaces,
+    /// It was opened so, and its reads fail once another process has changed it.
+    Watched,
     /// It was opened, to be read from its start on.
     InTurn,
     /// Whether it is a stream: a pipe or a device.

@@ -1,15 +1,16 @@
 // The system's files: the lines that open them, and note it.
 ghost use Rattle.std.specs.Prelude.{◌≡◌, [], ◌∷◌, IfErr, None, OnOk, Some, string_bytes, true};
 ghost use Rattle.std.specs.Option.{ForSome};
-ghost use Rattle.cdb_names.specs.Refusals.{is_of_system};
-ghost use Rattle.cdb_system.specs.Opening.{Misses, refused_by, refused_open, unopened};
-ghost use Rattle.cdb_system.specs.declared.open_trace.OpenCall.TheVariants.{AtPlaces, Unopened};
+ghost use Rattle.cdb_names.specs.Refusals.{IsUnkept, is_of_system, refusal_in};
+ghost use Rattle.cdb_names.specs.declared.refusal.Newest.TheVariants.{Nothing};
+ghost use Rattle.cdb_system.specs.Opening.{IsUnrefused, Misses, refused_by, refused_open, unopened};
+ghost use Rattle.cdb_system.specs.declared.open_trace.OpenCall.TheVariants.{Unopened};
 
 use crate::open_trace::{OpenCall, OpenTrace};
 use crate::seen::{FileNumber, Seen, SeenReader};
 use crate::system::System;
 use cdb_feed::NotedReader;
-use cdb_names::{Answer, Cause, Lock, NameFault, RealNames, Refusal, has_name, locked};
+use cdb_names::{Answer, Cause, Lock, NameFault, Newest, RealNames, Refusal, has_name, locked};
 use cdb_show::Fault;
 use cdb_store::{FileStore, LAST_STANDARD, RealFile, StoreFault};
 use std::fs::{self, File};
@@ -31,9 +32,10 @@ pub struct RealSystem<'a, R> {
     seen: &'a Seen,
     trace: OpenTrace,
     /// The name that was refused last, if there was memory for it.
-    last: Option<Refusal>,
-    ghost newest: { ForSome last (λ refusal. refused_open refusal.cause trace.events
+    last: Newest,
+    ghost newest: { ForSome (refusal_in last) (λ refusal. refused_open refusal.cause trace.events
         ≡ Some (string_bytes refusal.name, string_bytes refusal.other, refusal.cause)) },
+    ghost none: { last ≡ Nothing → IsUnrefused trace.events },
 }
 
 /// Why a file was not opened: the fault, and its cause.
@@ -52,7 +54,7 @@ impl<'a, R: Files<File = File> + AllocGlobal> RealSystem<'a, R> {
             rt,
             seen,
             trace: OpenTrace::new(),
-            last: None,
+            last: Newest::Nothing,
         }
     }
 
@@ -69,7 +71,7 @@ impl<'a, R: Files<File = File> + AllocGlobal> RealSystem<'a, R> {
         requires { refused_by cause call.now name.now ≡ Some (name.now, [], cause) }
         ensures trace { self.new.trace.events ≡ (call.now, name.now) ∷ self.old.trace.events }
     {
-        self.last = Refusal::new(self.rt.alloc(), name, "", cause).ok();
+        self.last = Newest::copied(self.rt.alloc(), name, "", cause);
         self.trace.note(call, name.as_bytes());
     }
 
@@ -86,16 +88,22 @@ impl<'a, R: Files<File = File> + AllocGlobal> RealSystem<'a, R> {
         }
     }
 
-    /// Notes that the file of a name was opened to be read at places, or was not.
-    fn given(&mut self, opened: Result<FileStore, Why>, name: &str) -> Result<FileStore, Fault>
+    /// Notes that the file of a name was opened by this call, or was not.
+    fn given(
+        &mut self,
+        opened: Result<FileStore, Why>,
+        call: &OpenCall,
+        name: &str,
+    ) -> Result<FileStore, Fault>
+        requires { (why : Cause) → refused_by why call.now name.now ≡ None }
         ensures calls { OnOk result
-            (self.new.trace.events ≡ (AtPlaces, name.now) ∷ self.old.trace.events) }
+            (self.new.trace.events ≡ (call.now, name.now) ∷ self.old.trace.events) }
         ensures fails { IfErr result
             (Misses name.now self.old.trace.events self.new.trace.events) }
     {
         match opened {
             Ok(store) => {
-                self.note(&OpenCall::AtPlaces, name);
+                self.note(call, name);
                 Ok(store)
             }
             Err(why) => Err(self.refused(why, name)),
@@ -116,6 +124,8 @@ impl<'a, R: Files<File = File> + AllocGlobal> System for RealSystem<'a, R> {
 
     ghost calls = { λ s. s.trace.events };
 
+    ghost lacks = { λ s. IsUnkept s.last };
+
     ghost gives = { λ _ _. Unit {0} };
 
     ghost reads = { λ _ _. Unit {0} };
@@ -123,7 +133,10 @@ impl<'a, R: Files<File = File> + AllocGlobal> System for RealSystem<'a, R> {
     ghost makes = { λ _ _. Unit {0} };
 
     fn refusal(&self) -> Option<&Refusal> {
-        self.last.as_ref()
+        match &self.last {
+            Newest::Refused(refusal) => Some(refusal),
+            Newest::Nothing | Newest::Unkept => None,
+        }
     }
 
     fn store_error(&self, file: &FileStore) -> Option<i32> {
@@ -160,7 +173,7 @@ impl<'a, R: Files<File = File> + AllocGlobal> System for RealSystem<'a, R> {
             Ok(file) => store_over(RealFile::opened(file)),
             Err(why) => Err(why),
         };
-        self.given(opened, name)
+        self.given(opened, &OpenCall::AtPlaces, name)
     }
 
     // Shown by tests/cli/inputs.py.
@@ -169,7 +182,7 @@ impl<'a, R: Files<File = File> + AllocGlobal> System for RealSystem<'a, R> {
             Ok(file) => store_watching(file),
             Err(why) => Err(why),
         };
-        self.given(opened, name)
+        self.given(opened, &OpenCall::Watched, name)
     }
 
     // Shown by tests/cli/inputs.py.

@@ -1,8 +1,8 @@
 // The files of a system, by their names and the calls on them.
-ghost use Rattle.std.specs.Prelude.{◌≡◌, ◌∷◌, ℕ, List, IfOk, IfErr, IfSome, OnOk};
+ghost use Rattle.std.specs.Prelude.{◌≡◌, ◌⊎◌, ◌∷◌, ℕ, List, IfOk, IfErr, IfSome, None, OnOk};
 ghost use Rattle.cdb_feed.specs.Inputs.{IsUnread};
-ghost use Rattle.cdb_system.specs.Opening.{IsOpenRefusal, OpenCalls, Misses, MayEmpty};
-ghost use Rattle.cdb_system.specs.declared.open_trace.OpenCall.TheVariants.{AtPlaces, InTurn, Stream};
+ghost use Rattle.cdb_system.specs.Opening.{IsOpenRefusal, IsUnrefused, OpenCalls, Misses, MayEmpty};
+ghost use Rattle.cdb_system.specs.declared.open_trace.OpenCall.TheVariants.{AtPlaces, InTurn, Stream, Watched};
 ghost use Rattle.cdb_system.specs.declared.open_trace.OpenCall.TheVariants.{Emptied, Locked, Own, ToEmpty};
 
 use cdb_form::Feeds;
@@ -30,6 +30,9 @@ pub trait System {
     /// The calls, the newest first.
     ghost calls: { Self → OpenCalls };
 
+    /// Memory for a copy of the name that was refused last was refused.
+    ghost lacks: { Self → Type 0 };
+
     /// This file was given for the name, to be read at places.
     ghost gives: { List ℕ → Self.File → Type 0 };
 
@@ -39,10 +42,11 @@ pub trait System {
     /// This file was given for the name, to be written.
     ghost makes: { List ℕ → Self.Made → Type 0 };
 
-    /// The name of the file that was not opened last, and why. `None`: each was, or it is not
-    /// known.
+    /// The name of the file that was not opened last, and why. `None`: each was, or there was no
+    /// memory for a copy of it.
     fn refusal(&self) -> Option<&Refusal>
-        ensures { IfSome result (λ refusal. IsOpenRefusal refusal.now (calls self.now)) };
+        ensures why { IfSome result (λ refusal. IsOpenRefusal refusal.now (calls self.now)) }
+        ensures none { result ≡ None → IsUnrefused (calls self.now) ⊎ lacks self.now };
 
     /// The number of the error of the last call that failed on a file that is read at places, if
     /// the system gave one.
@@ -76,7 +80,7 @@ pub trait System {
     /// Opens the base of a create, as `open_store` does a file. Its reads fail once another process
     /// has changed the file: what was read before and after that may belong to two databases.
     fn open_base(&mut self, name: &str) -> Result<Self::File, Fault>
-        ensures calls { OnOk result (calls self.new ≡ (AtPlaces, name.now) ∷ calls self.old) }
+        ensures calls { OnOk result (calls self.new ≡ (Watched, name.now) ∷ calls self.old) }
         ensures gives { IfOk result (gives name.now) }
         ensures fails { IfErr result (Misses name.now (calls self.old) (calls self.new)) };
 

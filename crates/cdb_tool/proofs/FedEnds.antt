@@ -1,6 +1,6 @@
 -- How a run ends whose readers are handed back: for all inputs that agree with what was read, as its maker says.
-use Rattle.cdb_tool.proofs.Words.{AreAllInputs, ArePassed, AreRead, BeginsSo, Bool, Change, ComesFrom, Consumes, CutShort, Err, FailsFinishing, Fault, Feed, Flushed, Ghosts, HasFault, HasFaults, HasItemFault, Holds, InputForm, InputReader, Inputs, InputsLeft, IsFile, IsOfInput, IsOk, KeyValue, List, MakeFault, Maker, NoMore, NotBegun, Ok, Option, Result, RunOptions, SharedWindow, Stop, StopsSo, TakesOne, Task, TextFault, WhereHonest, [], ap, arith, came, drop, drop-length, feeds_of, from_weaker, inl, input_form, inr, is_some, length, limit_of, make_fault, not_ok, nothing_taken, parsing, progress, reached, refl, run_state, shared_feed, subst, sym, terms_of, ℕ, ◌+◌, ◌∙◌, ◌∷◌, ◌≡◌, ◌⊎◌}
-use Rattle.std.proofs.Common.{IfSome, None, Some}
+use Rattle.cdb_tool.proofs.Words.{AreAllInputs, ArePassed, AreRead, BeginsSo, Bool, Change, ComesFrom, Consumes, CutShort, Err, FailsFinishing, Fault, Feed, Flushed, Ghosts, HasFault, HasFaults, HasItemFault, Holds, InputForm, InputReader, Inputs, InputsLeft, IsFile, IsOk, KeyValue, List, MakeFault, Maker, NoMore, NotBegun, Ok, Option, Result, RunOptions, SharedWindow, Stop, StopsSo, TakesOne, Task, TextFault, WhereHonest, [], ap, arith, came, drop, drop-length, feeds_of, from_weaker, inl, input_form, inr, is_some, length, limit_of, make_fault, not_ok, nothing_taken, parsing, progress, reached, refl, run_state, shared_feed, subst, sym, terms_of, ℕ, ◌+◌, ◌∙◌, ◌∷◌, ◌≡◌, ◌⊎◌}
+use Rattle.std.proofs.Common.{IfErr, IfSome, None, Some}
 use Rattle.std.specs.Vec.{with_items}
 use Rattle.std.proofs.lemmas.List.{with_items_is}
 use Rattle.cdb_store.specs.declared.make_fault.MakeFault.TheVariants as make
@@ -11,13 +11,17 @@ use Rattle.cdb_command.specs.declared.style.Style.{Style}
 use Rattle.cdb_command.specs.declared.style.Style.TheVariants as style
 use Rattle.cdb_show.specs.declared.fault.Fault.TheVariants.{Output, Text}
 use Rattle.cdb_show.proofs.NextInputs.{first_begins}
+use Rattle.cdb_show.specs.Runs.Parsing.{IsFaultOf, IsOfRun}
+use Rattle.std.proofs.lemmas.Result.{IfErr-weaker}
+use Rattle.cdb_feed.specs.Inputs.{SomeFailed}
+use Rattle.cdb_feed.proofs.InputsInTurn.{some_through}
 use Rattle.cdb_show.specs.Runs.Inputs.{AreInputs, FirstHas}
 use Rattle.cdb_tool.specs.Runs.Course.{Goes}
-use Rattle.cdb_tool.specs.Runs.InputsRead.{HasRead, IsFaultAt, RunsRead, StopsIn, WereRead, stop_by}
-use Rattle.cdb_tool.specs.Runs.Make.{HoldsBase, InputsFail, IsHalt, MakeRuns, MeetsInput, OfBase, PutsInputs, PutsInputsStop, Stands, StoppedAt, form_of}
+use Rattle.cdb_tool.specs.Runs.InputsRead.{HasRead, RunsRead, StopsIn, WereRead, stop_by}
+use Rattle.cdb_tool.specs.Runs.Make.{HoldsBase, InputsFail, IsHalt, IsOfMaking, MakeRuns, MeetsInput, OfBase, PutsInputs, PutsInputsStop, Stands, StoppedAt, form_of}
 use Rattle.cdb_show.specs.declared.inputs.SharedWindow.TheVariants.{Unread}
 use Rattle.cdb_tool.proofs.FedRuns.{reached_whole, read_as}
-use Rattle.cdb_tool.proofs.InputRuns.{form_is}
+use Rattle.cdb_tool.proofs.InputRuns.{form_is, in_run}
 use Rattle.cdb_tool.proofs.RunEnds.{runs_flushed, runs_stopped, runs_unfinished, runs_whole}
 
 some_weaker : {A : Type 0} {P Q : A → Type 0} (o : Option A) → ((a : A) → P a → Q a) → IfSome o P → IfSome o Q
@@ -37,6 +41,12 @@ were_written own shared form g answer read stop before left now window are passe
   lost = lost;
   let_go = gone;
 }
+
+-- a reader of them failed, or the one that they share in its window
+pub some_written : {J I : Type 0} (own : J → Feed) (shared : I → Feed) (before : Inputs J I) (left : I) (now : List (InputReader J)) (window : SharedWindow I) (lost : List ℕ) → Consumes (shared_feed shared window) (shared left) lost → length now ≡ before.readers.len
+    → SomeFailed own (shared_feed shared) now window → SomeFailed own shared (with_items before.readers now).items left
+some_written own shared before left now window lost gone long failed =
+    subst (λ xs. SomeFailed own shared xs left) (sym (with_items_is before.readers now long)) (some_through own (shared_feed shared) shared now window left gone.stays failed)
 
 -- all were
 all_long : {R S : Type 0} (own : R → Feed) (shared : S → Feed) (form : InputForm) (g : ℕ) (answer : Result Unit Fault) (read : List (List Change)) (before now : List (InputReader R)) (old new : S) → AreRead own shared (parsing form g answer) read NoMore before now old new → length before ≡ length read
@@ -109,9 +119,9 @@ has_native : (s : Style) (amends : Bool) → HasFaults (input_form s amends) →
 has_native style.Native amends h = refl
 has_native style.Map amends h = absurd h
 
-module _ {S L : Type 0} {s : Ghosts S} {l : Widths L} (g : ℕ) (t : Task) (read : List (List Change)) (last : List Change) (inputs : InputsLeft) (start now : Option (List ℕ)) (m : Maker S L s l) where
+module _ {S L : Type 0} {s : Ghosts S} {l : Widths L} (g : ℕ) (t : Task) (read : List (List Change)) (last : List Change) (inputs : InputsLeft) (start now : Option (List ℕ)) (m : Maker S L s l) (Failed : Type 0) where
   -- after these items the next input has a fault of its text
-  meets : (n : ℕ) (f : TextFault) (rest : InputsLeft) (input : Option (List ℕ)) → AreInputs (form_of t) g read inputs rest → FirstHas rest input → IfSome input (HasItemFault (form_of t) g last f) → IsFaultAt (form_of t) (length read + 1) n f → Goes l.WORD t (came read last) start now
+  meets : (n : ℕ) (f : TextFault) (rest : InputsLeft) (input : Option (List ℕ)) → AreInputs (form_of t) g read inputs rest → FirstHas rest input → IfSome input (HasItemFault (form_of t) g last f) → IsFaultOf (form_of t) (length read + 1) Failed (Text n f) → Goes l.WORD t (came read last) start now
       → MeetsInput l.WORD g t inputs start now n f
   meets n f rest input are first has fault goes = record {
     read = read;
@@ -120,19 +130,19 @@ module _ {S L : Type 0} {s : Ghosts S} {l : Widths L} (g : ℕ) (t : Task) (read
     rest = rest;
     are = are;
     first = first;
-    numbered = fault.numbered;
-    memory = fault.memory;
-    native = λ k. has_native t.options.make.style (is_some t.base) (fault.own k);
+    numbered = fault.number n f refl;
+    memory = fault.memory n f refl;
+    native = λ k. has_native t.options.make.style (is_some t.base) (fault.own n f refl k);
     has = has;
     goes = goes;
   }
 
-  stops_each : (fault : Fault) → HasRead (form_of t) g (Err fault) read (stop_by fault last) inputs → IsOfInput (form_of t) (length read + 1) fault → StoppedAt t (came read last) start now m fault
+  stops_each : (fault : Fault) → HasRead (form_of t) g (Err fault) read (stop_by fault last) inputs → IsFaultOf (form_of t) (length read + 1) Failed fault → StoppedAt t (came read last) start now m fault
       → (b : List ℕ) → s.image m.store b → InputsFail l.WORD g t inputs start now fault
-  stops_each (Text n (text.Syntax at)) h of_text stopped b is = meets n (text.Syntax at) h.rest h.stops.0 h.are h.stops.1 (some_weaker h.stops.0 (λ input fails. fails.has) h.stops.2) (of_text n (text.Syntax at) refl) (stopped.stops.each b is)
-  stops_each (Text n (text.Ended at)) h of_text stopped b is = meets n (text.Ended at) h.rest h.stops.0 h.are h.stops.1 (some_weaker h.stops.0 (λ input fails. fails.has) h.stops.2) (of_text n (text.Ended at) refl) (stopped.stops.each b is)
-  stops_each (Text n (text.Large at)) h of_text stopped b is = meets n (text.Large at) h.rest h.stops.0 h.are h.stops.1 (some_weaker h.stops.0 (λ input fails. fails.has) h.stops.2) (of_text n (text.Large at) refl) (stopped.stops.each b is)
-  stops_each (Text n f) h of_text stopped b is = meets n f h.rest h.stops.0 h.are h.stops.1 (some_weaker h.stops.0 (λ input begins. begins.has n f refl) h.stops.2) (of_text n f refl) (stopped.stops.each b is)
+  stops_each (Text n (text.Syntax at)) h of_text stopped b is = meets n (text.Syntax at) h.rest h.stops.0 h.are h.stops.1 (some_weaker h.stops.0 (λ input fails. fails.has) h.stops.2) of_text (stopped.stops.each b is)
+  stops_each (Text n (text.Ended at)) h of_text stopped b is = meets n (text.Ended at) h.rest h.stops.0 h.are h.stops.1 (some_weaker h.stops.0 (λ input fails. fails.has) h.stops.2) of_text (stopped.stops.each b is)
+  stops_each (Text n (text.Large at)) h of_text stopped b is = meets n (text.Large at) h.rest h.stops.0 h.are h.stops.1 (some_weaker h.stops.0 (λ input fails. fails.has) h.stops.2) of_text (stopped.stops.each b is)
+  stops_each (Text n f) h of_text stopped b is = meets n f h.rest h.stops.0 h.are h.stops.1 (some_weaker h.stops.0 (λ input begins. begins.has n f refl) h.stops.2) of_text (stopped.stops.each b is)
   stops_each fault h of_text stopped b is = record {
     read = read;
     last = last;
@@ -142,12 +152,12 @@ module _ {S L : Type 0} {s : Ghosts S} {l : Widths L} (g : ℕ) (t : Task) (read
     stops = stopped.stops.each b is;
   }
 
-  pub inputs_stop : (form : InputForm) (fault : Fault) → form_of t ≡ form → HasRead form g (Err fault) read (stop_by fault last) inputs → IsOfInput form (length read + 1) fault → StoppedAt t (came read last) start now m fault
+  pub inputs_stop : (form : InputForm) (fault : Fault) → form_of t ≡ form → HasRead form g (Err fault) read (stop_by fault last) inputs → IsFaultOf form (length read + 1) Failed fault → StoppedAt t (came read last) start now m fault
       → WhereHonest (s.image m.store) (InputsFail l.WORD g t inputs start now fault)
   inputs_stop form fault same h of_text stopped = record {
     each = λ b is.
         stops_each fault (subst (λ v. HasRead v g (Err fault) read (stop_by fault last) inputs) (sym same) h)
-        (λ n f e. subst (λ v. IsFaultAt v (length read + 1) n f) (sym same) (of_text n f e)) stopped b is;
+        (subst (λ v. IsFaultOf v (length read + 1) Failed fault) (sym same) of_text) stopped b is;
   }
 
   pub inputs_stand : (form : InputForm) (fault : Fault) → HasRead form g (Err fault) read (stop_by fault last) inputs → StoppedAt t (came read last) start now m fault → IsHalt fault → Stands form g t inputs start now m
@@ -163,6 +173,14 @@ module _ {S L : Type 0} {s : Ghosts S} {l : Widths L} (g : ℕ) (t : Task) (read
 
 -- ---- the run
 
+-- a fault of the maker is none of a text or of a name
+pub of_making : (f : MakeFault) → IsOfMaking (make_fault f)
+of_making make.NoMemory = tt
+of_making made = tt
+
+err_eq : {f g : Fault} → ◌≡◌ {A = Result Unit Fault} (Err f) (Err g) → f ≡ g
+err_eq e = cc
+
 none_ok : IsNone (Ok tt)
 none_ok n f e = cc
 
@@ -175,12 +193,14 @@ none_made made n f e = cc
 
 -- it read nothing
 pub read_none : {B J I : Type 0} (t : Ghosts B) (was base : Option B) (own : J → Feed) (shared : I → Feed) (w g : ℕ) (o : RunOptions) (inputs : Inputs J I) (images : List ℕ → Type 0) (old new : Option (List ℕ)) (result : Result Unit Fault)
-    → ((given : InputsLeft) → WhereHonest images (OfBase t base (λ b. MakeRuns (terms_of w g o) b given images old new result))) → RunsRead (terms_of w g o) (feeds_of own shared) t (run_state was inputs old) (run_state base inputs new) images result
-read_none t was base own shared w g o inputs images old new result runs = record {
+    → IfErr result IsOfMaking → ((given : InputsLeft) → WhereHonest images (OfBase t base (λ b. MakeRuns (terms_of w g o) b given images old new result))) → RunsRead (terms_of w g o) (feeds_of own shared) t (run_state was inputs old) (run_state base inputs new) images result
+read_none t was base own shared w g o inputs images old new result of runs = record {
   read = [];
   stop = NotBegun;
   were = were_none own shared (input_form o.make.style (is_some was)) g result inputs;
   runs = λ given h. runs given;
+  failed = λ n e. absurd (subst (λ r. IfErr r IsOfMaking) e of);
+  of_run = IfErr-weaker result IsOfMaking IsOfRun in_run of;
 }
 
 module _ {S L B J I : Type 0} {s : Ghosts S} {l : Widths L} (t : Ghosts B) (was base : Option B) (own : J → Feed) (shared : I → Feed) (g : ℕ) (o : RunOptions) (amends : Bool) (before after : Inputs J I) (start now : Option (List ℕ)) (begun m : Maker S L s l) (of_was : amends ≡ is_some was) (of_base : is_some base ≡ amends)
@@ -194,7 +214,7 @@ module _ {S L B J I : Type 0} {s : Ghosts S} {l : Widths L} (t : Ghosts B) (was 
   all_given : (answer : Result Unit Fault) (given : InputsLeft) → HasRead (input_form o.make.style (is_some was)) g answer read NoMore given → AreAllInputs (input_form o.make.style (is_some base)) g read given
   all_given answer given h = subst (λ v. AreAllInputs (input_form o.make.style v) g read given) (sym (of_base ∙ of_was)) (all_inputs (input_form o.make.style (is_some was)) g answer read given h)
 
-  pub read_stopped : (last : List Change) (f : Fault) → WereRead (feeds_of own shared) (parsing (input_form o.make.style amends) g (Err f)) read (stop_by f last) before after → IsOfInput (input_form o.make.style amends) (length read + 1) f
+  pub read_stopped : (last : List Change) (f : Fault) → WereRead (feeds_of own shared) (parsing (input_form o.make.style amends) g (Err f)) read (stop_by f last) before after → IsFaultOf (input_form o.make.style amends) (length read + 1) (SomeFailed own shared after.readers.items after.shared) f
       → PutsInputsStop o read last (progress start begun) (progress now m) f → RunsRead (terms_of l.WORD g o) (feeds_of own shared) t (run_state was before start) (run_state base after now) (s.image m.store) (Err f)
   read_stopped last f were of_text stops = record {
     read = read;
@@ -202,7 +222,9 @@ module _ {S L B J I : Type 0} {s : Ghosts S} {l : Widths L} (t : Ghosts B) (was 
     were = of_form (Err f) (stop_by f last) were;
     runs = λ given h.
         runs_stopped {s = s} {l = l} t base g o amends given start now begun (s.image m.store) f wide holds limit of_base comes
-        (λ k same based begins. inputs_stop {s = s} {l = l} g k read last given start now m (input_form o.make.style amends) f (form_is k o amends same based) (given_form (Err f) (stop_by f last) given h) of_text (stops k start same begins));
+        (λ k same based begins. inputs_stop {s = s} {l = l} g k read last given start now m (SomeFailed own shared after.readers.items after.shared) (input_form o.make.style amends) f (form_is k o amends same based) (given_form (Err f) (stop_by f last) given h) of_text (stops k start same begins));
+    failed = λ n e. of_text.failed n (err_eq e);
+    of_run = of_text.of_run;
   }
 
   pub read_whole : (images : List ℕ → Type 0) → WereRead (feeds_of own shared) (parsing (input_form o.make.style amends) g (Ok tt)) read NoMore before after → PutsInputs o read (progress start begun) (progress now m) → ComesFrom (s.image m.store) images → ((rs : List KeyValue) → Holds m rs → IsFile l.WORD rs images)
@@ -212,6 +234,8 @@ module _ {S L B J I : Type 0} {s : Ghosts S} {l : Widths L} (t : Ghosts B) (was 
     stop = NoMore;
     were = of_form (Ok tt) NoMore were;
     runs = λ given h. runs_whole {s = s} {l = l} t base g o given read start now begun m images wide holds limit (all_given (Ok tt) given h) (λ k same begins. puts k start same begins) comes finished file;
+    failed = λ n e. absurd (none_ok n text.Input e);
+    of_run = tt;
   }
 
   pub read_unfinished : (new : Maker S L s l) (f : MakeFault) → WereRead (feeds_of own shared) (parsing (input_form o.make.style amends) g (Ok tt)) read NoMore before after → PutsInputs o read (progress start begun) (progress now m) → ComesFrom (s.image m.store) (s.image new.store) → FailsFinishing m new f
@@ -221,6 +245,8 @@ module _ {S L B J I : Type 0} {s : Ghosts S} {l : Widths L} (t : Ghosts B) (was 
     stop = NoMore;
     were = of_form (Err (make_fault f)) NoMore (were_as (input_form o.make.style amends) g (Ok tt) (Err (make_fault f)) (none_made f) own shared read NoMore before after were);
     runs = λ given h. runs_unfinished {s = s} {l = l} t base g o given read start now begun m new f wide holds limit (all_given (Err (make_fault f)) given h) (λ k same begins. puts k start same begins) comes finished fails;
+    failed = λ n e. absurd (none_made f n text.Input e);
+    of_run = in_run (make_fault f) (of_making f);
   }
 
 -- ---- the flush
@@ -232,6 +258,8 @@ flush_err t was base own shared w g o before after images old mid new (Ok u) ok 
   stop = h.stop;
   were = were_as (input_form o.make.style (is_some was)) g (Ok u) (Err Output) none_output own shared h.read h.stop before after h.were;
   runs = λ given has. runs_flushed t base w g o given images old mid new (Ok u) (Err Output) (h.runs given (has_as (input_form o.make.style (is_some was)) g (Err Output) (Ok u) none_ok h.read h.stop given has)) f;
+  failed = λ n e. absurd (none_output n text.Input e);
+  of_run = tt;
 }
 flush_err t was base own shared w g o before after images old mid new (Err e) ok f h = absurd (not_ok ok)
 
@@ -240,6 +268,6 @@ pub read_flushed : {B J I : Type 0} (t : Ghosts B) (was base : Option B) (own : 
 read_flushed t was base own shared w g o before after images old mid new answer result h f = elim f.answered as (λ _. RunsRead (terms_of w g o) (feeds_of own shared) t (run_state was before old) (run_state base after new) images result) [
   | inl e ↦
       subst (RunsRead (terms_of w g o) (feeds_of own shared) t (run_state was before old) (run_state base after new) images) (sym e)
-      (record { read = h.read; stop = h.stop; were = h.were; runs = λ given has. runs_flushed t base w g o given images old mid new answer answer (h.runs given has) (subst (Flushed mid new answer) e f) })
+      (record { read = h.read; stop = h.stop; were = h.were; runs = λ given has. runs_flushed t base w g o given images old mid new answer answer (h.runs given has) (subst (Flushed mid new answer) e f); failed = h.failed; of_run = h.of_run })
   | inr e ↦ subst (RunsRead (terms_of w g o) (feeds_of own shared) t (run_state was before old) (run_state base after new) images) (sym e.1) (flush_err t was base own shared w g o before after images old mid new answer e.0 (subst (Flushed mid new answer) e.1 f) h)
 ]

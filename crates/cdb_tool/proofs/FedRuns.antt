@@ -3,10 +3,13 @@ use Rattle.std.proofs.Common.{◌≡◌, ℕ, ◌+◌, ◌*◌, ◌<◌, ◌≤�
 use Rattle.std.proofs.lemmas.List.{drop-set, take-set, drop_more, drop-set-lt}
 use Rattle.std.proofs.Math.Nat.{mul-le-mul_right}
 use Rattle.std.proofs.Math.ListN.{length-set}
-use Rattle.cdb_tool.proofs.Words.{ArePassed, AreRead, Change, CutShort, Fault, Feed, Ghosts, HasFault, InputForm, InputReader, IsInputOf, IsOfInput, Maker, NoMore, NotBegun, PutsInputs, PutsInputsStop, PutsStop, RunOptions, Stop, StopsInput, StopsSo, TakesOne, TextFault, drop-length, feeds_of, nothing_taken, parsing, progress, reached, stop_by}
+use Rattle.cdb_tool.proofs.Words.{ArePassed, AreRead, Change, CutShort, Fault, Feed, Ghosts, HasFault, InputForm, InputReader, IsInputOf, Maker, NoMore, NotBegun, PutsInputs, PutsInputsStop, PutsStop, RunOptions, Stop, StopsInput, StopsSo, TakesOne, TextFault, drop-length, feeds_of, nothing_taken, parsing, progress, reached, stop_by}
 use Rattle.cdb_form.specs.declared.text.fault.TextFault.TheVariants as text
 use Rattle.cdb_feed.specs.Parsing.{Parsing}
-use Rattle.cdb_feed.proofs.InputsInTurn.{read_then}
+use Rattle.cdb_feed.proofs.InputsInTurn.{read_then, some_failed}
+use Rattle.cdb_feed.specs.Inputs.{ReaderFailed, SomeFailed}
+use Rattle.cdb_show.proofs.FedLookupRuns.{fault_weaker}
+use Rattle.cdb_show.specs.Runs.Parsing.{IsFaultOf}
 use Rattle.cdb_form.specs.declared.width.Width.{Ghosts as Widths}
 use Rattle.cdb_show.specs.declared.fault.Fault.TheVariants.{Text}
 
@@ -144,13 +147,13 @@ abbrev pub StopsHere : {J R S L : Type 0} {s : Ghosts S} {l : Widths L} → (own
 StopsHere own shared form g before after old new o was now m done fault = (read : List (List Change)) × (last : List Change)
     × AreRead own shared (parsing form g (Err fault)) read (stop_by fault last) before after old new
     × ArePassed read (stop_by fault last) before after
-    × IsOfInput form (length read + 1) fault
+    × IsFaultOf form (length read + 1) (SomeFailed own shared after new) fault
     × PutsInputsStop o read last (progress was m) (progress now done) fault
 
 abbrev pub StopsThere : {J R S L : Type 0} {s : Ghosts S} {l : Widths L} → (own : J → Feed) → (shared : R → Feed) → InputForm → (g number : ℕ) → (before after : InputReader J) → (old new : R) → RunOptions → (was now : Option (List ℕ)) → Maker S L s l → Maker S L s l → Fault → Type 0
 StopsThere own shared form g number before after old new o was now m done fault = (last : List Change)
     × StopsInput (feeds_of own shared) (parsing form g (Err fault)) (stop_by fault last) before after old new
-    × IsOfInput form number fault
+    × IsFaultOf form number (ReaderFailed own shared after new) fault
     × PutsStop o number last (progress was m) (progress now done) fault
 
 pub stopped_here : {J R S L : Type 0} {s : Ghosts S} {l : Widths L} (own : J → Feed) (shared : R → Feed) (form : InputForm) (g : ℕ) (before now : List (InputReader J)) (it left : InputReader J) (old mid new : R) (i : ℕ) (read : List (List Change)) (o : RunOptions) (was were are : Option (List ℕ)) (begun m done : Maker S L s l) (fault : Fault)
@@ -161,6 +164,6 @@ stopped_here own shared form g before now it left old mid new i read o was were 
   last,
   turn_stops own shared form g before now it left old mid new i read within e fault (stop_by fault last) far (subst (λ t. StopsInput (feeds_of own shared) (parsing form g (Err fault)) (stop_by fault last) t left mid new) (sym e) stops),
   turns_passed own shared form g before now it left old mid new i read within e fault last far,
-  subst (λ k. IsOfInput form (k + 1) fault) (sym far.count) of_text,
+  subst (λ k. IsFaultOf form (k + 1) (SomeFailed own shared (slice_set now i left) new) fault) (sym far.count) (fault_weaker form (i + 1) (ReaderFailed own shared left new) (SomeFailed own shared (slice_set now i left) new) fault (some_failed own shared now i left new within) of_text),
   λ t start same h. put t read start same (ap (λ (k : ℕ). k + 1) (sym far.count)) (course t start same h),
 )

@@ -1,5 +1,5 @@
 -- What a run read of an input through a window, whatever bytes agree with it.
-use Rattle.cdb_tool.proofs.Words.{BeginsSo, BeginsWithItems, Change, Err, FailsSo, Fault, Ghosts, HasItemFault, InputForm, InputReader, IsInputOf, IsOfInput, IsOfText, List, Maker, Ok, OnOk, Option, PutsStop, Result, RunOptions, SharedWindow, Some, StopsBehind, StopsInput, StopsSo, TakesOne, TextFault, [], came, feeds_of, parsing, progress, refl, shared_feed, stop_by, subst, sym, ℕ, ◌++◌, ◌∷◌, ◌≡◌}
+use Rattle.cdb_tool.proofs.Words.{BeginsSo, BeginsWithItems, Change, Err, FailsSo, Fault, Ghosts, HasItemFault, InputForm, InputReader, IsInputOf, IsOfText, List, Maker, Ok, OnOk, Option, PutsStop, Result, RunOptions, SharedWindow, Some, StopsBehind, StopsInput, StopsSo, TakesOne, TextFault, [], came, feeds_of, parsing, progress, refl, shared_feed, stop_by, subst, sym, ℕ, ◌++◌, ◌∷◌, ◌≡◌}
 use Rattle.cdb_form.specs.Views.Feed.{Consumes, Feed, FromTo, Keeps}
 use Rattle.cdb_form.specs.declared.text.fault.TextFault.TheVariants as text
 use Rattle.cdb_form.specs.declared.width.Width.{Ghosts as Widths}
@@ -9,7 +9,10 @@ use Rattle.cdb_show.specs.Views.Window.{feed_of, held_in, reader_of}
 use Rattle.cdb_show.specs.Views.WindowRests.{same_held}
 use Rattle.cdb_show.specs.declared.fault.Fault.TheVariants.{NoMemory, Text}
 use Rattle.cdb_show.specs.declared.window.Window.{Window}
+use Rattle.cdb_show.proofs.FedLookupRuns.{fault_weaker, is_fault_of}
 use Rattle.cdb_show.proofs.NextInputs.{begins_none}
+use Rattle.cdb_show.specs.Runs.Parsing.{IsFaultOf}
+use Rattle.cdb_feed.specs.Inputs.{ReaderFailed}
 use Rattle.cdb_show.specs.declared.inputs.SharedWindow.TheVariants.{InHand, Unread}
 use Rattle.cdb_tool.proofs.InputRuns.{text_stopped}
 use Rattle.cdb_tool.proofs.InputRuns.{none_put}
@@ -34,7 +37,8 @@ behind_let_go form g n last a b c d lost fault kept s gone = record {
   begins = text_let_go a b c d (BeginsWithItems form g last) lost kept s.begins gone;
   of_text = λ i f e.
       let h = s.of_text i f e in
-      (h.0, record { has = text_let_go a b c d (HasItemFault form g last f) lost kept h.1.has gone; own = h.1.own; memory = h.1.memory });
+      (h.0, record { has = text_let_go a b c d (HasItemFault form g last f) lost kept h.1.has gone; own = h.1.own; memory = h.1.memory; failed = λ is. gone.stays (h.1.failed is) });
+  of_run = s.of_run;
 }
 
 -- memory for a window was refused before anything was read
@@ -42,6 +46,7 @@ behind_none : (form : InputForm) (g n : ℕ) (a : Feed) → StopsBehind form g n
 behind_none form g n a = record {
   begins = from_kept a a (λ text rest. BeginsWithItems form g [] text) (nothing_taken a) (λ text. begins_none form g (Some text));
   of_text = λ i f e. absurd (let k : NoMemory ≡ Text i f = e in let no : ⊥ = cc in no);
+  of_run = tt;
 }
 
 -- ---- why it was not read on
@@ -83,15 +88,13 @@ stops_so own shared form g n last a d fault reader left old new takes one s = ta
 -- an input stopped the run, with this number
 abbrev InputStops : {R S : Type 0} → (own : R → Feed) → (shared : S → Feed) → InputForm → (g n : ℕ) → List Change → Fault → InputReader R → InputReader R → S → S → Type 0
 InputStops own shared form g n last fault reader left old new =
-    StopsInput (feeds_of own shared) (parsing form g (Err fault)) (stop_by fault last) reader left old new × IsOfInput form n fault
+    StopsInput (feeds_of own shared) (parsing form g (Err fault)) (stop_by fault last) reader left old new × IsFaultOf form n (ReaderFailed own shared left new) fault
 
 stops_input : {R S : Type 0} (own : R → Feed) (shared : S → Feed) (form : InputForm) (g n : ℕ) (last : List Change) (a d : Feed) (fault : Fault) (reader left : InputReader R) (old new : S) → Takes own shared a d reader left old new → ((whole x y : List ℕ) → a.may whole x → a.may whole y → x ≡ y)
-    → StopsBehind form g n last a d fault → InputStops own shared form g n last fault reader left old new
-stops_input own shared form g n last a d fault reader left old new takes one s = (
+    → (d.failed → ReaderFailed own shared left new) → StopsBehind form g n last a d fault → InputStops own shared form g n last fault reader left old new
+stops_input own shared form g n last a d fault reader left old new takes one failed s = (
   stops_so own shared form g n last a d fault reader left old new takes one s,
-  λ i f e.
-      let h = s.of_text i f e in
-      record { numbered = h.0; own = h.1.own; memory = h.1.memory },
+  fault_weaker form n d.failed (ReaderFailed own shared left new) fault failed (is_fault_of form g n last a d fault s),
 )
 
 -- ---- an input
@@ -112,14 +115,14 @@ module _ {J I : Type 0} (own : J → Feed) (shared : I → Feed) (form : InputFo
       → StopsBehind form g n last (feed_of own window) (feed_of own over) fault → Consumes (feed_of own over) (own left) (held_in over) → InputStops own (shared_feed shared) form g n last fault turn (Own left) s s
   own_stops n last fault turn reader left window over s one is kept stops gone =
       subst (λ t. InputStops own (shared_feed shared) form g n last fault t (Own left) s s) (sym is)
-      (stops_input own (shared_feed shared) form g n last (own reader) (own left) fault (Own reader) (Own left) s s (own_takes reader left s) (one reader)
+      (stops_input own (shared_feed shared) form g n last (own reader) (own left) fault (Own reader) (Own left) s s (own_takes reader left s) (one reader) (λ f. f)
       (behind_let_go form g n last (own reader) (feed_of own window) (feed_of own over) (own left) (held_in over) fault kept stops gone))
 
   pub own_unread : (n : ℕ) (turn : InputReader J) (reader left : J) (s : SharedWindow I) → ((it : J) (whole x y : List ℕ) → (own it).may whole x → (own it).may whole y → x ≡ y) → turn ≡ Own reader → left ≡ reader → InputStops own (shared_feed shared) form g n [] NoMemory turn (Own left) s s
   own_unread n turn reader left s one is same =
       subst (λ t. InputStops own (shared_feed shared) form g n [] NoMemory t (Own left) s s) (sym is)
       (subst (λ l. InputStops own (shared_feed shared) form g n [] NoMemory (Own reader) (Own l) s s) (sym same)
-      (stops_input own (shared_feed shared) form g n [] (own reader) (own reader) NoMemory (Own reader) (Own reader) s s (own_takes reader reader s) (one reader) (behind_none form g n (own reader))))
+      (stops_input own (shared_feed shared) form g n [] (own reader) (own reader) NoMemory (Own reader) (Own reader) s s (own_takes reader reader s) (one reader) (λ f. f) (behind_none form g n (own reader))))
 
   -- the shared one stays in its window
   shared_one : (s : SharedWindow I) → ((it : I) (whole x y : List ℕ) → (shared it).may whole x → (shared it).may whole y → x ≡ y) → (whole x y : List ℕ) → (shared_feed shared s).may whole x → (shared_feed shared s).may whole y → x ≡ y
@@ -139,14 +142,14 @@ module _ {J I : Type 0} (own : J → Feed) (shared : I → Feed) (form : InputFo
       → StopsBehind form g n last (feed_of shared window) (feed_of shared over) fault → InputStops own (shared_feed shared) form g n last fault turn after s (InHand over)
   shared_stops n last fault turn after s window over one is stays kept stops =
       both_shared (λ x y. InputStops own (shared_feed shared) form g n last fault x y s (InHand over)) turn after is stays
-      (stops_input own (shared_feed shared) form g n last (shared_feed shared s) (feed_of shared over) fault Shared Shared s (InHand over) (λ B f. f) (shared_one s one)
+      (stops_input own (shared_feed shared) form g n last (shared_feed shared s) (feed_of shared over) fault Shared Shared s (InHand over) (λ B f. f) (shared_one s one) (λ f. f)
       (behind_let_go form g n last (shared_feed shared s) (feed_of shared window) (feed_of shared over) (feed_of shared over) [] fault kept stops (nothing_taken (feed_of shared over))))
 
   pub shared_unread : (n : ℕ) (turn after : InputReader J) (s : SharedWindow I) (refused : I) → ((it : I) (whole x y : List ℕ) → (shared it).may whole x → (shared it).may whole y → x ≡ y) → turn ≡ Shared → after ≡ Shared → Keeps (shared_feed shared s) (shared refused)
       → InputStops own (shared_feed shared) form g n [] NoMemory turn after s (Unread refused)
   shared_unread n turn after s refused one is stays kept =
       both_shared (λ x y. InputStops own (shared_feed shared) form g n [] NoMemory x y s (Unread refused)) turn after is stays
-      (stops_input own (shared_feed shared) form g n [] (shared_feed shared s) (shared refused) NoMemory Shared Shared s (Unread refused) (λ B f. f) (shared_one s one)
+      (stops_input own (shared_feed shared) form g n [] (shared_feed shared s) (shared refused) NoMemory Shared Shared s (Unread refused) (λ B f. f) (shared_one s one) (λ f. f)
       (behind_let_go form g n [] (shared_feed shared s) (shared_feed shared s) (shared_feed shared s) (shared refused) [] NoMemory (nothing_taken (shared_feed shared s)) (behind_none form g n (shared_feed shared s)) kept))
 
 -- nothing was put of it

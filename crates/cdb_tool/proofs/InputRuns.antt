@@ -4,14 +4,16 @@ use Rattle.cdb_store.specs.declared.make_fault.MakeFault.TheVariants as make
 use Rattle.cdb_form.specs.declared.text.fault.TextFault.TheVariants as text
 use Rattle.cdb_form.specs.declared.width.Width.{Ghosts as Widths}
 use Rattle.cdb_show.specs.Runs.Lookups.{FaultBehind, StopsBehind}
+use Rattle.cdb_show.specs.Runs.Parsing.{IsOfRun}
 use Rattle.cdb_show.specs.Views.Fault.{text_fault}
 use Rattle.cdb_show.specs.Views.ItemReader.{Fails, GivesItem, form_of, reader_of}
 use Rattle.cdb_show.specs.declared.fault.Fault.TheVariants.{Text, Make, Duplicate, Output, NoMemory}
 use Rattle.cdb_show.specs.declared.runs.item_reader.ItemReader.{ItemReader}
 use Rattle.cdb_show.specs.declared.runs.item_reader.ItemReader.TheVariants.{Form, Map}
-use Rattle.cdb_show.proofs.ItemInputs.{GaveItems, items_begin, items_fault, items_form, items_more, items_own, items_still}
+use Rattle.cdb_show.proofs.ItemInputs.{GaveItems, items_begin, items_fault, items_form, items_more, items_own, items_still, items_told}
+use Rattle.cdb_show.proofs.LookupRuns.{text_of_run}
 use Rattle.cdb_show.proofs.SpelledInputs.{from_lost}
-use Rattle.cdb_tool.specs.Runs.Make.{InCourse, IsNoText, ItemDone, PutStops, StoppedAt}
+use Rattle.cdb_tool.specs.Runs.Make.{InCourse, IsOfMaking, ItemDone, PutStops, StoppedAt}
 use Rattle.cdb_tool.specs.Runs.Make.{form_of as task_form}
 use Rattle.cdb_tool.proofs.Courses.{came_more, came_none, course_stands}
 use Rattle.cdb_tool.proofs.MadeOf.{course_more, told_grow}
@@ -43,6 +45,10 @@ last_by (Make make.Writing) last c = last
 last_by NoMemory last c = last
 last_by f last c = last ++ c ∷ []
 
+pub in_run : (f : Fault) → IsOfMaking f → IsOfRun f
+in_run (Text n f) h = tt
+in_run f h = h
+
 module _ {F L : Type 0} (g : ℕ) (feed : F → Feed) where
   pub text_stops : (n : ℕ) (start : Feed) (t u : ItemReader F L) (form : InputForm) (last : List Change) (f : TextFault) → ((it : F) (whole a b : List ℕ) → (feed it).may whole a → (feed it).may whole b → a ≡ b)
       → form_of t ≡ form → GaveItems g feed start t last → Fails g feed t u f → StopsBehind form g n last start (feed (reader_of u)) (text_fault n f)
@@ -55,8 +61,10 @@ module _ {F L : Type 0} (g : ℕ) (feed : F → Feed) where
             has = items_fault g feed start t u last f one gave fails k.other;
             own = items_own g feed start t u last f gave fails;
             memory = k.other;
+            failed = items_told g feed start t u last f gave fails;
           }),
         );
+    of_run = text_of_run n f;
   })
 
   -- the bytes of an item
@@ -82,11 +90,12 @@ module _ {F L : Type 0} (g : ℕ) (feed : F → Feed) where
   items_by start t u last c NoMemory h m = items_before start t u last c h m
   items_by start t u last c f h m = items_with start t u last c h m
 
-  pub item_stops : (n : ℕ) (start : Feed) (t u : ItemReader F L) (form : InputForm) (last : List Change) (c : Change) (f : Fault) → form_of t ≡ form → GaveItems g feed start t last → GivesItem g feed t u c → IsNoText f
+  pub item_stops : (n : ℕ) (start : Feed) (t u : ItemReader F L) (form : InputForm) (last : List Change) (c : Change) (f : Fault) → form_of t ≡ form → GaveItems g feed start t last → GivesItem g feed t u c → IsOfMaking f
       → StopsBehind form g n (last_by f last c) start (feed (reader_of u)) f
   item_stops n start t u form last c f same h m is = subst (λ v. StopsBehind v g n (last_by f last c) start (feed (reader_of u)) f) same (record {
     begins = items_by start t u last c f h m;
-    of_text = λ i v e. absurd (subst IsNoText e is);
+    of_text = λ i v e. absurd (subst IsOfMaking e is);
+    of_run = in_run f is;
   })
 
 -- ---- the course up to a fault

@@ -96,7 +96,7 @@ fails_read w g feed start t u b f one h meets no_memory =
         part = from_weaker start new (Faulty g from to h.records f bytes) (λ text rest. IsReadFault f → FailsText w g (take to text) (Ended to)) both (λ text rest so is.
             let p = so_far_part Spells spelling g text so.0 rest bytes from to h.records so.1 so.2.1 meets.took.counted (so.2.0.part is) in
             record { records = h.records; fits = h.fits; behind = record { rest = p.1.rest; whole = p.1.whole; has = p.1.has } });
-        asked = λ endless. omega (arith, meets.spent endless, meets.spends, h.so_far.1);
+        asked = λ endless. omega (arith, meets.told.spent endless, meets.spends, h.so_far.1);
       };
       fails = from_weaker start new (Faulty g from to h.records f bytes) (λ text rest. IsOfText f → FailsText w g text f) both (λ text rest so is.
           let p = so_far_fault Spells spelling g text so.0 from h.records f so.1 so.2.0.exact (so.2.0.no_record is) in

@@ -44,7 +44,7 @@ pub use Rattle.cdb_store.specs.declared.store.Store.{Ghosts}
 pub use Rattle.cdb_tool.specs.Runs.Base.{NotAdded}
 pub use Rattle.cdb_tool.specs.Runs.Course.{Course, EndsSo, Task, course_of, ends, is_going, mode_of, with_change, with_next}
 pub use Rattle.cdb_tool.specs.Runs.FormParsing.{BeginsSo, FailsSo, parsing}
-pub use Rattle.cdb_tool.specs.Runs.InputsRead.{HasRead, IsFaultAt, IsOfInput, RunsRead, StopsInput, WereRead, feeds_of, run_state, stop_by}
+pub use Rattle.cdb_tool.specs.Runs.InputsRead.{HasRead, RunsRead, StopsInput, WereRead, feeds_of, run_state, stop_by}
 pub use Rattle.cdb_tool.specs.Runs.Made.{made_of}
 pub use Rattle.cdb_tool.specs.Runs.Make.{InCourse, MakeRuns, OfBase, PutsInputs, PutsInputsStop, PutsStop, progress, terms_of}
 pub use Rattle.cdb_tool.specs.Runs.MakesSo.{ComesOf}

@@ -10,6 +10,6 @@ use Rattle.cdb_show.specs.declared.fault.Fault.TheVariants.{Walk, Long, NoMemory
 -- memory ran out, no more than the most
 abbrev pub LoadStops : ℕ → (old new : Feed) → Fault → Type 0
 LoadStops most old new Long = (bytes : List ℕ) × GivesMore most old new bytes
-LoadStops most old new (Walk walk.Input) = LosesAtMost old new most
+LoadStops most old new (Walk walk.Input) = LosesAtMost old new most × new.failed
 LoadStops most old new NoMemory = LosesAtMost old new most
 LoadStops most old new fault = ⊥

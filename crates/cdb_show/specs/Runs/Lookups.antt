@@ -1,10 +1,10 @@
 -- What a query of the keys that some inputs give leaves, whatever bytes agree with the readers of the
 -- inputs as they come back. An image is one of its store as it was handed back.
 use Rattle.std.specs.Prelude.{ℕ, ◌≡◌, ◌≢◌, ◌+◌, ◌<◌, ◌≤◌, ◌⊎◌, Bool, true, false, List, [], ◌++◌, length}
-use Rattle.std.specs.Prelude.{Option, Result, Ok, Err}
+use Rattle.std.specs.Prelude.{Option, Result, Ok, Err, ⊤}
 use Rattle.std.specs.Io.KnownBytes.{Appends, Keeps}
 use Rattle.cdb_store.specs.Reads.{OnlyReads}
-use Rattle.cdb_feed.specs.Inputs.{Stop, NoMore, NotBegun}
+use Rattle.cdb_feed.specs.Inputs.{SomeFailed, Stop, NoMore, NotBegun}
 use Rattle.cdb_form.specs.Views.Feed.{Feed, FromTo}
 use Rattle.cdb_form.specs.Format.Pair.{head_size}
 use Rattle.cdb_form.specs.Text.Amending.{Change}
@@ -19,7 +19,7 @@ use Rattle.cdb_show.specs.Runs.Inputs.{InputForm, BeginsWithItems, HasFaults, Ha
 use Rattle.cdb_show.specs.Runs.Inputs.{keys_of, keys_of_each}
 use Rattle.cdb_show.specs.Runs.LookedUp.{looked_up}
 use Rattle.cdb_show.specs.Runs.LookupTask.{LookupState, LookupTask, lookup_state}
-use Rattle.cdb_show.specs.Runs.Parsing.{IsFaultOf, StopsIn, fault_in, stop_of, stopped_parsing}
+use Rattle.cdb_show.specs.Runs.Parsing.{IsFaultOf, IsOfRun, StopsIn, fault_in, stop_of, stopped_parsing}
 use Rattle.cdb_show.specs.Views.Inputs.{AreReadTo}
 use Rattle.cdb_show.specs.declared.fault.Fault.{Fault}
 use Rattle.cdb_show.specs.declared.fault.Fault.TheVariants.{Text, Missing, Read, Output, NoMemory}
@@ -75,12 +75,13 @@ StopsInText t fault last text rest =
     StopsIn (stopped_parsing (keys_form t.options.style) t.greatest fault) (stop_of fault last) text
 
 -- whatever bytes agree, an input has this fault after these items: no failed allocation, and a map text
--- has no fault of its own
+-- has no fault of its own; `Input` comes only if the reader failed
 pub record FaultBehind (form : InputForm) (greatest : ℕ) (last : List Change) (old new : Feed) (f : TextFault)
     : Type 0 where
   pub has : FromTo old new (λ text rest. HasItemFault form greatest last f text)
   pub own : IsOfText f → HasFaults form
   pub memory : f ≢ text_fault.NoMemory
+  pub failed : f ≡ text_fault.Input → new.failed
 
 -- whatever bytes agree, an input of this number begins with these items, after which a run stopped: a
 -- fault of a text is one of this input
@@ -89,6 +90,7 @@ pub record StopsBehind (form : InputForm) (greatest input : ℕ) (last : List Ch
   pub begins : FromTo old new (λ text rest. BeginsWithItems form greatest last text)
   pub of_text : (n : ℕ) (f : TextFault) → fault ≡ Text n f
       → (n ≡ input) × FaultBehind form greatest last old new f
+  pub of_run : IsOfRun fault
 
 -- ---- those of all inputs
 
@@ -108,7 +110,7 @@ pub record StopsInNext {J I S : Type 0} (t : LookupTask S) (read : List (List Ch
   pub is_stop : stop ≡ stop_of (fault_in (Err fault)) last
   pub stops : LookupsStopAt t (keys_of_each read ++ keys_of last) old.store new.store old.output
       new.output fault
-  pub is_fault : IsFaultOf (keys_form t.options.style) (length read + 1) fault
+  pub is_fault : IsFaultOf (keys_form t.options.style) (length read + 1) ⊤ fault
 
 -- the store was not opened: no input was begun, and nothing was written
 pub record IsUnopened {J I S : Type 0} (read : List (List Change)) (stop : Stop Change TextFault)
@@ -148,6 +150,8 @@ pub record LookupsLeave {J I S : Type 0} (t : LookupTask S) (own : J → Feed) (
       → (stop ≡ NoMore) × LooksUpRead t read new.store missing (Appends old.output new.output)
   pub fails : (fault : Fault) → result ≡ Err fault → fault ≢ Missing
       → LookupsFail t read stop old new fault
+  pub failed : (n : ℕ) → result ≡ Err (Text n text_fault.Input)
+      → SomeFailed own shared new.inputs.readers.items new.inputs.shared
 
 -- and then
 pub record LooksUp {J I S : Type 0} (t : LookupTask S) (own : J → Feed) (shared : I → Feed)

@@ -1,5 +1,5 @@
 -- What the function of the bytes of an input makes of them, and how clauses of what was read say so.
-use Rattle.std.specs.Prelude.{◌≡◌, ◌≢◌, ℕ, List, Option, None, Some, Result, Err, IfSome}
+use Rattle.std.specs.Prelude.{◌≡◌, ◌≢◌, ℕ, List, Option, None, Some, Result, Err, IfSome, ⊤}
 use Rattle.cdb_feed.specs.Inputs.{Stop, HasFault, CutShort}
 use Rattle.cdb_feed.specs.Parsing.{Parsing}
 use Rattle.cdb_form.specs.Format.Record.{AreBytes}
@@ -12,7 +12,7 @@ use Rattle.cdb_show.specs.Runs.Given.{input_parsed}
 use Rattle.cdb_show.specs.Runs.Inputs.{InputForm, HasFaults, IsInputOf, BeginsWithItems, HasItemFault}
 use Rattle.cdb_show.specs.Runs.InputLaws.{is_read, is_fault, text_begins}
 use Rattle.cdb_show.specs.declared.fault.Fault.{Fault}
-use Rattle.cdb_show.specs.declared.fault.Fault.TheVariants.{Text}
+use Rattle.cdb_show.specs.declared.fault.Fault.TheVariants.{New, Old, Open, Rename, Text, Walk}
 
 -- of an input of a form, with lengths in texts of at most this: a fault is one of its text
 abbrev pub input_parsing : InputForm → (greatest : ℕ) → Parsing Change TextFault
@@ -65,9 +65,20 @@ StopsIn p (HasFault items fault) text = p.fails items fault text
 StopsIn p (CutShort items) text = p.begins items text
 StopsIn p _ text = ⊥
 
--- a fault of an input is one of that of this number: a map text has none of its own, and want of
--- memory is none
-pub record IsFaultOf (form : InputForm) (input : ℕ) (fault : Fault) : Type 0 where
+-- a run over inputs gives this fault: it calls nothing on names, reads no walk in turn and compares no files
+abbrev pub IsOfRun : Fault → Type 0
+IsOfRun Open = ⊥
+IsOfRun Rename = ⊥
+IsOfRun (Walk fault) = ⊥
+IsOfRun (Old fault) = ⊥
+IsOfRun (New fault) = ⊥
+IsOfRun fault = ⊤
+
+-- a fault of an input is one of that of this number: a map text has none of its own, want of memory
+-- is none, and `Input` comes only if a reader failed
+pub record IsFaultOf (form : InputForm) (input : ℕ) (Failed : Type 0) (fault : Fault) : Type 0 where
   pub number : (n : ℕ) (f : TextFault) → fault ≡ Text n f → n ≡ input
   pub own : (n : ℕ) (f : TextFault) → fault ≡ Text n f → IsOfText f → HasFaults form
   pub memory : (n : ℕ) (f : TextFault) → fault ≡ Text n f → f ≢ text_fault.NoMemory
+  pub failed : (n : ℕ) → fault ≡ Text n text_fault.Input → Failed
+  pub of_run : IsOfRun fault

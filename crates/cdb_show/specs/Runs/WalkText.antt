@@ -72,7 +72,8 @@ pub record WritesFirst (w : ℕ) (form : Form) (file rest : Feed) (old new : Opt
 -- out, all records that were read; if the writer failed, a prefix of the text of the walk
 abbrev pub WritingFails : ℕ → Form → (file rest : Feed) → (old new : Option (List ℕ)) → Fault
     → Type 0
-WritingFails w form file rest old new (Walk walk.Input) = WritesFirst w form file rest old new
+WritingFails w form file rest old new (Walk walk.Input) =
+    WritesFirst w form file rest old new × rest.failed
 WritingFails w form file rest old new (Walk walk.NoMemory) = ⊥
 WritingFails w form file rest old new (Walk fault) =
     WritesToDamage w form file rest (damage_of fault) old new

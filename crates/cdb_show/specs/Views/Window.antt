@@ -19,7 +19,8 @@ pub record Behind (feed : Feed) (held whole rest : List ℕ) : Type 0 where
 
 -- what is known of a reader and of bytes that were taken of it and not given yet
 abbrev pub window_feed : Feed → (held : List ℕ) → Feed
-window_feed feed held = record { known = feed.known; may = Behind feed held }
+window_feed feed held =
+    record { known = feed.known; may = Behind feed held; failed = feed.failed }
 
 -- what is known of a window
 abbrev pub feed_of : {F : Type 0} → (F → Feed) → Window F → Feed

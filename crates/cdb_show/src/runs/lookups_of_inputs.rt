@@ -1,7 +1,7 @@
 // The records of the keys that some inputs give, whose readers come back.
 ghost use Rattle.std.specs.Prelude.{◌≡◌, ◌+◌, ◌≤◌, ◌++◌, ℕ, List, [], Option, None, Err};
 ghost use Rattle.std.specs.Prelude.{IfErr, IfSome, OnOk, drop, length};
-ghost use Rattle.cdb_feed.specs.Inputs.{AreRead, NoMore, TakesOne};
+ghost use Rattle.cdb_feed.specs.Inputs.{AreRead, NoMore, ReaderFailed, SomeFailed, TakesOne};
 ghost use Rattle.cdb_form.specs.Views.Feed.{FromTo};
 ghost use Rattle.cdb_form.specs.Text.Amending.{Change};
 ghost use Rattle.cdb_show.specs.Runs.Lookups.{LookupsLeave, LooksUp, StopsInText};
@@ -106,7 +106,8 @@ impl<'a, S: Store, L: Width> LookUps<'a, S, L> {
         ensures fails { IfErr result.1 (λ fault. (last : List Change)
             × TakesOne J.feed (shared_feed I.feed)
             (StopsInText (task_of self.old) (fault_in (Err fault)) last) turn.old turn.new shared result.0
-            × IsFaultOf (keys_form self.old.options.style) input fault
+            × IsFaultOf (keys_form self.old.options.style) input
+            (ReaderFailed J.feed (shared_feed I.feed) turn.new result.0) fault
             × StopsLooking last self.old self.new (W.contents w.old) (W.contents w.new) fault) }
         ensures output { OutputSays (W.failed w.new) result.1 }
     {
@@ -154,7 +155,8 @@ impl<'a, S: Store, L: Width> LookUps<'a, S, L> {
             (stopped_parsing (keys_form self.old.options.style) L.GREATEST (fault_in (Err fault)))
             read (stop_of (fault_in (Err fault)) last) readers.old readers.new shared result.0
             × (drop (length read + 1) readers.new ≡ drop (length read + 1) readers.old)
-            × IsFaultOf (keys_form self.old.options.style) (length read + 1) fault
+            × IsFaultOf (keys_form self.old.options.style) (length read + 1)
+            (SomeFailed J.feed (shared_feed I.feed) readers.new result.0) fault
             × ((start : Option (List ℕ)) → HasLooked (task_of self.old) []
             self.old.reader.store start (W.contents w.old) self.old.missing
             → LookupsStopAt (task_of self.old) (keys_of_each read ++ keys_of last)

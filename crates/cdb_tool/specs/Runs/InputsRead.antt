@@ -1,16 +1,17 @@
 -- What a run read of its inputs, and which inputs agree with it.
-use Rattle.std.specs.Prelude.{ℕ, ◌≡◌, ◌≢◌, ⊤, List, [], ◌∷◌, Option, Result, Err, IfSome, is_some}
+use Rattle.std.specs.Prelude.{ℕ, ◌≡◌, ⊤, List, [], ◌∷◌, Option, Result, Err, IfErr, IfSome, is_some}
 use Rattle.cdb_store.specs.declared.store.Store.{Ghosts}
 use Rattle.cdb_form.specs.Views.Feed.{Consumes, Feed}
 use Rattle.cdb_form.specs.Text.Amending.{Change}
-use Rattle.cdb_form.specs.Views.TextFault.{IsOfText}
 use Rattle.cdb_form.specs.declared.text.fault.TextFault.{TextFault}
 use Rattle.cdb_form.specs.declared.text.fault.TextFault.TheVariants as text_fault
-use Rattle.cdb_feed.specs.Inputs.{AreRead, Stop, StopsSo, NoMore, HasFault, CutShort, NotBegun}
+use Rattle.cdb_feed.specs.Inputs.{AreRead, SomeFailed, Stop, StopsSo, NoMore, HasFault, CutShort}
+use Rattle.cdb_feed.specs.Inputs.{NotBegun}
 use Rattle.cdb_feed.specs.Parsing.{Parsing}
 use Rattle.cdb_feed.specs.declared.input_reader.InputReader.{InputReader}
 use Rattle.cdb_make.specs.Views.Maker.{WhereHonest}
-use Rattle.cdb_show.specs.Runs.Inputs.{InputForm, InputsLeft, AreInputs, FirstHas, HasFaults, input_form}
+use Rattle.cdb_show.specs.Runs.Inputs.{InputForm, InputsLeft, AreInputs, FirstHas, input_form}
+use Rattle.cdb_show.specs.Runs.Parsing.{IsOfRun}
 use Rattle.cdb_show.specs.Views.Inputs.{ArePassed, shared_feed}
 use Rattle.cdb_show.specs.declared.fault.Fault.{Fault}
 use Rattle.cdb_show.specs.declared.fault.Fault.TheVariants.{Text}
@@ -37,17 +38,6 @@ stop_by (Text number (text_fault.Syntax at)) last = HasFault last (text_fault.Sy
 stop_by (Text number (text_fault.Ended at)) last = HasFault last (text_fault.Ended at)
 stop_by (Text number (text_fault.Large at)) last = HasFault last (text_fault.Large at)
 stop_by fault last = CutShort last
-
--- a fault of a text is one of the input with this number: no allocation, and a map text has none of its own
-pub record IsFaultAt (form : InputForm) (input number : ℕ) (fault : TextFault) : Type 0 where
-  pub numbered : number ≡ input
-  pub own : IsOfText fault → HasFaults form
-  pub memory : fault ≢ text_fault.NoMemory
-
--- a run with this fault stopped in the input with this number, if that is a fault of a text
-abbrev pub IsOfInput : InputForm → (number : ℕ) → Fault → Type 0
-IsOfInput form number fault =
-    (n : ℕ) (f : TextFault) → fault ≡ Text n f → IsFaultAt form number n f
 
 -- a run stopped so in an input
 abbrev pub StopsInput : {R S : Type 0} → InputFeeds R S → Parsing Change TextFault
@@ -101,7 +91,7 @@ abbrev pub read_form : {B J I : Type 0} → Terms → RunState B J I → InputFo
 read_form terms before = input_form terms.options.make.style (is_some before.base)
 
 -- What a run leaves that read its inputs, by its base as it was and as it was handed back: what `MakeRuns` says of
--- any inputs that agree with what was read.
+-- any inputs that agree with what was read. If a reader is the fault, one has failed.
 pub record RunsRead {B J I : Type 0} (terms : Terms) (feeds : InputFeeds J I) (s : Ghosts B)
     (before after : RunState B J I) (images : List ℕ → Type 0) (result : Result Unit Fault)
     : Type 0 where
@@ -113,3 +103,6 @@ pub record RunsRead {B J I : Type 0} (terms : Terms) (feeds : InputFeeds J I) (s
       → HasRead (read_form terms before) terms.greatest result read stop inputs
       → WhereHonest images (OfBase s after.base (λ b.
       MakeRuns terms b inputs images before.lines after.lines result))
+  pub failed : (n : ℕ) → result ≡ Err (Text n text_fault.Input)
+      → SomeFailed feeds.own feeds.shared after.inputs.readers.items after.inputs.shared
+  pub of_run : IfErr result IsOfRun

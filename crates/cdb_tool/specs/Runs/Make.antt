@@ -22,6 +22,7 @@ use Rattle.cdb_tool.specs.Runs.Course.{Task, task_of, course_of, Goes}
 use Rattle.cdb_show.specs.Runs.Incoming.{Incoming, from_inputs}
 use Rattle.cdb_tool.specs.Runs.Course.{StopsSo}
 use Rattle.cdb_show.specs.Runs.Inputs.{InputForm, input_form, HasItemFault}
+use Rattle.cdb_show.specs.Runs.Parsing.{IsOfRun}
 use Rattle.cdb_show.specs.Runs.Inputs.{InputsLeft, AreInputs, AreAllInputs, FirstBegins, FirstHas}
 use Rattle.cdb_show.specs.Views.Output.{OutputSays}
 use Rattle.cdb_show.specs.declared.fault.Fault.{Fault}
@@ -255,10 +256,10 @@ DoesItem o input number it old new result =
     → HasCome t cs start old
     → ItemDone t cs (record { input = input; number = number; it = it }) start new.lines new.maker result
 
--- the fault is none of an input
-abbrev pub IsNoText : Fault → Type 0
-IsNoText (Text number fault) = ⊥
-IsNoText fault = ⊤
+-- a fault of a run that is none of an input
+abbrev pub IsOfMaking : Fault → Type 0
+IsOfMaking (Text number fault) = ⊥
+IsOfMaking fault = IsOfRun fault
 
 -- how a run stopped that had come to these items: after them, if it met a fault of an input
 abbrev pub StopsAt : ℕ → Task → List Incoming → Option (List ℕ) → Option (List ℕ) → Fault → Type 0

@@ -4,17 +4,18 @@ ghost use Rattle.std.specs.Prelude.{Result, Ok, Err, length, IfErr, OnOk};
 ghost use Rattle.cdb_form.specs.Views.Feed.{FromTo};
 ghost use Rattle.cdb_form.specs.Format.Pair.{head_size};
 ghost use Rattle.cdb_form.specs.Text.Amending.{Change};
-ghost use Rattle.cdb_feed.specs.Inputs.{AreRead, NoMore, TakesOne};
+ghost use Rattle.cdb_feed.specs.Inputs.{AreRead, NoMore, ReaderFailed, SomeFailed, TakesOne};
 ghost use Rattle.cdb_make.specs.Views.Maker.{WhereHonest};
 ghost use Rattle.cdb_show.specs.Runs.Inputs.{IsInputOf, input_form, own_inputs};
 ghost use Rattle.cdb_show.specs.Runs.Lookups.{StopsBehind};
+ghost use Rattle.cdb_show.specs.Runs.Parsing.{IsFaultOf};
 ghost use Rattle.cdb_show.specs.Views.Inputs.{ArePassed, shared_feed};
 ghost use Rattle.cdb_show.specs.Views.Output.{OutputSays};
 ghost use Rattle.cdb_show.specs.Views.Window.{feed_of};
 ghost use Rattle.cdb_show.specs.declared.fault.Fault.TheVariants.{NoMemory};
 ghost use Rattle.cdb_tool.specs.Runs.Course.{plain};
 ghost use Rattle.cdb_tool.specs.Runs.FormParsing.{parsing};
-ghost use Rattle.cdb_tool.specs.Runs.InputsRead.{IsOfInput, RunsRead, StopsInput, WereRead};
+ghost use Rattle.cdb_tool.specs.Runs.InputsRead.{RunsRead, StopsInput, WereRead};
 ghost use Rattle.cdb_tool.specs.Runs.InputsRead.{feeds_of, run_state, stop_by};
 ghost use Rattle.cdb_tool.specs.Runs.Make.{StepsOn, MakeRuns, IsOfStore, IsOfBase};
 ghost use Rattle.cdb_tool.specs.Runs.Make.{OfBase, HandsBack, BaseHasFailed};
@@ -92,8 +93,8 @@ fn put_turn<L: Width, S: Store, J: Feeds + Drop, I: Feeds + Drop, E: Sink>(
         × StopsInput (feeds_of J.feed (shared_feed I.feed))
         (parsing (input_form turn.entry.run.options.make.style turn.entry.amends) L.GREATEST
         (Err fault)) (stop_by fault last) input.old input.new shared result.0
-        × IsOfInput (input_form turn.entry.run.options.make.style turn.entry.amends)
-        turn.entry.number fault
+        × IsFaultOf (input_form turn.entry.run.options.make.style turn.entry.amends)
+        turn.entry.number (ReaderFailed J.feed (shared_feed I.feed) input.new result.0) fault
         × PutsStop turn.entry.run.options turn.entry.number last
         (progress (E.contents errors.old) maker.old)
         (progress (E.contents errors.new) maker.new) fault) }
@@ -157,8 +158,8 @@ fn put_turns<L: Width, S: Store, J: Feeds + Drop, I: Feeds + Drop, E: Sink>(
         (parsing (input_form turns.entry.run.options.make.style turns.entry.amends)
         L.GREATEST (Err fault)) read (stop_by fault last) readers.old readers.new shared result.0
         × ArePassed read (stop_by fault last) readers.old readers.new
-        × IsOfInput (input_form turns.entry.run.options.make.style turns.entry.amends)
-        (length read + 1) fault
+        × IsFaultOf (input_form turns.entry.run.options.make.style turns.entry.amends)
+        (length read + 1) (SomeFailed J.feed (shared_feed I.feed) readers.new result.0) fault
         × PutsInputsStop turns.entry.run.options read last
         (progress (E.contents errors.old) maker.old)
         (progress (E.contents errors.new) maker.new) fault) }
@@ -219,7 +220,8 @@ pub fn put_inputs<L: Width, S: Store, J: Feeds + Drop, I: Feeds + Drop, E: Sink>
         × WereRead (feeds_of J.feed I.feed)
         (parsing (input_form run.entry.options.make.style amends) L.GREATEST (Err fault)) read
         (stop_by fault last) inputs result.0
-        × IsOfInput (input_form run.entry.options.make.style amends) (length read + 1) fault
+        × IsFaultOf (input_form run.entry.options.make.style amends) (length read + 1)
+        (SomeFailed J.feed I.feed result.0.readers.items result.0.shared) fault
         × PutsInputsStop run.entry.options read last
         (progress (E.contents errors.old) maker.old)
         (progress (E.contents errors.new) maker.new) fault) }

@@ -7,7 +7,7 @@ ghost use Rattle.cdb_make.specs.Views.Maker.{Follows, Holds, WhereHonest, limit_
 ghost use Rattle.cdb_read.specs.Views.Walk.{left_of, bytes_left};
 ghost use Rattle.cdb_show.specs.Views.Output.{OutputSays};
 ghost use Rattle.cdb_tool.specs.Runs.Base.{AddsNext, NotAdded};
-ghost use Rattle.cdb_tool.specs.Runs.Make.{BaseFails, HandsBack, BaseHasFailed, StepsOn};
+ghost use Rattle.cdb_tool.specs.Runs.Make.{BaseFails, HandsBack, BaseHasFailed, IsOfMaking, StepsOn};
 ghost use Rattle.cdb_tool.specs.Runs.Make.{AddsBase, HoldsBase, BaseStopped};
 ghost use Rattle.cdb_show.specs.declared.fault.Fault.TheVariants.{NoMemory};
 
@@ -63,6 +63,7 @@ fn add_next<L: Width, S: Store, B: Store>(
         (with_records rs (left_of L.WORD b records.old)) f)) }
     ensures step { StepsOn maker.old maker.new
         (B.failures records.old.reader.now.store < B.failures records.new.reader.now.store) ⊥ result }
+    ensures own { IfErr result IsOfMaking }
 {
     let n = records.records_into(&mut room.window)?;
     if n > 0 {
@@ -93,6 +94,7 @@ fn add_records<L: Width, S: Store, B: Store>(
         (BaseFails L.WORD (limit_of maker.old) b f)) }
     ensures step { StepsOn maker.old maker.new
         (B.failures reader.old.store < B.failures reader.new.store) ⊥ result }
+    ensures own { IfErr result IsOfMaking }
 {
     let mut room = Room::new(alloc)?;
     // So all records are tagged, also if the first has no room in the window.
@@ -115,6 +117,7 @@ pub(crate) fn add_base<L: Width, S: Store, B: Store>(
     ensures fails { Holds maker.old [] → IfErr result.1 (λ f.
         BaseStopped L.WORD (limit_of maker.old) B.Store result.0 (S.image (store_of maker.new)) f) }
     ensures step { StepsOn maker.old maker.new (BaseHasFailed B.Store base result.0) ⊥ result.1 }
+    ensures own { IfErr result.1 IsOfMaking }
 {
     let Some(base) = base else {
         return (None, Ok(()));

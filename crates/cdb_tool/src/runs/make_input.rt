@@ -16,7 +16,7 @@ ghost use Rattle.cdb_show.specs.declared.fault.Fault.TheVariants.{NoMemory};
 ghost use Rattle.cdb_tool.specs.Runs.Course.{mode_of, meets_key, put_at, told};
 ghost use Rattle.cdb_tool.specs.Runs.Course.{StopsSo, Task, ends, TellFails};
 ghost use Rattle.cdb_tool.specs.Runs.Make.{DoesItem, InCourse, StepsOn, IsOfStore, IsOfBase};
-ghost use Rattle.cdb_tool.specs.Runs.Make.{IsHalt, IsNoText, PutsItems, PutsStop, progress};
+ghost use Rattle.cdb_tool.specs.Runs.Make.{IsHalt, IsOfMaking, PutsItems, PutsStop, progress};
 ghost use Rattle.cdb_tool.specs.declared.runs.options.RunOptions.{RunOptions};
 
 use crate::runs::context::RunContext;
@@ -140,7 +140,7 @@ fn put_record<L: Width, S: Store, E: Sink>(
         (Putting (record { key = key.now; value = value.now }))
         (progress (E.contents errors.old) maker.old)
         (progress (E.contents errors.new) maker.new) result }
-    ensures own { IfErr result IsNoText }
+    ensures own { IfErr result IsOfMaking }
     ensures step { StepsOn maker.old maker.new ⊥ (E.failed errors.new) result }
 {
     let put = maker.put(met.mode, key, value)?;
@@ -156,7 +156,7 @@ fn remove_key<L: Width, S: Store>(maker: &mut Maker<S, L>, key: &[u8]) -> Result
         → InCourse t cs start now maker.old
         → IfErr result (λ f. WhereHonest (S.image (store_of maker.new))
         (StopsSo L.WORD t cs start now f)) }
-    ensures own { IfErr result IsNoText }
+    ensures own { IfErr result IsOfMaking }
     ensures step { StepsOn maker.old maker.new ⊥ ⊥ result }
 {
     maker.remove(key)?;
@@ -177,7 +177,7 @@ fn do_item<L: Width, S: Store, E: Sink>(
         (change_in kind item.now)
         (progress (E.contents errors.old) maker.old)
         (progress (E.contents errors.new) maker.new) result }
-    ensures own { IfErr result IsNoText }
+    ensures own { IfErr result IsOfMaking }
     ensures step { StepsOn maker.old maker.new ⊥ (E.failed errors.new) result }
 {
     match kind {

@@ -1,5 +1,4 @@
-use Rattle.std.proofs.lemmas.Grind.{common_steps}
-use Rattle.std.proofs.Common.{rules, ◌≢◌, IfErr, arith}
+use Rattle.std.proofs.Common.{rules, ◌≢◌, IfErr}
 use Rattle.cdb_command.proofs.Plans.{gives_no_words}
 use Rattle.cdb_command.proofs.Plans.{gives_in_range}
 use Rattle.cdb_command.specs.declared.usage.Usage.TheVariants.{Words}
@@ -16,6 +15,3 @@ returns-clause-refused c =
 pub returns-clause-range : goal.returns-clause-range
 returns-clause-range c =
     gives_in_range c.asked_on.result (given_in c.line_of.result) c.asked_on.ensures
-
-pub returns-clause-exact : goal.returns-clause-exact
-returns-clause-exact c = grind (arith, common_steps)

@@ -1,5 +1,4 @@
-use Rattle.std.proofs.lemmas.Grind.{common_steps}
-use Rattle.std.proofs.Common.{◌≡◌, [], true, map, string_bytes, refl, subst, inl, inr, arith}
+use Rattle.std.proofs.Common.{◌≡◌, [], true, map, string_bytes, refl, subst, inl, inr}
 use Rattle.clap.specs.Simple.{App, HasMatchesOf, app_of}
 use Rattle.clap.specs.Faults.{fault_of, is_simple_and_free}
 use Rattle.clap.specs.Kinds.{HasKind, IsAmong, Kinds}
@@ -37,6 +36,3 @@ returns-clause-refused c =
         λ none. subst (λ (ks : Kinds). IsAmong (kind_of c.in-Err.error) ks) none among,
       )
     ]
-
-pub returns-in-Ok-clause-refused : goal.returns-in-Ok-clause-refused
-returns-in-Ok-clause-refused c = grind (arith, common_steps)

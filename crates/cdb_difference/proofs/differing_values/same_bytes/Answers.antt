@@ -1,4 +1,4 @@
-use Rattle.cdb_difference.proofs.Words.{common_steps, length_of, part}
+use Rattle.cdb_difference.proofs.Words.{length_of, part}
 use Rattle.std.proofs.Common.{rules, arith, ◌≡◌, ◌∙◌, ◌+◌, ◌≤◌, ℕ, length, sym, ap, subst, refl, true, false, length-append, length-drop}
 use Rattle.cdb_difference.proofs.ComparedValues.{piece_differs, same_more}
 use Rattle.cdb_difference.proofs.Looked.{stays_more}
@@ -48,30 +48,3 @@ loop-done-preserved g c =
           same_more c.args.value.place c.args.with.place c.loop-done.done c.min-n.result b d (inv.same b d (e.reads.images b is) (f.reads.images d it))
           (sym mine ∙ c.if-not-is_same.ensures.0 refl ∙ theirs);
     }
-
-pub loop-done-init : goal.loop-done-init
-loop-done-init g c = grind (arith, common_steps)
-
-pub overflow_add-with : goal.overflow_add-with
-overflow_add-with g c = grind (arith, common_steps)
-
-pub read_at-requires-in-loop-done : goal.read_at-requires-in-loop-done
-read_at-requires-in-loop-done g c = grind (arith, common_steps)
-
-pub returns-in-Err-clause-fails : goal.returns-in-Err-clause-fails
-returns-in-Err-clause-fails g c = grind (arith, common_steps)
-
-pub returns-in-Err-clause-same : goal.returns-in-Err-clause-same
-returns-in-Err-clause-same g c = grind (arith, common_steps)
-
-pub returns-then-not-is_same-clause-fails : goal.returns-then-not-is_same-clause-fails
-returns-then-not-is_same-clause-fails g c = grind (arith, common_steps)
-
-pub returns-then-value-with-clause-other : goal.returns-then-value-with-clause-other
-returns-then-value-with-clause-other g c = grind (arith, common_steps)
-
-pub returns-then-value-with-clause-own : goal.returns-then-value-with-clause-own
-returns-then-value-with-clause-own g c = grind (arith, common_steps)
-
-pub slice_bounds-beside-end-in-loop-done : goal.slice_bounds-beside-end-in-loop-done
-slice_bounds-beside-end-in-loop-done g c = grind (arith, common_steps)

@@ -1,5 +1,5 @@
-use Rattle.cdb_difference.proofs.Words.{common_steps, with_span}
-use Rattle.std.proofs.Common.{arith, rules, ◌≡◌, ◌∙◌, sym, ap, subst, IfOk}
+use Rattle.cdb_difference.proofs.Words.{with_span}
+use Rattle.std.proofs.Common.{rules, ◌≡◌, ◌∙◌, sym, ap, subst, IfOk}
 use Rattle.std.proofs.lemmas.Bool.{both_ways}
 use Rattle.cdb_difference.proofs.ComparedValues.{compared_more, damage_next, damage_still, left_stays, one_differs, other_ended, own_ended}
 use Rattle.cdb_difference.proofs.Looked.{looks_more}
@@ -63,39 +63,3 @@ returns-clause-same g c = λ b d is it.
     let inv = c.loop-with.invariant in
     let none = rw c.in_default.is at c.in_ok-with.ensures.gives in
     other_ended b d c.args.first c.loop-with.value _ _ _ _ (inv.same b d is (c.next_other.ensures.looks.reads.images d it)) (none.none d it)
-
-pub loop-with-init : goal.loop-with-init
-loop-with-init g c = grind (arith, common_steps)
-
-pub loop-with-smaller : goal.loop-with-smaller
-loop-with-smaller g c = grind (arith, common_steps)
-
-pub returns-clause-fails : goal.returns-clause-fails
-returns-clause-fails g c = grind (arith, common_steps)
-
-pub returns-clause-other : goal.returns-clause-other
-returns-clause-other g c = grind (arith, common_steps)
-
-pub returns-clause-own : goal.returns-clause-own
-returns-clause-own g c = grind (arith, common_steps)
-
-pub returns-in_default-2-clause-other : goal.returns-in_default-2-clause-other
-returns-in_default-2-clause-other g c = grind (arith, common_steps)
-
-pub returns-in_default-2-clause-own : goal.returns-in_default-2-clause-own
-returns-in_default-2-clause-own g c = grind (arith, common_steps)
-
-pub returns-then-not-branch-clause-fails : goal.returns-then-not-branch-clause-fails
-returns-then-not-branch-clause-fails g c = grind (arith, common_steps)
-
-pub returns-then-not-branch-clause-other : goal.returns-then-not-branch-clause-other
-returns-then-not-branch-clause-other g c = grind (arith, common_steps)
-
-pub returns-then-not-branch-clause-own : goal.returns-then-not-branch-clause-own
-returns-then-not-branch-clause-own g c = grind (arith, common_steps)
-
-pub same_bytes-requires-clause-pieces : goal.same_bytes-requires-clause-pieces
-same_bytes-requires-clause-pieces g c = grind (arith, common_steps)
-
-pub same_bytes-requires-clause-within : goal.same_bytes-requires-clause-within
-same_bytes-requires-clause-within g c = grind (arith, common_steps)

@@ -1,4 +1,4 @@
-use Rattle.cdb_difference.proofs.Words.{Walked, ap, arith, common_steps, reads_nothing, rules, sym, walk_ahead, ◌∙◌}
+use Rattle.cdb_difference.proofs.Words.{Walked, ap, reads_nothing, rules, sym, walk_ahead, ◌∙◌}
 use Rattle.cdb_difference.proofs.Marked.{in_step_end, in_step_grown, in_step_start, still_marked}
 use Rattle.cdb_difference.proofs.in_step.mark_changed.Goals as goal
 
@@ -34,21 +34,3 @@ returns-in-Ok-clause-agree g c = λ b d is it.
     (still_marked c.mark_left.new.marks.words.items words _ second.grows (c.in_ok-mark_left.ensures.sets b is)) (c.in-Ok.ensures.sets d it)
     (in_step_grown w c.mark_left.new.marks.words.items words b d _ _ second.grows
     (in_step_grown w c.step.new.marks.words.items c.mark_left.new.marks.words.items b d _ _ first.grows (went.in_step b d (first.reads.images b is) (second.reads.images d it))))
-
-pub loop-preserved : goal.loop-preserved
-loop-preserved g c = grind (arith, common_steps)
-
-pub loop-smaller : goal.loop-smaller
-loop-smaller g c = grind (arith, common_steps)
-
-pub returns-in-Err-clause-agree : goal.returns-in-Err-clause-agree
-returns-in-Err-clause-agree g c = grind (arith, common_steps)
-
-pub returns-in-Err-clause-reads : goal.returns-in-Err-clause-reads
-returns-in-Err-clause-reads g c = grind (arith, common_steps)
-
-pub returns-in-Ok-clause-fails : goal.returns-in-Ok-clause-fails
-returns-in-Ok-clause-fails g c = grind (arith, common_steps)
-
-pub returns-in-Ok-clause-reads : goal.returns-in-Ok-clause-reads
-returns-in-Ok-clause-reads g c = grind (arith, common_steps)

@@ -1,4 +1,4 @@
-use Rattle.cdb_difference.proofs.Words.{arith, common_steps, reads_more, record_in}
+use Rattle.cdb_difference.proofs.Words.{reads_more, record_in}
 use Rattle.cdb_difference.proofs.Steps.{passed_more}
 use Rattle.cdb_difference.proofs.in_step.mark_left.Goals as goal
 
@@ -14,12 +14,3 @@ loop-pair-preserved g c =
           let mine = set.reads.images b is in
           passed_more c.loop-pair.marks.words.items c.mark.new.marks.words.items _ _ _ (record_in b c.in-Some.pair) set.grows (c.in_ok-mark.ensures.sets b is) (one.first b mine) (inv.passed b (c.next_record.ensures.reads.images b mine));
     }
-
-pub loop-pair-init : goal.loop-pair-init
-loop-pair-init g c = grind (arith, common_steps)
-
-pub loop-pair-smaller : goal.loop-pair-smaller
-loop-pair-smaller g c = grind (arith, common_steps)
-
-pub returns-clause-reads : goal.returns-clause-reads
-returns-clause-reads g c = grind (arith, common_steps)

@@ -1,4 +1,4 @@
-use Rattle.cdb_difference.proofs.Words.{arith, common_steps, reads_more, reads_none}
+use Rattle.cdb_difference.proofs.Words.{reads_more, reads_none}
 use Rattle.cdb_difference.proofs.Steps.{both_same, other_marked, own_marked}
 use Rattle.cdb_difference.proofs.in_step.step.Goals as goal
 
@@ -49,51 +49,3 @@ returns-in_ok-mark_other-in-Each-clause-in_step g c =
     (reads_none g.S.Store c.mark-in-Each.new.reader.store) other.reads other.grows first
     c.next_other.new.bookmark c.in-Some-2.theirs
     (λ d it. two.first d (advance.reads.other.images d (other.reads.images d it))) (λ d it. c.in_ok-mark_other-in-Each.ensures.sets d it)
-
-pub advance-requires-clause-within : goal.advance-requires-clause-within
-advance-requires-clause-within g c = grind (arith, common_steps)
-
-pub mark-requires : goal.mark-requires
-mark-requires g c = grind (arith, common_steps)
-
-pub mark-requires-in-Each : goal.mark-requires-in-Each
-mark-requires-in-Each g c = grind (arith, common_steps)
-
-pub mark_other-requires : goal.mark_other-requires
-mark_other-requires g c = grind (arith, common_steps)
-
-pub mark_other-requires-in-Each : goal.mark_other-requires-in-Each
-mark_other-requires-in-Each g c = grind (arith, common_steps)
-
-pub returns-in-Same-clause-fails : goal.returns-in-Same-clause-fails
-returns-in-Same-clause-fails g c = grind (arith, common_steps)
-
-pub returns-in-Same-clause-goes_on : goal.returns-in-Same-clause-goes_on
-returns-in-Same-clause-goes_on g c = grind (arith, common_steps)
-
-pub returns-in_default-2-clause-goes_on : goal.returns-in_default-2-clause-goes_on
-returns-in_default-2-clause-goes_on g c = grind (arith, common_steps)
-
-pub returns-in_default-clause-goes_on : goal.returns-in_default-clause-goes_on
-returns-in_default-clause-goes_on g c = grind (arith, common_steps)
-
-pub returns-in_default-clause-in_step : goal.returns-in_default-clause-in_step
-returns-in_default-clause-in_step g c = grind (arith, common_steps)
-
-pub returns-in_ok-mark-in-Own-clause-fails : goal.returns-in_ok-mark-in-Own-clause-fails
-returns-in_ok-mark-in-Own-clause-fails g c = grind (arith, common_steps)
-
-pub returns-in_ok-mark-in-Own-clause-goes_on : goal.returns-in_ok-mark-in-Own-clause-goes_on
-returns-in_ok-mark-in-Own-clause-goes_on g c = grind (arith, common_steps)
-
-pub returns-in_ok-mark_other-in-Each-clause-fails : goal.returns-in_ok-mark_other-in-Each-clause-fails
-returns-in_ok-mark_other-in-Each-clause-fails g c = grind (arith, common_steps)
-
-pub returns-in_ok-mark_other-in-Each-clause-goes_on : goal.returns-in_ok-mark_other-in-Each-clause-goes_on
-returns-in_ok-mark_other-in-Each-clause-goes_on g c = grind (arith, common_steps)
-
-pub returns-in_ok-mark_other-in-Other-clause-fails : goal.returns-in_ok-mark_other-in-Other-clause-fails
-returns-in_ok-mark_other-in-Other-clause-fails g c = grind (arith, common_steps)
-
-pub returns-in_ok-mark_other-in-Other-clause-goes_on : goal.returns-in_ok-mark_other-in-Other-clause-goes_on
-returns-in_ok-mark_other-in-Other-clause-goes_on g c = grind (arith, common_steps)

@@ -1,4 +1,4 @@
-use Rattle.cdb_difference.proofs.Words.{append_assoc, appends_then, arith, bytes_of, codes, common_steps, err_from_is_err_and, length_of, prefix_in, prefix_last, prefix_then, same_appends, subst, sym, writes_prefix, ℕ, ◌++◌, ◌+◌, ◌∙◌, ◌≤◌}
+use Rattle.cdb_difference.proofs.Words.{append_assoc, appends_then, bytes_of, codes, err_from_is_err_and, length_of, prefix_in, prefix_last, prefix_then, same_appends, subst, sym, writes_prefix, ℕ, ◌++◌, ◌+◌, ◌∙◌, ◌≤◌}
 use Rattle.cdb_difference.proofs.PutValues.{put_head, put_is}
 use Rattle.cdb_difference.proofs.key_changes.write_put.Goals as goal
 
@@ -41,12 +41,3 @@ returns-clause-writes g c = λ b is.
           (appends_then _ _ _ (put_head key value.len) (bytes_of b value) c.in_ok-write_put_head.ensures.writes.ok (c.in_ok-copy.ensures.copies b is).ok) c.in_ok-write_whole.ensures.writes.ok);
       err = tt;
     }
-
-pub returns-clause-key : goal.returns-clause-key
-returns-clause-key g c = grind (arith, common_steps)
-
-pub returns-clause-same_reader : goal.returns-clause-same_reader
-returns-clause-same_reader g c = grind (arith, common_steps)
-
-pub returns-clause-stays : goal.returns-clause-stays
-returns-clause-stays g c = grind (arith, common_steps)

@@ -1,4 +1,4 @@
-use Rattle.cdb_difference.proofs.Words.{ap, arith, common_steps, err_from_is_err_and, refl, rules, writes_prefix, ◌∙◌}
+use Rattle.cdb_difference.proofs.Words.{ap, err_from_is_err_and, refl, rules, writes_prefix, ◌∙◌}
 use Rattle.cdb_difference.proofs.PutValues.{put_more, put_none, put_part}
 use Rattle.cdb_read.proofs.FoundSoFar.{found_more, found_none, found_still}
 use Rattle.cdb_difference.proofs.key_changes.write_puts.Goals as goal
@@ -40,12 +40,3 @@ returns-in_err-write_put-clause-writes g c = λ b is.
     writes_prefix _ _ _ _ _ p.1
     (put_part {s = g.S.Store} {l = g.L.Width} g.L.Width.WORD c.args.key.now c.args.reader.now.store c.write_put.new.finder _ _ _ inv.put.spans c.in-Some.value b found here
     (inv.put.written b (c.next.ensures.reads.images b (written.reads.images b here))) (c.in_err-write_put.ensures.writes b here).err)
-
-pub returns-clause-reads : goal.returns-clause-reads
-returns-clause-reads g c = grind (arith, common_steps)
-
-pub returns-clause-writes : goal.returns-clause-writes
-returns-clause-writes g c = grind (arith, common_steps)
-
-pub returns-in_err-value-clause-writes : goal.returns-in_err-value-clause-writes
-returns-in_err-value-clause-writes g c = grind (arith, common_steps)

@@ -1,4 +1,4 @@
-use Rattle.cdb_difference.proofs.Words.{List, Walked, ap, arith, behind, bytes_of, common_steps, err_from_is_err_and, inl, inr, is_marked, lookup_of, next_place, reads_more, reads_none, reads_nothing, record_in, refl, rules, subst, sym, walk_ahead, walk_of, ℕ, ◌∙◌, ◌≡◌, ◌≤◌}
+use Rattle.cdb_difference.proofs.Words.{List, Walked, ap, behind, bytes_of, err_from_is_err_and, inl, inr, is_marked, lookup_of, next_place, reads_more, reads_none, reads_nothing, record_in, refl, rules, subst, sym, walk_ahead, walk_of, ℕ, ◌∙◌, ◌≡◌, ◌≤◌}
 use Rattle.cdb_form.proofs.Bytes.WritingLemmas.{same_appends, same_prefix}
 use Rattle.cdb_read.proofs.Walked.WalkedLengths.{some_word}
 use Rattle.cdb_difference.specs.Difference.{WalkHasKey, IsOneDamaged, LookHas, OtherLookHas, OwnLookHas, changes_at, changes_text}
@@ -188,33 +188,3 @@ returns-clause-ok g c = λ b d is it.
     let mine : g.S.Store.image c.next_record.new.reader.store b = search rules in
     let theirs : g.T.Store.image c.loop-key.other.store d = search rules in
     ended g.L.Width.WORD c.args.kind b d _ _ _ _ (inv.passed b d (c.next_record.ensures.reads.images b mine) theirs) (none b mine)
-
-pub is_change-requires-clause-inside : goal.is_change-requires-clause-inside
-is_change-requires-clause-inside g c = grind (arith, common_steps)
-
-pub is_change-requires-clause-piece : goal.is_change-requires-clause-piece
-is_change-requires-clause-piece g c = grind (arith, common_steps)
-
-pub is_change-requires-clause-pieces : goal.is_change-requires-clause-pieces
-is_change-requires-clause-pieces g c = grind (arith, common_steps)
-
-pub loop-key-smaller : goal.loop-key-smaller
-loop-key-smaller g c = grind (arith, common_steps)
-
-pub loop-key-smaller-in-Continue-branch-4 : goal.loop-key-smaller-in-Continue-branch-4
-loop-key-smaller-in-Continue-branch-4 g c = grind (arith, common_steps)
-
-pub returns-clause-fails : goal.returns-clause-fails
-returns-clause-fails g c = grind (arith, common_steps)
-
-pub returns-clause-front : goal.returns-clause-front
-returns-clause-front g c = grind (arith, common_steps)
-
-pub returns-clause-reads : goal.returns-clause-reads
-returns-clause-reads g c = grind (arith, common_steps)
-
-pub slice_bounds-is_change-end : goal.slice_bounds-is_change-end
-slice_bounds-is_change-end g c = grind (arith, common_steps)
-
-pub slice_bounds-is_change-end-in-Some : goal.slice_bounds-is_change-end-in-Some
-slice_bounds-is_change-end-in-Some g c = grind (arith, common_steps)

@@ -1,4 +1,4 @@
-use Rattle.cdb_difference.proofs.Words.{ap, arith, common_steps, false, length, length_of, part, reads_more, refl, subst, sym, true, ℕ, ◌+◌, ◌∙◌, ◌≡◌, ◌≤◌}
+use Rattle.cdb_difference.proofs.Words.{ap, arith, false, length, length_of, part, reads_more, refl, subst, sym, true, ℕ, ◌+◌, ◌∙◌, ◌≡◌, ◌≤◌}
 use Rattle.cdb_difference.proofs.ComparedValues.{piece_differs, same_more}
 use Rattle.cdb_difference.proofs.same.is_same_span.Goals as goal
 
@@ -32,30 +32,3 @@ loop-done-preserved g c =
           same_more c.args.mine.place c.args.theirs.place c.loop-done.done c.min-n.result b d (inv.same b d (e.reads.images b is) (f.reads.images d it))
           (sym (c.at_hand-piece.ensures.is b is) ∙ c.if-not-is_same.ensures.0 refl ∙ c.at_hand-beside.ensures.is d it);
     }
-
-pub loop-done-smaller : goal.loop-done-smaller
-loop-done-smaller g c = grind (arith, common_steps)
-
-pub overflow_add-done : goal.overflow_add-done
-overflow_add-done g c = grind (arith, common_steps)
-
-pub overflow_add-theirs-in-loop-done : goal.overflow_add-theirs-in-loop-done
-overflow_add-theirs-in-loop-done g c = grind (arith, common_steps)
-
-pub returns-in-Err-clause-fails : goal.returns-in-Err-clause-fails
-returns-in-Err-clause-fails g c = grind (arith, common_steps)
-
-pub returns-in-Err-clause-reads : goal.returns-in-Err-clause-reads
-returns-in-Err-clause-reads g c = grind (arith, common_steps)
-
-pub returns-in-Err-clause-same : goal.returns-in-Err-clause-same
-returns-in-Err-clause-same g c = grind (arith, common_steps)
-
-pub returns-then-mine-theirs-clause-reads : goal.returns-then-mine-theirs-clause-reads
-returns-then-mine-theirs-clause-reads g c = grind (arith, common_steps)
-
-pub returns-then-not-is_same-clause-fails : goal.returns-then-not-is_same-clause-fails
-returns-then-not-is_same-clause-fails g c = grind (arith, common_steps)
-
-pub returns-then-not-is_same-clause-reads : goal.returns-then-not-is_same-clause-reads
-returns-then-not-is_same-clause-reads g c = grind (arith, common_steps)

@@ -1,4 +1,4 @@
-use Rattle.cdb_show.proofs.Words.{arith, codes, common_steps, err_from_is_err_and, numbered, prefix_in, refl, writes_last, writes_prefix}
+use Rattle.cdb_show.proofs.Words.{codes, err_from_is_err_and, numbered, prefix_in, refl, writes_last, writes_prefix}
 use Rattle.cdb_show.proofs.message.write_place.Goals as goal
 
 pub returns-in_err-write_numbered-in-Byte-clause-writes : goal.returns-in_err-write_numbered-in-Byte-clause-writes
@@ -20,9 +20,3 @@ returns-in_err-write_numbered-in-Slot-clause-writes g c =
 pub returns-in_ok-write_numbered-in-Slot-clause-writes : goal.returns-in_ok-write_numbered-in-Slot-clause-writes
 returns-in_ok-write_numbered-in-Slot-clause-writes g c =
     rw c.in-Slot.is (writes_last c.write_numbered-in-Slot-2.result _ _ _ (numbered (codes "table ") c.in-Slot.n) _ _ c.in_ok-write_numbered-in-Slot.ensures.writes.ok c.write_numbered-in-Slot-2.ensures.writes refl)
-
-pub returns-in_ok-write_numbered-in-Byte-clause-stays : goal.returns-in_ok-write_numbered-in-Byte-clause-stays
-returns-in_ok-write_numbered-in-Byte-clause-stays g c = grind (arith, common_steps)
-
-pub returns-in_ok-write_numbered-in-Slot-clause-stays : goal.returns-in_ok-write_numbered-in-Slot-clause-stays
-returns-in_ok-write_numbered-in-Slot-clause-stays g c = grind (arith, common_steps)

@@ -1,4 +1,4 @@
-use Rattle.cdb_show.proofs.Words.{Fault, ap, append-nil, append_assoc, appends_then, arith, common_steps, err_from_is_err_and, prefix_in, prefix_then, same_appends, same_prefix, same_writes, sym, writes_last, writes_prefix, ◌++◌, ◌∙◌, ◌≡◌}
+use Rattle.cdb_show.proofs.Words.{Fault, ap, append-nil, append_assoc, appends_then, err_from_is_err_and, prefix_in, prefix_then, same_appends, same_prefix, same_writes, sym, writes_last, writes_prefix, ◌++◌, ◌∙◌, ◌≡◌}
 use Rattle.std.specs.Prelude.{codes}
 use Rattle.cdb_show.specs.Message.{said_place, fault_place, fault_message, fault_side, said_line}
 use Rattle.cdb_show.proofs.message.write_said.Goals as goal
@@ -33,9 +33,3 @@ returns-clause-writes g c =
     let before = appends_then _ _ _ (codes "cdb: " ++ fault_side f) (said_place (fault_place f)) first place in
     let line = same_writes c.write_pieces-2.result _ _ _ _ (ap (λ t. t ++ codes "\n") (c.as_bytes-2.ensures.value ∙ c.message.ensures)) c.write_pieces-2.ensures.writes in
     writes_last c.write_pieces-2.result _ _ _ ((codes "cdb: " ++ fault_side f) ++ said_place (fault_place f)) (fault_message f ++ codes "\n") (said_line f) before line (in_three f ∙ sym (append_assoc (codes "cdb: " ++ fault_side f) (said_place (fault_place f)) (fault_message f ++ codes "\n")))
-
-pub returns-clause-failed : goal.returns-clause-failed
-returns-clause-failed g c = grind (arith, common_steps)
-
-pub returns-clause-stays : goal.returns-clause-stays
-returns-clause-stays g c = grind (arith, common_steps)

@@ -17,12 +17,3 @@ returns-clause-each g c =
     let r = g.J.Read.remaining in
     let ended : c.loop-reader.reader-iterator.rest.items ≡ [] = grind (arith, common_steps) in
     sym (append-nil (map (one_of r) c.loop-reader.own.items)) ∙ ap (λ v. map (one_of r) c.loop-reader.own.items ++ map (own_of r) v) (sym ended) ∙ c.loop-reader.invariant.done ∙ own_bytes r c.args.readers.items
-
-pub loop-reader-init-derived : goal.loop-reader-init-derived
-loop-reader-init-derived g c = grind (arith, common_steps)
-
-pub loop-reader-preserved : goal.loop-reader-preserved
-loop-reader-preserved g c = grind (arith, common_steps)
-
-pub returns-clause-shared : goal.returns-clause-shared
-returns-clause-shared g c = grind (arith, common_steps)

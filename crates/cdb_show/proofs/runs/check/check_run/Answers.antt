@@ -1,4 +1,4 @@
-use Rattle.cdb_show.proofs.Words.{arith, common_steps, rules}
+use Rattle.cdb_show.proofs.Words.{rules}
 use Rattle.cdb_show.proofs.Checks.{opening_unchecked}
 use Rattle.cdb_show.proofs.runs.check.check_run.Goals as goal
 
@@ -7,6 +7,3 @@ returns-in-Err-clause-fails g c = rw c.from.ensures (opening_unchecked _ g.S.Sto
 
 pub returns-clause-sound : goal.returns-clause-sound
 returns-clause-sound g c = search rules
-
-pub returns-clause-reads : goal.returns-clause-reads
-returns-clause-reads g c = grind (arith, common_steps)

@@ -1,9 +1,5 @@
-use Rattle.cdb_show.proofs.Words.{arith, common_steps}
 use Rattle.cdb_show.proofs.DifferenceRuns.{tells_flushed}
 use Rattle.cdb_show.proofs.runs.difference.difference_run.Goals as goal
 
 pub returns-clause-tells : goal.returns-clause-tells
 returns-clause-tells g c = tells_flushed _ _ _ _ _ _ _ _ _ _ c.flushed-answer.ensures.flushes.kept _ _ c.difference_unflushed-old.ensures.tells c.flushed-answer.ensures.flushes
-
-pub returns-clause-output : goal.returns-clause-output
-returns-clause-output g c = grind (arith, common_steps)

@@ -1,4 +1,4 @@
-use Rattle.cdb_show.proofs.Words.{SaysDifference, arith, common_steps, subst, sym, ◌∙◌}
+use Rattle.cdb_show.proofs.Words.{SaysDifference, subst, sym, ◌∙◌}
 use Rattle.cdb_show.proofs.DifferenceRuns.{new_lacks, new_outside, old_lacks, old_outside, tells_stopped}
 use Rattle.cdb_show.proofs.runs.difference.write_opened.Goals as goal
 
@@ -61,6 +61,3 @@ returns-in-Err-clause-tells g c =
     })
     c.in-Err.stop
     (subst (SaysDifference g.L.Width.WORD g.S.Store g.T.Store old.store left.old.store new.store left.new.store (g.W.Sink.contents c.args.w.now) (g.W.Sink.contents left.w) (g.W.Sink.failed left.w)) c.in-Err.is c.write_difference.ensures))
-
-pub returns-in-Ok-clause-tells : goal.returns-in-Ok-clause-tells
-returns-in-Ok-clause-tells g c = grind (arith, common_steps)

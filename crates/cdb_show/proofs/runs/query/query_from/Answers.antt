@@ -1,4 +1,4 @@
-use Rattle.cdb_show.proofs.Words.{arith, common_steps, err_from_is_err_and, found_more, found_still, ◌∙◌}
+use Rattle.cdb_show.proofs.Words.{err_from_is_err_and, found_more, found_still, ◌∙◌}
 use Rattle.cdb_show.proofs.Queries.{written_more, finding_fails, value_fails}
 use Rattle.cdb_show.proofs.runs.query.query_from.Goals as goal
 
@@ -35,12 +35,3 @@ returns-in_err-write_shown-clause-fails g c =
     rw (p.1, p.2)
     (value_fails {s = g.S.Store} {l = g.L.Width} _ _ c.args.finder.now c.next.new.self c.write_shown.new.finder _ _ _ _ c.in-Some.value c.in_err-write_shown.field-0.0 found next.reads.failures c.in_err-write_shown.ensures.fails
     (λ b is. inv.written.written b (c.next.ensures.reads.images b (written.reads.images b is))) (λ b is. (c.in_err-write_shown.ensures.writes b is).err))
-
-pub returns-else-found-clause-reads : goal.returns-else-found-clause-reads
-returns-else-found-clause-reads g c = grind (arith, common_steps)
-
-pub returns-then-found-clause-ok : goal.returns-then-found-clause-ok
-returns-then-found-clause-ok g c = grind (arith, common_steps)
-
-pub loop-value-smaller : goal.loop-value-smaller
-loop-value-smaller g c = grind (arith, common_steps)

@@ -1,4 +1,4 @@
-use Rattle.cdb_show.proofs.Words.{List, append_assoc, appends_then, arith, codes, common_steps, err_from_is_err_and, prefix_in, prefix_last, prefix_then, refl, same_appends, sym, writes_prefix, ℕ, ◌++◌, ◌∙◌, ◌≡◌}
+use Rattle.cdb_show.proofs.Words.{List, append_assoc, appends_then, codes, err_from_is_err_and, prefix_in, prefix_last, prefix_then, refl, same_appends, sym, writes_prefix, ℕ, ◌++◌, ◌∙◌, ◌≡◌}
 use Rattle.cdb_read.specs.Lookup.{bytes_of}
 use Rattle.cdb_show.specs.Runs.Query.{record_text}
 use Rattle.cdb_command.specs.declared.style.Style.TheVariants.{Map}
@@ -42,12 +42,3 @@ returns-clause-writes g c = λ b is.
           (appends_then _ _ _ (key ++ codes " ") (bytes_of b value) c.in_ok-write_map_head.ensures.writes.ok (c.in_ok-copy.ensures.copies b is).ok) c.in_ok-write_whole.ensures.writes.ok);
       err = tt;
     }
-
-pub returns-clause-key : goal.returns-clause-key
-returns-clause-key g c = grind (arith, common_steps)
-
-pub returns-clause-same_reader : goal.returns-clause-same_reader
-returns-clause-same_reader g c = grind (arith, common_steps)
-
-pub returns-clause-stays : goal.returns-clause-stays
-returns-clause-stays g c = grind (arith, common_steps)

@@ -1,4 +1,4 @@
-use Rattle.cdb_show.proofs.Words.{ap, arith, common_steps, err_from_is_err_and, length, refl, rules, ◌+◌, ◌-◌, ◌∙◌, ◌≡◌, ◌≤◌}
+use Rattle.cdb_show.proofs.Words.{ap, arith, err_from_is_err_and, length, refl, rules, ◌+◌, ◌-◌, ◌∙◌, ◌≡◌, ◌≤◌}
 use Rattle.cdb_read.proofs.FoundSoFar.{found_none, found_more, found_still}
 use Rattle.cdb_show.proofs.Queries.{passed_none, passed_more, copying_fails, handed_back, nth_written, nth_prefix}
 use Rattle.cdb_show.proofs.runs.query.write_nth.Goals as goal
@@ -53,9 +53,3 @@ returns-then-left-eq0-clause-queries g c =
     let found = found_still {s = g.S.Store} {l = g.L.Width} _ _ _ c.next.new.self c.write_shown.new.finder _ next written.reads written.key written.stays in
     handed_back c.write_shown.new.finder.reader.now.store _ (search rules)
     (nth_written {s = g.S.Store} {l = g.L.Width} _ _ _ _ c.write_shown.new.finder _ _ _ _ inv.passed.spans c.in-Some.value found count c.args.reader.now.long inv.passed.kept (λ b is. (c.in_ok-write_shown.ensures.writes b is).ok))
-
-pub returns-clause-queries : goal.returns-clause-queries
-returns-clause-queries g c = grind (arith, common_steps)
-
-pub loop-value-smaller : goal.loop-value-smaller
-loop-value-smaller g c = grind (arith, common_steps)

@@ -1,4 +1,4 @@
-use Rattle.cdb_show.proofs.Words.{appends_then, arith, codes, common_steps, err_from_is_err_and, prefix_in, prefix_last, refl, same_appends, sym, writes_prefix}
+use Rattle.cdb_show.proofs.Words.{appends_then, codes, err_from_is_err_and, prefix_in, prefix_last, refl, same_appends, sym, writes_prefix}
 use Rattle.cdb_read.specs.Lookup.{bytes_of}
 use Rattle.cdb_show.proofs.Queries.{in_lines}
 use Rattle.cdb_show.proofs.runs.query.write_value.Goals as goal
@@ -19,6 +19,3 @@ pub returns-in_ok-write_whole-clause-writes : goal.returns-in_ok-write_whole-cla
 returns-in_ok-write_whole-clause-writes g c = λ b is.
     let copied = c.in_ok-copy.ensures.copies b is in
     record { ok = same_appends _ _ _ _ (sym (in_lines c.args.lines (bytes_of b c.args.value) c.if-lines.true)) (appends_then _ _ _ (bytes_of b c.args.value) (codes "\n") copied.ok c.in_ok-write_whole.ensures.writes.ok); err = tt }
-
-pub returns-in_ok-write_whole-clause-same_reader : goal.returns-in_ok-write_whole-clause-same_reader
-returns-in_ok-write_whole-clause-same_reader g c = grind (arith, common_steps)

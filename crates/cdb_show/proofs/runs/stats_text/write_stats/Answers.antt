@@ -1,4 +1,4 @@
-use Rattle.cdb_show.proofs.Words.{arith, common_steps, distance_lines, err_from_is_err_and, keys_line, prefix_in, records_line, refl, sizes_line, tables_line, values_line, writes_prefix}
+use Rattle.cdb_show.proofs.Words.{distance_lines, err_from_is_err_and, keys_line, prefix_in, records_line, refl, sizes_line, tables_line, values_line, writes_prefix}
 use Rattle.cdb_show.proofs.StatsTexts.{amid_prefix, amid_last, behind_records, behind_keys, behind_values, behind_tables, first_line, after_records, after_keys, after_values, after_tables, after_sizes}
 use Rattle.cdb_show.proofs.runs.stats_text.write_stats.Goals as goal
 
@@ -46,6 +46,3 @@ returns-clause-writes g c =
     let four = after_tables _ _ _ s three c.in_ok-write_triple-3.ensures.writes.ok in
     let five = after_sizes _ _ _ s four c.in_ok-write_triple-4.ensures.writes.ok in
     amid_last c.write_distances.result _ _ _ _ _ five c.write_distances.ensures.writes
-
-pub returns-clause-failed : goal.returns-clause-failed
-returns-clause-failed g c = grind (arith, common_steps)

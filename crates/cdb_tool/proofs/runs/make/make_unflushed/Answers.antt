@@ -1,5 +1,5 @@
-use Rattle.cdb_tool.proofs.Words.{Err, arith, common_steps, sym, ◌∙◌}
-use Rattle.cdb_tool.proofs.FedEnds.{read_none, read_stopped, read_unfinished, read_whole}
+use Rattle.cdb_tool.proofs.Words.{Err, arith, sym, ◌∙◌}
+use Rattle.cdb_tool.proofs.FedEnds.{of_making, read_none, read_stopped, read_unfinished, read_whole}
 use Rattle.cdb_tool.proofs.RunEnds.{runs_not, runs_unbased, hands_same, hands_some, unmade_memory, unmade_store, unfinished_store, unfinished_memory}
 use Rattle.cdb_show.proofs.OutputFaults.{says_more}
 use Rattle.cdb_tool.proofs.BaseRecords.{make_no_base, make_says}
@@ -9,7 +9,7 @@ pub returns-in-Err-clause-runs : goal.returns-in-Err-clause-runs
 returns-in-Err-clause-runs g c =
     let s = g.S.Store in
     rw c.from.ensures
-    (read_none g.B.Store c.args.base c.args.base g.J.Feeds.feed g.I.Feeds.feed _ _ _ c.args.inputs _ _ _ _
+    (read_none g.B.Store c.args.base c.args.base g.J.Feeds.feed g.I.Feeds.feed _ _ _ c.args.inputs _ _ _ _ (of_making c.in-Err.refused.fault)
     (λ given. runs_not s.image s.size s.written s.failures g.B.Store _ _ _ _ given _ c.args.store c.in-Err.refused.store _ c.in-Err.refused.fault c.in-Err.ensures.fails))
 
 pub returns-in-Err-clause-hands : goal.returns-in-Err-clause-hands
@@ -60,7 +60,7 @@ returns-in-Err-added-clause-runs g c =
     let base = c.add_base-base.result.0 in
     let fails = (rw c.in-Err-added.is at add.fails) c.in-Ok.ensures.begins.holds in
     rw c.into_store.ensures
-    (read_none g.B.Store c.args.base base g.J.Feeds.feed g.I.Feeds.feed _ _ c.args.run.options c.args.inputs _ _ _ _
+    (read_none g.B.Store c.args.base base g.J.Feeds.feed g.I.Feeds.feed _ _ c.args.run.options c.args.inputs _ _ _ _ (rw c.in-Err-added.is at add.own)
     (λ given. runs_unbased g.B.Store base _ _ c.args.run.options _ given (g.E.Sink.contents c.args.errors.now) _ c.in-Err-added.fault c.in-Ok.ensures.begins.limited fails))
 
 pub returns-in-Err-finish-clause-failed : goal.returns-in-Err-finish-clause-failed
@@ -85,22 +85,10 @@ returns-in-Err-put-clause-failed g c =
 pub returns-in-Err-put-clause-base_failed : goal.returns-in-Err-put-clause-base_failed
 returns-in-Err-put-clause-base_failed g c = λ is. absurd ((rw c.in-Err-put.is at c.put_inputs-inputs.ensures.step).base is)
 
-pub returns-in-Err-added-clause-failed : goal.returns-in-Err-added-clause-failed
-returns-in-Err-added-clause-failed g c = grind (arith, common_steps)
-
-pub returns-in-Err-added-clause-base_failed : goal.returns-in-Err-added-clause-base_failed
-returns-in-Err-added-clause-base_failed g c = grind (arith, common_steps)
-
 pub returns-in-Err-clause-failed : goal.returns-in-Err-clause-failed
 returns-in-Err-clause-failed g c =
     let s = g.S.Store in
     rw c.from.ensures (unmade_store s.image s.size s.written s.failures c.args.store c.in-Err.refused.store c.in-Err.refused.fault c.in-Err.ensures.fails)
-
-pub returns-in-Err-finish-clause-hands : goal.returns-in-Err-finish-clause-hands
-returns-in-Err-finish-clause-hands g c = grind (arith, common_steps)
-
-pub returns-in-Ok-finish-clause-hands : goal.returns-in-Ok-finish-clause-hands
-returns-in-Ok-finish-clause-hands g c = grind (arith, common_steps)
 
 pub returns-in-Err-clause-memory : goal.returns-in-Err-clause-memory
 returns-in-Err-clause-memory g c =

@@ -1,4 +1,4 @@
-use Rattle.cdb_tool.proofs.Words.{arith, common_steps, rules}
+use Rattle.cdb_tool.proofs.Words.{rules}
 use Rattle.cdb_tool.proofs.BaseRecords.{unopened, unopened_reads}
 use Rattle.cdb_tool.proofs.runs.make_base.add_base.Goals as goal
 
@@ -12,12 +12,3 @@ returns-in-Err-clause-hands g c = rw c.in-Some.is (unopened_reads g.L.Width.WORD
 
 pub returns-clause-fails : goal.returns-clause-fails
 returns-clause-fails g c = λ none. rw c.into_store.ensures (c.add_records-added.ensures.fails none)
-
-pub returns-clause-hands : goal.returns-clause-hands
-returns-clause-hands g c = grind (arith, common_steps)
-
-pub returns-in_default-clause-hands : goal.returns-in_default-clause-hands
-returns-in_default-clause-hands g c = grind (arith, common_steps)
-
-pub returns-in_default-clause-step : goal.returns-in_default-clause-step
-returns-in_default-clause-step g c = grind (arith, common_steps)

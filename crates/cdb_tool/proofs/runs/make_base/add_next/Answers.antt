@@ -88,30 +88,3 @@ returns-in_err-put-clause-step g c =
       base = λ is. absurd (make_no_base f is);
       output = grind (arith, common_steps);
     })
-
-pub returns-clause-fails : goal.returns-clause-fails
-returns-clause-fails g c = grind (arith, common_steps)
-
-pub returns-clause-fewer : goal.returns-clause-fewer
-returns-clause-fewer g c = grind (arith, common_steps)
-
-pub returns-in_default-clause-fewer : goal.returns-in_default-clause-fewer
-returns-in_default-clause-fewer g c = grind (arith, common_steps)
-
-pub returns-in_default-clause-same_reader : goal.returns-in_default-clause-same_reader
-returns-in_default-clause-same_reader g c = grind (arith, common_steps)
-
-pub returns-in_default-clause-step : goal.returns-in_default-clause-step
-returns-in_default-clause-step g c = grind (arith, common_steps)
-
-pub returns-then-n-gt0-clause-fewer : goal.returns-then-n-gt0-clause-fewer
-returns-then-n-gt0-clause-fewer g c = grind (arith, common_steps)
-
-pub slice_bounds-append-end : goal.slice_bounds-append-end
-slice_bounds-append-end g c = grind (arith, common_steps)
-
-pub value_into-requires : goal.value_into-requires
-value_into-requires g c = grind (arith, common_steps)
-
-pub value_into-requires-2 : goal.value_into-requires-2
-value_into-requires-2 g c = grind (arith, common_steps)

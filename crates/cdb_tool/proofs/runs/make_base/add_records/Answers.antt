@@ -1,4 +1,4 @@
-use Rattle.cdb_tool.proofs.Words.{ap, arith, common_steps, err_from_is_err_and, follows_then, left_of, reads_more, reads_nothing, refl, rules, ◌∙◌}
+use Rattle.cdb_tool.proofs.Words.{ap, arith, err_from_is_err_and, follows_then, left_of, reads_more, reads_nothing, refl, rules, ◌∙◌}
 use Rattle.cdb_tool.proofs.BaseRecords.{added_start, none_stopped, added_next, added_all, added_not}
 use Rattle.cdb_tool.proofs.MakerSteps.{step_failed}
 use Rattle.cdb_tool.proofs.runs.make_base.add_records.Goals as goal
@@ -66,6 +66,3 @@ returns-clause-step g c =
     let inv = c.loop-room.invariant in
     let step = c.in_ok-add_next.ensures.step in
     record { follows = follows_then _ _ _ inv.follows step.follows; failed = tt; memory = tt; fine = step.fine ∙ inv.fine; base = tt; output = tt }
-
-pub returns-clause-fails : goal.returns-clause-fails
-returns-clause-fails g c = grind (arith, common_steps)

@@ -1,4 +1,4 @@
-use Rattle.cdb_tool.proofs.Words.{FailsPutting, Holds, KeyValue, List, [], arith, common_steps, err_from_is_err_and, holds_fits, refl, subst, ℕ, ◌++◌, ◌∷◌}
+use Rattle.cdb_tool.proofs.Words.{FailsPutting, Holds, KeyValue, List, [], arith, err_from_is_err_and, holds_fits, refl, subst, ℕ, ◌++◌, ◌∷◌}
 use Rattle.cdb_form.specs.declared.mode.Mode.TheVariants.{Add}
 use Rattle.cdb_form.specs.Views.Pairs.{key_value}
 use Rattle.cdb_tool.proofs.WholeRuns.{holds_so_far_none, holds_so_far_more, reads_fitting, text_not_read, refused}
@@ -52,9 +52,3 @@ returns-in_err-put-clause-err g c =
     subst (λ (v : List ℕ). FailsPutting c.loop-fault.maker m Add (record { key = v; value = r.value }) f) c.deref.ensures.value
     (subst (λ (v : List ℕ). FailsPutting c.loop-fault.maker m Add (record { key = c.deref.result.now; value = v }) f) c.deref-in-loop-fault.ensures.value c.in_err-put.ensures.fails) in
     rw (p.1, p.2) (refused _ g.F.Feeds.feed _ c.loop-fault.text c.read_into.new.self _ m r f m.store.bytes.items held one refl (λ rose. omega arith) fails)
-
-pub returns-in-Err-clause-ok : goal.returns-in-Err-clause-ok
-returns-in-Err-clause-ok g c = grind (arith, common_steps)
-
-pub returns-in-Ok-false-clause-err : goal.returns-in-Ok-false-clause-err
-returns-in-Ok-false-clause-err g c = grind (arith, common_steps)

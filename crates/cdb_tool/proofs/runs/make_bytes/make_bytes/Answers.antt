@@ -1,5 +1,3 @@
-use Rattle.cdb_tool.proofs.Words.{arith, common_steps}
-use Rattle.cdb_form.specs.Views.Feed.{reader_feed}
 use Rattle.cdb_form.specs.Views.TextReader.{reader_of}
 use Rattle.cdb_tool.proofs.WholeRuns.{makes_flushed}
 use Rattle.cdb_tool.proofs.runs.make_bytes.make_bytes.Goals as goal
@@ -9,6 +7,3 @@ returns-clause-makes g c = (
   g.R.Read.remaining (reader_of c.make_bytes_unflushed-made.new.text),
   rw c.new-text.ensures.reader at (makes_flushed _ _ _ _ _ _ _ _ _ c.make_bytes_unflushed-made.ensures.makes c.flushed.ensures.flushes),
 )
-
-pub returns-clause-output : goal.returns-clause-output
-returns-clause-output g c = grind (arith, common_steps)

@@ -1,4 +1,4 @@
-use Rattle.cdb_tool.proofs.Words.{arith, common_steps, err_from_is_err_and, ◌∙◌}
+use Rattle.cdb_tool.proofs.Words.{err_from_is_err_and, ◌∙◌}
 use Rattle.cdb_form.proofs.Bytes.WritingLemmas.{same_prefix, same_appends}
 use Rattle.cdb_tool.proofs.WholeRuns.{nothing_made, file_made, file_fails}
 use Rattle.cdb_tool.proofs.runs.make_bytes.make_bytes_unflushed.Goals as goal
@@ -32,6 +32,3 @@ returns-in_err-file-clause-output g c =
     let p = err_from_is_err_and c.from_residual-in_err-file.result c.from_residual-in_err-file.ensures.1 in
     let read = c.in_ok-maker.ensures.ok in
     rw (p.1, p.2, c.in_err-file.ensures.err read.0 read.1) tt
-
-pub returns-clause-output : goal.returns-clause-output
-returns-clause-output g c = grind (arith, common_steps)
