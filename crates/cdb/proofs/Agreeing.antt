@@ -1,6 +1,6 @@
 -- What a run made of inputs that agree with their readers, and that the readers are in their places.
 use Rattle.std.proofs.Common.{◌≡◌, ◌∙◌, ◌≤◌, ℕ, zero, suc, List, [], ◌∷◌, length, Option, Some, None, Result, Ok, Err, is_some, ap, inl, inr, sym, arith}
-use Rattle.cdb.proofs.Words.{AreBytes, BuilderTells, Fault, Feed, Ghosts, InputReader, Inputs, IsBufferedRun, Making, NameCalls, OnOk, OutputSays, ReplaceFault, RunOptions, Sources, WhereHonest}
+use Rattle.cdb.proofs.Words.{AreBytes, BuilderTells, Fault, Feed, Ghosts, IfErr, InputReader, Inputs, IsBufferedRun, Making, NameCalls, OnOk, OutputSays, ReplaceFault, RunOptions, Sources, WhereHonest, ⊤}
 use Rattle.cdb_feed.specs.Inputs.{AreRead, CutShort, FirstAgree, HasFault, NoMore, NotBegun, Stop, reached}
 use Rattle.cdb_feed.specs.Parsing.{Parsing}
 use Rattle.cdb_feed.specs.declared.input_reader.InputReader.TheVariants.{Own, Shared}
@@ -14,6 +14,7 @@ use Rattle.cdb_tool.specs.Runs.InputsRead.{RunsRead, feeds_of, run_state}
 use Rattle.cdb_tool.specs.Runs.Make.{MakeRuns, OfBase, terms_of}
 use Rattle.cdb_tool.proofs.AgreeingInputs.{agreeing_inputs}
 use Rattle.cdb.specs.Agreeing.{InputsAgree, OfAgreeing, inputs_of}
+use Rattle.cdb.specs.Reasons.{HasReason, run_reasons}
 
 -- ---- the inputs that were reached are some of all
 
@@ -73,6 +74,7 @@ module _ {F J I R T : Type 0} (own : J → Feed) (shared : I → Feed) (contents
       OfAgreeing own shared sources.inputs back.inputs (λ inputs. IsBufferedRun f (making inputs) back.base images (contents told) (contents said) made)
       × AreInPlace sources.inputs.readers.items back.inputs.readers.items
       × OutputSays (failed said) made
+      × IfErr made (HasReason (run_reasons f own shared back ⊤ ⊥))
 
   -- it reports what the writer has
   pub of_contents : (t n : List ℕ) (old new : NameCalls) (back : Sources F J I) (told said : T) (answer : Result Unit (ReplaceFault Fault)) (each : List (Option (List ℕ))) (bytes : List ℕ) → (making (inputs_of each bytes)).base ≡ sources.base → InputsAgree own shared sources.inputs back.inputs each bytes

@@ -19,7 +19,7 @@ use Rattle.cdb_system.specs.Inputs.{inputs_read, OpensBase, OpensEach}
 use Rattle.cdb_system.specs.Oracle.{Disk, inputs_of, is_standard}
 use Rattle.cdb_system.specs.Streams.{AgreeInTurn, Agrees, name_in_turn, names_in_turn, own_readers}
 use Rattle.cdb_system.specs.declared.open_trace.OpenCall.{OpenCall}
-use Rattle.cdb_system.specs.declared.open_trace.OpenCall.TheVariants.{AtPlaces, Emptied, InTurn, Locked, Own, Stream, ToEmpty, Unopened}
+use Rattle.cdb_system.specs.declared.open_trace.OpenCall.TheVariants.{AtPlaces, Emptied, InTurn, Locked, Own, Stream, ToEmpty, Unopened, Watched}
 use Rattle.cdb_system.specs.declared.system.System.{Ghosts as Systems}
 use Rattle.cdb.proofs.Replaced.{BaseHas}
 use Rattle.cdb_system.proofs.InputsKnown.{AreOf, OpenedSince, answered_before, files_of_each, in_turn_then, inputs_are, inputs_since, opened_since, opened_there, own_names, standard_is, standard_not}
@@ -42,7 +42,7 @@ pub record AllKnown {F : Type 0} (s : Ghosts F) (w : ℕ) (disk : Disk) (base : 
 base_shown : {F I J M N R Y : Type 0} (s : Ghosts F) (y : Systems Y F I M J N R) (disk : Disk) (name : List ℕ) (came : F) (read : Option F) (old new calls : OpenCalls) → OpensBase y (Some name) (Some came) old new → new ≡ calls ++ old → AreAnswered s disk calls (if_some read)
     → (b : List ℕ) × (disk name ≡ Some b) × BaseHas s read (Some b)
 base_shown s y disk name came read old new calls opens e all =
-    let only : calls ≡ (AtPlaces, name) ∷ [] = append_cancel_right calls ((AtPlaces, name) ∷ []) old (sym e ∙ opens.0) in
+    let only : calls ≡ (Watched, name) ∷ [] = append_cancel_right calls ((Watched, name) ∷ []) old (sym e ∙ opens.0) in
     shown s (disk name) read (subst (λ c. AreAnswered s disk c (if_some read)) only all).0
 
 -- its head does not refuse it
@@ -90,7 +90,7 @@ pub record BaseSince (old new : OpenCalls) : Type 0 where
 
 pub base_since : {F I J M N R Y : Type 0} (y : Systems Y F I M J N R) (base : Option (List ℕ)) (file : Option F) (old new : OpenCalls) → OpensBase y base file old new → BaseSince old new
 base_since y None None old new h = record { since = []; are = h; in_turn = refl }
-base_since y (Some name) (Some file) old new h = record { since = (AtPlaces, name) ∷ []; are = h.0; in_turn = refl }
+base_since y (Some name) (Some file) old new h = record { since = (Watched, name) ∷ []; are = h.0; in_turn = refl }
 base_since y (Some name) None old new h = absurd h
 base_since y None (Some file) old new h = absurd h
 
@@ -98,11 +98,13 @@ base_since y None (Some file) old new h = absurd h
 
 stores_same : {F : Type 0} (call : OpenCall) (stores : List F) → OpensNone call → stores_before call stores ≡ stores
 stores_same AtPlaces stores none = absurd none
+stores_same Watched stores none = absurd none
 stores_same InTurn stores none = absurd none
 stores_same call stores none = refl
 
 name_none : (call : OpenCall) (name : List ℕ) → OpensNone call → name_in_turn call name ≡ []
 name_none AtPlaces name none = absurd none
+name_none Watched name none = absurd none
 name_none InTurn name none = absurd none
 name_none call name none = refl
 

@@ -78,9 +78,9 @@ pub failed_stays : {T E : Type 0} (r : Result T E) (old new : Bool) → OnOk r (
 failed_stays (Ok done) old new same failed is = same ∙ is
 failed_stays (Err e) old new same failed is = failed
 
-pub run_kept : {F I J M N R Y : Type 0} (s : Ghosts F) (m : Ghosts M) (r : Raw R) (feed : I → Feed) (y : Systems Y F I M J N R) (planned : Result Asked Refused) (explained : Bool) (input : Standard J) (old new : Y) (was now : NameCalls) (left : Left F M I J) (start end final told mid said : Option (List ℕ)) (unwritten before after : Type 0) (status : ℕ)
-    → Runs (machine_of s m feed y r) (given_of planned explained input) (state_of old was start told) (state_of new now end mid) final left (failed_of unwritten before) status → (before → after) → Keeps mid said → Runs (machine_of s m feed y r) (given_of planned explained input) (state_of old was start told) (state_of new now end said) final left (failed_of unwritten after) status
-run_kept s m r feed y planned explained input old new was now left start end final told mid said unwritten before after status h stays k = elim h as (λ _. Runs (machine_of s m feed y r) (given_of planned explained input) (state_of old was start told) (state_of new now end said) final left (failed_of unwritten after) status) [
+pub run_kept : {F I J M N R Y : Type 0} (s : Ghosts F) (m : Ghosts M) (r : Raw R) (feed : I → Feed) (y : Systems Y F I M J N R) (planned : Result Asked Refused) (explained : Bool) (input : Standard J) (old new : Y) (was now : NameCalls) (left : Left F M I J) (start end final told mid said : Option (List ℕ)) (unwritten before after copy : Type 0) (status : ℕ)
+    → Runs (machine_of s m feed y r) (given_of planned explained input) (state_of old was start told) (state_of new now end mid) final left (failed_of unwritten before copy) status → (before → after) → Keeps mid said → Runs (machine_of s m feed y r) (given_of planned explained input) (state_of old was start told) (state_of new now end said) final left (failed_of unwritten after copy) status
+run_kept s m r feed y planned explained input old new was now left start end final told mid said unwritten before after copy status h stays k = elim h as (λ _. Runs (machine_of s m feed y r) (given_of planned explained input) (state_of old was start told) (state_of new now end said) final left (failed_of unwritten after copy) status) [
   | inl none ↦ inl (record { refused = none.refused; why = none.why; line = line_kept (refused_lines explained none.refused) told mid said before after stays none.line k; untouched = none.untouched; none = none.none; same = none.same; kept = none.kept; is_status = none.is_status })
   | inr some ↦
       inr (record {

@@ -13,4 +13,7 @@ mod CreatePlaced
 mod Creates
 mod RunCreates
 mod CreateTaken
+mod Reasons
+mod NameReasons
+mod ReadReasons
 mod Words

@@ -1,6 +1,6 @@
 -- That a run comes to what the oracle says, from what each command does.
 use Rattle.cdb_system.proofs.OutputTaken.{MayGiveUp, taken, writes_output}
-use Rattle.cdb.proofs.Words.{Appends-kept, Asked, Bool, Command, Err, Fault, Feed, Ghosts, HasHandedOn, IfSome, Keeps-refl, Keeps-trans, Left, List, NameCalls, None, Ok, OpenCalls, Option, OutputFailed, OutputSays, Result, Some, Standard, State, [], ap, arith, asked_in, failed_of, false, fault_line, files_of, given_of, has_wide_words, held_by, inl, inr, not_there, output_bytes, prefix_kept, refl, state_of, subst, sym, true, writer_bytes, ℕ, ◌++◌, ◌∙◌, ◌≡◌, ◌⊎◌}
+use Rattle.cdb.proofs.Words.{Appends-kept, Asked, Bool, Command, Err, Fault, Feed, Ghosts, HasHandedOn, IfSome, Keeps-refl, Keeps-trans, Left, List, NameCalls, None, Ok, Option, OutputFailed, OutputSays, Result, Some, Standard, State, [], ap, arith, asked_in, failed_of, false, fault_line, files_of, given_of, has_wide_words, held_by, inl, inr, not_there, output_bytes, prefix_kept, refl, state_of, subst, sym, true, writer_bytes, ℕ, ◌++◌, ◌∙◌, ◌≡◌, ◌⊎◌}
 use Rattle.std.specs.Prelude.{map, IfOk, string_bytes}
 use Rattle.std.proofs.lemmas.List.{append-nil}
 use Rattle.std.specs.Io.KnownBytes.{Keeps, Appends, append_known}
@@ -24,7 +24,7 @@ use Rattle.cdb_system.proofs.ComparedFiles.{difference_foretold}
 use Rattle.cdb_system.specs.Oracle.{Disk, Outcome, check_outcome, command_outcome, ended, oracle, stats_outcome}
 use Rattle.cdb.specs.Performs.{HandsOn, IsUntouched, PerformsIn, Runs, status_of}
 use Rattle.cdb_system.specs.Telling.{Says, SaysLine, refused_lines, usage_line, usage_status}
-use Rattle.cdb_system.specs.Causes.{Explains}
+use Rattle.cdb_system.specs.Causes.{Called, Explains, called_of}
 use Rattle.cdb_system.specs.declared.system.System.{Ghosts as Systems}
 use Rattle.cdb_system.proofs.FilesRead.{query_foretold, text_named, text_input, stats_comes, check_comes, on_named, on_input, stats_taken, check_taken, told_comes}
 use Rattle.cdb.specs.Machine.{machine_of}
@@ -43,20 +43,20 @@ line_said line told said unsaid taken (inl whole) = whole
 line_said line told said unsaid taken (inr part) = absurd (taken part.1)
 
 -- the line of a fault is said first; what explains it follows
-fault_said : (explained : Bool) (command : Asked) (result : Result Unit Fault) (unwritten : Type 0) (opened : OpenCalls) (named : NameCalls) (fault : Fault) (more : List ℕ) (told said : Option (List ℕ)) (unsaid : Type 0) → (unsaid → ⊥)
-    → Explains explained command result unwritten opened named more → SaysLine (fault_line fault ++ more) told said unsaid → SaysLines explained (fault_line fault) told said
-fault_said false command result unwritten opened named fault more told said unsaid taken explains h =
+fault_said : (explained : Bool) (command : Asked) (result : Result Unit Fault) (unwritten : Type 0) (called : Called) (fault : Fault) (more : List ℕ) (told said : Option (List ℕ)) (unsaid : Type 0) → (unsaid → ⊥)
+    → Explains explained command result unwritten called more → SaysLine (fault_line fault ++ more) told said unsaid → SaysLines explained (fault_line fault) told said
+fault_said false command result unwritten called fault more told said unsaid taken explains h =
     line_said (fault_line fault) told said unsaid taken (subst (λ line. SaysLine line told said unsaid) (ap (λ m. fault_line fault ++ m) explains ∙ append-nil (fault_line fault)) h)
-fault_said true command result unwritten opened named fault more told said unsaid taken explains h = (more, line_said (fault_line fault ++ more) told said unsaid taken h)
+fault_said true command result unwritten called fault more told said unsaid taken explains h = (more, line_said (fault_line fault ++ more) told said unsaid taken h)
 
 abbrev SaysResult : (explained : Bool) → Result Unit Fault → (told said : Option (List ℕ)) → Type 0
 SaysResult explained (Ok done) told said = Keeps told said
 SaysResult explained (Err fault) told said = SaysLines explained (fault_line fault) told said
 
-result_said : (explained : Bool) (command : Asked) (result : Result Unit Fault) (unwritten : Type 0) (opened : OpenCalls) (named : NameCalls) (more : List ℕ) (told said : Option (List ℕ)) (unsaid : Type 0) → (unsaid → ⊥)
-    → Explains explained command result unwritten opened named more → Says result more told said unsaid → SaysResult explained result told said
-result_said explained command (Ok done) unwritten opened named more told said unsaid taken explains h = h
-result_said explained command (Err fault) unwritten opened named more told said unsaid taken explains h = fault_said explained command (Err fault) unwritten opened named fault more told said unsaid taken explains h
+result_said : (explained : Bool) (command : Asked) (result : Result Unit Fault) (unwritten : Type 0) (called : Called) (more : List ℕ) (told said : Option (List ℕ)) (unsaid : Type 0) → (unsaid → ⊥)
+    → Explains explained command result unwritten called more → Says result more told said unsaid → SaysResult explained result told said
+result_said explained command (Ok done) unwritten called more told said unsaid taken explains h = h
+result_said explained command (Err fault) unwritten called more told said unsaid taken explains h = fault_said explained command (Err fault) unwritten called fault more told said unsaid taken explains h
 
 lines_said : (explained : Bool) (status : Fault → ℕ) (text : List ℕ) (result : Result Unit Fault) (told said : Option (List ℕ)) → SaysResult explained result told said → SaysLines explained (ended status text result).lines told said
 lines_said false status text (Ok done) told said h = nothing_written told said h
@@ -183,10 +183,10 @@ no_memory_may : (planned : Result Asked Refused) → MayFail planned NoMemory
 no_memory_may (Ok command) = tt
 no_memory_may (Err usage) = refl
 
-run_foretold : {F I J M N R Y : Type 0} (s : Ghosts F) (m : Ghosts M) (r : Raw R) (feed : I → Feed) (y : Systems Y F I M J N R) (planned : Result Asked Refused) (explained : Bool) (given : Standard J) (old new : Y) (was now : NameCalls) (left : Left F M I J) (start end final told said : Option (List ℕ)) (unwritten unsaid : Type 0) (status : ℕ) (disk : Disk) (input : List ℕ)
-    → IsSized s → (unwritten → ⊥) → (unsaid → ⊥) → Keeps end final → Runs (machine_of s m feed y r) (given_of planned explained given) (state_of old was start told) (state_of new now end said) final left (failed_of unwritten unsaid) status
+run_foretold : {F I J M N R Y : Type 0} (s : Ghosts F) (m : Ghosts M) (r : Raw R) (feed : I → Feed) (y : Systems Y F I M J N R) (planned : Result Asked Refused) (explained : Bool) (given : Standard J) (old new : Y) (was now : NameCalls) (left : Left F M I J) (start end final told said : Option (List ℕ)) (unwritten unsaid copy : Type 0) (status : ℕ) (disk : Disk) (input : List ℕ)
+    → IsSized s → (unwritten → ⊥) → (unsaid → ⊥) → Keeps end final → Runs (machine_of s m feed y r) (given_of planned explained given) (state_of old was start told) (state_of new now end said) final left (failed_of unwritten unsaid copy) status
     → IfOk planned (λ command. Honest (files_of s m feed y) disk input command given old new left) → IfSome (oracle planned disk input) (λ o. Foretold planned o explained start final told said status)
-run_foretold s m r feed y planned explained given old new was now left start end final told said unwritten unsaid status disk input sized writes speaks k (inl none) honest =
+run_foretold s m r feed y planned explained given old new was now left start end final told said unwritten unsaid copy status disk input sized writes speaks k (inl none) honest =
     let kept = Keeps-trans start end final none.kept k in
     let line = refused_said explained none.refused told said unsaid speaks none.line in
     elim none.why [
@@ -203,13 +203,13 @@ run_foretold s m r feed y planned explained given old new was now left start end
         lines = line;
       }))
     ]
-run_foretold s m r feed y planned explained given old new was now left start end final told said unwritten unsaid status disk input sized writes speaks k (inr some) honest =
+run_foretold s m r feed y planned explained given old new was now left start end final told said unwritten unsaid copy status disk input sized writes speaks k (inr some) honest =
     let command = some.command in
     let honest = subst (λ p. IfOk p (λ c. Honest (files_of s m feed y) disk input c given old new left)) some.asks honest in
     let handed = handed_all some.does.end final unwritten some.does.answer some.result writes some.does.hands in
     subst (λ p. IfSome (oracle p disk input) (λ o. Foretold p o explained start final told said status)) (sym some.asks)
     (some_so (command_outcome (asked_in command) disk input) (λ o. Comes (writes_output (asked_in command)) (reads_in_turn (asked_in command)) (exit_status command) o start some.does.end some.does.answer) (λ o. some.before ≡ told) (λ o. Foretold (Ok (asked_in command)) o explained start final told said status)
-    (λ o comes silent. ends_so command o explained start some.does.end final told said unwritten unsaid some.result status writes some.output speaks handed.0 (subst (λ t. SaysResult explained some.result t said) silent (result_said explained (asked_in command) some.result unwritten (y.calls new) now some.more some.before said unsaid speaks some.explains some.says)) some.is_status (subst (Comes (writes_output (asked_in command)) (reads_in_turn (asked_in command)) (exit_status command) o start some.does.end) (sym handed.1) comes))
+    (λ o comes silent. ends_so command o explained start some.does.end final told said unwritten unsaid some.result status writes some.output speaks handed.0 (subst (λ t. SaysResult explained some.result t said) silent (result_said explained (asked_in command) some.result unwritten (called_of (y.calls new) (y.lacks new) now copy) some.more some.before said unsaid speaks some.explains some.says)) some.is_status (subst (Comes (writes_output (asked_in command)) (reads_in_turn (asked_in command)) (exit_status command) o start some.does.end) (sym handed.1) comes))
     (command_comes s m r feed y explained command disk input given (state_of old was start told) (state_of new now some.does.end some.before) left some.does.answer sized (each_answered s disk (stores_in left) (y.calls old) (y.calls new) honest.calls honest.are honest.answered) (each_agrees feed disk (streams_in left) (y.calls old) (y.calls new) honest.calls honest.are honest.in_turn) honest some.does.performs)
     (is_silent command disk input told some.before some.silent))
 
@@ -225,15 +225,15 @@ total_so : (planned : Result Asked Refused) (disk : Disk) (input : List ℕ) (P 
 total_so (Ok (asked.Create name base inputs temporary options wide)) disk input P none h = absurd none
 total_so planned disk input P none h = h
 
-pub run_is_foretold : {F I J M N R Y W V : Type 0} (s : Ghosts F) (m : Ghosts M) (r : Raw R) (feed : I → Feed) (y : Systems Y F I M J N R) (planned : Result Asked Refused) (explained : Bool) (given : Standard J) (old new : Y) (was now : NameCalls) (left : Left F M I J) (output_old output_new : Writer W) (errors_old errors_new : Writer V) (status : ℕ)
+pub run_is_foretold : {F I J M N R Y W V : Type 0} (s : Ghosts F) (m : Ghosts M) (r : Raw R) (feed : I → Feed) (y : Systems Y F I M J N R) (planned : Result Asked Refused) (explained : Bool) (given : Standard J) (old new : Y) (was now : NameCalls) (left : Left F M I J) (output_old output_new : Writer W) (errors_old errors_new : Writer V) (copy : Type 0) (status : ℕ)
     → IsSized s → (held_by output_old ≡ [] → HasHandedOn output_new) → HasHandedOn errors_new
-    → Runs (machine_of s m feed y r) (given_of planned explained given) (state_of old was (output_bytes output_old) (output_bytes errors_old)) (state_of new now (output_bytes output_new) (output_bytes errors_new)) (writer_bytes output_new) left (failed_of (OutputFailed output_new) (OutputFailed errors_new)) status
+    → Runs (machine_of s m feed y r) (given_of planned explained given) (state_of old was (output_bytes output_old) (output_bytes errors_old)) (state_of new now (output_bytes output_new) (output_bytes errors_new)) (writer_bytes output_new) left (failed_of (OutputFailed output_new) (OutputFailed errors_new) copy) status
     → IsForetold (files_of s m feed y) (given_of planned explained given) (state_of old was (output_bytes output_old) (output_bytes errors_old)) (state_of new now (writer_bytes output_new) (writer_bytes errors_new)) left (IsTaken output_old output_new errors_new) status
-run_is_foretold s m r feed y planned explained given old new was now left output_old output_new errors_old errors_new status sized handed said runs = λ disk input taken none honest.
+run_is_foretold s m r feed y planned explained given old new was now left output_old output_new errors_old errors_new copy status sized handed said runs = λ disk input taken none honest.
     let writes : OutputFailed output_new → ⊥ = λ failed. not_there (output_new.marked failed) taken.1 in
     let speaks : OutputFailed errors_new → ⊥ = λ failed. not_there (errors_new.marked failed) taken.2 in
     total_so planned disk input (λ o. Foretold planned o explained (output_bytes output_old) (writer_bytes output_new) (output_bytes errors_old) (writer_bytes errors_new) status) none
     (let end = output_bytes output_new in
     let kept = subst (Keeps end) (all_taken output_new (handed taken.0) writes) (Keeps-refl end) in
     subst (λ t. IfSome (oracle planned disk input) (λ o. Foretold planned o explained (output_bytes output_old) (writer_bytes output_new) (output_bytes errors_old) t status)) (all_taken errors_new said speaks)
-    (run_foretold s m r feed y planned explained given old new was now left (output_bytes output_old) end (writer_bytes output_new) (output_bytes errors_old) (output_bytes errors_new) (OutputFailed output_new) (OutputFailed errors_new) status disk input sized writes speaks kept runs honest))
+    (run_foretold s m r feed y planned explained given old new was now left (output_bytes output_old) end (writer_bytes output_new) (output_bytes errors_old) (output_bytes errors_new) (OutputFailed output_new) (OutputFailed errors_new) copy status disk input sized writes speaks kept runs honest))

@@ -10,6 +10,7 @@ use Rattle.cdb_show.specs.declared.fault.Fault.TheVariants.{Missing, NoMemory}
 use Rattle.cdb.specs.ForetoldCreate.{CreateHolds, HonestCreate, IsCreateForetold, IsCreated, IsGivenUp, expected_of, passing}
 use Rattle.cdb_system.specs.Oracle.{Disk, ended, greatest_size, word_size}
 use Rattle.cdb.specs.Performs.{IsShown, PerformsIn, Runs, status_of}
+use Rattle.cdb_system.specs.Causes.{called_of}
 use Rattle.cdb_system.specs.declared.system.System.{Ghosts as Systems}
 use Rattle.cdb_show.specs.declared.output.Output.{Output as Writer}
 use Rattle.cdb.proofs.Replaced.{IsPlain}
@@ -127,10 +128,10 @@ honest_so : {F I J M N R Y : Type 0} {files : Files F I J M N R Y} {disk : Disk}
     → HonestCreate files disk input name standard (state_of old was start told) (state_of new now end said) left → HonestCreate files disk input name standard (state_of old was start told) (state_of new now final before) left
 honest_so final before h = record { calls = h.calls; are = h.are; answered = h.answered; in_turn = h.in_turn; unread = h.unread; agrees = h.agrees; bytes = h.bytes; first = h.first; alone = h.alone; held = h.held; has = h.has }
 
-run_holds : {F I J M N R Y : Type 0} (s : Ghosts F) (m : Ghosts M) (r : Raw R) (feed : I → Feed) (y : Systems Y F I M J N R) (planned : Result Asked Refused) (explained : Bool) (given : Standard J) (old new : Y) (was now : NameCalls) (left : Left F M I J) (start end final told said : Option (List ℕ)) (unwritten unsaid : Type 0) (status : ℕ) (disk : Disk) (input name : List ℕ) (base : Option (List ℕ)) (inputs : List (List ℕ)) (temporary : Option (List ℕ)) (o : MakeOptions) (wide : Bool)
-    → planned ≡ Ok (asked.Create name base inputs temporary o wide) → (unwritten → ⊥) → (unsaid → ⊥) → Keeps end final → HonestCreate (files_of s m feed y) disk input name given (state_of (y.calls old) was start told) (state_of (y.calls new) now final said) left → Runs (machine_of s m feed y r) (given_of planned explained given) (state_of old was start told) (state_of new now end said) final left (failed_of unwritten unsaid) status
+run_holds : {F I J M N R Y : Type 0} (s : Ghosts F) (m : Ghosts M) (r : Raw R) (feed : I → Feed) (y : Systems Y F I M J N R) (planned : Result Asked Refused) (explained : Bool) (given : Standard J) (old new : Y) (was now : NameCalls) (left : Left F M I J) (start end final told said : Option (List ℕ)) (unwritten unsaid copy : Type 0) (status : ℕ) (disk : Disk) (input name : List ℕ) (base : Option (List ℕ)) (inputs : List (List ℕ)) (temporary : Option (List ℕ)) (o : MakeOptions) (wide : Bool)
+    → planned ≡ Ok (asked.Create name base inputs temporary o wide) → (unwritten → ⊥) → (unsaid → ⊥) → Keeps end final → HonestCreate (files_of s m feed y) disk input name given (state_of (y.calls old) was start told) (state_of (y.calls new) now final said) left → Runs (machine_of s m feed y r) (given_of planned explained given) (state_of old was start told) (state_of new now end said) final left (failed_of unwritten unsaid copy) status
     → CreateHolds m (expected_of disk name temporary (create_of (word_size wide) (greatest_size wide) disk input name base inputs temporary o)) explained left.made (state_of (y.calls old) was start told) (state_of (y.calls new) now final said) status
-run_holds s m r feed y planned explained given old new was now left start end final told said unwritten unsaid status disk input name base inputs temporary o wide plan writes speaks kept honest (inl none) = elim none.why [
+run_holds s m r feed y planned explained given old new was now left start end final told said unwritten unsaid copy status disk input name base inputs temporary o wide plan writes speaks kept honest (inl none) = elim none.why [
   | inl lacks ↦ (let c = create_of (word_size wide) (greatest_size wide) disk input name base inputs temporary o in
       let is : status ≡ 111 = none.is_status ∙ ap (λ x. usage_status (usage_of x)) lacks in
       record {
@@ -147,7 +148,7 @@ run_holds s m r feed y planned explained given old new was now left start end fi
       })
   | inr refused ↦ absurd (let no : ◌≡◌ {A = Result Asked Refused} (Ok (asked.Create name base inputs temporary o wide)) (Err none.refused) = sym plan ∙ refused in cc)
 ]
-run_holds s m r feed y planned explained given old new was now left start end final told said unwritten unsaid status disk input name base inputs temporary o wide plan writes speaks kept honest (inr some) =
+run_holds s m r feed y planned explained given old new was now left start end final told said unwritten unsaid copy status disk input name base inputs temporary o wide plan writes speaks kept honest (inr some) =
     let command = some.command in
     let does = some.does in
     let a : asked_in command ≡ asked.Create name base inputs temporary o wide = same_asked (asked_in command) (asked.Create name base inputs temporary o wide) (sym some.asks ∙ plan) in
@@ -161,20 +162,20 @@ run_holds s m r feed y planned explained given old new was now left start end fi
     let some_is : status ≡ plain does.answer = some.is_status ∙ status_create command name base inputs temporary o wide some.result a ∙ ap plain handed.1 in
     subst (λ p. CreateHolds m (expected_of disk name temporary (create_of (word_size wide) (greatest_size wide) disk input name base inputs temporary p)) explained left.made (state_of (y.calls old) was start told) (state_of (y.calls new) now final said) status) (shown_make explained inputs o shown shows.1)
     (record {
-      comes = λ had has. comes_so m disk shown c explained now left.made command name base inputs temporary o wide start does.end final told some.before said unwritten unsaid does.answer some.result status a handed.0 handed.1 writes some.output speaks (λ unexplained. says_only explained (asked_in command) some.result unwritten (y.calls new) now some.more some.before said unsaid unexplained some.explains some.says) some.is_status (λ unexplained. shown_plain explained inputs o shown shows.1 unexplained) (so.answer had has);
+      comes = λ had has. comes_so m disk shown c explained now left.made command name base inputs temporary o wide start does.end final told some.before said unwritten unsaid does.answer some.result status a handed.0 handed.1 writes some.output speaks (λ unexplained. says_only explained (asked_in command) some.result unwritten (called_of (y.calls new) (y.lacks new) now copy) some.more some.before said unsaid unexplained some.explains some.says) some.is_status (λ unexplained. shown_plain explained inputs o shown shows.1 unexplained) (so.answer had has);
       done = λ zero. if_done _ does.answer so.done (sym some_is ∙ zero);
       failed = λ other. if_not_done _ does.answer so.failed (λ zero. other (some_is ∙ zero));
       moments = so.moments;
     })
 
-pub run_is_created : {F I J M N R Y W V : Type 0} (s : Ghosts F) (m : Ghosts M) (r : Raw R) (feed : I → Feed) (y : Systems Y F I M J N R) (planned : Result Asked Refused) (explained : Bool) (given : Standard J) (old new : Y) (was now : NameCalls) (left : Left F M I J) (output_old output_new : Writer W) (errors_old errors_new : Writer V) (status : ℕ)
+pub run_is_created : {F I J M N R Y W V : Type 0} (s : Ghosts F) (m : Ghosts M) (r : Raw R) (feed : I → Feed) (y : Systems Y F I M J N R) (planned : Result Asked Refused) (explained : Bool) (given : Standard J) (old new : Y) (was now : NameCalls) (left : Left F M I J) (output_old output_new : Writer W) (errors_old errors_new : Writer V) (copy : Type 0) (status : ℕ)
     → (held_by output_old ≡ [] → HasHandedOn output_new) → HasHandedOn errors_new
-    → Runs (machine_of s m feed y r) (given_of planned explained given) (state_of old was (output_bytes output_old) (output_bytes errors_old)) (state_of new now (output_bytes output_new) (output_bytes errors_new)) (writer_bytes output_new) left (failed_of (OutputFailed output_new) (OutputFailed errors_new)) status
+    → Runs (machine_of s m feed y r) (given_of planned explained given) (state_of old was (output_bytes output_old) (output_bytes errors_old)) (state_of new now (output_bytes output_new) (output_bytes errors_new)) (writer_bytes output_new) left (failed_of (OutputFailed output_new) (OutputFailed errors_new) copy) status
     → IsCreateForetold (files_of s m feed y) (given_of planned explained given) (state_of old was (output_bytes output_old) (output_bytes errors_old)) (state_of new now (writer_bytes output_new) (writer_bytes errors_new)) left (IsTaken output_old output_new errors_new) status
-run_is_created s m r feed y planned explained given old new was now left output_old output_new errors_old errors_new status handed said runs = λ disk input name base inputs temporary o wide plan taken honest.
+run_is_created s m r feed y planned explained given old new was now left output_old output_new errors_old errors_new copy status handed said runs = λ disk input name base inputs temporary o wide plan taken honest.
     (let writes : OutputFailed output_new → ⊥ = λ failed. not_there (output_new.marked failed) taken.1 in
     let speaks : OutputFailed errors_new → ⊥ = λ failed. not_there (errors_new.marked failed) taken.2 in
     let end = output_bytes output_new in
     let kept = subst (Keeps end) (all_taken output_new (handed taken.0) writes) (Keeps-refl end) in
     subst (λ t. CreateHolds m (expected_of disk name temporary (create_of (word_size wide) (greatest_size wide) disk input name base inputs temporary o)) explained left.made (state_of (y.calls old) was (output_bytes output_old) (output_bytes errors_old)) (state_of (y.calls new) now (writer_bytes output_new) t) status) (all_taken errors_new said speaks)
-    (run_holds s m r feed y planned explained given old new was now left (output_bytes output_old) end (writer_bytes output_new) (output_bytes errors_old) (output_bytes errors_new) (OutputFailed output_new) (OutputFailed errors_new) status disk input name base inputs temporary o wide plan writes speaks kept (honest_so (writer_bytes output_new) (output_bytes errors_new) honest) runs))
+    (run_holds s m r feed y planned explained given old new was now left (output_bytes output_old) end (writer_bytes output_new) (output_bytes errors_old) (output_bytes errors_new) (OutputFailed output_new) (OutputFailed errors_new) copy status disk input name base inputs temporary o wide plan writes speaks kept (honest_so (writer_bytes output_new) (output_bytes errors_new) honest) runs))

@@ -11,7 +11,7 @@ use Rattle.cdb_show.specs.declared.inputs.Inputs.{Inputs}
 use Rattle.cdb_system.specs.Opening.{OpenCalls}
 use Rattle.cdb_system.specs.declared.left.Left.{Left}
 use Rattle.cdb_system.specs.declared.open_trace.OpenCall.{OpenCall}
-use Rattle.cdb_system.specs.declared.open_trace.OpenCall.TheVariants.{AtPlaces, InTurn}
+use Rattle.cdb_system.specs.declared.open_trace.OpenCall.TheVariants.{AtPlaces, InTurn, Watched}
 
 -- inputs that have these bytes; an input without bytes of its own begins in the shared ones
 abbrev pub inputs_of : (each : List (Option (List ℕ))) → (shared : List ℕ) → InputsLeft
@@ -35,6 +35,7 @@ OfAgreeing own shared before after P = (each : List (Option (List ℕ))) (bytes 
 -- a call opens no file that is read
 abbrev pub OpensNone : OpenCall → Type 0
 OpensNone AtPlaces = ⊥
+OpensNone Watched = ⊥
 OpensNone InTurn = ⊥
 OpensNone call = ⊤
 

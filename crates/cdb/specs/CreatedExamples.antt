@@ -22,7 +22,7 @@ use Rattle.cdb_system.specs.Files.{Files, files_of}
 use Rattle.cdb_system.specs.NotedExamples.{ended, fresh, fresh_is_unread, more_agree, noted, these_agree}
 use Rattle.cdb_system.specs.Streams.{AgreeInTurn, Agrees, own_readers}
 use Rattle.cdb_system.specs.declared.left.Left.{Left}
-use Rattle.cdb_system.specs.declared.open_trace.OpenCall.TheVariants.{AtPlaces, InTurn}
+use Rattle.cdb_system.specs.declared.open_trace.OpenCall.TheVariants.{InTurn, Watched}
 use Rattle.cdb.specs.Contents.{sources_left}
 use Rattle.cdb.specs.declared.contents.Sources.{Sources}
 use Rattle.cdb.specs.ForetoldCreate.{HonestCreate}
@@ -280,14 +280,14 @@ texts_are (suc (suc k)) = omega arith
 base_is_honest : (y : Machine) → (sources : Sources MemStore Reader Reader) → (store : MemStore)
     → sources.base ≡ Some store → empty_file ≡ contents store → sources.inputs.readers.items ≡ Shared ∷ Shared ∷ [] → sources.inputs.shared ≡ noted [] texts
     → HonestCreate (from y) with_base texts its (standard texts) (calls_of [] [])
-    (calls_of ((AtPlaces, first) ∷ [])
+    (calls_of ((Watched, first) ∷ [])
     (name_calls ((name_call.Input looks.No, temporary, [], []) ∷ (name_call.Input looks.No, temporary, [], []) ∷ (name_call.Same looks.No, temporary, first, []) ∷ [])))
     (left_of sources)
 unfolding with_base
 base_is_honest y sources store based has readers shared = record {
-  calls = (AtPlaces, first) ∷ [];
+  calls = (Watched, first) ∷ [];
   are = refl;
-  answered = subst (λ b. AreAnswered in_memory with_base ((AtPlaces, first) ∷ []) (if_some b)) (sym based) ((has, refl), tt);
+  answered = subst (λ b. AreAnswered in_memory with_base ((Watched, first) ∷ []) (if_some b)) (sym based) ((has, refl), tt);
   in_turn = tt;
   unread = fresh_is_unread texts;
   agrees = subst (λ r. Agrees (Some texts) (noted_feed r)) (sym shared) (more_agree {R = List ℕ} [] texts []);

@@ -118,6 +118,7 @@ Reader = NotedReader Unit
 abbrev of_disk : Systems OpenCalls MemStore Reader MemStore Reader Unit Unit
 of_disk = record {
   calls = λ calls. calls;
+  lacks = λ calls. ⊥;
   gives = λ name store. disk name ≡ Some (contents store);
   reads = λ name reader. ⊤;
   makes = λ name store. ⊤;
@@ -206,12 +207,12 @@ stats_are_honest = record {
 
 -- ---- what is known then
 
-module _ {O E : Type 0} (r : Raw Unit) (was now : NameCalls) (before after : Streams (Writer O) (Writer E)) (status : ℕ) where
+module _ {O E : Type 0} (r : Raw Unit) (was now : NameCalls) (had has : Type 0) (before after : Streams (Writer O) (Writer E)) (status : ℕ) where
   -- these words were run, all that was written was taken, and standard input reported nothing
   abbrev Ran : (words : List (List ℕ)) → OpenCalls → Back → Type 0
   Ran words calls left =
       IsTaken before.output after.output after.errors
-      × IsRun (record { files = files; raw = r }) (given_by words standard) (world_of [] was before) (world_of calls now after)
+      × IsRun (record { files = files; raw = r }) (given_by words standard) (world_of [] was had before) (world_of calls now has after)
       left status
 
   -- it came to this, or a failure was reported, and a prefix was written
@@ -224,8 +225,8 @@ module _ {O E : Type 0} (r : Raw Unit) (was now : NameCalls) (before after : Str
 
   came_to : (words : List (List ℕ)) (command : Asked) (input : List ℕ) (calls : OpenCalls) (left : Back) (o : Outcome) → plan_of words ≡ Ok command → AsksNoCreate (Ok command) → (foretell (Ok command) disk input).outcome ≡ o → Honest files disk input command standard [] calls left → Ran words calls left → CameTo o
   came_to words command input calls left o asked none is honest ran =
-      let old = world_of [] was before in
-      let new = world_of calls now after in
+      let old = world_of [] was had before in
+      let new = world_of calls now has after in
       let foretold = subst (λ p. IsForetold files (given_of p (explains_in words) standard) (written old) (taken new) left (IsTaken before.output after.output after.errors) status) asked ran.1.foretold in
       subst CameTo is (elim (foretold disk input ran.0 none honest) [
         | inl came ↦ inl (came.is_status, came.output)

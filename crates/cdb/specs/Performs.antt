@@ -1,5 +1,5 @@
 -- What a command does: the calls on files, in their order, and what it writes on its output.
-use Rattle.std.specs.Prelude.{ℕ, ◌≡◌, ◌⊎◌, Bool, true, false, List, [], map, option_map, string_bytes, Option, Some, Result, Ok, Err, ⊤}
+use Rattle.std.specs.Prelude.{ℕ, ◌≡◌, ◌⊎◌, Bool, true, false, List, [], map, option_map, string_bytes, Option, Some, Result, Ok, Err, IfErr, ⊤}
 use Rattle.std.specs.Io.KnownBytes.{Keeps, append_known}
 use Rattle.cdb_command.specs.Asked.{Asked, asked_in, has_wide_words}
 use Rattle.cdb_command.specs.Asked as asked
@@ -20,7 +20,8 @@ use Rattle.cdb_show.specs.declared.fault.Fault.{Fault}
 use Rattle.cdb_show.specs.declared.fault.Fault.TheVariants.{Output}
 use Rattle.cdb.specs.Creating.{Creates}
 use Rattle.cdb.specs.Machine.{Machine}
-use Rattle.cdb_system.specs.Causes.{Explains}
+use Rattle.cdb.specs.Reasons.{CanHaveNoFile, HasReason, calls_made, left_reasons}
+use Rattle.cdb_system.specs.Causes.{Explains, called_of}
 use Rattle.cdb_system.specs.Opening.{none_left}
 use Rattle.cdb_system.specs.State.{Failed, Given, Standard, State, calls_in, given_of, with_calls}
 use Rattle.cdb_system.specs.declared.left.Left.{Left}
@@ -115,7 +116,8 @@ pub record HandsOn (end final : Option (List ℕ)) (unwritten : Type 0)
   pub taken : (held ≡ []) ⊎ unwritten
   pub answered : (result ≡ answer) ⊎ (IsWhole answer × (result ≡ Err Output) × unwritten)
 
--- the command was performed, and what it wrote was handed on
+-- the command was performed, and what it wrote was handed on; a fault of a reader, a store or a name has its
+-- reason
 pub record Does {F I J M N R Y : Type 0} (machine : Machine F I J M N R Y)
     (given : Given Asked J) (old new : State Y) (left : Left F M I J) (unwritten : Type 0)
     (result : Result Unit Fault) : Type 0 where
@@ -124,6 +126,9 @@ pub record Does {F I J M N R Y : Type 0} (machine : Machine F I J M N R Y)
   pub performs : PerformsIn (has_wide_words given.asked) machine given old
       (record new { output = end }) left answer
   pub hands : HandsOn end new.output unwritten answer result
+  pub reason : IfErr result (HasReason (left_reasons machine given.input.feed
+      (calls_made (calls_in machine.files old) old.named)
+      (calls_made (calls_in machine.files new) new.named) left (CanHaveNoFile given.asked)))
 
 -- ---- only a create calls anything on names, and says anything before it ends: its duplicates
 abbrev pub IsUntouched : {T : Type 0} → Asked → (old new : T) → Type 0
@@ -163,12 +168,13 @@ pub record AsksFor {F I J M N R Y : Type 0} (machine : Machine F I J M N R Y)
     pub same : IsUntouched (asked_in command) old.named new.named
     pub more : List ℕ
     pub explains : Explains given.explained (asked_in command) result failed.output
-        (calls_in machine.files new) new.named more
+        (called_of (calls_in machine.files new) (machine.files.system.lacks new.opened) new.named
+        failed.copy) more
     pub says : Says result more before new.errors failed.errors
     pub is_status : status ≡ status_of command result
 
 -- from its words to its exit status: what was written, what standard output has of it, and what is
--- said on standard error; whether the one failed, or the other; and which files are handed back
+-- said on standard error; what failed of them, or of the calls on names; and which files are handed back
 abbrev pub Runs : {F I J M N R Y : Type 0} → Machine F I J M N R Y
     → Given (Result Asked Refused) J → (old new : State Y) → (final : Option (List ℕ)) → Left F M I J
     → Failed → (status : ℕ)

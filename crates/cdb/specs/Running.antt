@@ -19,16 +19,24 @@ abbrev pub given_by : {J : Type 0} → (words : List (List ℕ)) → (input : St
     → Given (Result Asked Refused) J
 given_by words input = given_of (plan_of words) (explains_in words) input
 
--- the system, the calls on names, and both streams with what they hold
-pub record World (Y O E : Type 0) : Type 0 where
+-- the system, the calls on names, that memory for a copy of the name was refused which one of them refused
+-- last, and both streams with what they hold
+pub record World (Y O E : Type 0) : Type 1 where
   pub system : Y
   pub named : NameCalls
+  pub unkept : Type 0
   pub output : Writer O
   pub errors : Writer E
 
-abbrev pub world_of : {Y O E : Type 0} → Y → NameCalls → Streams (Writer O) (Writer E) → World Y O E
-world_of system named streams =
-    record { system = system; named = named; output = streams.output; errors = streams.errors }
+abbrev pub world_of : {Y O E : Type 0} → Y → NameCalls → (unkept : Type 0)
+    → Streams (Writer O) (Writer E) → World Y O E
+world_of system named unkept streams = record {
+  system = system;
+  named = named;
+  unkept = unkept;
+  output = streams.output;
+  errors = streams.errors;
+}
 
 -- with all that was written, of which a stream may hold some; and with what the writers took
 abbrev pub written : {Y O E : Type 0} → World Y O E → State Y
@@ -42,7 +50,7 @@ pub record Answers {F I J M N R Y O E : Type 0} (machine : Machine F I J M N R Y
     (given : Given (Result Asked Refused) J) (old new : World Y O E)
     (left : Left F M I J) (status : ℕ) : Type 0 where
   pub runs : Runs machine given (written old) (written new) (writer_bytes new.output) left
-      (failed_of (OutputFailed new.output) (OutputFailed new.errors)) status
+      (failed_of (OutputFailed new.output) (OutputFailed new.errors) new.unkept) status
   pub handed : held_by old.output ≡ [] → HasHandedOn new.output
 
 -- and so were the lines; and if all was taken, what the oracle foretold came true

@@ -1,6 +1,9 @@
 // What the head of a base says, before anything is made.
 ghost use Rattle.cdb_show.specs.Views.Output.{OutputSays};
 ghost use Rattle.cdb.specs.Creating.{SeesBase, SeesHead};
+ghost use Rattle.cdb.specs.Reasons.{HasReason, store_reasons};
+ghost use Rattle.cdb_system.specs.Answered.{if_some};
+ghost use Rattle.std.specs.Prelude.{IfErr, [], ◌∷◌};
 
 use cdb_form::Width;
 use cdb_read::Reader;
@@ -12,6 +15,7 @@ use cdb_tool::Fault;
 #[inline(never)]
 fn see_head<L: Width, F: Store>(base: F) -> (F, Result<(), Fault>)
     ensures sees { SeesHead L.WORD F.Store base result.0 result.1 }
+    ensures reason { IfErr result.1 (HasReason (store_reasons F.Store (result.0 ∷ []) ⊥)) }
     ensures output { OutputSays ⊥ result.1 }
 {
     let reader = match Reader::<F, L>::open(base) {
@@ -33,6 +37,7 @@ fn see_head<L: Width, F: Store>(base: F) -> (F, Result<(), Fault>)
 /// `Read(Device)`: its store failed.
 pub(crate) fn see_base<L: Width, F: Store>(base: Option<F>) -> (Option<F>, Result<(), Fault>)
     ensures sees { SeesBase L.WORD F.Store base result.0 result.1 }
+    ensures reason { IfErr result.1 (HasReason (store_reasons F.Store (if_some result.0) ⊥)) }
     ensures output { OutputSays ⊥ result.1 }
 {
     match base {

@@ -1,10 +1,11 @@
 // What builds the database of what was opened.
-ghost use Rattle.std.specs.Prelude.{◌≡◌, ◌<◌, OnOk};
+ghost use Rattle.std.specs.Prelude.{◌≡◌, ◌<◌, OnOk, IfErr, ⊤};
 ghost use Rattle.cdb_show.specs.Views.Inputs.{AreInPlace};
 ghost use Rattle.cdb_show.specs.Views.Output.{OutputSays};
 ghost use Rattle.cdb.specs.Agreeing.{OfAgreeing};
 ghost use Rattle.cdb.specs.Creating.{HasCauseInStore, IsBufferedRun, IsCaused, IsDatabase, IsMakeRun};
 ghost use Rattle.cdb.specs.Contents.{making_of};
+ghost use Rattle.cdb.specs.Reasons.{HasReason, run_reasons};
 
 use crate::contents::{Contents, ContentsOf, Sources, SourcesOf};
 use cdb_form::{PIPE, Sink, Width};
@@ -32,6 +33,8 @@ where
         (making_of L.WORD L.GREATEST contents.entry inputs) result.1.base
         (S.image result.0) (E.contents errors.old) (E.contents errors.new) result.2) }
     ensures failed { HasCauseInStore S.Store store result.0 result.2 }
+    ensures reason { IfErr result.2 (HasReason (run_reasons Y.File.Store Y.Stream.feed Y.Input.feed
+        result.1 (S.failures store < S.failures result.0) ⊥)) }
     ensures settled { OnOk result.2 (S.settled result.0) }
     ensures placed { AreInPlace contents.entry.sources.inputs.readers.items
         result.1.inputs.readers.items }
@@ -84,7 +87,8 @@ where
         IsBufferedRun Y.File.Store (making_of L.WORD L.GREATEST b.contents inputs) back.base images
         (E.contents told) (E.contents said) made)
         × AreInPlace b.contents.sources.inputs.readers.items back.inputs.readers.items
-        × OutputSays (E.failed said) made };
+        × OutputSays (E.failed said) made
+        × IfErr made (HasReason (run_reasons Y.File.Store Y.Stream.feed Y.Input.feed back ⊤ ⊥)) };
 
     ghost gives_up = { λ b back. back ≡ b.contents.sources };
 

@@ -12,6 +12,10 @@ ghost use Rattle.cdb_system.specs.Files.{files_of};
 ghost use Rattle.cdb.specs.Machine.{machine_of};
 ghost use Rattle.cdb_system.specs.State.{standard_of, state_of};
 ghost use Rattle.cdb.specs.Contents.{making_of, wanted_of};
+ghost use Rattle.cdb.specs.Reasons.{HasReason, HasRefusedFile, calls_made, left_reasons, run_reasons};
+ghost use Rattle.cdb.specs.Reasons.{store_reasons};
+ghost use Rattle.cdb_names.specs.Replacing.{IsNoName};
+ghost use Rattle.cdb_system.specs.Answered.{if_some};
 
 use crate::base_head::see_base;
 use crate::building::make_in;
@@ -68,6 +72,13 @@ where
         (E.contents streams.old.errors))
         (state_of (Y.calls system.new) (Y.Names.calls names.new) (O.contents streams.new.output)
         (E.contents streams.new.errors)) result.0 result.1 }
+    ensures reason { IfErr result.1 (HasReason (left_reasons (machine_of Y.File.Store Y.Made.Store Y.Stream.feed Y.System
+        Y.Names.File.RawFile) Y.Input.feed
+        (calls_made (Y.calls system.old) (Y.Names.calls names.old))
+        (calls_made (Y.calls system.new) (Y.Names.calls names.new)) result.0
+        (IsNoName creation.entry.name.now
+        ⊎ (temporary_of creation.entry.name.now (option_map string_bytes creation.entry.temporary.now)
+        ≡ creation.entry.name.now)))) }
     ensures output { OutputSays (O.failed streams.new.output ⊎ E.failed streams.new.errors)
         result.1 }
 {
@@ -131,6 +142,8 @@ where
         (files_of Y.File.Store Y.Made.Store Y.Stream.feed Y.System)
         (option_map string_bytes creation.entry.base.now) (map string_bytes creation.entry.inputs.now)
         (Y.calls system.old) (Y.calls system.new) u.base u.fault) }
+    ensures reason { IfErr result (λ u. HasReason (store_reasons Y.File.Store (if_some u.base)
+        (HasRefusedFile (Y.calls system.old) (Y.calls system.new))) u.fault) }
     ensures output { IfErr result (λ u. IsOfNoOutput u.fault) }
 {
     let base = match open_base::<Y>(system, creation.base) {
@@ -170,6 +183,8 @@ where
         (E.contents streams.old.errors) (E.contents streams.new.errors) result.1) }
     ensures placed { AreInPlace contents.entry.sources.inputs.readers.items
         result.0.inputs.readers.items }
+    ensures reason { IfErr result.1 (HasReason (run_reasons Y.File.Store Y.Stream.feed Y.Input.feed
+        result.0 ⊥ ⊥)) }
     ensures output { OutputSays (O.failed streams.new.output ⊎ E.failed streams.new.errors)
         result.1 }
 {

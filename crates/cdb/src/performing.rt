@@ -3,9 +3,10 @@ ghost use Rattle.cdb_show.specs.Views.Output.{OutputSays};
 ghost use Rattle.cdb_show.specs.Command.{asked_in, FitsIn};
 ghost use Rattle.cdb_form.specs.Format.Pair.{head_size};
 ghost use Rattle.cdb_show.specs.Command.{usage_text, version_text};
-ghost use Rattle.std.specs.Prelude.{◌⊎◌, ◌≡◌, map, string_bytes};
+ghost use Rattle.std.specs.Prelude.{◌⊎◌, ◌≡◌, IfErr, map, string_bytes};
 ghost use Rattle.cdb.specs.Machine.{machine_of};
 ghost use Rattle.cdb.specs.Performs.{IsShown, IsUntouched, Performs};
+ghost use Rattle.cdb.specs.Reasons.{CanHaveNoFile, HasReason, IfCreate, calls_made, left_reasons};
 ghost use Rattle.cdb_system.specs.Reading.{Tells};
 ghost use Rattle.cdb_system.specs.State.{standard_of, state_of};
 
@@ -78,6 +79,12 @@ where
         (E.contents streams.old.errors))
         (state_of system.new (Y.Names.calls names.new) (O.contents streams.new.output)
         (E.contents streams.new.errors)) result.0 result.1 }
+    ensures reason { IfCreate (asked_in request.entry.command.now) (IfErr result.1 (HasReason
+        (left_reasons (machine_of Y.File.Store Y.Made.Store Y.Stream.feed Y.System
+        Y.Names.File.RawFile) Y.Input.feed
+        (calls_made (Y.calls system.old) (Y.Names.calls names.old))
+        (calls_made (Y.calls system.new) (Y.Names.calls names.new)) result.0
+        (CanHaveNoFile (asked_in request.entry.command.now))))) }
     ensures silent { IsUntouched (asked_in request.entry.command.now)
         (E.contents streams.old.errors) (E.contents streams.new.errors) }
     ensures same { IsUntouched (asked_in request.entry.command.now)

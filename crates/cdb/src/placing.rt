@@ -1,5 +1,5 @@
 // A database made under its name: in place, or in a temporary file that replaces it.
-ghost use Rattle.std.specs.Prelude.{◌≡◌, ◌∷◌, [], true, false, map, option_map, string_bytes};
+ghost use Rattle.std.specs.Prelude.{◌≡◌, ◌⊎◌, ◌∷◌, [], true, false, map, option_map, string_bytes};
 ghost use Rattle.std.specs.Prelude.{IfOk, IfErr, OnOk, List, Option, ℕ};
 ghost use Rattle.cdb_show.specs.Views.Inputs.{AreInPlace};
 ghost use Rattle.cdb_show.specs.Views.Output.{OutputSays};
@@ -15,6 +15,10 @@ ghost use Rattle.cdb_system.specs.State.{state_of};
 ghost use Rattle.cdb_names.specs.declared.answer.Answer.TheVariants.{No, Yes};
 ghost use Rattle.cdb_names.specs.declared.name_trace.NameCall.TheVariants.{Input, Same};
 ghost use Rattle.cdb.specs.Contents.{making_of, wanted_of};
+ghost use Rattle.cdb.specs.Machine.{machine_of};
+ghost use Rattle.cdb.specs.Reasons.{HasFailedFile, HasReason, HasRefusedName, calls_made, left_reasons};
+ghost use Rattle.cdb.specs.Reasons.{run_reasons};
+ghost use Rattle.cdb_names.specs.Replacing.{IsNoName};
 
 use crate::building::Building;
 use crate::contents::{ContentsOf, SourcesOf};
@@ -190,6 +194,10 @@ where
         (state_of (Y.calls system.new) (Y.Names.calls names.new) output (E.contents errors.new))
         result.0 result.1)) }
     ensures opens { OpensNoMore (Y.calls system.old) (Y.calls system.new) }
+    ensures reason { IfErr result.1 (HasReason (left_reasons (machine_of Y.File.Store Y.Made.Store Y.Stream.feed Y.System
+        Y.Names.File.RawFile) Y.Input.feed
+        (calls_made (Y.calls system.old) (Y.Names.calls names.old))
+        (calls_made (Y.calls system.new) (Y.Names.calls names.new)) result.0 ⊥)) }
     ensures output { OutputSays (E.failed errors.new) result.1 }
 {
     if may_be_read(names, creation.name, creation) {
@@ -265,6 +273,11 @@ where
         result.0.base result.1) }
     ensures placed { AreInPlace contents.entry.sources.inputs.readers.items
         result.0.inputs.readers.items }
+    ensures reason { IfErr result.1 (HasReason (run_reasons Y.File.Store Y.Stream.feed Y.Input.feed
+        result.0
+        (HasFailedFile Y.Names.File.RawFile (Y.Names.calls names.old) (Y.Names.calls names.new))
+        (HasRefusedName (Y.Names.calls names.old) (Y.Names.calls names.new)
+        ⊎ IsNoName creation.entry.name.now ⊎ (temporary.now ≡ creation.entry.name.now)))) }
     ensures output { OutputSays (E.failed errors.new) result.1 }
 {
     if may_be_read(names, temporary, creation) {

@@ -3,7 +3,7 @@ ghost use Rattle.std.specs.Prelude.{◌≡◌, ◌⊎◌, Err, map, string_bytes
 ghost use Rattle.cdb_show.specs.Command.{asked_in, has_wide_words, IsInRange};
 ghost use Rattle.cdb_show.specs.Views.Output.{output_bytes, HasHandedOn, OutputFailed, OutputSays, writer_bytes};
 ghost use Rattle.cdb_system.specs.CauseLine.{more_of};
-ghost use Rattle.cdb_system.specs.Causes.{Explains};
+ghost use Rattle.cdb_system.specs.Causes.{Explains, called_of};
 ghost use Rattle.cdb.specs.Machine.{machine_of};
 ghost use Rattle.cdb.specs.Performs.{Does, HandsOn, IsUntouched};
 ghost use Rattle.cdb.specs.Running.{Answers, IsRun, given_by, world_of};
@@ -35,8 +35,9 @@ where
     ensures { IsRun (machine_of Y.File.Store Y.Made.Store Y.Stream.feed Y.System
         Y.Names.File.RawFile)
         (given_by (map string_bytes words.items) (standard_of Y.Input.feed input))
-        (world_of system.old (Y.Names.calls names.old) streams.old)
-        (world_of system.new (Y.Names.calls names.new) streams.new) result.0 result.1 }
+        (world_of system.old (Y.Names.calls names.old) (Y.Names.lacks names.old) streams.old)
+        (world_of system.new (Y.Names.calls names.new) (Y.Names.lacks names.new) streams.new)
+        result.0 result.1 }
 {
     let (left, status) = answer::<Y, O, E>(alloc, system, names, words, input, streams);
     let _ = streams.errors.flush_whole();
@@ -60,8 +61,9 @@ where
     ensures { Answers (machine_of Y.File.Store Y.Made.Store Y.Stream.feed Y.System
         Y.Names.File.RawFile)
         (given_by (map string_bytes words.items) (standard_of Y.Input.feed input))
-        (world_of system.old (Y.Names.calls names.old) streams.old)
-        (world_of system.new (Y.Names.calls names.new) streams.new) result.0 result.1 }
+        (world_of system.old (Y.Names.calls names.old) (Y.Names.lacks names.old) streams.old)
+        (world_of system.new (Y.Names.calls names.new) (Y.Names.lacks names.new) streams.new)
+        result.0 result.1 }
 {
     let is_explained = explains(words.as_slice());
     let command = match plan_explained(alloc, words.as_slice()) {
@@ -105,8 +107,9 @@ fn cause_of<'a, Y>(
 where
     Y: System,
     ensures { Explains request.entry.lines.now.counts (asked_in request.entry.command.now)
-        (Err fault.now) (unwritten ≡ true) (Y.calls system.now) (Y.Names.calls names.now)
-        (more_of result) }
+        (Err fault.now) (unwritten ≡ true)
+        (called_of (Y.calls system.now) (Y.lacks system.now) (Y.Names.calls names.now)
+        (Y.Names.lacks names.now)) (more_of result) }
 {
     if !request.lines.counts {
         return None;

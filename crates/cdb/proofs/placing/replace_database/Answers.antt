@@ -1,8 +1,13 @@
-use Rattle.cdb.proofs.Words.{inr, making_of, on_ok_weaker, refl, rules, same_places}
+use Rattle.cdb.proofs.Words.{inr, making_of, on_ok_weaker, refl, rules, same_places, ⊤}
 use Rattle.cdb_names.proofs.Replacing.{weaker_replacing, weaker_sure}
 use Rattle.cdb.proofs.Agreeing.{Tells, of_contents, told_placed}
 use Rattle.cdb.proofs.Asks.{ok_and}
 use Rattle.cdb.proofs.Replaced.{replaced_says, weaker_moments}
+use Rattle.std.proofs.Common.{inl, map, option_map, string_bytes, ◌≡◌, ◌⊎◌}
+use Rattle.cdb_names.specs.Replacing.{IsNoName}
+use Rattle.cdb.specs.Reasons.{HasFailedFile, HasRefusedName, run_reasons}
+use Rattle.cdb.proofs.NameReasons.{asked_all, failed_then, finds_one, name_then, replaced_reason}
+use Rattle.cdb.proofs.Reasons.{each_weaker}
 use Rattle.cdb.proofs.placing.replace_database.Goals as goal
 
 pub returns-clause-replaces : goal.returns-clause-replaces
@@ -39,3 +44,23 @@ returns-clause-placed g c =
 pub returns-clause-output : goal.returns-clause-output
 returns-clause-output g c =
     rw c.answer_to_program.ensures (replaced_says g.E.Sink.failed g.Y.Names.File.RawFile _ (Tells g.Y.Stream.Feeds.feed g.Y.Input.Feeds.feed g.E.Sink.contents g.E.Sink.failed g.Y.File.Store g.Y.Names.File.RawFile (making_of g.L.Width.WORD g.L.Width.GREATEST c.args.contents) c.args.contents.sources) _ _ _ _ c.replace_file-sources.result.0 _ _ c.replace_file-sources.result.1 (λ images made told. told.2) c.replace_file-sources.ensures.told)
+
+pub returns-then-may_be_read-clause-reason : goal.returns-then-may_be_read-clause-reason
+returns-then-may_be_read-clause-reason g c =
+    inl (finds_one c.args.temporary.now (option_map string_bytes c.args.creation.base.now) (map string_bytes c.args.creation.inputs.now) (g.Y.Names.Names.calls c.args.names.now) (g.Y.Names.Names.calls c.may_be_read.new.names) (search rules))
+
+pub returns-clause-reason : goal.returns-clause-reason
+returns-clause-reason g c =
+    let e = c.replace_file-sources.ensures in
+    let sources = c.replace_file-sources.result.0 in
+    let answer = c.replace_file-sources.result.1 in
+    let old = g.Y.Names.Names.calls c.args.names.now in
+    let mid = g.Y.Names.Names.calls c.may_be_read.new.names in
+    let new = g.Y.Names.Names.calls c.replace_file-sources.new.names in
+    let asked = asked_all c.args.temporary.now (option_map string_bytes c.args.creation.base.now) (map string_bytes c.args.creation.inputs.now) old mid (c.may_be_read.ensures.others (search rules)) in
+    let why = λ (made : Type 0). run_reasons g.Y.File.Store g.Y.Stream.Feeds.feed g.Y.Input.Feeds.feed sources made (HasRefusedName old new ⊎ IsNoName c.args.creation.name.now ⊎ (c.args.temporary.now ≡ c.args.creation.name.now)) in
+    rw c.answer_to_program.ensures
+    (replaced_reason g.Y.Names.File.RawFile c.args.temporary.now c.args.creation.name.now mid new (why (HasFailedFile g.Y.Names.File.RawFile old new)) (λ none. inr none) (λ refused. inl (name_then old mid new asked.0 asked.1 refused)) (failed_then g.Y.Names.File.RawFile old mid new asked.0 asked.1)
+    _ (Tells g.Y.Stream.Feeds.feed g.Y.Input.Feeds.feed g.E.Sink.contents g.E.Sink.failed g.Y.File.Store g.Y.Names.File.RawFile (making_of g.L.Width.WORD g.L.Width.GREATEST c.args.contents) c.args.contents.sources) sources _ _
+    (λ images built told. each_weaker (run_reasons g.Y.File.Store g.Y.Stream.Feeds.feed g.Y.Input.Feeds.feed sources ⊤ ⊥) (why ⊤) built (λ r. r) (λ s. s) (λ m. m) (λ n. absurd n) told.3)
+    answer e.err e.build e.told)

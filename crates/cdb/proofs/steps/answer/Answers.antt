@@ -35,7 +35,7 @@ returns-in-Ok-performed g c = record {
     silent = c.perform-left.ensures.silent;
     same = c.perform-left.ensures.same;
     more = [];
-    explains = none_said _ _ _ _ _ _;
+    explains = none_said _ _ _ _ _;
     says = Keeps-refl (output_bytes c.perform-left.new.streams.errors);
     is_status = refl;
   });

@@ -1,11 +1,13 @@
-use Rattle.cdb.proofs.Words.{IsDatabase, Keeps-refl, ap, arith, inl, inputs_of, inr, making_of, refl, same_places, take, ◌<◌, ◌∙◌, ◌≡◌}
+use Rattle.cdb.proofs.Words.{IsDatabase, Keeps-refl, ap, arith, inl, inputs_of, inr, making_of, refl, same_places, take, ⊤, ◌<◌, ◌∙◌, ◌≡◌}
 use Rattle.std.proofs.lemmas.Result.{IfErr-weaker, on_ok_weaker}
 use Rattle.cdb_store.specs.BufferedStore.{bytes_of}
 use Rattle.cdb_store.specs.Images.{overwrite}
 use Rattle.cdb_store.proofs.OverLemmas.{over_emptied}
 use Rattle.cdb_names.specs.Unsynced.{inner_of}
+use Rattle.cdb.specs.Reasons.{run_reasons}
 use Rattle.cdb.proofs.Agreeing.{built_of_all}
 use Rattle.cdb.proofs.Databases.{database_made, run_under}
+use Rattle.cdb.proofs.Reasons.{each_weaker}
 use Rattle.cdb.proofs.building.BuildingBuilder.build.Goals as goal
 
 pub returns-in-Ok-clause-built : goal.returns-in-Ok-clause-built
@@ -40,7 +42,8 @@ returns-in-Ok-clause-tells g c =
           (on_ok_weaker c.make_in-buffered.result.2 (λ settled. (over_emptied left.pos (bytes_of left) (g.S.Store.image left.inner.inner) (ap (λ n. take n left.buffer.items) settled.0)).no_other) run.settled))),
       run.placed,
       run.output,
+      each_weaker (run_reasons g.Y.File.Store g.Y.Stream.Feeds.feed g.Y.Input.Feeds.feed back (g.S.Store.failures c.in-Ok.buffered.inner.inner < g.S.Store.failures left.inner.inner) ⊥) (run_reasons g.Y.File.Store g.Y.Stream.Feeds.feed g.Y.Input.Feeds.feed back ⊤ ⊥) c.make_in-buffered.result.2 (λ r. r) (λ s. s) (λ m. tt) (λ n. n) run.reason,
     )
 
 pub returns-in-Err-clause-tells : goal.returns-in-Err-clause-tells
-returns-in-Err-clause-tells g c = rw c.into_sources-sources.ensures ((λ each bytes agree. inr (refl, refl, Keeps-refl _)), same_places c.args.self.contents.sources.inputs.readers.items, tt)
+returns-in-Err-clause-tells g c = rw c.into_sources-sources.ensures ((λ each bytes agree. inr (refl, refl, Keeps-refl _)), same_places c.args.self.contents.sources.inputs.readers.items, tt, tt)
