@@ -168,6 +168,14 @@ CAUSES = {
         111,
         {"x": ONE_FILE},
     ),
+    "keys with a fault in a second file": case(
+        ["-v", "-q", "-i", "x", "m", "n"],
+        b"",
+        b"+3,5:one->Hello\n",
+        [f"input 2: byte 7: {NO_RECORD}", "n: line 2"],
+        111,
+        {"x": ONE_FILE, "m": b"+3:one\n\n", "n": b"+3:two\n*"},
+    ),
     "keys of many lines": told(
         ["-q", "-i", "x", "m"],
         f"input 1: byte 80000: {NO_RECORD}",

@@ -266,6 +266,7 @@ ROWS = {
     "-b -r before one long record": amends("-cr", before_long, distinct),
     "-b -u of one hash": amends("-cu", alike, alike_again),
     "-b -r of one hash": amends("-cr", alike, alike_again),
+    "-b, removal of the one key": amends("-c", same, lambda _: removals(same(1))),
     "-b, removals of one hash": amends("-c", alike, lambda count: removals(alike(count))),
     "-b -u of one hash after a long record": amends("-cu", after_long, alike_again),
     "-b, removals of one hash after a long record": amends("-c", after_long, lambda count: removals(alike(count))),
