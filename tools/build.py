@@ -70,6 +70,8 @@ BYTES_A_SECOND = 220
 MOST_JOBS = 2
 # By how much two jobs shorten the longest chain of crates, and how much of the processors' time all of them use.
 CHAIN_SPEED, USED = 1.6, 0.85
+# How much of a crate's time the checks of its functions take, and from which part of the work on its pace is known.
+OF_FUNCTIONS, KNOWN = 0.9, 0.1
 # How many seconds pass between two lines where no terminal is.
 QUIET_SECONDS = 60
 # How many seconds a build that is stopped waits for its trees.
@@ -121,6 +123,13 @@ def is_program(trees, crate):
     return os.path.isfile(os.path.join(trees.folder(crate), "src", "main.rt"))
 
 
+def at_pace(left, whole, seconds):
+    """How long the rest of some work takes, if `whole` of it was reckoned and what is done took so many seconds: as long
+    as was reckoned, or longer if the machine is slower."""
+    done = whole - left
+    return left * max(1, seconds / done) if done > KNOWN * whole else left
+
+
 class Progress:
     """How far the proofs are, on standard output. `works` is how many seconds each crate takes, and `chains` how many
     the longest chain of crates that begins with it."""
@@ -129,7 +138,8 @@ class Progress:
         self.works, self.chains = works, chains
         self.functions = {}
         self.proved = set()
-        self.said = time.monotonic()
+        self.began = self.said = time.monotonic()
+        self.whole = self.reckoned()
         self.lock = threading.Lock()
 
     def note(self, crate, done, of):
@@ -154,18 +164,22 @@ class Progress:
             print("\r\033[K", end="")
 
     def minutes_left(self):
-        """About how many minutes are left, as long as each crate took at the last release."""
+        """About how many minutes are left."""
+        return at_pace(self.reckoned(), self.whole, time.monotonic() - self.began) / 60
+
+    def reckoned(self):
+        """How many seconds are left, as long as each crate took at the last release."""
         left, longest = 0, 0
         for it in self.works.keys() - self.proved:
             done, of = self.functions.get(it, (0, 1))
-            saved = self.works[it] * done / max(1, of)
+            saved = self.works[it] * OF_FUNCTIONS * done / max(1, of)
             left, longest = left + self.works[it] - saved, max(longest, self.chains[it] - saved)
-        return max(left / processors() / USED, longest / CHAIN_SPEED) / 60
+        return max(left / processors() / USED, longest / CHAIN_SPEED)
 
     def say(self):
         """Says how many functions are proved, and how long the rest takes: at once on a terminal, else once a minute."""
         found = [f"{crate} {done} of {of} functions" for crate, (done, of) in self.functions.items()]
-        text = f"{', '.join(found)}; about {self.minutes_left():.0f} minutes left"
+        text = f"{', '.join(found)}; about {self.minutes_left():.1f} minutes left"
         if sys.stdout.isatty():
             print(f"\r\033[K  {text}"[: shutil.get_terminal_size().columns + 4], end="", flush=True)
         elif time.monotonic() - self.said >= QUIET_SECONDS:

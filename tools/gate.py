@@ -4,12 +4,12 @@
     tools/gate.py
 
 At the top of the repository. First tools/unproved.py runs the tests of the crates NAME_tests, compiled with checks and
-without a proof. The checker's own gate, `rt ci`, then proves each other crate from nothing, on a copy of the files that git
-tracks, as they are now, without the wrong bodies. If the environment's TESTS is `proved`, it proves the crates of tests too,
+without a proof. Beside it the checker's own gate, `rt ci`, proves each other crate from nothing, on a copy of the files that
+git tracks, as they are now, without the wrong bodies: a proof leaves processors free, since a crate waits for those below it. If the environment's TESTS is `proved`, it proves the crates of tests too,
 and runs their tests once more. What it leaves is tested: the program is linked of its object, and the C library made over its
 libraries, in bin/tested. If an earlier run on this machine proved the program, there is no object, and its crate alone is proved
-again over these libraries. Then tools/wrong.py tries the wrong bodies that are not known as refused, and at last tests/run.py
-runs.
+again over these libraries. Then tools/wrong.py tries the wrong bodies that are not known as refused, over these libraries too,
+and beside it tests/run.py runs: most of its tests use one processor.
 
 A line a minute says what is done and about how long the rest takes, on a terminal one line that is rewritten. In the
 end a table has the time of each part, and below it is each part of the tests that was left out, and each crate and wrong
@@ -30,7 +30,7 @@ import sys
 import threading
 import time
 
-from build import BYTES_A_SECOND, GATE_DISK, QUIET_SECONDS, checker, interrupt, missing, processors, show_end, work_of
+from build import BYTES_A_SECOND, GATE_DISK, QUIET_SECONDS, at_pace, checker, interrupt, missing, processors, show_end, work_of
 from edits import FOLDER, edits_of
 from link import links_statically
 from trees import KEPT, Trees, alone_now, files_of, lines_of, read
@@ -116,8 +116,10 @@ def begin():
 class Part:
     """A part of the gate: a command, what it says, and the time that it takes."""
 
-    def __init__(self, name, words, folder=".", log=None, steps=None):
+    def __init__(self, name, words, folder=".", log=None, steps=None, shows=lambda line: True, holds=0):
         self.name, self.log, self.steps = name, log, steps
+        # Which of its lines are to be seen, and how many of the last are not shown.
+        self.shows, self.holds = shows, holds
         self.began, self.wall, self.work, self.status = time.monotonic(), 0, 0, None
         # The steps that are done, by what the lines named them, the last line of one, and the lines to be shown.
         self.done, self.step, self.unseen, self.last = set(), None, [], ""
@@ -187,10 +189,10 @@ class Gate:
     def progress(self, part):
         """How far a part is."""
         if part.name == "rt ci":
-            left = [it for it in self.crates if it not in part.done]
-            work = sum(work_of(self.trees.folder(it)) for it in left) / BYTES_A_SECOND
-            minutes = work / processors() / USED / 60
-            return f"rt ci: {len(part.done)} of {len(self.crates)} crates proved, about {minutes:.0f} minutes left of it"
+            left, whole = (sum(work_of(self.trees.folder(it)) for it in self.crates if it not in done) for done in (part.done, ()))
+            pace = BYTES_A_SECOND * processors() * USED
+            minutes = at_pace(left / pace, whole / pace, time.monotonic() - part.began) / 60
+            return f"rt ci: {len(part.done)} of {len(self.crates)} crates proved, about {minutes:.1f} minutes left of it"
         if part.name == OF_CRATES:
             return f"{OF_CRATES}: those of {len(part.done)} of {len(self.of_tests)} crates have run"
         if part.name == BODIES:
@@ -211,14 +213,14 @@ class Gate:
             print(text, flush=True)
             self.said = time.monotonic()
 
-    def wait(self, *parts, shows=lambda line: True, holds=0):
-        """Waits for parts, and shows those of their lines that are to be seen, but so many of the last."""
+    def wait(self, *parts):
+        """Waits for parts, and shows those of their lines that are to be seen."""
         while True:
             running = [it for it in parts if it.is_running()]
             for it in parts:
-                while len(it.unseen) > holds:
+                while len(it.unseen) > it.holds:
                     line = it.unseen.pop(0)
-                    if shows(line):
+                    if it.shows(line):
                         self.show(line)
             if not running:
                 return
@@ -267,11 +269,13 @@ class Gate:
             self.show(it)
         self.failed += len(lacking) > 0
 
-    def run_tests(self):
-        """Runs the tests of the crates of tests, which are not proved for that."""
+    def run_crates(self):
+        """Begins the tests of the crates of tests, which are not proved for that."""
         words = [sys.executable, os.path.join(TOOLS, "unproved.py")]
-        tests = self.begin(OF_CRATES, words, log="bin/unproved.log", steps=RAN)
-        self.wait(tests, shows=self.has_failed)
+        return self.begin(OF_CRATES, words, log="bin/unproved.log", steps=RAN, shows=self.has_failed)
+
+    def count_crates(self, tests):
+        """Takes how many of these passed and failed: each crate must have run, and have a floor."""
         self.passed += self.count(tests, sum(it for name, it in self.floors.items() if is_of_tests(name)))
         lacking = [f"the tests of {it} did not run" for it in self.of_tests if it not in tests.done and tests.counted()[1] == 0]
         lacking += [f"{it} has no floor" for it in self.of_tests if it not in self.floors]
@@ -279,10 +283,12 @@ class Gate:
         self.lack(lacking)
 
     def prove(self, copy, files):
-        """Proves all from nothing, of these files with their sums."""
+        """Begins to prove all from nothing, of these files."""
         copy_sources(self.top, copy, files, [it for it in self.of_tests if it not in self.crates])
-        ci = self.begin("rt ci", [checker(), "ci"], folder=copy, log="bin/gate.log", steps=PROVED)
-        self.wait(ci, shows=self.is_wrong)
+        return self.begin("rt ci", [checker(), "ci"], folder=copy, log="bin/gate.log", steps=PROVED, shows=self.is_wrong)
+
+    def count_proved(self, ci, files):
+        """Takes how many crates were proved: each, of these files with their sums."""
         self.count(ci, len(self.crates))
         # A crate that failed is named by its own line.
         lacking = [f"{it} was not proved" for it in self.crates if it not in ci.done and ci.counted()[1] == 0]
@@ -317,19 +323,20 @@ class Gate:
         self.wait(build)
         return build.status == 0
 
-    def refuse(self):
-        """Tries the wrong bodies that are not known as refused."""
-        words = [sys.executable, os.path.join(TOOLS, "wrong.py")]
-        bodies = self.begin(BODIES, words, log="bin/bodies.log", steps=TRIED)
-        self.wait(bodies, shows=lambda line: self.is_wrong(line) or line.startswith("warning: "))
-        self.count(bodies, max(len(self.bodies), self.floors[BODIES]))
+    def try_bodies(self, copy):
+        """Begins to try the wrong bodies that are not known as refused, over the libraries that `rt ci` left in the copy."""
+        words = [sys.executable, os.path.join(TOOLS, "wrong.py"), "--over", copy]
+        is_shown = lambda line: self.is_wrong(line) or line.startswith("warning: ")
+        return self.begin(BODIES, words, log="bin/bodies.log", steps=TRIED, shows=is_shown)
 
     def test(self, place):
-        """Runs the tests on what is built in a folder, and counts how many passed and failed."""
+        """Begins the tests on what is built in a folder."""
         words = [sys.executable, os.path.join("tests", "run.py"), os.path.join(place, "cdb"), "--gate"]
-        part = self.begin("tests", words, log="bin/tests.log", steps=DONE)
         # The counts are the last line of all.
-        self.wait(part, shows=self.is_of_now, holds=1)
+        return self.begin("tests", words, log="bin/tests.log", steps=DONE, shows=self.is_of_now, holds=1)
+
+    def count_tests(self, part):
+        """Counts how many tests passed and failed."""
         if not COUNTED.match(part.last):
             self.show(part.last)
         passed, failed = part.counted()
@@ -357,18 +364,22 @@ class Gate:
     def run(self, copy):
         """Runs the gate, and counts how many passed and failed."""
         files = sources_of(self.top)
-        self.run_tests()
         try:
-            self.prove(copy, files)
+            crates, ci = self.run_crates(), self.prove(copy, files)
+            self.wait(crates, ci)
+            self.count_crates(crates)
+            self.count_proved(ci, files)
             place = self.take(copy)
+            if place is None and not self.build():
+                self.failed += 1
+                return
+            bodies, tests = self.try_bodies(copy), self.test(place or BUILT)
+            self.wait(bodies, tests)
         finally:
             # The checker takes a list of crates below the top for a mistake.
             shutil.rmtree(copy, ignore_errors=True)
-        if place is None and not self.build():
-            self.failed += 1
-            return
-        self.refuse()
-        self.test(place or BUILT)
+        self.count(bodies, max(len(self.bodies), self.floors[BODIES]))
+        self.count_tests(tests)
 
 
 def is_of_tests(name):

@@ -1,13 +1,15 @@
 #!/usr/bin/env python3
-"""Tries wrong bodies over the sources of the crates below: the prover must refuse each, by its clause.
+"""Tries wrong bodies: the prover must refuse each, by its clause.
 
-    tools/wrong.py [--all] [--note] [--anew] [CRATE | CRATE/EDIT ..]
+    tools/wrong.py [--all] [--note] [--anew] [--over COPY] [CRATE | CRATE/EDIT ..]
 
 A wrong body is an edit of a crate's folder must-fail. Those that tools/wrong_bodies.txt marks for the gate are tried,
 with --all each, of the crates that are named, or of all; an edit that is named is tried in any case.
 
 First the right bodies of the functions that the edits touch are proved, with all that they call, over what `make` or `rt check`
-kept. This is kept in bin/right for the next run. A refusal shows nothing if the right body is refused too. No library is built.
+kept. This is kept in bin/right for the next run. A refusal shows nothing if the right body is refused too. No library is built:
+the crates below are read as sources, and of COPY, a repository in which `rt ci` ran, as the libraries that it left. These need no
+proof, so the gate passes its copy.
 Then wrong bodies of different functions are tried in one check, over hard links of what is kept: so the check
 proves the functions that they touch, and nothing else. One counts as refused if a goal of its own function
 stays open, and the goal has no stored proof that names a call or an argument which the edit took away: such a proof would be
@@ -47,15 +49,15 @@ from edits import LIST, UNSHOWN, BadEdit, applied, edits_of, function_at, listed
 from trees import PROVED, SOURCES, Trees, alone_now, crates_below, read
 
 LOG = "bin/wrong.log"
-# Where it is kept what is proved of the right bodies.
-RIGHT = "bin/right"
+# Where it is kept what is proved of the right bodies: over sources, and over libraries, by which the checker names things otherwise.
+RIGHT, RIGHT_OVER = "bin/right", "bin/right-over"
 # Where it is kept what was refused: beside the toolchain's folder, or in the repository.
 BESIDE_KIT = "cdb-refused"
 REFUSED = "bin/refused"
 TOOLS = os.path.dirname(os.path.abspath(__file__))
 # A check costs ten seconds and more before any proof, which these share; with more, one check would take as long as all others.
 MOST_AT_ONCE = 10
-# How much memory a check takes at most: reading the sources of the program's crates takes 3.2 GB.
+# How much memory a check takes at most over sources: reading those of the program's crates takes 3.2 GB.
 MEMORY = 5 * GIB
 
 # A stored proof that names something which is not there.
@@ -295,7 +297,9 @@ class Trials:
         self.refusals = Refusals(trees)
         # The places of those that are tried, as they were when the run began.
         self.places = {}
-        self.most = most_at_once(trees, MEMORY)
+        self.most = most_at_once(trees) if words.over else most_at_once(trees, MEMORY)
+        # Over sources crates share what they prove, so one is proved after the other, by all processors.
+        self.jobs, self.crates_at_once = (1, self.most) if words.over else (self.most, 1)
         self.lock = threading.Lock()
         self.kit = over.toolchain()
         self.module = over.module_of(self.kit)
@@ -305,9 +309,18 @@ class Trials:
         # The wrong bodies that are to be tried, in groups.
         self.left = []
 
+    def right(self, crate):
+        """Where it is kept what is proved of the right bodies of a crate."""
+        return os.path.join(self.trees.top, RIGHT_OVER, crate) if self.words.over else os.path.join(self.trees.top, RIGHT)
+
     def words_over(self, crate, *flags):
-        """The checker's command for a crate over the sources of those below it. A crate that does not list `core` names its items
-        through `std`: if `core` is there, it names them otherwise, and nothing fits that was kept."""
+        """The checker's command for a crate over the libraries of those below it, if they are there, or else over their sources.
+        A crate that does not list `core` names its items through `std`: if `core` is there, it names them otherwise, and nothing fits
+        that was kept."""
+        if self.words.over:
+            copy = os.path.abspath(self.words.over)
+            made = self.module.Crate(os.path.join(copy, "crates", crate), copy, {})
+            return [os.path.join(self.kit, "bin", "rattle"), "check", *made.words(list(flags))]
         made = self.module.Crate(self.trees.folder(crate), self.trees.top, {})
         words = made.words(list(flags), as_source=True)
         listing = [it.name for it in [*made.below(), made] if "core" in it.of_kit]
@@ -337,10 +350,10 @@ class Trials:
 
     def prove(self, crate, trials):
         """Proves the right bodies that wrong bodies of a crate stand for, and groups these. If a right one is not proved, none is tried."""
-        began, kept = time.monotonic(), os.path.join(self.trees.top, RIGHT)
-        self.trees.give_proved(crate, kept)
-        for jobs in (self.most, 1):
-            status, output = self.check(crate, trials, self.trees.folder(crate), kept, jobs)
+        began, right = time.monotonic(), self.right(crate)
+        self.trees.give_proved(crate, right)
+        for jobs in (self.jobs, 1):
+            status, output = self.check(crate, trials, self.trees.folder(crate), right, jobs)
             told = told_of(output, status, crate, {})
             if told.is_read or self.is_stopped:
                 break
@@ -364,7 +377,7 @@ class Trials:
                 # Another edit changed its line: it is tried alone.
                 return [self.put_off(crate, it) for it in group]
         room = f"{crate}-{next(self.rooms)}"
-        with self.trees.room_of(crate, room, texts, os.path.join(self.trees.top, RIGHT)) as inside:
+        with self.trees.room_of(crate, room, texts, self.right(crate)) as inside:
             status, output = self.check(crate, group, inside, PROVED)
         if self.is_stopped:
             return None
@@ -430,7 +443,7 @@ class Trials:
         for it in [it for found in trials.values() for it in found if it.why]:
             self.end(it, it.why, [])
         ready = {crate: [it for it in found if not it.why] for crate, found in trials.items()}
-        self.at_once([(self.prove, crate, found) for crate, found in ready.items() if found], 1)
+        self.at_once([(self.prove, crate, found) for crate, found in ready.items() if found], self.crates_at_once)
         while self.left and not self.is_stopped:
             # The checks with most to prove come first.
             groups, self.left = sorted(self.left, key=lambda it: -len(it[1])), []
@@ -491,6 +504,7 @@ def words_of():
     words.add_argument("--all", action="store_true")
     words.add_argument("--note", action="store_true")
     words.add_argument("--anew", action="store_true")
+    words.add_argument("--over")
     words.add_argument("names", nargs="*")
     return words.parse_args()
 
@@ -531,8 +545,7 @@ def main():
     why = missing(Trees(top, place), [])
     if why is not None:
         sys.exit(f"No wrong body can be tried: {why}")
-    for it in (place, RIGHT):
-        os.makedirs(it, exist_ok=True)
+    os.makedirs(place, exist_ok=True)
     for it in (signal.SIGTERM, signal.SIGHUP):
         signal.signal(it, interrupt)
     try:

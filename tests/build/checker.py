@@ -123,10 +123,12 @@ def keep(place, functions):
 
 def check(crate, words):
     """Says which functions are not proved, and answers the status."""
-    told = {word: [after for it, after in zip(words, words[1:]) if it == word] for word in ("--only", "--incremental")}
+    told = {word: [after for it, after in zip(words, words[1:]) if it == word] for word in ("--only", "--incremental", "--extern")}
     functions = [it.removeprefix(f"{crate}::") for it in told["--only"]]
     is_room = keep(os.path.join(told["--incremental"][0], "a-kit"), functions)
     note("checks" if is_room else "rights", crate, *functions)
+    if told["--extern"]:
+        note("over", crate, *told["--extern"])
     end = time.monotonic() + SECONDS
     while named("HANG") == ["checks" if is_room else "rights"] and time.monotonic() < end:
         time.sleep(0.01)

@@ -70,11 +70,13 @@ def minutes(_):
     with mock.patch("build.processors", return_value=4):
         yield "chain", round(progress.minutes_left(), 2) == round(660 / build.CHAIN_SPEED / 60, 2)
         progress.functions["low"] = 5, 10
-        yield "half", round(progress.minutes_left(), 2) == round(360 / build.CHAIN_SPEED / 60, 2)
+        yield "half", round(progress.minutes_left(), 2) == round((660 - 300 * build.OF_FUNCTIONS) / build.CHAIN_SPEED / 60, 2)
         progress.proved.add("low")
         yield "rest", round(progress.minutes_left(), 2) == round(60 / build.CHAIN_SPEED / 60, 2)
     with mock.patch("build.processors", return_value=1):
         yield "one processor", round(progress.minutes_left(), 2) == round(120 / build.USED / 60, 2)
+    yield "slower", build.at_pace(300, 600, 900) == 900 and build.at_pace(300, 600, 100) == 300
+    yield "too soon to say", build.at_pace(590, 600, 900) == 590
 
 
 def library(it):
