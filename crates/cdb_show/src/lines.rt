@@ -96,7 +96,7 @@ impl Lines {
 }
 
 /// The bytes of its window are at hand.
-#[derive(Clone, Copy, Debug)]
+#[derive(Clone, Copy)]
 pub struct InLined;
 
 /// A window whose lines are counted as its bytes are taken.

@@ -207,7 +207,7 @@ impl<F: Feeds> Feeds for Window<F> {
 }
 
 /// The window's bytes are at hand.
-#[derive(Clone, Copy, Debug)]
+#[derive(Clone, Copy)]
 pub struct InWindow;
 
 impl<F: Feeds> AtHand<Window<F>> for InWindow {

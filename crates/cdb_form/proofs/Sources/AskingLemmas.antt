@@ -21,9 +21,6 @@ take_read a k n xs ys within few =
 pub why_ended : (new : Feed) (n asked asks : ℕ) → IsWhy new n asked asks unread.Ended
 why_ended new n asked asks = record { spent = λ e. absurd (let no : ⊥ = cc in no); used = λ e. absurd (let no : ⊥ = cc in no); failed = λ e. absurd (let no : ⊥ = cc in no) }
 
-pub why_memory : (new : Feed) (n asked asks : ℕ) → IsWhy new n asked asks unread.NoMemory
-why_memory new n asked asks = record { spent = λ e. absurd (let no : ⊥ = cc in no); used = λ e. absurd (let no : ⊥ = cc in no); failed = λ e. absurd (let no : ⊥ = cc in no) }
-
 -- after some bytes, each by a request of its own
 pub why_on : (mid new : Feed) (n done first asked asks : ℕ) (stop : ReadStop) → mid.failed ⊎ (first ≤ asked + done) → Keeps mid new → done < n → IsWhy new 1 asked asks stop → IsWhy new n first asks stop
 why_on mid new n done first asked asks stop used kept few why = record {

@@ -21,7 +21,7 @@ pub trait AtHand<R: Feeds> {
 }
 
 /// No byte is at hand: each is requested.
-#[derive(Clone, Copy, Debug)]
+#[derive(Clone, Copy)]
 pub struct NoneAtHand;
 
 impl<R: Feeds> AtHand<R> for NoneAtHand {

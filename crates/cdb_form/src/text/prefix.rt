@@ -15,7 +15,7 @@ pub(crate) struct PrefixNumeral {
 }
 
 /// A record that a reader has at hand, where it is.
-#[derive(Clone, Copy, Debug)]
+#[derive(Clone, Copy)]
 pub struct PeekedRecord<'a> {
     pub key: &'a [u8],
     pub value: &'a [u8],

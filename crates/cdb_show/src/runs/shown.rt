@@ -2,7 +2,7 @@
 use cdb_command::Style;
 
 /// How each value is written.
-#[derive(Clone, Copy, Debug)]
+#[derive(Clone, Copy)]
 pub enum Shown<'a> {
     /// Alone, with a newline after it in lines.
     Value { lines: bool },

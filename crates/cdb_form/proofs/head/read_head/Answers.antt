@@ -1,4 +1,4 @@
-use Rattle.cdb_form.proofs.Words.{PairFits, Pointer, WordPair, common_steps, fill_by_all, get_or-map, get_or-set_other, get_or-set_same, head_at, length-map, length-set, nth_pair, pointer_pair}
+use Rattle.cdb_form.proofs.Words.{PairFits, Pointer, WordPair, fill_by_all, get_or-map, get_or-set_other, get_or-set_same, head_at, length-map, length-set, nth_pair, pointer_pair}
 use Rattle.std.proofs.Common.{◌≡◌, ◌≢◌, ℕ, ◌<◌, ◌+◌, ◌-◌, ◌*◌, length, map, get_or, slice_set, arith, ◌∙◌, below_more, ap}
 use Rattle.std.proofs.lemmas.List.Elements.{All-from_get_or, All-map}
 use Rattle.cdb_form.proofs.Bytes.WordLemmas.{pair_at_part, span_of}
@@ -43,9 +43,3 @@ loop-n-preserved g c =
           (λ k h d. let other : k ≢ n = omega arith in rw get_or-set_other (c.loop-n.invariant.fits k d h))
           (λ d. rw get_or-set_same c.read_pointer.ensures.fits) k h d;
     }
-
-pub overflow_add-size : goal.overflow_add-size
-overflow_add-size g c = grind (arith, common_steps)
-
-pub read_pointer-requires : goal.read_pointer-requires
-read_pointer-requires g c = grind (arith, common_steps)

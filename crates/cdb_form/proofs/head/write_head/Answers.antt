@@ -34,9 +34,3 @@ returns-clause-written g c = grind (arith, common_steps)
 
 pub loop-n-preserved : goal.loop-n-preserved
 loop-n-preserved g c = grind (arith, common_steps)
-
-pub write_pointer-requires-clause-long : goal.write_pointer-requires-clause-long
-write_pointer-requires-clause-long g c = grind (arith, common_steps)
-
-pub overflow_mul-size-in-loop-n : goal.overflow_mul-size-in-loop-n
-overflow_mul-size-in-loop-n g c = grind (arith, common_steps)

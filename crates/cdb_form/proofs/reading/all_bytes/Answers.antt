@@ -34,23 +34,11 @@ returns-in_err-n-clause-why g c =
 pub returns-then-n-eq0-clause-why : goal.returns-then-n-eq0-clause-why
 returns-then-n-eq0-clause-why g c = why_ended _ _ _ _
 
-pub returns-clause-are : goal.returns-clause-are
-returns-clause-are g c = grind (arith, common_steps)
-
-pub returns-then-n-eq0-clause-memory : goal.returns-then-n-eq0-clause-memory
-returns-then-n-eq0-clause-memory g c = grind (arith, common_steps)
-
 pub returns-then-n-eq0-clause-loses : goal.returns-then-n-eq0-clause-loses
 returns-then-n-eq0-clause-loses g c =
     let n = c.in_ok-n.n in
     let none : n ≡ 0 = search rules in
     loses_these _ _ _ _ (consumes_no_more _ _ _ _ _ _ none c.loop-done.invariant.read c.in_ok-n.ensures.bytes) (grind (arith, common_steps))
-
-pub returns-clause-bytes : goal.returns-clause-bytes
-returns-clause-bytes g c = grind (arith, common_steps)
-
-pub returns-in_err-n-clause-memory : goal.returns-in_err-n-clause-memory
-returns-in_err-n-clause-memory g c = grind (arith, common_steps)
 
 pub loop-done-smaller : goal.loop-done-smaller
 loop-done-smaller g c = omega arith

@@ -32,20 +32,5 @@ returns-then-n-eq0-clause-why g c = why_ended _ _ _ _
 pub returns-in_err-n-clause-loses : goal.returns-in_err-n-clause-loses
 returns-in_err-n-clause-loses g c = grind (arith, common_steps)
 
-pub returns-clause-read : goal.returns-clause-read
-returns-clause-read g c = grind (arith, common_steps)
-
-pub returns-in_err-n-clause-memory : goal.returns-in_err-n-clause-memory
-returns-in_err-n-clause-memory g c = grind (arith, common_steps)
-
 pub returns-then-n-eq0-clause-memory : goal.returns-then-n-eq0-clause-memory
 returns-then-n-eq0-clause-memory g c = search rules
-
-pub returns-then-n-eq0-clause-ended : goal.returns-then-n-eq0-clause-ended
-returns-then-n-eq0-clause-ended g c = grind (arith, common_steps)
-
-pub overflow_add-done : goal.overflow_add-done
-overflow_add-done g c = grind (arith, common_steps)
-
-pub returns-clause-loses : goal.returns-clause-loses
-returns-clause-loses g c = grind (arith, common_steps)

@@ -36,47 +36,8 @@ returns-in-Ok-eq0-clause-holds g c = grind (arith, common_steps)
 pub returns-in-Ok-clause-within : goal.returns-in-Ok-clause-within
 returns-in-Ok-clause-within g c = grind (arith, common_steps)
 
-pub returns-then-is_err-clause-holds : goal.returns-then-is_err-clause-holds
-returns-then-is_err-clause-holds g c = grind (arith, common_steps)
-
 pub some_bytes-requires : goal.some_bytes-requires
 some_bytes-requires g c = omega arith
 
-pub returns-in-Ok-clause-no_more : goal.returns-in-Ok-clause-no_more
-returns-in-Ok-clause-no_more g c = grind (arith, common_steps)
-
-pub returns-in-Ok-clause-spends : goal.returns-in-Ok-clause-spends
-returns-in-Ok-clause-spends g c = grind (arith, common_steps)
-
-pub slice_bounds-some_bytes-count : goal.slice_bounds-some_bytes-count
-slice_bounds-some_bytes-count g c = grind (arith, common_steps)
-
-pub returns-in-Err-clause-within : goal.returns-in-Err-clause-within
-returns-in-Err-clause-within g c = grind (arith, common_steps)
-
 pub returns-then-is_err-clause-why : goal.returns-then-is_err-clause-why
 returns-then-is_err-clause-why g c = search rules
-
-pub returns-in-Err-clause-no_more : goal.returns-in-Err-clause-no_more
-returns-in-Err-clause-no_more g c = grind (arith, common_steps)
-
-pub returns-in-Err-clause-why : goal.returns-in-Err-clause-why
-returns-in-Err-clause-why g c = grind (arith, common_steps)
-
-pub returns-in-Ok-eq0-clause-no_more : goal.returns-in-Ok-eq0-clause-no_more
-returns-in-Ok-eq0-clause-no_more g c = grind (arith, common_steps)
-
-pub returns-in-Ok-eq0-clause-kept : goal.returns-in-Ok-eq0-clause-kept
-returns-in-Ok-eq0-clause-kept g c = grind (arith, common_steps)
-
-pub returns-then-is_err-clause-kept : goal.returns-then-is_err-clause-kept
-returns-then-is_err-clause-kept g c = grind (arith, common_steps)
-
-pub returns-in-Err-clause-ended : goal.returns-in-Err-clause-ended
-returns-in-Err-clause-ended g c = grind (arith, common_steps)
-
-pub returns-in-Ok-eq0-clause-ended : goal.returns-in-Ok-eq0-clause-ended
-returns-in-Ok-eq0-clause-ended g c = grind (arith, common_steps)
-
-pub returns-then-is_err-clause-ended : goal.returns-then-is_err-clause-ended
-returns-then-is_err-clause-ended g c = grind (arith, common_steps)

@@ -44,12 +44,3 @@ returns-in_err-done-clause-loses g c = search rules
 
 pub returns-in_err-done-clause-loses_fewer : goal.returns-in_err-done-clause-loses_fewer
 returns-in_err-done-clause-loses_fewer g c = grind (arith, common_steps)
-
-pub returns-in_err-done-clause-are : goal.returns-in_err-done-clause-are
-returns-in_err-done-clause-are g c = grind (arith, common_steps)
-
-pub returns-in_err-done-clause-no_more : goal.returns-in_err-done-clause-no_more
-returns-in_err-done-clause-no_more g c = grind (arith, common_steps)
-
-pub some_behind-requires-clause-room : goal.some_behind-requires-clause-room
-some_behind-requires-clause-room g c = grind (arith, common_steps)

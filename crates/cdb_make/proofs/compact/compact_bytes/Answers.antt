@@ -118,41 +118,8 @@ returns-clause-written g c = λ sizes of.
     let s : sum (behind (take c.loop-n.n (gone_of c.args.marks.now)) (take c.loop-n.n sizes)) ≡ sum (behind (gone_of c.args.marks.now) sizes) = ap sum (behind_all (gone_of c.args.marks.now) sizes c.loop-n.n (let many : length (gone_of c.args.marks.now) ≡ length c.args.marks.now = length-map c.args.marks.now is_gone in omega (arith, many, c.loop-n-test.false)) ((length-map c.args.marks.now is_gone ∙ c.requires.long) ∙ long_as of)) in
     on_ok_weaker c.move_down-2.result (λ w. omega (arith, w, s, last, inv.written sizes of, inv.up)) c.move_down-2.ensures.written
 
-pub move_down-requires-2-clause-end : goal.move_down-requires-2-clause-end
-move_down-requires-2-clause-end g c = grind (arith, common_steps)
-
-pub move_down-requires-2-clause-inside : goal.move_down-requires-2-clause-inside
-move_down-requires-2-clause-inside g c = grind (arith, common_steps)
-
-pub overflow_sub-end : goal.overflow_sub-end
-overflow_sub-end g c = grind (arith, common_steps)
-
 pub overflow_sub-to : goal.overflow_sub-to
 overflow_sub-to g c = grind (arith, common_steps)
 
-pub returns-clause-ok_failures : goal.returns-clause-ok_failures
-returns-clause-ok_failures g c = grind (arith, common_steps)
-
-pub overflow_add-to : goal.overflow_add-to
-overflow_add-to g c = grind (arith, common_steps)
-
-pub overflow_add-n : goal.overflow_add-n
-overflow_add-n g c = grind (arith, common_steps)
-
-pub returns-clause-room : goal.returns-clause-room
-returns-clause-room g c = grind (arith, common_steps)
-
-pub returns-clause-cause : goal.returns-clause-cause
-returns-clause-cause g c = grind (arith, common_steps)
-
 pub overflow_sub-place : goal.overflow_sub-place
 overflow_sub-place g c = grind (arith, common_steps)
-
-pub returns-clause-memory : goal.returns-clause-memory
-returns-clause-memory g c = grind (arith, common_steps)
-
-pub returns-clause-size : goal.returns-clause-size
-returns-clause-size g c = grind (arith, common_steps)
-
-pub returns-clause-unwritten : goal.returns-clause-unwritten
-returns-clause-unwritten g c = grind (arith, common_steps)

@@ -1,3 +1,5 @@
+use Rattle.std.proofs.lemmas.Grind.{common_steps}
+use Rattle.std.proofs.Common.{arith}
 use Rattle.cdb_make.proofs.Words.{Bool, List, [], ap, arith, common_steps, end_from, false, get_or, get_or-set_other, get_or_default, gone_of, is_gone, left, length, length-map, length-set, places_from, places_in, refl, sym, take, take_more_set, true, ℕ, ◌++◌, ◌+◌, ◌<◌, ◌∙◌, ◌∷◌, ◌≡◌}
 use Rattle.cdb_make.proofs.Spans.{place_next, place_size, long_as, left_live, left_gone, left_all, left_none, place_is, places_take, places_more, end_more}
 use Rattle.cdb_make.proofs.compact.compact_entries.Goals as goal
@@ -114,23 +116,8 @@ returns-clause-of g c = λ sizes of.
 pub set-requires-clause-fits : goal.set-requires-clause-fits
 set-requires-clause-fits g c = grind (arith, common_steps)
 
-pub returns-clause-hashes : goal.returns-clause-hashes
-returns-clause-hashes g c = grind (arith, common_steps)
-
-pub set-requires-clause-within : goal.set-requires-clause-within
-set-requires-clause-within g c = grind (arith, common_steps)
-
-pub returns-clause-low : goal.returns-clause-low
-returns-clause-low g c = grind (arith, common_steps)
-
-pub bounds-hashes-count : goal.bounds-hashes-count
-bounds-hashes-count g c = grind (arith, common_steps)
-
 pub overflow_add-to : goal.overflow_add-to
 overflow_add-to g c = grind (arith, common_steps)
 
 pub returns-clause-within : goal.returns-clause-within
 returns-clause-within g c = grind (arith, common_steps)
-
-pub bounds-hashes-n : goal.bounds-hashes-n
-bounds-hashes-n g c = grind (arith, common_steps)

@@ -27,23 +27,5 @@ loop-done-preserved g c =
       fine = c.in_ok-read_at.ensures.ok_failures ∙ c.loop-done.invariant.fine;
     }
 
-pub slice_bounds-ne-end-in-loop-done : goal.slice_bounds-ne-end-in-loop-done
-slice_bounds-ne-end-in-loop-done g c = grind (arith, common_steps)
-
 pub returns-then-ne-clause-reads : goal.returns-then-ne-clause-reads
 returns-then-ne-clause-reads g c = grind (arith, common_steps)
-
-pub returns-clause-same : goal.returns-clause-same
-returns-clause-same g c = grind (arith, common_steps)
-
-pub loop-done-smaller : goal.loop-done-smaller
-loop-done-smaller g c = grind (arith, common_steps)
-
-pub overflow_add-done-in-loop-done : goal.overflow_add-done-in-loop-done
-overflow_add-done-in-loop-done g c = grind (arith, common_steps)
-
-pub returns-then-ne-clause-ok_failures : goal.returns-then-ne-clause-ok_failures
-returns-then-ne-clause-ok_failures g c = grind (arith, common_steps)
-
-pub returns-then-ne-clause-memory : goal.returns-then-ne-clause-memory
-returns-then-ne-clause-memory g c = grind (arith, common_steps)

@@ -58,9 +58,6 @@ returns-then-header-key-clause-ok_failures g c = grind (arith, common_steps)
 pub returns-clause-reads : goal.returns-clause-reads
 returns-clause-reads g c = grind (arith, common_steps)
 
-pub returns-then-room-header-clause-failed : goal.returns-then-room-header-clause-failed
-returns-then-room-header-clause-failed g c = grind (arith, common_steps)
-
 pub slice_bounds-key_follows-count : goal.slice_bounds-key_follows-count
 slice_bounds-key_follows-count g c = grind (arith, common_steps)
 

@@ -25,17 +25,5 @@ returns-clause-head g c =
     head_begun g.L.Width.WORD len 4096 (g.S.Store.size c.cut.new.self) c.head_size-len.ensures fits refl (record { each = g.met.S.Store.image_size c.cut.new.self })
     (write_between (same_refl (g.S.Store.image c.cut.new.self)) c.in_ok-write_at.ensures.ok c.flush.ensures.images)
 
-pub write_at-requires-clause-end : goal.write_at-requires-clause-end
-write_at-requires-clause-end g c = grind (arith, common_steps)
-
 pub returns-clause-fine : goal.returns-clause-fine
 returns-clause-fine g c = grind (arith, common_steps)
-
-pub returns-clause-settled : goal.returns-clause-settled
-returns-clause-settled g c = grind (arith, common_steps)
-
-pub returns-clause-failures : goal.returns-clause-failures
-returns-clause-failures g c = grind (arith, common_steps)
-
-pub returns-clause-room : goal.returns-clause-room
-returns-clause-room g c = grind (arith, common_steps)

@@ -1,4 +1,4 @@
-use Rattle.cdb_make.proofs.Words.{marks_in, Bool, List, ap, arith, cases_eq, cases_lt, common_steps, ext_get_or, false, found_of, fresh, get_or, get_or-set_other, get_or-set_same, gone_of, inl, inr, is_found, is_gone, length, length-map, reads_more, reads_nothing, refl, searched, set, sym, true, ℕ, ◌<◌, ◌∙◌, ◌≡◌}
+use Rattle.cdb_make.proofs.Words.{marks_in, Bool, List, ap, arith, cases_eq, cases_lt, ext_get_or, false, found_of, fresh, get_or, get_or-set_other, get_or-set_same, gone_of, inl, inr, is_found, is_gone, length, length-map, reads_more, reads_nothing, refl, searched, set, sym, true, ℕ, ◌<◌, ◌∙◌, ◌≡◌}
 use Rattle.cdb_make.proofs.Looking.{sees_long, sees_same, same_back, same_then, length-fresh}
 use Rattle.cdb_make.proofs.Picking.{found_hash, not_fresh}
 use Rattle.cdb_make.proofs.Marking.{marks_long}
@@ -94,39 +94,3 @@ returns-in_err-n-clause-reads g c = reads_more c.loop-n.invariant.reads c.last_w
 
 pub returns-clause-reads : goal.returns-clause-reads
 returns-clause-reads g c = reads_more c.loop-n.invariant.reads c.last_with_key.ensures.reads
-
-pub loop-n-smaller : goal.loop-n-smaller
-loop-n-smaller g c = grind (arith, common_steps)
-
-pub returns-clause-room : goal.returns-clause-room
-returns-clause-room g c = grind (arith, common_steps)
-
-pub returns-clause-tagged : goal.returns-clause-tagged
-returns-clause-tagged g c = grind (arith, common_steps)
-
-pub returns-clause-failed : goal.returns-clause-failed
-returns-clause-failed g c = grind (arith, common_steps)
-
-pub returns-clause-hash : goal.returns-clause-hash
-returns-clause-hash g c = grind (arith, common_steps)
-
-pub returns-clause-foreign : goal.returns-clause-foreign
-returns-clause-foreign g c = grind (arith, common_steps)
-
-pub returns-clause-ok_failures : goal.returns-clause-ok_failures
-returns-clause-ok_failures g c = grind (arith, common_steps)
-
-pub find-requires-clause-within : goal.find-requires-clause-within
-find-requires-clause-within g c = grind (arith, common_steps)
-
-pub last_with_key-requires-clause-hash : goal.last_with_key-requires-clause-hash
-last_with_key-requires-clause-hash g c = grind (arith, common_steps)
-
-pub last_with_key-requires-clause-end : goal.last_with_key-requires-clause-end
-last_with_key-requires-clause-end g c = grind (arith, common_steps)
-
-pub returns-in_err-n-clause-foreign : goal.returns-in_err-n-clause-foreign
-returns-in_err-n-clause-foreign g c = grind (arith, common_steps)
-
-pub returns-in_err-n-clause-room : goal.returns-in_err-n-clause-room
-returns-in_err-n-clause-room g c = grind (arith, common_steps)

@@ -1,3 +1,5 @@
+use Rattle.std.proofs.lemmas.Grind.{common_steps}
+use Rattle.std.proofs.Common.{arith}
 use Rattle.cdb_make.proofs.Words.{marks_in, Err, LookFault, LooksAtImages, ap, arith, cases_eq, common_steps, get_or, get_or_default, inl, inr, is_gone, length-map, places_in, reads_more, rules, subst, sym, ℕ, ◌+◌, ◌∙◌, ◌≡◌}
 use Rattle.cdb_make.specs.declared.key_at.LookFault.TheVariants.{Foreign}
 use Rattle.cdb_make.proofs.Spans.{spans_of, place_high}
@@ -83,23 +85,11 @@ returns-clause-last g c = record {
       (λ k low. c.in_default.ensures k) (c.loop-n.invariant.none b is all sees) k (omega arith) high;
 }
 
-pub loop-n-smaller : goal.loop-n-smaller
-loop-n-smaller g c = grind (arith, common_steps)
-
-pub returns-then-is_some-clause-ok_failures : goal.returns-then-is_some-clause-ok_failures
-returns-then-is_some-clause-ok_failures g c = grind (arith, common_steps)
-
-pub returns-then-is_some-clause-within : goal.returns-then-is_some-clause-within
-returns-then-is_some-clause-within g c = grind (arith, common_steps)
-
 pub returns-then-is_some-clause-failed : goal.returns-then-is_some-clause-failed
 returns-then-is_some-clause-failed g c = grind (arith, common_steps)
 
-pub returns-then-is_some-clause-foreign : goal.returns-then-is_some-clause-foreign
-returns-then-is_some-clause-foreign g c = grind (arith, common_steps)
-
-pub returns-clause-failed : goal.returns-clause-failed
-returns-clause-failed g c = grind (arith, common_steps)
-
 pub returns-in_err-look_at-clause-reads : goal.returns-in_err-look_at-clause-reads
 returns-in_err-look_at-clause-reads g c = reads_more c.loop-n.invariant.reads c.look_at.ensures.reads
+
+pub returns-then-is_some-clause-foreign : goal.returns-then-is_some-clause-foreign
+returns-then-is_some-clause-foreign g c = grind (arith, common_steps)

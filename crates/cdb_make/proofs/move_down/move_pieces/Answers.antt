@@ -34,9 +34,6 @@ loop-done-preserved g c =
       room = omega arith;
     }
 
-pub returns-clause-copied : goal.returns-clause-copied
-returns-clause-copied g c = grind (arith, common_steps)
-
 pub returns-in_err-write_at-clause-memory : goal.returns-in_err-write_at-clause-memory
 returns-in_err-write_at-clause-memory g c = grind (arith, common_steps)
 
@@ -45,6 +42,3 @@ returns-in_err-write_at-clause-size g c = search rules
 
 pub returns-in_err-write_at-clause-at_most_written : goal.returns-in_err-write_at-clause-at_most_written
 returns-in_err-write_at-clause-at_most_written g c = search rules
-
-pub write_at-requires-clause-end : goal.write_at-requires-clause-end
-write_at-requires-clause-end g c = grind (arith, common_steps)

@@ -1,5 +1,4 @@
-use Rattle.std.proofs.lemmas.Grind.{common_steps}
-use Rattle.std.proofs.Common.{arith, [], refl}
+use Rattle.std.proofs.Common.{[], refl}
 use Rattle.cdb_names.specs.declared.answer.Answer.TheVariants.{Yes, Unknown}
 use Rattle.cdb_names.specs.declared.name_trace.NameCall.TheVariants.{Own, Same}
 use Rattle.cdb_names.proofs.Replacing.{no_step, step}
@@ -28,6 +27,3 @@ returns-in-Yes-is_file_of-clause-undone g c not =
 pub returns-in-Unknown-is_file_of-clause-undone : goal.returns-in-Unknown-is_file_of-clause-undone
 returns-in-Unknown-is_file_of-clause-undone g c not =
     ((Same Unknown, c.args.temporary.now, c.args.name.now, []), _, one_more _ _ _ _ (no_more (g.N.Names.calls c.args.names.now)) c.has_file.ensures, (refl, refl), c.in-Unknown-is_file_of.ensures)
-
-pub returns-in-No-is_file_of-clause-undone : goal.returns-in-No-is_file_of-clause-undone
-returns-in-No-is_file_of-clause-undone g c = grind (arith, common_steps)

@@ -1,5 +1,4 @@
-use Rattle.std.proofs.lemmas.Grind.{common_steps}
-use Rattle.std.proofs.Common.{[], append-nil, arith, inr, sym}
+use Rattle.std.proofs.Common.{[], append-nil, inr, sym}
 use Rattle.cdb_names.proofs.Locking.{built_removable}
 use Rattle.cdb_names.proofs.Replacing.{go_on, cleared}
 use Rattle.cdb_names.proofs.Stops.{free_since, further, held_seen, steps_go_on, stops_since, unbuilt}
@@ -64,9 +63,6 @@ pub returns-then-made-old-clause-seen : goal.returns-then-made-old-clause-seen
 returns-then-made-old-clause-seen g c =
     let on = further _ _ _ (steps_go_on c.clear.ensures.steps) (steps_go_on c.make_own.ensures.steps) in
     held_seen c.args.temporary.now c.args.name.now c.in-Some.old _ _ _ on c.in-Some.is c.in_ok-held.ensures.seen
-
-pub returns-clause-one_name : goal.returns-clause-one_name
-returns-clause-one_name g c = grind (arith, common_steps)
 
 pub make_plain-requires-2-clause-free : goal.make_plain-requires-2-clause-free
 make_plain-requires-2-clause-free g c =

@@ -50,14 +50,8 @@ returns-clause-may g c = grind (arith, common_steps)
 pub returns-clause-renames : goal.returns-clause-renames
 returns-clause-renames g c = grind (arith, common_steps)
 
-pub returns-in_default-bits_of-clause-failed : goal.returns-in_default-bits_of-clause-failed
-returns-in_default-bits_of-clause-failed g c = grind (arith, common_steps)
-
 pub returns-then-not-suits-clause-failed : goal.returns-then-not-suits-clause-failed
 returns-then-not-suits-clause-failed g c = grind (arith, common_steps)
 
 pub returns-then-not-suits-clause-may : goal.returns-then-not-suits-clause-may
 returns-then-not-suits-clause-may g c = grind (arith, common_steps)
-
-pub returns-then-not-suits-clause-renames : goal.returns-then-not-suits-clause-renames
-returns-then-not-suits-clause-renames g c = grind (arith, common_steps)

@@ -1,5 +1,4 @@
-use Rattle.std.proofs.lemmas.Grind.{common_steps}
-use Rattle.std.proofs.Common.{arith, [], None, inl, inr, refl}
+use Rattle.std.proofs.Common.{[], None, inl, inr, refl}
 use Rattle.cdb_names.specs.declared.answer.Answer.TheVariants.{Unknown}
 use Rattle.cdb_names.specs.declared.name_trace.NameCall.TheVariants.{Bits, Special}
 use Rattle.cdb_names.proofs.Replacing.{no_step, step}
@@ -34,12 +33,6 @@ returns-in-Unknown-clause-err g c =
 
 pub returns-in-Some-clause-seen : goal.returns-in-Some-clause-seen
 returns-in-Some-clause-seen g c = (_, c.in-Some.ensures)
-
-pub returns-in-Some-clause-no_name : goal.returns-in-Some-clause-no_name
-returns-in-Some-clause-no_name g c = grind (arith, common_steps)
-
-pub returns-in-Some-clause-plain : goal.returns-in-Some-clause-plain
-returns-in-Some-clause-plain g c = grind (arith, common_steps)
 
 pub returns-in-Some-clause-unmade : goal.returns-in-Some-clause-unmade
 returns-in-Some-clause-unmade g c =

@@ -1,4 +1,4 @@
-use Rattle.cdb_store.proofs.Words.{[], ap, arith, common_steps, ended, inl, inr, lost, rules, ◌∙◌, ◌∷◌}
+use Rattle.cdb_store.proofs.Words.{[], ap, arith, ended, inl, inr, lost, rules, ◌∙◌, ◌∷◌}
 use Rattle.cdb_store.specs.declared.trace.Call.TheVariants.{Failed, Refused}
 use Rattle.cdb_store.proofs.RawCalls.{interrupted_none, interrupted_more, interrupted_all, lost_interrupted, asked_after}
 use Rattle.cdb_store.proofs.transfer.read_some.Goals as goal
@@ -24,12 +24,6 @@ refuse-requires g c = inr (record { before = g.F.RawFile.calls c.args.file.now; 
 
 pub returns-clause-err : goal.returns-clause-err
 returns-clause-err g c = inr (c.refuse.ensures ∙ ap (λ calls. (Refused, []) ∷ calls) (interrupted_all c.loop-turn._turn _ (omega arith) c.loop-turn.invariant))
-
-pub returns-in-Err-Failed-clause-ok : goal.returns-in-Err-Failed-clause-ok
-returns-in-Err-Failed-clause-ok g c = grind (arith, common_steps)
-
-pub returns-clause-memory : goal.returns-clause-memory
-returns-clause-memory g c = grind (arith, common_steps)
 
 pub returns-in-Err-Failed-clause-count : goal.returns-in-Err-Failed-clause-count
 returns-in-Err-Failed-clause-count g c = search rules

@@ -1,4 +1,4 @@
-use Rattle.cdb_store.proofs.Words.{List, arith, common_steps, failure_count, length, length-take, length-take-le, take, take_all, ℕ, ◌-◌, ◌<◌, ◌∙◌, ◌≡◌, ◌≤◌}
+use Rattle.cdb_store.proofs.Words.{List, arith, failure_count, length, length-take, length-take-le, take, take_all, ℕ, ◌-◌, ◌<◌, ◌∙◌, ◌≡◌, ◌≤◌}
 use borrow.Rule.Slice.PartMut.{mid_of}
 use Rattle.cdb_store.proofs.Puts.{put_none, put_asked, put_more, torn_vain, torn_behind_put, written_asked, written_vain, take_piece_of}
 use Rattle.cdb_store.proofs.Answered.{held_on_err}
@@ -79,6 +79,3 @@ returns-clause-syncs g c = c.loop-done.invariant.syncs
 
 pub returns-clause-ok_failures : goal.returns-clause-ok_failures
 returns-clause-ok_failures g c = c.loop-done.invariant.fine
-
-pub overflow_add-done : goal.overflow_add-done
-overflow_add-done g c = grind (arith, common_steps)

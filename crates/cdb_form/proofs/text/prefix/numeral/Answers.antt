@@ -16,12 +16,6 @@ loop-place-preserved c =
       short = omega (arith, c.if-value-lt-LONG.true, low, is);
     }
 
-pub overflow_add-place : goal.overflow_add-place
-overflow_add-place c = grind (arith, common_steps)
-
-pub loop-place-smaller : goal.loop-place-smaller
-loop-place-smaller c = grind (arith, common_steps)
-
 pub overflow_add-value : goal.overflow_add-value
 overflow_add-value c = search rules
 
@@ -30,6 +24,3 @@ bounds-bytes-place c = search rules
 
 pub returns-then-is_whole-clause-begins : goal.returns-then-is_whole-clause-begins
 returns-then-is_whole-clause-begins g c = grind (arith, common_steps)
-
-pub returns-else-is_whole-clause-begins : goal.returns-else-is_whole-clause-begins
-returns-else-is_whole-clause-begins g c = grind (arith, common_steps)

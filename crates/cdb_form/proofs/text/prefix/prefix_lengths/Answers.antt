@@ -1,4 +1,4 @@
-use Rattle.cdb_form.proofs.Words.{BeginsWithNumeral, arith, common_steps, length, refl, subst, ◌+◌}
+use Rattle.cdb_form.proofs.Words.{BeginsWithNumeral, arith, length, refl, subst, ◌+◌}
 use Rattle.cdb_form.proofs.NativeTexts.PrefixLemmas.{lengths_prefix}
 use Rattle.cdb_form.proofs.Bytes.HeadLemmas.{rest_of}
 use Rattle.cdb_form.proofs.text.prefix.prefix_lengths.Goals as goal
@@ -14,21 +14,3 @@ returns-clause-begins c _ =
     (subst (λ t. BeginsWithNumeral 44 t k) (rest_of 1 (length bytes) bytes refl) is_key)
     (subst (λ t. BeginsWithNumeral 58 t v) (rest_of (1 + k.end) (length bytes) bytes refl) is_value)
     (omega arith) (omega arith) refl refl refl
-
-pub returns-clause-short : goal.returns-clause-short
-returns-clause-short c = grind (arith, common_steps)
-
-pub bounds-bytes-0 : goal.bounds-bytes-0
-bounds-bytes-0 c = grind (arith, common_steps)
-
-pub overflow_add-result : goal.overflow_add-result
-overflow_add-result c = grind (arith, common_steps)
-
-pub slice_bounds-prefix_numeral-count-2 : goal.slice_bounds-prefix_numeral-count-2
-slice_bounds-prefix_numeral-count-2 c = grind (arith, common_steps)
-
-pub overflow_add-at : goal.overflow_add-at
-overflow_add-at c = grind (arith, common_steps)
-
-pub slice_bounds-prefix_numeral-start : goal.slice_bounds-prefix_numeral-start
-slice_bounds-prefix_numeral-start c = grind (arith, common_steps)

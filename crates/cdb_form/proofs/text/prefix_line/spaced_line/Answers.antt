@@ -1,4 +1,4 @@
-use Rattle.cdb_form.proofs.Words.{arith, common_steps, drop, is_blank, is_of, length, prefix_len, refl, ◌≡◌, ◌≢◌, ◌≤◌}
+use Rattle.cdb_form.proofs.Words.{arith, drop, is_blank, is_of, length, prefix_len, refl, ◌≡◌, ◌≢◌, ◌≤◌}
 use Rattle.cdb_form.specs.declared.text.kind.Kind.TheVariants.{InLine, InWord}
 use Rattle.cdb_form.proofs.Bytes.HeadLemmas.{rest_of}
 use Rattle.cdb_form.proofs.MapTexts.LinePrefix.{first_newline, line_prefix}
@@ -24,6 +24,3 @@ returns c =
     let newline = first_newline (drop gap tail) vlen vis (omega (arith, held, other)) in
     line_prefix bytes start klen gap vlen _ c.blanks-start.ensures.is kis (omega arith) (rw words at c.if-words-eq35.false) gis newline
     (rw words refl) (rw words (rw behind (rw rest refl)))
-
-pub overflow_add-result-3 : goal.overflow_add-result-3
-overflow_add-result-3 c = grind (arith, common_steps)

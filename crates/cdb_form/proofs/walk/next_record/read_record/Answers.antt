@@ -1,4 +1,4 @@
-use Rattle.cdb_form.proofs.Words.{arith, common_steps, err_from_is_err_and, inl, inr, record_size, rules, sym, ◌++◌, ◌+◌, ◌<◌, ◌∙◌, ◌≡◌, ◌≤◌}
+use Rattle.cdb_form.proofs.Words.{arith, err_from_is_err_and, inl, inr, record_size, rules, sym, ◌++◌, ◌+◌, ◌<◌, ◌∙◌, ◌≡◌, ◌≤◌}
 use Rattle.cdb_form.proofs.Fed.FeedLemmas.{consumes_then}
 use Rattle.cdb_form.proofs.Bytes.ReadBack.{same_words}
 use Rattle.cdb_form.proofs.RecordReading.RecordReads.{prefix_told, no_room, header_early, body_no_room, body_early, record_read, record_cut, loses_then, none_no_room, none_header, none_body_no_room, none_body}
@@ -96,27 +96,6 @@ returns-in_err-record_body-clause-part g c =
     let told = prefix_told g.L.Width.WORD r.bytes c.in_ok-header.header r.lengths in
     rw (p.1) (none_body g.L.Width.WORD c.args.area.place c.args.area.end (c.in_ok-header.header.klen + c.in_ok-header.header.vlen) _ _ _ r.bytes c.requires r.read
     c.in_err-record_body.ensures.loses_fewer r.long (omega (arith, c.pair_size-size.ensures, c.if-left-size.false)) (omega (arith, told)))
-
-pub returns-then-left-header-clause-header : goal.returns-then-left-header-clause-header
-returns-then-left-header-clause-header g c = grind (arith, common_steps)
-
-pub returns-then-left-size-clause-header : goal.returns-then-left-size-clause-header
-returns-then-left-size-clause-header g c = grind (arith, common_steps)
-
-pub returns-then-left-size-clause-loses : goal.returns-then-left-size-clause-loses
-returns-then-left-size-clause-loses g c = grind (arith, common_steps)
-
-pub returns-clause-end : goal.returns-clause-end
-returns-clause-end g c = grind (arith, common_steps)
-
-pub returns-clause-header : goal.returns-clause-header
-returns-clause-header g c = grind (arith, common_steps)
-
-pub returns-in_err-record_body-clause-value : goal.returns-in_err-record_body-clause-value
-returns-in_err-record_body-clause-value g c = grind (arith, common_steps)
-
-pub returns-in_err-header-clause-loses : goal.returns-in_err-header-clause-loses
-returns-in_err-header-clause-loses g c = grind (arith, common_steps)
 
 pub returns-clause-fails : goal.returns-clause-fails
 returns-clause-fails g c = omega arith

@@ -1,4 +1,4 @@
-use Rattle.cdb_form.proofs.Words.{arith, common_steps, err_from_is_err_and}
+use Rattle.cdb_form.proofs.Words.{arith, err_from_is_err_and}
 use Rattle.cdb_form.proofs.RecordReading.RecordAreas.{area_short, area_table, area_read, head_cut, none_short, none_table}
 use Rattle.cdb_form.proofs.Files.TableLemmas.{end_told, table_told}
 use Rattle.cdb_form.proofs.walk.record_area.read_area.Goals as goal
@@ -39,6 +39,3 @@ pub returns-in_err-head-clause-part : goal.returns-in_err-head-clause-part
 returns-in_err-head-clause-part g c =
     let p = err_from_is_err_and c.from_residual.result c.from_residual.ensures.1 in
     rw (p.1) (none_short g.L.Width.WORD _ _ c.in_err-head.ensures.loses_fewer)
-
-pub returns-clause-place : goal.returns-clause-place
-returns-clause-place g c = grind (arith, common_steps)

@@ -1,9 +1,6 @@
-use Rattle.cdb_form.proofs.Words.{arith, common_steps}
+use Rattle.cdb_form.proofs.Words.{arith}
 use Rattle.cdb_form.proofs.Sources.AskingLemmas.{unread_so}
 use Rattle.cdb_form.proofs.walk.source.fill.Goals as goal
-
-pub returns-in-Ok-clause-bytes : goal.returns-in-Ok-clause-bytes
-returns-in-Ok-clause-bytes g c = grind (arith, common_steps)
 
 pub returns-in-Err-clause-unread : goal.returns-in-Err-clause-unread
 returns-in-Err-clause-unread g c = rw c.of_reader.ensures (unread_so _ _ _ _ c.args.early c.in-Err.unread c.in-Err.ensures.why (omega arith) c.requires)

@@ -1,4 +1,4 @@
-use Rattle.cdb_form.proofs.Words.{arith, common_steps, refl, ◌+◌}
+use Rattle.cdb_form.proofs.Words.{arith, refl, ◌+◌}
 use Rattle.std.proofs.lemmas.Result.{IfErr-weaker, on_ok_weaker, on_err_weaker}
 use Rattle.cdb_form.proofs.Fed.FeedLemmas.{consumes_then}
 use Rattle.cdb_form.proofs.RecordReading.RecordReads.{loses_then, fewer_then, short_then}
@@ -27,6 +27,3 @@ returns-clause-loses g c = loses_then _ _ _ c.bytes.new.into.items c.args.header
 pub returns-clause-loses_fewer : goal.returns-clause-loses_fewer
 returns-clause-loses_fewer g c =
     on_err_weaker c.record_value.result (λ l. fewer_then _ _ _ c.bytes.new.into.items c.args.header.vlen (c.args.header.klen + c.args.header.vlen) c.in_ok-bytes.ensures.read l (omega (arith, c.in_ok-bytes.ensures.long))) c.record_value.ensures.loses_fewer
-
-pub invariant_of-into : goal.invariant_of-into
-invariant_of-into g c = grind (arith, common_steps)

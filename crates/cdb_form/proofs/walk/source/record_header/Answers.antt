@@ -28,9 +28,6 @@ returns-clause-loses g c = search rules
 pub returns-in_err-fill-clause-loses : goal.returns-in_err-fill-clause-loses
 returns-in_err-fill-clause-loses g c = search rules
 
-pub slice_bounds-bytes-end-2 : goal.slice_bounds-bytes-end-2
-slice_bounds-bytes-end-2 g c = grind (arith, common_steps)
-
 pub slice_bounds-read_header-end : goal.slice_bounds-read_header-end
 slice_bounds-read_header-end g c = grind (arith, common_steps)
 

@@ -1,4 +1,4 @@
-use Rattle.cdb_form.proofs.Words.{arith, common_steps, rules}
+use Rattle.cdb_form.proofs.Words.{arith, rules}
 use Rattle.cdb_form.proofs.writing.AnySink.write_some.Goals as goal
 
 pub returns-then-ne-clause-count : goal.returns-then-ne-clause-count
@@ -9,6 +9,3 @@ returns-then-n-eq0-clause-err g c = search rules
 
 pub loop-preserved : goal.loop-preserved
 loop-preserved g c = search rules
-
-pub returns-then-n-eq0-clause-ok : goal.returns-then-n-eq0-clause-ok
-returns-then-n-eq0-clause-ok g c = grind (arith, common_steps)

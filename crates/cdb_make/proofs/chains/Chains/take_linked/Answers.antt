@@ -1,4 +1,4 @@
-use Rattle.cdb_make.proofs.Words.{AreChained, Bool, IsIn, IsTakenFrom, List, Mark, ap, arith, bucket_of, common_steps, get_or, get_or-set_other, get_or-set_same, get_or_default_zero, gone_of, is_gone, length, length-set, map-set, refl, set, slice_index, subst, sym, true, ℕ, ◌+◌, ◌-◌, ◌<◌, ◌∙◌, ◌≡◌, ◌≢◌}
+use Rattle.cdb_make.proofs.Words.{AreChained, Bool, IsIn, IsTakenFrom, List, Mark, ap, arith, bucket_of, get_or, get_or-set_other, get_or-set_same, get_or_default_zero, gone_of, is_gone, length, length-set, map-set, refl, set, slice_index, subst, sym, true, ℕ, ◌+◌, ◌-◌, ◌<◌, ◌∙◌, ◌≡◌, ◌≢◌}
 use Rattle.cdb_make.specs.declared.mark.Mark.TheVariants.{Gone}
 use Rattle.cdb_make.proofs.Marking.{found_or, taken_found, taken_same, taken_none, taken_step, free_of, onward}
 use Rattle.cdb_make.proofs.chains.Chains.take_linked.Goals as goal
@@ -81,6 +81,3 @@ loop-at-preserved-then-is_found_at c =
           let step = inv.chained.steps (c.loop-at.newer - 1) (omega (arith, q.0)) q.1 in
           (omega (arith, q.0, d.long), other (c.loop-at.newer - 1) (λ e. omega (arith, q.2, step.within)) ∙ q.1, d.next lt₁ ∙ sym is);
     }
-
-pub drop_entry-requires-clause-last : goal.drop_entry-requires-clause-last
-drop_entry-requires-clause-last g c = grind (arith, common_steps)

@@ -117,11 +117,5 @@ write_parts-requires-clause-lists g c = grind (arith, common_steps)
 pub write_parts-requires-clause-gathers : goal.write_parts-requires-clause-gathers
 write_parts-requires-clause-gathers g c = grind (arith, common_steps)
 
-pub returns-clause-settled : goal.returns-clause-settled
-returns-clause-settled g c = grind (arith, common_steps)
-
 pub slice_bounds-write_parts-end : goal.slice_bounds-write_parts-end
 slice_bounds-write_parts-end g c = grind (arith, common_steps)
-
-pub returns-clause-faults : goal.returns-clause-faults
-returns-clause-faults g c = grind (arith, common_steps)

@@ -1,4 +1,6 @@
-use Rattle.cdb_make.proofs.Words.{AreSized, ImagesHold, List, arith, common_steps, flat_map, head_size, inl, length, roll_tables, table_bytes, ℕ, ◌-◌}
+use Rattle.std.proofs.lemmas.Grind.{common_steps}
+use Rattle.std.proofs.Common.{arith}
+use Rattle.cdb_make.proofs.Words.{AreSized, ImagesHold, List, arith, flat_map, head_size, inl, length, roll_tables, table_bytes, ℕ, ◌-◌}
 use Rattle.cdb_store.proofs.Moves.{kept_torn, kept_cut, kept_same, held_first, held_kept}
 use Rattle.cdb_make.proofs.Slots.TableBytes.{length-tables}
 use Rattle.cdb_make.proofs.FinishedFile.{settled_end, kept_then}
@@ -58,24 +60,6 @@ returns-clause-held g c =
     let held : ImagesHold c.args.roll.now.end ts (g.S.Store.image c.write_tables.new.store) = held_first c.requires.inside sized c.in_ok-write_tables.ensures.ok in
     let cut : ImagesHold c.args.roll.now.end ts (g.S.Store.image c.cut.new.self) = held_kept (kept_cut c.args.roll.now.end (length ts) (omega (arith, bytes, c.requires.last, c.cut.ensures.no_shorter)) c.cut.ensures.images) held in
     on_any_ok c.flush.result (held_kept (kept_same c.args.roll.now.end (length ts) c.flush.ensures.images) cut)
-
-pub returns-clause-settled : goal.returns-clause-settled
-returns-clause-settled g c = grind (arith, common_steps)
-
-pub write_tables-requires-clause-runs : goal.write_tables-requires-clause-runs
-write_tables-requires-clause-runs g c = grind (arith, common_steps)
-
-pub returns-clause-inside : goal.returns-clause-inside
-returns-clause-inside g c = grind (arith, common_steps)
-
-pub returns-clause-unwritten : goal.returns-clause-unwritten
-returns-clause-unwritten g c = grind (arith, common_steps)
-
-pub returns-clause-room : goal.returns-clause-room
-returns-clause-room g c = grind (arith, common_steps)
-
-pub returns-clause-size : goal.returns-clause-size
-returns-clause-size g c = grind (arith, common_steps)
 
 pub returns-clause-memory : goal.returns-clause-memory
 returns-clause-memory g c = grind (arith, common_steps)

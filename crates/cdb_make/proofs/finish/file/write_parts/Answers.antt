@@ -1,4 +1,4 @@
-use Rattle.cdb_make.proofs.Words.{AreSized, ImagesHold, List, ap, arith, common_steps, flat_map, head_size, held_kept, inr, kept_same, kept_torn, length, length-map, roll_entries, roll_tables, rules, sum, sum_by, table_bytes, ℕ, ◌*◌, ◌-◌, ◌∙◌, ◌≡◌}
+use Rattle.cdb_make.proofs.Words.{AreSized, ImagesHold, List, ap, arith, flat_map, head_size, held_kept, inr, kept_same, kept_torn, length, length-map, roll_entries, roll_tables, rules, sum, sum_by, table_bytes, ℕ, ◌*◌, ◌-◌, ◌∙◌, ◌≡◌}
 use Rattle.cdb_make.proofs.FinishedFile.{finished, kept_then, head_kept, tables_held}
 use Rattle.cdb_make.proofs.Slots.Counts.{sum_lengths}
 use Rattle.cdb_make.proofs.Tables.{length-tables_of}
@@ -57,24 +57,3 @@ returns-clause-cause g c = search rules
 
 pub returns-clause-memory : goal.returns-clause-memory
 returns-clause-memory g c = search rules
-
-pub settle_tables-requires-clause-gathers : goal.settle_tables-requires-clause-gathers
-settle_tables-requires-clause-gathers g c = grind (arith, common_steps)
-
-pub returns-clause-size : goal.returns-clause-size
-returns-clause-size g c = grind (arith, common_steps)
-
-pub returns-clause-room : goal.returns-clause-room
-returns-clause-room g c = grind (arith, common_steps)
-
-pub returns-clause-unwritten : goal.returns-clause-unwritten
-returns-clause-unwritten g c = grind (arith, common_steps)
-
-pub settle_tables-requires-clause-runs : goal.settle_tables-requires-clause-runs
-settle_tables-requires-clause-runs g c = grind (arith, common_steps)
-
-pub returns-clause-inside : goal.returns-clause-inside
-returns-clause-inside g c = grind (arith, common_steps)
-
-pub returns-clause-settled : goal.returns-clause-settled
-returns-clause-settled g c = grind (arith, common_steps)

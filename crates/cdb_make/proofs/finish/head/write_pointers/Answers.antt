@@ -1,4 +1,4 @@
-use Rattle.cdb_make.proofs.Words.{All-same, List, PairFits, WordPair, ap, arith, common_steps, length, map, sum, sum_by, ℕ, ◌*◌, ◌+◌, ◌∙◌, ◌≡◌, ◌≤◌}
+use Rattle.cdb_make.proofs.Words.{All-same, List, PairFits, WordPair, ap, arith, length, map, sum, sum_by, ℕ, ◌*◌, ◌+◌, ◌∙◌, ◌≡◌, ◌≤◌}
 use Rattle.cdb_form.proofs.Files.Sizes.{pointers_fit}
 use Rattle.cdb_make.proofs.Slots.Counts.{lists_of, lengths_of, sum_lengths}
 use Rattle.cdb_make.proofs.finish.head.write_pointers.Goals as goal
@@ -12,18 +12,3 @@ write_head-requires-clause-fits g c =
     let total : 4 * g.L.Width.WORD * sum ns ≡ 4 * g.L.Width.WORD * sum_by length ls = ap (λ (n : ℕ). 4 * g.L.Width.WORD * n) same in
     let limit : c.args.end + 4 * g.L.Width.WORD * sum_by length ls ≤ g.L.Width.TOP = omega (arith, total, c.requires.limit, g.met.L.Width.greatest_fits.0) in
     All-same (PairFits g.L.Width.TOP) _ _ (c.head_of-head.ensures ls is) (pointers_fit g.L.Width.WORD c.args.end g.L.Width.TOP ls g.met.L.Width.four_or_eight limit)
-
-pub returns-clause-ok : goal.returns-clause-ok
-returns-clause-ok g c = grind (arith, common_steps)
-
-pub returns-clause-size : goal.returns-clause-size
-returns-clause-size g c = grind (arith, common_steps)
-
-pub returns-clause-cause : goal.returns-clause-cause
-returns-clause-cause g c = grind (arith, common_steps)
-
-pub write_at-requires-clause-end : goal.write_at-requires-clause-end
-write_at-requires-clause-end g c = grind (arith, common_steps)
-
-pub returns-clause-memory : goal.returns-clause-memory
-returns-clause-memory g c = grind (arith, common_steps)

@@ -1,3 +1,5 @@
+use Rattle.std.proofs.lemmas.Grind.{common_steps}
+use Rattle.std.proofs.Common.{arith}
 use Rattle.cdb_make.proofs.Words.{AfterTornWrite, AfterWrite, AreSized, List, all_gathered, ap, arith, common_steps, flat_map, gathered_in, length, length-append, length-drop, length-take-le, pair_size, refl, subst, sum_by, sym, table_bytes, take, take_all, torn_behind, torn_from_write, torn_wider, write_more, ℕ, ◌*◌, ◌++◌, ◌+◌, ◌∙◌, ◌≡◌}
 use Rattle.cdb_make.proofs.Slots.HeadPointers.{sums_more}
 use Rattle.cdb_make.proofs.Slots.TableBytes.{HasRoom, table_room, tables_next, length-tables}
@@ -127,3 +129,6 @@ returns-clause-written g c = grind (arith, common_steps)
 
 pub returns-clause-ok : goal.returns-clause-ok
 returns-clause-ok g c = grind (arith, common_steps)
+
+pub returns-clause-end : goal.returns-clause-end
+returns-clause-end g c = grind (arith, common_steps)

@@ -1,4 +1,6 @@
-use Rattle.cdb_make.proofs.Words.{AfterTornWrite, AfterWrite, AreSized, List, WordPair, [], all_gathered, ap, arith, common_steps, flat_map, flat_map-append, length, refl, roll_entries, roll_tables, subst, sum_by, sym, table_bytes, tables_of, torn_behind, torn_from_write, torn_wider, write_more, ℕ, ◌*◌, ◌++◌, ◌+◌, ◌∙◌, ◌≡◌, ◌≤◌}
+use Rattle.std.proofs.lemmas.Grind.{common_steps}
+use Rattle.std.proofs.Common.{arith}
+use Rattle.cdb_make.proofs.Words.{AfterTornWrite, AfterWrite, AreSized, List, WordPair, [], all_gathered, ap, arith, flat_map, flat_map-append, length, refl, roll_entries, roll_tables, subst, sum_by, sym, table_bytes, tables_of, torn_behind, torn_from_write, torn_wider, write_more, ℕ, ◌*◌, ◌++◌, ◌+◌, ◌∙◌, ◌≡◌, ◌≤◌}
 use Rattle.cdb_make.proofs.Slots.TableBytes.{length-tables, all_written}
 use Rattle.cdb_make.proofs.Tables.{group_room, group_runs, group_next, group_sum, no_tables}
 use Rattle.cdb_make.proofs.finish.tables.write_tables.Goals as goal
@@ -95,9 +97,6 @@ returns-clause-torn g c =
     let len : length (flat_map (table_bytes w) (tables_of es 0 (32 * c.loop-group.group))) ≡ 4 * w * sum_by length (roll_tables c.args.roll.now) =
     length-tables w (tables_of es 0 (32 * c.loop-group.group)) ∙ ap (λ (n : ℕ). 4 * w * sum_by length (tables_of es 0 n)) all in
     subst (λ (n : ℕ). AfterTornWrite c.args.end n (g.S.Store.image c.args.store.now) (g.S.Store.image c.loop-group.store)) len (torn_from_write c.requires.inside sized c.loop-group.invariant.tables)
-
-pub returns-clause-memory : goal.returns-clause-memory
-returns-clause-memory g c = grind (arith, common_steps)
 
 pub write_group-requires-clause-bytes : goal.write_group-requires-clause-bytes
 write_group-requires-clause-bytes g c = grind (arith, common_steps)

@@ -1,3 +1,5 @@
+use Rattle.std.proofs.lemmas.Grind.{common_steps}
+use Rattle.std.proofs.Common.{arith}
 use Rattle.cdb_make.proofs.Words.{arith, common_steps, inl, refl}
 use Rattle.cdb_make.proofs.Admitting.{stays_self}
 use Rattle.cdb_make.proofs.maker.Maker.add_before.Goals as goal
@@ -10,9 +12,6 @@ returns-in-Ok-clause-waits g c = grind (arith, common_steps)
 
 pub returns-then-not-has_room-clause-done : goal.returns-then-not-has_room-clause-done
 returns-then-not-has_room-clause-done g c = grind (arith, common_steps)
-
-pub returns-in-Err-NoMemory-clause-tagged : goal.returns-in-Err-NoMemory-clause-tagged
-returns-in-Err-NoMemory-clause-tagged g c = grind (arith, common_steps)
 
 pub returns-in-Ok-clause-done : goal.returns-in-Ok-clause-done
 returns-in-Ok-clause-done g c = grind (arith, common_steps)
@@ -33,3 +32,9 @@ returns-in-Ok-clause-steps g c = record { fine = c.in-Ok.ensures.fine; counts = 
 
 pub returns-in-Err-NoMemory-clause-steps : goal.returns-in-Err-NoMemory-clause-steps
 returns-in-Err-NoMemory-clause-steps g c = record { fine = grind (arith, common_steps); counts = tt; follows = c.add.ensures.follows }
+
+pub returns-in-Err-NoMemory-clause-tagged : goal.returns-in-Err-NoMemory-clause-tagged
+returns-in-Err-NoMemory-clause-tagged g c = grind (arith, common_steps)
+
+pub returns-in-Err-clause-tagged : goal.returns-in-Err-clause-tagged
+returns-in-Err-clause-tagged g c = grind (arith, common_steps)

@@ -1,4 +1,6 @@
-use Rattle.cdb_make.proofs.Words.{marks_in, AreNone, ap, arith, common_steps, inl, inr, on_ok_weaker, refl, searched, subst, sym, ◌∙◌, rules}
+use Rattle.std.proofs.lemmas.Grind.{common_steps}
+use Rattle.std.proofs.Common.{arith}
+use Rattle.cdb_make.proofs.Words.{marks_in, AreNone, ap, arith, inl, inr, on_ok_weaker, refl, searched, subst, sym, ◌∙◌, rules}
 use Rattle.cdb_make.proofs.Bytes.Written.{on_any_ok}
 use Rattle.cdb_make.proofs.Rolls.{follows_then, if_err_weaker}
 use Rattle.cdb_make.proofs.Admitting.{have_more, taken_clear, admits_later, admits_after, fails_after}
@@ -46,6 +48,3 @@ returns-clause-alone g c = on_any_ok c.compact_and_add.result (inr (λ lazy. inr
 
 pub invariant_of-self-clause-within : goal.invariant_of-self-clause-within
 invariant_of-self-clause-within g c = grind (arith, common_steps)
-
-pub compact_and_add-requires-clause-have : goal.compact_and_add-requires-clause-have
-compact_and_add-requires-clause-have g c = grind (arith, common_steps)

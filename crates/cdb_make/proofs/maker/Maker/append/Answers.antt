@@ -1,3 +1,5 @@
+use Rattle.std.proofs.lemmas.Grind.{common_steps}
+use Rattle.std.proofs.Common.{arith}
 use Rattle.cdb_make.proofs.Words.{length, whole_records}
 use Rattle.cdb_make.proofs.Appends.{appends_after, fails_after, if_ok_weaker}
 use Rattle.cdb_make.proofs.Rolls.{follows_then, if_err_weaker}
@@ -19,3 +21,9 @@ returns-clause-fails g c =
 
 pub returns-clause-follows : goal.returns-clause-follows
 returns-clause-follows g c = follows_then c.args.self.now c.compact_all.new.self c.append_beside-2.new.self c.compact_all.ensures.follows c.append_beside-2.ensures.follows
+
+pub returns-clause-tagged : goal.returns-clause-tagged
+returns-clause-tagged g c = grind (arith, common_steps)
+
+pub returns-in_err-compact_all-clause-tagged : goal.returns-in_err-compact_all-clause-tagged
+returns-in_err-compact_all-clause-tagged g c = grind (arith, common_steps)

@@ -79,6 +79,3 @@ returns-then-count-eq0-clause-ok g c =
 
 pub returns-clause-gone : goal.returns-clause-gone
 returns-clause-gone g c = grind (arith, common_steps)
-
-pub enter_all-requires-clause-room : goal.enter_all-requires-clause-room
-enter_all-requires-clause-room g c = grind (arith, common_steps)

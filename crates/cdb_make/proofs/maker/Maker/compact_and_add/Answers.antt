@@ -1,4 +1,4 @@
-use Rattle.cdb_make.proofs.Words.{marks_in, Err, ap, arith, common_steps, false, false_from_ne_true, gone_in, inr, is_gone, length, length-map, refl, sym, true, ◌+◌, ◌∙◌, ◌≡◌, cases_lt, inl, ℕ}
+use Rattle.cdb_make.proofs.Words.{marks_in, Err, ap, arith, false, false_from_ne_true, gone_in, inr, is_gone, length, length-map, refl, sym, true, ◌+◌, ◌∙◌, ◌≡◌, cases_lt, inl, ℕ}
 use Rattle.cdb_make.proofs.Looking.{same_self, sees_long}
 use Rattle.cdb_make.proofs.Picking.{left_all_stay, both_few, both_within}
 use Rattle.cdb_make.proofs.Rolls.{follows_then, follows_room, compacting_fails, fewer_slots, room_fails}
@@ -96,9 +96,6 @@ returns-in-Ok-clause-admits g c =
             );
       };
     }
-
-pub exchange-requires-clause-have : goal.exchange-requires-clause-have
-exchange-requires-clause-have g c = grind (arith, common_steps)
 
 pub invariant_of-self-in-Err-clause-told : goal.invariant_of-self-in-Err-clause-told
 invariant_of-self-in-Err-clause-told g c = c.exchange.new.self.told

@@ -1,4 +1,4 @@
-use Rattle.cdb_make.proofs.Words.{marks_in, AreNone, AreOf, List, [], ap, arith, common_steps, false, gone_of, head_size, length, places_in, refl, searched, subst, sym, ℕ, ◌*◌, ◌++◌, ◌∙◌, ◌∷◌}
+use Rattle.cdb_make.proofs.Words.{marks_in, AreNone, AreOf, List, [], ap, arith, false, gone_of, head_size, length, places_in, refl, searched, subst, sym, ℕ, ◌*◌, ◌++◌, ◌∙◌, ◌∷◌}
 use Rattle.cdb_make.proofs.Bytes.Written.{on_any_err}
 use Rattle.cdb_make.proofs.Appends.{entered, stays_noted}
 use Rattle.cdb_make.proofs.Rolls.{number_is, none_more, slots_push}
@@ -38,12 +38,6 @@ pub invariant_of-self-2-clause-eager : goal.invariant_of-self-2-clause-eager
 invariant_of-self-2-clause-eager g c = λ eager whole.
     let m = c.args.self.now in
     none_more (gone_of (marks_in m.roll)) (gone_of (marks_in c.push.new.self)) (c.push.ensures.gone ∙ ap (λ v. gone_of v ++ false ∷ []) c.reserve.ensures.marks) (m.eager eager whole)
-
-pub returns-clause-gone : goal.returns-clause-gone
-returns-clause-gone g c = grind (arith, common_steps)
-
-pub push-requires-clause-room : goal.push-requires-clause-room
-push-requires-clause-room g c = grind (arith, common_steps)
 
 pub invariant_of-self : goal.invariant_of-self
 invariant_of-self g c =

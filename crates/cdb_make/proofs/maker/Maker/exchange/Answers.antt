@@ -1,4 +1,4 @@
-use Rattle.cdb_make.proofs.Words.{Bool, KeyValue, List, [], ap, arith, behind, common_steps, found_in, gone_in, inl, inr, left, length, map, on_err_weaker, on_ok_weaker, or_each, record_size, sum, sym, ℕ, ◌*◌, ◌++◌, ◌+◌, ◌∙◌, ◌∷◌, ◌≡◌}
+use Rattle.cdb_make.proofs.Words.{Bool, KeyValue, List, [], ap, arith, behind, found_in, gone_in, inl, inr, left, length, map, on_err_weaker, on_ok_weaker, or_each, record_size, sum, sym, ℕ, ◌*◌, ◌++◌, ◌+◌, ◌∙◌, ◌∷◌, ◌≡◌}
 use Rattle.cdb_make.proofs.Finishing.{exchange_counts}
 use Rattle.cdb_make.proofs.Looking.{sees_same}
 use Rattle.cdb_make.proofs.Rolls.{none_more, slots_add, follows_then, exchange_fails, torn_fails}
@@ -87,9 +87,6 @@ returns-clause-counts g c =
     (λ stays. exchange_counts c.args.self.now c.pass.new.self c.add.new.self (c.pass.ensures.told ∙ c.counts-self.ensures.count) (c.pass.ensures.told_size ∙ c.counts-self.ensures.size) c.add.ensures.counted p.clear p.clear_size (omega (arith, p.end, t.size, t.same.end))
     (omega (arith, p.count, t.count, ap length t.same.hashes)) (c.add.ensures.follows.limit ∙ c.pass.ensures.follows.limit) stays)
     c.add.ensures.stays
-
-pub returns-clause-fine : goal.returns-clause-fine
-returns-clause-fine g c = grind (arith, common_steps)
 
 pub add-requires-clause-candidate : goal.add-requires-clause-candidate
 add-requires-clause-candidate g c =

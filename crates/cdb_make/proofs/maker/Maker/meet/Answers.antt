@@ -1,4 +1,4 @@
-use Rattle.cdb_make.proofs.Words.{AreNone, KeyValue, Meets, arith, common_steps, reads_nothing, refl, subst, sym, ℕ, ◌<◌, ◌∙◌, ◌≡◌}
+use Rattle.cdb_make.proofs.Words.{AreNone, KeyValue, Meets, arith, reads_nothing, refl, subst, sym, ℕ, ◌<◌, ◌∙◌, ◌≡◌}
 use Rattle.cdb_form.specs.declared.mode.Mode.TheVariants.{Warn, Insert, Replace}
 use Rattle.cdb_make.specs.declared.answer.Put.TheVariants.{Added, AddedAgain, Present, Replaced}
 use Rattle.cdb_make.proofs.Meeting.{meets_add, meets_by, meets_found, plain_again, plain_warn, plain_present, plain_insert, answers_none, answers_some}
@@ -55,36 +55,6 @@ returns-else-taken-eq0-clause-meets g c = λ value.
 
 pub returns-else-self-clause-tagged : goal.returns-else-self-clause-tagged
 returns-else-self-clause-tagged g c = λ tagged. c.requires.tagged (sym c.put_back.ensures.tagged ∙ tagged)
-
-pub returns-else-branch-2-clause-room : goal.returns-else-branch-2-clause-room
-returns-else-branch-2-clause-room g c = grind (arith, common_steps)
-
-pub look-requires : goal.look-requires
-look-requires g c = grind (arith, common_steps)
-
-pub returns-else-branch-clause-room : goal.returns-else-branch-clause-room
-returns-else-branch-clause-room g c = grind (arith, common_steps)
-
-pub returns-then-branch-2-clause-room : goal.returns-then-branch-2-clause-room
-returns-then-branch-2-clause-room g c = grind (arith, common_steps)
-
-pub returns-else-self-clause-room : goal.returns-else-self-clause-room
-returns-else-self-clause-room g c = grind (arith, common_steps)
-
-pub look-requires-in-Insert : goal.look-requires-in-Insert
-look-requires-in-Insert g c = grind (arith, common_steps)
-
-pub returns-then-taken-eq0-clause-room : goal.returns-then-taken-eq0-clause-room
-returns-then-taken-eq0-clause-room g c = grind (arith, common_steps)
-
-pub seek-requires : goal.seek-requires
-seek-requires g c = grind (arith, common_steps)
-
-pub returns-else-taken-eq0-clause-room : goal.returns-else-taken-eq0-clause-room
-returns-else-taken-eq0-clause-room g c = grind (arith, common_steps)
-
-pub returns-then-branch-clause-room : goal.returns-then-branch-clause-room
-returns-then-branch-clause-room g c = grind (arith, common_steps)
 
 pub invariant_of-self-clause-told : goal.invariant_of-self-clause-told
 invariant_of-self-clause-told g c = c.args.self.now.told

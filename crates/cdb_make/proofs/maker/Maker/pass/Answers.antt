@@ -1,3 +1,5 @@
+use Rattle.std.proofs.lemmas.Grind.{common_steps}
+use Rattle.std.proofs.Common.{arith}
 use Rattle.cdb_make.proofs.Words.{marks_in, AreOf, AreSpans, Bool, List, Mark, Turns, ap, arith, behind, common_steps, gone_of, head_size, left, length, map, places_in, record_size, refl, subst, sum, sym, ℕ, ◌+◌, ◌∙◌, ◌≡◌}
 use Rattle.cdb_make.proofs.Looking.{sees_same}
 use Rattle.cdb_make.proofs.Marking.{marks_full}
@@ -66,3 +68,6 @@ returns-clause-room g c = grind (arith, common_steps)
 
 pub invariant_of-self-in-Break-1 : goal.invariant_of-self-in-Break-1
 invariant_of-self-in-Break-1 g c = grind (arith, common_steps)
+
+pub returns-clause-found : goal.returns-clause-found
+returns-clause-found g c = grind (arith, common_steps)

@@ -24,14 +24,8 @@ returns-in-Err-clause-follows g c =
     let f = c.failed_look.ensures in
     follows_read c.args.self.now c.failed_look.new.self f.limit f.lazy (rw f.store c.find.ensures.reads)
 
-pub returns-in-Ok-clause-room : goal.returns-in-Ok-clause-room
-returns-in-Ok-clause-room g c = grind (arith, common_steps)
-
 pub returns-in-Err-clause-counts : goal.returns-in-Err-clause-counts
 returns-in-Err-clause-counts g c = grind (arith, common_steps)
-
-pub returns-in-Ok-clause-counts : goal.returns-in-Ok-clause-counts
-returns-in-Ok-clause-counts g c = grind (arith, common_steps)
 
 pub invariant_of-self-clause-told : goal.invariant_of-self-clause-told
 invariant_of-self-clause-told g c = c.args.self.now.told

@@ -1,3 +1,5 @@
+use Rattle.std.proofs.lemmas.Grind.{common_steps}
+use Rattle.std.proofs.Common.{arith}
 use Rattle.cdb_make.proofs.Words.{AreChained, AreNone, AreOf, IsFirstMarked, IsPicked, all_marks, get_or, marks_in, AreRising, AreSpans, Bool, List, Mark, Picked, ap, arith, common_steps, false, found_of, get_or_default, gone_of, head_size, is_gone, left, length, length-map, length-take-le, number, places_in, searched, searched_by, slice_index, subst, sym, take, take_at, true, ℕ, ◌+◌, ◌<◌, ◌∙◌, ◌≡◌, ◌≤◌}
 use Rattle.cdb_make.proofs.Looking.{same_then}
 use Rattle.cdb_make.proofs.Marking.{all_long, marks_full}
@@ -200,14 +202,8 @@ returns-clause-tagged g c = grind (arith, common_steps)
 pub compact_entries-kept-requires-clause-paired : goal.compact_entries-kept-requires-clause-paired
 compact_entries-kept-requires-clause-paired g c = grind (arith, common_steps)
 
-pub returns-clause-clear_size : goal.returns-clause-clear_size
-returns-clause-clear_size g c = grind (arith, common_steps)
-
 pub invariant_of-self-clause-paired : goal.invariant_of-self-clause-paired
 invariant_of-self-clause-paired g c = grind (arith, common_steps)
-
-pub returns-clause-clear : goal.returns-clause-clear
-returns-clause-clear g c = grind (arith, common_steps)
 
 pub invariant_of-self-clause-place_room : goal.invariant_of-self-clause-place_room
 invariant_of-self-clause-place_room g c = grind (arith, common_steps)
@@ -217,3 +213,12 @@ returns-clause-hashes g c = grind (arith, common_steps)
 
 pub invariant_of-self-clause-most_places : goal.invariant_of-self-clause-most_places
 invariant_of-self-clause-most_places g c = omega (arith, c.truncate-2.ensures.room, c.compact_entries-kept.ensures.room, c.mark_all.new.self.most_places)
+
+pub compact_entries-kept-requires-clause-long : goal.compact_entries-kept-requires-clause-long
+compact_entries-kept-requires-clause-long g c = grind (arith, common_steps)
+
+pub invariant_of-self-clause-most_hashes : goal.invariant_of-self-clause-most_hashes
+invariant_of-self-clause-most_hashes g c = grind (arith, common_steps)
+
+pub invariant_of-self-clause-most_marks : goal.invariant_of-self-clause-most_marks
+invariant_of-self-clause-most_marks g c = grind (arith, common_steps)

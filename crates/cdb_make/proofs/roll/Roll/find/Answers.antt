@@ -1,6 +1,6 @@
 use Rattle.cdb_make.proofs.Words.{AreChained, Bool, IsPicked, List, Mark, Picked, all_marks, ap, arith, gone_of, false, true, length, marks_in, set, common_steps, found_of, get_or, get_or_default, head_size, is_found, length-map, length-set, map-set, places_in, refl, searched, subst, sym, ℕ, ◌+◌, ◌-◌, ◌∙◌, ◌≡◌}
 use Rattle.cdb_make.specs.declared.mark.Mark.TheVariants.{Found}
-use Rattle.cdb_make.proofs.Spans.{spans_of, long_as}
+use Rattle.cdb_make.proofs.Spans.{spans_of}
 use Rattle.cdb_make.proofs.Marking.{marks_long}
 use Rattle.cdb_make.proofs.Picking.{set_marks, picks_set, gone_set, number_most, picked_within}
 use Rattle.cdb_make.proofs.roll.Roll.find.Goals.{After-mark_all}
@@ -58,9 +58,6 @@ invariant_of-self-clause-picked g c =
 
 pub invariant_of-self-clause-marked : goal.invariant_of-self-clause-marked
 invariant_of-self-clause-marked g c = omega (arith, length-set c.mark_all.new.self.marks.items c.args.n Found, c.mark_all.ensures.marked)
-
-pub invariant_of-self-clause-spans : goal.invariant_of-self-clause-spans
-invariant_of-self-clause-spans g c = grind (arith, common_steps)
 
 pub returns-clause-room : goal.returns-clause-room
 returns-clause-room g c = λ has.

@@ -1,4 +1,4 @@
-use Rattle.cdb_make.proofs.Words.{AreChained, AreNone, IsPicked, List, Mark, Picked, ap, arith, common_steps, found_of, gone_of, head_size, is_found, length, length-map, map, marks_in, number, places_in, put_back, searched, subst, sym, ◌<◌, ◌∙◌}
+use Rattle.cdb_make.proofs.Words.{AreChained, AreNone, IsPicked, List, Mark, Picked, ap, arith, found_of, gone_of, head_size, is_found, length, length-map, map, marks_in, number, places_in, put_back, searched, subst, sym, ◌<◌, ◌∙◌}
 use Rattle.cdb_make.proofs.Picking.{back_long, back_marks, first_within, gone_put_back, found_put_back, picks_none}
 use Rattle.cdb_make.proofs.Marking.{marks_long}
 use Rattle.cdb_make.proofs.Survive.{number_zero}
@@ -47,9 +47,6 @@ invariant_of-self-clause-sought g c =
     let ms : List Mark = map put_back (marks_in m) in
     subst (λ (v : List Mark). IsPicked (head_size g.L.Width.WORD) (places_in m.places) m.end (found_of v) c.none-self.result) (sym (back_marks (length m.hashes.items) c.deref_mut.result.now m.marks.items c.put_each_back.new.marks _ m.marks.len m.found.first c.mark_all.ensures.marked c.deref_mut.ensures.value m.marks.ok.0 m.sought.first some h.long h.back))
     (picks_none _ _ _ (found_of ms) _ (found_put_back (marks_in m)) c.none-self.ensures.first c.none-self.ensures.count c.none-self.ensures.size)
-
-pub invariant_of-self-clause-spans : goal.invariant_of-self-clause-spans
-invariant_of-self-clause-spans g c = grind (arith, common_steps)
 
 pub put_each_back-requires : goal.put_each_back-requires
 put_each_back-requires g c =

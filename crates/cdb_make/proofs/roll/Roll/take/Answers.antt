@@ -1,4 +1,6 @@
-use Rattle.cdb_make.proofs.Words.{AreChained, IsPicked, List, Mark, ap, arith, common_steps, found_of, gone_of, head_size, is_found, is_gone, length, length-map, map, marks_in, or_each, picked, places_in, refl, searched, searched_by, subst, sum, sym, taken, ℕ, ◌+◌, ◌∙◌, ◌≡◌}
+use Rattle.std.proofs.lemmas.Grind.{common_steps}
+use Rattle.std.proofs.Common.{arith}
+use Rattle.cdb_make.proofs.Words.{AreChained, IsPicked, List, Mark, ap, arith, found_of, gone_of, head_size, is_found, is_gone, length, length-map, map, marks_in, or_each, picked, places_in, refl, searched, searched_by, subst, sum, sym, taken, ℕ, ◌+◌, ◌∙◌, ◌≡◌}
 use Rattle.cdb_make.proofs.Marking.{marks_full, marks_long}
 use Rattle.cdb_make.proofs.Spans.{spans_of, long_as}
 use Rattle.cdb_make.proofs.Picking.{back_long, taken_marks, picks_none, picks_taken, gone_taken, found_taken, number_taken, number_most, picked_taken, picked_within, picked_none}
@@ -70,3 +72,15 @@ returns-then-self-eq0-clause-size g c =
 
 pub invariant_of-self-clause-spans : goal.invariant_of-self-clause-spans
 invariant_of-self-clause-spans g c = grind (arith, common_steps)
+
+pub returns-clause-count : goal.returns-clause-count
+returns-clause-count g c = grind (arith, common_steps)
+
+pub returns-clause-linked : goal.returns-clause-linked
+returns-clause-linked g c = grind (arith, common_steps)
+
+pub returns-clause-size : goal.returns-clause-size
+returns-clause-size g c = grind (arith, common_steps)
+
+pub returns-clause-tagged : goal.returns-clause-tagged
+returns-clause-tagged g c = grind (arith, common_steps)

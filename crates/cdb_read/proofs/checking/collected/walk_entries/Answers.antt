@@ -44,6 +44,3 @@ returns-clause-entries g c = λ b is.
 
 pub returns-clause-reads : goal.returns-clause-reads
 returns-clause-reads g c = grind (arith, common_steps)
-
-pub loop-lists-smaller : goal.loop-lists-smaller
-loop-lists-smaller g c = grind (arith, common_steps)

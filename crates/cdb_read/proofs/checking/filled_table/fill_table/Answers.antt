@@ -4,8 +4,5 @@ use Rattle.cdb_read.proofs.checking.filled_table.fill_table.Goals as goal
 pub returns-clause-filled : goal.returns-clause-filled
 returns-clause-filled g c = grind (arith, common_steps)
 
-pub put_all-requires-clause-fits : goal.put_all-requires-clause-fits
-put_all-requires-clause-fits g c = grind (arith, common_steps)
-
 pub returns-clause-long : goal.returns-clause-long
 returns-clause-long g c = grind (arith, common_steps)

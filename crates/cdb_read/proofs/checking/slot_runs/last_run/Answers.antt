@@ -56,23 +56,5 @@ returns-clause-run g c = λ b is.
     (let down : c.args.table.slots - c.loop-run.run ≡ 0 = omega (arith, c.loop-run-test.false) in ap (λ n. run_of (take n (slots_at w b p))) down ∙ run_of-none) in
     omega (arith, c.loop-run-test.false, c.loop-run.auto.run-end)
 
-pub overflow_add-place : goal.overflow_add-place
-overflow_add-place g c = grind (arith, common_steps)
-
-pub returns-then-slot-eq0-clause-fails : goal.returns-then-slot-eq0-clause-fails
-returns-then-slot-eq0-clause-fails g c = grind (arith, common_steps)
-
-pub slot_at-requires-clause-inside : goal.slot_at-requires-clause-inside
-slot_at-requires-clause-inside g c = grind (arith, common_steps)
-
-pub returns-then-slot-eq0-clause-shows : goal.returns-then-slot-eq0-clause-shows
-returns-then-slot-eq0-clause-shows g c = grind (arith, common_steps)
-
-pub cover_back-requires-clause-inside : goal.cover_back-requires-clause-inside
-cover_back-requires-clause-inside g c = grind (arith, common_steps)
-
-pub overflow_mul-place : goal.overflow_mul-place
-overflow_mul-place g c = grind (arith, common_steps)
-
 pub returns-then-slot-eq0-clause-reads : goal.returns-then-slot-eq0-clause-reads
 returns-then-slot-eq0-clause-reads g c = grind (arith, common_steps)

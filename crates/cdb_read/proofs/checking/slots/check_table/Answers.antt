@@ -92,23 +92,5 @@ returns-in_err-slot-clause-reads g c = grind (arith, common_steps)
 pub run_with-run-requires : goal.run_with-run-requires
 run_with-run-requires g c = grind (arith, common_steps)
 
-pub returns-clause-fails : goal.returns-clause-fails
-returns-clause-fails g c = grind (arith, common_steps)
-
-pub returns-clause-reads : goal.returns-clause-reads
-returns-clause-reads g c = grind (arith, common_steps)
-
-pub slot_at-requires-clause-slot : goal.slot_at-requires-clause-slot
-slot_at-requires-clause-slot g c = grind (arith, common_steps)
-
-pub distance_of-requires : goal.distance_of-requires
-distance_of-requires g c = grind (arith, common_steps)
-
-pub returns-clause-shows : goal.returns-clause-shows
-returns-clause-shows g c = grind (arith, common_steps)
-
 pub returns-in_err-slot-clause-fails : goal.returns-in_err-slot-clause-fails
 returns-in_err-slot-clause-fails g c = grind (arith, common_steps)
-
-pub last_run-requires-clause-inside : goal.last_run-requires-clause-inside
-last_run-requires-clause-inside g c = grind (arith, common_steps)

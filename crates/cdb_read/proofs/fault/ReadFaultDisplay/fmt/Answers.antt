@@ -4,8 +4,5 @@ use Rattle.cdb_read.proofs.fault.ReadFaultDisplay.fmt.Goals as goal
 pub returns-in-Slot-clause-writes : goal.returns-in-Slot-clause-writes
 returns-in-Slot-clause-writes g c = grind (arith, common_steps)
 
-pub returns-in-Table-clause-writes : goal.returns-in-Table-clause-writes
-returns-in-Table-clause-writes g c = grind (arith, common_steps)
-
 pub returns-in-Record-clause-writes : goal.returns-in-Record-clause-writes
 returns-in-Record-clause-writes g c = grind (arith, common_steps)

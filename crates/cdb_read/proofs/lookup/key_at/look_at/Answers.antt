@@ -46,14 +46,5 @@ returns-clause-reads g c = grind (arith, common_steps)
 pub returns-clause-within : goal.returns-clause-within
 returns-clause-within g c = grind (arith, common_steps)
 
-pub read_header-header-requires : goal.read_header-header-requires
-read_header-header-requires g c = grind (arith, common_steps)
-
-pub bytes_are_at-requires-clause-fits : goal.bytes_are_at-requires-clause-fits
-bytes_are_at-requires-clause-fits g c = grind (arith, common_steps)
-
-pub shown-requires-clause-short : goal.shown-requires-clause-short
-shown-requires-clause-short g c = grind (arith, common_steps)
-
 pub spans-requires : goal.spans-requires
 spans-requires g c = grind (arith, common_steps)

@@ -28,14 +28,5 @@ returns-in-Value-clause-steps g c =
     step_value c.args.key.now c.args.probe (slot_pair c.in_ok-slot.slot) c.in-Value.span c.requires.inside c.requires.left (fewer_slots c.look_at.ensures.reads.images is_slot) c.if-slot-eq0.false (c.if-slot-hash.false ∙ c.requires.hash)
     (subst (λ k. LooksAt g.L.Width.WORD c.args.key.now c.in_ok-slot.slot.place k (g.S.Store.image c.look_at.new.store)) c.in-Value.is c.in_ok-look_at.ensures.looks)
 
-pub returns-in-Other-clause-reads : goal.returns-in-Other-clause-reads
-returns-in-Other-clause-reads g c = grind (arith, common_steps)
-
-pub returns-in-Broken-clause-reads : goal.returns-in-Broken-clause-reads
-returns-in-Broken-clause-reads g c = grind (arith, common_steps)
-
 pub returns-in-Value-clause-reads : goal.returns-in-Value-clause-reads
 returns-in-Value-clause-reads g c = grind (arith, common_steps)
-
-pub returns-in-Value-clause-within : goal.returns-in-Value-clause-within
-returns-in-Value-clause-within g c = grind (arith, common_steps)

@@ -20,32 +20,8 @@ returns-in-Broken-clause-reads g c = search rules
 pub returns-in-Empty-clause-meets : goal.returns-in-Empty-clause-meets
 returns-in-Empty-clause-meets g c = search rules
 
-pub returns-in-Empty-clause-shows : goal.returns-in-Empty-clause-shows
-returns-in-Empty-clause-shows g c = grind (arith, common_steps)
-
-pub returns-in-Value-clause-within : goal.returns-in-Value-clause-within
-returns-in-Value-clause-within g c = grind (arith, common_steps)
-
-pub returns-in-Empty-clause-slots : goal.returns-in-Empty-clause-slots
-returns-in-Empty-clause-slots g c = grind (arith, common_steps)
-
-pub returns-in-Broken-clause-shows : goal.returns-in-Broken-clause-shows
-returns-in-Broken-clause-shows g c = grind (arith, common_steps)
-
 pub loop-probe-preserved : goal.loop-probe-preserved
 loop-probe-preserved g c = grind (arith, common_steps)
 
 pub returns-in-Value-clause-reads : goal.returns-in-Value-clause-reads
 returns-in-Value-clause-reads g c = grind (arith, common_steps)
-
-pub returns-in-Value-clause-shows : goal.returns-in-Value-clause-shows
-returns-in-Value-clause-shows g c = grind (arith, common_steps)
-
-pub loop-probe-smaller : goal.loop-probe-smaller
-loop-probe-smaller g c = grind (arith, common_steps)
-
-pub returns-in-Value-clause-slots : goal.returns-in-Value-clause-slots
-returns-in-Value-clause-slots g c = grind (arith, common_steps)
-
-pub returns-in-Broken-clause-slots : goal.returns-in-Broken-clause-slots
-returns-in-Broken-clause-slots g c = grind (arith, common_steps)

@@ -59,23 +59,14 @@ returns-clause-ok_written g c = search rules
 pub returns-clause-at_most_written : goal.returns-clause-at_most_written
 returns-clause-at_most_written g c = search rules
 
-pub returns-then-bytes-self-clause-memory_failures : goal.returns-then-bytes-self-clause-memory_failures
-returns-then-bytes-self-clause-memory_failures g c = grind (arith, common_steps)
-
 pub returns-clause-ok_size : goal.returns-clause-ok_size
 returns-clause-ok_size g c = grind (arith, common_steps)
-
-pub returns-then-bytes-self-clause-not_past : goal.returns-then-bytes-self-clause-not_past
-returns-then-bytes-self-clause-not_past g c = grind (arith, common_steps)
 
 pub returns-then-bytes-self-clause-memory_size : goal.returns-then-bytes-self-clause-memory_size
 returns-then-bytes-self-clause-memory_size g c = search rules
 
 pub returns-then-bytes-self-clause-at_most_written : goal.returns-then-bytes-self-clause-at_most_written
 returns-then-bytes-self-clause-at_most_written g c = search rules
-
-pub returns-clause-longer : goal.returns-clause-longer
-returns-clause-longer g c = grind (arith, common_steps)
 
 pub returns-then-bytes-self-clause-memory_room : goal.returns-then-bytes-self-clause-memory_room
 returns-then-bytes-self-clause-memory_room g c = search rules
@@ -89,9 +80,6 @@ returns-then-bytes-self-clause-memory_written g c = search rules
 pub returns-then-bytes-self-clause-more_written : goal.returns-then-bytes-self-clause-more_written
 returns-then-bytes-self-clause-more_written g c = grind (arith, common_steps)
 
-pub write_at-requires-clause-start : goal.write_at-requires-clause-start
-write_at-requires-clause-start g c = grind (arith, common_steps)
-
 pub returns-then-bytes-self-clause-ok_written : goal.returns-then-bytes-self-clause-ok_written
 returns-then-bytes-self-clause-ok_written g c = grind (arith, common_steps)
 
@@ -101,56 +89,14 @@ returns-clause-memory_room g c = grind (arith, common_steps)
 pub returns-then-bytes-self-clause-cause : goal.returns-then-bytes-self-clause-cause
 returns-then-bytes-self-clause-cause g c = grind (arith, common_steps)
 
-pub returns-then-bytes-self-clause-memory : goal.returns-then-bytes-self-clause-memory
-returns-then-bytes-self-clause-memory g c = grind (arith, common_steps)
-
 pub returns-clause-memory_size : goal.returns-clause-memory_size
 returns-clause-memory_size g c = grind (arith, common_steps)
-
-pub invariant_of-self-then-bytes-self : goal.invariant_of-self-then-bytes-self
-invariant_of-self-then-bytes-self g c = grind (arith, common_steps)
-
-pub returns-then-bytes-self-clause-room : goal.returns-then-bytes-self-clause-room
-returns-then-bytes-self-clause-room g c = grind (arith, common_steps)
 
 pub returns-then-bytes-self-clause-ok_failures : goal.returns-then-bytes-self-clause-ok_failures
 returns-then-bytes-self-clause-ok_failures g c = grind (arith, common_steps)
 
-pub write_at-requires-clause-end : goal.write_at-requires-clause-end
-write_at-requires-clause-end g c = grind (arith, common_steps)
-
-pub returns-clause-room : goal.returns-clause-room
-returns-clause-room g c = grind (arith, common_steps)
-
-pub returns-in_err-write_at-clause-room : goal.returns-in_err-write_at-clause-room
-returns-in_err-write_at-clause-room g c = grind (arith, common_steps)
-
-pub prepare-requires-clause-end : goal.prepare-requires-clause-end
-prepare-requires-clause-end g c = grind (arith, common_steps)
-
-pub returns-in_err-settle-clause-past_room : goal.returns-in_err-settle-clause-past_room
-returns-in_err-settle-clause-past_room g c = grind (arith, common_steps)
-
-pub returns-in_err-settle-clause-more_written : goal.returns-in_err-settle-clause-more_written
-returns-in_err-settle-clause-more_written g c = grind (arith, common_steps)
-
-pub returns-in_err-settle-clause-room : goal.returns-in_err-settle-clause-room
-returns-in_err-settle-clause-room g c = grind (arith, common_steps)
-
-pub returns-in_err-settle-clause-longer : goal.returns-in_err-settle-clause-longer
-returns-in_err-settle-clause-longer g c = grind (arith, common_steps)
-
-pub returns-in_err-prepare-clause-memory_room : goal.returns-in_err-prepare-clause-memory_room
-returns-in_err-prepare-clause-memory_room g c = grind (arith, common_steps)
-
-pub returns-in_err-prepare-clause-memory_written : goal.returns-in_err-prepare-clause-memory_written
-returns-in_err-prepare-clause-memory_written g c = grind (arith, common_steps)
-
 pub returns-then-bytes-self-clause-unwritten : goal.returns-then-bytes-self-clause-unwritten
 returns-then-bytes-self-clause-unwritten g c = grind (arith, common_steps)
-
-pub returns-clause-memory_failures : goal.returns-clause-memory_failures
-returns-clause-memory_failures g c = grind (arith, common_steps)
 
 pub invariant_of-self-2 : goal.invariant_of-self-2
 invariant_of-self-2 g c = grind (arith, common_steps)
@@ -166,9 +112,6 @@ returns-clause-past_room g c = grind (arith, common_steps)
 
 pub returns-then-bytes-self-clause-ok_size : goal.returns-then-bytes-self-clause-ok_size
 returns-then-bytes-self-clause-ok_size g c = grind (arith, common_steps)
-
-pub invariant_of-self-in-Break-branch-3 : goal.invariant_of-self-in-Break-branch-3
-invariant_of-self-in-Break-branch-3 g c = grind (arith, common_steps)
 
 pub returns-clause-unwritten : goal.returns-clause-unwritten
 returns-clause-unwritten g c = grind (arith, common_steps)

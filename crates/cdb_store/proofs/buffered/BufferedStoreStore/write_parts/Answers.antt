@@ -54,14 +54,8 @@ returns-clause-torn g c =
     let sized : AreSized (g.S.Store.size s.inner) (g.S.Store.image s.inner) = record { each = g.met.S.Store.image_size s.inner } in
     torn_from_write c.requires.start (sized_taken s.pos s.held s.buffer.items s.placed s.kept sized) (returns-clause-ok g c)
 
-pub returns-then-n-self-clause-longer : goal.returns-then-n-self-clause-longer
-returns-then-n-self-clause-longer g c = grind (arith, common_steps)
-
 pub returns-clause-ok_size : goal.returns-clause-ok_size
 returns-clause-ok_size g c = grind (arith, common_steps)
-
-pub returns-clause-memory_failures : goal.returns-clause-memory_failures
-returns-clause-memory_failures g c = grind (arith, common_steps)
 
 pub returns-clause-cause : goal.returns-clause-cause
 returns-clause-cause g c = grind (arith, common_steps)
@@ -71,9 +65,6 @@ overflow_add-pos g c = grind (arith, common_steps)
 
 pub returns-then-n-self-clause-memory_size : goal.returns-then-n-self-clause-memory_size
 returns-then-n-self-clause-memory_size g c = grind (arith, common_steps)
-
-pub returns-then-n-self-clause-not_past : goal.returns-then-n-self-clause-not_past
-returns-then-n-self-clause-not_past g c = grind (arith, common_steps)
 
 pub returns-clause-past_room : goal.returns-clause-past_room
 returns-clause-past_room g c = grind (arith, common_steps)
@@ -105,14 +96,8 @@ returns-in_err-reserve-clause-past_room g c = grind (arith, common_steps)
 pub returns-then-n-self-clause-ok_size : goal.returns-then-n-self-clause-ok_size
 returns-then-n-self-clause-ok_size g c = grind (arith, common_steps)
 
-pub returns-then-n-self-clause-room : goal.returns-then-n-self-clause-room
-returns-then-n-self-clause-room g c = grind (arith, common_steps)
-
 pub returns-then-n-self-clause-more_written : goal.returns-then-n-self-clause-more_written
 returns-then-n-self-clause-more_written g c = grind (arith, common_steps)
-
-pub reserve-requires : goal.reserve-requires
-reserve-requires g c = grind (arith, common_steps)
 
 pub returns-then-n-self-clause-at_most_written : goal.returns-then-n-self-clause-at_most_written
 returns-then-n-self-clause-at_most_written g c = grind (arith, common_steps)
@@ -122,9 +107,6 @@ returns-clause-not_past g c = grind (arith, common_steps)
 
 pub returns-then-n-self-clause-past_room : goal.returns-then-n-self-clause-past_room
 returns-then-n-self-clause-past_room g c = grind (arith, common_steps)
-
-pub invariant_of-self-in-Break-branch-3 : goal.invariant_of-self-in-Break-branch-3
-invariant_of-self-in-Break-branch-3 g c = grind (arith, common_steps)
 
 pub returns-clause-memory : goal.returns-clause-memory
 returns-clause-memory g c = grind (arith, common_steps)

@@ -1,4 +1,4 @@
-use Rattle.cdb_store.proofs.Words.{AfterCut, FileImage, arith, common_steps, rules, subst}
+use Rattle.cdb_store.proofs.Words.{AfterCut, FileImage, arith, rules, subst}
 use Rattle.cdb_store.proofs.FileLemmas.{file_cut}
 use Rattle.cdb_store.proofs.FileFaults.{cut_refused, cut_told, cut_lost}
 use Rattle.cdb_store.proofs.file.FileStoreStore.cut.Goals as goal
@@ -24,15 +24,6 @@ returns-in-None-clause-images g c =
     let s = c.refuse_if_lost.new.self in
     subst (λ x. AfterCut s.len (FileImage x.len (g.F.RawFile.calls x.file)) (FileImage s.len (g.F.RawFile.calls c.length_within.new.file))) c.in_ok-refuse_if_lost.ensures.same
     (cut_lost c.args.len s.len (omega (arith, c.refuse_if_lost.ensures.len)) (s.long c.in_ok-refuse_if_lost.ensures.ok) c.in-Err.ensures.err c.in-None.ensures.lost)
-
-pub returns-in-None-clause-cause : goal.returns-in-None-clause-cause
-returns-in-None-clause-cause g c = grind (arith, common_steps)
-
-pub returns-in-Some-clause-measured : goal.returns-in-Some-clause-measured
-returns-in-Some-clause-measured g c = grind (arith, common_steps)
-
-pub returns-in-Ok-clause-no_longer : goal.returns-in-Ok-clause-no_longer
-returns-in-Ok-clause-no_longer g c = grind (arith, common_steps)
 
 pub returns-in-None-clause-written : goal.returns-in-None-clause-written
 returns-in-None-clause-written g c = search rules

@@ -1,4 +1,4 @@
-use Rattle.cdb_store.proofs.Words.{AfterRead, FileImage, ap, arith, common_steps, failed_syncs, lost, rules, subst, sym, ◌∙◌}
+use Rattle.cdb_store.proofs.Words.{AfterRead, FileImage, ap, arith, failed_syncs, lost, rules, subst, sym, ◌∙◌}
 use Rattle.cdb_store.proofs.FileLemmas.{file_gave, long_same, gave_long}
 use Rattle.cdb_store.proofs.file.FileStoreStore.read_at.Goals as goal
 
@@ -28,12 +28,3 @@ returns-clause-ok g c =
 
 pub returns-in_err-refuse_if_lost-clause-err : goal.returns-in_err-refuse_if_lost-clause-err
 returns-in_err-refuse_if_lost-clause-err g c = search rules
-
-pub returns-clause-ok_failures : goal.returns-clause-ok_failures
-returns-clause-ok_failures g c = grind (arith, common_steps)
-
-pub read_all-requires-clause-known : goal.read_all-requires-clause-known
-read_all-requires-clause-known g c = grind (arith, common_steps)
-
-pub returns-in_err-read_all-clause-memory : goal.returns-in_err-read_all-clause-memory
-returns-in_err-read_all-clause-memory g c = grind (arith, common_steps)

@@ -1,4 +1,4 @@
-use Rattle.cdb_store.proofs.Words.{AfterTornWrite, AfterWrite, AreSized, FileImage, arith, common_steps, file_size, length, rules, subst, sym, ◌∙◌}
+use Rattle.cdb_store.proofs.Words.{AfterTornWrite, AfterWrite, AreSized, FileImage, arith, file_size, length, rules, subst, sym, ◌∙◌}
 use Rattle.cdb_store.proofs.Moves.{torn_from_write}
 use Rattle.cdb_store.proofs.FileLemmas.{file_put, put_long}
 use Rattle.cdb_store.proofs.FileFaults.{torn_refused, torn_told, torn_lost}
@@ -48,60 +48,3 @@ returns-in-None-clause-torn g c =
 
 pub returns-in-None-clause-measured : goal.returns-in-None-clause-measured
 returns-in-None-clause-measured g c = search rules
-
-pub returns-in-Some-clause-measured : goal.returns-in-Some-clause-measured
-returns-in-Some-clause-measured g c = grind (arith, common_steps)
-
-pub returns-in-Some-clause-cause : goal.returns-in-Some-clause-cause
-returns-in-Some-clause-cause g c = grind (arith, common_steps)
-
-pub length_within-requires : goal.length_within-requires
-length_within-requires g c = grind (arith, common_steps)
-
-pub returns-in-Some-clause-ok : goal.returns-in-Some-clause-ok
-returns-in-Some-clause-ok g c = grind (arith, common_steps)
-
-pub returns-in-Some-clause-ok_failures : goal.returns-in-Some-clause-ok_failures
-returns-in-Some-clause-ok_failures g c = grind (arith, common_steps)
-
-pub returns-in-Some-clause-not_past : goal.returns-in-Some-clause-not_past
-returns-in-Some-clause-not_past g c = grind (arith, common_steps)
-
-pub returns-in-None-clause-more_written : goal.returns-in-None-clause-more_written
-returns-in-None-clause-more_written g c = grind (arith, common_steps)
-
-pub returns-in-Ok-clause-ok_written : goal.returns-in-Ok-clause-ok_written
-returns-in-Ok-clause-ok_written g c = grind (arith, common_steps)
-
-pub returns-in-Ok-clause-more_written : goal.returns-in-Ok-clause-more_written
-returns-in-Ok-clause-more_written g c = grind (arith, common_steps)
-
-pub returns-in-None-clause-memory : goal.returns-in-None-clause-memory
-returns-in-None-clause-memory g c = grind (arith, common_steps)
-
-pub returns-in-Ok-clause-at_most_written : goal.returns-in-Ok-clause-at_most_written
-returns-in-Ok-clause-at_most_written g c = grind (arith, common_steps)
-
-pub returns-in-Some-clause-more_written : goal.returns-in-Some-clause-more_written
-returns-in-Some-clause-more_written g c = grind (arith, common_steps)
-
-pub returns-in-None-clause-at_most_written : goal.returns-in-None-clause-at_most_written
-returns-in-None-clause-at_most_written g c = grind (arith, common_steps)
-
-pub returns-in-None-clause-cause : goal.returns-in-None-clause-cause
-returns-in-None-clause-cause g c = grind (arith, common_steps)
-
-pub returns-in-Some-clause-memory : goal.returns-in-Some-clause-memory
-returns-in-Some-clause-memory g c = grind (arith, common_steps)
-
-pub returns-in-Some-clause-at_most_written : goal.returns-in-Some-clause-at_most_written
-returns-in-Some-clause-at_most_written g c = grind (arith, common_steps)
-
-pub returns-in-Ok-clause-ok_failures : goal.returns-in-Ok-clause-ok_failures
-returns-in-Ok-clause-ok_failures g c = grind (arith, common_steps)
-
-pub returns-in-Ok-clause-cause : goal.returns-in-Ok-clause-cause
-returns-in-Ok-clause-cause g c = grind (arith, common_steps)
-
-pub returns-in-Ok-clause-memory : goal.returns-in-Ok-clause-memory
-returns-in-Ok-clause-memory g c = grind (arith, common_steps)

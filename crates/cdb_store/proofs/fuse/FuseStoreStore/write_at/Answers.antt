@@ -68,30 +68,6 @@ returns-in_default-clause-part_size g c = grind (arith, common_steps)
 pub returns-clause-part_torn : goal.returns-clause-part_torn
 returns-clause-part_torn g c = grind (arith, common_steps)
 
-pub returns-in_default-clause-memory_room : goal.returns-in_default-clause-memory_room
-returns-in_default-clause-memory_room g c = grind (arith, common_steps)
-
-pub returns-in_default-clause-memory_failures : goal.returns-in_default-clause-memory_failures
-returns-in_default-clause-memory_failures g c = grind (arith, common_steps)
-
-pub returns-in_default-clause-cause : goal.returns-in_default-clause-cause
-returns-in_default-clause-cause g c = grind (arith, common_steps)
-
-pub returns-clause-at_most_written : goal.returns-clause-at_most_written
-returns-clause-at_most_written g c = grind (arith, common_steps)
-
-pub returns-in-Ok-clause-longer : goal.returns-in-Ok-clause-longer
-returns-in-Ok-clause-longer g c = grind (arith, common_steps)
-
-pub returns-in_default-clause-room : goal.returns-in_default-clause-room
-returns-in_default-clause-room g c = grind (arith, common_steps)
-
-pub returns-clause-fails : goal.returns-clause-fails
-returns-clause-fails g c = grind (arith, common_steps)
-
-pub returns-in_err-write_at-clause-not_past : goal.returns-in_err-write_at-clause-not_past
-returns-in_err-write_at-clause-not_past g c = grind (arith, common_steps)
-
 pub returns-in_default-clause-not_past : goal.returns-in_default-clause-not_past
 returns-in_default-clause-not_past g c = search rules
 

@@ -55,50 +55,11 @@ write_parts-requires-clause-end g c = grind (arith, common_steps)
 pub returns-in-Ok-clause-cause : goal.returns-in-Ok-clause-cause
 returns-in-Ok-clause-cause g c = grind (arith, common_steps)
 
-pub returns-in_default-clause-memory_written : goal.returns-in_default-clause-memory_written
-returns-in_default-clause-memory_written g c = grind (arith, common_steps)
-
-pub returns-in-Ok-clause-more_written : goal.returns-in-Ok-clause-more_written
-returns-in-Ok-clause-more_written g c = grind (arith, common_steps)
-
-pub returns-in-Ok-clause-count_err : goal.returns-in-Ok-clause-count_err
-returns-in-Ok-clause-count_err g c = grind (arith, common_steps)
-
 pub returns-clause-count_ok : goal.returns-clause-count_ok
 returns-clause-count_ok g c = grind (arith, common_steps)
 
-pub returns-clause-memory_written : goal.returns-clause-memory_written
-returns-clause-memory_written g c = grind (arith, common_steps)
-
-pub returns-in_default-clause-count_err : goal.returns-in_default-clause-count_err
-returns-in_default-clause-count_err g c = grind (arith, common_steps)
-
-pub returns-clause-unwritten : goal.returns-clause-unwritten
-returns-clause-unwritten g c = grind (arith, common_steps)
-
-pub returns-clause-longer : goal.returns-clause-longer
-returns-clause-longer g c = grind (arith, common_steps)
-
-pub returns-in_default-clause-more_written : goal.returns-in_default-clause-more_written
-returns-in_default-clause-more_written g c = grind (arith, common_steps)
-
-pub returns-in-Ok-clause-memory_room : goal.returns-in-Ok-clause-memory_room
-returns-in-Ok-clause-memory_room g c = grind (arith, common_steps)
-
-pub returns-in-Ok-clause-memory : goal.returns-in-Ok-clause-memory
-returns-in-Ok-clause-memory g c = grind (arith, common_steps)
-
-pub returns-in-Ok-clause-memory_size : goal.returns-in-Ok-clause-memory_size
-returns-in-Ok-clause-memory_size g c = grind (arith, common_steps)
-
 pub returns-in_default-clause-not_past : goal.returns-in_default-clause-not_past
 returns-in_default-clause-not_past g c = grind (arith, common_steps)
-
-pub returns-clause-part_written : goal.returns-clause-part_written
-returns-clause-part_written g c = grind (arith, common_steps)
-
-pub returns-in_default-clause-memory_failures : goal.returns-in_default-clause-memory_failures
-returns-in_default-clause-memory_failures g c = grind (arith, common_steps)
 
 pub returns-clause-past_room : goal.returns-clause-past_room
 returns-clause-past_room g c = grind (arith, common_steps)
@@ -106,26 +67,8 @@ returns-clause-past_room g c = grind (arith, common_steps)
 pub returns-in_default-clause-cause : goal.returns-in_default-clause-cause
 returns-in_default-clause-cause g c = grind (arith, common_steps)
 
-pub returns-in-Ok-clause-room : goal.returns-in-Ok-clause-room
-returns-in-Ok-clause-room g c = grind (arith, common_steps)
-
-pub returns-in_default-clause-longer : goal.returns-in_default-clause-longer
-returns-in_default-clause-longer g c = grind (arith, common_steps)
-
-pub returns-clause-more_written : goal.returns-clause-more_written
-returns-clause-more_written g c = grind (arith, common_steps)
-
-pub returns-in-Ok-clause-longer : goal.returns-in-Ok-clause-longer
-returns-in-Ok-clause-longer g c = grind (arith, common_steps)
-
-pub returns-in-Ok-clause-memory_written : goal.returns-in-Ok-clause-memory_written
-returns-in-Ok-clause-memory_written g c = grind (arith, common_steps)
-
 pub returns-in_default-clause-part_written : goal.returns-in_default-clause-part_written
 returns-in_default-clause-part_written g c = grind (arith, common_steps)
-
-pub returns-clause-room : goal.returns-clause-room
-returns-clause-room g c = grind (arith, common_steps)
 
 pub overflow_add-n-2 : goal.overflow_add-n-2
 overflow_add-n-2 g c = grind (arith, common_steps)
@@ -139,71 +82,23 @@ returns-in-Ok-clause-not_past g c = grind (arith, common_steps)
 pub returns-in_default-clause-part_size : goal.returns-in_default-clause-part_size
 returns-in_default-clause-part_size g c = grind (arith, common_steps)
 
-pub returns-in-Ok-clause-memory_failures : goal.returns-in-Ok-clause-memory_failures
-returns-in-Ok-clause-memory_failures g c = grind (arith, common_steps)
-
-pub returns-in_default-clause-memory : goal.returns-in_default-clause-memory
-returns-in_default-clause-memory g c = grind (arith, common_steps)
-
 pub returns-in-Ok-clause-part_written : goal.returns-in-Ok-clause-part_written
 returns-in-Ok-clause-part_written g c = grind (arith, common_steps)
-
-pub returns-clause-at_most_written : goal.returns-clause-at_most_written
-returns-clause-at_most_written g c = grind (arith, common_steps)
-
-pub returns-clause-memory : goal.returns-clause-memory
-returns-clause-memory g c = grind (arith, common_steps)
-
-pub returns-clause-ok_size : goal.returns-clause-ok_size
-returns-clause-ok_size g c = grind (arith, common_steps)
 
 pub returns-in_default-clause-past_room : goal.returns-in_default-clause-past_room
 returns-in_default-clause-past_room g c = grind (arith, common_steps)
 
-pub returns-clause-memory_failures : goal.returns-clause-memory_failures
-returns-clause-memory_failures g c = grind (arith, common_steps)
-
-pub returns-in_default-clause-memory_size : goal.returns-in_default-clause-memory_size
-returns-in_default-clause-memory_size g c = grind (arith, common_steps)
-
 pub returns-in-Ok-clause-at_most_written : goal.returns-in-Ok-clause-at_most_written
 returns-in-Ok-clause-at_most_written g c = grind (arith, common_steps)
 
-pub returns-in_default-clause-memory_room : goal.returns-in_default-clause-memory_room
-returns-in_default-clause-memory_room g c = grind (arith, common_steps)
-
-pub returns-clause-part_size : goal.returns-clause-part_size
-returns-clause-part_size g c = grind (arith, common_steps)
-
 pub returns-clause-part : goal.returns-clause-part
 returns-clause-part g c = grind (arith, common_steps)
-
-pub returns-clause-ok_written : goal.returns-clause-ok_written
-returns-clause-ok_written g c = grind (arith, common_steps)
 
 pub returns-in-Ok-clause-past_room : goal.returns-in-Ok-clause-past_room
 returns-in-Ok-clause-past_room g c = grind (arith, common_steps)
 
 pub returns-clause-part_torn : goal.returns-clause-part_torn
 returns-clause-part_torn g c = grind (arith, common_steps)
-
-pub returns-clause-not_past : goal.returns-clause-not_past
-returns-clause-not_past g c = grind (arith, common_steps)
-
-pub returns-in_default-clause-room : goal.returns-in_default-clause-room
-returns-in_default-clause-room g c = grind (arith, common_steps)
-
-pub returns-clause-ok_failures : goal.returns-clause-ok_failures
-returns-clause-ok_failures g c = grind (arith, common_steps)
-
-pub returns-clause-memory_room : goal.returns-clause-memory_room
-returns-clause-memory_room g c = grind (arith, common_steps)
-
-pub returns-clause-cause : goal.returns-clause-cause
-returns-clause-cause g c = grind (arith, common_steps)
-
-pub returns-clause-memory_size : goal.returns-clause-memory_size
-returns-clause-memory_size g c = grind (arith, common_steps)
 
 pub returns-in-Ok-clause-unwritten : goal.returns-in-Ok-clause-unwritten
 returns-in-Ok-clause-unwritten g c = grind (arith, common_steps)

@@ -12,18 +12,3 @@ returns-clause-ok c = search rules
 
 pub returns-clause-ok_size : goal.returns-clause-ok_size
 returns-clause-ok_size c = grind (arith, common_steps)
-
-pub returns-clause-not_past : goal.returns-clause-not_past
-returns-clause-not_past c = grind (arith, common_steps)
-
-pub returns-clause-memory_size : goal.returns-clause-memory_size
-returns-clause-memory_size c = grind (arith, common_steps)
-
-pub returns-clause-memory_written : goal.returns-clause-memory_written
-returns-clause-memory_written c = grind (arith, common_steps)
-
-pub returns-clause-at_most_written : goal.returns-clause-at_most_written
-returns-clause-at_most_written c = grind (arith, common_steps)
-
-pub returns-clause-cause : goal.returns-clause-cause
-returns-clause-cause c = grind (arith, common_steps)

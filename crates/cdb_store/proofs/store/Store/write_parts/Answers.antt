@@ -54,9 +54,6 @@ returns-clause-torn g c =
 pub returns-clause-memory_room : goal.returns-clause-memory_room
 returns-clause-memory_room g c = grind (arith, common_steps)
 
-pub returns-then-n-le-JOINED-clause-ok_size : goal.returns-then-n-le-JOINED-clause-ok_size
-returns-then-n-le-JOINED-clause-ok_size g c = grind (arith, common_steps)
-
 pub slice_bounds-write_at-end : goal.slice_bounds-write_at-end
 slice_bounds-write_at-end g c = grind (arith, common_steps)
 
@@ -75,12 +72,6 @@ returns-clause-ok_size g c = grind (arith, common_steps)
 pub returns-clause-memory_written : goal.returns-clause-memory_written
 returns-clause-memory_written g c = grind (arith, common_steps)
 
-pub returns-clause-ok_failures : goal.returns-clause-ok_failures
-returns-clause-ok_failures g c = grind (arith, common_steps)
-
-pub returns-clause-memory : goal.returns-clause-memory
-returns-clause-memory g c = grind (arith, common_steps)
-
 pub returns-clause-unwritten : goal.returns-clause-unwritten
 returns-clause-unwritten g c = grind (arith, common_steps)
 
@@ -90,29 +81,17 @@ returns-then-n-le-JOINED-clause-ok g c = grind (arith, common_steps)
 pub returns-in_err-write_at-2-clause-not_past : goal.returns-in_err-write_at-2-clause-not_past
 returns-in_err-write_at-2-clause-not_past g c = grind (arith, common_steps)
 
-pub reserve-requires : goal.reserve-requires
-reserve-requires g c = grind (arith, common_steps)
-
 pub write_at-requires-3-clause-end : goal.write_at-requires-3-clause-end
 write_at-requires-3-clause-end g c = grind (arith, common_steps)
 
-pub returns-clause-more_written : goal.returns-clause-more_written
-returns-clause-more_written g c = grind (arith, common_steps)
-
 pub returns-clause-ok_written : goal.returns-clause-ok_written
 returns-clause-ok_written g c = grind (arith, common_steps)
-
-pub overflow_add-n-2 : goal.overflow_add-n-2
-overflow_add-n-2 g c = grind (arith, common_steps)
 
 pub returns-in_err-reserve-clause-past_room : goal.returns-in_err-reserve-clause-past_room
 returns-in_err-reserve-clause-past_room g c = grind (arith, common_steps)
 
 pub write_at-requires-4-clause-end : goal.write_at-requires-4-clause-end
 write_at-requires-4-clause-end g c = grind (arith, common_steps)
-
-pub returns-then-n-le-JOINED-clause-ok_written : goal.returns-then-n-le-JOINED-clause-ok_written
-returns-then-n-le-JOINED-clause-ok_written g c = grind (arith, common_steps)
 
 pub overflow_add-third_pos-2 : goal.overflow_add-third_pos-2
 overflow_add-third_pos-2 g c = grind (arith, common_steps)
@@ -123,14 +102,8 @@ returns-clause-memory_failures g c = grind (arith, common_steps)
 pub returns-then-n-le-JOINED-clause-torn : goal.returns-then-n-le-JOINED-clause-torn
 returns-then-n-le-JOINED-clause-torn g c = grind (arith, common_steps)
 
-pub write_at-requires-2-clause-end : goal.write_at-requires-2-clause-end
-write_at-requires-2-clause-end g c = grind (arith, common_steps)
-
 pub returns-clause-past_room : goal.returns-clause-past_room
 returns-clause-past_room g c = grind (arith, common_steps)
-
-pub returns-then-n-le-JOINED-clause-not_past : goal.returns-then-n-le-JOINED-clause-not_past
-returns-then-n-le-JOINED-clause-not_past g c = grind (arith, common_steps)
 
 pub returns-then-n-le-JOINED-clause-past_room : goal.returns-then-n-le-JOINED-clause-past_room
 returns-then-n-le-JOINED-clause-past_room g c = grind (arith, common_steps)
@@ -141,14 +114,8 @@ returns-clause-not_past g c = grind (arith, common_steps)
 pub returns-in_err-write_at-2-clause-at_most_written : goal.returns-in_err-write_at-2-clause-at_most_written
 returns-in_err-write_at-2-clause-at_most_written g c = grind (arith, common_steps)
 
-pub returns-clause-room : goal.returns-clause-room
-returns-clause-room g c = grind (arith, common_steps)
-
 pub returns-in_err-write_at-clause-not_past : goal.returns-in_err-write_at-clause-not_past
 returns-in_err-write_at-clause-not_past g c = grind (arith, common_steps)
-
-pub slice_bounds-joined-end-then-n-le-JOINED : goal.slice_bounds-joined-end-then-n-le-JOINED
-slice_bounds-joined-end-then-n-le-JOINED g c = grind (arith, common_steps)
 
 pub returns-clause-memory_size : goal.returns-clause-memory_size
 returns-clause-memory_size g c = grind (arith, common_steps)
@@ -158,12 +125,6 @@ write_at-requires-clause-end g c = grind (arith, common_steps)
 
 pub write_at-requires-4-clause-start : goal.write_at-requires-4-clause-start
 write_at-requires-4-clause-start g c = grind (arith, common_steps)
-
-pub returns-clause-longer : goal.returns-clause-longer
-returns-clause-longer g c = grind (arith, common_steps)
-
-pub returns-then-n-le-JOINED-clause-at_most_written : goal.returns-then-n-le-JOINED-clause-at_most_written
-returns-then-n-le-JOINED-clause-at_most_written g c = grind (arith, common_steps)
 
 pub returns-clause-at_most_written : goal.returns-clause-at_most_written
 returns-clause-at_most_written g c = grind (arith, common_steps)

@@ -7,11 +7,5 @@ returns-in-Err-clause-fails g c =
     let e = c.in-Err.ensures in
     rw c.of_reader.ensures (bytes_fail _ _ c.args.len _ _ c.vector-answer.new.into.items c.in-Err.unread e.part e.ended e.are e.short (omega (arith, c.len.ensures, c.vector-answer.new.into.ok.0)))
 
-pub returns-in-Ok-clause-are : goal.returns-in-Ok-clause-are
-returns-in-Ok-clause-are g c = grind (arith, common_steps)
-
 pub returns-in-Err-clause-leaves : goal.returns-in-Err-clause-leaves
 returns-in-Err-clause-leaves g c = grind (arith, common_steps)
-
-pub returns-in-Err-clause-fewer : goal.returns-in-Err-clause-fewer
-returns-in-Err-clause-fewer g c = grind (arith, common_steps)

@@ -1,4 +1,4 @@
-use Rattle.cdb_form.proofs.Words.{FailsEntry, Putting, Removing, Spells, SpellsChange, SpellsRemoval, [], arith, common_steps, err_from_is_err_and, false, rules, subst, sym, true, ℕ, ◌∙◌, ◌≡◌}
+use Rattle.cdb_form.proofs.Words.{FailsEntry, Putting, Removing, Spells, SpellsChange, SpellsRemoval, [], arith, err_from_is_err_and, false, rules, subst, sym, true, ℕ, ◌∙◌, ◌≡◌}
 use Rattle.cdb_form.proofs.Sources.SourceLemmas.{item_whole, leaves_past, part_seen}
 use Rattle.cdb_form.specs.declared.text.fault.TextFault.TheVariants.{Ended}
 use Rattle.cdb_form.proofs.NativeTexts.Stops.{ended_first, syntax_first, mark_first, nothing_read}
@@ -56,31 +56,10 @@ returns-in-Some-clause-fails g c =
     syntax_first c.args.removals _ _ c.in-Some-eq45.field-0 _ _ (rw c.in-Some-eq45.is at c.in_ok-byte.ensures.bytes) (λ e. omega (arith, minus, e)) (λ e. omega (arith, minus, e))
     (λ e. let no : false ≡ true = sym c.if-removals.false ∙ e in absurd (let n : ⊥ = cc in n))
 
-pub returns-in-None-clause-leaves : goal.returns-in-None-clause-leaves
-returns-in-None-clause-leaves g c = grind (arith, common_steps)
-
 pub returns-in_ok-record-in-Some-eq43-clause-read : goal.returns-in_ok-record-in-Some-eq43-clause-read
 returns-in_ok-record-in-Some-eq43-clause-read g c =
     let plus : c.in-Some-eq43.field-0 ≡ 43 = omega arith in
     item_whole Spells SpellsChange 43 _ _ _ c.args.greatest _ _ _ _ (Putting _) (λ t s. s) (rw (c.in-Some-eq43.is, plus) at c.in_ok-byte.ensures.bytes) (rw c.in-Some-eq43.is at c.in_ok-byte.ensures.counted) c.in_ok-record-in-Some-eq43.ensures.read
-
-pub returns-in_ok-marked_key-in-Some-eq45-clause-later : goal.returns-in_ok-marked_key-in-Some-eq45-clause-later
-returns-in_ok-marked_key-in-Some-eq45-clause-later g c = grind (arith, common_steps)
-
-pub returns-in-Some-eq10-clause-read : goal.returns-in-Some-eq10-clause-read
-returns-in-Some-eq10-clause-read g c = grind (arith, common_steps)
-
-pub returns-in-Some-eq10-clause-later : goal.returns-in-Some-eq10-clause-later
-returns-in-Some-eq10-clause-later g c = grind (arith, common_steps)
-
-pub returns-in_ok-marked_key-in-Some-eq45-clause-fails : goal.returns-in_ok-marked_key-in-Some-eq45-clause-fails
-returns-in_ok-marked_key-in-Some-eq45-clause-fails g c = grind (arith, common_steps)
-
-pub returns-in_ok-record-in-Some-eq43-clause-fails : goal.returns-in_ok-record-in-Some-eq43-clause-fails
-returns-in_ok-record-in-Some-eq43-clause-fails g c = grind (arith, common_steps)
-
-pub marked_key-requires-clause-most : goal.marked_key-requires-clause-most
-marked_key-requires-clause-most g c = grind (arith, common_steps)
 
 pub returns-in_ok-marked_key-in-Some-eq45-clause-puts : goal.returns-in_ok-marked_key-in-Some-eq45-clause-puts
 returns-in_ok-marked_key-in-Some-eq45-clause-puts g c = search rules
@@ -91,28 +70,7 @@ returns-in_ok-record-in-Some-eq43-clause-leaves g c = omega arith
 pub record-requires-clause-most : goal.record-requires-clause-most
 record-requires-clause-most g c = omega arith
 
-pub returns-in_ok-record-in-Some-eq43-clause-spends : goal.returns-in_ok-record-in-Some-eq43-clause-spends
-returns-in_ok-record-in-Some-eq43-clause-spends g c = grind (arith, common_steps)
-
-pub returns-in-Some-eq10-clause-spends : goal.returns-in-Some-eq10-clause-spends
-returns-in-Some-eq10-clause-spends g c = grind (arith, common_steps)
-
-pub returns-in_ok-marked_key-in-Some-eq45-clause-spends : goal.returns-in_ok-marked_key-in-Some-eq45-clause-spends
-returns-in_ok-marked_key-in-Some-eq45-clause-spends g c = grind (arith, common_steps)
-
 pub returns-in_ok-marked_key-in-Some-eq45-clause-read : goal.returns-in_ok-marked_key-in-Some-eq45-clause-read
 returns-in_ok-marked_key-in-Some-eq45-clause-read g c =
     let minus : c.in-Some-eq45.field-0 ≡ 45 = omega arith in
     item_whole SpellsRemoval SpellsChange 45 _ _ _ c.args.greatest _ _ _ _ (Removing _) (λ t s. s) (rw (c.in-Some-eq45.is, minus) at c.in_ok-byte.ensures.bytes) (rw c.in-Some-eq45.is at c.in_ok-byte.ensures.counted) c.in_ok-marked_key-in-Some-eq45.ensures.removes
-
-pub returns-in-Some-2-clause-leaves : goal.returns-in-Some-2-clause-leaves
-returns-in-Some-2-clause-leaves g c = grind (arith, common_steps)
-
-pub returns-in_ok-record-in-Some-eq43-clause-puts : goal.returns-in_ok-record-in-Some-eq43-clause-puts
-returns-in_ok-record-in-Some-eq43-clause-puts g c = grind (arith, common_steps)
-
-pub returns-in-Some-clause-leaves : goal.returns-in-Some-clause-leaves
-returns-in-Some-clause-leaves g c = grind (arith, common_steps)
-
-pub returns-in_ok-record-in-Some-eq43-clause-later : goal.returns-in_ok-record-in-Some-eq43-clause-later
-returns-in_ok-record-in-Some-eq43-clause-later g c = grind (arith, common_steps)

@@ -21,17 +21,5 @@ returns-in_default-clause-leaves g c = grind (arith, common_steps)
 pub returns-in_default-clause-are : goal.returns-in_default-clause-are
 returns-in_default-clause-are g c = grind (arith, common_steps)
 
-pub returns-in-Some-clause-read : goal.returns-in-Some-clause-read
-returns-in-Some-clause-read g c = grind (arith, common_steps)
-
-pub returns-in-Some-clause-long : goal.returns-in-Some-clause-long
-returns-in-Some-clause-long g c = grind (arith, common_steps)
-
-pub returns-in-Some-clause-fewer : goal.returns-in-Some-clause-fewer
-returns-in-Some-clause-fewer g c = grind (arith, common_steps)
-
-pub overflow_add-result : goal.overflow_add-result
-overflow_add-result g c = grind (arith, common_steps)
-
 pub returns-in-Some-clause-later : goal.returns-in-Some-clause-later
 returns-in-Some-clause-later g c = search rules

@@ -73,29 +73,8 @@ returns-in_err-push-2-clause-are g c =
     let same : c.push-in-loop-self.new.self.items ≡ c.keep_at_hand.new.into.items = grind arith in
     subst AreBytes (sym same) (subst AreBytes (sym m.moved) (AreBytes-append _ m.bytes so.are m.are))
 
-pub returns-then-not-has-clause-fewer : goal.returns-then-not-has-clause-fewer
-returns-then-not-has-clause-fewer g c = grind (arith, common_steps)
-
-pub loop-self-smaller : goal.loop-self-smaller
-loop-self-smaller g c = grind (arith, common_steps)
-
-pub returns-then-not-has-clause-leaves : goal.returns-then-not-has-clause-leaves
-returns-then-not-has-clause-leaves g c = grind (arith, common_steps)
-
-pub returns-in_err-push-clause-are : goal.returns-in_err-push-clause-are
-returns-in_err-push-clause-are g c = grind (arith, common_steps)
-
-pub returns-in_default-clause-fewer : goal.returns-in_default-clause-fewer
-returns-in_default-clause-fewer g c = grind (arith, common_steps)
-
-pub loop-self-init : goal.loop-self-init
-loop-self-init g c = grind (arith, common_steps)
-
 pub returns-in_err-byte-clause-are : goal.returns-in_err-byte-clause-are
 returns-in_err-byte-clause-are g c = grind (arith, common_steps)
-
-pub returns-in_default-clause-leaves : goal.returns-in_default-clause-leaves
-returns-in_default-clause-leaves g c = grind (arith, common_steps)
 
 pub returns-in_err-push-2-clause-leaves : goal.returns-in_err-push-2-clause-leaves
 returns-in_err-push-2-clause-leaves g c =

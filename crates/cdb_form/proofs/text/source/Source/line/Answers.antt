@@ -1,4 +1,4 @@
-use Rattle.cdb_form.proofs.Words.{[], arith, common_steps, err_from_is_err_and, key_value, ◌∷◌, ◌≡◌, ◌≢◌}
+use Rattle.cdb_form.proofs.Words.{[], arith, err_from_is_err_and, key_value, ◌∷◌, ◌≡◌, ◌≢◌}
 use Rattle.cdb_form.proofs.MapTexts.MapReads.{leaves_past, line_ignored, line_last, line_of_pair, note_ignored, note_last, other_than}
 use Rattle.cdb_form.proofs.text.source.Source.line.Goals as goal
 
@@ -55,12 +55,3 @@ returns-else-newline-clause-reads g c =
     let other : c.in-Some.first ≢ 10 = omega arith in
     let note : c.in-Some.first ≢ 35 = omega arith in
     line_of_pair _ _ _ _ run.0 [] _ _ run.1 other note (rw c.if-newline.false at c.in_ok-newline-in-Some.ensures.reads)
-
-pub returns-in-None-2-clause-fewer : goal.returns-in-None-2-clause-fewer
-returns-in-None-2-clause-fewer g c = grind (arith, common_steps)
-
-pub returns-in-Some-2-clause-leaves : goal.returns-in-Some-2-clause-leaves
-returns-in-Some-2-clause-leaves g c = grind (arith, common_steps)
-
-pub pair-requires : goal.pair-requires
-pair-requires g c = grind (arith, common_steps)

@@ -35,23 +35,5 @@ returns-in-Some-clause-fails g c =
     let h = c.in-Some.field-0-test in
     key_syntax _ _ c.in-Some.field-0 _ _ (rw c.in-Some.is at c.in_ok-byte.ensures.bytes) h.0.1 h.1
 
-pub returns-in-Some-clause-leaves : goal.returns-in-Some-clause-leaves
-returns-in-Some-clause-leaves g c = grind (arith, common_steps)
-
 pub returns-in_ok-marked_key-in-Some-eq43-clause-read : goal.returns-in_ok-marked_key-in-Some-eq43-clause-read
 returns-in_ok-marked_key-in-Some-eq43-clause-read g c = grind (arith, common_steps)
-
-pub returns-in-Some-eq10-clause-spends : goal.returns-in-Some-eq10-clause-spends
-returns-in-Some-eq10-clause-spends g c = grind (arith, common_steps)
-
-pub returns-in_ok-marked_key-in-Some-eq43-clause-later : goal.returns-in_ok-marked_key-in-Some-eq43-clause-later
-returns-in_ok-marked_key-in-Some-eq43-clause-later g c = grind (arith, common_steps)
-
-pub returns-in-None-clause-leaves : goal.returns-in-None-clause-leaves
-returns-in-None-clause-leaves g c = grind (arith, common_steps)
-
-pub returns-in-Some-eq10-clause-read : goal.returns-in-Some-eq10-clause-read
-returns-in-Some-eq10-clause-read g c = grind (arith, common_steps)
-
-pub returns-in_ok-marked_key-in-Some-eq43-clause-spends : goal.returns-in_ok-marked_key-in-Some-eq43-clause-spends
-returns-in_ok-marked_key-in-Some-eq43-clause-spends g c = grind (arith, common_steps)

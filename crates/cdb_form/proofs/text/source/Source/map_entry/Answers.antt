@@ -31,12 +31,3 @@ returns-in-Last-clause-reads g c = grind (arith, common_steps)
 
 pub returns-in-Pair-clause-leaves : goal.returns-in-Pair-clause-leaves
 returns-in-Pair-clause-leaves g c = omega arith
-
-pub returns-in-Last-clause-leaves : goal.returns-in-Last-clause-leaves
-returns-in-Last-clause-leaves g c = grind (arith, common_steps)
-
-pub returns-in-Last-clause-fewer : goal.returns-in-Last-clause-fewer
-returns-in-Last-clause-fewer g c = grind (arith, common_steps)
-
-pub loop-smaller : goal.loop-smaller
-loop-smaller g c = grind (arith, common_steps)

@@ -1,4 +1,4 @@
-use Rattle.cdb_form.proofs.Words.{arith, common_steps, err_from_is_err_and, rules}
+use Rattle.cdb_form.proofs.Words.{arith, err_from_is_err_and, rules}
 use Rattle.cdb_form.proofs.Sources.SourceLemmas.{removal_behind, leaves_past}
 use Rattle.cdb_form.proofs.NativeTexts.KeyTexts.{key_fails, listed_behind}
 use Rattle.cdb_form.proofs.NativeTexts.Stops.{removal_fails, lift_length, base_length, base_value}
@@ -61,6 +61,3 @@ returns-clause-leaves g c = omega arith
 
 pub returns-clause-later : goal.returns-clause-later
 returns-clause-later g c = search rules
-
-pub returns-in_err-field-clause-later : goal.returns-in_err-field-clause-later
-returns-in_err-field-clause-later g c = grind (arith, common_steps)

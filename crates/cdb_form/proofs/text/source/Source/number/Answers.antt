@@ -37,47 +37,8 @@ returns-in_err-byte-clause-fails g c = grind (arith, common_steps)
 pub returns-then-start-at-clause-read : goal.returns-then-start-at-clause-read
 returns-then-start-at-clause-read g c = grind (arith, common_steps)
 
-pub returns-then-start-at-clause-later : goal.returns-then-start-at-clause-later
-returns-then-start-at-clause-later g c = grind (arith, common_steps)
-
-pub returns-in_default-clause-fails : goal.returns-in_default-clause-fails
-returns-in_default-clause-fails g c = grind (arith, common_steps)
-
-pub returns-then-start-at-clause-fits : goal.returns-then-start-at-clause-fits
-returns-then-start-at-clause-fits g c = grind (arith, common_steps)
-
-pub returns-in-None-with_digit-clause-fewer : goal.returns-in-None-with_digit-clause-fewer
-returns-in-None-with_digit-clause-fewer g c = grind (arith, common_steps)
-
-pub returns-then-start-at-clause-fails : goal.returns-then-start-at-clause-fails
-returns-then-start-at-clause-fails g c = grind (arith, common_steps)
-
-pub returns-in_default-clause-read : goal.returns-in_default-clause-read
-returns-in_default-clause-read g c = grind (arith, common_steps)
-
-pub returns-in_default-clause-fewer : goal.returns-in_default-clause-fewer
-returns-in_default-clause-fewer g c = grind (arith, common_steps)
-
-pub returns-in_default-clause-spends : goal.returns-in_default-clause-spends
-returns-in_default-clause-spends g c = grind (arith, common_steps)
-
 pub returns-then-start-at-clause-leaves : goal.returns-then-start-at-clause-leaves
 returns-then-start-at-clause-leaves g c = omega arith
 
 pub returns-else-byte-stop-clause-read : goal.returns-else-byte-stop-clause-read
 returns-else-byte-stop-clause-read g c = omega arith
-
-pub returns-then-start-at-clause-spends : goal.returns-then-start-at-clause-spends
-returns-then-start-at-clause-spends g c = grind (arith, common_steps)
-
-pub returns-in_default-clause-later : goal.returns-in_default-clause-later
-returns-in_default-clause-later g c = grind (arith, common_steps)
-
-pub returns-else-byte-stop-clause-later : goal.returns-else-byte-stop-clause-later
-returns-else-byte-stop-clause-later g c = grind (arith, common_steps)
-
-pub returns-then-start-at-clause-fewer : goal.returns-then-start-at-clause-fewer
-returns-then-start-at-clause-fewer g c = grind (arith, common_steps)
-
-pub returns-in-None-with_digit-clause-later : goal.returns-in-None-with_digit-clause-later
-returns-in-None-with_digit-clause-later g c = grind (arith, common_steps)

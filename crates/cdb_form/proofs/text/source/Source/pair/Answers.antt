@@ -1,4 +1,4 @@
-use Rattle.cdb_form.proofs.Words.{IfErr-weaker, IfOk-weaker, Lacks, ReadsPair, ReadsValue, [], arith, common_steps, is_newline, line_end, refl, ◌∷◌, ◌≡◌, ◌≢◌}
+use Rattle.cdb_form.proofs.Words.{IfErr-weaker, IfOk-weaker, Lacks, ReadsPair, ReadsValue, [], arith, is_newline, line_end, refl, ◌∷◌, ◌≡◌, ◌≢◌}
 use Rattle.cdb_form.specs.Views.Source.{LeavesAmid}
 use Rattle.cdb_form.specs.declared.text.kind.Kind.TheVariants.{InWord}
 use Rattle.cdb_form.proofs.MapTexts.MapReads.{leaves_past, other_than, pair_is, pair_none, pair_value, run_to_end, run_to_newline}
@@ -30,9 +30,3 @@ returns-clause-leaves g c =
     let other : c.in-Some.stop ≢ 10 = omega arith in
     IfErr-weaker c.value.result (LeavesAmid (Lacks is_newline) g.R.Feeds.feed c.keep.new.self c.value.new.self) (LeavesAmid (Lacks is_newline) g.R.Feeds.feed c.args.self.now c.value.new.self)
     (λ f. leaves_past _ _ _ _ _ run.0 _ f run.2 (other_than _ 10 other)) c.value.ensures.leaves
-
-pub invariant_of-into-in_default : goal.invariant_of-into-in_default
-invariant_of-into-in_default g c = grind (arith, common_steps)
-
-pub invariant_of-into : goal.invariant_of-into
-invariant_of-into g c = grind (arith, common_steps)

@@ -13,11 +13,5 @@ loop-byte-preserved g c =
 pub returns-then-not-has-clause-run : goal.returns-then-not-has-clause-run
 returns-then-not-has-clause-run g c = grind (arith, common_steps)
 
-pub loop-byte-smaller : goal.loop-byte-smaller
-loop-byte-smaller g c = grind (arith, common_steps)
-
-pub returns-then-not-has-clause-leaves : goal.returns-then-not-has-clause-leaves
-returns-then-not-has-clause-leaves g c = grind (arith, common_steps)
-
 pub returns-in_default-clause-leaves : goal.returns-in_default-clause-leaves
 returns-in_default-clause-leaves g c = search rules

@@ -117,9 +117,3 @@ returns-in_err-field-2-clause-later g c = omega arith
 
 pub number-requires-2 : goal.number-requires-2
 number-requires-2 g c = omega arith
-
-pub returns-clause-leaves : goal.returns-clause-leaves
-returns-clause-leaves g c = grind (arith, common_steps)
-
-pub returns-in_err-vlen-clause-later : goal.returns-in_err-vlen-clause-later
-returns-in_err-vlen-clause-later g c = grind (arith, common_steps)

@@ -1,4 +1,4 @@
-use Rattle.cdb_form.proofs.Words.{arith, common_steps, err_from_is_err_and, rules, ◌≢◌}
+use Rattle.cdb_form.proofs.Words.{arith, err_from_is_err_and, rules, ◌≢◌}
 use Rattle.cdb_form.proofs.MapTexts.MapReads.{leaves_past, other_than, value_some}
 use Rattle.cdb_form.proofs.text.source.Source.value.Goals as goal
 
@@ -18,21 +18,3 @@ returns-clause-reads g c =
 
 pub returns-clause-are : goal.returns-clause-are
 returns-clause-are g c = search rules
-
-pub returns-clause-leaves : goal.returns-clause-leaves
-returns-clause-leaves g c = grind (arith, common_steps)
-
-pub returns-in_default-clause-fewer : goal.returns-in_default-clause-fewer
-returns-in_default-clause-fewer g c = grind (arith, common_steps)
-
-pub returns-then-first-eq10-clause-are : goal.returns-then-first-eq10-clause-are
-returns-then-first-eq10-clause-are g c = grind (arith, common_steps)
-
-pub returns-in_default-clause-reads : goal.returns-in_default-clause-reads
-returns-in_default-clause-reads g c = grind (arith, common_steps)
-
-pub returns-then-first-eq10-clause-reads : goal.returns-then-first-eq10-clause-reads
-returns-then-first-eq10-clause-reads g c = grind (arith, common_steps)
-
-pub returns-in_default-clause-are : goal.returns-in_default-clause-are
-returns-in_default-clause-are g c = grind (arith, common_steps)

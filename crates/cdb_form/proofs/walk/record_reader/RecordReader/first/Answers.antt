@@ -1,4 +1,4 @@
-use Rattle.cdb_form.proofs.Words.{FromTo, IfErr-weaker, IfOk-weaker, arith, common_steps, err_from_is_err_and, head_size, max, no_walk, on_err_weaker, pair_size, record_end, subst, sym, walk_of, ◌≡◌}
+use Rattle.cdb_form.proofs.Words.{FromTo, IfErr-weaker, IfOk-weaker, arith, err_from_is_err_and, head_size, max, no_walk, on_err_weaker, pair_size, record_end, subst, sym, walk_of, ◌≡◌}
 use Rattle.cdb_form.proofs.RecordReading.StreamLemmas.{damage_and, end_then, fails_then, false_weaker, first_then, loses_still, no_further_then, true_weaker}
 use Rattle.cdb_form.proofs.RecordReading.RecordAreas.{none_behind_head, first_behind_head}
 use Rattle.cdb_form.specs.Views.RecordReader.{walk_left, behind_end, behind_records}
@@ -59,12 +59,3 @@ pub returns-clause-part : goal.returns-clause-part
 returns-clause-part g c =
     let area = c.in_ok-area.area in
     on_err_weaker c.record_at.result (λ h. none_behind_head g.L.Width.WORD area.place area.end _ _ _ c.in_ok-area.ensures.cut h) c.record_at.ensures.part
-
-pub returns-in_err-area-clause-header : goal.returns-in_err-area-clause-header
-returns-in_err-area-clause-header g c = grind (arith, common_steps)
-
-pub returns-in_err-area-clause-value : goal.returns-in_err-area-clause-value
-returns-in_err-area-clause-value g c = grind (arith, common_steps)
-
-pub returns-clause-value : goal.returns-clause-value
-returns-clause-value g c = grind (arith, common_steps)

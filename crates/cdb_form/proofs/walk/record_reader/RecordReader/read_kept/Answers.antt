@@ -26,26 +26,8 @@ returns-in-Err-clause-fails g c = elim c.match-self.branch [
       }
 ]
 
-pub returns-in-Ok-true-clause-ended : goal.returns-in-Ok-true-clause-ended
-returns-in-Ok-true-clause-ended g c = grind (arith, common_steps)
-
-pub returns-in-Err-clause-failed : goal.returns-in-Err-clause-failed
-returns-in-Err-clause-failed g c = grind (arith, common_steps)
-
-pub returns-in-Failed-clause-ended : goal.returns-in-Failed-clause-ended
-returns-in-Failed-clause-ended g c = grind (arith, common_steps)
-
-pub returns-in-Ok-true-clause-failed : goal.returns-in-Ok-true-clause-failed
-returns-in-Ok-true-clause-failed g c = grind (arith, common_steps)
-
 pub returns-in-AtEnd-clause-gives : goal.returns-in-AtEnd-clause-gives
 returns-in-AtEnd-clause-gives g c = grind (arith, common_steps)
-
-pub returns-in-Failed-clause-failed : goal.returns-in-Failed-clause-failed
-returns-in-Failed-clause-failed g c = grind (arith, common_steps)
-
-pub returns-in-Ok-false-clause-ended : goal.returns-in-Ok-false-clause-ended
-returns-in-Ok-false-clause-ended g c = grind (arith, common_steps)
 
 pub returns-in-Ok-true-clause-gives : goal.returns-in-Ok-true-clause-gives
 returns-in-Ok-true-clause-gives g c =

@@ -7,9 +7,6 @@ returns-in-At g c = λ r peeked.
     peeked_taken g.L.Width.WORD g.R.Feeds.feed g.A.AtHand.held c.args.self.now _ c.in-At.area _ c.args.len r (elim g.met.L.Width.four_or_eight [ inl a ↦ omega arith | inr b ↦ omega arith ]) peeked
     c.in-At.is refl c.take.ensures refl refl
 
-pub invariant_of-self : goal.invariant_of-self
-invariant_of-self g c = grind (arith, common_steps)
-
 pub overflow_add-self : goal.overflow_add-self
 overflow_add-self g c = grind (arith, common_steps)
 

@@ -1,4 +1,4 @@
-use Rattle.cdb_read.proofs.Words.{Bool, List, [], ap, arith, common_steps, entries_of, false, ℕ, ◌++◌, ◌∙◌, ◌∷◌, ◌≡◌}
+use Rattle.cdb_read.proofs.Words.{Bool, List, [], ap, entries_of, false, ℕ, ◌++◌, ◌∙◌, ◌∷◌, ◌≡◌}
 use Rattle.cdb_read.proofs.Checks.Entered.{entries_of-push}
 use Rattle.cdb_read.proofs.checking.table_records.TableRecords.push.Goals as goal
 
@@ -16,6 +16,3 @@ returns c =
           ∙ entries_of-push s.places.items s.hashes.items c.args.place c.args.hash s.paired;
       marks = c.push_reserved-3.ensures.items ∙ ap (λ (v : List Bool). v ++ false ∷ []) c.reserve-3.ensures.items;
     }
-
-pub invariant_of-self-2 : goal.invariant_of-self-2
-invariant_of-self-2 c = grind (arith, common_steps)

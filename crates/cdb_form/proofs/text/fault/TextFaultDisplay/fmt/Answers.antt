@@ -1,5 +1,0 @@
-use Rattle.cdb_form.proofs.Words.{arith, common_steps}
-use Rattle.cdb_form.proofs.text.fault.TextFaultDisplay.fmt.Goals as goal
-
-pub returns-in-Some-clause-writes : goal.returns-in-Some-clause-writes
-returns-in-Some-clause-writes g c = grind (arith, common_steps)
