@@ -49,7 +49,7 @@ pub use Rattle.cdb_show.specs.Views.Fault.{read_fault}
 pub use Rattle.cdb_show.specs.Views.Inputs.{one_of, shared_feed}
 pub use Rattle.cdb_show.specs.Views.KeyReader.{form_of, reader_of}
 pub use Rattle.cdb_show.specs.Views.Noted.{noted_by}
-pub use Rattle.cdb_show.specs.Views.Output.{output_bytes, writer_bytes}
+pub use Rattle.cdb_show.specs.Views.Output.{output_bytes, passed_bytes, writer_bytes}
 pub use Rattle.cdb_show.specs.Views.Window.{feed_of}
 pub use Rattle.cdb_show.specs.declared.fault.Fault.{Fault}
 pub use Rattle.cdb_show.specs.declared.inputs.Inputs.{Inputs}

@@ -20,7 +20,8 @@ impl<W> Noted<W> {
 
     /// Over a writer, of which nothing is noted yet.
     pub fn over(writer: W) -> Noted<W>
-        ensures { noted_by result ≡ [] }
+        ensures notes { noted_by result ≡ [] }
+        ensures over { result.writer ≡ writer }
     {
         Noted {
             writer,

@@ -2,11 +2,10 @@
 ghost use Rattle.std.specs.Prelude.{◌≡◌, ℕ, ◌+◌, ◌<◌, ◌≤◌, [], ◌-◌, Some, length, take, min, true, false};
 ghost use Rattle.std.specs.Prelude.{IfOk, OnOk, OnErr, flat_map, vec_capacity, vec_len};
 ghost use Rattle.std.specs.Io.KnownBytes.{Keeps, Appends};
-ghost use Rattle.cdb_form.specs.Views.KnownBytes.{Writes};
 ghost use Rattle.cdb_show.specs.Views.Noted.{HasFailed};
 
 use crate::noted::Noted;
-use cdb_form::{OutFault, Sink, flush_whole, write_some};
+use cdb_form::{OutFault, Sink};
 use std::alloc::{AllocError, Global};
 use std::io::Write;
 
@@ -32,7 +31,7 @@ pub struct Output<W> {
 }
 
 impl<W: Write> Output<W> {
-    ghost use Rattle.cdb_show.specs.Views.Output.{output_bytes, held_by};
+    ghost use Rattle.cdb_show.specs.Views.Output.{output_bytes, passed_bytes, held_by};
 
     /// An output over a writer, of which nothing is noted yet, with a buffer for so many bytes,
     /// which is empty.
@@ -41,6 +40,7 @@ impl<W: Write> Output<W> {
         W: Drop,
         requires { 0 < size }
         ensures bytes { IfOk result (λ o. output_bytes o ≡ Some []) }
+        ensures passes { IfOk result (λ o. passed_bytes W.contents o ≡ W.contents writer) }
         ensures empty { IfOk result (λ o. held_by o ≡ []) }
         ensures size { IfOk result (λ o. o.size ≡ size) }
         ensures sound { IfOk result (λ o. o.failed ≡ false) }
@@ -68,12 +68,14 @@ impl<W: Write> Output<W> {
     fn hand_on(&mut self) -> Result<(), OutFault>
         ensures bytes { Keeps (output_bytes self.old)
             (output_bytes self.new) }
+        ensures passes { Keeps (passed_bytes W.contents self.old)
+            (passed_bytes W.contents self.new) }
         ensures empty { OnOk result (vec_len self.new.buffer ≡ 0) }
         ensures failed { OnErr result (self.new.failed ≡ true) }
         ensures sound { OnOk result (self.new.failed ≡ self.old.failed) }
     {
         while self.start < self.buffer.len() {
-            let gone = write_some(&mut self.writer, &self.buffer[self.start..]);
+            let gone = self.writer.write_some(&self.buffer[self.start..]);
             self.failed |= gone.is_err();
             self.start += gone?;
         }
@@ -92,12 +94,16 @@ impl<W: Write> Output<W> {
             (output_bytes self.new) (take n bytes.now)) }
         ensures err { OnErr result
             (Keeps (output_bytes self.old) (output_bytes self.new)) }
+        ensures passes { IfOk result (λ n. Appends (passed_bytes W.contents self.old)
+            (passed_bytes W.contents self.new) (take n bytes.now)) }
+        ensures passes_none { OnErr result (Keeps (passed_bytes W.contents self.old)
+            (passed_bytes W.contents self.new)) }
         ensures failed { OnErr result (self.new.failed ≡ true) }
         ensures sound { OnOk result (self.new.failed ≡ self.old.failed) }
     {
         self.hand_on()?;
         let most = bytes.len().min(MOST);
-        let gone = write_some(&mut self.writer, &bytes[..most]);
+        let gone = self.writer.write_some(&bytes[..most]);
         self.failed |= gone.is_err();
         gone
     }
@@ -107,6 +113,8 @@ impl<W: Write> Output<W> {
         ensures count { result ≡ min (length bytes.now) (self.old.size - vec_len self.old.buffer) }
         ensures ok { Appends (output_bytes self.old) (output_bytes self.new)
             (take result bytes.now) }
+        ensures passes { Appends (passed_bytes W.contents self.old)
+            (passed_bytes W.contents self.new) (take result bytes.now) }
         ensures sound { self.new.failed ≡ self.old.failed }
     {
         let n = bytes.len().min(self.size - self.buffer.len());
@@ -118,7 +126,7 @@ impl<W: Write> Output<W> {
 
 impl<W: Write> Sink for Output<W> {
     ghost use Rattle.std.specs.Prelude.{◌≡◌, true};
-    ghost use Rattle.cdb_show.specs.Views.Output.{output_bytes, held_by, HasHandedOn};
+    ghost use Rattle.cdb_show.specs.Views.Output.{output_bytes, passed_bytes, held_by, HasHandedOn};
 
     ghost contents = { output_bytes };
 
@@ -132,6 +140,10 @@ impl<W: Write> Sink for Output<W> {
             (output_bytes self.new) (take n bytes.now)) }
         ensures err { OnErr result
             (Keeps (output_bytes self.old) (output_bytes self.new)) }
+        ensures passes { IfOk result (λ n. Appends (passed_bytes W.contents self.old)
+            (passed_bytes W.contents self.new) (take n bytes.now)) }
+        ensures passes_none { OnErr result (Keeps (passed_bytes W.contents self.old)
+            (passed_bytes W.contents self.new)) }
         ensures failed { OnErr result (self.new.failed ≡ true) }
         ensures stays { self.old.failed ≡ true → self.new.failed ≡ true }
         ensures sound { OnOk result (self.new.failed ≡ self.old.failed) }
@@ -149,8 +161,13 @@ impl<W: Write> Sink for Output<W> {
     fn flush_whole(&mut self) -> Result<(), OutFault>
         ensures bytes { Keeps (output_bytes self.old)
             (output_bytes self.new) }
+        ensures passes { Keeps (passed_bytes W.contents self.old)
+            (passed_bytes W.contents self.new) }
         ensures failed { OnErr result (self.new.failed ≡ true) }
         ensures stays { self.old.failed ≡ true → self.new.failed ≡ true }
+        // Its writer then holds all that was taken, of every writer that reports what it holds.
+        ensures passed { OnOk result (Keeps (passed_bytes W.contents self.old)
+            (W.contents self.new.writer.writer)) }
         // The writer has all that was taken, or it failed.
         ensures empty { OnOk result (held_by self.new ≡ []) }
         ensures handed { HasHandedOn self.new }
@@ -158,7 +175,7 @@ impl<W: Write> Sink for Output<W> {
     {
         let handed = self.hand_on();
         handed?;
-        let flushed = flush_whole(&mut self.writer);
+        let flushed = self.writer.flush_whole();
         self.failed |= flushed.is_err();
         flushed
     }

@@ -18,6 +18,10 @@ writer_bytes o = Some (noted_by o.writer)
 abbrev pub output_bytes : {W : Type 0} → Output W → Option (List ℕ)
 output_bytes o = append_known (writer_bytes o) (held_by o)
 
+-- what the writer says that it holds, if it does, and then those in the buffer
+abbrev pub passed_bytes : {W : Type 0} → (W → Option (List ℕ)) → Output W → Option (List ℕ)
+passed_bytes contents o = append_known (contents o.writer.writer) (held_by o)
+
 -- a write or a flush of the writer failed
 abbrev pub WriterFailed : {W : Type 0} → Output W → Type 0
 WriterFailed o = HasFailed o.writer.trace.events

@@ -1,17 +1,18 @@
-use Rattle.cdb_show.proofs.Words.{List, Option, Some, ap, append_known, drop, noted_by, output_bytes, rules, writer_bytes, ℕ, ◌+◌, ◌∙◌}
+use Rattle.cdb_show.proofs.Words.{List, Option, Some, ap, drop, noted_by, output_bytes, passed_bytes, rules, writer_bytes, ℕ, ◌∙◌}
 use Rattle.std.proofs.lemmas.List.{take_rest}
-use Rattle.cdb_show.proofs.Writers.{keeps_then}
 use Rattle.cdb_show.proofs.OutputLemmas.{marked_so, handed_on}
 use Rattle.cdb_show.proofs.output.Output.hand_on.Goals as goal
 
 pub loop-self-preserved : goal.loop-self-preserved
 loop-self-preserved g c =
     let o = c.loop-self.self in
+    let w = c.write_some-gone in
+    let all = o.buffer.items in
     let n = c.in_ok-self.field-0 in
-    let took : Option (List ℕ) = Some (noted_by c.write_some-gone.new.w) in
+    let moved = λ (old w v : Option (List ℕ)). handed_on all _ o.start n old w v (take_rest c.deref.result.now o.start ∙ ap (drop o.start) c.deref.ensures.value) in
     record {
-      kept = keeps_then (output_bytes c.args.self.now) (output_bytes o) (append_known took (drop (o.start + n) o.buffer.items)) c.loop-self.invariant.kept
-          (handed_on o.buffer.items _ o.start n (writer_bytes o) took (take_rest c.deref.result.now o.start ∙ ap (drop o.start) c.deref.ensures.value) (rw c.in_ok-self.was at c.write_some-gone.ensures.ok));
+      kept = moved (output_bytes c.args.self.now) (writer_bytes o) (Some (noted_by w.new.self)) c.loop-self.invariant.kept (rw c.in_ok-self.was at w.ensures.ok);
+      passed = moved (passed_bytes g.W.Write.contents c.args.self.now) (g.W.Write.contents o.writer.writer) (g.W.Write.contents w.new.self.writer) c.loop-self.invariant.passed (rw c.in_ok-self.was at w.ensures.passes);
       sound = search rules;
     }
 

@@ -1,4 +1,4 @@
-use Rattle.cdb_show.proofs.Words.{Keeps, length, output_bytes, ◌-◌, ◌≡◌}
+use Rattle.cdb_show.proofs.Words.{Keeps, length, output_bytes, passed_bytes, ◌-◌, ◌≡◌}
 use Rattle.cdb_show.proofs.output.Output.hand_on.Given as goal
 
 -- no byte was lost so far, and the writer did not fail
@@ -6,6 +6,7 @@ abbrev pub invariant-loop-self : goal.invariant-loop-self
 invariant-loop-self g l =
     record {
       kept : Keeps (output_bytes l.fn.self) (output_bytes l.self);
+      passed : Keeps (passed_bytes g.W.Write.contents l.fn.self) (passed_bytes g.W.Write.contents l.self);
       sound : l.self.failed ≡ l.fn.self.failed;
     }
 
