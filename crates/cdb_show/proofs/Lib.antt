@@ -21,6 +21,7 @@ pub mod OutputLemmas
 pub mod DifferenceRuns
 pub mod GivenInputs
 pub mod PlacedReaders
+pub mod KnownInputs
 pub mod LookedUp
 pub mod ShownParts
 pub mod LineCounts

@@ -6,9 +6,10 @@ use Rattle.std.proofs.lemmas.Bool.{cond-true, cond-false}
 use Rattle.std.proofs.lemmas.List.Sums.{fold-append}
 use Rattle.std.proofs.KnownBytes.{Appends-kept, Keeps-trans}
 use Rattle.cdb_feed.specs.Given as fed
-use Rattle.cdb_feed.specs.Inputs.{AgreesWith, AreUnread, FirstAgree, IsGiven, HasFault, CutShort, IsUnread, NoMore, Stop, reached}
+use Rattle.cdb_feed.specs.Inputs.{AgreesWith, AreUnread, FirstAgree, IsGiven, HasFault, CutShort, HasBytes, HaveBytes, IsUnread, NoMore, Stop, reached}
 use Rattle.cdb_feed.proofs.GivenInputs.{all_given}
 use Rattle.cdb_form.specs.Format.Record.{AreBytes}
+use Rattle.cdb_form.specs.Views.Feed.{reader_feed}
 use Rattle.cdb_form.specs.declared.text.fault.TextFault.TheVariants as text
 use Rattle.cdb_read.specs.declared.fault.ReadFault.TheVariants as read_fault
 use Rattle.cdb_show.specs.Runs.Flushed.{FlushedWhole, IsWhole}
@@ -20,6 +21,7 @@ use Rattle.cdb_show.specs.Views.Inputs.{held_of, reader_of}
 use Rattle.cdb_show.specs.declared.fault.Fault.TheVariants.{Text, Make, Duplicate, Missing, Read, Walk, Output, Long, Open, Rename, NoMemory, Old, New, NoOldTables, NoNewTables, NoBaseTables}
 use Rattle.cdb_show.specs.declared.inputs.SharedWindow.TheVariants.{InHand, Unread}
 use Rattle.cdb_show.proofs.GivenInputs.{same_given, said}
+use Rattle.cdb_show.proofs.KnownInputs.{known_inputs}
 use Rattle.cdb_show.proofs.LookupRuns.{each_more}
 use Rattle.cdb_show.proofs.Writers.{prefix_kept, whole_prefix}
 
@@ -277,6 +279,15 @@ window_agrees : {I : Type 0} (shared : I → Feed) (w : SharedWindow I) (whole :
 window_agrees shared (Unread reader) whole a = a
 window_agrees shared (InHand w) whole a = record { fit = a.fit; rest = held_of (InHand w) ++ a.rest; may = record { behind = a.rest; may = a.may; is = refl } }
 
+-- if the function of the bytes gives what was read
+given_asked : {J I S : Type 0} (task : LookupTask S) (own : J → Feed) (shared : I → Feed) (inputs left : Inputs J I) (each : List (Option (List ℕ))) (whole : List ℕ) (old new : S) (bytes : List ℕ) (start end : Option (List ℕ)) (result : Result Unit Fault) → (h : LooksUp task own shared (lookup_state inputs old start) (lookup_state left new end) result)
+    → IsGiven 1 h.leaves.read h.leaves.stop (fed.given_from (stopped_parsing (keys_form task.options.style) task.greatest (fault_in h.answer)).parse 1 each whole)
+    → task.store.image new bytes → task.store.failures new ≡ 0 → LooksOrShort task.word task.store (records_asked task.word task.greatest task.options each whole bytes) old new start end result
+given_asked task own shared inputs left each whole old new bytes start end result h given is works =
+    let l = h.leaves in
+    flushed_or task.word task.store _ old new start h.mid end h.answer result h.flushed
+    (leaves_asked task each whole bytes old new start h.mid is works inputs left l.read l.stop (_, given, same_given (keys_form task.options.style) task.greatest 1 each whole) h.answer l.all l.fails)
+
 -- for all bytes of the inputs that were reached and of the shared reader that agree with these readers as they came
 -- back, of which nothing had been read before
 pub lookups_asked : {J I S : Type 0} (task : LookupTask S) (own : J → Feed) (shared : I → Feed) (inputs left : Inputs J I) (each : List (Option (List ℕ))) (whole : List ℕ) (old new : S) (bytes : List ℕ) (start end : Option (List ℕ)) (result : Result Unit Fault)
@@ -284,8 +295,15 @@ pub lookups_asked : {J I S : Type 0} (task : LookupTask S) (own : J → Feed) (s
     → AgreesWith AreBytes (shared left.shared) whole → task.store.image new bytes → task.store.failures new ≡ 0 → LooksOrShort task.word task.store (records_asked task.word task.greatest task.options each whole bytes) old new start end result
 lookups_asked task own shared inputs left each whole old new bytes start end result h unread first long agree agrees is works =
     let l = h.leaves in
-    let form = keys_form task.options.style in
+    let p = stopped_parsing (keys_form task.options.style) task.greatest (fault_in h.answer) in
     let agrees_so = window_agrees shared l.are.window whole (subst (λ r. AgreesWith AreBytes (shared r) whole) l.are.handed agrees) in
-    let given = all_given own (shared_feed shared) (stopped_parsing form task.greatest (fault_in h.answer)) l.read l.stop inputs.readers.items left.readers.items (Unread inputs.shared) l.are.window each whole unread first l.are.are agree long agrees_so in
-    flushed_or task.word task.store _ old new start h.mid end h.answer result h.flushed
-    (leaves_asked task each whole bytes old new start h.mid is works inputs left l.read l.stop (_, given, same_given form task.greatest 1 each whole) h.answer l.all l.fails)
+    let given = all_given own (shared_feed shared) p l.read l.stop inputs.readers.items left.readers.items (Unread inputs.shared) l.are.window each whole unread first l.are.are agree long agrees_so in
+    given_asked task own shared inputs left each whole old new bytes start end result h given is works
+
+-- if the standard library says which bytes the readers had: for these
+pub known_lookups_asked : {J I S : Type 0} (task : LookupTask S) (own : J → Option (List ℕ)) (shared : I → Option (List ℕ)) (inputs left : Inputs J I) (each : List (Option (List ℕ))) (whole : List ℕ) (old new : S) (bytes : List ℕ) (start end : Option (List ℕ)) (result : Result Unit Fault)
+    → LooksUp task (λ reader. reader_feed (own reader)) (λ reader. reader_feed (shared reader)) (lookup_state inputs old start) (lookup_state left new end) result → HaveBytes own AreBytes each inputs.readers.items → HasBytes AreBytes (shared inputs.shared) whole
+    → task.store.image new bytes → task.store.failures new ≡ 0 → LooksOrShort task.word task.store (records_asked task.word task.greatest task.options each whole bytes) old new start end result
+known_lookups_asked task own shared inputs left each whole old new bytes start end result h have has is works =
+    let l = h.leaves in
+    given_asked task _ _ inputs left each whole old new bytes start end result h (known_inputs own shared _ l.read l.stop inputs left each whole have has l.are) is works
