@@ -8,6 +8,7 @@ mod fault;
 mod input_name;
 mod inputs;
 mod key_line;
+mod line_count;
 mod lines;
 mod message;
 mod noted;

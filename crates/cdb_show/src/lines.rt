@@ -2,29 +2,21 @@
 ghost use Rattle.std.specs.Prelude.{◌≡◌};
 ghost use Rattle.cdb_show.specs.Views.Window.{feed_of, held_in, reader_of};
 
-use crate::counting::newlines;
+use crate::line_count::LineCount;
 use crate::window::{InWindow, Window};
 use cdb_form::{AtHand, Feeds};
 use std::cell::Cell;
 use std::io;
 
 /// The lines of the inputs of a run, as their bytes are taken: those of an input from its first
-/// byte on, and those of inputs that share a reader from the first byte of that. They are kept in
-/// cells, of which no clause says anything.
+/// byte on, and those of inputs that share a reader from the first byte of that. The count is kept
+/// in a cell, of which no clause says anything; the clauses of `LineCount` say what each step does
+/// to it.
 #[derive(Drop)]
 pub struct Lines {
     /// Whether they are counted.
     pub counts: bool,
-    /// How many newlines were taken.
-    newlines: Cell<u64>,
-    /// Whether the byte that was taken last is none of them.
-    amid: Cell<bool>,
-    /// How many bytes were taken of the input.
-    bytes: Cell<u64>,
-    /// Whether the input shares its reader with others.
-    is_shared: Cell<bool>,
-    /// How many newlines were taken of that reader before another input began.
-    shared: Cell<u64>,
+    count: Cell<LineCount>,
 }
 
 impl Lines {
@@ -34,64 +26,38 @@ impl Lines {
     {
         Lines {
             counts,
-            newlines: Cell::new(0),
-            amid: Cell::new(false),
-            bytes: Cell::new(0),
-            is_shared: Cell::new(false),
-            shared: Cell::new(0),
+            count: Cell::new(LineCount::new()),
         }
     }
 
     /// An input begins: with a reader of its own, or where the one before it stopped that shares
     /// its reader.
     pub fn begin(&self, is_shared: bool) {
-        if self.is_shared.get() {
-            self.shared.set(self.newlines.get());
-        }
-        let before = if is_shared { self.shared.get() } else { 0 };
-        self.newlines.set(before);
-        self.amid.set(false);
-        self.bytes.set(0);
-        self.is_shared.set(is_shared);
+        self.count.set(self.count.get().begun(is_shared));
     }
 
     /// Counts the lines of bytes that are taken.
     #[cold]
     #[inline(never)]
     fn take(&self, bytes: &[u8]) {
-        let Some(last) = bytes.last() else {
-            return;
-        };
-        self.amid.set(*last != b'\n');
-        let lines = self.newlines.get();
-        self.newlines.set(lines.saturating_add(newlines(bytes)));
-        let taken = self.bytes.get();
-        self.bytes.set(taken.saturating_add(bytes.len() as u64));
+        self.count.set(self.count.get().more(bytes));
     }
 
     /// The line, counted from 1, of the byte that comes next.
     #[inline(always)]
     pub fn next(&self) -> u64 {
-        self.newlines.get().saturating_add(1)
+        self.count.get().next()
     }
 
     /// The line, counted from 1, of the byte that was taken last.
     pub fn last(&self) -> u64 {
-        if self.amid.get() {
-            self.next()
-        } else {
-            self.newlines.get()
-        }
+        self.count.get().last()
     }
 
     /// The line, counted from 1, of a fault of the input that was read last, whose place is counted
     /// in bytes from the first one of that input: nothing after that byte was taken.
     pub fn line_at(&self, place: u64) -> u64 {
-        if place < self.bytes.get() {
-            self.last()
-        } else {
-            self.next()
-        }
+        self.count.get().line_at(place)
     }
 }
 
