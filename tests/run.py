@@ -105,6 +105,7 @@ def parts_of(program, is_gate):
         Part("tests/cli/differences.py", (program,)),
         Part("tests/cli/lookups.py", (program,)),
         Part("tests/growth/run.py", (program,)),
+        Part("tests/growth/calls.py", (loaded, refuse), (c, dynamic), (refuse,)),
         Part("tests/build/run.py", sources=True),
         Part("tests/build/gate.py", sources=True),
         Part("tests/package/version.py", sources=True),

@@ -1,5 +1,6 @@
 """Runs a program with some of its asks refused."""
 
+import contextlib
 import os
 import struct
 import subprocess
@@ -75,16 +76,19 @@ class Refusing:
                 calls = [call_of(line) for line in lines]
         return done, calls
 
-    def begun(self, count, words, stdin, first, last, folder, closed, trace=None, mask=None):
-        """A run with a file that the library counts in.
+    @contextlib.contextmanager
+    def given(self, stdin):
+        """Standard input: a file and no pipe, so that each run reads as much at once."""
+        with tempfile.TemporaryFile() as file:
+            file.write(stdin)
+            file.seek(0)
+            yield file
 
-        It reads a file and no pipe, so that each run reads as much at once.
-        """
-        with tempfile.TemporaryFile() as given:
+    def begun(self, count, words, stdin, first, last, folder, closed, trace=None, mask=None):
+        """A run with a file that the library counts in."""
+        with self.given(stdin) as given:
             count.write(bytes(struct.calcsize("2L")))
             count.flush()
-            given.write(stdin)
-            given.seek(0)
             refusing = {
                 "LD_PRELOAD": self.library,
                 "REFUSE_COUNT": count.name,

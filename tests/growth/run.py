@@ -5,7 +5,8 @@
 
 No contract says how long a call takes: a maker that compares each key with all others would be proved too. A
 row runs a command on some records and on 8 times as many. The processor time of the second run is at most 24
-times that of the first: 8 times if it grows with the input, 64 times with the square.
+times that of the first: 8 times if it grows with the input, 64 times with the square. If it is more than 16
+times, so is the run of 64 times as many records beside that.
 
 No time is compared with a fixed one, or with that of another program. The number of records is doubled until a
 run takes long enough to be measured, so its figure differs from machine to machine. The first time is the mean
@@ -28,6 +29,8 @@ import tempfile
 
 TIMES = 8
 BOUND = 24
+# Beyond so many times, 8 times as many records are tried once more: a small part that grows with the square shows there.
+DOUBTFUL = 2 * TIMES
 # The fewer records are so many that a run takes so many seconds, or else the most.
 LEAST = 0.006
 FEWEST = 1_000
@@ -319,16 +322,16 @@ def grows(here, name, place):
     """Runs a row, prints it, and answers whether its ratio is within the bound."""
     try:
         count, first = fewer(here, place)
-        second = more(here, place(here, TIMES * count), BOUND * first)
+        times = [first, more(here, place(here, TIMES * count), BOUND * first)]
+        if DOUBTFUL * first < times[1] <= BOUND * first:
+            times.append(more(here, place(here, TIMES * TIMES * count), BOUND * times[1]))
     except Wrong as error:
         print(f"{name}: {error}, failed", flush=True)
         return False
-    holds = second <= BOUND * first
-    said = f"more than {BOUND} times"
-    if math.isfinite(second):
-        said = f"{1000 * second:.0f} ms, {second / first:.1f} times"
-    few = f"{name}: {count} records {1000 * first:.1f} ms"
-    print(f"{few}, {TIMES} times as many {said}{'' if holds else ', failed'}", flush=True)
+    grown = [(it, it / before) for before, it in zip(times, times[1:])]
+    holds = all(ratio <= BOUND for _, ratio in grown)
+    said = "".join(f", {TIMES} times as many {1000 * it:.0f} ms, {ratio:.1f} times" for it, ratio in grown)
+    print(f"{name}: {count} records {1000 * first:.1f} ms{said}{'' if holds else ', failed'}", flush=True)
     return holds
 
 
