@@ -92,6 +92,7 @@ BOUNDED = {
     "a list": (of_file(words("-l"), LONG_VALUE), 200, SMALL),
     "a dump of a long value": (of_file(words("-d"), LONG_VALUE), 200, 4 * LONG + SMALL),
     "a check of many records": (of_file(words("-k"), MANY), 10_000, 4 * 13 * 20_000 + SMALL),
+    "a query of many keys": (of_keys(2_000, FEW), 200, SMALL),
     "a load of a short database": (Command(["-s"], SHORT_VALUE), 200, SMALL),
     "a load of a long database": (Command(["-s"], LONG_VALUE), 200, 4 * LONG + SMALL),
     "a create of many records": (Command(["-c", "x"], text_of(records(300_000))), 10_000, GROWN * 17 * 300_000 + SMALL),
