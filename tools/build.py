@@ -145,8 +145,9 @@ class Progress:
     def note(self, crate, done, of):
         """Takes what the checker said of a crate's functions."""
         with self.lock:
-            before, _ = self.functions.get(crate, (0, 0))
-            self.functions[crate] = max(before, done), of
+            # What is said of a second pass counts only what that has left.
+            before, most = self.functions.get(crate, (0, 0))
+            self.functions[crate] = max(before, done), max(most, of)
             self.say()
 
     def end(self, crate):
