@@ -5,7 +5,10 @@ A count is the same in each run and on each machine of a kind, so it shows what 
 that of the process alone, without the system's part. valgrind counts, tinycdb and freecdb are the
 peers. Each row has its goal, as a part of the peer's count, and says if it falls short of it.
 
-    bench/instructions.py [--records N] [--same N] [--unusual N] [--cdb PATH]
+    bench/instructions.py [--records N] [--same N] [--unusual N] [--cdb PATH] [--last | --keep]
+
+With --last it counts no peer. A row that takes more than a hundredth more than at the last release, by the table
+bench/instructions.txt, fails. With --keep it writes that table anew.
 """
 
 import argparse
@@ -47,6 +50,9 @@ KINDS = [
     ("binary values", 10, 60, True),
 ]
 COLLECTED = re.compile(rb"Collected : (\d+)")
+# The instructions of each row at the last release, and how many times as many are no fault.
+LAST = os.path.join(os.path.dirname(os.path.abspath(__file__)), "instructions.txt")
+MOST = 1.01
 
 
 def write_inputs(folder, options):
@@ -75,14 +81,14 @@ def write_kind(folder, kind, records):
         text.write(b"\n")
 
 
-def show_kind(folder, ours, tiny, kind, records):
+def show_kind(folder, ours, tiny, kind, records, counts):
     """Prints the rows of a kind, and answers for each if it takes no more than the peer."""
     write_kind(folder, kind, records)
     subprocess.run([ours, "-c", "db", "text"], cwd=folder, check=True)
     rows = [("create", ["-c", "x", "text"]), ("dump", ["-d", "db"])]
     if not kind[3]:
         rows += [("create from a map", ["-cm", "x", "map"]), ("dump of a map", ["-dm", "db"])]
-    return [show(folder, ours, tiny, (f"{name}, {kind[0]}", words, None, 1.0)) for name, words in rows]
+    return [show(folder, ours, tiny, (f"{name}, {kind[0]}", words, None, 1.0), counts) for name, words in rows]
 
 
 def count(folder, words, stdin):
@@ -96,10 +102,10 @@ def count(folder, words, stdin):
     return int(counted[1])
 
 
-def show(folder, ours, tiny, row):
-    """Prints a row, and answers whether it is at its goal."""
+def show(folder, ours, tiny, row, counts):
+    """Prints a row, keeps its count, and answers whether it is at its goal."""
     name, words, stdin, goal = row
-    mine = count(folder, [ours, *words], stdin)
+    mine = counts[name] = count(folder, [ours, *words], stdin)
     if tiny is None:
         print(f"{name:36} {mine / 1e6:8.2f} M")
         return True
@@ -111,25 +117,47 @@ def show(folder, ours, tiny, row):
     return not short
 
 
+def dearer(counts):
+    """The rows that take more than at the last release, and what is wrong with the table."""
+    with open(LAST, encoding="ascii") as file:
+        last = {name: int(number) for number, name in (line.rstrip("\n").split(" ", 1) for line in file)}
+    yield from (f"{it}: it is a row, or in the table, and not both" for it in sorted(counts.keys() ^ last.keys()))
+    for name in counts.keys() & last.keys():
+        if counts[name] > MOST * last[name]:
+            yield f"{name}: {counts[name] / last[name] - 1:.1%} more than at the last release"
+
+
 def main():
     parser = argparse.ArgumentParser()
     parser.add_argument("--records", type=int, default=100_000)
     parser.add_argument("--same", type=int, default=3_000)
     parser.add_argument("--unusual", type=int, default=20_000)
     parser.add_argument("--cdb", default="bin/cdb")
+    how = parser.add_mutually_exclusive_group()
+    how.add_argument("--last", action="store_true")
+    how.add_argument("--keep", action="store_true")
     options = parser.parse_args()
     if not shutil.which("valgrind"):
         print("instructions: valgrind is not here")
         return
-    ours, tiny = os.path.abspath(options.cdb), tinycdb()
+    ours, tiny = os.path.abspath(options.cdb), None if options.last or options.keep else tinycdb()
+    counts = {}
     with tempfile.TemporaryDirectory() as folder:
         key = write_inputs(folder, options)
         subprocess.run([ours, "-c", "db", "text"], cwd=folder, check=True)
         rows = [(name, [key if word == "KEY" else word for word in words], stdin, goal) for name, words, stdin, goal in CREATES + READS]
-        good = [show(folder, ours, tiny, row) for row in rows]
+        good = [show(folder, ours, tiny, row, counts) for row in rows]
         for kind in KINDS:
-            good += show_kind(folder, ours, tiny, kind, options.unusual)
-    print(f"{sum(good)} of {len(good)} jobs are at their goals")
+            good += show_kind(folder, ours, tiny, kind, options.unusual, counts)
+    if options.keep:
+        with open(LAST, "w", encoding="ascii") as file:
+            file.writelines(f"{number} {name}\n" for name, number in counts.items())
+    elif options.last:
+        failed = list(dearer(counts))
+        print(*failed, f"{len(counts) - len(failed)} passed, {len(failed)} failed", sep="\n")
+        sys.exit(1 if failed else 0)
+    else:
+        print(f"{sum(good)} of {len(good)} jobs are at their goals")
 
 
 if __name__ == "__main__":

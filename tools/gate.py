@@ -30,7 +30,7 @@ import sys
 import threading
 import time
 
-from build import BYTES_A_SECOND, GATE_DISK, QUIET_SECONDS, at_pace, checker, interrupt, missing, processors, show_end, work_of
+from build import BYTES_A_SECOND, GATE_DISK, QUIET_SECONDS, checker, interrupt, missing, processors, show_end, work_of
 from edits import FOLDER, edits_of
 from link import links_statically
 from trees import KEPT, Trees, alone_now, files_of, lines_of, read
@@ -189,10 +189,10 @@ class Gate:
     def progress(self, part):
         """How far a part is."""
         if part.name == "rt ci":
-            left, whole = (sum(work_of(self.trees.folder(it)) for it in self.crates if it not in done) for done in (part.done, ()))
-            pace = BYTES_A_SECOND * processors() * USED
-            minutes = at_pace(left / pace, whole / pace, time.monotonic() - part.began) / 60
-            return f"rt ci: {len(part.done)} of {len(self.crates)} crates proved, about {minutes:.1f} minutes left of it"
+            left = [it for it in self.crates if it not in part.done]
+            work = sum(work_of(self.trees.folder(it)) for it in left) / BYTES_A_SECOND
+            minutes = work / processors() / USED / 60
+            return f"rt ci: {len(part.done)} of {len(self.crates)} crates proved, about {minutes:.0f} minutes left of it"
         if part.name == OF_CRATES:
             return f"{OF_CRATES}: those of {len(part.done)} of {len(self.of_tests)} crates have run"
         if part.name == BODIES:

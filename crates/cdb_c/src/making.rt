@@ -1,6 +1,7 @@
 // The making calls.
 ghost use Rattle.cdb_form.specs.Format.Record.{record_of};
 ghost use Rattle.std.specs.Prelude.{◌≡◌, None, Err, IfOk, IfErr, negsuc, length};
+ghost use Rattle.std.specs.Fd.{file_raw_fd};
 ghost use Rattle.cdb_make.specs.Views.Maker.{Puts, FailsPutting, Follows};
 ghost use Rattle.cdb_make.specs.Views.Maker.{Removes, FailsRemoving, FailsFinishing};
 ghost use Rattle.cdb_make.specs.Views.Maker.{WritesNothing, FailsLooking, SameCounts, MakerKeepsAll};
@@ -42,7 +43,9 @@ fn put_by(
 
 /// The number of the descriptor of a file, which stays open. The file's block is freed.
 #[unsafe(no_mangle)]
-pub extern "C" fn cdb_c_file_number(file: GivenFile) -> i32 {
+pub extern "C" fn cdb_c_file_number(file: GivenFile) -> i32
+    ensures { result ≡ file_raw_fd file.file }
+{
     number(file)
 }
 
