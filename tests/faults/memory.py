@@ -64,8 +64,8 @@ def of_two(file):
     return Command(["-D", "x", "y"], b"", {"x": file, "y": file})
 
 
-# Each has a window of 64 KiB, which goes with it: all at once would be 13 million bytes.
-WINDOW = 65536
+# A window is as long as the first number says until a read fills it, and then as the second says. It goes with its input.
+FIRST, WINDOW = 4096, 65536
 INPUTS = [f"input{n}" for n in range(200)]
 SHORT_VALUE, LONG_VALUE = with_value(1), with_value(LONG)
 FEW, MANY, MORE = file_of(records(2_000)), file_of(records(20_000)), file_of(records(100_000))
@@ -92,12 +92,12 @@ BOUNDED = {
     "a list": (of_file(words("-l"), LONG_VALUE), 200, SMALL),
     "a dump of a long value": (of_file(words("-d"), LONG_VALUE), 200, 4 * LONG + SMALL),
     "a check of many records": (of_file(words("-k"), MANY), 10_000, 4 * 13 * 20_000 + SMALL),
-    "a query of many keys": (of_keys(2_000, FEW), 200, SMALL),
+    "a query of many keys": (of_keys(2_000, FEW), 200, 3 * WINDOW),
     "a load of a short database": (Command(["-s"], SHORT_VALUE), 200, SMALL),
     "a load of a long database": (Command(["-s"], LONG_VALUE), 200, 4 * LONG + SMALL),
     "a create of many records": (Command(["-c", "x"], text_of(records(300_000))), 10_000, GROWN * 17 * 300_000 + SMALL),
     "a create that looks for keys": (Command(["-cu", "x"], text_of(records(20_000))), 10_000, 4 * 20 * 20_000 + 2 * SMALL),
-    "a create of many inputs": (Command(["-c", "x", *INPUTS], b"", dict.fromkeys(INPUTS, b"\n")), 10_000, WINDOW * len(INPUTS) + SMALL),
+    "a create of many inputs": (Command(["-c", "x", *INPUTS], b"", dict.fromkeys(INPUTS, b"\n")), 10_000, FIRST * len(INPUTS) + SMALL),
 }
 # A run that ends by a fault, one that goes on there, and the most bytes that it asks for behind it. A
 # finish has room for the slots of one table, here 374 of 32 bytes, and not for all 40,000; and for the
