@@ -64,9 +64,11 @@ def of_two(file):
     return Command(["-D", "x", "y"], b"", {"x": file, "y": file})
 
 
-# A window is as long as the first number says until a read fills it, and then as the second says. It goes with its input.
+# A window is as long as the first number says until a read fills it, and then as the second says. It goes with its input:
+# all at once would be 13 million bytes.
 FIRST, WINDOW = 4096, 65536
 INPUTS = [f"input{n}" for n in range(200)]
+FILLING = text_of([(b"key", b"v" * 2 * FIRST)])
 SHORT_VALUE, LONG_VALUE = with_value(1), with_value(LONG)
 FEW, MANY, MORE = file_of(records(2_000)), file_of(records(20_000)), file_of(records(100_000))
 # What does not depend on the length of a value, or on how many records there are.
@@ -111,7 +113,7 @@ FURTHER = {
 }
 # A run, and the most memory that it may have at once, the program and its library too.
 LIMITED = {
-    "a create of many inputs": (Command(["-c", "x", *INPUTS], b"", dict.fromkeys(INPUTS, b"\n")), 8 * MILLION),
+    "a create of many inputs": (Command(["-c", "x", *INPUTS], b"", dict.fromkeys(INPUTS, FILLING)), 8 * MILLION),
 }
 
 
