@@ -17,7 +17,7 @@
 #include <unistd.h>
 #include "cdb.h"
 
-/* A handle of crates/cdb_handle. If all of it is zeros, it has no database. */
+/* A handle of crates/cdb_c/src/maker. If all of it is zeros, it has no database. */
 struct handle { _Bool is_full; void *at; };
 
 /* The layout that programs are built with. */

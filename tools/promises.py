@@ -72,10 +72,11 @@ def is_law(path):
 
 
 def exported(texts):
-    """What a caller sees of a crate: the items that its library names, or what a program's `main` calls."""
+    """What a caller sees of a crate: the items that its library and its public modules name, or what a program's `main` calls."""
     library = texts.get("src/lib.rt")
     if library is None:
         return set(re.findall(r"(?<!:)\b[a-z]\w*::([a-z]\w*)\(", texts["src/main.rt"]))
+    library += "".join(texts.get(f"src/{it}.rt", "") for it in re.findall(r"^pub mod (\w+);", library, re.MULTILINE))
     named = re.findall(r"^pub use [\w:]+::(\{[^}]*\}|\w+);", library, re.MULTILINE)
     return set(re.findall(r"\w+", " ".join(named)))
 

@@ -6,7 +6,7 @@
 The synopsis is to be the usage text, each letter of it is to be described, and each line that the
 cases of cases.py await on standard error is to stand among the diagnostics. If the toolchain is there, the
 command in the environment's RT, else `rt`, README.md is to name it, as it proves the program. If the sources are there,
-docs/LIBRARY.md is to show the first caller as it is in cdb_uses.
+docs/LIBRARY.md is to show the first caller as it is in cdb_files.
 """
 
 import os
@@ -21,7 +21,7 @@ HERE = os.path.dirname(os.path.abspath(__file__))
 PAGE = os.path.join(HERE, "..", "..", "man", "cdb.1")
 README = os.path.join(HERE, "..", "..", "README.md")
 LIBRARY = os.path.join(HERE, "..", "..", "docs", "LIBRARY.md")
-CALLER = os.path.join(HERE, "..", "..", "crates", "cdb_uses", "src", "files.rt")
+CALLER = os.path.join(HERE, "..", "..", "crates", "cdb_files", "src", "examples", "files.rt")
 # What stands in a diagnostic in place of a number, and of another diagnostic.
 NUMBER = "[A-Z]"
 # The line of the usage text that is no form of a command.
@@ -107,7 +107,7 @@ def of_toolchain(command):
 def of_library():
     """What is wrong of the page on the library."""
     shows = is_shown(LIBRARY, CALLER)
-    return [] if shows else ["docs/LIBRARY.md does not show the first caller as it is in cdb_uses"]
+    return [] if shows else ["docs/LIBRARY.md does not show the first caller as it is in cdb_files"]
 
 
 def main():

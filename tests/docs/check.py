@@ -126,8 +126,9 @@ def wrong_names(page, text, names, targets):
 
 
 def public_of(crate):
-    """The public items that a crate's library names, and its public functions and methods."""
+    """The public items that a crate's library and its public modules name, and its public functions and methods."""
     library = text_of(f"crates/{crate}/src/lib.rt")
+    library += "".join(text_of(f"crates/{crate}/src/{it}.rt") for it in re.findall(r"^pub mod (\w+);", library, re.M))
     items = set()
     for names in re.findall(r"^pub use [\w:]+::(\{[^}]*\}|\w+);", library, re.M):
         items.update(re.findall(r"\w+", names))

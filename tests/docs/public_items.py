@@ -37,9 +37,9 @@ def callers():
 
 
 def items_of(crate):
-    """The public items of a crate that its sources could call: no laws, nor what is called from C."""
+    """The public items of a crate that its sources could call: no laws, no examples, nor what is called from C."""
     for path in sources_of(crate):
-        if path.endswith("/laws.rt"):
+        if path.endswith("/laws.rt") or "/examples/" in path:
             continue
         text = text_of(path)
         for found in ITEM.finditer(text):
@@ -52,7 +52,7 @@ def wrong_items():
     """The public items that nothing calls but tests, and those that are listed without need."""
     counts, uncalled = callers(), set()
     for crate in crates():
-        if crate.endswith("_tests") or crate == "cdb_uses":
+        if crate.endswith("_tests"):
             continue
         uncalled |= {f"{crate}::{name}" for name in items_of(crate) if not counts[name]}
     for item in sorted(uncalled - set(FOR_CALLERS)):

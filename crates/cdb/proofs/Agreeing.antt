@@ -1,16 +1,14 @@
 -- What a run made of inputs that agree with their readers, and that the readers are in their places.
 use Rattle.std.proofs.Common.{◌≡◌, ◌∙◌, ◌≤◌, ℕ, zero, suc, List, [], ◌∷◌, length, Option, Some, None, Result, Ok, Err, is_some, ap, inl, inr, sym, arith}
 use Rattle.cdb.proofs.Words.{AreBytes, BuilderTells, Fault, Feed, Ghosts, IfErr, InputReader, Inputs, IsBufferedRun, Making, NameCalls, OnOk, OutputSays, ReplaceFault, RunOptions, Sources, WhereHonest, ⊤}
-use Rattle.cdb_feed.specs.Inputs.{AreRead, CutShort, FirstAgree, HasFault, NoMore, NotBegun, Stop, reached}
-use Rattle.cdb_feed.specs.Parsing.{Parsing}
-use Rattle.cdb_feed.specs.declared.input_reader.InputReader.TheVariants.{Own, Shared}
+use Rattle.cdb_show.specs.Feed.{AreRead, CutShort, FirstAgree, HasFault, NoMore, NotBegun, Stop, reached, Parsing}
+use Rattle.cdb_show.specs.declared.input_reader.InputReader.TheVariants.{Own, Shared}
 use Rattle.cdb_store.specs.declared.raw.RawFile.{Ghosts as Raw}
 use Rattle.cdb_show.specs.Runs.Inputs.{InputsLeft, input_form}
-use Rattle.cdb_show.specs.Views.Inputs.{AreInPlace, shared_feed}
+use Rattle.cdb_show.specs.Views.Noted.{AreInPlace, shared_feed}
 use Rattle.cdb_show.specs.declared.inputs.SharedWindow.TheVariants.{Unread}
 use Rattle.cdb_show.proofs.PlacedReaders.{all_passed, in_place}
-use Rattle.cdb_tool.specs.Runs.FormParsing.{parsing}
-use Rattle.cdb_tool.specs.Runs.InputsRead.{RunsRead, feeds_of, run_state}
+use Rattle.cdb_tool.specs.Runs.InputsRead.{parsing, RunsRead, feeds_of, run_state}
 use Rattle.cdb_tool.specs.Runs.Make.{MakeRuns, OfBase, terms_of}
 use Rattle.cdb_tool.proofs.AgreeingInputs.{agreeing_inputs}
 use Rattle.cdb.specs.Agreeing.{InputsAgree, OfAgreeing, inputs_of}

@@ -1,6 +1,6 @@
 -- A base whose head was not read.
 use Rattle.cdb.proofs.Words.{Err, Ghosts, List, OutputSays, [], ap, arith, inl, inr, length, refl, subst, sym, ℕ, ◌<◌, ◌∙◌, ◌∷◌, ◌≡◌}
-use Rattle.cdb_form.specs.Format.Pair.{head_size}
+use Rattle.cdb_form.specs.Format.{head_size}
 use Rattle.cdb_read.specs.Views.Reads.{OpeningFails}
 use Rattle.cdb_read.specs.declared.fault.ReadFault.{ReadFault}
 use Rattle.cdb_read.specs.declared.fault.ReadFault.TheVariants.{Device, NoMemory, Output, Record, Short, Slot, Table, Twice, Unindexed}

@@ -13,10 +13,9 @@ use Rattle.cdb_show.specs.declared.fault.Fault.TheVariants.{NoMemory, Open}
 use Rattle.cdb.specs.Created.{Created, base_in, base_of, create_of, if_based, if_opened, in_temporary, is_base, is_in_place, is_input, is_no_name, in_place, is_read, placed, unmade, unopened}
 use Rattle.cdb.specs.Creating.{AsksBase, AsksOne, FindsBase, FindsInput, FindsOne, LooksAtBase, Making, MayBeOne, NotOpened, Replaces}
 use Rattle.cdb_system.specs.Answered.{AreAnswered, IsAnswered, if_some}
-use Rattle.cdb.specs.ForetoldCreate.{HadBytes, HasBytes, HoldsAll, IsNoAlias, IsNoFailedRemoval, IsNoFailedRename, KeepsAll, LeavesAll, passing, place_of}
-use Rattle.cdb_system.specs.Inputs.{inputs_read, MissesBase}
-use Rattle.cdb_system.specs.Inputs.{StopsOpening}
 use Rattle.cdb_system.specs.Oracle.{Disk, inputs_of, is_standard}
+use Rattle.cdb.specs.ForetoldCreate.{HadBytes, HasBytes, HoldsAll, IsNoAlias, IsNoFailedRemoval, IsNoFailedRename, KeepsAll, LeavesAll, passing, place_of}
+use Rattle.cdb_system.specs.Inputs.{inputs_read, MissesBase, StopsOpening}
 use Rattle.cdb_system.specs.declared.open_trace.OpenCall.TheVariants.{Unopened}
 use Rattle.cdb_system.specs.declared.system.System.{Ghosts as Systems}
 use Rattle.cdb.proofs.Replaced.{IsPlain, none_appended, said_nothing}

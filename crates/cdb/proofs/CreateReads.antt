@@ -4,20 +4,19 @@ use Rattle.std.specs.Prelude.{⊤, unwrap_or}
 use Rattle.cdb.proofs.Words.{AllByRecursion, AreBytes, AreInPlace, AtEach, AtEachMoment, Fault, Feed, Ghosts, HandsBack, HonestCreate, InputReader, Inputs, InputsLeft, IsNoAlias, LeavesAll, Left, MayHave, NameCalls, NameEvent, OpenCalls, Standard, append_cancel_right, bytes_eq-Decides, cond-false, cond-true, false_from_ne_true, files_of, or_from, place_of, renames, state_of}
 use Rattle.cdb_names.specs.declared.answer.Answer.TheVariants as looks
 use Rattle.cdb_names.specs.declared.name_trace.NameCall.TheVariants as name_call
-use Rattle.cdb_feed.specs.Inputs.{AgreesWith, FirstAgree, IsUnread}
-use Rattle.cdb_feed.specs.declared.input_reader.InputReader.TheVariants as reader
+use Rattle.cdb_show.specs.Feed.{AgreesWith, FirstAgree, IsUnread}
+use Rattle.cdb_show.specs.declared.input_reader.InputReader.TheVariants as reader
 use Rattle.cdb_read.specs.declared.fault.ReadFault.TheVariants.{Device}
 use Rattle.cdb_show.specs.Runs.Incoming.{EachOfBytes, Known}
 use Rattle.cdb_show.specs.declared.fault.Fault.TheVariants.{Read}
 use Rattle.cdb_show.proofs.GivenInputs.{known_all}
-use Rattle.cdb.specs.Agreeing.{HandsInputs, InputsAgree, OpensNone, OpensNoMore}
-use Rattle.cdb.specs.Agreeing.{inputs_of as bytes_of}
+use Rattle.cdb.specs.Agreeing.{HandsInputs, InputsAgree, OpensNone, OpensNoMore, inputs_of as bytes_of}
 use Rattle.cdb.specs.Created.{base_in, base_of, head_fault, is_base, is_input, is_read, unless_refused}
 use Rattle.cdb.specs.Creating.{AsksAll, AsksBase, AsksEach, AsksOne, FindsBase, FindsInput, FindsOne, LooksAtBase, OpensAll, SeesBase}
 use Rattle.cdb_system.specs.Answered.{AreAnswered, IsThere, Shows, if_some, stores_before, stores_in, streams_in}
-use Rattle.cdb_system.specs.Inputs.{inputs_read, OpensBase, OpensEach}
 use Rattle.cdb_system.specs.Oracle.{Disk, inputs_of, is_standard}
-use Rattle.cdb_system.specs.Streams.{AgreeInTurn, Agrees, name_in_turn, names_in_turn, own_readers}
+use Rattle.cdb_system.specs.Inputs.{inputs_read, OpensBase, OpensEach}
+use Rattle.cdb_system.specs.State.{AgreeInTurn, Agrees, name_in_turn, names_in_turn, own_readers}
 use Rattle.cdb_system.specs.declared.open_trace.OpenCall.{OpenCall}
 use Rattle.cdb_system.specs.declared.open_trace.OpenCall.TheVariants.{AtPlaces, Emptied, InTurn, Locked, Own, Stream, ToEmpty, Unopened, Watched}
 use Rattle.cdb_system.specs.declared.system.System.{Ghosts as Systems}

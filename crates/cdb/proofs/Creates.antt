@@ -2,15 +2,14 @@
 use Rattle.cdb.proofs.Words.{AreAnswered, Created, Disk, Fault, Feed, Ghosts, HonestCreate, InputsLeft, Left, List, NameCalls, None, OpenCalls, Option, Result, RunOptions, Some, Standard, [], ap, bytes_eq, bytes_eq-Decides, codes, create_of, false, false_from_ne_true, files_of, inl, inr, is_in_place, or_from, or_left, or_right, refl, standard_is, standard_not, state_of, stores_in, subst, sym, true, ℕ, ◌≡◌}
 use Rattle.cdb_store.specs.declared.raw.RawFile.{Ghosts as Raw}
 use Rattle.cdb_show.specs.declared.fault.Fault.TheVariants.{NoMemory, Open}
-use Rattle.cdb.specs.Agreeing.{inputs_of as bytes_of}
+use Rattle.cdb.specs.Agreeing.{inputs_of as bytes_of, machine_of}
 use Rattle.cdb.specs.Creating.{Creates, HandsBase, Making, MakesAt}
-use Rattle.cdb_system.specs.Places.{IsInPlace, temporary_of}
+use Rattle.cdb_system.specs.State.{IsInPlace, temporary_of}
 use Rattle.cdb_system.specs.declared.system.System.{Ghosts as Systems}
 use Rattle.cdb.proofs.CreateReads.{all_found, asking_all, asking_finds, asking_none, inputs_found}
 use Rattle.cdb.proofs.CreateEnds.{AnsweredNames, CreateSo, Knows, back_hands, ends_early, found, hands_unread, memory_so, not_opened_so, open_so, read_unopened, refused_early}
 use Rattle.cdb.proofs.CreateApart.{replacing_so}
 use Rattle.cdb.proofs.CreatePlaced.{emptied_so, emptying_refused, in_place_unopened, output_so}
-use Rattle.cdb.specs.Machine.{machine_of}
 
 -- ---- each create
 

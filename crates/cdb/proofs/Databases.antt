@@ -6,7 +6,7 @@ use Rattle.cdb_tool.specs.Runs.Make.{HandsBack, OfBase, Makes, terms_of}
 use Rattle.cdb_tool.specs.Runs.Make as run
 use Rattle.cdb_system.specs.declared.system.System.{Ghosts as Systems}
 use Rattle.cdb_system.proofs.Said.{line_kept, says_kept}
-use Rattle.cdb.specs.Machine.{machine_of}
+use Rattle.cdb.specs.Agreeing.{machine_of}
 
 of_weaker : {F : Type 0} (f : Ghosts F) (base : Option F) (P Q : Option (List ℕ) → Type 0) → ((x : Option (List ℕ)) → P x → Q x) → OfBase f base P → OfBase f base Q
 of_weaker f None P Q g h = g None h

@@ -6,9 +6,9 @@ use Rattle.std.specs.Prelude.{bytes_eq, ◌||◌}
 use Rattle.cdb_command.specs.declared.options.MakeOptions.{MakeOptions}
 use Rattle.cdb_show.specs.declared.fault.Fault.{Fault}
 use Rattle.cdb_system.specs.Oracle.{Disk, inputs_of, is_standard}
-use Rattle.cdb_system.specs.Places.{temporary_of}
+use Rattle.cdb_system.specs.State.{temporary_of}
 use Rattle.cdb_tool.specs.Runs.Made.{Made, made_file, made_lines, made_of}
-use Rattle.cdb.specs.Alike.{AreAlike, ReadAlike}
+use Rattle.cdb.specs.Contents.{AreAlike, ReadAlike}
 use Rattle.cdb.specs.Created.{Created, base_of, create_of, if_based, if_opened, in_place, in_temporary, is_in_place, is_no_name, is_read, on_output, placed, unmade, unopened, with_name}
 
 unmade_alike : (name : List ℕ) (one two : Disk) (fault : Fault) → AreAlike name (unmade one fault) (unmade two fault)

@@ -11,23 +11,23 @@ use Rattle.cdb_command.specs.Usage.{usage_text, version_text}
 use Rattle.cdb_command.specs.Refused.{Refused, refused_line, usage_of}
 use Rattle.cdb_command.specs.declared.command.Command.TheVariants as command
 use Rattle.cdb_store.specs.declared.raw.RawFile.{Ghosts as Raw}
-use Rattle.cdb_show.specs.Runs.Form.{dump_form, list_form}
+use Rattle.cdb_show.specs.Runs.WalkText.{dump_form, list_form}
 use Rattle.cdb_show.specs.declared.output.Output.{Output as Writer}
 use Rattle.cdb_show.specs.Status.{plain_status, check_status, exit_status}
 use Rattle.cdb_show.specs.declared.fault.Fault.TheVariants.{Text, Walk, Output, NoMemory}
 use Rattle.cdb.specs.Created.{foretell}
 use Rattle.cdb.specs.Foretold.{AsksNoCreate, ComesTrue, IsForetold, IsRefused, IsTaken, MayFail, SaysLines}
 use Rattle.cdb_system.specs.Answered.{Honest, Nothing, reads_in_turn, stores_in, streams_in}
+use Rattle.cdb_system.specs.Oracle.{Disk, Outcome, check_outcome, command_outcome, ended, oracle, stats_outcome}
 use Rattle.cdb_system.proofs.Coming.{Comes, EachAgrees, EachAnswered, IsSized, each_agrees, each_answered, no_prefix, nothing_written}
 use Rattle.cdb_system.proofs.ManyKeys.{lookups_foretold}
 use Rattle.cdb_system.proofs.ComparedFiles.{difference_foretold}
-use Rattle.cdb_system.specs.Oracle.{Disk, Outcome, check_outcome, command_outcome, ended, oracle, stats_outcome}
 use Rattle.cdb.specs.Performs.{HandsOn, IsUntouched, PerformsIn, Runs, status_of}
 use Rattle.cdb_system.specs.Telling.{Says, SaysLine, refused_lines, usage_line, usage_status}
 use Rattle.cdb_system.specs.Causes.{Called, Explains, called_of}
 use Rattle.cdb_system.specs.declared.system.System.{Ghosts as Systems}
 use Rattle.cdb_system.proofs.FilesRead.{query_foretold, text_named, text_input, stats_comes, check_comes, on_named, on_input, stats_taken, check_taken, told_comes}
-use Rattle.cdb.specs.Machine.{machine_of}
+use Rattle.cdb.specs.Agreeing.{machine_of}
 
 -- ---- the end of a command
 

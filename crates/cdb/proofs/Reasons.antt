@@ -1,8 +1,8 @@
 -- That a fault has its reason: of a run over what a create read, of a name, and of a command that only reads.
 use Rattle.cdb.proofs.Words.{Answer, Err, Fault, Feed, Ghosts, IfErr, InputReader, Inputs, List, NameCalls, NameFault, None, Ok, OnErr, OpenCalls, Option, Result, SeesName, Some, Sources, Syncs, [], ap, append_assoc, arith, inl, inr, refl, subst, sym, ℕ, ⊤, ◌++◌, ◌<◌, ◌∙◌, ◌∷◌, ◌≡◌, ◌⊎◌}
 use Rattle.std.proofs.lemmas.Result.{IfErr-weaker}
-use Rattle.cdb_feed.specs.Inputs.{SomeFailed}
-use Rattle.cdb_feed.specs.declared.input_reader.InputReader.TheVariants.{Own, Shared}
+use Rattle.cdb_show.specs.Feed.{SomeFailed}
+use Rattle.cdb_show.specs.declared.input_reader.InputReader.TheVariants.{Own, Shared}
 use Rattle.cdb_form.specs.declared.text.fault.TextFault.TheVariants as text
 use Rattle.cdb_form.specs.declared.walk.fault.WalkFault.TheVariants as walk
 use Rattle.cdb_names.specs.declared.answer.Answer.TheVariants as looks
@@ -13,10 +13,9 @@ use Rattle.cdb_show.specs.Runs.Parsing.{IsOfRun}
 use Rattle.cdb_show.specs.declared.fault.Fault.TheVariants.{Make, New, NoMemory, Old, Open, Output, Read, Rename, Text, Walk}
 use Rattle.cdb_store.specs.declared.make_fault.MakeFault.TheVariants as make
 use Rattle.cdb_system.specs.Answered.{if_some}
-use Rattle.cdb_system.specs.Files.{Files}
+use Rattle.cdb_system.specs.State.{Files, own_readers}
 use Rattle.cdb_system.specs.Inputs.{MissesBase, OpensBase, StopsOpening, inputs_read}
 use Rattle.cdb_system.specs.Opening.{Empties, Misses, MissesEmptying, named_as, unopened}
-use Rattle.cdb_system.specs.Streams.{own_readers}
 use Rattle.cdb_system.specs.declared.open_trace.OpenCall.TheVariants.{Emptied, Locked, Own as OwnName, ToEmpty, Unopened}
 use Rattle.cdb_system.specs.declared.system.System.{Ghosts as Systems}
 use Rattle.cdb_system.proofs.InputsKnown.{inputs_since, opened_since}

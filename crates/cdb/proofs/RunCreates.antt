@@ -13,15 +13,14 @@ use Rattle.cdb.specs.Performs.{IsShown, PerformsIn, Runs, status_of}
 use Rattle.cdb_system.specs.Causes.{called_of}
 use Rattle.cdb_system.specs.declared.system.System.{Ghosts as Systems}
 use Rattle.cdb_show.specs.declared.output.Output.{Output as Writer}
-use Rattle.cdb.proofs.Replaced.{IsPlain}
+use Rattle.cdb.proofs.Replaced.{IsPlain, said_nothing}
 use Rattle.cdb_system.proofs.Explained.{SaysOnly, says_only}
 use Rattle.cdb.proofs.CreateEnds.{Came, keeps_first}
 use Rattle.cdb.proofs.CreateReads.{asking_none, moments_first}
 use Rattle.cdb.proofs.Creates.{creates_so}
 use Rattle.cdb.proofs.Oracles.{all_taken, handed_all}
-use Rattle.cdb.proofs.Replaced.{said_nothing}
-use Rattle.cdb_system.specs.Files.{Files, files_of}
-use Rattle.cdb.specs.Machine.{machine_of}
+use Rattle.cdb_system.specs.State.{Files, files_of}
+use Rattle.cdb.specs.Agreeing.{machine_of}
 
 -- ---- the end
 

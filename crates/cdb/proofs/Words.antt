@@ -10,9 +10,9 @@ pub use Rattle.cdb.specs.declared.contents.Sources.{Sources}
 pub use Rattle.cdb_command.specs.Asked.{Asked, asked_in, has_wide_words}
 pub use Rattle.cdb_command.specs.Refused.{Refused, usage_of}
 pub use Rattle.cdb_command.specs.declared.command.Command.{Command}
-pub use Rattle.cdb_feed.specs.declared.input_reader.InputReader.{InputReader}
+pub use Rattle.cdb_show.specs.declared.input_reader.InputReader.{InputReader}
 pub use Rattle.cdb_form.specs.Views.Feed.{Feed}
-pub use Rattle.cdb_form.specs.Format.Record.{AreBytes}
+pub use Rattle.cdb_form.specs.Format.{AreBytes}
 pub use Rattle.cdb_form.specs.Views.KnownBytes.{AppendsPrefix}
 pub use Rattle.cdb_make.specs.Views.Maker.{WhereHonest}
 pub use Rattle.cdb_names.specs.Folder.{Has, MayHave, NameCalls}
@@ -28,7 +28,7 @@ pub use Rattle.cdb_show.specs.Message.{fault_line}
 pub use Rattle.cdb_show.specs.Runs.Incoming.{Known}
 pub use Rattle.cdb_show.specs.Runs.Inputs.{InputsLeft}
 pub use Rattle.cdb_show.specs.Status.{plain_status}
-pub use Rattle.cdb_show.specs.Views.Inputs.{AreInPlace}
+pub use Rattle.cdb_show.specs.Views.Noted.{AreInPlace}
 pub use Rattle.cdb_show.specs.Views.Output.{HasHandedOn, OutputFailed, OutputSays, held_by, output_bytes, writer_bytes}
 pub use Rattle.cdb_show.specs.declared.fault.Fault.{Fault}
 pub use Rattle.cdb_show.specs.declared.inputs.Inputs.{Inputs}
@@ -37,12 +37,10 @@ pub use Rattle.cdb_store.specs.FileStore.{calls_of}
 pub use Rattle.cdb_store.specs.declared.store.Store.{Ghosts}
 pub use Rattle.cdb_system.proofs.InputsKnown.{standard_is, standard_not}
 pub use Rattle.cdb_system.specs.Answered.{AreAnswered, stores_in}
-pub use Rattle.cdb_system.specs.Files.{files_of}
+pub use Rattle.cdb_system.specs.Oracle.{Disk, is_standard}
+pub use Rattle.cdb_system.specs.State.{files_of, temporary_of, Standard, State, failed_of, given_of, state_of}
 pub use Rattle.cdb_system.specs.Inputs.{inputs_read}
 pub use Rattle.cdb_system.specs.Opening.{OpenCalls}
-pub use Rattle.cdb_system.specs.Oracle.{Disk, is_standard}
-pub use Rattle.cdb_system.specs.Places.{temporary_of}
-pub use Rattle.cdb_system.specs.State.{Standard, State, failed_of, given_of, state_of}
 pub use Rattle.cdb_system.specs.Telling.{SaysLine, refused_lines, usage_line, usage_status}
 pub use Rattle.cdb_system.specs.declared.left.Left.{Left}
 pub use Rattle.cdb_tool.specs.Runs.Made.{Made, made_file, made_lines, made_of}

@@ -1,17 +1,21 @@
 -- Which bytes agree with the inputs of a create, as they were opened and as their readers are handed back.
 use Rattle.std.specs.Prelude.{ℕ, ◌≡◌, ◌++◌, List, Option, Some, None, ⊤, length, map}
 use Rattle.std.specs.List.{AllByRecursion}
-use Rattle.cdb_feed.specs.Inputs.{AgreesWith, AreUnread, FirstAgree, IsUnread}
+use Rattle.cdb_show.specs.Feed.{AgreesWith, AreUnread, FirstAgree, IsUnread}
 use Rattle.cdb_form.specs.Views.Feed.{Feed}
-use Rattle.cdb_form.specs.Format.Record.{AreBytes}
+use Rattle.cdb_form.specs.Format.{AreBytes}
 use Rattle.cdb_show.specs.Runs.Incoming.{one_input}
 use Rattle.cdb_show.specs.Runs.Inputs.{InputsLeft}
-use Rattle.cdb_show.specs.Views.Inputs.{AreInPlace}
+use Rattle.cdb_show.specs.Views.Noted.{AreInPlace}
 use Rattle.cdb_show.specs.declared.inputs.Inputs.{Inputs}
 use Rattle.cdb_system.specs.Opening.{OpenCalls}
 use Rattle.cdb_system.specs.declared.left.Left.{Left}
 use Rattle.cdb_system.specs.declared.open_trace.OpenCall.{OpenCall}
 use Rattle.cdb_system.specs.declared.open_trace.OpenCall.TheVariants.{AtPlaces, InTurn, Watched}
+use Rattle.cdb_store.specs.declared.raw.RawFile.{Ghosts as Raw}
+use Rattle.cdb_store.specs.declared.store.Store.{Ghosts}
+use Rattle.cdb_system.specs.State.{Files, files_of}
+use Rattle.cdb_system.specs.declared.system.System.{Ghosts as Systems}
 
 -- inputs that have these bytes; an input without bytes of its own begins in the shared ones
 abbrev pub inputs_of : (each : List (Option (List ℕ))) → (shared : List ℕ) → InputsLeft
@@ -51,3 +55,15 @@ pub record HandsInputs {F I J M : Type 0} (inputs handed : Inputs I J) (left : L
   pub shared : left.input ≡ Some handed.shared
   pub stream : left.stream ≡ None
   pub placed : AreInPlace inputs.readers.items handed.readers.items
+
+-- ---- What the program runs on.
+
+-- the files of a system, and those that are made under a name by raw calls
+pub record Machine (F I J M N R Y : Type 0) : Type 1 where
+  pub files : Files F I J M N R Y
+  pub raw : Raw R
+
+abbrev pub machine_of : {F I J M N R Y : Type 0} → Ghosts F → Ghosts M → (I → Feed)
+    → Systems Y F I M J N R → Raw R → Machine F I J M N R Y
+machine_of stores made feed system raw =
+    record { files = files_of stores made feed system; raw = raw }

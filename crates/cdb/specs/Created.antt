@@ -1,21 +1,19 @@
 -- What a create comes to if nothing is refused, and what it leaves on the disk: a function of its options,
 -- of what each file has and of what standard input has.
-use Rattle.std.specs.Prelude.{ℕ, Bool, true, false, ◌||◌, ◌==◌, bytes_eq, if◌then◌else◌, List, [], ◌∷◌}
-use Rattle.std.specs.Prelude.{◌++◌, codes, length, nat_lt, Option, None, Some, option_map, Result, Ok, Err}
+use Rattle.std.specs.Prelude.{ℕ, Bool, true, false, ◌||◌, ◌==◌, bytes_eq, if◌then◌else◌, List, [], ◌∷◌, ◌++◌, codes, length, nat_lt, Option, None, Some, option_map, Result, Ok, Err}
 use Rattle.cdb_command.specs.Asked.{Asked}
 use Rattle.cdb_command.specs.Asked as asked
 use Rattle.cdb_command.specs.declared.options.MakeOptions.{MakeOptions}
 use Rattle.cdb_command.specs.Refused.{Refused}
-use Rattle.cdb_form.specs.Format.Pair.{head_size}
-use Rattle.cdb_read.specs.OtherWidth.{lacks_tables}
+use Rattle.cdb_form.specs.Format.{head_size}
+use Rattle.cdb_read.specs.Sound.{lacks_tables}
 use Rattle.cdb_read.specs.declared.fault.ReadFault.TheVariants.{Short}
 use Rattle.cdb_tool.specs.Runs.Made.{Made, made_file, made_lines, made_of}
 use Rattle.cdb_show.specs.Status.{plain_status}
 use Rattle.cdb_show.specs.declared.fault.Fault.{Fault}
 use Rattle.cdb_show.specs.declared.fault.Fault.TheVariants.{Open, Read, NoBaseTables}
-use Rattle.cdb_system.specs.Places.{temporary_of}
-use Rattle.cdb_system.specs.Oracle.{Disk, Outcome, command_outcome, ended, greatest_size, inputs_of}
-use Rattle.cdb_system.specs.Oracle.{is_standard, oracle, word_size}
+use Rattle.cdb_system.specs.State.{temporary_of}
+use Rattle.cdb_system.specs.Oracle.{Disk, Outcome, command_outcome, ended, greatest_size, inputs_of, is_standard, oracle, word_size}
 
 -- ---- the disk
 

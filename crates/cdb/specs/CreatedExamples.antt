@@ -1,12 +1,11 @@
 -- What the oracle says of worked creates.
 use Rattle.std.specs.Fmt.{digits}
-use Rattle.std.specs.Prelude.{ℕ, ◌≡◌, Bool, ◌&&◌, true, false, nat_lt, bytes_eq, if◌then◌else◌, List, [], ◌∷◌}
-use Rattle.std.specs.Prelude.{length, codes, Option, None, Some, Ok, refl, zero, suc, IfSome}
+use Rattle.std.specs.Prelude.{ℕ, ◌≡◌, Bool, ◌&&◌, true, false, nat_lt, bytes_eq, if◌then◌else◌, List, [], ◌∷◌, length, codes, Option, None, Some, Ok, refl, zero, suc, IfSome}
 use Rattle.std.proofs.Common.{arith, inl, subst, sym}
 use Rattle.std.proofs.lemmas.Bool.{and_parts, cond_both, ltb-true}
-use Rattle.cdb_feed.specs.Noted.{noted_feed}
-use Rattle.cdb_feed.specs.declared.input_reader.InputReader.TheVariants.{Own, Shared}
-use Rattle.cdb_feed.specs.declared.noted_reader.NotedReader.{NotedReader}
+use Rattle.cdb_show.specs.Feed.{noted_feed}
+use Rattle.cdb_show.specs.declared.input_reader.InputReader.TheVariants.{Own, Shared}
+use Rattle.cdb_show.specs.declared.noted_reader.NotedReader.{NotedReader}
 use Rattle.cdb_names.specs.Folder.{NameCalls}
 use Rattle.cdb_names.specs.declared.answer.Answer.TheVariants as looks
 use Rattle.cdb_names.specs.declared.name_trace.NameCall.TheVariants as name_call
@@ -16,34 +15,26 @@ use Rattle.cdb_store.specs.contracts.memory.MemStoreStore.TheImpl.{ghosts as in_
 use Rattle.cdb_store.specs.declared.memory.MemStore.{MemStore}
 use Rattle.cdb_store.specs.declared.trace.Call.TheVariants as file_call
 use Rattle.cdb_form.proofs.Bytes.ByteLemmas.{AreBytes-cons, AreBytes-nil}
-use Rattle.cdb_form.specs.Format.Record.{AreBytes}
+use Rattle.cdb_form.specs.Format.{AreBytes, file_bytes, file_pointers, pointers_from, head_at, record_bytes, record_of, file_tables, table_slots, filled_slots, slots_with, table_entries, entries_from, walk_of, walk_from, whole_records, record_end}
 use Rattle.cdb_system.specs.Answered.{AreAnswered, if_some}
-use Rattle.cdb_system.specs.Files.{Files, files_of}
+use Rattle.cdb_system.specs.Oracle.{Disk}
+use Rattle.cdb_system.specs.State.{Files, files_of, AgreeInTurn, Agrees, own_readers, Standard, State, standard_of, state_of}
 use Rattle.cdb_system.specs.NotedExamples.{ended, fresh, fresh_is_unread, more_agree, noted, these_agree}
-use Rattle.cdb_system.specs.Streams.{AgreeInTurn, Agrees, own_readers}
 use Rattle.cdb_system.specs.declared.left.Left.{Left}
 use Rattle.cdb_system.specs.declared.open_trace.OpenCall.TheVariants.{InTurn, Watched}
 use Rattle.cdb.specs.Contents.{sources_left}
 use Rattle.cdb.specs.declared.contents.Sources.{Sources}
 use Rattle.cdb.specs.ForetoldCreate.{HonestCreate}
 use Rattle.cdb_system.specs.Opening.{OpenCalls}
-use Rattle.cdb_system.specs.State.{Standard, State, standard_of, state_of}
 use Rattle.cdb_system.specs.declared.system.System.{Ghosts as Systems}
 use Rattle.cdb_command.specs.Asked.{Asked, Create}
 use Rattle.cdb_command.specs.declared.options.MakeOptions.{MakeOptions}
 use Rattle.cdb_command.specs.declared.style.Style.TheVariants.{Native}
-use Rattle.cdb_form.specs.Examples.WorkedFiles.{words_of, repeat, two_file}
-use Rattle.cdb_form.specs.Format.File.{file_bytes, file_pointers, pointers_from}
-use Rattle.cdb_form.specs.Format.Reading.{head_at}
-use Rattle.cdb_form.specs.Format.Record.{record_bytes, record_of}
-use Rattle.cdb_form.specs.Format.Table.{file_tables, table_slots, filled_slots, slots_with}
-use Rattle.cdb_form.specs.Format.Table.{table_entries, entries_from}
-use Rattle.cdb_form.specs.Format.Walk.{walk_of, walk_from, whole_records, record_end}
+use Rattle.cdb_form.specs.Examples.Files.{words_of, repeat, two_file}
 use Rattle.cdb_form.specs.Text.Parse.{text_from}
-use Rattle.cdb_read.specs.OtherWidth.{lacks_tables}
+use Rattle.cdb_read.specs.Sound.{lacks_tables}
 use Rattle.cdb_form.specs.declared.mode.Mode.TheVariants.{Add}
 use Rattle.cdb.specs.Created.{Ending, foretell}
-use Rattle.cdb_system.specs.Oracle.{Disk}
 
 -- an empty disk, and one with the file of the two records
 unfoldable nothing : Disk

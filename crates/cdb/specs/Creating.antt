@@ -10,8 +10,8 @@ use Rattle.cdb_names.specs.declared.name_trace.NameCall.TheVariants as name_call
 use Rattle.cdb_names.specs.declared.replace.ReplaceFault.{ReplaceFault}
 use Rattle.cdb_names.specs.declared.replace.ReplaceFault.TheVariants as replace
 use Rattle.cdb_form.specs.Views.KnownBytes.{AppendsPrefix}
-use Rattle.cdb_feed.specs.Inputs.{AreUnread}
-use Rattle.cdb_feed.specs.declared.input_reader.InputReader.{InputReader}
+use Rattle.cdb_show.specs.Feed.{AreUnread}
+use Rattle.cdb_show.specs.declared.input_reader.InputReader.{InputReader}
 use Rattle.cdb_store.specs.Contents.{contents}
 use Rattle.cdb_store.specs.FileStore.{failures_of}
 use Rattle.cdb_store.specs.Images.{SameImages}
@@ -29,16 +29,13 @@ use Rattle.cdb_show.specs.declared.fault.Fault.{Fault}
 use Rattle.cdb_show.specs.declared.fault.Fault.TheVariants.{Open, NoMemory, Output, Rename, Make, Read}
 use Rattle.cdb_read.specs.declared.fault.ReadFault.TheVariants.{Device}
 use Rattle.cdb_store.specs.declared.make_fault.MakeFault.TheVariants.{Writing}
-use Rattle.cdb_system.specs.Files.{Files}
+use Rattle.cdb_system.specs.State.{Files, Standard, State, IsInPlace, temporary_of}
 use Rattle.cdb_system.specs.Inputs.{IsStandard, MissesBase, OpensBase, OpensInputs, StopsOpening, inputs_read}
 use Rattle.cdb_system.specs.Opening.{Empties, MissesEmptying, OpenCalls, base_left, named_as}
-use Rattle.cdb_system.specs.State.{Standard, State}
 use Rattle.cdb_system.specs.declared.left.Left.{Left}
 use Rattle.cdb_system.specs.declared.open_trace.OpenCall.TheVariants.{Own}
-use Rattle.cdb_system.specs.Places.{IsInPlace, temporary_of}
-use Rattle.cdb.specs.Agreeing.{HandsInputs, OfAgreeing, OpensNoMore}
+use Rattle.cdb.specs.Agreeing.{HandsInputs, OfAgreeing, OpensNoMore, Machine}
 use Rattle.cdb.specs.Created.{head_fault}
-use Rattle.cdb.specs.Machine.{Machine}
 
 -- ---- the database
 

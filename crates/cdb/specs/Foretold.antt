@@ -1,6 +1,5 @@
 -- What the oracle says of a run comes true if the calls on files were answered as the files are.
-use Rattle.std.specs.Prelude.{ℕ, ◌≡◌, ◌⊎◌, Bool, true, false, List, [], ◌++◌, Option, Result, Ok, Err}
-use Rattle.std.specs.Prelude.{IfOk, ⊤}
+use Rattle.std.specs.Prelude.{ℕ, ◌≡◌, ◌⊎◌, Bool, true, false, List, [], ◌++◌, Option, Result, Ok, Err, IfOk, ⊤}
 use Rattle.std.specs.Io.KnownBytes.{Appends}
 use Rattle.cdb_command.specs.Asked.{Asked}
 use Rattle.cdb_command.specs.Asked as asked
@@ -12,11 +11,10 @@ use Rattle.cdb_show.specs.declared.fault.Fault.{Fault}
 use Rattle.cdb_show.specs.declared.fault.Fault.TheVariants.{NoMemory}
 use Rattle.cdb_show.specs.declared.output.Output.{Output as Writer}
 use Rattle.cdb.specs.Created.{foretell}
-use Rattle.cdb_system.specs.Files.{Files}
+use Rattle.cdb_system.specs.State.{Files, Given, State}
 use Rattle.cdb_system.specs.Oracle.{Disk, Outcome}
-use Rattle.cdb_system.specs.State.{Given, State}
-use Rattle.cdb_system.specs.declared.left.Left.{Left}
 use Rattle.cdb_system.specs.Answered.{Honest, reads_in_turn, IsRefusal}
+use Rattle.cdb_system.specs.declared.left.Left.{Left}
 
 -- ---- what comes of it
 

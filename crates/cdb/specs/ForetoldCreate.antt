@@ -1,8 +1,7 @@
 -- What the oracle says of a create comes true if the calls were answered as the disk is. The newest call
 -- comes first.
-use Rattle.std.specs.Prelude.{ℕ, ◌≡◌, ◌≢◌, ◌⊎◌, ⊤, bytes_eq, Bool, true, false, List, [], ◌∷◌, ◌++◌}
-use Rattle.std.specs.Prelude.{if◌then◌else◌, Option, None, Some, IfSome, Result, Ok}
-use Rattle.cdb_feed.specs.Inputs.{IsUnread}
+use Rattle.std.specs.Prelude.{ℕ, ◌≡◌, ◌≢◌, ◌⊎◌, ⊤, bytes_eq, Bool, true, false, List, [], ◌∷◌, ◌++◌, if◌then◌else◌, Option, None, Some, IfSome, Result, Ok}
+use Rattle.cdb_show.specs.Feed.{IsUnread}
 use Rattle.std.specs.List.{AllByRecursion}
 use Rattle.std.specs.Io.KnownBytes.{Appends}
 use Rattle.cdb_command.specs.Asked.{Asked, Create}
@@ -20,13 +19,10 @@ use Rattle.cdb_tool.specs.Runs.MakesSo.{IsMakeRefusal}
 use Rattle.cdb_show.specs.declared.fault.Fault.{Fault}
 use Rattle.cdb_show.specs.declared.fault.Fault.TheVariants.{Open, Output, Rename}
 use Rattle.cdb.specs.Created.{Created, create_of, created_ending, is_in_place}
-use Rattle.cdb_system.specs.Places.{temporary_of}
-use Rattle.cdb_system.specs.Files.{Files}
+use Rattle.cdb_system.specs.State.{temporary_of, Files, Given, Standard, State, with_calls, AgreeInTurn, Agrees, names_in_turn}
 use Rattle.cdb_system.specs.Answered.{AreAnswered, IsOfBytes, stores_in, streams_in}
-use Rattle.cdb_system.specs.Opening.{OpenCalls}
 use Rattle.cdb_system.specs.Oracle.{Disk, greatest_size, is_standard, word_size}
-use Rattle.cdb_system.specs.State.{Given, Standard, State, with_calls}
-use Rattle.cdb_system.specs.Streams.{AgreeInTurn, Agrees, names_in_turn}
+use Rattle.cdb_system.specs.Opening.{OpenCalls}
 use Rattle.cdb_system.specs.declared.left.Left.{Left}
 use Rattle.cdb_system.specs.declared.open_trace.OpenCall.TheVariants.{Own}
 

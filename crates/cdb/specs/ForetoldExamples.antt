@@ -3,22 +3,19 @@
 use Rattle.std.proofs.Common.{inl, inr, subst}
 use Rattle.std.specs.Fmt.{digits}
 use Rattle.std.specs.Io.KnownBytes.{Appends}
-use Rattle.std.specs.Prelude.{ℕ, ◌≡◌, ◌⊎◌, true, false, bytes_eq, if◌then◌else◌, List, [], ◌∷◌, ◌++◌}
-use Rattle.std.specs.Prelude.{codes, take, None, Some, Ok, ⊤, refl}
+use Rattle.std.specs.Prelude.{ℕ, ◌≡◌, ◌⊎◌, true, false, bytes_eq, if◌then◌else◌, List, [], ◌∷◌, ◌++◌, codes, take, None, Some, Ok, ⊤, refl}
 use Rattle.cdb_command.specs.Asked.{Asked, Dump, Query, Stats}
 use Rattle.cdb_command.specs.declared.style.Style.TheVariants.{Native}
-use Rattle.cdb_feed.specs.Noted.{noted_feed}
-use Rattle.cdb_feed.specs.declared.noted_reader.NotedReader.{NotedReader}
-use Rattle.cdb_form.specs.Examples.WorkedFiles.{words_of, repeat, two_file}
-use Rattle.cdb_form.specs.Format.Reading.{head_at}
-use Rattle.cdb_form.specs.Format.Table.{entries_from}
-use Rattle.cdb_form.specs.Format.Walk.{walk_of, walk_from, whole_records, record_end}
+use Rattle.cdb_show.specs.Feed.{noted_feed}
+use Rattle.cdb_show.specs.declared.noted_reader.NotedReader.{NotedReader}
+use Rattle.cdb_form.specs.Examples.Files.{words_of, repeat, two_file}
+use Rattle.cdb_form.specs.Format.{head_at, entries_from, walk_of, walk_from, whole_records, record_end}
 use Rattle.cdb_form.specs.Views.KnownBytes.{AppendsPrefix}
 use Rattle.cdb_names.specs.Folder.{NameCalls}
 use Rattle.cdb_read.specs.Lookup.{met_slots, found_at, lookup_of}
 use Rattle.cdb_read.specs.Statistics.{distances_in, statistics_of, statistics_damage}
 use Rattle.cdb_show.specs.Command.{explains_in, plan_of}
-use Rattle.cdb_show.specs.Runs.StatsText.{distance_lines, stats_text}
+use Rattle.cdb_show.specs.Runs.Stats.{distance_lines, stats_text}
 use Rattle.cdb_show.specs.Views.Output.{output_bytes, writer_bytes}
 use Rattle.cdb_show.specs.declared.output.Output.{Output as Writer}
 use Rattle.cdb_store.specs.Contents.{contents}
@@ -30,11 +27,10 @@ use Rattle.cdb.specs.Foretold.{AsksNoCreate, IsForetold, IsTaken}
 use Rattle.cdb.specs.declared.streams.Streams.{Streams}
 use Rattle.cdb.specs.Running.{IsRun, given_by, taken, world_of, written}
 use Rattle.cdb_system.specs.Answered.{Honest}
-use Rattle.cdb_system.specs.Files.{Files, files_of}
+use Rattle.cdb_system.specs.Oracle.{Disk, Outcome}
+use Rattle.cdb_system.specs.State.{Files, files_of, Standard, given_of, standard_of}
 use Rattle.cdb_system.specs.NotedExamples.{ended, fresh, fresh_is_unread, front_agrees, noted, these_agree}
 use Rattle.cdb_system.specs.Opening.{OpenCalls, input_left, read_left, stream_left}
-use Rattle.cdb_system.specs.Oracle.{Disk, Outcome}
-use Rattle.cdb_system.specs.State.{Standard, given_of, standard_of}
 use Rattle.cdb_system.specs.declared.left.Left.{Left}
 use Rattle.cdb_system.specs.declared.open_trace.OpenCall.TheVariants.{AtPlaces, InTurn}
 use Rattle.cdb_system.specs.declared.system.System.{Ghosts as Systems}

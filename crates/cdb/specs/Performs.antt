@@ -9,9 +9,9 @@ use Rattle.cdb_command.specs.Refused.{Refused, usage_of}
 use Rattle.cdb_command.specs.Refused as words
 use Rattle.cdb_command.specs.declared.options.MakeOptions.{MakeOptions}
 use Rattle.cdb_tool.specs.declared.runs.options.RunOptions.{RunOptions}
-use Rattle.cdb_tool.specs.Runs.Course.{plain}
+use Rattle.cdb_tool.specs.Runs.Make.{plain}
 use Rattle.cdb_store.specs.contracts.memory.MemStoreStore.TheImpl.{ghosts as in_memory}
-use Rattle.cdb_show.specs.Runs.Form.{dump_form, list_form}
+use Rattle.cdb_show.specs.Runs.WalkText.{dump_form, list_form}
 use Rattle.cdb_show.specs.Runs.Flushed.{IsWhole}
 use Rattle.cdb_show.specs.Runs.Query.{value_text}
 use Rattle.cdb_show.specs.Status.{exit_status}
@@ -19,7 +19,7 @@ use Rattle.cdb_show.specs.Views.Output.{OutputSays}
 use Rattle.cdb_show.specs.declared.fault.Fault.{Fault}
 use Rattle.cdb_show.specs.declared.fault.Fault.TheVariants.{Output}
 use Rattle.cdb.specs.Creating.{Creates}
-use Rattle.cdb.specs.Machine.{Machine}
+use Rattle.cdb.specs.Agreeing.{Machine}
 use Rattle.cdb.specs.Reasons.{CanHaveNoFile, HasReason, calls_made, left_reasons}
 use Rattle.cdb_system.specs.Causes.{Explains, called_of}
 use Rattle.cdb_system.specs.Opening.{none_left}

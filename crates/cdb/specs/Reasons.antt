@@ -2,7 +2,7 @@
 use Rattle.std.specs.Prelude.{ℕ, ◌≡◌, ◌<◌, ◌⊎◌, List, [], ◌∷◌, ◌++◌, Option, Some, None, ⊤}
 use Rattle.cdb_command.specs.Asked.{Asked}
 use Rattle.cdb_command.specs.Asked as asked
-use Rattle.cdb_feed.specs.Inputs.{SomeFailed}
+use Rattle.cdb_show.specs.Feed.{SomeFailed}
 use Rattle.cdb_form.specs.Views.Feed.{Feed, IsSome}
 use Rattle.cdb_form.specs.declared.text.fault.TextFault.TheVariants as text
 use Rattle.cdb_form.specs.declared.walk.fault.WalkFault.TheVariants as walk
@@ -21,11 +21,11 @@ use Rattle.cdb_store.specs.declared.raw.RawFile.{Ghosts as Raw}
 use Rattle.cdb_store.specs.declared.store.Store.{Ghosts}
 use Rattle.cdb_system.specs.Answered.{if_some, stores_in, streams_in}
 use Rattle.cdb_system.specs.Opening.{OpenCalls}
-use Rattle.cdb_system.specs.Places.{temporary_of}
+use Rattle.cdb_system.specs.State.{temporary_of}
 use Rattle.cdb_system.specs.declared.left.Left.{Left}
 use Rattle.cdb_system.specs.declared.open_trace.OpenCall.{OpenCall}
 use Rattle.cdb_system.specs.declared.open_trace.OpenCall.TheVariants.{Locked, Own, Stream, Unopened}
-use Rattle.cdb.specs.Machine.{Machine}
+use Rattle.cdb.specs.Agreeing.{Machine}
 use Rattle.cdb.specs.declared.contents.Sources.{Sources}
 
 -- ---- what has failed

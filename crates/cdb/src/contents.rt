@@ -1,6 +1,6 @@
 // What a create reads, once it is opened.
 ghost use Rattle.std.specs.Prelude.{◌≡◌, ◌≤◌};
-ghost use Rattle.cdb_form.specs.Format.Pair.{head_size};
+ghost use Rattle.cdb_form.specs.Format.{head_size};
 
 use cdb_form::Width;
 use cdb_show::Inputs;

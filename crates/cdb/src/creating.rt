@@ -1,19 +1,13 @@
 // A create: its base and inputs are opened, and then the database is made of them.
-ghost use Rattle.std.specs.Prelude.{◌⊎◌, ◌≡◌, ◌≤◌, IfOk, IfErr, map, option_map};
-ghost use Rattle.std.specs.Prelude.{string_bytes};
-ghost use Rattle.cdb_show.specs.Views.Inputs.{AreInPlace};
+ghost use Rattle.std.specs.Prelude.{◌⊎◌, ◌≡◌, ◌≤◌, IfOk, IfErr, map, option_map, string_bytes};
+ghost use Rattle.cdb_show.specs.Views.Noted.{AreInPlace};
 ghost use Rattle.cdb_show.specs.Views.Output.{OutputSays};
-ghost use Rattle.cdb_form.specs.Format.Pair.{head_size};
-ghost use Rattle.cdb.specs.Agreeing.{OfAgreeing};
-ghost use Rattle.cdb.specs.Creating.{Creates, MakesOnOutput};
-ghost use Rattle.cdb.specs.Creating.{IsOfNoOutput, NotOpened, OpensAll, WritesAll};
-ghost use Rattle.cdb_system.specs.Places.{temporary_of};
-ghost use Rattle.cdb_system.specs.Files.{files_of};
-ghost use Rattle.cdb.specs.Machine.{machine_of};
-ghost use Rattle.cdb_system.specs.State.{standard_of, state_of};
+ghost use Rattle.cdb_form.specs.Format.{head_size};
+ghost use Rattle.cdb.specs.Agreeing.{OfAgreeing, machine_of};
+ghost use Rattle.cdb.specs.Creating.{Creates, MakesOnOutput, IsOfNoOutput, NotOpened, OpensAll, WritesAll};
+ghost use Rattle.cdb_system.specs.State.{temporary_of, files_of, standard_of, state_of};
 ghost use Rattle.cdb.specs.Contents.{making_of, wanted_of};
-ghost use Rattle.cdb.specs.Reasons.{HasReason, HasRefusedFile, calls_made, left_reasons, run_reasons};
-ghost use Rattle.cdb.specs.Reasons.{store_reasons};
+ghost use Rattle.cdb.specs.Reasons.{HasReason, HasRefusedFile, calls_made, left_reasons, run_reasons, store_reasons};
 ghost use Rattle.cdb_names.specs.Replacing.{IsNoName};
 ghost use Rattle.cdb_system.specs.Answered.{if_some};
 

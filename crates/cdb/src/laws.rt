@@ -1,6 +1,6 @@
 //! A law of creates: the contract of a function without parameters.
 ghost use Rattle.std.specs.Prelude.{ℕ, List, Option};
-ghost use Rattle.cdb.specs.Alike.{AreAlike, ReadAlike};
+ghost use Rattle.cdb.specs.Contents.{AreAlike, ReadAlike};
 ghost use Rattle.cdb.specs.Created.{create_of};
 ghost use Rattle.cdb_command.specs.declared.options.MakeOptions.{MakeOptions};
 ghost use Rattle.cdb_system.specs.Oracle.{Disk};

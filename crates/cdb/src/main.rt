@@ -12,9 +12,9 @@ mod steps;
 mod streams;
 
 use crate::streams::Streams;
-use cdb_feed::NotedReader;
 use cdb_form::PIPE;
 use cdb_names::RealNames;
+use cdb_show::NotedReader;
 use cdb_store::LAST_STANDARD;
 use cdb_system::{RealSystem, Seen, SeenReader, SeenWriter, refuse_unbuffered};
 use cdb_tool::{Output, Usage};

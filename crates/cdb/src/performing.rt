@@ -1,10 +1,9 @@
 // Each command, with words of one width.
 ghost use Rattle.cdb_show.specs.Views.Output.{OutputSays};
-ghost use Rattle.cdb_show.specs.Command.{asked_in, FitsIn};
-ghost use Rattle.cdb_form.specs.Format.Pair.{head_size};
-ghost use Rattle.cdb_show.specs.Command.{usage_text, version_text};
+ghost use Rattle.cdb_show.specs.Command.{asked_in, FitsIn, usage_text, version_text};
+ghost use Rattle.cdb_form.specs.Format.{head_size};
 ghost use Rattle.std.specs.Prelude.{◌⊎◌, ◌≡◌, IfErr, map, string_bytes};
-ghost use Rattle.cdb.specs.Machine.{machine_of};
+ghost use Rattle.cdb.specs.Agreeing.{machine_of};
 ghost use Rattle.cdb.specs.Performs.{IsShown, IsUntouched, Performs};
 ghost use Rattle.cdb.specs.Reasons.{CanHaveNoFile, HasReason, IfCreate, calls_made, left_reasons};
 ghost use Rattle.cdb_system.specs.Reading.{Tells};

@@ -1,23 +1,16 @@
 // A database made under its name: in place, or in a temporary file that replaces it.
-ghost use Rattle.std.specs.Prelude.{◌≡◌, ◌⊎◌, ◌∷◌, [], true, false, map, option_map, string_bytes};
-ghost use Rattle.std.specs.Prelude.{IfOk, IfErr, OnOk, List, Option, ℕ};
-ghost use Rattle.cdb_show.specs.Views.Inputs.{AreInPlace};
+ghost use Rattle.std.specs.Prelude.{◌≡◌, ◌⊎◌, ◌∷◌, [], true, false, map, option_map, string_bytes, IfOk, IfErr, OnOk, List, Option, ℕ};
+ghost use Rattle.cdb_show.specs.Views.Noted.{AreInPlace};
 ghost use Rattle.cdb_show.specs.Views.Output.{OutputSays};
-ghost use Rattle.cdb.specs.Agreeing.{HandsInputs, OfAgreeing, OpensNoMore};
-ghost use Rattle.cdb.specs.Creating.{AsksAll, AsksBase, AsksEach, AsksOne};
-ghost use Rattle.cdb.specs.Creating.{FindsBase, FindsInput, FindsOne, MayBeInput, MayBeOne};
-ghost use Rattle.cdb.specs.Creating.{MayBeStandard};
+ghost use Rattle.cdb.specs.Agreeing.{HandsInputs, OfAgreeing, OpensNoMore, machine_of};
+ghost use Rattle.cdb.specs.Creating.{AsksAll, AsksBase, AsksEach, AsksOne, FindsBase, FindsInput, FindsOne, MayBeInput, MayBeOne, MayBeStandard, MakesApart, MakesInPlace, SeesName, Syncs, answer_of};
 ghost use Rattle.cdb_system.specs.Inputs.{inputs_read};
 ghost use Rattle.cdb_system.specs.Opening.{Empties, MissesEmptying, OpenCalls, named_as};
-ghost use Rattle.cdb.specs.Creating.{MakesApart, MakesInPlace, SeesName, Syncs, answer_of};
-ghost use Rattle.cdb_system.specs.Files.{files_of};
-ghost use Rattle.cdb_system.specs.State.{state_of};
+ghost use Rattle.cdb_system.specs.State.{files_of, state_of};
 ghost use Rattle.cdb_names.specs.declared.answer.Answer.TheVariants.{No, Yes};
 ghost use Rattle.cdb_names.specs.declared.name_trace.NameCall.TheVariants.{Input, Same};
 ghost use Rattle.cdb.specs.Contents.{making_of, wanted_of};
-ghost use Rattle.cdb.specs.Machine.{machine_of};
-ghost use Rattle.cdb.specs.Reasons.{HasFailedFile, HasReason, HasRefusedName, calls_made, left_reasons};
-ghost use Rattle.cdb.specs.Reasons.{run_reasons};
+ghost use Rattle.cdb.specs.Reasons.{HasFailedFile, HasReason, HasRefusedName, calls_made, left_reasons, run_reasons};
 ghost use Rattle.cdb_names.specs.Replacing.{IsNoName};
 
 use crate::building::Building;

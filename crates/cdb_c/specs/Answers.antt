@@ -1,12 +1,12 @@
 -- What the exports answer, in the words of look-ups and walks over bytes in memory.
 use Rattle.std.specs.Prelude.{ℕ, ℤ, pos, negsuc, zero, suc, ◌≡◌}
 use Rattle.cdb_form.specs.declared.damage.Damage.{Damage}
-use Rattle.cdb_form.specs.Format.Walk.{Walked, damaged}
+use Rattle.cdb_form.specs.Format.{Walked, damaged}
 use Rattle.cdb_read.specs.Lookup.{Found as Looked, found_damaged}
 use Rattle.cdb_read.specs.declared.span.Pair.{Pair}
 use Rattle.cdb_read.specs.declared.span.Span.{Span}
-use Rattle.cdb_memory.specs.declared.search.Search.{Search}
-use Rattle.cdb_memory.specs.declared.walk.RecordArea.{RecordArea}
+use Rattle.cdb_read.specs.declared.memory.search.Search.{Search}
+use Rattle.cdb_read.specs.declared.memory.walk.RecordArea.{RecordArea}
 use Rattle.cdb_c.specs.declared.finding.Found.{Found}
 use Rattle.cdb_c.specs.declared.finding.State.{State}
 use Rattle.cdb_c.specs.declared.walking.Placed.{Placed}

@@ -1,3 +1,5 @@
 -- What the exports answer.
 pub mod Answers
 pub mod Codes
+pub mod Addresses
+pub mod Calls

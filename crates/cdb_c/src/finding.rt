@@ -1,15 +1,14 @@
 // Look-ups of a key.
 ghost use Rattle.std.specs.Prelude.{◌≡◌, ◌+◌, ◌<◌, ◌≤◌, pos, negsuc, length};
-ghost use Rattle.cdb_form.specs.Format.Hash.{key_hash};
-ghost use Rattle.cdb_form.specs.Format.Pair.{head_size};
+ghost use Rattle.cdb_form.specs.Format.{key_hash, head_size};
 ghost use Rattle.cdb_read.specs.Lookup.{lookup_of, nothing_found};
-ghost use Rattle.cdb_read.specs.Views.Probing.{ProbeInside};
-ghost use Rattle.cdb_memory.specs.Searches.{probe_of, ahead, IsSearchWithin, SearchBegins};
-ghost use Rattle.cdb_memory.specs.Searches.{SearchGivesSpan, SearchGivesNone, Advances, HasFirst};
+ghost use Rattle.cdb_read.specs.Views.Search.{ProbeInside};
+ghost use Rattle.cdb_read.specs.Memory.{probe_of, ahead, IsSearchWithin, SearchBegins, SearchGivesSpan, SearchGivesNone, Advances, HasFirst};
 ghost use Rattle.cdb_c.specs.Answers.{Says, IsDamaged, span_of, search_of};
 
 use cdb_form::Narrow;
-use cdb_memory::{Search, Span, begin, find, next};
+use cdb_read::Span;
+use cdb_read::memory::{Search, begin, find, next};
 
 /// Where a value was found.
 #[repr(C)]

@@ -1,6 +1,6 @@
 // The hash of a key.
 ghost use Rattle.std.specs.Prelude.{◌≡◌};
-ghost use Rattle.cdb_form.specs.Format.Hash.{key_hash};
+ghost use Rattle.cdb_form.specs.Format.{key_hash};
 
 use cdb_form::hash;
 

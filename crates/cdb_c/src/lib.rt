@@ -9,6 +9,7 @@
 mod codes;
 mod finding;
 mod hashing;
+mod maker;
 mod making;
 mod walking;
 mod words;

@@ -1,21 +1,15 @@
 // The making calls.
-ghost use Rattle.cdb_form.specs.Format.Record.{record_of};
+ghost use Rattle.cdb_form.specs.Format.{record_of, whole_records};
 ghost use Rattle.std.specs.Prelude.{◌≡◌, None, Err, IfOk, IfErr, negsuc, length};
 ghost use Rattle.std.specs.Fd.{file_raw_fd};
-ghost use Rattle.cdb_make.specs.Views.Maker.{Puts, FailsPutting, Follows};
-ghost use Rattle.cdb_make.specs.Views.Maker.{Removes, FailsRemoving, FailsFinishing};
-ghost use Rattle.cdb_make.specs.Views.Maker.{WritesNothing, FailsLooking, SameCounts, MakerKeepsAll};
+ghost use Rattle.cdb_make.specs.Views.Maker.{Puts, FailsPutting, Follows, Removes, FailsRemoving, FailsFinishing, WritesNothing, FailsLooking, SameCounts, MakerKeepsAll};
 ghost use Rattle.cdb_store.specs.declared.make_fault.MakeFault.TheVariants.{Broken};
 ghost use Rattle.cdb_make.specs.Views.Appending.{AppendsAll, FailsAppending};
-ghost use Rattle.cdb_form.specs.Format.Walk.{whole_records};
-ghost use Rattle.cdb_handle.specs.Kept.{kept_in};
-ghost use Rattle.cdb_handle.specs.Calls.{BetweenCalls, HasNoMaker, HasNewMaker, IsHandleFinished};
-ghost use Rattle.cdb_handle.specs.Calls.{FindsKey, HandleCounts, HandleWrote};
-ghost use Rattle.cdb_c.specs.Codes.{put_code, done_code, found_code, removed_code, mode_of};
-ghost use Rattle.cdb_c.specs.Codes.{Answers, appended_code};
+ghost use Rattle.cdb_c.specs.Calls.{kept_in, BetweenCalls, HasNoMaker, HasNewMaker, IsHandleFinished, FindsKey, HandleCounts, HandleWrote};
+ghost use Rattle.cdb_c.specs.Codes.{put_code, done_code, found_code, removed_code, mode_of, Answers, appended_code};
 
 use crate::codes::{appended_code, done_code, found_code, mode_of, put_code, removed_code};
-use cdb_handle::{
+use crate::maker::{
     GivenFile, Handle, append, count, exists, finish, number, put, release, remove, start, written,
 };
 use cdb_make::{MakeFault, Put};

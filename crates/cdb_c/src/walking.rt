@@ -1,14 +1,14 @@
 // A walk over the records.
 ghost use Rattle.std.specs.Prelude.{◌≡◌, ◌<◌, ◌≤◌, pos, negsuc, length};
-ghost use Rattle.cdb_form.specs.Format.Pair.{head_size};
-ghost use Rattle.cdb_form.specs.Format.Walk.{walk_of, damaged};
+ghost use Rattle.cdb_form.specs.Format.{head_size, walk_of, damaged};
 ghost use Rattle.cdb_form.specs.declared.damage.Damage.TheVariants.{Record};
 ghost use Rattle.cdb_read.specs.Views.Walking.{behind, LiesAt};
-ghost use Rattle.cdb_memory.specs.Walks.{rest_of, WalkBegins, WalkGivesRecord};
+ghost use Rattle.cdb_read.specs.Memory.{rest_of, WalkBegins, WalkGivesRecord};
 ghost use Rattle.cdb_c.specs.Answers.{Says, IsWalkDamaged, pair_of, rest_at};
 
 use cdb_form::Narrow;
-use cdb_memory::{Pair, RecordArea, first_record, next_record};
+use cdb_read::Pair;
+use cdb_read::memory::{RecordArea, first_record, next_record};
 
 /// Where a record of a walk is.
 #[repr(C)]

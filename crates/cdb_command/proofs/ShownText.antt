@@ -1,11 +1,10 @@
 -- Bytes that are shown in a line, piece by piece.
-use Rattle.std.proofs.Common.{◌≡◌, ◌∙◌, ◌+◌, ◌-◌, ◌++◌, ◌∷◌, ◌&&◌, ◌≤◌, ◌<◌, [], ap, sym, ℕ, zero, suc, List, Bool, true, false}
-use Rattle.std.proofs.Common.{refl, length, take, drop, get_or, arith, append_assoc, not, if◌then◌else◌, inl, inr}
+use Rattle.std.proofs.Common.{◌≡◌, ◌∙◌, ◌+◌, ◌-◌, ◌++◌, ◌∷◌, ◌&&◌, ◌≤◌, ◌<◌, [], ap, sym, ℕ, zero, suc, List, Bool, true, false, refl, length, take, drop, get_or, arith, append_assoc, not, if◌then◌else◌, inl, inr}
 use Rattle.std.proofs.lemmas.Bool.{cases_lt, false_from_ne_true}
 use Rattle.std.proofs.lemmas.List.{length-append, length-take, get_or-take, get_or_append_left, get_or-append_right, take_all, take-append-le}
 use Rattle.std.proofs.lemmas.Str.{IsUtf8-from_is_utf8, inside_one, length-encode, len_utf8_ascii}
 use Rattle.std.specs.Str.{continuation_len, is_utf8}
-use Rattle.cdb_command.specs.Shown.{escaped, first_piece, has_hidden, is_printable, printable_len, shown, shown_after, shown_first}
+use Rattle.cdb_command.specs.Refused.{escaped, first_piece, has_hidden, is_printable, printable_len, shown, shown_after, shown_first}
 use lib.Utf8.{encode, encodes}
 
 -- ---- a character

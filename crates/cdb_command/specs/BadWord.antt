@@ -1,15 +1,13 @@
 -- The first letter or word that is no part of a command line: the words are taken one after the other, and
 -- the letters of each.
 use Prim.Native.Char.{code}
-use Rattle.std.specs.Prelude.{ℕ, ◌==◌, Bool, not, ◌&&◌, true, false, if◌then◌else◌, List, [], ◌∷◌, drop}
-use Rattle.std.specs.Prelude.{codes, bytes_eq, Option, None, Some, is_some, Result, Ok, Err}
+use Rattle.std.specs.Prelude.{ℕ, ◌==◌, Bool, not, ◌&&◌, true, false, if◌then◌else◌, List, [], ◌∷◌, drop, codes, bytes_eq, Option, None, Some, is_some, Result, Ok, Err}
 use Rattle.std.specs.List.{list_any}
 use Rattle.std.specs.Str.{chars}
 use Rattle.cdb_command.specs.Letters.{flag_letters}
 use Rattle.cdb_command.specs.Line.{Text}
 use Rattle.cdb_command.specs.Asked.{◌>>=◌}
-use Rattle.cdb_command.specs.Explained.{asks_in}
-use Rattle.cdb_command.specs.Refused.{Refused, Unknown, Long, NoValue, Twice, Words, Help}
+use Rattle.cdb_command.specs.Refused.{asks_in, Refused, Unknown, Long, NoValue, Twice, Words, Help}
 use Rattle.cdb_command.specs.declared.bad_word.Values.{Values}
 
 abbrev pub no_values : Values

@@ -1,7 +1,6 @@
 -- Command lines worked out by hand, equal to what the definitions compute.
 use Prim.Native.Char.{code}
-use Rattle.std.specs.Prelude.{◌≡◌, true, false, List, [], ◌∷◌, ◌++◌, Some, None, Result, Ok, Err}
-use Rattle.std.specs.Prelude.{codes, refl}
+use Rattle.std.specs.Prelude.{◌≡◌, true, false, List, [], ◌∷◌, ◌++◌, Some, None, Result, Ok, Err, codes, refl}
 use Rattle.std.specs.Str.{chars, is_utf8}
 use lib.Utf8.{encode}
 use Rattle.clap.specs.Faults.{walk_fault, flags_fault, defaults_fault}
@@ -9,12 +8,9 @@ use Rattle.clap.specs.Walk.{bundle_met, walked}
 use Rattle.cdb_form.specs.declared.mode.Mode.TheVariants.{Add}
 use Rattle.cdb_command.specs.Line.{Text}
 use Rattle.cdb_command.specs.Asked.{Asked, Query, Lookups, Dump, Difference, Create, Help, Version}
-use Rattle.cdb_command.specs.Explained.{explains_in}
+use Rattle.cdb_command.specs.Refused.{explains_in, Refused, Unknown, Long, NoValue, Twice, Help, NoCommand, TwoCommands, Option, BaseBuiltIn, Lacks, Surplus, Both, refused_line, shown}
 use Rattle.cdb_command.specs.Words.{plan_of, cdb_rows, cdb_faults}
 use Rattle.cdb_command.specs.declared.style.Style.TheVariants.{Native, Map}
-use Rattle.cdb_command.specs.Refused.{Refused, Unknown, Long, NoValue, Twice, Help, NoCommand, TwoCommands}
-use Rattle.cdb_command.specs.Refused.{Option, BaseBuiltIn, Lacks, Surplus, Both, refused_line}
-use Rattle.cdb_command.specs.Shown.{shown}
 use Rattle.cdb_command.specs.declared.word_fault.Lacking.TheVariants.{Database, Key, New}
 
 -- what the words after the program's name request

@@ -1,6 +1,6 @@
 // Which letters a command line has, also one without a meaning.
 ghost use Rattle.std.specs.Prelude.{◌≡◌, map, string_bytes};
-ghost use Rattle.cdb_command.specs.Explained.{asks_in, explains_in, has, have, some_has};
+ghost use Rattle.cdb_command.specs.Refused.{asks_in, explains_in, has, have, some_has};
 
 /// Whether one of the letters that are sought is among those of a word.
 fn have(sought: &[u8], letters: &[u8]) -> bool

@@ -1,8 +1,7 @@
 // How bytes are shown in a line.
 ghost use Rattle.std.specs.Prelude.{◌≡◌, ◌<◌, ◌≤◌, ◌+◌, length};
 ghost use Rattle.std.specs.Str.{continuation_len};
-ghost use Rattle.cdb_command.specs.Shown.{digit, escaped, first_piece, has_hidden, is_hidden};
-ghost use Rattle.cdb_command.specs.Shown.{is_printable, printable_len};
+ghost use Rattle.cdb_command.specs.Refused.{digit, escaped, first_piece, has_hidden, is_hidden, is_printable, printable_len};
 
 /// Whether a character could end a line, command a terminal, turn the order of what is read, or be
 /// taken for the number of a byte.

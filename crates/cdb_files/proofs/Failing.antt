@@ -8,11 +8,9 @@ use Rattle.cdb_store.specs.declared.store.Store.{Ghosts}
 use Rattle.cdb_form.specs.declared.mode.Mode.TheVariants.{Add}
 use Rattle.cdb_form.specs.declared.record.Record.{Record}
 use Rattle.cdb_form.specs.declared.width.Width.{Ghosts as Widths}
-use Rattle.cdb_form.specs.Format.File.{file_size, whole_size}
-use Rattle.cdb_form.specs.Format.Record.{KeyValue}
+use Rattle.cdb_form.specs.Format.{file_size, whole_size, KeyValue}
 use Rattle.cdb_form.specs.Views.Pairs.{key_value, key_values}
-use Rattle.cdb_make.specs.Views.Maker.{FailsPutting, Holds}
-use Rattle.cdb_make.specs.Views.Making.{MakingFault}
+use Rattle.cdb_make.specs.Views.Maker.{FailsPutting, Holds, MakingFault}
 use Rattle.cdb_store.specs.declared.make_fault.MakeFault.{MakeFault}
 use Rattle.cdb_store.specs.declared.make_fault.MakeFault.TheVariants.{Broken, Lookup, NoMemory, TooBig, Writing}
 use Rattle.cdb_make.specs.declared.maker.Maker.{Maker}

@@ -1,1 +1,4 @@
 mod Failing
+pub mod Asking
+pub mod Finishing
+pub mod Stepping

@@ -2,10 +2,9 @@
 use Rattle.std.specs.Prelude.{ℕ, List, codes}
 use Rattle.cdb_store.specs.declared.make_fault.MakeFault.{MakeFault}
 use Rattle.cdb_store.specs.MakeFault.{make_message}
-use Rattle.cdb_read.specs.Views.ReadFault.{read_display}
+use Rattle.cdb_read.specs.Views.Reads.{read_display}
 use Rattle.cdb_files.specs.declared.fault.FileFault.{FileFault}
-use Rattle.cdb_files.specs.declared.fault.FileFault.TheVariants.{Open, NoMemory, Write}
-use Rattle.cdb_files.specs.declared.fault.FileFault.TheVariants.{Rename, Make, Read}
+use Rattle.cdb_files.specs.declared.fault.FileFault.TheVariants.{Open, NoMemory, Write, Rename, Make, Read}
 use Rattle.cdb_names.specs.declared.replace.ReplaceFault.{ReplaceFault}
 use Rattle.cdb_names.specs.declared.replace.ReplaceFault.TheVariants as replacing
 

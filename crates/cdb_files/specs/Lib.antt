@@ -1,3 +1,4 @@
 pub mod FileFault
 pub mod Made
 pub mod Opening
+pub mod Callers

@@ -1,15 +1,14 @@
 -- What the file of some records is, and what one that was not made left.
 use Rattle.std.specs.Prelude.{◌≡◌, ◌<◌, ◌⊎◌, ⊤, ℕ, List}
 use Rattle.cdb_store.specs.FileStore.{failures_of, images_of}
-use Rattle.cdb_store.specs.Laws.{HasNoImage}
+use Rattle.cdb_store.specs.Images.{HasNoImage}
 use Rattle.cdb_store.specs.declared.raw.RawFile.{Ghosts as Raw}
-use Rattle.cdb_form.specs.Format.File.{file_bytes, file_size}
+use Rattle.cdb_form.specs.Format.{file_bytes, file_size}
 use Rattle.cdb_form.specs.Views.Pairs.{key_values}
 use Rattle.cdb_form.specs.declared.record.Record.{Record}
 use Rattle.cdb_make.specs.Views.Maker.{WhereHonest}
 use Rattle.cdb_store.specs.declared.make_fault.MakeFault.{MakeFault}
-use Rattle.cdb_store.specs.declared.make_fault.MakeFault.TheVariants.{Broken, Lookup, NoMemory, TooBig}
-use Rattle.cdb_store.specs.declared.make_fault.MakeFault.TheVariants.{Writing}
+use Rattle.cdb_store.specs.declared.make_fault.MakeFault.TheVariants.{Broken, Lookup, NoMemory, TooBig, Writing}
 use Rattle.cdb_files.specs.declared.fault.FileFault.{FileFault}
 use Rattle.cdb_files.specs.declared.fault.FileFault.TheVariants as file
 use Rattle.cdb_names.specs.declared.replace.ReplaceFault.{ReplaceFault}

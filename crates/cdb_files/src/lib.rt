@@ -1,6 +1,7 @@
 //! Databases under their names: made, replaced at once or not at all, and opened.
 #![tactic(auto)]
 
+pub mod examples;
 mod fault;
 mod opening;
 mod records_file;

@@ -2,38 +2,23 @@
 pub use Rattle.byteorder.specs.Endian.{little_number}
 pub use Rattle.byteorder.specs.Numbers.{length-bytes_low_first}
 pub use Rattle.cdb_form.specs.Views.Feed.{Consumes, Feed, FromTo, IsAtEnd, Keeps, reader_feed}
-pub use Rattle.cdb_form.specs.Views.MapParser.{ReadsPair, ReadsValue}
-pub use Rattle.cdb_form.specs.Views.NativeParser.{FailsIn, Leaves, ReadsBehind}
+pub use Rattle.cdb_form.specs.Views.MapParser.{ReadsPair, ReadsValue, EndsLine, is_of, line_end}
+pub use Rattle.cdb_form.specs.Views.NativeParser.{FailsIn, Leaves, ReadsBehind, FailsByte, FailsEntry, FailsField, FailsItem, FailsNumber, seen, told}
 pub use Rattle.cdb_form.specs.Views.Taking.{LosesAtMost, LosesFewer, ReadsFirst, ReadsNoRecord, ReadsShort}
-pub use Rattle.cdb_form.specs.Format.File.{file_size}
-unfoldable pub use Rattle.cdb_form.specs.Format.File.{file_bytes, file_pointers, pointers_from}
-pub use Rattle.cdb_form.specs.Format.Hash.{hash_step}
-pub use Rattle.cdb_form.specs.Format.Pair.{WordPair, head_size, pair_bytes, pair_size}
-pub use Rattle.cdb_form.specs.Format.Reading.{nth_pair, pair_at}
-unfoldable pub use Rattle.cdb_form.specs.Format.Reading.{head_at}
-pub use Rattle.cdb_form.specs.Format.Record.{AreBytes, IsRecord, KeyValue, record_size, records_end}
-unfoldable pub use Rattle.cdb_form.specs.Format.Record.{record_bytes}
-pub use Rattle.cdb_form.specs.Format.Table.{empty_slot, is_used, slots_of}
-unfoldable pub use Rattle.cdb_form.specs.Format.Table.{file_tables, table_entries}
-pub use Rattle.cdb_form.specs.Format.Walk.{Walked, damaged, first_table_at, has_slots, least_place, no_walk, prefix_record, prefix_size, with_first}
-unfoldable pub use Rattle.cdb_form.specs.Format.Walk.{record_end, walk_from, walk_of, whole_records}
+pub use Rattle.cdb_form.specs.Format.{file_size, hash_step, WordPair, head_size, pair_bytes, pair_size, nth_pair, pair_at, AreBytes, IsRecord, KeyValue, record_size, records_end, empty_slot, is_used, slots_of, Walked, damaged, first_table_at, has_slots, least_place, no_walk, prefix_record, prefix_size, with_first}
+unfoldable pub use Rattle.cdb_form.specs.Format.{file_bytes, file_pointers, pointers_from, head_at, record_bytes, file_tables, table_entries, record_end, walk_from, walk_of, whole_records}
 pub use Rattle.cdb_form.specs.Laws.Text.{ChangeFits, LengthsFit}
-pub use Rattle.cdb_form.specs.Text.Amending.{Change, Putting, Removing, SpellsChange, SpellsRemoval}
+pub use Rattle.cdb_form.specs.Text.Parse.{Change, Putting, Removing, SpellsChange, SpellsRemoval, SpellsKey}
 pub use Rattle.cdb_form.specs.Text.Form.{HasFault, HasNoItem, HasNoText, IsPrefix, LongestPrefix, Reads}
-pub use Rattle.cdb_form.specs.Text.List.{SpellsKey}
 pub use Rattle.cdb_form.specs.Text.Map.{BeginsOther, IsIgnoredLine, IsLineOf, Lacks, behind_blanks, is_blank, is_ignored, is_newline, line_pair, line_records, map_lines, with_newlines}
 pub use Rattle.cdb_form.specs.Text.Native.{IsNumeral, Spells}
-pub use Rattle.cdb_form.specs.Views.MapParser.{EndsLine, is_of, line_end}
 pub use Rattle.cdb_form.specs.Views.MapReader.{IsAmidLines}
-pub use Rattle.cdb_form.specs.Views.NativeParser.{FailsByte, FailsEntry, FailsField, FailsItem, FailsNumber, seen, told}
-pub use Rattle.cdb_form.specs.Views.Pairs.{PairFits, changes_of, header_pair, key_value, key_values, pointer_pair}
-pub use Rattle.cdb_form.specs.Views.Prefix.{BeginsWithBody, BeginsWithNumeral, IsStored}
-pub use Rattle.cdb_form.specs.Views.PrefixLine.{BeginsWithLine, may_end}
+pub use Rattle.cdb_form.specs.Views.Pairs.{PairFits, changes_of, header_pair, key_value, key_values, pointer_pair, AreRuns, IsRun}
+pub use Rattle.cdb_form.specs.Views.Prefix.{BeginsWithBody, BeginsWithNumeral, IsStored, BeginsWithLine, may_end}
 pub use Rattle.cdb_form.specs.Views.RecordReader.{behind_records}
-unfoldable pub use Rattle.cdb_form.specs.Views.SlotBytes.{slots_in}
+unfoldable pub use Rattle.cdb_form.specs.Views.Pairs.{slots_in}
 pub use Rattle.cdb_form.specs.Views.Source.{LeavesAmid, budget}
 pub use Rattle.cdb_form.specs.Views.TextFault.{IsOfText, IsReadFault, IsSpent}
-pub use Rattle.cdb_form.specs.Views.UsedRuns.{AreRuns, IsRun}
 pub use Rattle.cdb_form.specs.Views.WalkFault.{stopped_by}
 pub use Rattle.cdb_form.specs.declared.damage.Damage.{Damage}
 pub use Rattle.cdb_form.specs.declared.head.Pointer.{Pointer}

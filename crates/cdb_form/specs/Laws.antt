@@ -1,4 +1,3 @@
 -- Laws of the format and of its texts, as propositions.
 pub mod Text
-pub mod Walk
 pub mod Parse

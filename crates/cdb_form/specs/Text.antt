@@ -1,7 +1,5 @@
 -- The texts of a list of records, and of a list of changes.
 pub mod Form
 pub mod Native
-pub mod Amending
 pub mod Map
-pub mod List
 pub mod Parse

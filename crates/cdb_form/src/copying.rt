@@ -1,6 +1,6 @@
 // Bytes copied into memory that is there.
 ghost use Rattle.std.specs.Prelude.{◌≡◌, OnOk};
-ghost use Rattle.cdb_form.specs.Format.Record.{AreBytes};
+ghost use Rattle.cdb_form.specs.Format.{AreBytes};
 
 use std::alloc::AllocError;
 

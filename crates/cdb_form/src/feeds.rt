@@ -27,8 +27,7 @@ pub trait Feeds {
 }
 
 impl<R: Read> Feeds for R {
-    ghost use Rattle.cdb_form.specs.Views.Feed.{reader_feed};
-    ghost use Rattle.cdb_form.specs.Views.Rests.{same_remaining};
+    ghost use Rattle.cdb_form.specs.Views.Feed.{reader_feed, same_remaining};
 
     ghost feed = { λ r. reader_feed (R.remaining r) };
 

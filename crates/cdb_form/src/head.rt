@@ -1,9 +1,6 @@
 // The head of a file: the pointers to its tables.
-ghost use Rattle.std.specs.Prelude.{◌≡◌, ◌+◌, ◌*◌, ◌<◌, length, map, flat_map};
-ghost use Rattle.std.specs.Prelude.{All};
-ghost use Rattle.cdb_form.specs.Format.Pair.{pair_bytes, pair_size, head_size};
-ghost use Rattle.cdb_form.specs.Format.Reading.{pair_at, head_at};
-ghost use Rattle.std.specs.Prelude.{◌==◌, ◌&&◌, not, min, filter, position};
+ghost use Rattle.std.specs.Prelude.{◌≡◌, ◌+◌, ◌*◌, ◌<◌, length, map, flat_map, All, ◌==◌, ◌&&◌, not, min, filter, position};
+ghost use Rattle.cdb_form.specs.Format.{pair_bytes, pair_size, head_size, pair_at, head_at};
 ghost use Rattle.std.specs.List.{reduce};
 ghost use Rattle.cdb_form.specs.Views.Pairs.{pointer_pair, head_pairs, PairFits};
 
@@ -46,7 +43,7 @@ fn first_at(pointers: &[Pointer], at: u64) -> Option<usize>
 }
 
 impl Head {
-    ghost use Rattle.cdb_form.specs.Format.Walk.{least_place, first_table_at};
+    ghost use Rattle.cdb_form.specs.Format.{least_place, first_table_at};
 
     /// Where the records end: at the least place of a table that has slots, or after the head
     /// if none has.

@@ -1,7 +1,6 @@
 // The header of a record.
 ghost use Rattle.std.specs.Prelude.{◌≡◌, length};
-ghost use Rattle.cdb_form.specs.Format.Pair.{pair_bytes, pair_size};
-ghost use Rattle.cdb_form.specs.Format.Reading.{pair_at};
+ghost use Rattle.cdb_form.specs.Format.{pair_bytes, pair_size, pair_at};
 ghost use Rattle.cdb_form.specs.Views.Pairs.{header_pair, PairFits};
 
 use crate::pair::{TwoWords, read_pair, write_pair};

@@ -1,6 +1,6 @@
 // The hash of a key, its table, and its slot there.
 ghost use Rattle.std.specs.Prelude.{◌≡◌, ◌<◌, fold};
-ghost use Rattle.cdb_form.specs.Format.Hash.{key_hash, hash_step, table_number, home_slot};
+ghost use Rattle.cdb_form.specs.Format.{key_hash, hash_step, table_number, home_slot};
 
 /// The hash of a key, of 32 bits, as Bernstein's cdb specification has it: from 5381, each byte
 /// takes 33 times the hash so far, exclusive or the byte.

@@ -1,16 +1,11 @@
 //! Laws of the format. Each is the contract of a function whose parameters are what it ranges over.
 ghost use Rattle.std.specs.Prelude.{◌≡◌, ◌≤◌, All, false, length, true};
-ghost use Rattle.cdb_form.specs.Format.File.{file_bytes, file_size};
-ghost use Rattle.cdb_form.specs.Laws.Parse.{IsParsed};
-ghost use Rattle.cdb_form.specs.Laws.Text.{AmendsByPuts, ChangeFits, ChangesReadBack, LengthsFit};
-ghost use Rattle.cdb_form.specs.Laws.Text.{MapReadsBack, TextReadsBack};
-ghost use Rattle.cdb_form.specs.Format.Walk.{walk_of};
-ghost use Rattle.cdb_form.specs.Text.Amending.{Putting, SpellsChange};
+ghost use Rattle.cdb_form.specs.Format.{file_bytes, file_size, walk_of};
+ghost use Rattle.cdb_form.specs.Laws.Parse.{IsParsed, IsWalk, WalksBack};
+ghost use Rattle.cdb_form.specs.Laws.Text.{AmendsByPuts, ChangeFits, ChangesReadBack, LengthsFit, MapReadsBack, TextReadsBack};
+ghost use Rattle.cdb_form.specs.Text.Parse.{Putting, SpellsChange, SpellsKey, listed, parse, parse_list};
 ghost use Rattle.cdb_form.specs.Text.Map.{IsMapWord};
-ghost use Rattle.cdb_form.specs.Text.List.{SpellsKey};
 ghost use Rattle.cdb_form.specs.Text.Native.{Spells};
-ghost use Rattle.cdb_form.specs.Text.Parse.{listed, parse, parse_list};
-ghost use Rattle.cdb_form.specs.Laws.Walk.{IsWalk, WalksBack};
 ghost use Rattle.cdb_form.specs.Views.Pairs.{changes_of, key_values};
 
 use crate::item::Item;

@@ -1,7 +1,6 @@
 // Two words side by side, of which headers, slots and pointers are made.
 ghost use Rattle.std.specs.Prelude.{◌≡◌, ◌*◌, length};
-ghost use Rattle.cdb_form.specs.Format.Pair.{pair_bytes, pair_size};
-ghost use Rattle.cdb_form.specs.Format.Reading.{pair_at};
+ghost use Rattle.cdb_form.specs.Format.{pair_bytes, pair_size, pair_at};
 ghost use Rattle.cdb_form.specs.Views.Pairs.{pair_of, PairFits};
 
 use crate::width::Width;

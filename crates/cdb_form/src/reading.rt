@@ -1,12 +1,10 @@
 // Bytes from a reader: some of them, all that are wanted, or a vector of them.
-ghost use Rattle.std.specs.Prelude.{◌≡◌, ◌≢◌, ℕ, ◌+◌, ◌*◌, ◌^◌, ◌<◌, ◌≤◌, List, ◌++◌, length, take};
-ghost use Rattle.std.specs.Prelude.{OnOk, OnErr, IfOk, IfErr, ◌⊎◌};
+ghost use Rattle.std.specs.Prelude.{◌≡◌, ◌≢◌, ℕ, ◌+◌, ◌*◌, ◌^◌, ◌<◌, ◌≤◌, List, ◌++◌, length, take, OnOk, OnErr, IfOk, IfErr, ◌⊎◌};
 ghost use Rattle.cdb_form.specs.Views.Feed.{Consumes, IsAtEnd, Keeps};
-ghost use Rattle.cdb_form.specs.Format.Record.{AreBytes};
+ghost use Rattle.cdb_form.specs.Format.{AreBytes};
 ghost use Rattle.cdb_form.specs.Views.Taking.{IsWhy, LosesAtMost, LosesFewer, Passes, ReadsShort};
-ghost use Rattle.cdb_form.specs.Views.Reading.{IsOfReader};
-ghost use Rattle.cdb_form.specs.declared.reading.ReadStop.TheVariants.{Ended};
-ghost use Rattle.cdb_form.specs.declared.reading.ReadStop.TheVariants.{NoMemory};
+ghost use Rattle.cdb_form.specs.Views.KnownBytes.{IsOfReader};
+ghost use Rattle.cdb_form.specs.declared.reading.ReadStop.TheVariants.{Ended, NoMemory};
 
 use crate::feeds::Feeds;
 use std::alloc::AllocError;

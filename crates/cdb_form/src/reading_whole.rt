@@ -2,7 +2,7 @@
 ghost use Rattle.std.specs.Prelude.{◌≡◌, ◌+◌, ◌-◌, ◌^◌, ◌<◌, ◌≤◌, Some, codes, length, IfOk, IfErr, OnErr};
 ghost use Rattle.cdb_form.specs.Views.Feed.{Consumes};
 ghost use Rattle.cdb_form.specs.Views.Taking.{Gives, LosesAtMost};
-ghost use Rattle.cdb_form.specs.Format.Record.{AreBytes};
+ghost use Rattle.cdb_form.specs.Format.{AreBytes};
 ghost use Rattle.cdb_form.specs.Views.InFault.{in_message};
 ghost use Rattle.cdb_form.specs.declared.reading_whole.InFault.TheVariants.{Failed};
 

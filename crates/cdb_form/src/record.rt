@@ -1,6 +1,6 @@
 // A record in memory.
 ghost use Rattle.std.specs.Prelude.{◌≡◌, []};
-ghost use Rattle.cdb_form.specs.Format.Record.{AreBytes};
+ghost use Rattle.cdb_form.specs.Format.{AreBytes};
 
 use std::alloc::Global;
 

@@ -1,10 +1,8 @@
 // One table, filled in its own bytes.
 ghost use Rattle.std.specs.Prelude.{◌≡◌, ℕ, ◌+◌, ◌%◌, ◌<◌, ◌≤◌, length, drop, get_or, min};
 ghost use Rattle.std.specs.List.{prefix_len};
-ghost use Rattle.cdb_form.specs.Format.Table.{is_used, slots_from, slots_with, empty_slot};
-ghost use Rattle.cdb_form.specs.Views.Pairs.{slot_pair, PairFits};
-ghost use Rattle.cdb_form.specs.Views.UsedRuns.{IsRun, AreRuns};
-ghost use Rattle.cdb_form.specs.Views.SlotBytes.{slots_in};
+ghost use Rattle.cdb_form.specs.Format.{is_used, slots_from, slots_with, empty_slot};
+ghost use Rattle.cdb_form.specs.Views.Pairs.{slot_pair, PairFits, IsRun, AreRuns, slots_in};
 
 use crate::key_hash::home_slot;
 use crate::pair::pair_size;

@@ -1,7 +1,7 @@
 -- A whole map text, record after record, whatever bytes agree with what was taken.
 use Rattle.std.proofs.Common.{List, ◌++◌, ◌∷◌, [], ◌∙◌, ◌≡◌, ◌≢◌, ◌⊎◌, ap, append-nil, inl, inr, refl, subst, sym, ℕ}
 use Rattle.std.specs.Prelude.{All}
-use Rattle.cdb_form.specs.Format.Record.{KeyValue}
+use Rattle.cdb_form.specs.Format.{KeyValue}
 use Rattle.cdb_form.specs.Text.Map.{IsIgnoredLine, IsLineOf, map_lines, with_newlines}
 use Rattle.cdb_form.specs.Views.Feed.{Consumes, Feed, FromTo}
 use Rattle.cdb_form.specs.Views.MapParser.{EndsLine, ReadsToEnding}

@@ -1,7 +1,6 @@
 -- The walk of a whole file, record after record, whatever bytes agree with what was taken.
 use Rattle.std.proofs.Common.{List, None, Option, ◌++◌, ◌∷◌, [], ◌∙◌, ◌≡◌, ap, append-nil, append_assoc, sym, ℕ}
-use Rattle.cdb_form.specs.Format.Record.{KeyValue}
-use Rattle.cdb_form.specs.Format.Walk.{Walked, walk_of, with_first, with_records}
+use Rattle.cdb_form.specs.Format.{KeyValue, Walked, walk_of, with_first, with_records}
 use Rattle.cdb_form.specs.Views.Feed.{Feed, FromTo}
 use Rattle.cdb_form.specs.Views.RecordReader.{Fails, GivesEnd, GivesRecord, IsFresh, reader_of, walk_left, walk_of_rest}
 use Rattle.cdb_form.specs.Views.WalkFault.{IsDamage, damage_of}

@@ -1,14 +1,7 @@
 -- The walks of worked, damaged and foreign files.
-use Rattle.std.specs.Prelude.{ℕ, ◌≡◌, List, [], ◌∷◌, ◌++◌, map, Option, Some, None, refl, take}
-use Rattle.std.specs.Prelude.{replicate, codes}
-use Rattle.cdb_form.specs.Format.File.{file_bytes, file_pointers, pointers_from}
-use Rattle.cdb_form.specs.Format.Reading.{head_at}
-use Rattle.cdb_form.specs.Format.Record.{KeyValue, record_bytes}
-use Rattle.cdb_form.specs.Format.Table.{file_tables, table_slots, filled_slots, slots_with}
-use Rattle.cdb_form.specs.Format.Table.{table_entries, entries_from}
-use Rattle.cdb_form.specs.Format.Walk.{Walked, walk_of, walk_from, whole_records, record_end}
-use Rattle.cdb_form.specs.Examples.WorkedFiles.{words_of, repeat, put_at, two_records, two_file}
-use Rattle.cdb_form.specs.Examples.WorkedFiles.{foreign_file, wide_records, wide_file}
+use Rattle.std.specs.Prelude.{ℕ, ◌≡◌, List, [], ◌∷◌, ◌++◌, map, Option, Some, None, refl, take, replicate, codes}
+use Rattle.cdb_form.specs.Format.{file_bytes, file_pointers, pointers_from, head_at, KeyValue, record_bytes, file_tables, table_slots, filled_slots, slots_with, table_entries, entries_from, Walked, walk_of, walk_from, whole_records, record_end}
+use Rattle.cdb_form.specs.Examples.Files.{words_of, repeat, put_at, two_records, two_file, foreign_file, wide_records, wide_file}
 use Rattle.cdb_form.specs.declared.damage.Damage.{Damage}
 use Rattle.cdb_form.specs.declared.damage.Damage.TheVariants.{Short, Table, Record}
 

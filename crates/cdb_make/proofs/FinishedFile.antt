@@ -2,10 +2,9 @@
 use Rattle.cdb_make.proofs.Words.{ImagesHold, KeyValue, List, SameImages, WordPair, ap, append_assoc, arith, drop, flat_map, head_bytes, head_size, inl, inr, length, length-append, length-flat_map_words, map, pair_bytes, range_with_len, record_bytes, records_end, sym, table_bytes, take, ℕ, ◌*◌, ◌++◌, ◌+◌, ◌-◌, ◌∙◌, ◌≡◌, ◌≤◌}
 use Rattle.std.proofs.lemmas.List.{drop-append-le, length-take-le, take_at, drop-take, length-map}
 use Rattle.cdb_store.specs.Images.{overwrite, part, AfterWrite, AfterCut, AreSized, KeepsPart}
-use Rattle.cdb_form.specs.Format.File.{file_bytes, file_pointers, pointers_from}
-use Rattle.cdb_form.specs.Format.Table.{file_tables, slots_of, table_entries}
+use Rattle.cdb_form.specs.Format.{file_bytes, file_pointers, pointers_from, file_tables, slots_of, table_entries}
 use Rattle.cdb_form.proofs.Files.Sizes.{length-pointers_from, tables_are}
-use Rattle.cdb_make.specs.Finished.{EndsWith, IsFinished, HeadIsLast}
+use Rattle.cdb_make.specs.Tables.{EndsWith, IsFinished, HeadIsLast}
 use Rattle.cdb_make.proofs.Bytes.Written.{flat_map-map}
 
 pub length-head_bytes : (w end : ℕ) (ls : List (List WordPair)) → length ls ≡ 256 → length (head_bytes w end ls) ≡ head_size w

@@ -7,7 +7,7 @@ use Rattle.std.proofs.Math.Nat.{div-div-eq-div-mul, pow-suc, zero-div}
 use Rattle.std.proofs.lemmas.Simd.{length-chunk, map-map, none_from_empty_mask, run_in_chunk_fails, trailing_mask_l, zip2_splat}
 use Rattle.cdb_form.specs.declared.width.Width.{Ghosts as Widths}
 use Rattle.cdb_make.specs.declared.finish.gathered.Gathered.{Gathered}
-use Rattle.cdb_make.specs.Gathering.{HaveRoomFor, is_among}
+use Rattle.cdb_make.specs.Tables.{HaveRoomFor, is_among}
 use Rattle.cdb_make.proofs.Tables.{get_or-entries_of, roll_long, tables_same}
 
 -- two operations with one number each, and one between them, lane by lane

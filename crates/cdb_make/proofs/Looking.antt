@@ -4,7 +4,7 @@ use Rattle.cdb_make.proofs.Words.{marks_in, Has, cases_lt, inl, inr, is_gone, Is
 use Rattle.cdb_form.specs.declared.width.Width.{Ghosts as Widths}
 use Rattle.cdb_form.proofs.Files.Prefixes.{lengths_of, Begins, Reads, prefix_reads}
 use Rattle.cdb_form.proofs.Files.Standing.{Begins-record_bytes}
-use Rattle.cdb_make.specs.Looks.{key_at, size_at, has_key_at, LooksAtImages}
+use Rattle.cdb_make.specs.Chains.{key_at, size_at, has_key_at, LooksAtImages}
 use Rattle.cdb_make.proofs.Spans.{piece_at, place_is, place_high, place_size}
 use Rattle.cdb_make.proofs.Marking.{marks_long}
 

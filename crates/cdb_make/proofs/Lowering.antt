@@ -1,6 +1,6 @@
 -- The entries of records of which some were taken out.
 use Rattle.cdb_make.proofs.Words.{Bool, KeyValue, List, WordPair, [], ap, arith, entries_from, false, key_hash, left, map, record_size, refl, true, ℕ, ◌+◌, ◌-◌, ◌∙◌, ◌∷◌, ◌≡◌, ◌≤◌}
-use Rattle.cdb_make.specs.Laws.{lower, lowered}
+use Rattle.cdb_make.specs.Survivors.{lower, lowered}
 
 -- all entries from a place on, each lower by as much
 all_lower : (w d at : ℕ) (rs : List KeyValue) → d ≤ at → entries_from w (at - d) rs ≡ map (lower d) (entries_from w at rs)

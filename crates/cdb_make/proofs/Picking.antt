@@ -3,7 +3,7 @@ use Rattle.cdb_make.proofs.Words.{all_marks, length-set, marks_in, AreOf, Bool, 
 use Rattle.std.proofs.Math.ListN.{get_or-map}
 use Rattle.cdb_make.specs.declared.mark.Mark.TheVariants.{Stays, Found, Gone}
 use Rattle.cdb_form.specs.declared.width.Width.{Ghosts as Widths}
-use Rattle.cdb_make.specs.Marks.{is_gone, is_found, gone_of, found_of, taken, put_back, IsFirstMarked, IsFirstOrPast, AreNone, HaveHash, IsPutBackFrom}
+use Rattle.cdb_make.specs.Spans.{is_gone, is_found, gone_of, found_of, taken, put_back, IsFirstMarked, IsFirstOrPast, AreNone, HaveHash, IsPutBackFrom}
 use Rattle.cdb_make.proofs.Spans.{long_as, place_size, spans_of}
 use Rattle.cdb_make.proofs.Marking.{all_full, marks_long, gone_or, found_or}
 

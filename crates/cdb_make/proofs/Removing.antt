@@ -112,7 +112,7 @@ removes_none {s = s} {l = l} i j hash n key nil h = record {
     each = λ b is.
         let q = sought i j hash n key rs b h holds is in
         let none : AreNone (found_in j) = number_zero (found_in j) (sym j.roll.sought.count ∙ sym h.count ∙ nil) in
-        let long : length (gone_in j) ≡ length (found_in j) = omega (arith, length-map (marks_in j.roll) is_gone, length-map (marks_in j.roll) Rattle.cdb_make.specs.Marks.is_found) in
+        let long : length (gone_in j) ≡ length (found_in j) = omega (arith, length-map (marks_in j.roll) is_gone, length-map (marks_in j.roll) Rattle.cdb_make.specs.Spans.is_found) in
         record { all = q.all; sees = q.sees; left = sym q.rest ∙ ap (λ (v : List Bool). left v q.all) (or_none (gone_in j) (found_in j) long none) };
   };
   answer = λ rs holds. record { each = λ b is. sym nil ∙ (sought i j hash n key rs b h holds is).count };

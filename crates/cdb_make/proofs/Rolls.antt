@@ -3,11 +3,10 @@ use Rattle.cdb_make.proofs.Words.{marks_in, AfterTornWrite, AreNone, AreOf, Bool
 use Rattle.std.specs.Prelude.{All, sum, Result, Ok, Err, IfErr, OnOk, OnErr}
 use Rattle.std.proofs.lemmas.List.Elements.{All-append, All-cons, All-nil, All-head, All-tail}
 use Rattle.cdb_form.specs.declared.width.Width.{Ghosts as Widths}
-use Rattle.cdb_make.specs.Tags.{second_hash, sought_by}
+use Rattle.cdb_make.specs.Chains.{second_hash, sought_by}
 use Rattle.cdb_make.specs.declared.key_at.LookFault.TheVariants.{Failed, Foreign}
 use Rattle.cdb_store.specs.declared.store.StoreFault.{StoreFault}
-use Rattle.cdb_store.specs.declared.store.StoreFault.TheVariants.{Device}
-use Rattle.cdb_store.specs.declared.store.StoreFault.TheVariants.{NoMemory as Refused}
+use Rattle.cdb_store.specs.declared.store.StoreFault.TheVariants.{Device, NoMemory as Refused}
 use Rattle.cdb_store.specs.declared.make_fault.MakeFault.TheVariants.{Broken, Lookup, TooBig, NoMemory, Writing}
 use Rattle.cdb_store.specs.MakeFault.{fault_of}
 use Rattle.cdb_make.specs.Views.Maker.{Goes, ComesFrom, AddFails, Follows, Stays, IsMarked, FailsExchanging, FailsCompacting, FailsLooking, DoesNothing, PassesRoom, HasStoreFailed, gone_in, found_in, is_foreign, look_fault}

@@ -2,32 +2,16 @@
 pub use Rattle.cdb_form.proofs.Bytes.HeadLemmas.{length-flat_map_words}
 pub use Rattle.cdb_form.proofs.Files.Sizes.{length-record_bytes, length-slots_of, size_split, slots_within}
 pub use Rattle.cdb_form.proofs.Files.Standing.{AreBytes-drop}
-pub use Rattle.cdb_form.specs.Format.File.{file_size, whole_size}
-unfoldable pub use Rattle.cdb_form.specs.Format.File.{file_bytes, pointers_from}
-pub use Rattle.cdb_form.specs.Format.Hash.{key_hash, table_number}
-pub use Rattle.cdb_form.specs.Format.Pair.{WordPair, head_size, pair_bytes, pair_size}
-pub use Rattle.cdb_form.specs.Format.Reading.{pair_at}
-pub use Rattle.cdb_form.specs.Format.Record.{AreBytes, IsRecord, KeyValue, record_size, records_end}
-unfoldable pub use Rattle.cdb_form.specs.Format.Record.{record_bytes}
-pub use Rattle.cdb_form.specs.Format.Table.{empty_slot, in_table, slots_of}
-unfoldable pub use Rattle.cdb_form.specs.Format.Table.{entries_from, filled_slots, table_entries}
-pub use Rattle.cdb_form.specs.Format.Walk.{prefix_record, prefix_size}
-unfoldable pub use Rattle.cdb_form.specs.Format.Walk.{whole_records}
+pub use Rattle.cdb_form.specs.Format.{file_size, whole_size, key_hash, table_number, WordPair, head_size, pair_bytes, pair_size, pair_at, AreBytes, IsRecord, KeyValue, record_size, records_end, empty_slot, in_table, slots_of, prefix_record, prefix_size}
+unfoldable pub use Rattle.cdb_form.specs.Format.{file_bytes, pointers_from, record_bytes, entries_from, filled_slots, table_entries, whole_records}
 pub use Rattle.cdb_form.specs.Views.Pairs.{PairFits, header_pair, pointer_pair}
-unfoldable pub use Rattle.cdb_form.specs.Views.SlotBytes.{slots_in}
-pub use Rattle.cdb_make.specs.Chains.{AreChained, FindsLast, Has, IsIn, IsLast, Reaches, bucket_of}
-pub use Rattle.cdb_make.specs.Finished.{HeadIsLast, IsFinished}
-pub use Rattle.cdb_make.specs.Gathering.{is_among}
-pub use Rattle.cdb_make.specs.Laws.{lowered}
-pub use Rattle.cdb_make.specs.Looks.{HasLengthsInImages, LooksAtImages, NoNewImage, TellsSameInImages}
-pub use Rattle.cdb_make.specs.Marks.{AreNone, HaveHash, IsFirstMarked, IsPutBackFrom, IsTakenFrom, found_of, gone_of, is_found, is_gone, put_back, taken, all_marks}
-pub use Rattle.cdb_make.specs.Parts.{head_bytes, table_bytes}
+unfoldable pub use Rattle.cdb_form.specs.Views.Pairs.{slots_in}
+pub use Rattle.cdb_make.specs.Chains.{AreChained, FindsLast, Has, IsIn, IsLast, Reaches, bucket_of, HasLengthsInImages, LooksAtImages, NoNewImage, TellsSameInImages, searched_by, sought_by, tag_step}
+pub use Rattle.cdb_make.specs.Tables.{HeadIsLast, IsFinished, is_among, all_gathered, entries_in, entries_of, gathered_in, gathered_room, roll_entries, roll_tables, rooms_of}
+pub use Rattle.cdb_make.specs.Survivors.{lowered, behind_first, count_of, has_key, is_there, without}
+pub use Rattle.cdb_make.specs.Spans.{AreNone, HaveHash, IsFirstMarked, IsPutBackFrom, IsTakenFrom, found_of, gone_of, is_found, is_gone, put_back, taken, all_marks, head_bytes, table_bytes, AreOf, AreRising, AreSpans, IsPicked, Stand, Turns, behind, end_from, joined, left, number, or_each, picked, places_from}
 pub use Rattle.cdb_make.specs.Rolls.{IsFreshRecord, Sees, SeesNone, fresh}
-pub use Rattle.cdb_make.specs.Spans.{AreOf, AreRising, AreSpans, IsPicked, Stand, Turns, behind, end_from, joined, left, number, or_each, picked, places_from}
-pub use Rattle.cdb_make.specs.Survivors.{behind_first, count_of, has_key, is_there, without}
-pub use Rattle.cdb_make.specs.Tables.{all_gathered, entries_in, entries_of, gathered_in, gathered_room, roll_entries, roll_tables, rooms_of}
 unfoldable pub use Rattle.cdb_make.specs.Tables.{tables_of}
-pub use Rattle.cdb_make.specs.Tags.{searched_by, sought_by, tag_step}
 pub use Rattle.cdb_make.specs.Views.Appending.{AreFirst, Enters, FailsAppending, KeepsLimit, PassesLimit, full_size, records_at}
 pub use Rattle.cdb_make.specs.Views.Maker.{ComesFrom, CompactsAll, FailsLooking, HasGone, HasNotFailed, Holds, IsFile, Meets, SameCounts, StaysWhole, count_in, found_in, gone_in, made_size}
 pub use Rattle.cdb_make.specs.Views.Places.{of_halves, places_in}

@@ -1,12 +1,9 @@
 -- What a roll says of an image, and what a look at a key finds.
 use Rattle.std.specs.Prelude.{ℕ, ◌≡◌, Bool, true, false, cond, List, [], ◌∷◌, map, get_or, All, Option}
 use Rattle.cdb_form.specs.declared.width.Width.{Ghosts as Widths}
-use Rattle.cdb_form.specs.Format.Hash.{key_hash}
-use Rattle.cdb_form.specs.Format.Pair.{head_size}
-use Rattle.cdb_form.specs.Format.Record.{KeyValue, IsRecord, record_bytes, record_size}
+use Rattle.cdb_form.specs.Format.{key_hash, head_size, KeyValue, IsRecord, record_bytes, record_size}
 use Rattle.cdb_make.specs.Chains.{FindsLast}
-use Rattle.cdb_make.specs.Marks.{gone_of, found_of}
-use Rattle.cdb_make.specs.Spans.{AreOf, Stand}
+use Rattle.cdb_make.specs.Spans.{gone_of, found_of, AreOf, Stand}
 use Rattle.cdb_make.specs.Survivors.{has_key}
 use Rattle.cdb_make.specs.Views.Places.{places_in}
 use Rattle.cdb_make.specs.Views.Roll.{searched, sought_in, marks_in}

@@ -1,15 +1,14 @@
 -- The records that are left after puts and removals.
-use Rattle.std.specs.Prelude.{ℕ, Bool, cond, not, nat_le, if◌then◌else◌, List, [], ◌∷◌, ◌++◌}
-use Rattle.std.specs.Prelude.{filter, fold, bytes_eq, Result, Ok, Err}
+use Rattle.std.specs.Prelude.{ℕ, Bool, cond, not, nat_le, if◌then◌else◌, List, [], ◌∷◌, ◌++◌, filter, fold, bytes_eq, Result, Ok, Err, ◌≡◌, ◌+◌, ◌-◌, map}
 use Rattle.std.specs.List.{count_by, list_any}
-use Rattle.cdb_form.specs.Format.File.{file_size}
-use Rattle.cdb_form.specs.Format.Record.{KeyValue}
+use Rattle.cdb_form.specs.Format.{file_size, KeyValue, WordPair, record_size, file_entries, table_entries, in_table}
 use Rattle.cdb_store.specs.declared.make_fault.MakeFault.{MakeFault}
 use Rattle.cdb_store.specs.declared.make_fault.MakeFault.TheVariants.{TooBig}
 use Rattle.cdb_form.specs.declared.mode.Mode.{Mode}
 use Rattle.cdb_form.specs.declared.mode.Mode.TheVariants.{Add, Warn, Insert, Replace}
 use Rattle.cdb_make.specs.declared.answer.Put.{Put}
 use Rattle.cdb_make.specs.declared.answer.Put.TheVariants.{Added, AddedAgain, Present, Replaced}
+use Rattle.cdb_make.specs.Spans.{left}
 
 -- whether a record has the key
 abbrev pub has_key : List ℕ → KeyValue → Bool
@@ -80,3 +79,25 @@ answered_step w limit rs a = if a.done then step w limit rs a.call else rs
 -- the records after some calls, from none on
 abbrev pub survivors : ℕ → ℕ → List Answered → List KeyValue
 survivors w limit calls = fold (answered_step w limit) [] calls
+
+-- ---- Laws of the maker.
+
+-- an entry at a place that is lower
+abbrev pub lower : ℕ → WordPair → WordPair
+lower gone e = record { first = e.first; second = e.second - gone }
+
+-- the entries without a mark, each lower by `gone` and by the sizes of the records with one before it
+abbrev pub lowered : ℕ → List Bool → List ℕ → List WordPair → List WordPair
+lowered gone [] sizes es = map (lower gone) es
+lowered gone (mark ∷ marks) [] es = []
+lowered gone (mark ∷ marks) (n ∷ sizes) [] = []
+lowered gone (mark ∷ marks) (n ∷ sizes) (e ∷ es) =
+    cond mark (lowered (gone + n) marks sizes es) (lower gone e ∷ lowered gone marks sizes es)
+
+-- the entries of the records without a mark are the old ones, less those with one, in all and in each
+-- table
+pub record TakenOut (w : ℕ) (rs : List KeyValue) (marks : List Bool) : Type 0 where
+  pub places : file_entries w (left marks rs)
+      ≡ lowered 0 marks (map (record_size w) rs) (file_entries w rs)
+  pub tables : (n : ℕ) → table_entries w (left marks rs) n
+      ≡ filter (in_table n) (lowered 0 marks (map (record_size w) rs) (file_entries w rs))

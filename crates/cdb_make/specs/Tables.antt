@@ -1,12 +1,13 @@
 -- The entries of a roll, by the tables of their hashes.
-use Rattle.std.specs.Prelude.{ℕ, ◌+◌, ◌*◌, ◌<◌, ◌≤◌, List, [], ◌∷◌, map, filter, get_or, min, vec_capacity}
+use Rattle.std.specs.Prelude.{ℕ, ◌+◌, ◌*◌, ◌<◌, ◌≤◌, List, [], ◌∷◌, map, filter, get_or, min, vec_capacity, ◌≡◌, ◌-◌, ◌%◌, nat_le, Bool, length, take, ◌⊎◌, ◌++◌, flat_map}
 use Rattle.std.specs.List.{range_with_len}
-use Rattle.cdb_form.specs.Format.Pair.{WordPair}
-use Rattle.cdb_form.specs.Format.Table.{in_table}
+use Rattle.cdb_form.specs.Format.{WordPair, in_table, table_number, head_size}
 use Rattle.cdb_form.specs.declared.width.Width.{Ghosts as Widths}
 use Rattle.cdb_make.specs.Views.Places.{places_in, places_room}
 use Rattle.cdb_make.specs.declared.finish.gathered.Gathered.{Gathered}
 use Rattle.cdb_make.specs.declared.roll.Roll.{Roll}
+use Rattle.cdb_store.specs.Images.{part}
+use Rattle.cdb_make.specs.Spans.{head_bytes, table_bytes}
 
 -- hashes and places side by side
 abbrev pub entries_of : List ℕ → List ℕ → List WordPair
@@ -47,3 +48,39 @@ rooms_of gs = map gathered_room gs
 pub record HaveRoom {L : Type 0} {l : Widths L} (counts : List ℕ) (gs : List (Gathered L l)) : Type 0 where
   pub each : (group k : ℕ) → group < 8 → k < 32
       → get_or counts (32 * group + k) 0 ≤ get_or (rooms_of gs) k 0
+
+-- ---- Entries that are gathered by their tables, from the first of a roll on.
+
+-- whether a hash belongs to a table or to so many more after it; table 0 follows table 255
+abbrev pub is_among : ℕ → ℕ → ℕ → Bool
+is_among first more h = nat_le ((table_number h + (256 - first)) % 256) more
+
+-- of the first n entries of a roll those of the tables from `first` on are gathered
+abbrev pub AreGathered : {L : Type 0} {l : Widths L} → Roll L l → ℕ → ℕ → List (Gathered L l) → Type 0
+AreGathered m first n gs = all_gathered gs ≡ tables_of (take n (roll_entries m)) first (length gs)
+
+-- there is room for all entries of those tables
+abbrev pub HaveRoomFor : {L : Type 0} {l : Widths L} → Roll L l → ℕ → List (Gathered L l) → Type 0
+HaveRoomFor m first gs = (k : ℕ) → k < length gs
+    → length (get_or (tables_of (roll_entries m) first (length gs)) k []) ≤ get_or (rooms_of gs) k 0
+
+-- ---- A store that holds a whole file.
+
+-- in each image the head is that of an old one, or all tables are stored
+pub record HeadIsLast (w end : ℕ) (lists : List (List WordPair)) (old new : List ℕ → Type 0)
+    : Type 0 where
+  pub each : (b : List ℕ) → new b
+      → ((a : List ℕ) × old a × (part 0 (head_size w) b ≡ part 0 (head_size w) a))
+      ⊎ (part end (length (flat_map (table_bytes w) lists)) b ≡ flat_map (table_bytes w) lists)
+
+-- each image is an old one up to `end`, and then some bytes
+pub record EndsWith (end : ℕ) (bytes : List ℕ) (old new : List ℕ → Type 0) : Type 0 where
+  pub each : (b : List ℕ) → new b → (a : List ℕ) × old a × (b ≡ take end a ++ bytes)
+
+-- each image is the head, the records' bytes of an old one, and the tables of some lists of entries
+pub record IsFinished (w end : ℕ) (lists : List (List WordPair)) (old new : List ℕ → Type 0)
+    : Type 0 where
+  pub each : (b : List ℕ) → new b → (a : List ℕ) × old a
+      × (b ≡ head_bytes w end lists
+      ++ part (head_size w) (end - head_size w) a
+      ++ flat_map (table_bytes w) lists)

@@ -1,7 +1,7 @@
 -- The head of a database that is not finished.
 use Rattle.std.specs.Prelude.{ℕ, ◌≡◌, List, replicate}
 use Rattle.cdb_store.specs.Images.{part}
-use Rattle.cdb_form.specs.Format.Pair.{head_size}
+use Rattle.cdb_form.specs.Format.{head_size}
 
 -- its bytes are all ones, so that each pointer names a table outside of any file
 unfoldable pub unfinished_head : ℕ → List ℕ

@@ -1,14 +1,10 @@
 // Whole records, as they are in a file, are written after the others at once.
-ghost use Rattle.std.specs.Prelude.{◌≡◌, ℕ, ◌+◌, ◌*◌, ◌<◌, ◌≤◌, ◌⊎◌, ◌++◌, ◌∷◌, [], true, false, List};
-ghost use Rattle.std.specs.Prelude.{length, take, sum_by, IfOk, IfErr, OnOk, OnErr};
+ghost use Rattle.std.specs.Prelude.{◌≡◌, ℕ, ◌+◌, ◌*◌, ◌<◌, ◌≤◌, ◌⊎◌, ◌++◌, ◌∷◌, [], true, false, List, length, take, sum_by, IfOk, IfErr, OnOk, OnErr};
 ghost use Rattle.cdb_store.specs.Images.{ImagesHold as AreIn};
-ghost use Rattle.cdb_form.specs.Format.File.{whole_size};
-ghost use Rattle.cdb_form.specs.Format.Hash.{key_hash};
-ghost use Rattle.cdb_form.specs.Format.Record.{KeyValue, IsRecord, record_bytes, record_size};
-ghost use Rattle.cdb_form.specs.Format.Walk.{prefix_size, prefix_record, whole_records};
+ghost use Rattle.cdb_form.specs.Format.{whole_size, key_hash, KeyValue, IsRecord, record_bytes, record_size, prefix_size, prefix_record, whole_records};
 ghost use Rattle.cdb_store.specs.declared.make_fault.MakeFault.TheVariants.{NoMemory};
 ghost use Rattle.cdb_make.specs.Views.Appending.{records_at, first_size, AreFirst};
-ghost use Rattle.cdb_make.specs.Tags.{second_hash};
+ghost use Rattle.cdb_make.specs.Chains.{second_hash};
 ghost use Rattle.cdb_make.specs.Views.Roll.{SameRecords};
 
 use crate::maker::Maker;
@@ -84,8 +80,7 @@ fn measure<L: Width>(bytes: &[u8], room: u64) -> Fitting
 
 impl<S: Store, L: Width> Maker<S, L> {
     ghost use Rattle.cdb_make.specs.Views.Maker.{Holds, StaysWhole, Follows, HasNotFailed, HasGone, MakerKeepsAll};
-    ghost use Rattle.cdb_make.specs.Views.Appending.{AppendsAll, AppendsSome, FailsAppending, BeginsTags};
-    ghost use Rattle.cdb_make.specs.Views.Appending.{Enters, KeepsLimit, IsCrowded, FailsWriting, full_size};
+    ghost use Rattle.cdb_make.specs.Views.Appending.{AppendsAll, AppendsSome, FailsAppending, BeginsTags, Enters, KeepsLimit, IsCrowded, FailsWriting, full_size};
 
     /// Notes a record whose bytes are in the store, after the others.
     ///

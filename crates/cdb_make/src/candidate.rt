@@ -1,5 +1,5 @@
 // A record that is to be added.
-ghost use Rattle.cdb_form.specs.Format.Record.{IsRecord, record_of};
+ghost use Rattle.cdb_form.specs.Format.{IsRecord, record_of};
 
 /// A record that is to be added, and the numbers by which looks will find it.
 #[derive(Clone, Copy)]

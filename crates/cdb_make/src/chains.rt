@@ -1,8 +1,7 @@
 // The entries of a roll, found by their hashes.
-ghost use Rattle.std.specs.Prelude.{◌≡◌, ℕ, List, [], ◌+◌, ◌-◌, ◌/◌, ◌<◌, ◌≤◌, ◌^◌, ◌⊎◌, ◌∷◌, length, min, map, Bool};
-ghost use Rattle.std.specs.Prelude.{slice_index, slice_set, get_or, vec_capacity, true, false, OnOk, OnErr};
+ghost use Rattle.std.specs.Prelude.{◌≡◌, ℕ, List, [], ◌+◌, ◌-◌, ◌/◌, ◌<◌, ◌≤◌, ◌^◌, ◌⊎◌, ◌∷◌, length, min, map, Bool, slice_index, slice_set, get_or, vec_capacity, true, false, OnOk, OnErr};
 ghost use Rattle.std.specs.Bool.{Decides};
-ghost use Rattle.cdb_make.specs.Marks.{gone_of, all_marks, taken, HaveHash, IsTakenFrom};
+ghost use Rattle.cdb_make.specs.Spans.{gone_of, all_marks, taken, HaveHash, IsTakenFrom};
 ghost use Rattle.cdb_make.specs.Chains.{AreChained, FindsLast, IsLast, IsIn, Has, Reaches, bucket_of};
 
 use crate::mark::{Mark, is_found_at, is_gone_at, is_gone_of_all};

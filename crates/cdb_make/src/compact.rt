@@ -1,10 +1,8 @@
 // The gaps of the records that go, closed in one pass.
-ghost use Rattle.std.specs.Prelude.{◌≡◌, ℕ, ◌+◌, ◌<◌, ◌≤◌, ◌^◌, List, true, false, length, map, get_or, sum};
-ghost use Rattle.std.specs.Prelude.{take, OnOk, IfOk, IsErrOf};
+ghost use Rattle.std.specs.Prelude.{◌≡◌, ℕ, ◌+◌, ◌<◌, ◌≤◌, ◌^◌, List, true, false, length, map, get_or, sum, take, OnOk, IfOk, IsErrOf};
 ghost use Rattle.cdb_store.specs.declared.store.StoreFault.TheVariants.{NoMemory};
 ghost use Rattle.cdb_store.specs.Images.{KeepsPart, HasCause};
-ghost use Rattle.cdb_make.specs.Marks.{gone_of, IsFirstMarked};
-ghost use Rattle.cdb_make.specs.Spans.{AreSpans, AreOf, Turns, left, behind};
+ghost use Rattle.cdb_make.specs.Spans.{gone_of, IsFirstMarked, AreSpans, AreOf, Turns, left, behind};
 ghost use Rattle.cdb_make.specs.Views.Places.{places_in, places_room};
 
 use crate::mark::{Mark, is_gone_at};

@@ -1,10 +1,9 @@
 // The record at a place, and whether it has a key.
-ghost use Rattle.std.specs.Prelude.{◌≡◌, ◌+◌, ◌*◌, ◌<◌, ◌≤◌, ◌^◌, length, drop};
-ghost use Rattle.std.specs.Prelude.{OnOk, OnErr, IfOk, IsErrOf};
+ghost use Rattle.std.specs.Prelude.{◌≡◌, ◌+◌, ◌*◌, ◌<◌, ◌≤◌, ◌^◌, length, drop, OnOk, OnErr, IfOk, IsErrOf};
 ghost use Rattle.cdb_store.specs.declared.store.StoreFault.TheVariants.{NoMemory};
 ghost use Rattle.cdb_store.specs.Reads.{OnlyReads};
 ghost use Rattle.cdb_make.specs.declared.key_at.LookFault.TheVariants.{Failed, Foreign};
-ghost use Rattle.cdb_make.specs.Looks.{TellsSameInImages, HoldAt, HasLengthsInImages, LooksAtImages, SizeWithin};
+ghost use Rattle.cdb_make.specs.Chains.{TellsSameInImages, HoldAt, HasLengthsInImages, LooksAtImages, SizeWithin};
 
 use cdb_form::{GREATEST_PAIR, Header, Width, pair_size, read_header};
 use cdb_store::{Store, StoreFault};

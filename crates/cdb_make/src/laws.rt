@@ -1,6 +1,6 @@
 //! Laws of the maker. Each is the contract of a function whose parameters are what it ranges over.
 ghost use Rattle.cdb_form.specs.Views.Pairs.{key_values};
-ghost use Rattle.cdb_make.specs.Laws.{TakenOut};
+ghost use Rattle.cdb_make.specs.Survivors.{TakenOut};
 
 use cdb_form::{Record, Width};
 

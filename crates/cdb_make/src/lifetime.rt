@@ -1,9 +1,8 @@
 // A maker is made, finishes its file, and gives its store back.
 ghost use Rattle.std.specs.Prelude.{◌≡◌, ℕ, ◌+◌, ◌≤◌, ◌<◌, true, false, List, IfOk, IfErr, OnOk};
-ghost use Rattle.cdb_form.specs.Format.Pair.{head_size};
-ghost use Rattle.cdb_form.specs.Format.Record.{KeyValue};
+ghost use Rattle.cdb_form.specs.Format.{head_size, KeyValue};
 ghost use Rattle.cdb_make.specs.Unfinished.{IsUnfinished};
-ghost use Rattle.cdb_make.specs.Views.Making.{MakingFault};
+ghost use Rattle.cdb_make.specs.Views.Maker.{MakingFault};
 
 use crate::finish::file::finish;
 use crate::maker::{Counts, Maker};
@@ -73,9 +72,7 @@ fn emptied<S: Store, L: Width>(store: &mut S) -> Result<(), MakeFault>
 }
 
 impl<S: Store, L: Width> Maker<S, L> {
-    ghost use Rattle.cdb_make.specs.Views.Maker.{Holds, Begins, is_lazy, IsUsable, IsFile, made_size, FinishWrites};
-    ghost use Rattle.cdb_make.specs.Views.Maker.{PutsHeadLast, ComesFrom, SameCounts, FailsFinishing};
-    ghost use Rattle.cdb_make.specs.Views.Maker.{CompactsAll, FailsCompactingAll, Follows, HasNotFailed};
+    ghost use Rattle.cdb_make.specs.Views.Maker.{Holds, Begins, is_lazy, IsUsable, IsFile, made_size, FinishWrites, PutsHeadLast, ComesFrom, SameCounts, FailsFinishing, CompactsAll, FailsCompactingAll, Follows, HasNotFailed};
     ghost use Rattle.cdb_make.specs.Views.Chains.{HasNoRoom};
 
     /// A maker that takes records out at once, or later, as `new` and `lazy` make one.

@@ -3,7 +3,7 @@ ghost use Rattle.std.specs.Prelude.{◌≡◌, ℕ, ◌+◌, ◌-◌, ◌<◌, �
 ghost use Rattle.cdb_store.specs.Reads.{OnlyReads};
 ghost use Rattle.cdb_make.specs.declared.key_at.LookFault.TheVariants.{Failed, Foreign};
 ghost use Rattle.cdb_make.specs.Chains.{Has};
-ghost use Rattle.cdb_make.specs.Marks.{gone_of, HaveHash};
+ghost use Rattle.cdb_make.specs.Spans.{gone_of, HaveHash};
 ghost use Rattle.cdb_make.specs.Rolls.{LooksLast, LooksAll, SeesNone};
 ghost use Rattle.cdb_make.specs.Views.Roll.{searched, sought_in, marks_in, HasRoom, SameRecords};
 

@@ -1,8 +1,7 @@
 // A maker of a database: a store, and the roll of its records.
 ghost use Rattle.std.specs.Prelude.{◌≡◌, ℕ, ◌+◌, ◌*◌, ◌<◌, ◌≤◌, ◌⊎◌, true, false, length, OnOk, OnErr, IfOk, IfErr};
-ghost use Rattle.cdb_form.specs.Format.File.{whole_size};
-ghost use Rattle.cdb_form.specs.Format.Record.{record_size};
-ghost use Rattle.cdb_make.specs.Marks.{gone_of, found_of, AreNone, HaveHash};
+ghost use Rattle.cdb_form.specs.Format.{whole_size, record_size};
+ghost use Rattle.cdb_make.specs.Spans.{gone_of, found_of, AreNone, HaveHash};
 ghost use Rattle.cdb_make.specs.Views.Roll.{searched, marks_in, HasRoom, SameRecords};
 ghost use Rattle.cdb_store.specs.declared.make_fault.MakeFault.TheVariants.{Writing};
 
@@ -52,8 +51,7 @@ pub struct Maker<S: Store, L: Width> {
 }
 
 impl<S: Store, L: Width> Maker<S, L> {
-    ghost use Rattle.cdb_make.specs.Views.Maker.{record_in, IsCandidate, Adds, AddFails, Stays, Compacts, Exchanges, Follows, HasNotFailed};
-    ghost use Rattle.cdb_make.specs.Views.Maker.{FailsExchanging, HasStoreFailed, SameCounts, TellsCounts, told_count, told_size};
+    ghost use Rattle.cdb_make.specs.Views.Maker.{record_in, IsCandidate, Adds, AddFails, Stays, Compacts, Exchanges, Follows, HasNotFailed, FailsExchanging, HasStoreFailed, SameCounts, TellsCounts, told_count, told_size};
 
     /// One more record, after the others.
     ///

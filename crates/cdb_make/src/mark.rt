@@ -1,6 +1,6 @@
 // The mark of a record.
 ghost use Rattle.std.specs.Prelude.{◌≡◌, ℕ, ◌<◌, ◌≤◌, true, false, length, get_or};
-ghost use Rattle.cdb_make.specs.Marks.{is_gone, is_found, gone_of, found_of, all_marks};
+ghost use Rattle.cdb_make.specs.Spans.{is_gone, is_found, gone_of, found_of, all_marks};
 
 /// What becomes of a record.
 #[derive(Clone, Copy, Debug, PartialEq, Eq)]

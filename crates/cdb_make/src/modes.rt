@@ -2,9 +2,8 @@
 ghost use Rattle.std.specs.Prelude.{◌≡◌, ◌≢◌, ℕ, ◌+◌, List, true, false, IfOk, IfErr, OnOk, OnErr};
 ghost use Rattle.cdb_form.specs.declared.mode.Mode.TheVariants.{Add};
 ghost use Rattle.cdb_store.specs.declared.make_fault.MakeFault.TheVariants.{Lookup};
-ghost use Rattle.cdb_form.specs.Format.Hash.{key_hash};
-ghost use Rattle.cdb_form.specs.Format.Record.{record_of};
-ghost use Rattle.cdb_make.specs.Tags.{second_hash};
+ghost use Rattle.cdb_form.specs.Format.{key_hash, record_of};
+ghost use Rattle.cdb_make.specs.Chains.{second_hash};
 ghost use Rattle.cdb_make.specs.Views.Roll.{IsSought, HasRoom};
 
 use crate::answer::Put;

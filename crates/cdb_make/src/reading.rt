@@ -1,9 +1,7 @@
 // What a maker says of its records, and its looks at a key.
 ghost use Rattle.std.specs.Prelude.{◌≡◌, ℕ, ◌+◌, ◌≤◌, true, false, List, length, IfOk, IfErr, OnOk};
-ghost use Rattle.cdb_form.specs.Format.File.{file_size};
-ghost use Rattle.cdb_make.specs.Tags.{second_hash};
-ghost use Rattle.cdb_form.specs.Format.Record.{KeyValue};
-ghost use Rattle.cdb_make.specs.Looks.{NoNewImage};
+ghost use Rattle.cdb_form.specs.Format.{file_size, KeyValue};
+ghost use Rattle.cdb_make.specs.Chains.{second_hash, NoNewImage};
 ghost use Rattle.cdb_make.specs.Views.Maker.{look_fault, is_foreign, WhereHonest, IsThere};
 ghost use Rattle.cdb_make.specs.Views.Roll.{IsSought, HasRoom};
 
@@ -14,8 +12,7 @@ use cdb_form::{Width, hash, pair_size};
 use cdb_store::{MakeFault, Store};
 
 impl<S: Store, L: Width> Maker<S, L> {
-    ghost use Rattle.cdb_make.specs.Views.Maker.{Holds, Rests, FailsLooking, Seeks, HasNotFailed};
-    ghost use Rattle.cdb_make.specs.Views.Maker.{told_count, told_size, Looks, Follows, SameCounts, WritesNothing};
+    ghost use Rattle.cdb_make.specs.Views.Maker.{Holds, Rests, FailsLooking, Seeks, HasNotFailed, told_count, told_size, Looks, Follows, SameCounts, WritesNothing};
 
     /// How many records it holds.
     ///

@@ -1,6 +1,6 @@
 // The records of a key, removed.
 ghost use Rattle.std.specs.Prelude.{◌≡◌, ◌+◌, ◌*◌, ◌<◌, ◌≤◌, true, false, IfOk, IfErr, OnOk, OnErr};
-ghost use Rattle.cdb_make.specs.Marks.{HaveHash};
+ghost use Rattle.cdb_make.specs.Spans.{HaveHash};
 ghost use Rattle.cdb_make.specs.Views.Roll.{searched, marks_in};
 
 use crate::maker::Maker;
@@ -11,8 +11,7 @@ use cdb_store::{MakeFault, Store};
 const LEAST: u64 = 4_194_304;
 
 impl<S: Store, L: Width> Maker<S, L> {
-    ghost use Rattle.cdb_make.specs.Views.Maker.{Removes, FailsRemoving, Follows, TakesOut, Tears};
-    ghost use Rattle.cdb_make.specs.Views.Maker.{CompactsAll, FailsCompactingAll, HasNotFailed, SameCounts};
+    ghost use Rattle.cdb_make.specs.Views.Maker.{Removes, FailsRemoving, Follows, TakesOut, Tears, CompactsAll, FailsCompactingAll, HasNotFailed, SameCounts};
 
     /// Whether a pass frees more bytes than it moves: those of the records that go and that were
     /// found are more than the others, and 4 MiB.

@@ -1,12 +1,9 @@
 // What is noted of the records on a store.
 ghost use Rattle.std.specs.Prelude.{◌≡◌, ℕ, ◌+◌, ◌-◌, ◌<◌, ◌≤◌, ◌^◌, ◌⊎◌, List, Bool, [], ◌∷◌, ◌++◌, true, false, get_or, slice_set, take, length, min, cond, vec_capacity, OnOk, OnErr};
-ghost use Rattle.cdb_form.specs.Format.Pair.{head_size};
-ghost use Rattle.cdb_form.specs.Format.Hash.{key_hash};
-ghost use Rattle.cdb_make.specs.Tags.{second_hash, searched_by};
-ghost use Rattle.cdb_make.specs.Chains.{AreChained, FindsLast, Has};
-ghost use Rattle.cdb_make.specs.Marks.{gone_of, found_of, all_marks, HaveHash, IsFirstMarked, IsPutBackFrom, AreNone};
+ghost use Rattle.cdb_form.specs.Format.{head_size, key_hash};
+ghost use Rattle.cdb_make.specs.Chains.{second_hash, searched_by, AreChained, FindsLast, Has};
+ghost use Rattle.cdb_make.specs.Spans.{gone_of, found_of, all_marks, HaveHash, IsFirstMarked, IsPutBackFrom, AreNone, AreRising, AreOf, IsPicked, left, or_each};
 ghost use Rattle.cdb_make.specs.declared.mark.Mark.TheVariants.{Stays, Gone};
-ghost use Rattle.cdb_make.specs.Spans.{AreRising, AreOf, IsPicked, left, or_each};
 ghost use Rattle.cdb_make.specs.Views.Places.{places_in, places_room};
 
 use crate::chains::Chains;

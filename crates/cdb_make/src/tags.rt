@@ -1,8 +1,7 @@
 // The tags of keys: a second hash, that keys of one hash do not share.
 ghost use Rattle.std.specs.Prelude.{◌≡◌, ◌<◌, ◌≤◌, ◌∷◌, ◌++◌, [], ℕ, List, true, fold, length, take, cond, vec_capacity, OnOk, OnErr};
-ghost use Rattle.cdb_make.specs.Marks.{gone_of, IsFirstMarked};
-ghost use Rattle.cdb_make.specs.Spans.{left};
-ghost use Rattle.cdb_make.specs.Tags.{tag_step, second_hash, searched_by};
+ghost use Rattle.cdb_make.specs.Spans.{gone_of, IsFirstMarked, left};
+ghost use Rattle.cdb_make.specs.Chains.{tag_step, second_hash, searched_by};
 
 use crate::growth::reserve_one;
 use crate::mark::{Mark, is_gone_at};

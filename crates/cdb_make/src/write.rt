@@ -1,6 +1,6 @@
 // A record is written to a store.
 ghost use Rattle.std.specs.Prelude.{◌≡◌, ◌+◌, ◌<◌, ◌≤◌, ◌^◌, length, OnOk};
-ghost use Rattle.cdb_form.specs.Format.Record.{record_of, record_bytes, record_size};
+ghost use Rattle.cdb_form.specs.Format.{record_of, record_bytes, record_size};
 ghost use Rattle.cdb_make.specs.Views.Writing.{WritesBehind, WritesWithin};
 
 use cdb_form::{GREATEST_PAIR, Header, Width, pair_size, write_header};

@@ -1,6 +1,5 @@
 -- What a replacement of a file does to its name.
-use Rattle.std.specs.Prelude.{◌≡◌, ◌≢◌, ℕ, ◌+◌, ◌<◌, ◌⊎◌, Bool, true, false, List, [], ◌∷◌, ◌++◌, Option}
-use Rattle.std.specs.Prelude.{None, Some, Result, Ok, Err, OnOk, OnErr}
+use Rattle.std.specs.Prelude.{◌≡◌, ◌≢◌, ℕ, ◌+◌, ◌<◌, ◌⊎◌, Bool, true, false, List, [], ◌∷◌, ◌++◌, Option, None, Some, Result, Ok, Err, OnOk, OnErr, codes}
 use Rattle.std.specs.List.{AllByRecursion}
 use Rattle.cdb_store.specs.Calls.{Calls, IsSynced, FileImage}
 use Rattle.cdb_store.specs.FileStore.{calls_of, failures_of, images_of}
@@ -15,20 +14,14 @@ use Rattle.cdb_names.specs.declared.answer.Answer.TheVariants as answer
 use Rattle.cdb_names.specs.declared.answer.Found.TheVariants as found
 use Rattle.cdb_names.specs.declared.answer.Lock.{Lock}
 use Rattle.cdb_names.specs.declared.answer.Lock.TheVariants as locking
-use Rattle.cdb_names.specs.declared.name_trace.NameCall.TheVariants.{Special, Same, Looked}
-use Rattle.cdb_names.specs.declared.name_trace.NameCall.TheVariants.{Opened, NotOpened, Made, NotMade}
-use Rattle.cdb_names.specs.declared.name_trace.NameCall.TheVariants.{Locked, Own, Bits, Seen}
-use Rattle.cdb_names.specs.declared.name_trace.NameCall.TheVariants.{Removed, NotRemoved}
-use Rattle.cdb_names.specs.declared.name_trace.NameCall.TheVariants.{Renamed, NotRenamed, Synced}
-use Rattle.cdb_names.specs.declared.name_trace.NameCall.TheVariants.{NotSynced}
+use Rattle.cdb_names.specs.declared.name_trace.NameCall.TheVariants.{Special, Same, Looked, Opened, NotOpened, Made, NotMade, Locked, Own, Bits, Seen, Removed, NotRemoved, Renamed, NotRenamed, Synced, NotSynced}
 use Rattle.cdb_names.specs.declared.replace.ReplaceFault.{ReplaceFault}
-use Rattle.cdb_names.specs.declared.replace.ReplaceFault.TheVariants.{Open, NoMemory, Rename, Write}
-use Rattle.cdb_names.specs.declared.replace.ReplaceFault.TheVariants.{Build}
+use Rattle.cdb_names.specs.declared.replace.ReplaceFault.TheVariants.{Open, NoMemory, Rename, Write, Build}
 use Rattle.cdb_names.specs.declared.shown.Shown.{Shown}
 use Rattle.cdb_names.specs.declared.wanted.Wanted.{Wanted}
-use Rattle.cdb_names.specs.Folder.{NameCalls, IsCleared, MayHave, AreNamesApart, IsGuarded, IsPlain}
-use Rattle.cdb_names.specs.Folder.{asked_for}
+use Rattle.cdb_names.specs.Folder.{NameCalls, IsCleared, MayHave, AreNamesApart, IsGuarded, IsPlain, asked_for}
 use Rattle.cdb_names.specs.Wanted.{Suits, private_bits}
+use Rattle.cdb_names.specs.declared.unsynced.Unsynced.{Unsynced}
 
 -- one call, with its name, its other name, and the calls on its file
 abbrev pub NameEvent : Type 0
@@ -397,3 +390,16 @@ abbrev pub BuilderTells : {F B T E : Type 0} → Raw F → (B → Type 0)
 BuilderTells file gives_up tells temporary name old new back told said result =
     TellsOfNone gives_up temporary name old new back told said result
     ⊎ TellsOfFile file tells temporary name old new back told said result
+
+-- ---- What a clause reads of a store whose flush is left to its owner.
+
+abbrev pub inner_of : {S : Type 0} → Unsynced S → S
+inner_of u = u.inner
+
+-- ---- What a name says of its folder.
+
+-- the folder of a name whose path has this parent: a name alone is in the folder of the process
+abbrev pub folder_from : Option (List ℕ) → List ℕ
+folder_from None = codes "."
+folder_from (Some []) = codes "."
+folder_from (Some (c ∷ bytes)) = c ∷ bytes

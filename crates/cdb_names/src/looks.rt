@@ -1,7 +1,7 @@
 // What the system says of names and open files, which is compared by device and inode.
 ghost use Rattle.std.specs.Prelude.{◌≡◌};
 ghost use Rattle.std.specs.Path.{path_parent};
-ghost use Rattle.cdb_names.specs.Names.{folder_from};
+ghost use Rattle.cdb_names.specs.Replacing.{folder_from};
 
 use cdb_store::RealFile;
 use std::fs::{self, File, Metadata};

@@ -1,6 +1,6 @@
 // A store whose flush is left to its owner.
 ghost use Rattle.std.specs.Prelude.{◌≡◌};
-ghost use Rattle.cdb_names.specs.Unsynced.{inner_of};
+ghost use Rattle.cdb_names.specs.Replacing.{inner_of};
 
 use cdb_store::{Store, StoreFault};
 

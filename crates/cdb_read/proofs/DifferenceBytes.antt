@@ -1,6 +1,6 @@
 -- The records that a difference leaves are lists of bytes, and so is what it says.
 use Rattle.cdb_read.proofs.Words.{AllByRecursion, AreBytes, Bool, IsRecord, KeyValue, List, [], after_change, all_of, amended, brought_up, bytes_eq, cases_Bool, changed_keys, cond-false, cond-true, difference, filter, first_keys, flat_map, inl, inr, is_changed, map, not, puts_of, record_of, removal_of_new, subst, sym, values_of, ℕ, ⊤, ◌++◌, ◌∷◌}
-use Rattle.cdb_form.specs.Text.Amending.{Change, Putting, Removing}
+use Rattle.cdb_form.specs.Text.Parse.{Change, Putting, Removing}
 
 all_filtered : {X : Type 0} (P : X → Type 0) (q : X → Bool) (xs : List X) → AllByRecursion P xs → AllByRecursion P (filter q xs)
 all_filtered P q [] all = tt

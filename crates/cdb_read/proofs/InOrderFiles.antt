@@ -1,11 +1,9 @@
 -- The look-ups of the file of some records give each key its records in the order of the walk.
 use Rattle.cdb_read.proofs.Words.{Found, KeyValue, List, Span, Walked, WordPair, [], and_parts, ap, arith, both_ways, bytes_eq, bytes_eq-Decides, cases_Bool, cond, cond-false, cond-true, drop, drop-head, entries_from, eq-eqb, false, file_bytes, filter, found_at, has_hash, head_size, inl, inr, key_hash, leb-true, length, length-drop, length-file_bytes, length-take-le, nat_le, pair_at, pair_size, prefix_size, record_size, sym, tables_bytes, take, true, value_span, values_of, walk_of-file_bytes, ℕ, ◌*◌, ◌+◌, ◌∙◌, ◌∷◌, ◌≡◌, ◌≤◌}
-use Rattle.cdb_read.specs.InOrder.{FindsInOrder, span_of, spans_from}
-use Rattle.cdb_read.proofs.WholeFiles.LookupLaws.{found_at-has, found_at-none, found_at-other, places_of}
-use Rattle.cdb_read.proofs.Bytes.RecordsAt.{AllRead, ReadsAt}
+use Rattle.cdb_read.specs.Difference.{FindsInOrder, span_of, spans_from}
+use Rattle.cdb_read.proofs.WholeFiles.LookupLaws.{found_at-has, found_at-none, found_at-other, places_of, finds_values, lookup_of-file_bytes}
+use Rattle.cdb_read.proofs.Bytes.RecordsAt.{AllRead, ReadsAt, all_read}
 use Rattle.cdb_read.proofs.FilledTables.Fits.{Fit, size_is}
-use Rattle.cdb_read.proofs.WholeFiles.LookupLaws.{finds_values, lookup_of-file_bytes}
-use Rattle.cdb_read.proofs.Bytes.RecordsAt.{all_read}
 use Rattle.cdb_read.proofs.Walked.WalkedLengths.{length_of}
 
 -- where the value of the record at a place is read

@@ -1,6 +1,6 @@
 -- A file none of whose tables has slots, by its pointers.
 use Rattle.cdb_read.proofs.Words.{Bool, List, Pointer, [], ap, false, has_slots, head_at, head_size, le-ltb, length, list_any, map, nat_lt, not, pointer_pair, refl, sym, ℕ, ◌&&◌, ◌==◌, ◌||◌, ◌∙◌, ◌∷◌, ◌≡◌, ◌≤◌}
-use Rattle.cdb_read.specs.OtherWidth.{lacks_tables}
+use Rattle.cdb_read.specs.Sound.{lacks_tables}
 
 slots_in : (ps : List Pointer) → list_any (λ (p : Pointer). not (p.slots == 0)) ps ≡ list_any has_slots (map pointer_pair ps)
 slots_in [] = refl

@@ -15,3 +15,16 @@ pub mod FoundSoFar
 pub mod Lacking
 pub mod TablesInside
 mod Words
+pub mod Passes
+pub mod ComparedValues
+pub mod WholeDifferences
+pub mod PassStops
+pub mod PassSteps
+pub mod PutValues
+pub mod MarkBits
+pub mod Marked
+pub mod Steps
+mod Looked
+mod DifferenceWords
+pub mod MemoryBytes
+pub mod MemoryRecords

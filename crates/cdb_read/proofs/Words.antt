@@ -8,50 +8,32 @@ pub use Rattle.cdb_form.proofs.Files.Sizes.{length-file_bytes, length-slots_with
 pub use Rattle.cdb_form.proofs.Files.WalkLaws.{walk_of-file_bytes}
 pub use Rattle.cdb_form.proofs.Files.WalkSteps.{walk_of-records, walk_of-short}
 pub use Rattle.cdb_form.proofs.NativeTexts.RecordLemmas.{are_records}
-unfoldable pub use Rattle.cdb_form.specs.Format.File.{file_bytes}
-pub use Rattle.cdb_form.specs.Format.Hash.{hash_step, home_slot, key_hash, table_number}
-pub use Rattle.cdb_form.specs.Format.Pair.{WordPair, head_size, pair_size}
-pub use Rattle.cdb_form.specs.Format.Reading.{nth_pair, pair_at}
-unfoldable pub use Rattle.cdb_form.specs.Format.Reading.{head_at}
-pub use Rattle.cdb_form.specs.Format.Record.{AreBytes, IsRecord, KeyValue, record_of, record_size, records_end}
-unfoldable pub use Rattle.cdb_form.specs.Format.Record.{record_bytes}
-pub use Rattle.cdb_form.specs.Format.Table.{empty_slot, file_entries, in_table, is_used, slots_from, slots_of}
-unfoldable pub use Rattle.cdb_form.specs.Format.Table.{entries_from, filled_slots, slots_with, table_entries, table_slots}
-pub use Rattle.cdb_form.specs.Format.Walk.{Walked, damaged, has_slots, no_walk, prefix_record, prefix_size, with_first, with_records}
-unfoldable pub use Rattle.cdb_form.specs.Format.Walk.{record_end, walk_from, walk_of}
-pub use Rattle.cdb_form.specs.Text.Amending.{Putting, Removing}
+unfoldable pub use Rattle.cdb_form.specs.Format.{file_bytes, head_at, record_bytes, entries_from, filled_slots, slots_with, table_entries, table_slots, record_end, walk_from, walk_of}
+pub use Rattle.cdb_form.specs.Format.{hash_step, home_slot, key_hash, table_number, WordPair, head_size, pair_size, nth_pair, pair_at, AreBytes, IsRecord, KeyValue, record_of, record_size, records_end, empty_slot, file_entries, in_table, is_used, slots_from, slots_of, Walked, damaged, has_slots, no_walk, prefix_record, prefix_size, with_first, with_records}
+pub use Rattle.cdb_form.specs.Text.Parse.{Putting, Removing}
 pub use Rattle.cdb_form.specs.Views.Pairs.{PairFits, head_pairs, header_pair, key_values, pointer_pair, slot_pair}
-unfoldable pub use Rattle.cdb_form.specs.Views.SlotBytes.{slots_in}
+unfoldable pub use Rattle.cdb_form.specs.Views.Pairs.{slots_in}
 pub use Rattle.cdb_form.specs.declared.damage.Damage.{Damage}
 pub use Rattle.cdb_form.specs.declared.head.Pointer.{Pointer}
 pub use Rattle.cdb_form.specs.declared.header.Header.{Header}
 pub use Rattle.cdb_read.specs.Difference.{after_change, all_of, amended, changed_keys, is_changed, puts_of, removal_of_new}
 unfoldable pub use Rattle.cdb_read.specs.Difference.{difference, first_keys}
-pub use Rattle.cdb_read.specs.Faults.{entry_fault, fault_if, faults_behind, is_right_slot, is_same, lost_fault, slot_fault, table_fault, used_fault}
-unfoldable pub use Rattle.cdb_read.specs.Faults.{first_fault, first_of, slots_fault}
+pub use Rattle.cdb_read.specs.Sound.{entry_fault, fault_if, faults_behind, is_right_slot, is_same, lost_fault, slot_fault, table_fault, used_fault, IsRight, IsSound, distance, has_place, is_reached, nth_slot, table_at, tables_below, walk_entries}
+unfoldable pub use Rattle.cdb_read.specs.Sound.{first_fault, first_of, slots_fault, run_of, all_slots}
 pub use Rattle.cdb_read.specs.Laws.{brought_up}
-pub use Rattle.cdb_read.specs.Lookup.{Found, bytes_of, found_by, has_hash, has_key, is_inside, is_whole, nothing_found, slots_at, value_span, with_span}
+pub use Rattle.cdb_read.specs.Lookup.{Found, bytes_of, found_by, has_hash, has_key, is_inside, is_whole, nothing_found, slots_at, value_span, with_span, values_of}
 unfoldable pub use Rattle.cdb_read.specs.Lookup.{found_at, lookup_of, met_slots}
-unfoldable pub use Rattle.cdb_read.specs.SlotRuns.{run_of}
-pub use Rattle.cdb_read.specs.Sound.{IsRight, IsSound, distance, has_place, is_reached, nth_slot, table_at, tables_below, walk_entries}
-unfoldable pub use Rattle.cdb_read.specs.Sound.{all_slots}
 pub use Rattle.cdb_read.specs.Statistics.{distances_of, is_outside, key_lengths, slot_of, table_sizes, value_lengths}
 unfoldable pub use Rattle.cdb_read.specs.Statistics.{statistics_damage}
-pub use Rattle.cdb_read.specs.Values.{values_of}
-pub use Rattle.cdb_read.specs.Views.Check.{IsFirstDamage, ReadTells}
-pub use Rattle.cdb_read.specs.Views.Checked.{HasEntries, SlotHas, TableHas, TableIsClear, TablesAreClear, TablesHave, WalkHas}
-pub use Rattle.cdb_read.specs.Views.Counting.{Counts, Spreads}
-pub use Rattle.cdb_read.specs.Views.Inside.{LiesInside, StandsInside}
-pub use Rattle.cdb_read.specs.Views.Lengths.{HasLengths, LengthsFail}
-pub use Rattle.cdb_read.specs.Views.Probing.{IsSearchInside, ProbeInside}
+pub use Rattle.cdb_read.specs.Views.Check.{IsFirstDamage, ReadTells, HasEntries, SlotHas, TableHas, TableIsClear, TablesAreClear, TablesHave, WalkHas}
+pub use Rattle.cdb_read.specs.Views.Stats.{Counts, Spreads, StatsFail}
+pub use Rattle.cdb_read.specs.Views.Spans.{LiesInside, StandsInside, HasSpans}
+pub use Rattle.cdb_read.specs.Views.Reads.{HasLengths, LengthsFail}
+pub use Rattle.cdb_read.specs.Views.Search.{IsSearchInside, ProbeInside, LooksAt, TellsSame, found_ahead}
 pub use Rattle.cdb_read.specs.Views.RecordLists.{HasAdded, IsRising, ListsMark}
-pub use Rattle.cdb_read.specs.Views.Search.{LooksAt, TellsSame, found_ahead}
-pub use Rattle.cdb_read.specs.Views.Spans.{HasSpans}
-pub use Rattle.cdb_read.specs.Views.Stats.{StatsFail}
 pub use Rattle.cdb_read.specs.Views.TableRecords.{Marks, entries_of, entry_pairs, is_told}
 unfoldable pub use Rattle.cdb_read.specs.Views.TableRecords.{marks_of}
-pub use Rattle.cdb_read.specs.Views.Walk.{bytes_left, left_of, place_of}
-pub use Rattle.cdb_read.specs.Views.Walking.{LiesAt, behind, next_place, record_in, walk_ahead}
+pub use Rattle.cdb_read.specs.Views.Walking.{bytes_left, left_of, place_of, LiesAt, behind, next_place, record_in, walk_ahead}
 pub use Rattle.cdb_read.specs.Views.Window.{Covers, Shows}
 pub use Rattle.cdb_read.specs.declared.checking.table_records.TableRecords.{TableRecords}
 pub use Rattle.cdb_read.specs.declared.fault.ReadFault.{ReadFault}

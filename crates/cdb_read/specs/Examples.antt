@@ -1,15 +1,13 @@
 -- Look-ups in worked, damaged and foreign files.
-use Rattle.std.specs.Prelude.{ℕ, ◌≡◌, List, [], ◌∷◌, map, take, codes, Option, Some, None, refl}
-use Rattle.cdb_form.specs.Examples.WorkedFiles.{words_of, repeat, put_at, two_records, two_file}
-use Rattle.cdb_form.specs.Examples.WorkedFiles.{foreign_file}
-use Rattle.cdb_form.specs.Format.File.{file_bytes, file_pointers, pointers_from}
-use Rattle.cdb_form.specs.Format.Record.{KeyValue, record_bytes}
-use Rattle.cdb_form.specs.Format.Table.{file_tables, table_slots, filled_slots, slots_with}
-use Rattle.cdb_form.specs.Format.Table.{table_entries, entries_from}
+use Rattle.std.specs.Prelude.{ℕ, ◌≡◌, List, [], ◌∷◌, map, take, codes, Option, Some, None, refl, ◌++◌}
+use Rattle.cdb_form.specs.Examples.Files.{words_of, repeat, put_at, two_records, two_file, foreign_file}
+use Rattle.cdb_form.specs.Format.{file_bytes, file_pointers, pointers_from, KeyValue, record_bytes, file_tables, table_slots, filled_slots, slots_with, table_entries, entries_from}
 use Rattle.cdb_form.specs.declared.damage.Damage.{Damage}
 use Rattle.cdb_form.specs.declared.damage.Damage.TheVariants.{Table, Record}
 use Rattle.cdb_read.specs.Lookup.{Found, bytes_of, met_slots, found_at, lookup_of}
 use Rattle.cdb_read.specs.declared.span.Span.{Span}
+use Rattle.cdb_form.specs.Text.Parse.{Putting, Removing}
+use Rattle.cdb_read.specs.Difference.{amended, difference, first_keys, values_eq}
 
 span : ℕ → ℕ → Span
 span place len = record { place = place; len = len }
@@ -91,3 +89,50 @@ bytes_are = refl
 longer_is : bytes_of (put_at 2068 (8 ∷ []) two_file) (span 2075 8) ≡ codes "Goodbye)"
 unfolding span put_at two_file words_of repeat
 longer_is = refl
+
+-- ---- What changed between worked lists of records.
+
+pair : List ℕ → List ℕ → KeyValue
+pair key value = record { key = key; value = value }
+
+-- a has two values, of which the second becomes another, b goes, and c comes
+unfoldable old_records : List KeyValue
+old_records =
+    pair (codes "a") (codes "1") ∷ pair (codes "b") (codes "2") ∷ pair (codes "a") (codes "3")
+    ∷ pair (codes "d") [] ∷ []
+
+unfoldable new_records : List KeyValue
+new_records =
+    pair (codes "c") (codes "4") ∷ pair (codes "a") (codes "1") ∷ pair (codes "d") []
+    ∷ pair (codes "a") (codes "55") ∷ []
+
+changes_are : difference old_records new_records
+    ≡ Removing (codes "a") ∷ Removing (codes "b") ∷ Removing (codes "c") ∷ Putting (pair (codes "c") (codes "4"))
+    ∷ Putting (pair (codes "a") (codes "1")) ∷ Putting (pair (codes "a") (codes "55")) ∷ []
+unfolding difference first_keys values_eq pair old_records new_records
+changes_are = refl
+
+-- the records after them
+amended_is : amended old_records (difference old_records new_records)
+    ≡ pair (codes "d") [] ∷ pair (codes "c") (codes "4") ∷ pair (codes "a") (codes "1")
+    ∷ pair (codes "a") (codes "55") ∷ []
+unfolding difference first_keys values_eq pair old_records new_records
+amended_is = refl
+
+-- two values of a key in another order are others
+unfoldable turned : List KeyValue
+turned = pair (codes "a") (codes "2") ∷ pair (codes "a") (codes "1") ∷ []
+
+unfoldable straight : List KeyValue
+straight = pair (codes "a") (codes "1") ∷ pair (codes "a") (codes "2") ∷ []
+
+order_is : difference straight turned
+    ≡ Removing (codes "a") ∷ Putting (pair (codes "a") (codes "2"))
+    ∷ Putting (pair (codes "a") (codes "1")) ∷ []
+unfolding difference first_keys values_eq pair straight turned
+order_is = refl
+
+-- another order of the keys changes nothing if their values are the same
+keys_are : difference (pair [] [] ∷ straight) (straight ++ pair [] [] ∷ []) ≡ []
+unfolding difference first_keys values_eq pair straight
+keys_are = refl

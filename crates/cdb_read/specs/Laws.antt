@@ -1,15 +1,10 @@
 -- Laws of look-ups, of sound files and of differences.
 use Rattle.std.specs.Prelude.{ℕ, ◌≡◌, ◌↔◌, List, [], map, None}
 use Rattle.std.specs.List.Sorted.{IsPermutation}
-use Rattle.cdb_form.specs.Format.File.{file_bytes}
-use Rattle.cdb_form.specs.Format.Record.{KeyValue}
-use Rattle.cdb_form.specs.Format.Walk.{walk_of}
+use Rattle.cdb_form.specs.Format.{file_bytes, KeyValue, walk_of}
 use Rattle.cdb_read.specs.Difference.{amended, difference}
-use Rattle.cdb_read.specs.Faults.{first_fault}
-use Rattle.cdb_read.specs.Lookup.{bytes_of, lookup_of}
-use Rattle.cdb_read.specs.Search.{search_of}
-use Rattle.cdb_read.specs.Sound.{IsSound}
-use Rattle.cdb_read.specs.Values.{values_of}
+use Rattle.cdb_read.specs.Sound.{first_fault, IsSound}
+use Rattle.cdb_read.specs.Lookup.{bytes_of, lookup_of, search_of, values_of}
 
 -- a look-up in the file of some records finds the values of the key, in order, and meets no damage
 pub record FindsValues (w : ℕ) (rs : List KeyValue) (key : List ℕ) : Type 0 where

@@ -1,15 +1,8 @@
 -- The statistics of a file, in words of w bytes.
-use Rattle.std.specs.Prelude.{ℕ, ◌/◌, ◌==◌, ◌&&◌, Bool, not, if◌then◌else◌, min, max}
-use Rattle.std.specs.Prelude.{List, length, drop, map, filter, flat_map, sum, count_by, position}
-use Rattle.std.specs.Prelude.{Option, option_map, unwrap_or}
+use Rattle.std.specs.Prelude.{ℕ, ◌/◌, ◌==◌, ◌&&◌, Bool, not, if◌then◌else◌, min, max, List, length, drop, map, filter, flat_map, sum, count_by, position, Option, option_map, unwrap_or}
 use Rattle.std.specs.List.{reduce, range_with_len}
 use Rattle.std.specs.Option.{option_or}
-use Rattle.cdb_form.specs.Format.Hash.{home_slot}
-use Rattle.cdb_form.specs.Format.Pair.{WordPair}
-use Rattle.cdb_form.specs.Format.Reading.{nth_pair, head_at}
-use Rattle.cdb_form.specs.Format.Record.{KeyValue}
-use Rattle.cdb_form.specs.Format.Table.{is_used}
-use Rattle.cdb_form.specs.Format.Walk.{walk_of, has_slots}
+use Rattle.cdb_form.specs.Format.{home_slot, WordPair, nth_pair, head_at, KeyValue, is_used, walk_of, has_slots}
 use Rattle.cdb_form.specs.declared.damage.Damage.{Damage}
 use Rattle.cdb_form.specs.declared.damage.Damage.TheVariants.{Table}
 use Rattle.cdb_read.specs.Lookup.{is_inside}

@@ -1,21 +1,12 @@
 -- What clauses read of the types of this crate.
-pub mod ReadFault
-pub mod Reads
 pub mod Reader
-pub mod Inside
-pub mod Probing
-pub mod Search
 pub mod Finder
-pub mod Getting
 pub mod Window
-pub mod Walking
-pub mod Spans
-pub mod Walk
-pub mod Counting
-pub mod Lengths
-pub mod Stats
 pub mod TableRecords
-pub mod FilledTable
 pub mod RecordLists
+pub mod Search
 pub mod Check
-pub mod Checked
+pub mod Stats
+pub mod Walking
+pub mod Reads
+pub mod Spans

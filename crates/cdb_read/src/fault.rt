@@ -1,6 +1,6 @@
 // Why a database was not read.
 ghost use Rattle.std.specs.Prelude.{◌≡◌};
-ghost use Rattle.cdb_read.specs.Views.ReadFault.{read_number, read_message};
+ghost use Rattle.cdb_read.specs.Views.Reads.{read_number, read_message};
 
 use cdb_form::{Damage, OutFault};
 use cdb_store::StoreFault;
@@ -69,7 +69,7 @@ impl ReadFault {
 
 impl fmt::Display for ReadFault {
     ghost use Rattle.std.specs.Prelude.{Some};
-    ghost use Rattle.cdb_read.specs.Views.ReadFault.{read_display};
+    ghost use Rattle.cdb_read.specs.Views.Reads.{read_display};
 
     ghost output = { λ f. Some (read_display f) };
 
@@ -89,7 +89,7 @@ impl fmt::Display for ReadFault {
 impl Error for ReadFault {}
 
 impl From<Damage> for ReadFault {
-    ghost use Rattle.cdb_read.specs.Views.ReadFault.{damage_fault};
+    ghost use Rattle.cdb_read.specs.Views.Reads.{damage_fault};
 
     ghost from_gives = { λ d f. f ≡ damage_fault d };
 
@@ -126,7 +126,7 @@ impl<T: Drop> From<AllocFailed<T>> for ReadFault {
 }
 
 impl From<StoreFault> for ReadFault {
-    ghost use Rattle.cdb_read.specs.Views.ReadFault.{store_fault};
+    ghost use Rattle.cdb_read.specs.Views.Reads.{store_fault};
 
     ghost from_gives = { λ e f. f ≡ store_fault e };
 

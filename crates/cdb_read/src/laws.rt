@@ -1,16 +1,12 @@
 //! Laws of look-ups, of sound files and of differences. Each is the contract of a function whose
 //! parameters are what it ranges over.
 ghost use Rattle.std.specs.Prelude.{◌≡◌, ◌≤◌, [], None, false, true};
-ghost use Rattle.cdb_form.specs.Format.File.{file_bytes, file_size};
+ghost use Rattle.cdb_form.specs.Format.{file_bytes, file_size};
 ghost use Rattle.cdb_form.specs.Views.Pairs.{key_values};
-ghost use Rattle.cdb_read.specs.Difference.{amended, difference, is_changed};
-ghost use Rattle.cdb_read.specs.InOrder.{FindsInOrder};
-ghost use Rattle.cdb_read.specs.Laws.{FindsSearched, FindsValues, FindsWalked, SoundIsNoDamage};
-ghost use Rattle.cdb_read.specs.Laws.{brought_up, EmptyIsSame, FindsAsIn};
-ghost use Rattle.cdb_read.specs.Lookup.{lookup_of};
-ghost use Rattle.cdb_read.specs.Search.{search_of};
+ghost use Rattle.cdb_read.specs.Difference.{amended, difference, is_changed, FindsInOrder};
+ghost use Rattle.cdb_read.specs.Laws.{FindsSearched, FindsValues, FindsWalked, SoundIsNoDamage, brought_up, EmptyIsSame, FindsAsIn};
+ghost use Rattle.cdb_read.specs.Lookup.{lookup_of, search_of, values_of};
 ghost use Rattle.cdb_read.specs.Sound.{IsSound};
-ghost use Rattle.cdb_read.specs.Values.{values_of};
 
 use cdb_form::{Record, Width};
 

@@ -3,9 +3,11 @@
 
 mod ahead;
 mod checking;
+pub mod difference;
 mod fault;
 pub mod laws;
 mod lookup;
+pub mod memory;
 mod pieces;
 mod reader;
 mod span;

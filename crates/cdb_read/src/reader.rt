@@ -1,11 +1,10 @@
 // A reader of a database in a store.
 ghost use Rattle.std.specs.Prelude.{◌≡◌, ℕ, ◌+◌, ◌<◌, ◌≤◌, ◌^◌, List, IfOk, IfErr, OnOk};
-ghost use Rattle.cdb_form.specs.Format.Pair.{head_size};
-ghost use Rattle.cdb_form.specs.Format.Reading.{head_at};
+ghost use Rattle.cdb_form.specs.Format.{head_size, head_at};
 ghost use Rattle.cdb_form.specs.Views.Pairs.{head_pairs};
 ghost use Rattle.cdb_form.specs.Views.KnownBytes.{Writes};
 ghost use Rattle.cdb_read.specs.Lookup.{bytes_of};
-ghost use Rattle.cdb_read.specs.OtherWidth.{lacks_tables};
+ghost use Rattle.cdb_read.specs.Sound.{lacks_tables};
 ghost use Rattle.cdb_read.specs.Statistics.{outside_table};
 ghost use Rattle.cdb_store.specs.Reads.{OnlyReads};
 ghost use Rattle.cdb_read.specs.declared.fault.ReadFault.TheVariants.{Output};

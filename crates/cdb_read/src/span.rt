@@ -1,7 +1,7 @@
 // Where keys and values lie in a file.
 ghost use Rattle.std.specs.Prelude.{◌≡◌, ◌+◌, ◌<◌, ◌≤◌, MatchOption};
 ghost use Rattle.std.specs.Bool.{Decides};
-ghost use Rattle.cdb_form.specs.Format.Pair.{pair_size};
+ghost use Rattle.cdb_form.specs.Format.{pair_size};
 ghost use Rattle.cdb_read.specs.Views.Spans.{HasSpans};
 
 use cdb_form::{Header, Width, pair_size};

@@ -1,16 +1,12 @@
 // The tables of a database, and the slots of them all.
-ghost use Rattle.std.specs.Prelude.{◌≡◌, ℕ, ◌+◌, ◌*◌, ◌<◌, ◌≤◌, ◌^◌, ◌++◌, List};
-ghost use Rattle.std.specs.Prelude.{All, length, drop, map, not, position, ◌==◌, IfOk, IfErr, OnOk, IfNone};
+ghost use Rattle.std.specs.Prelude.{◌≡◌, ℕ, ◌+◌, ◌*◌, ◌<◌, ◌≤◌, ◌^◌, ◌++◌, List, All, length, drop, map, not, position, ◌==◌, IfOk, IfErr, OnOk, IfNone};
 ghost use Rattle.std.specs.List.{list_any};
-ghost use Rattle.cdb_form.specs.Format.Hash.{home_slot};
-ghost use Rattle.cdb_form.specs.Format.Pair.{pair_size};
-ghost use Rattle.cdb_form.specs.Format.Reading.{pair_at};
+ghost use Rattle.cdb_form.specs.Format.{home_slot, pair_size, pair_at};
 ghost use Rattle.cdb_form.specs.Views.Pairs.{pointer_pair, slot_pair};
 ghost use Rattle.cdb_read.specs.Sound.{distance};
-ghost use Rattle.cdb_read.specs.Statistics.{distances_in, distances_of, is_outside};
-ghost use Rattle.cdb_read.specs.Statistics.{table_sizes};
-ghost use Rattle.cdb_read.specs.Views.Counting.{Counts, Spreads};
-ghost use Rattle.cdb_read.specs.Views.Inside.{StandsInside};
+ghost use Rattle.cdb_read.specs.Statistics.{distances_in, distances_of, is_outside, table_sizes};
+ghost use Rattle.cdb_read.specs.Views.Stats.{Counts, Spreads};
+ghost use Rattle.cdb_read.specs.Views.Spans.{StandsInside};
 ghost use Rattle.cdb_store.specs.Reads.{OnlyReads};
 ghost use Rattle.cdb_read.specs.Views.Reads.{StoreFails};
 ghost use Rattle.cdb_read.specs.Views.Window.{Shows};

@@ -1,20 +1,11 @@
 -- The first faults of worked, damaged and foreign files.
-use Rattle.std.specs.Prelude.{ℕ, ◌≡◌, List, [], ◌∷◌, ◌++◌, map, replicate, take}
-use Rattle.std.specs.Prelude.{Option, Some, None, refl}
-use Rattle.cdb_form.specs.Examples.WorkedFiles.{words_of, repeat, put_at, two_file, foreign_file}
-use Rattle.cdb_form.specs.Examples.WorkedFiles.{wide_records, wide_file}
-use Rattle.cdb_form.specs.Format.File.{file_bytes, file_pointers, pointers_from}
-use Rattle.cdb_form.specs.Format.Reading.{head_at}
-use Rattle.cdb_form.specs.Format.Record.{KeyValue, record_bytes}
-use Rattle.cdb_form.specs.Format.Table.{file_tables, table_slots, filled_slots, slots_with}
-use Rattle.cdb_form.specs.Format.Table.{table_entries, entries_from}
-use Rattle.cdb_form.specs.Format.Walk.{walk_of, walk_from, whole_records, record_end}
+use Rattle.std.specs.Prelude.{ℕ, ◌≡◌, List, [], ◌∷◌, ◌++◌, map, replicate, take, Option, Some, None, refl}
+use Rattle.cdb_form.specs.Examples.Files.{words_of, repeat, put_at, two_file, foreign_file, wide_records, wide_file}
+use Rattle.cdb_form.specs.Format.{file_bytes, file_pointers, pointers_from, head_at, KeyValue, record_bytes, file_tables, table_slots, filled_slots, slots_with, table_entries, entries_from, walk_of, walk_from, whole_records, record_end}
 use Rattle.cdb_form.specs.declared.damage.Damage.{Damage}
-use Rattle.cdb_form.specs.declared.damage.Damage.TheVariants.{Short, Table, Record, Slot}
-use Rattle.cdb_form.specs.declared.damage.Damage.TheVariants.{Twice, Unindexed}
+use Rattle.cdb_form.specs.declared.damage.Damage.TheVariants.{Short, Table, Record, Slot, Twice, Unindexed}
 use Rattle.cdb_read.specs.Examples.{four_records}
-use Rattle.cdb_read.specs.Faults.{first_fault, first_of, slots_fault}
-use Rattle.cdb_read.specs.Sound.{all_slots}
+use Rattle.cdb_read.specs.Sound.{first_fault, first_of, slots_fault, all_slots}
 
 -- a record of an empty key and an empty value
 unfoldable empty_record : List KeyValue

@@ -9,6 +9,7 @@ mod devices;
 mod faults;
 mod files;
 mod finding;
+mod memory;
 mod reading;
 mod refusals;
 mod uses;

@@ -3,8 +3,8 @@ use Rattle.cdb_show.proofs.Words.{Ghosts, List, OpeningFails, ReadFault, Some, a
 use Rattle.std.specs.Prelude.{nat_lt}
 use Rattle.std.proofs.lemmas.Bool.{cond-true, lt-ltb}
 use Rattle.cdb_form.specs.declared.damage.Damage.TheVariants as damage
-use Rattle.cdb_read.specs.Faults.{first_fault}
-use Rattle.cdb_show.specs.Runs.Check.{CheckingFails}
+use Rattle.cdb_read.specs.Sound.{first_fault}
+use Rattle.cdb_show.specs.Runs.Stats.{CheckingFails}
 use Rattle.cdb_show.proofs.Openings.{unopened_by}
 
 -- the first fault of a file that is shorter than a head

@@ -1,18 +1,18 @@
 -- How a run that writes a difference ends.
 use Rattle.cdb_show.proofs.Words.{Err, Fault, Flushed, Ghosts, IsOk, Keeps, List, None, Ok, OnlyReads, OpeningFails, Option, ReadFault, Result, Some, ap, appends_kept, arith, false, head_size, inl, inr, reads_none, same_appends, subst, sym, true, ℕ, ◌≡◌, ◌≤◌}
 use Rattle.cdb_store.proofs.Reading.{reads_more}
-use Rattle.cdb_form.specs.Text.Amending.{amending_text}
+use Rattle.cdb_form.specs.Text.Parse.{amending_text}
 use Rattle.cdb_read.specs.declared.fault.ReadFault.TheVariants as read
 use Rattle.cdb_read.proofs.TablesInside.{lookup_meets_no_table, walk_meets_no_table}
 use Rattle.cdb_read.specs.Statistics.{outside_table}
 use Rattle.cdb_form.specs.declared.damage.Damage.TheVariants as damage
-use Rattle.cdb_difference.specs.Difference.{HasDamage, IsOneDamaged, ReadingStops, SaysDifference, DifferenceStops, WritesDifference, WritesDifferencePrefix}
-use Rattle.cdb_difference.proofs.WholeDifferences.{nothing_written}
+use Rattle.cdb_read.specs.Differing.{HasDamage, IsOneDamaged, ReadingStops, SaysDifference, DifferenceStops, WritesDifference, WritesDifferencePrefix}
+use Rattle.cdb_read.proofs.WholeDifferences.{nothing_written}
 use Rattle.cdb_show.specs.Runs.Difference.{ComesAfter, DifferenceFails, DifferenceLacks, DifferenceNotRead, DifferenceOutside, HaveHeads, HaveTables, HaveTablesInside, TellsDifference, difference_state, difference_task}
 use Rattle.cdb_show.specs.Views.Fault.{old_fault, new_fault, stop_fault}
 use Rattle.cdb_show.specs.declared.fault.Fault.TheVariants.{Text, Make, Duplicate, Missing, Read, Walk, Output, Long, Open, Rename, NoMemory, Old, New, NoOldTables, NoNewTables, NoBaseTables}
-use Rattle.cdb_difference.specs.declared.stop.Stop.{Stop}
-use Rattle.cdb_difference.specs.declared.stop.Stop.TheVariants.{Own, Other}
+use Rattle.cdb_read.specs.declared.difference.stop.Stop.{Stop}
+use Rattle.cdb_read.specs.declared.difference.stop.Stop.TheVariants.{Own, Other}
 use Rattle.cdb_show.proofs.Openings.{opening_reads, unopened_by}
 use Rattle.cdb_show.proofs.Writers.{keeps_self, keeps_then, not_ok, prefix_kept, whole_prefix}
 

@@ -1,16 +1,16 @@
 -- What a query of the keys of some inputs came to, by the readers of the inputs as they come back.
 use Rattle.cdb_show.proofs.Words.{Appends, AppendsPrefix, AreRead, BeginsWithItems, Bool, Change, Err, Fault, FaultBehind, Ghosts, HasItemFault, HasLooked, IfErr, InputForm, InputReader, Inputs, IsInputOf, List, LookupState, LookupTask, LookupsStopAt, NoMore, None, NotBegun, Ok, OnOk, OnlyReads, OpeningFails, Option, Parsing, ReadFault, Result, SharedWindow, Some, Stop, StopsBehind, StopsSo, Style, TakesOne, TextFault, [], ap, append-nil, appends_then, arith, drop, end_of, false, feed_of, head_size, inl, inr, keys_form, keys_of, keys_of_each, length, looked_up, lookup_state, missing_answer, prefix_last, reached, read_fault, reads_more, reads_none, refl, slice_index_or, slice_set, subst, sym, true, ℕ, ⊤, ◌++◌, ◌+◌, ◌<◌, ◌∙◌, ◌∷◌, ◌≡◌, ◌≤◌}
 use Rattle.cdb_read.specs.declared.fault.ReadFault.TheVariants as damage
-use Rattle.cdb_feed.proofs.InputsInTurn.{some_failed, some_through}
-use Rattle.cdb_feed.specs.Inputs.{ReaderFailed, SomeFailed}
-use Rattle.cdb_feed.specs.declared.input_reader.InputReader.TheVariants.{Own, Shared}
+use Rattle.cdb_show.proofs.InputsInTurn.{some_failed, some_through}
+use Rattle.cdb_show.specs.Feed.{ReaderFailed, SomeFailed}
+use Rattle.cdb_show.specs.declared.input_reader.InputReader.TheVariants.{Own, Shared}
 use Rattle.cdb_form.specs.Views.Feed.{Feed, Consumes, FromTo, Keeps}
 use Rattle.cdb_form.specs.declared.text.fault.TextFault.TheVariants as kind
 use Rattle.cdb_form.specs.declared.width.Width.{Ghosts as Widths}
 use Rattle.cdb_form.proofs.Fed.FeedLemmas.{from_behind, from_both, from_kept, from_weaker, nothing_taken}
 use Rattle.cdb_show.specs.Runs.Lookups.{LookupsFail, LookupsLeave, StopsInNext}
 use Rattle.cdb_show.specs.Runs.Parsing.{IsFaultOf, StopsIn, fault_in, stop_of, stopped_parsing}
-use Rattle.cdb_show.specs.Views.Inputs.{AreReadTo, reader_of, shared_feed}
+use Rattle.cdb_show.specs.Views.Noted.{AreReadTo, reader_of, shared_feed}
 use Rattle.cdb_show.specs.Views.LookUps.{GoesOn, LooksFurther, StopsFurther}
 use Rattle.cdb_show.specs.Views.WindowRests.{same_held}
 use Rattle.cdb_show.specs.declared.fault.Fault.TheVariants.{Text, Make, Duplicate, Missing, Read, Walk, Output, Long, Open, Rename, NoMemory, Old, New, NoOldTables, NoNewTables, NoBaseTables}

@@ -3,7 +3,7 @@ use Rattle.cdb_show.proofs.Words.{AreRead, Feed, InputReader, List, NoMore, NotB
 use Rattle.std.proofs.lemmas.List.{append-nil, drop-set, take-set, drop_more, drop-set-lt}
 use Rattle.std.proofs.Math.ListN.{length-set}
 use Rattle.std.proofs.Math.Seq.{drop-length}
-use Rattle.cdb_feed.proofs.InputsInTurn.{read_then}
+use Rattle.cdb_show.proofs.InputsInTurn.{read_then}
 
 -- however the run will stop, which the parsing may say
 module _ {R S Item F X : Type 0} (own : R → Feed) (shared : S → Feed) (p : X → Parsing Item F) where

@@ -1,7 +1,7 @@
 -- What the inputs say that a run read, whole or in part: the function of their bytes says the same.
 use Rattle.std.proofs.Common.{◌≡◌, ◌+◌, ℕ, List, [], ◌∷◌, ◌++◌, length, map, refl, sym, ap, subst, ◌∙◌, arith, append_assoc, append-nil, Option, Some, None, Result, Ok, Err, IfSome}
 use Rattle.cdb_show.proofs.Words.{Change, Incoming, IsOfText, TextFault, came, from_input, from_inputs}
-use Rattle.cdb_feed.specs.Given as fed
+use Rattle.cdb_show.specs.Feed as fed
 use Rattle.cdb_form.specs.Text.Parse.{Parsed}
 use Rattle.cdb_form.specs.Views.KnownBytes.{FromTo}
 use Rattle.cdb_show.specs.Runs.Inputs.{InputForm, HasFaults, Puts, Changes, Lists, input_form, keys_of, OneInput, InputsLeft, IsInputOf, BeginsWithItems, HasItemFault, ReadsOne, ReadsFirstInputs, AreInputs, AreAllInputs, OneBegins, FirstBegins, FirstHas, bytes_of}
@@ -171,7 +171,7 @@ begins_given f g read last inputs shared old rest k are begins =
           ∙ sym (append_assoc (from_inputs 1 read) (from_input (1 + length read) 1 last) first.0) ∙ ap (λ t. t ++ first.0) (sym (came_is read last)),
     )
 
--- ---- in the words of cdb_feed
+-- ---- in the words of a law of inputs
 
 abbrev faulty : Option (fed.NumberedFault TextFault) → Option Fault
 faulty None = None

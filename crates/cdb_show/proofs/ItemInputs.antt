@@ -1,7 +1,7 @@
 -- What a reader took of the items of an input, whatever its form and whatever bytes agree with it.
 use Rattle.cdb_show.proofs.Words.{BeginsWithItems, Bool, Feed, FromTo, HasFaults, HasInputFault, HasItemFault, InputsBeginWith, IsInput, IsInputOf, IsOfText, KeyValue, List, Puts, Spells, TextFault, [], false, from_weaker, map, refl, true, ℕ, ◌++◌, ◌<◌, ◌∷◌, ◌≡◌, ◌≢◌}
 use Rattle.cdb_form.specs.Views.FormReader as fed
-use Rattle.cdb_form.specs.Text.Amending.{Change, Putting, SpellsChange}
+use Rattle.cdb_form.specs.Text.Parse.{Change, Putting, SpellsChange}
 use Rattle.cdb_form.specs.declared.text.fault.TextFault.TheVariants.{Input, NoMemory}
 use Rattle.cdb_form.specs.declared.text.form_reader.FormReader.{FormReader}
 use Rattle.cdb_form.proofs.NativeTexts.Spelling.{changes, records}

@@ -1,7 +1,6 @@
 -- What a reader took of the keys of an input, whatever its form and whatever bytes agree with it.
 use Rattle.cdb_show.proofs.Words.{Change, Feed, FromTo, IsOfText, KeyReader, KeyValue, List, Putting, TextFault, [], ap, append_assoc, from_weaker, map, map-append, refl, sym, ℕ, ◌++◌, ◌∙◌, ◌∷◌, ◌≡◌, ◌≢◌}
-use Rattle.cdb_form.specs.Text.List.{ReadsKeys, SpelledKeys, SpellsKey}
-use Rattle.cdb_form.specs.Text.Parse.{listed}
+use Rattle.cdb_form.specs.Text.Parse.{ReadsKeys, SpelledKeys, SpellsKey, listed}
 use Rattle.cdb_form.specs.Views.ListReader as lists
 use Rattle.cdb_form.specs.declared.text.fault.TextFault.TheVariants.{Input, NoMemory}
 use Rattle.cdb_form.proofs.NativeTexts.KeyTexts.{keys}

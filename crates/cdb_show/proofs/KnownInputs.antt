@@ -1,12 +1,11 @@
 -- Inputs whose readers tell their bytes, as slices do: a run over them read what the function of these bytes says.
 use Rattle.cdb_show.proofs.Words.{AreRead, CutShort, Feed, FromTo, HasFault, InputReader, Inputs, List, NoMore, None, NotBegun, Option, Parsing, SharedWindow, Some, Stop, TakesOne, [], ap, reader_feed, refl, shared_feed, sym, ℕ, ◌++◌, ◌∙◌, ◌∷◌, ◌≡◌}
 use Rattle.std.specs.Io.KnownBytes.{prepend_known}
-use Rattle.cdb_feed.specs.Given.{given_from}
-use Rattle.cdb_feed.specs.Inputs.{HasBytes, HaveBytes, IsGiven}
-use Rattle.cdb_feed.specs.declared.input_reader.InputReader.TheVariants.{Own, Shared}
-use Rattle.cdb_feed.proofs.GivenInputs.{known_given}
+use Rattle.cdb_show.specs.Feed.{given_from, HasBytes, HaveBytes, IsGiven}
+use Rattle.cdb_show.specs.declared.input_reader.InputReader.TheVariants.{Own, Shared}
+use Rattle.cdb_show.proofs.InputsGiven.{known_given}
 use Rattle.cdb_form.specs.Views.Feed as fed
-use Rattle.cdb_show.specs.Views.Inputs.{AreReadTo}
+use Rattle.cdb_show.specs.Views.Noted.{AreReadTo}
 use Rattle.cdb_show.specs.Views.Window.{held_in, window_feed}
 use Rattle.cdb_show.specs.declared.inputs.SharedWindow.TheVariants.{InHand, Unread}
 

@@ -1,3 +1,6 @@
+mod FeedExamples
+pub mod InputsGiven
+pub mod InputsInTurn
 pub mod Queries
 pub mod Openings
 pub mod QueryEnds

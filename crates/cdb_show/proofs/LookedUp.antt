@@ -5,19 +5,18 @@ use Rattle.cdb_show.proofs.Words.{Appends, AppendsPrefix, Change, Fault, Feed, G
 use Rattle.std.proofs.lemmas.Bool.{cond-true, cond-false}
 use Rattle.std.proofs.lemmas.List.Sums.{fold-append}
 use Rattle.std.proofs.KnownBytes.{Appends-kept, Keeps-trans}
-use Rattle.cdb_feed.specs.Given as fed
-use Rattle.cdb_feed.specs.Inputs.{AgreesWith, AreUnread, FirstAgree, IsGiven, HasFault, CutShort, HasBytes, HaveBytes, IsUnread, NoMore, Stop, reached}
-use Rattle.cdb_feed.proofs.GivenInputs.{all_given}
-use Rattle.cdb_form.specs.Format.Record.{AreBytes}
+use Rattle.cdb_show.specs.Feed as fed
+use Rattle.cdb_show.specs.Feed.{AgreesWith, AreUnread, FirstAgree, IsGiven, HasFault, CutShort, HasBytes, HaveBytes, IsUnread, NoMore, Stop, reached}
+use Rattle.cdb_show.proofs.InputsGiven.{all_given}
+use Rattle.cdb_form.specs.Format.{AreBytes}
 use Rattle.cdb_form.specs.Views.Feed.{reader_feed}
 use Rattle.cdb_form.specs.declared.text.fault.TextFault.TheVariants as text
 use Rattle.cdb_read.specs.declared.fault.ReadFault.TheVariants as read_fault
 use Rattle.cdb_show.specs.Runs.Flushed.{FlushedWhole, IsWhole}
-use Rattle.cdb_show.specs.Runs.LookedUp.{Looked, has_ended, looked_up, records_asked, with_end, with_given, with_key}
-use Rattle.cdb_show.specs.Runs.Lookups.{IsUnopened, LookupsFail, LookupsLeave, LooksUp, LooksUpRead, StopsInNext}
+use Rattle.cdb_show.specs.Runs.Lookups.{Looked, has_ended, looked_up, records_asked, with_end, with_given, with_key, IsUnopened, LookupsFail, LookupsLeave, LooksUp, LooksUpRead, StopsInNext}
 use Rattle.cdb_show.specs.Runs.Parsing.{IsFaultOf, input_parsing}
 use Rattle.cdb_show.specs.Runs.Query.{IsShortForQuery}
-use Rattle.cdb_show.specs.Views.Inputs.{held_of, reader_of}
+use Rattle.cdb_show.specs.Views.Noted.{held_of, reader_of}
 use Rattle.cdb_show.specs.declared.fault.Fault.TheVariants.{Text, Make, Duplicate, Missing, Read, Walk, Output, Long, Open, Rename, NoMemory, Old, New, NoOldTables, NoNewTables, NoBaseTables}
 use Rattle.cdb_show.specs.declared.inputs.SharedWindow.TheVariants.{InHand, Unread}
 use Rattle.cdb_show.proofs.GivenInputs.{same_given, said}

@@ -3,8 +3,7 @@ use Rattle.cdb_show.proofs.Words.{Appends, AppendsPrefix, BeginsWithItems, Bool,
 use Rattle.cdb_form.specs.Views.Feed as fed
 use Rattle.cdb_form.specs.declared.text.fault.TextFault.TheVariants as text
 use Rattle.cdb_read.specs.declared.fault.ReadFault.TheVariants as read
-use Rattle.cdb_show.specs.Runs.LookedUp.{key_query, Looked, joined, looked_up, with_key, with_one}
-use Rattle.cdb_show.specs.Runs.Lookups.{FaultBehind, StopsBehind, ComesTo, missing_answer, HasLooked, LookupsStopAt}
+use Rattle.cdb_show.specs.Runs.Lookups.{key_query, Looked, joined, looked_up, with_key, with_one, FaultBehind, StopsBehind, ComesTo, missing_answer, HasLooked, LookupsStopAt}
 use Rattle.cdb_show.specs.Runs.Parsing.{IsOfRun}
 use Rattle.cdb_show.specs.Views.Fault.{text_fault}
 use Rattle.cdb_show.specs.Views.KeyReader as views

@@ -1,7 +1,7 @@
 -- Readers that a run hands back are in their places.
 use Rattle.cdb_show.proofs.Words.{AreRead, CutShort, Feed, HasFault, InputReader, List, NoMore, NotBegun, Parsing, Stop, TakesOne, [], subst, sym, ℕ, ◌∷◌, ◌≡◌}
-use Rattle.cdb_feed.specs.declared.input_reader.InputReader.TheVariants.{Own, Shared}
-use Rattle.cdb_show.specs.Views.Inputs.{AreInPlace, ArePassed}
+use Rattle.cdb_show.specs.declared.input_reader.InputReader.TheVariants.{Own, Shared}
+use Rattle.cdb_show.specs.Views.Noted.{AreInPlace, ArePassed}
 
 pub same_places : {R : Type 0} (readers : List (InputReader R)) → AreInPlace readers readers
 same_places [] = tt

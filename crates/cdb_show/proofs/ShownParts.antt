@@ -1,7 +1,6 @@
 -- A line of parts, as they are shown.
 use Rattle.std.proofs.Common.{◌≡◌, ◌++◌, ◌∷◌, [], ap, refl, ℕ, List, flat_map, map, codes, Bor}
-use Rattle.cdb_command.specs.Refused.{parts_line}
-use Rattle.cdb_command.specs.Shown.{shown}
+use Rattle.cdb_command.specs.Refused.{parts_line, shown}
 
 abbrev Part : Type 0
 Part = Bor (List ℕ) × Bor (List ℕ)

@@ -2,7 +2,7 @@
 use Rattle.cdb_show.proofs.Words.{Appends, List, Option, Result, [], ap, append_assoc, appends_none, appends_then, arith, codes, flat_map, get_or, prefix_then, refl, suc, sym, writes_last, ℕ, ◌++◌, ◌+◌, ◌-◌, ◌<◌, ◌∙◌, ◌≡◌}
 use Rattle.std.specs.List.{range_with_len}
 use Rattle.cdb_form.specs.Views.KnownBytes.{AppendsPrefix, Writes}
-use Rattle.cdb_show.specs.Runs.StatsText.{count_line, distance_line, distance_lines, records_line, keys_line, values_line, tables_line, sizes_line, stats_text}
+use Rattle.cdb_show.specs.Runs.Stats.{count_line, distance_line, distance_lines, records_line, keys_line, values_line, tables_line, sizes_line, stats_text}
 use Rattle.cdb_read.specs.declared.statistics.stats.Stats.{Stats}
 
 -- ---- line after line

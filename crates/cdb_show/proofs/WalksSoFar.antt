@@ -1,7 +1,7 @@
 -- From what each call of a reader of records gave to the walk of the whole file: of each file that agrees with what was taken.
 use Rattle.cdb_show.proofs.Words.{Consumes, Damage, Fails, Feed, FromTo, GivesEnd, GivesRecord, IsDamage, KeyValue, List, None, Option, RecordReader, WalkFault, [], ap, append-nil, append_assoc, damage_of, drop, sym, take, take-append-drop, ℕ, ◌++◌, ◌∙◌, ◌∷◌, ◌≡◌}
 use Rattle.cdb_form.specs.Views.Taking.{ReadsFirst, ReadsNoRecord}
-use Rattle.cdb_form.specs.Format.Walk.{Walked, walk_of, with_first, with_records}
+use Rattle.cdb_form.specs.Format.{Walked, walk_of, with_first, with_records}
 use Rattle.cdb_form.specs.Views.RecordReader.{walk_of_rest, size_of_rest, reader_of, walk_left, behind_end, behind_records, IsFresh}
 use Rattle.cdb_form.proofs.Fed.FeedLemmas.{consumes_then, nothing_taken, from_weaker, from_kept}
 use Rattle.cdb_show.specs.Runs.WalkText.{KeepsBehind, ReadsRecords}

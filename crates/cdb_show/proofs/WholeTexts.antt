@@ -1,13 +1,11 @@
 -- The text of a file, up to its record end or its damage.
 use Rattle.cdb_show.proofs.Words.{Appends, AppendsPrefix, Damage, Err, Fails, Fault, Feed, Flushed, GivesEnd, GivesRecord, IsDamage, IsOk, Keeps, List, None, Ok, Option, RecordReader, Result, Some, WalkFault, Walked, [], ap, append-nil, append_assoc, appends_kept, appends_none, appends_then, damage_of, flat_map, flat_map-append, from_weaker, inl, inr, prefix_last, prefix_then, refl, subst, sym, walk_of, ℕ, ◌++◌, ◌∙◌, ◌∷◌, ◌≡◌}
-use Rattle.cdb_form.specs.Format.Record.{KeyValue, record_of}
+use Rattle.cdb_form.specs.Format.{KeyValue, record_of}
 use Rattle.cdb_form.specs.Views.RecordReader.{reader_of, behind_records, IsFresh, IsGoing, is_going}
 use Rattle.cdb_form.specs.declared.damage.Damage.TheVariants as file_damage
 use Rattle.cdb_form.specs.declared.walk.fault.WalkFault.TheVariants as walk
 use Rattle.cdb_show.specs.Views.Fault.{walk_fault}
-use Rattle.cdb_show.specs.Runs.Form.{Form, IsHeld}
-use Rattle.cdb_show.specs.Runs.WalkText.{closing, walk_text}
-use Rattle.cdb_show.specs.Runs.WalkText.{WritesToDamage, WritesTextPrefix, WritesFirst, WritingFails, WritesWalk, KeepsBehind}
+use Rattle.cdb_show.specs.Runs.WalkText.{Form, IsHeld, closing, walk_text, WritesToDamage, WritesTextPrefix, WritesFirst, WritingFails, WritesWalk, KeepsBehind}
 use Rattle.cdb_show.specs.declared.runs.content.Content.{Content}
 use Rattle.cdb_show.specs.declared.runs.content.Content.TheVariants.{Records, Keys}
 use Rattle.cdb_show.specs.declared.fault.Fault.TheVariants.{Text, Make, Duplicate, Missing, Read, Walk, Output, Long, Open, Rename, NoMemory, Old, New, NoOldTables, NoNewTables, NoBaseTables}

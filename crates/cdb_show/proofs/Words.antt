@@ -1,20 +1,17 @@
 -- The words that most proofs here name.
-pub use Rattle.cdb_command.specs.Shown.{shown}
+pub use Rattle.cdb_command.specs.Refused.{shown}
 pub use Rattle.cdb_command.specs.declared.style.Style.{Style}
-pub use Rattle.cdb_difference.specs.Difference.{SaysDifference}
-pub use Rattle.cdb_feed.specs.Inputs.{AreRead, CutShort, HasFault, NoMore, NotBegun, Stop, StopsSo, TakesOne, reached}
-pub use Rattle.cdb_feed.specs.Parsing.{Parsing}
-pub use Rattle.cdb_feed.specs.declared.input_reader.InputReader.{InputReader}
+pub use Rattle.cdb_read.specs.Differing.{SaysDifference}
+pub use Rattle.cdb_show.specs.Feed.{AreRead, CutShort, HasFault, NoMore, NotBegun, Stop, StopsSo, TakesOne, reached, Parsing}
+pub use Rattle.cdb_show.specs.declared.input_reader.InputReader.{InputReader}
 pub use Rattle.cdb_form.proofs.Bytes.WritingLemmas.{appends_kept, appends_none, appends_then, prefix_in, prefix_last, prefix_then, same_appends, same_prefix, same_writes, writes_last, writes_prefix}
 pub use Rattle.cdb_form.proofs.Fed.FeedLemmas.{from_both, from_kept, from_taken, from_then, from_weaker, nothing_taken}
 pub use Rattle.cdb_form.proofs.MapTexts.WholeMap.{going_on}
 pub use Rattle.cdb_form.specs.Views.Feed.{Consumes, Feed, FromTo, reader_feed}
 pub use Rattle.cdb_form.specs.Views.RecordReader.{Fails, GivesEnd, GivesRecord}
-pub use Rattle.cdb_form.specs.Format.Pair.{head_size}
-pub use Rattle.cdb_form.specs.Format.Record.{KeyValue}
-pub use Rattle.cdb_form.specs.Format.Walk.{Walked}
-unfoldable pub use Rattle.cdb_form.specs.Format.Walk.{walk_of}
-pub use Rattle.cdb_form.specs.Text.Amending.{Change, Putting}
+pub use Rattle.cdb_form.specs.Format.{head_size, KeyValue, Walked}
+unfoldable pub use Rattle.cdb_form.specs.Format.{walk_of}
+pub use Rattle.cdb_form.specs.Text.Parse.{Change, Putting}
 pub use Rattle.cdb_form.specs.Text.Map.{map_lines, with_newlines}
 pub use Rattle.cdb_form.specs.Text.Native.{Spells}
 pub use Rattle.cdb_form.specs.Views.KnownBytes.{AppendsPrefix}
@@ -34,21 +31,18 @@ pub use Rattle.cdb_read.specs.declared.fault.ReadFault.{ReadFault}
 pub use Rattle.cdb_show.specs.Lines.{newlines}
 pub use Rattle.cdb_show.specs.Message.{duplicate_line, numbered}
 pub use Rattle.cdb_show.specs.Runs.Flushed.{Flushed}
-pub use Rattle.cdb_show.specs.Runs.Form.{Form, end_of}
+pub use Rattle.cdb_show.specs.Runs.WalkText.{Form, end_of}
 pub use Rattle.cdb_show.specs.Runs.Given.{Given, given_from}
 pub use Rattle.cdb_show.specs.Runs.Incoming.{Incoming, Known, came, from_input, from_inputs, one_input}
 pub use Rattle.cdb_show.specs.Runs.Inputs.{AreAllInputs, AreInputs, BeginsWithItems, FirstBegins, FirstHas, HasFaultBehind, HasFaults, HasInputFault, HasItemFault, InputForm, InputsBeginWith, InputsLeft, IsInput, IsInputOf, OneBegins, OneInput, Puts, ReadsOne, bytes_of, key_of, keys_form, keys_of, keys_of_each}
-pub use Rattle.cdb_show.specs.Runs.LookedUp.{looked_up}
-pub use Rattle.cdb_show.specs.Runs.LookupTask.{LookupState, LookupTask, lookup_state}
-pub use Rattle.cdb_show.specs.Runs.Lookups.{FaultBehind, HasLooked, LookupsStopAt, StopsBehind, missing_answer}
+pub use Rattle.cdb_show.specs.Runs.Lookups.{looked_up, LookupState, LookupTask, lookup_state, FaultBehind, HasLooked, LookupsStopAt, StopsBehind, missing_answer}
 pub use Rattle.cdb_show.specs.Runs.Parsing.{StopsIn, fault_in, stop_of, stopped_parsing}
 pub use Rattle.cdb_show.specs.Runs.Query.{Queries, Query, QueryAnswers, QueryFails, WritesQueryPrefix, query_answer, query_text}
-pub use Rattle.cdb_show.specs.Runs.StatsText.{keys_line, records_line, sizes_line, tables_line, values_line}
-unfoldable pub use Rattle.cdb_show.specs.Runs.StatsText.{distance_lines}
+pub use Rattle.cdb_show.specs.Runs.Stats.{keys_line, records_line, sizes_line, tables_line, values_line}
+unfoldable pub use Rattle.cdb_show.specs.Runs.Stats.{distance_lines}
 pub use Rattle.cdb_show.specs.Views.Fault.{read_fault}
-pub use Rattle.cdb_show.specs.Views.Inputs.{one_of, shared_feed}
+pub use Rattle.cdb_show.specs.Views.Noted.{one_of, shared_feed, noted_by}
 pub use Rattle.cdb_show.specs.Views.KeyReader.{form_of, reader_of}
-pub use Rattle.cdb_show.specs.Views.Noted.{noted_by}
 pub use Rattle.cdb_show.specs.Views.Output.{output_bytes, passed_bytes, writer_bytes}
 pub use Rattle.cdb_show.specs.Views.Window.{feed_of}
 pub use Rattle.cdb_show.specs.declared.fault.Fault.{Fault}

@@ -1,7 +1,5 @@
 -- What is said of a fault: where it is, what it is, and the line on standard error.
-use Rattle.std.specs.Prelude.{ℕ, ◌-◌, nat_lt, if◌then◌else◌, List, [], ◌∷◌, ◌++◌, decimal, codes}
-use Rattle.std.specs.Prelude.{Option, None, Some, map, take, length, get_or, bytes_eq, string_bytes}
-use Rattle.std.specs.Prelude.{String, flat_map, ◌≡◌}
+use Rattle.std.specs.Prelude.{ℕ, ◌-◌, nat_lt, if◌then◌else◌, List, [], ◌∷◌, ◌++◌, decimal, codes, Option, None, Some, map, take, length, get_or, bytes_eq, string_bytes, String, flat_map, ◌≡◌}
 use Rattle.std.specs.Io.KnownBytes.{Appends}
 use denote.Bor.{Bor}
 use Rattle.cdb_command.specs.Refused.{parts_line}
@@ -14,17 +12,13 @@ use Rattle.cdb_form.specs.Views.TextFault.{text_message}
 use Rattle.cdb_form.specs.Views.WalkFault.{walk_message}
 use Rattle.cdb_store.specs.MakeFault.{make_message}
 use Rattle.cdb_store.specs.declared.make_fault.MakeFault.TheVariants.{TooBig}
-use Rattle.cdb_read.specs.Views.ReadFault.{read_message}
+use Rattle.cdb_read.specs.Views.Reads.{read_message}
 use Rattle.cdb_read.specs.declared.fault.ReadFault.{ReadFault}
 use Rattle.cdb_read.specs.declared.fault.ReadFault.TheVariants as read
 use Rattle.cdb_show.specs.declared.message.Place.{Place}
-use Rattle.cdb_show.specs.declared.message.Place.TheVariants.{Nowhere, Input, Byte, Table, Record}
-use Rattle.cdb_show.specs.declared.message.Place.TheVariants.{Slot}
+use Rattle.cdb_show.specs.declared.message.Place.TheVariants.{Nowhere, Input, Byte, Table, Record, Slot}
 use Rattle.cdb_show.specs.declared.fault.Fault.{Fault}
-use Rattle.cdb_show.specs.declared.fault.Fault.TheVariants.{Text, Make, Read, Walk, Output}
-use Rattle.cdb_show.specs.declared.fault.Fault.TheVariants.{Duplicate, Missing, Long, Open, Rename}
-use Rattle.cdb_show.specs.declared.fault.Fault.TheVariants.{NoMemory, Old, New, NoOldTables, NoNewTables}
-use Rattle.cdb_show.specs.declared.fault.Fault.TheVariants.{NoBaseTables}
+use Rattle.cdb_show.specs.declared.fault.Fault.TheVariants.{Text, Make, Read, Walk, Output, Duplicate, Missing, Long, Open, Rename, NoMemory, Old, New, NoOldTables, NoNewTables, NoBaseTables}
 
 -- what a fault is
 abbrev pub fault_message : Fault → List ℕ

@@ -2,9 +2,8 @@
 pub mod Fault
 pub mod Window
 pub mod WindowRests
-pub mod Inputs
-pub mod Noted
 pub mod Output
 pub mod ItemReader
 pub mod KeyReader
 pub mod LookUps
+pub mod Noted

@@ -3,9 +3,9 @@ ghost use Rattle.std.specs.Prelude.{◌≡◌};
 ghost use Rattle.cdb_show.specs.Views.Fault.{fault_number, text_fault, walk_fault, make_fault};
 ghost use Rattle.cdb_show.specs.Views.Fault.{in_fault, new_fault, old_fault, read_fault, stop_fault};
 
-use cdb_difference::Stop;
 use cdb_form::{InFault, OutFault, TextFault, WalkFault};
 use cdb_read::ReadFault;
+use cdb_read::difference::Stop;
 use cdb_store::MakeFault;
 use std::alloc::{AllocError, AllocFailed};
 

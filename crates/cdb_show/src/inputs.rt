@@ -2,11 +2,11 @@
 ghost use Rattle.std.specs.Prelude.{◌≡◌, IfErr, IfOk, map};
 ghost use Rattle.cdb_form.specs.Views.Feed.{Consumes, Keeps};
 ghost use Rattle.cdb_show.specs.Runs.Inputs.{Own};
-ghost use Rattle.cdb_show.specs.Views.Inputs.{held_of, one_of, reader_of, shared_feed};
+ghost use Rattle.cdb_show.specs.Views.Noted.{held_of, one_of, reader_of, shared_feed};
 ghost use Rattle.cdb_show.specs.Views.Window.{feed_of};
 
+use crate::InputReader;
 use crate::window::{NoWindow, Window};
-use cdb_feed::InputReader;
 use cdb_form::Feeds;
 use std::alloc::{AllocError, Global};
 use std::io::Read;

@@ -1,7 +1,6 @@
 // A line of texts, and of bytes as they are shown.
 ghost use Rattle.std.specs.Prelude.{◌<◌, ◌≤◌, ◌++◌, IfOk, OnErr, flat_map, length, map};
-ghost use Rattle.cdb_command.specs.Refused.{parts_line};
-ghost use Rattle.cdb_command.specs.Shown.{shown};
+ghost use Rattle.cdb_command.specs.Refused.{parts_line, shown};
 ghost use Rattle.cdb_form.specs.Views.KnownBytes.{AppendsPrefix, Writes};
 ghost use Rattle.cdb_show.specs.Showing.{ShowsFirst};
 

@@ -3,6 +3,8 @@ use Rattle.std.specs.Prelude.{ℕ, List}
 use Rattle.cdb_store.specs.declared.raw.RawFile.{Ghosts}
 use Rattle.cdb_store.specs.declared.file.FileStore.{FileStore}
 use Rattle.cdb_store.specs.Calls.{Calls, FileImage, failure_count, written_count}
+use Rattle.cdb_store.specs.declared.real.RealFile.{RealFile}
+use Rattle.cdb_store.specs.declared.trace.Trace.{Trace}
 
 -- its file, and the length that it last had
 abbrev pub file_of : {F : Type 0} {file : Ghosts F} → FileStore F file → F
@@ -26,3 +28,12 @@ failures_of f = failure_count (calls_of f)
 -- how many bytes were written to it
 abbrev pub written_of : {F : Type 0} {file : Ghosts F} → FileStore F file → ℕ
 written_of f = written_count (calls_of f)
+
+-- ---- What a clause reads of a file of the system.
+
+-- what the calls on it are noted in, and these
+abbrev pub trace_of : RealFile → Trace
+trace_of f = f.trace
+
+abbrev pub events_of : RealFile → Calls
+events_of f = f.trace.events

@@ -1,8 +1,7 @@
 -- The byte lists that a store may hold, and what each call does to them.
-use Rattle.std.specs.Prelude.{◌≡◌, ℕ, ◌+◌, ◌<◌, ◌≤◌, ◌⊎◌, List, ◌++◌, length, take, drop, Result}
-use Rattle.std.specs.Prelude.{IsErrOf}
+use Rattle.std.specs.Prelude.{◌≡◌, ℕ, ◌+◌, ◌<◌, ◌≤◌, ◌⊎◌, List, ◌++◌, length, take, drop, Result, IsErrOf, codes}
 use Rattle.cdb_store.specs.declared.store.StoreFault.{StoreFault}
-use Rattle.cdb_store.specs.declared.store.StoreFault.TheVariants.{Device}
+use Rattle.cdb_store.specs.declared.store.StoreFault.TheVariants.{Device, NoMemory}
 
 -- old with these bytes from pos on, past its end too
 abbrev pub overwrite : List ℕ → ℕ → List ℕ → List ℕ
@@ -75,3 +74,30 @@ pub record Copied (from to n : ℕ) (old new : List ℕ → Type 0) : Type 0 whe
 -- the byte lists that some bytes, written over each of these, leave
 abbrev pub Over : ℕ → List ℕ → (List ℕ → Type 0) → List ℕ → Type 0
 Over pos bytes images b = (a : List ℕ) × images a × (b ≡ overwrite a pos bytes)
+
+-- ---- What a fault is called.
+
+-- its number
+abbrev pub fault_number : StoreFault → ℕ
+fault_number Device = 1
+fault_number NoMemory = 2
+
+-- its words
+abbrev pub fault_message : StoreFault → List ℕ
+fault_message Device = codes "the device failed"
+fault_message NoMemory = codes "no memory"
+
+-- ---- What follows for the images of a store from several calls, or from one.
+
+-- bytes that were held from pos on still are
+abbrev pub StaysHeld : ℕ → List ℕ → (old new : List ℕ → Type 0) → Type 0
+StaysHeld pos bytes old new = ImagesHold pos bytes old → ImagesHold pos bytes new
+
+-- no byte list is an image
+abbrev pub HasNoImage : (List ℕ → Type 0) → Type 0
+HasNoImage images = (b : List ℕ) → images b → ⊥
+
+-- each image is an old one with two pieces of it, one after the other, over what was there from to on
+pub record Gathered (from n next m to : ℕ) (old new : List ℕ → Type 0) : Type 0 where
+  pub each : (b : List ℕ) → new b
+      → (a : List ℕ) × old a × (b ≡ overwrite a to (part from n a ++ part next m a))

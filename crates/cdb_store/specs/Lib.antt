@@ -1,13 +1,10 @@
-pub mod Faults
-pub mod Images
 pub mod Calls
 pub mod Lengths
 pub mod Contents
 pub mod Fuse
-pub mod Laws
 pub mod Reads
-pub mod FileStore
-pub mod RealFile
 pub mod BufferedStore
 pub mod FuseStore
 pub mod MakeFault
+pub mod Images
+pub mod FileStore

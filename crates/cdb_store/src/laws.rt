@@ -1,8 +1,7 @@
 //! What follows from the contract of a store for those that call one. Each law is the contract of a
 //! function whose parameters are what it ranges over, the store before and after a call among them.
 ghost use Rattle.std.specs.Prelude.{◌≡◌, ◌+◌, ◌≤◌, ◌++◌, length};
-ghost use Rattle.cdb_store.specs.Images.{SameImages, AfterRead, AfterWrite, AfterTornWrite, AfterCut, TornWithin, AreApart, ImagesHold, Copied};
-ghost use Rattle.cdb_store.specs.Laws.{StaysHeld, HasNoImage, Gathered};
+ghost use Rattle.cdb_store.specs.Images.{SameImages, AfterRead, AfterWrite, AfterTornWrite, AfterCut, TornWithin, AreApart, ImagesHold, Copied, StaysHeld, HasNoImage, Gathered};
 
 use crate::Store;
 

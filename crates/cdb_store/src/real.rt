@@ -71,7 +71,7 @@ impl Stamp {
 }
 
 impl RealFile {
-    ghost use Rattle.cdb_store.specs.RealFile.{events_of, trace_of};
+    ghost use Rattle.cdb_store.specs.FileStore.{events_of, trace_of};
 
     /// A file that was just opened, of which nothing is known.
     pub fn opened(file: File) -> RealFile

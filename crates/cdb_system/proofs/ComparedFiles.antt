@@ -3,19 +3,19 @@ use Rattle.cdb_system.proofs.OutputTaken.{MayGiveUp}
 use Rattle.cdb_system.proofs.Words.{AppendsPrefix, Damage, Err, Fault, Feed, Ghosts, Keeps, Left, List, None, Ok, Option, Result, Some, State, [], ap, arith, cond-false, cond-true, files_of, head_size, inl, inr, length, plain_status, refl, same_appends, subst, sym, true, walk_of, ℕ, ◌<◌, ◌∙◌, ◌∷◌, ◌≡◌, ◌≤◌}
 use Rattle.std.specs.Prelude.{if◌then◌else◌, option_map}
 use Rattle.std.specs.Option.{option_or}
-use Rattle.cdb_form.specs.Text.Amending.{amending_text}
+use Rattle.cdb_form.specs.Text.Parse.{amending_text}
 use Rattle.cdb_form.specs.declared.damage.Damage.TheVariants as damage
 use Rattle.cdb_form.specs.declared.damage.Damage.TheVariants.{Short}
-use Rattle.cdb_read.specs.InOrder.{FindsInOrder}
+use Rattle.cdb_read.specs.Difference.{FindsInOrder}
 use Rattle.cdb_read.specs.Statistics.{outside_table}
 use Rattle.cdb_read.specs.declared.fault.ReadFault.{ReadFault}
 use Rattle.cdb_read.specs.declared.fault.ReadFault.TheVariants as read
-use Rattle.cdb_read.specs.OtherWidth.{lacks_tables}
+use Rattle.cdb_read.specs.Sound.{lacks_tables}
 use Rattle.cdb_show.specs.Runs.Difference.{difference_state, difference_task, ComesAfter, DifferenceFails, DifferenceNotRead, DifferenceOutside, HasDamage as HasAny, HaveHeads, HaveTables, HaveTablesInside, TellsDifference, difference_of, heads_fault}
 use Rattle.cdb_show.specs.declared.fault.Fault.TheVariants.{Text, Make, Duplicate, Missing, Read, Walk, Output, Long, Open, Rename, NoMemory, Old, New, NoOldTables, NoNewTables, NoBaseTables}
 use Rattle.cdb_system.specs.Answered.{AreComparable, IsInOrder, Nothing, Shows, stores_in}
-use Rattle.cdb_system.proofs.Coming.{Comes, EachAnswered, IsSized, comes_so, gives_up, long_is, nothing_written, of_shown, refused_so, short_is}
 use Rattle.cdb_system.specs.Oracle.{Disk, difference_outcome, of_file, unless_fault}
+use Rattle.cdb_system.proofs.Coming.{Comes, EachAnswered, IsSized, comes_so, gives_up, long_is, nothing_written, of_shown, refused_so, short_is}
 use Rattle.cdb_system.specs.Reading.{PerformsDifference}
 use Rattle.cdb_system.specs.declared.open_trace.OpenCall.TheVariants.{AtPlaces, Unopened}
 use Rattle.cdb_system.specs.declared.system.System.{Ghosts as Systems}

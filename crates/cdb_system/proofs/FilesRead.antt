@@ -3,27 +3,24 @@ use Rattle.cdb_system.proofs.OutputTaken.{taken}
 use Rattle.std.proofs.Common.{ℕ, Bool, true, false, ◌<◌, ◌≤◌, List, [], ◌∷◌, ◌++◌, length, flat_map, Option, Some, None, IfSome, Result, Ok, Err, ◌≡◌, ◌∙◌, ap, inl, inr, refl, subst, sym, arith, append_assoc}
 use Rattle.cdb_system.proofs.Words.{Agrees, Appends, AppendsPrefix, Damage, Fault, Feed, Form, FromTo, Ghosts, IsUnread, Keeps, Left, MemStore, Standard, State, cond-false, cond-true, contents, fault_line, files_of, head_size, if◌then◌else◌, le-ltb, lt-ltb, nat_lt, window_feed}
 use Rattle.std.proofs.lemmas.Grind.{flat_map-append}
-use Rattle.cdb_form.specs.Format.Record.{KeyValue}
-use Rattle.cdb_form.specs.Format.Walk.{Walked, walk_of}
+use Rattle.cdb_form.specs.Format.{KeyValue, Walked, walk_of}
 use Rattle.cdb_form.specs.declared.damage.Damage.TheVariants as damage
 use Rattle.cdb_form.specs.declared.damage.Damage.TheVariants.{Short}
 use Rattle.cdb_form.specs.declared.walk.fault.WalkFault.TheVariants as walk
 use Rattle.cdb_names.specs.declared.answer.Answer.TheVariants as looks
 use Rattle.cdb_read.proofs.WholeFiles.FaultLaws.{sound_is_no_damage}
-use Rattle.cdb_read.specs.Faults.{first_fault}
+use Rattle.cdb_read.specs.Sound.{first_fault}
 use Rattle.cdb_read.specs.Statistics.{statistics_damage}
 use Rattle.cdb_read.specs.declared.fault.ReadFault.TheVariants as read
 use Rattle.cdb_store.specs.contracts.memory.MemStoreStore.TheImpl.{ghosts as in_memory}
-use Rattle.cdb_show.specs.Runs.Check.{CheckingFails}
-use Rattle.cdb_show.specs.Runs.Stats.{StatsMeetDamage, TellingFails, TellsStats, statistics_text}
-use Rattle.cdb_show.specs.Runs.WalkText.{WritesFirst, WritesTextPrefix, WritesToDamage, WritesWalk, WritingFails}
-use Rattle.cdb_show.specs.Runs.WalkText.{closing, walk_text}
+use Rattle.cdb_show.specs.Runs.Stats.{CheckingFails, StatsMeetDamage, TellingFails, TellsStats, statistics_text}
+use Rattle.cdb_show.specs.Runs.WalkText.{WritesFirst, WritesTextPrefix, WritesToDamage, WritesWalk, WritingFails, closing, walk_text}
 use Rattle.cdb_show.specs.Runs.Query.{QueryAnswers, Query, Queries, QueryFails, query_text, query_answer}
 use Rattle.cdb_show.specs.Status.{plain_status, check_status}
 use Rattle.cdb_show.specs.declared.fault.Fault.TheVariants.{Text, Make, Duplicate, Missing, Read, Walk, Output, Long, Open, Rename, NoMemory, Old, New, NoOldTables, NoNewTables, NoBaseTables}
 use Rattle.cdb_system.specs.Answered.{Database, Nothing, Reading, stores_in, streams_in}
-use Rattle.cdb_system.proofs.Coming.{Comes, EachAgrees, EachAnswered, IsSized, comes_so, gives_none, gives_up, long_is, nothing_written, of_shown, output_of, refused_so, short_is}
 use Rattle.cdb_system.specs.Oracle.{Disk, Outcome, check_outcome, ended, met, of_file, query_outcome, short_or, stats_outcome, text_outcome, unless_damaged}
+use Rattle.cdb_system.proofs.Coming.{Comes, EachAgrees, EachAnswered, IsSized, comes_so, gives_none, gives_up, long_is, nothing_written, of_shown, output_of, refused_so, short_is}
 use Rattle.cdb_system.specs.Reading.{ChecksStore, IsNotLoaded, LacksMemory, OfInput, PerformsOn, PerformsQuery, PerformsText, ReadsText, Tells}
 use Rattle.cdb_system.specs.declared.open_trace.OpenCall.TheVariants.{AtPlaces, InTurn, Stream, Unopened}
 use Rattle.cdb_system.specs.declared.system.System.{Ghosts as Systems}

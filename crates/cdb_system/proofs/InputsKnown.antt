@@ -4,15 +4,14 @@ use Rattle.std.specs.Prelude.{⊤}
 use Rattle.cdb_system.proofs.Words.{AllByRecursion, Feed, Ghosts, InputReader, OpenCall, OpenCalls}
 use Rattle.std.proofs.lemmas.Bool.{cond-true, cond-false, false_from_ne_true}
 use Rattle.std.proofs.lemmas.Slice.Eq.{bytes_eq-Decides}
-use Rattle.cdb_feed.specs.Inputs.{AgreesWith, AreRead, FirstAgree, Stop, NoMore, HasFault, CutShort, NotBegun, StopsSo, TakesOne, reached}
-use Rattle.cdb_feed.specs.Parsing.{Parsing}
-use Rattle.cdb_feed.specs.declared.input_reader.InputReader.TheVariants.{Own, Shared}
-use Rattle.cdb_form.specs.Format.Record.{AreBytes}
+use Rattle.cdb_show.specs.Feed.{AgreesWith, AreRead, FirstAgree, Stop, NoMore, HasFault, CutShort, NotBegun, StopsSo, TakesOne, reached, Parsing}
+use Rattle.cdb_show.specs.declared.input_reader.InputReader.TheVariants.{Own, Shared}
+use Rattle.cdb_form.specs.Format.{AreBytes}
 use Rattle.cdb_show.specs.Runs.Incoming.{EachOfBytes}
 use Rattle.cdb_system.specs.Answered.{AreAnswered, IsAnswered, IsThere, stores_before}
-use Rattle.cdb_system.specs.Inputs.{IsStandard, OpensEach, OpensInputs, inputs_read}
 use Rattle.cdb_system.specs.Oracle.{Disk, both, each_of, input_of, inputs_of, is_standard}
-use Rattle.cdb_system.specs.Streams.{AgreeInTurn, Agrees, name_in_turn, names_in_turn, own_readers}
+use Rattle.cdb_system.specs.Inputs.{IsStandard, OpensEach, OpensInputs, inputs_read}
+use Rattle.cdb_system.specs.State.{AgreeInTurn, Agrees, name_in_turn, names_in_turn, own_readers}
 use Rattle.cdb_system.specs.declared.open_trace.OpenCall.TheVariants.{InTurn}
 use Rattle.cdb_system.specs.declared.system.System.{Ghosts as Systems}
 

@@ -6,22 +6,20 @@ use Rattle.cdb_form.specs.declared.text.fault.TextFault.TheVariants as text
 use Rattle.cdb_read.specs.declared.fault.ReadFault.TheVariants as read
 use Rattle.cdb_show.specs.Runs.Inputs.{keys_form}
 use Rattle.cdb_show.specs.Runs.Parsing.{fault_in, stopped_parsing}
-use Rattle.cdb_show.specs.Runs.LookedUp.{Looked, records_asked}
-use Rattle.cdb_show.specs.Runs.LookupTask.{lookup_task}
+use Rattle.cdb_show.specs.Runs.Lookups.{Looked, records_asked, lookup_task}
 use Rattle.cdb_show.specs.declared.fault.Fault.TheVariants.{Text, Read, Output, Open, NoMemory}
-use Rattle.cdb_show.specs.Views.Inputs.{shared_feed}
+use Rattle.cdb_show.specs.Views.Noted.{shared_feed}
 use Rattle.cdb_show.specs.declared.inputs.SharedWindow.TheVariants.{Unread}
 use Rattle.cdb_show.specs.declared.runs.lookup_options.LookupOptions.{LookupOptions}
 use Rattle.cdb_show.proofs.LookedUp.{IsLookupRefusal, LooksOrShort, lookups_asked}
 use Rattle.cdb_system.specs.Answered.{IsAnswered, IsOfBytes, IsThere, Texts, stores_in, streams_in}
 use Rattle.cdb_system.specs.Oracle.{Disk, Outcome, ended, inputs_of, lookups_outcome, of_file, of_inputs}
 use Rattle.cdb_system.specs.Reading.{LooksUpFile, PerformsLookups, RefusesInputs}
-use Rattle.cdb_system.specs.Wanted.{WantedLookups}
+use Rattle.cdb_system.specs.State.{WantedLookups}
 use Rattle.cdb_system.specs.declared.open_trace.OpenCall.TheVariants.{AtPlaces, Unopened}
 use Rattle.cdb_system.specs.declared.system.System.{Ghosts as Systems}
 use Rattle.cdb_system.proofs.Coming.{Comes, EachAgrees, EachAnswered, IsSized, comes_so, gives_none, gives_up, long_is, nothing_written, of_shown, output_of, refused_so, short_is}
-use Rattle.cdb_system.proofs.InputsKnown.{input_missing, missing_inputs}
-use Rattle.cdb_system.proofs.InputsKnown.{answered_before, files_of_each, in_turn_then, inputs_are, inputs_since, opened_since, opened_there, own_names, reached_agree}
+use Rattle.cdb_system.proofs.InputsKnown.{input_missing, missing_inputs, answered_before, files_of_each, in_turn_then, inputs_are, inputs_since, opened_since, opened_there, own_names, reached_agree}
 
 -- ---- one was not
 

@@ -2,7 +2,7 @@
 use Rattle.std.proofs.Common.{ℕ, ◌+◌, ◌<◌, List, [], ◌∷◌, ◌++◌, ◌≡◌, inl, inr, refl, sym, ap, subst, ◌∙◌, map, take, drop, length, get_or}
 use Rattle.std.proofs.lemmas.List.{map_push, take_more, take-append-drop, map-append, drop_more}
 use Rattle.cdb_system.proofs.Words.{AreUnread, Fault, Feed, InputReader, OpenCalls}
-use Rattle.cdb_feed.specs.declared.input_reader.InputReader.TheVariants.{Own, Shared}
+use Rattle.cdb_show.specs.declared.input_reader.InputReader.TheVariants.{Own, Shared}
 use Rattle.cdb_show.specs.declared.fault.Fault.TheVariants.{NoMemory}
 use Rattle.cdb_system.specs.Inputs.{OpensInput, OpensEach, StopsOpening, MissesInput}
 use Rattle.cdb_system.specs.declared.system.System.{Ghosts as Systems}

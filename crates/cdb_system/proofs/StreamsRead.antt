@@ -1,14 +1,11 @@
 -- That a command which reads a stream performs what it promises, from the steps that it takes.
 use Rattle.cdb_system.proofs.Words.{AreUnread, Fault, Form, IsUnread, Left, List, MemStore, None, OpensInputs, Option, Result, Some, ap, inl, inr, subst, sym, ℕ, ◌∙◌, ◌∷◌, ◌≡◌}
 use Rattle.cdb_names.specs.declared.answer.Answer.TheVariants.{Yes}
-use Rattle.cdb_show.specs.Runs.Lookups.{LooksUp}
-use Rattle.cdb_show.specs.Runs.LookupTask.{lookup_state, lookup_task}
+use Rattle.cdb_show.specs.Runs.Lookups.{LooksUp, lookup_state, lookup_task}
 use Rattle.cdb_show.specs.declared.inputs.Inputs.{Inputs}
-use Rattle.cdb_system.specs.Files.{Files}
+use Rattle.cdb_system.specs.State.{Files, Standard, State, calls_in, WantedLookups}
 use Rattle.cdb_system.specs.Opening.{OpenCalls, input_left, looked_left, stream_left}
 use Rattle.cdb_system.specs.Reading.{PerformsLookups, PerformsOn, PerformsText, ReadsText, Takes}
-use Rattle.cdb_system.specs.State.{Standard, State, calls_in}
-use Rattle.cdb_system.specs.Wanted.{WantedLookups}
 use Rattle.cdb_system.specs.declared.open_trace.OpenCall.TheVariants.{AtPlaces, InTurn, Stream}
 
 module _ {F I J M N R Y : Type 0} (files : Files F I J M N R Y) (old new : State Y) (left : Left F M I J) (result : Result Unit Fault) (name : Option (List ℕ)) (input : Standard J) where

@@ -1,29 +1,24 @@
 -- What the files of a system have, that the calls on them were answered so, and what may be refused then.
-use Rattle.std.specs.Prelude.{ℕ, ◌≡◌, List, [], ◌∷◌, ◌++◌, Option, None, Some, IfSome, ⊤}
-use Rattle.std.specs.Prelude.{option_map, unwrap_or}
+use Rattle.std.specs.Prelude.{ℕ, ◌≡◌, List, [], ◌∷◌, ◌++◌, Option, None, Some, IfSome, ⊤, option_map, unwrap_or}
 use Rattle.cdb_command.specs.Asked.{Asked}
 use Rattle.cdb_command.specs.Asked as asked
 use Rattle.cdb_names.specs.declared.answer.Answer.TheVariants.{No}
 use Rattle.cdb_names.specs.declared.name_fault.NameFault.TheVariants as why
-use Rattle.cdb_feed.specs.Inputs.{IsUnread}
-use Rattle.cdb_form.specs.Format.Walk.{walk_of}
-use Rattle.cdb_form.specs.Format.Record.{AreBytes}
+use Rattle.cdb_show.specs.Feed.{IsUnread}
+use Rattle.cdb_form.specs.Format.{walk_of, AreBytes}
 use Rattle.cdb_form.specs.declared.text.fault.TextFault.TheVariants as text
 use Rattle.cdb_form.specs.declared.walk.fault.WalkFault.TheVariants as walk
-use Rattle.cdb_read.specs.InOrder.{FindsInOrder}
+use Rattle.cdb_read.specs.Difference.{FindsInOrder}
 use Rattle.cdb_store.specs.declared.store.Store.{Ghosts}
 use Rattle.cdb_show.specs.Runs.Difference.{heads_fault}
 use Rattle.cdb_show.specs.declared.fault.Fault.{Fault}
 use Rattle.cdb_show.specs.declared.fault.Fault.TheVariants.{Text, Walk, NoMemory}
 use Rattle.cdb_system.specs.Opening.{OpenCalls}
-use Rattle.cdb_system.specs.Files.{Files}
+use Rattle.cdb_system.specs.State.{Files, Standard, AgreeInTurn, Agrees, names_in_turn, own_readers}
 use Rattle.cdb_system.specs.Oracle.{Disk, word_size}
-use Rattle.cdb_system.specs.State.{Standard}
-use Rattle.cdb_system.specs.Streams.{AgreeInTurn, Agrees, names_in_turn, own_readers}
 use Rattle.cdb_system.specs.declared.left.Left.{Left}
 use Rattle.cdb_system.specs.declared.open_trace.OpenCall.{OpenCall}
-use Rattle.cdb_system.specs.declared.open_trace.OpenCall.TheVariants.{AtPlaces, InTurn, Stream, Emptied, Locked, Own, ToEmpty, Unopened}
-use Rattle.cdb_system.specs.declared.open_trace.OpenCall.TheVariants.{Watched}
+use Rattle.cdb_system.specs.declared.open_trace.OpenCall.TheVariants.{AtPlaces, InTurn, Stream, Emptied, Locked, Own, ToEmpty, Unopened, Watched}
 
 -- ---- the calls, and the files that were opened
 

@@ -1,7 +1,10 @@
--- Which file a fault is of, what is said of it, and the line that says it.
-use Rattle.std.specs.Prelude.{ℕ, ℤ, ◌≡◌, ◌⊎◌, List, [], ◌∷◌, ◌&&◌, not, Option, None, Some, codes}
-use Rattle.std.specs.Prelude.{bytes_eq, if◌then◌else◌, length, nat_lt, option_map}
-use Rattle.std.specs.Prelude.{Bool, true, false, Result, Ok, Err, ⊤}
+-- What `-v` adds: the cause of a fault, its line, and what the system's errors are called.
+use Rattle.std.specs.Prelude.{ℕ, ℤ, pos, negsuc, ◌==◌, if◌then◌else◌, List, [], ◌∷◌, ◌++◌, Option, None, Some, codes, decimal, length, nat_lt, unwrap_or, ◌≡◌, ◌⊎◌, ◌&&◌, not, bytes_eq, option_map, Bool, true, false, Result, Ok, Err, ⊤}
+use Rattle.std.specs.Fmt.{signed_decimal}
+use Rattle.cdb_command.specs.Refused.{parts_line}
+use Rattle.cdb_system.specs.declared.causes.Reason.{Reason}
+use Rattle.cdb_system.specs.declared.causes.Told.{Told}
+use Rattle.cdb_system.specs.declared.causes.Told.TheVariants as told
 use Rattle.cdb_command.specs.Asked.{Asked}
 use Rattle.cdb_command.specs.Asked as asked
 use Rattle.cdb_form.specs.declared.text.fault.TextFault.{TextFault}
@@ -15,16 +18,111 @@ use Rattle.cdb_show.specs.Message.{input_at}
 use Rattle.cdb_names.specs.declared.refusal.Cause.{Cause}
 use Rattle.cdb_names.specs.declared.refusal.Cause.TheVariants as cause
 use Rattle.cdb_names.specs.Folder.{NameCalls}
-use Rattle.cdb_names.specs.Refusals.{refused_for}
-use Rattle.cdb_names.specs.Refusals.{IsUnrefused as IsNoNameRefused}
+use Rattle.cdb_names.specs.Refusals.{refused_for, IsUnrefused as IsNoNameRefused}
 use Rattle.cdb_names.specs.Replacing.{IsNoName}
 use Rattle.cdb_show.specs.declared.fault.Fault.{Fault}
-use Rattle.cdb_show.specs.declared.fault.Fault.TheVariants.{Text, Make, Read, Walk, Output, Open}
-use Rattle.cdb_show.specs.declared.fault.Fault.TheVariants.{Rename, NoMemory, Old, New}
-use Rattle.cdb_show.specs.declared.fault.Fault.TheVariants.{NoOldTables, NoNewTables, NoBaseTables}
-use Rattle.cdb_system.specs.CauseLine.{cause_line, error_words, line_words}
-use Rattle.cdb_system.specs.Places.{IsInPlace, temporary_of}
+use Rattle.cdb_show.specs.declared.fault.Fault.TheVariants.{Text, Make, Read, Walk, Output, Open, Rename, NoMemory, Old, New, NoOldTables, NoNewTables, NoBaseTables}
+use Rattle.cdb_system.specs.State.{IsInPlace, temporary_of}
 use Rattle.cdb_system.specs.Opening.{IsUnrefused, OpenCalls, refused_open}
+
+-- ---- What the system's errors are called, as in the C locale.
+
+-- the words of a number in a table
+abbrev pub words_in : List (ℕ × List ℕ) → (number : ℕ) → Option (List ℕ)
+words_in [] number = None
+words_in ((n, words) ∷ table) number = if number == n then Some words else words_in table number
+
+abbrev pub words_at : List (ℕ × List ℕ) → (number : ℤ) → Option (List ℕ)
+words_at table (pos number) = words_in table number
+words_at table (negsuc number) = None
+
+-- the numbers up to 29, and from 30 on
+abbrev pub low_errors : List (ℕ × List ℕ)
+low_errors =
+    (1, codes "Operation not permitted")
+    ∷ (2, codes "No such file or directory")
+    ∷ (4, codes "Interrupted system call")
+    ∷ (5, codes "Input/output error")
+    ∷ (6, codes "No such device or address")
+    ∷ (7, codes "Argument list too long")
+    ∷ (9, codes "Bad file descriptor")
+    ∷ (11, codes "Resource temporarily unavailable")
+    ∷ (12, codes "Cannot allocate memory")
+    ∷ (13, codes "Permission denied")
+    ∷ (16, codes "Device or resource busy")
+    ∷ (17, codes "File exists")
+    ∷ (18, codes "Invalid cross-device link")
+    ∷ (19, codes "No such device")
+    ∷ (20, codes "Not a directory")
+    ∷ (21, codes "Is a directory")
+    ∷ (22, codes "Invalid argument")
+    ∷ (23, codes "Too many open files in system")
+    ∷ (24, codes "Too many open files")
+    ∷ (26, codes "Text file busy")
+    ∷ (27, codes "File too large")
+    ∷ (28, codes "No space left on device")
+    ∷ (29, codes "Illegal seek")
+    ∷ []
+
+abbrev pub high_errors : List (ℕ × List ℕ)
+high_errors =
+    (30, codes "Read-only file system")
+    ∷ (31, codes "Too many links")
+    ∷ (32, codes "Broken pipe")
+    ∷ (35, codes "Resource deadlock avoided")
+    ∷ (36, codes "File name too long")
+    ∷ (37, codes "No locks available")
+    ∷ (38, codes "Function not implemented")
+    ∷ (39, codes "Directory not empty")
+    ∷ (40, codes "Too many levels of symbolic links")
+    ∷ (75, codes "Value too large for defined data type")
+    ∷ (95, codes "Operation not supported")
+    ∷ (110, codes "Connection timed out")
+    ∷ (116, codes "Stale file handle")
+    ∷ (122, codes "Disk quota exceeded")
+    ∷ []
+
+abbrev pub system_words : (number : ℤ) → Option (List ℕ)
+system_words number = words_at (low_errors ++ high_errors) number
+
+-- ---- What is said of a file, and the line that says it.
+
+-- what follows the name of a file
+abbrev pub name_ending : Reason → List ℕ
+name_ending reason = if reason.is_temporary then codes ".tmp" else []
+
+abbrev pub reason_name : Reason → List ℕ
+reason_name reason = if reason.is_temporary then (reason.name.now ++ codes ".tmp") else reason.name.now
+
+-- an error of the system is said by its words, or its number
+abbrev pub error_words : (number : ℤ) → List ℕ
+error_words number =
+    unwrap_or (system_words number) (codes "error " ++ signed_decimal number)
+
+abbrev pub line_words : (number : ℕ) → List ℕ
+line_words number = codes "line " ++ decimal number
+
+-- what is said of a file, if anything
+abbrev pub said_of : Told → Option (List ℕ)
+said_of told.Name = None
+said_of (told.Words words) = Some words.now
+said_of (told.Error number) = Some (error_words number)
+said_of (told.Line number) = Some (line_words number)
+
+-- a colon comes before it, unless the name is empty
+abbrev pub between : (name : List ℕ) → (said : Option (List ℕ)) → List ℕ
+between name None = []
+between name (Some words) = if nat_lt 0 (length name) then codes ": " else []
+
+abbrev pub cause_line : (name : List ℕ) → (said : Option (List ℕ)) → List ℕ
+cause_line name said = parts_line (([], name) ∷ (between name said, []) ∷ (unwrap_or said [], []) ∷ [])
+
+-- of a reason, if one is given
+abbrev pub more_of : Option Reason → List ℕ
+more_of None = []
+more_of (Some reason) = cause_line (reason_name reason) (said_of reason.told)
+
+-- ---- Which file a fault is of, what is said of it, and the line that says it.
 
 -- ---- what is said of a name that was refused
 

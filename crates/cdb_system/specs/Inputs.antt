@@ -1,7 +1,7 @@
 -- What a create reads: its base, and its inputs in their order. The newest call comes first.
 use Rattle.std.specs.Prelude.{ℕ, ◌≡◌, ◌⊎◌, List, [], ◌∷◌, ◌++◌, Option, Some, None, codes}
-use Rattle.cdb_feed.specs.declared.input_reader.InputReader.{InputReader}
-use Rattle.cdb_feed.specs.declared.input_reader.InputReader.TheVariants.{Own, Shared}
+use Rattle.cdb_show.specs.declared.input_reader.InputReader.{InputReader}
+use Rattle.cdb_show.specs.declared.input_reader.InputReader.TheVariants.{Own, Shared}
 use Rattle.cdb_show.specs.declared.fault.Fault.{Fault}
 use Rattle.cdb_show.specs.declared.fault.Fault.TheVariants.{NoMemory}
 use Rattle.cdb_system.specs.Opening.{OpenCalls, Misses}

@@ -2,11 +2,10 @@
 use Rattle.std.specs.Prelude.{ℕ, ◌≡◌, true, false, List, [], ◌∷◌, ◌++◌, drop, take, Some, refl}
 use Rattle.std.proofs.Common.{ap, subst, sym, ◌∙◌}
 use Rattle.std.proofs.lemmas.List.{append-nil, take-append-drop}
-use Rattle.cdb_feed.specs.Inputs.{IsUnread}
-use Rattle.cdb_feed.specs.Noted.{noted_feed}
-use Rattle.cdb_feed.specs.declared.noted_reader.NotedReader.{NotedReader}
-use Rattle.cdb_feed.specs.declared.read_trace.ReadCall.TheVariants.{Ended, Gave}
-use Rattle.cdb_system.specs.Streams.{Agrees}
+use Rattle.cdb_show.specs.Feed.{IsUnread, noted_feed}
+use Rattle.cdb_show.specs.declared.noted_reader.NotedReader.{NotedReader}
+use Rattle.cdb_show.specs.declared.read_trace.ReadCall.TheVariants.{Ended, Gave}
+use Rattle.cdb_system.specs.State.{Agrees}
 
 -- a reader that gave nothing yet
 abbrev pub fresh : {R : Type 0} → R → NotedReader R

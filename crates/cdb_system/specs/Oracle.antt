@@ -1,26 +1,23 @@
 -- What the program comes to if nothing is refused: a function of its words, of what each file has and
 -- of what standard input has. Of a create it says nothing.
-use Rattle.std.specs.Prelude.{ℕ, Bool, bytes_eq, nat_lt, if◌then◌else◌, List, [], ◌∷◌, length, codes}
-use Rattle.std.specs.Prelude.{Option, None, Some, option_map, Result, Ok, Err}
+use Rattle.std.specs.Prelude.{ℕ, Bool, bytes_eq, nat_lt, if◌then◌else◌, List, [], ◌∷◌, length, codes, Option, None, Some, option_map, Result, Ok, Err}
 use Rattle.cdb_command.specs.Asked.{Asked}
 use Rattle.cdb_command.specs.Asked as asked
 use Rattle.cdb_command.specs.Usage.{usage_text, version_text}
 use Rattle.cdb_command.specs.Refused.{Refused, usage_of}
-use Rattle.cdb_form.specs.Format.Pair.{head_size}
-use Rattle.cdb_form.specs.Format.Walk.{walk_of}
-use Rattle.cdb_form.specs.Text.Amending.{amending_text}
+use Rattle.cdb_form.specs.Format.{head_size, walk_of}
+use Rattle.cdb_form.specs.Text.Parse.{amending_text}
 use Rattle.cdb_form.specs.declared.damage.Damage.{Damage}
 use Rattle.cdb_form.specs.declared.damage.Damage.TheVariants.{Short}
-use Rattle.cdb_read.specs.Faults.{first_fault}
+use Rattle.cdb_read.specs.Sound.{first_fault}
 use Rattle.cdb_read.specs.Statistics.{statistics_damage}
-use Rattle.cdb_read.specs.Views.ReadFault.{damage_fault}
+use Rattle.cdb_read.specs.Views.Reads.{damage_fault}
 use Rattle.cdb_show.specs.Message.{fault_line}
 use Rattle.cdb_show.specs.Runs.Difference.{difference_of, heads_fault}
-use Rattle.cdb_show.specs.Runs.Form.{Form, dump_form, list_form}
-use Rattle.cdb_show.specs.Runs.LookedUp.{records_asked}
+use Rattle.cdb_show.specs.Runs.WalkText.{Form, dump_form, list_form, walk_text}
+use Rattle.cdb_show.specs.Runs.Lookups.{records_asked}
 use Rattle.cdb_show.specs.Runs.Query.{Query, query_text, query_answer, value_text}
 use Rattle.cdb_show.specs.Runs.Stats.{statistics_text}
-use Rattle.cdb_show.specs.Runs.WalkText.{walk_text}
 use Rattle.cdb_show.specs.Status.{check_status, plain_status}
 use Rattle.cdb_show.specs.declared.fault.Fault.{Fault}
 use Rattle.cdb_show.specs.declared.fault.Fault.TheVariants.{Read, Open, Long}

@@ -1,40 +1,32 @@
 -- What the oracle says of worked files, and calls by which it comes true.
-use Rattle.std.specs.Prelude.{ℕ, ◌≡◌, true, false, bytes_eq, if◌then◌else◌, List, [], ◌∷◌, ◌++◌}
-use Rattle.std.specs.Prelude.{take, codes, Option, None, Some, IfSome, ⊤, refl, zero, suc}
+use Rattle.std.specs.Prelude.{ℕ, ◌≡◌, true, false, bytes_eq, if◌then◌else◌, List, [], ◌∷◌, ◌++◌, take, codes, Option, None, Some, IfSome, ⊤, refl, zero, suc}
 use Rattle.std.proofs.Common.{arith, subst, sym}
 use Rattle.std.proofs.lemmas.Bool.{cond_both}
 use Rattle.std.specs.Fmt.{digits}
 use Rattle.cdb_command.specs.Asked.{Query, Lookups, Dump, Listing, Stats, Check, Difference}
 use Rattle.cdb_command.specs.declared.style.Style.TheVariants.{Native, Map}
-use Rattle.cdb_feed.specs.Noted.{noted_feed}
-use Rattle.cdb_feed.specs.declared.input_reader.InputReader.{InputReader}
-use Rattle.cdb_feed.specs.declared.input_reader.InputReader.TheVariants.{Own, Shared}
-use Rattle.cdb_feed.specs.declared.noted_reader.NotedReader.{NotedReader}
-use Rattle.cdb_form.specs.Examples.WorkedFiles.{words_of, repeat, put_at, two_file, foreign_file}
+use Rattle.cdb_show.specs.Feed.{noted_feed}
+use Rattle.cdb_show.specs.declared.input_reader.InputReader.{InputReader}
+use Rattle.cdb_show.specs.declared.input_reader.InputReader.TheVariants.{Own, Shared}
+use Rattle.cdb_show.specs.declared.noted_reader.NotedReader.{NotedReader}
+use Rattle.cdb_form.specs.Examples.Files.{words_of, repeat, put_at, two_file, foreign_file}
 use Rattle.cdb_form.proofs.Bytes.ByteLemmas.{AreBytes-nil}
-use Rattle.cdb_form.specs.Format.Reading.{head_at}
-use Rattle.cdb_form.specs.Format.Record.{AreBytes}
-use Rattle.cdb_form.specs.Format.Table.{entries_from}
-use Rattle.cdb_form.specs.Format.Walk.{walk_of, walk_from, whole_records, record_end}
+use Rattle.cdb_form.specs.Format.{head_at, AreBytes, entries_from, walk_of, walk_from, whole_records, record_end}
 use Rattle.cdb_form.specs.Text.Parse.{text_from}
 use Rattle.cdb_read.specs.Difference.{difference, first_keys, values_eq}
-use Rattle.cdb_read.specs.OtherWidth.{lacks_tables}
-use Rattle.cdb_read.specs.Faults.{first_fault, first_of, slots_fault}
+use Rattle.cdb_read.specs.Sound.{lacks_tables, first_fault, first_of, slots_fault, all_slots}
 use Rattle.cdb_read.specs.Lookup.{met_slots, found_at, lookup_of}
-use Rattle.cdb_read.specs.Sound.{all_slots}
 use Rattle.cdb_read.specs.Statistics.{distances_in, statistics_of, statistics_damage}
 use Rattle.cdb_store.specs.Contents.{contents}
 use Rattle.cdb_store.specs.contracts.memory.MemStoreStore.TheImpl.{ghosts as in_memory}
 use Rattle.cdb_store.specs.declared.memory.MemStore.{MemStore}
 use Rattle.cdb_show.specs.declared.inputs.Inputs.{Inputs}
-use Rattle.cdb_show.specs.Runs.StatsText.{distance_lines, stats_text}
-use Rattle.cdb_system.specs.Files.{Files, files_of}
+use Rattle.cdb_show.specs.Runs.Stats.{distance_lines, stats_text}
+use Rattle.cdb_system.specs.State.{Files, files_of, Standard, standard_of, AgreeInTurn, Agrees, own_readers}
 use Rattle.cdb_system.specs.Answered.{AreComparable, Honest}
-use Rattle.cdb_system.specs.Opening.{OpenCalls, input_left, looked_left, read_left, stream_left}
 use Rattle.cdb_system.specs.Oracle.{Disk, Outcome, command_outcome, difference_outcome, lookups_outcome}
+use Rattle.cdb_system.specs.Opening.{OpenCalls, input_left, looked_left, read_left, stream_left}
 use Rattle.cdb_system.specs.NotedExamples.{ended, fresh, fresh_is_unread, front_agrees, more_agree, noted, these_agree}
-use Rattle.cdb_system.specs.State.{Standard, standard_of}
-use Rattle.cdb_system.specs.Streams.{AgreeInTurn, Agrees, own_readers}
 use Rattle.cdb_system.specs.declared.left.Left.{Left}
 use Rattle.cdb_system.specs.declared.open_trace.OpenCall.TheVariants.{AtPlaces, InTurn}
 use Rattle.cdb_system.specs.declared.system.System.{Ghosts as Systems}

@@ -1,7 +1,7 @@
 -- What a command that only reads does: the calls on files, in their order, and what it writes on its output.
 use Rattle.std.specs.Prelude.{ℕ, ◌≡◌, ◌⊎◌, ◌<◌, ◌≤◌, ⊤, List, ◌∷◌, length, Option, Result, Err, OnOk, IfErr}
 use Rattle.std.specs.Io.KnownBytes.{Keeps, Appends}
-use Rattle.cdb_feed.specs.Inputs.{AreUnread, IsUnread}
+use Rattle.cdb_show.specs.Feed.{AreUnread, IsUnread}
 use Rattle.cdb_form.specs.Views.Feed.{Feed, FromTo}
 use Rattle.cdb_form.specs.Views.KnownBytes.{AppendsPrefix}
 use Rattle.cdb_form.specs.declared.walk.fault.WalkFault.TheVariants as walk
@@ -9,23 +9,18 @@ use Rattle.cdb_store.specs.Contents.{contents}
 use Rattle.cdb_store.specs.Reads.{OnlyReads}
 use Rattle.cdb_store.specs.declared.memory.MemStore.{MemStore}
 use Rattle.cdb_store.specs.declared.store.Store.{Ghosts}
-use Rattle.cdb_show.specs.Runs.Check.{FindsSound, CheckingFails}
+use Rattle.cdb_show.specs.Runs.Stats.{FindsSound, CheckingFails, TellsStats}
 use Rattle.cdb_show.specs.Runs.Difference.{TellsDifference, difference_state, difference_task}
-use Rattle.cdb_show.specs.Runs.Form.{Form}
-use Rattle.cdb_show.specs.Runs.Lookups.{LooksUp}
-use Rattle.cdb_show.specs.Runs.LookupTask.{lookup_state, lookup_task}
+use Rattle.cdb_show.specs.Runs.WalkText.{Form, WritesWalk}
+use Rattle.cdb_show.specs.Runs.Lookups.{LooksUp, lookup_state, lookup_task}
 use Rattle.cdb_show.specs.Runs.Query.{Queries}
-use Rattle.cdb_show.specs.Runs.Stats.{TellsStats}
-use Rattle.cdb_show.specs.Runs.WalkText.{WritesWalk}
 use Rattle.cdb_show.specs.declared.fault.Fault.{Fault}
 use Rattle.cdb_show.specs.declared.fault.Fault.TheVariants.{Long, Open, NoMemory as NoRoom, Output, Walk}
 use Rattle.cdb_names.specs.declared.answer.Answer.TheVariants as looks
-use Rattle.cdb_system.specs.Files.{Files}
+use Rattle.cdb_system.specs.State.{Files, Standard, State, calls_in, WantedDifference, WantedLookups, WantedQuery, WantedStore, WantedText, by_name}
 use Rattle.cdb_show.specs.declared.inputs.Inputs.{Inputs}
 use Rattle.cdb_system.specs.Inputs.{OpensInputs, StopsOpening}
 use Rattle.cdb_system.specs.Opening.{Misses, OpenCalls, both_left, input_left, looked_left, none_left, read_left, stream_left}
-use Rattle.cdb_system.specs.State.{Standard, State, calls_in}
-use Rattle.cdb_system.specs.Wanted.{WantedDifference, WantedLookups, WantedQuery, WantedStore, WantedText, by_name}
 use Rattle.cdb_show.specs.Views.Window.{window_feed}
 use Rattle.cdb_system.specs.declared.left.Left.{Left}
 use Rattle.cdb_system.specs.declared.open_trace.OpenCall.TheVariants.{AtPlaces, InTurn, Stream}

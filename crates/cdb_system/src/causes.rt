@@ -2,11 +2,7 @@
 ghost use Rattle.std.specs.Prelude.{◌≡◌, ◌⊎◌, IfSome, None, option_map, string_bytes, true};
 ghost use Rattle.cdb_show.specs.Command.{asked_in};
 ghost use Rattle.cdb_show.specs.declared.fault.Fault.TheVariants.{Open};
-ghost use Rattle.cdb_system.specs.CauseLine.{error_words, reason_name, said_of};
-ghost use Rattle.cdb_system.specs.Causes.{IsCause, IsCreate, IsMadeName, IsNoNameOf, IsOfDatabase, IsOfRead};
-ghost use Rattle.cdb_system.specs.Causes.{GivesNoName, HasNoDatabase, IsFailedStream, MayHaveNoCause, NamesNoRefusal, NamesNothing};
-ghost use Rattle.cdb_system.specs.Causes.{IsOfFile, IsOfInput, IsOfSystem, IsOfTextOf, IsRefusedOpening};
-ghost use Rattle.cdb_system.specs.Causes.{called_of, cause_words, input_name, new_name, read_name, refusal_words, same_words};
+ghost use Rattle.cdb_system.specs.Causes.{error_words, reason_name, said_of, IsCause, IsCreate, IsMadeName, IsNoNameOf, IsOfDatabase, IsOfRead, GivesNoName, HasNoDatabase, IsFailedStream, MayHaveNoCause, NamesNoRefusal, NamesNothing, IsOfFile, IsOfInput, IsOfSystem, IsOfTextOf, IsRefusedOpening, called_of, cause_words, input_name, new_name, read_name, refusal_words, same_words};
 
 use crate::left::LeftOf;
 use crate::places::is_in_place;

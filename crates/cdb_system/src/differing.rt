@@ -2,9 +2,8 @@
 ghost use Rattle.std.specs.Prelude.{List, ℕ, Option};
 ghost use Rattle.cdb_show.specs.Views.Output.{OutputSays};
 ghost use Rattle.cdb_names.specs.Folder.{NameCalls};
-ghost use Rattle.cdb_system.specs.Files.{files_of};
+ghost use Rattle.cdb_system.specs.State.{files_of, state_of};
 ghost use Rattle.cdb_system.specs.Reading.{PerformsDifference};
-ghost use Rattle.cdb_system.specs.State.{state_of};
 
 use crate::left::{Performed, both_left, none_left, read_left};
 use crate::system::System;

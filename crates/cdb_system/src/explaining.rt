@@ -2,7 +2,7 @@
 ghost use Rattle.std.specs.Prelude.{◌≡◌, ◌++◌, ◌∷◌, [], OnErr, length, nat_lt, unwrap_or};
 ghost use Rattle.cdb_command.specs.Refused.{parts_line};
 ghost use Rattle.cdb_form.specs.Views.KnownBytes.{Writes};
-ghost use Rattle.cdb_system.specs.CauseLine.{between, cause_line, name_ending, reason_name, said_of};
+ghost use Rattle.cdb_system.specs.Causes.{between, cause_line, name_ending, reason_name, said_of};
 
 use crate::causes::{Reason, Told};
 use crate::system_words::system_words;

@@ -1,15 +1,12 @@
 // What a create reads: its base and its inputs, which are opened before anything is made.
-ghost use Rattle.std.specs.Prelude.{◌≡◌, ◌≢◌, ◌↔◌, [], ◌∷◌, map, option_map, string_bytes, codes};
-ghost use Rattle.std.specs.Prelude.{IfOk, IfErr, IsTrue};
-ghost use Rattle.cdb_feed.specs.Inputs.{AreUnread};
+ghost use Rattle.std.specs.Prelude.{◌≡◌, ◌≢◌, ◌↔◌, [], ◌∷◌, map, option_map, string_bytes, codes, IfOk, IfErr, IsTrue};
+ghost use Rattle.cdb_show.specs.Feed.{AreUnread};
 ghost use Rattle.cdb_show.specs.Views.Output.{OutputSays};
-ghost use Rattle.cdb_system.specs.Inputs.{IsStandard, OpensBase, MissesBase, OpensInput, OpensEach};
-ghost use Rattle.cdb_system.specs.Inputs.{OpensInputs, StopsOpening, MissesInput};
+ghost use Rattle.cdb_system.specs.Inputs.{IsStandard, OpensBase, MissesBase, OpensInput, OpensEach, OpensInputs, StopsOpening, MissesInput};
 
 use crate::system::System;
-use cdb_feed::InputReader;
 use cdb_form::Feeds;
-use cdb_show::{Fault, Inputs};
+use cdb_show::{Fault, InputReader, Inputs};
 use std::alloc::Global;
 
 /// The word that means standard input on the command line.

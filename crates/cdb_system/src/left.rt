@@ -4,8 +4,7 @@ ghost use Rattle.cdb_system.specs.Opening.{none_left, read_left, base_left, both
 ghost use Rattle.cdb_system.specs.Opening.{stream_left, input_left, looked_left};
 
 use crate::system::System;
-use cdb_feed::InputReader;
-use cdb_show::{Fault, Inputs};
+use cdb_show::{Fault, InputReader, Inputs};
 
 /// The files that a command opened and has not closed, and standard input if it was read, as they
 /// are at its end. A clause says what was read of them, or made.

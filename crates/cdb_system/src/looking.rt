@@ -2,10 +2,8 @@
 ghost use Rattle.std.specs.Prelude.{◌≤◌, IfSome, List, ℕ, Option};
 ghost use Rattle.cdb_show.specs.Views.Output.{OutputSays};
 ghost use Rattle.cdb_names.specs.Folder.{NameCalls};
-ghost use Rattle.cdb_system.specs.Files.{files_of};
+ghost use Rattle.cdb_system.specs.State.{files_of, standard_of, state_of, wanted_lookups};
 ghost use Rattle.cdb_system.specs.Reading.{PerformsLookups};
-ghost use Rattle.cdb_system.specs.State.{standard_of, state_of};
-ghost use Rattle.cdb_system.specs.Wanted.{wanted_lookups};
 
 use crate::inputs::open_inputs;
 use crate::left::{Performed, looked_left, none_left, read_left};

@@ -1,6 +1,6 @@
 // Where a create makes its database: in place, or in a temporary file.
 ghost use Rattle.std.specs.Prelude.{◌↔◌, IsTrue, option_map, string_bytes};
-ghost use Rattle.cdb_system.specs.Places.{IsInPlace};
+ghost use Rattle.cdb_system.specs.State.{IsInPlace};
 
 /// With this name as temporary file there is none.
 const NO_FILE: &str = "-";

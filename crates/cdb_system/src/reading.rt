@@ -1,16 +1,12 @@
 // The commands that read one file: its values, its text, its statistics, and whether it is sound.
-ghost use Rattle.std.specs.Prelude.{◌≤◌, ◌⊎◌, IfSome, IfOk, IfErr, option_map};
-ghost use Rattle.std.specs.Prelude.{string_bytes, List, ℕ, Option};
+ghost use Rattle.std.specs.Prelude.{◌≤◌, ◌⊎◌, IfSome, IfOk, IfErr, option_map, string_bytes, List, ℕ, Option};
 ghost use Rattle.cdb_show.specs.Views.Output.{OutputSays};
 ghost use Rattle.cdb_store.specs.contracts.memory.MemStoreStore.TheImpl.{ghosts as in_memory};
-ghost use Rattle.cdb_show.specs.Runs.Form.{form_of};
+ghost use Rattle.cdb_show.specs.Runs.WalkText.{form_of};
 ghost use Rattle.cdb_show.specs.Runs.Query.{value_text};
 ghost use Rattle.cdb_names.specs.Folder.{NameCalls};
-ghost use Rattle.cdb_system.specs.Files.{files_of};
-ghost use Rattle.cdb_system.specs.State.{state_of, standard_of};
-ghost use Rattle.cdb_system.specs.Reading.{PerformsQuery, PerformsText, PerformsOn, LacksMemory, WritesText};
-ghost use Rattle.cdb_system.specs.Reading.{Takes, IsWhole, IsNotLoaded, TellsStore, ChecksStore};
-ghost use Rattle.cdb_system.specs.Wanted.{wanted_text};
+ghost use Rattle.cdb_system.specs.State.{files_of, state_of, standard_of, wanted_text};
+ghost use Rattle.cdb_system.specs.Reading.{PerformsQuery, PerformsText, PerformsOn, LacksMemory, WritesText, Takes, IsWhole, IsNotLoaded, TellsStore, ChecksStore};
 
 use crate::left::{Performed, input_left, none_left, read_left, stream_left};
 use crate::system::System;

@@ -9,9 +9,8 @@ ghost use Rattle.cdb_system.specs.declared.open_trace.OpenCall.TheVariants.{Unop
 use crate::open_trace::{OpenCall, OpenTrace};
 use crate::seen::{FileNumber, Seen, SeenReader};
 use crate::system::System;
-use cdb_feed::NotedReader;
 use cdb_names::{Answer, Cause, Lock, NameFault, Newest, RealNames, Refusal, has_name, locked};
-use cdb_show::Fault;
+use cdb_show::{Fault, NotedReader};
 use cdb_store::{FileStore, LAST_STANDARD, RealFile, StoreFault};
 use std::fs::{self, File};
 use std::io::{self, ErrorKind, Stdin};

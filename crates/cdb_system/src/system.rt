@@ -1,9 +1,8 @@
 // The files of a system, by their names and the calls on them.
 ghost use Rattle.std.specs.Prelude.{◌≡◌, ◌⊎◌, ◌∷◌, ℕ, List, IfOk, IfErr, IfSome, None, OnOk};
-ghost use Rattle.cdb_feed.specs.Inputs.{IsUnread};
+ghost use Rattle.cdb_show.specs.Feed.{IsUnread};
 ghost use Rattle.cdb_system.specs.Opening.{IsOpenRefusal, IsUnrefused, OpenCalls, Misses, MayEmpty};
-ghost use Rattle.cdb_system.specs.declared.open_trace.OpenCall.TheVariants.{AtPlaces, InTurn, Stream, Watched};
-ghost use Rattle.cdb_system.specs.declared.open_trace.OpenCall.TheVariants.{Emptied, Locked, Own, ToEmpty};
+ghost use Rattle.cdb_system.specs.declared.open_trace.OpenCall.TheVariants.{AtPlaces, InTurn, Stream, Watched, Emptied, Locked, Own, ToEmpty};
 
 use cdb_form::Feeds;
 use cdb_names::{Answer, Lock, Names, Refusal};

@@ -1,6 +1,6 @@
 // What the system's errors are called.
 ghost use Rattle.std.specs.Prelude.{◌≡◌, option_map};
-ghost use Rattle.cdb_system.specs.SystemWords.{high_errors, system_words, words_at};
+ghost use Rattle.cdb_system.specs.Causes.{high_errors, system_words, words_at};
 
 /// What the error of this number is called. The words are the same in each locale.
 pub(crate) fn system_words(number: i32) -> Option<&'static str>

@@ -4,7 +4,7 @@ ghost use Rattle.cdb_form.specs.Views.KnownBytes.{AppendsPrefix, Writes};
 ghost use Rattle.cdb_show.specs.Command.{refused_in, usage_of};
 ghost use Rattle.cdb_show.specs.Message.{fault_line};
 ghost use Rattle.cdb_show.specs.Views.Output.{output_bytes, OutputFailed};
-ghost use Rattle.cdb_system.specs.CauseLine.{more_of};
+ghost use Rattle.cdb_system.specs.Causes.{more_of};
 ghost use Rattle.cdb_system.specs.Telling.{SaysLine, refused_lines, usage_line, usage_status};
 
 use crate::causes::Reason;

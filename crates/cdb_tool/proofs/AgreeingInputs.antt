@@ -3,13 +3,12 @@
 use Rattle.std.proofs.Common.{◌≡◌, ◌++◌, ◌∙◌, ℕ, zero, suc, List, [], ◌∷◌, length, map, refl, sym, ap, subst, arith, Option, None, Some, IfSome, Result}
 use Rattle.cdb_tool.proofs.Words.{AgreesWith, AreRead, AreUnread, BeginsSo, Change, CutShort, FailsSo, Fault, FirstAgree, HasFault, HasRead, InputReader, Inputs, IsUnread, NoMore, NotBegun, SharedWindow, Stop, StopsSo, TakesOne, TextFault, WereRead, feeds_of, one_input, parsing, reached, ⊤}
 use Rattle.std.proofs.lemmas.List.{length-map}
-use Rattle.cdb_form.specs.Views.Feed.{Feed, FromTo, IsSome, Keeps, reader_feed}
-use Rattle.cdb_form.specs.Views.Rests.{same_remaining}
+use Rattle.cdb_form.specs.Views.Feed.{Feed, FromTo, IsSome, Keeps, reader_feed, same_remaining}
 use Rattle.cdb_form.specs.Views.KnownBytes.{FromTo as KnownFromTo}
-use Rattle.cdb_feed.specs.declared.input_reader.InputReader.TheVariants.{Own, Shared}
+use Rattle.cdb_show.specs.declared.input_reader.InputReader.TheVariants.{Own, Shared}
 use Rattle.cdb_show.specs.Runs.Inputs.{InputForm, InputsLeft, IsInputOf, OneInput, Own, bytes_of, own_inputs}
 use Rattle.cdb_show.specs.Runs.Inputs as form
-use Rattle.cdb_show.specs.Views.Inputs.{inputs_left, one_of, shared_feed}
+use Rattle.cdb_show.specs.Views.Noted.{inputs_left, one_of, shared_feed}
 use Rattle.cdb_show.specs.declared.inputs.SharedWindow.TheVariants.{Unread}
 
 -- ---- the bytes of a reader

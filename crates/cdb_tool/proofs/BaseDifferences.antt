@@ -5,15 +5,14 @@ use Rattle.std.proofs.lemmas.Bool.{and_parts, cases_Bool}
 use Rattle.std.proofs.lemmas.Slice.Eq.{bytes_eq-Decides}
 use Rattle.cdb_tool.proofs.Words.{Change, Course, Incoming, Putting, Removing, append-nil, cond-true, ends, from_input, is_going, le-leb, mode_of, with_change, with_next}
 use Rattle.std.proofs.lemmas.List.Sums.{fold-append, sum_by-append}
-use Rattle.cdb_form.specs.Format.File.{file_size, whole_size}
-use Rattle.cdb_form.specs.Format.Record.{KeyValue, record_of}
+use Rattle.cdb_form.specs.Format.{file_size, whole_size, KeyValue, record_of}
 use Rattle.cdb_form.specs.declared.mode.Mode.TheVariants.{Add}
 use Rattle.cdb_make.specs.Survivors.{fits, put_answer, put_list, put_result, put_step}
 use Rattle.cdb_store.specs.declared.make_fault.MakeFault.TheVariants.{TooBig}
 use Rattle.cdb_read.proofs.Differences.{at_key, changed_gone, eq_itself, once, put_values, there}
 use Rattle.cdb_read.specs.Difference.{after_change, all_of, amended, changed_keys, difference, is_changed, puts_of, removal_of_new}
 use Rattle.cdb_read.specs.Laws.{brought_up}
-use Rattle.cdb_read.specs.Values.{values_of}
+use Rattle.cdb_read.specs.Lookup.{values_of}
 use Rattle.cdb_command.specs.declared.options.MakeOptions.{MakeOptions}
 use Rattle.cdb_tool.specs.Laws.{MakerHoldsAll}
 

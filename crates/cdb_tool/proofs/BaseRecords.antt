@@ -3,7 +3,7 @@ use Rattle.cdb_tool.proofs.Words.{Bool, Damage, Err, FailsPutting, Fault, Ghosts
 use Rattle.std.proofs.Math.Seq.{take-append_seam}
 use Rattle.std.proofs.lemmas.List.{append-nil, length-take}
 use Rattle.cdb_form.specs.declared.width.Width.{Ghosts as Widths}
-use Rattle.cdb_form.specs.Format.Walk.{Walked, walk_of, whole_records, damaged, no_walk, with_first, with_records}
+use Rattle.cdb_form.specs.Format.{Walked, walk_of, whole_records, damaged, no_walk, with_first, with_records}
 use Rattle.cdb_form.proofs.Files.WalkSteps.{walk_of-short}
 use Rattle.cdb_form.specs.declared.damage.Damage.TheVariants as damage
 use Rattle.cdb_make.specs.Views.Appending.{AppendsAll, FailsAppending}
@@ -12,13 +12,12 @@ use Rattle.cdb_form.specs.declared.mode.Mode.TheVariants.{Add}
 use Rattle.cdb_make.proofs.Rolls.{whole_push}
 use Rattle.cdb_read.specs.Lookup.{bytes_of}
 use Rattle.cdb_read.specs.Views.Reads.{OpeningFails}
-use Rattle.cdb_read.specs.Views.Walk.{left_of, WalkingFails}
+use Rattle.cdb_read.specs.Views.Walking.{left_of, WalkingFails}
 use Rattle.cdb_read.specs.declared.fault.ReadFault.TheVariants as read
 use Rattle.cdb_read.specs.declared.walking.records.Walk.{Walk}
 use Rattle.cdb_read.specs.declared.span.Pair.{Pair}
 use Rattle.cdb_show.specs.Views.Fault.{read_fault, make_fault}
-use Rattle.cdb_tool.specs.Runs.Base.{AddsNext, NotAdded}
-use Rattle.cdb_tool.specs.Runs.Make.{AddsBase, BaseFails, IsOfBase}
+use Rattle.cdb_tool.specs.Runs.Make.{AddsNext, NotAdded, AddsBase, BaseFails, IsOfBase}
 
 -- these records were given and added, and then comes what is left of the walk
 pub record AddedSoFar {S L : Type 0} {s : Ghosts S} {l : Widths L} (w : ℕ) (images : List ℕ → Type 0) (left : List ℕ → Walked) (first m : Maker S L s l) : Type 0 where

@@ -9,8 +9,7 @@ use Rattle.cdb_form.specs.declared.mode.Mode.{Mode}
 use Rattle.cdb_make.specs.declared.answer.Put.TheVariants.{Added, AddedAgain, Present, Replaced}
 use Rattle.cdb_make.proofs.Callers.{holds_count, holds_fits}
 use Rattle.cdb_make.proofs.Finishing.{rests_nothing}
-use Rattle.cdb_tool.specs.Runs.Course.{Task, Course, mode_of, put_at, told, ends, is_going, with_put, with_change, with_next, at_start, course_of, TellFails, Goes, StopsSo}
-use Rattle.cdb_tool.specs.Runs.Make.{DoesItem, InCourse, PutStops, IsOfStore, MakeStandsAt, IsHalt, TakesNext}
+use Rattle.cdb_tool.specs.Runs.Make.{Task, Course, mode_of, put_at, told, ends, is_going, with_put, with_change, with_next, at_start, course_of, TellFails, Goes, StopsSo, DoesItem, InCourse, PutStops, IsOfStore, MakeStandsAt, IsHalt, TakesNext}
 use Rattle.cdb_show.specs.declared.fault.Fault.TheVariants.{Text, Make, Duplicate, Missing, Read, Walk, Output, Long, Open, Rename, NoMemory, Old, New, NoOldTables, NoNewTables, NoBaseTables}
 use Rattle.cdb_tool.proofs.ToldLines.{part_then, tells_none, tells_then}
 

@@ -6,19 +6,18 @@ use Rattle.std.proofs.lemmas.List.{with_items_is}
 use Rattle.cdb_store.specs.declared.make_fault.MakeFault.TheVariants as make
 use Rattle.cdb_form.specs.declared.text.fault.TextFault.TheVariants as text
 use Rattle.cdb_form.specs.declared.width.Width.{Ghosts as Widths}
-use Rattle.cdb_feed.specs.declared.input_reader.InputReader.TheVariants.{Own, Shared}
+use Rattle.cdb_show.specs.declared.input_reader.InputReader.TheVariants.{Own, Shared}
 use Rattle.cdb_command.specs.declared.style.Style.{Style}
 use Rattle.cdb_command.specs.declared.style.Style.TheVariants as style
 use Rattle.cdb_show.specs.declared.fault.Fault.TheVariants.{Output, Text}
 use Rattle.cdb_show.proofs.NextInputs.{first_begins}
 use Rattle.cdb_show.specs.Runs.Parsing.{IsFaultOf, IsOfRun}
 use Rattle.std.proofs.lemmas.Result.{IfErr-weaker}
-use Rattle.cdb_feed.specs.Inputs.{SomeFailed}
-use Rattle.cdb_feed.proofs.InputsInTurn.{some_through}
+use Rattle.cdb_show.specs.Feed.{SomeFailed}
+use Rattle.cdb_show.proofs.InputsInTurn.{some_through}
 use Rattle.cdb_show.specs.Runs.Inputs.{AreInputs, FirstHas}
-use Rattle.cdb_tool.specs.Runs.Course.{Goes}
+use Rattle.cdb_tool.specs.Runs.Make.{Goes, HoldsBase, InputsFail, IsHalt, IsOfMaking, MakeRuns, MeetsInput, OfBase, PutsInputs, PutsInputsStop, Stands, StoppedAt, form_of}
 use Rattle.cdb_tool.specs.Runs.InputsRead.{HasRead, RunsRead, StopsIn, WereRead, stop_by}
-use Rattle.cdb_tool.specs.Runs.Make.{HoldsBase, InputsFail, IsHalt, IsOfMaking, MakeRuns, MeetsInput, OfBase, PutsInputs, PutsInputsStop, Stands, StoppedAt, form_of}
 use Rattle.cdb_show.specs.declared.inputs.SharedWindow.TheVariants.{Unread}
 use Rattle.cdb_tool.proofs.FedRuns.{reached_whole, read_as}
 use Rattle.cdb_tool.proofs.InputRuns.{form_is, in_run}

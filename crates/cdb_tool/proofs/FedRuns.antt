@@ -5,9 +5,8 @@ use Rattle.std.proofs.Math.Nat.{mul-le-mul_right}
 use Rattle.std.proofs.Math.ListN.{length-set}
 use Rattle.cdb_tool.proofs.Words.{ArePassed, AreRead, Change, CutShort, Fault, Feed, Ghosts, HasFault, InputForm, InputReader, IsInputOf, Maker, NoMore, NotBegun, PutsInputs, PutsInputsStop, PutsStop, RunOptions, Stop, StopsInput, StopsSo, TakesOne, TextFault, drop-length, feeds_of, nothing_taken, parsing, progress, reached, stop_by}
 use Rattle.cdb_form.specs.declared.text.fault.TextFault.TheVariants as text
-use Rattle.cdb_feed.specs.Parsing.{Parsing}
-use Rattle.cdb_feed.proofs.InputsInTurn.{read_then, some_failed}
-use Rattle.cdb_feed.specs.Inputs.{ReaderFailed, SomeFailed}
+use Rattle.cdb_show.specs.Feed.{Parsing, ReaderFailed, SomeFailed}
+use Rattle.cdb_show.proofs.InputsInTurn.{read_then, some_failed}
 use Rattle.cdb_show.proofs.FedLookupRuns.{fault_weaker}
 use Rattle.cdb_show.specs.Runs.Parsing.{IsFaultOf}
 use Rattle.cdb_form.specs.declared.width.Width.{Ghosts as Widths}

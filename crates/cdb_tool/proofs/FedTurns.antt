@@ -4,7 +4,7 @@ use Rattle.cdb_form.specs.Views.Feed.{Consumes, Feed, FromTo, Keeps}
 use Rattle.cdb_form.specs.declared.text.fault.TextFault.TheVariants as text
 use Rattle.cdb_form.specs.declared.width.Width.{Ghosts as Widths}
 use Rattle.cdb_form.proofs.Fed.FeedLemmas.{from_behind, from_both, from_kept, from_taken, from_then, from_weaker, nothing_taken}
-use Rattle.cdb_feed.specs.declared.input_reader.InputReader.TheVariants.{Own, Shared}
+use Rattle.cdb_show.specs.declared.input_reader.InputReader.TheVariants.{Own, Shared}
 use Rattle.cdb_show.specs.Views.Window.{feed_of, held_in, reader_of}
 use Rattle.cdb_show.specs.Views.WindowRests.{same_held}
 use Rattle.cdb_show.specs.declared.fault.Fault.TheVariants.{NoMemory, Text}
@@ -12,10 +12,9 @@ use Rattle.cdb_show.specs.declared.window.Window.{Window}
 use Rattle.cdb_show.proofs.FedLookupRuns.{fault_weaker, is_fault_of}
 use Rattle.cdb_show.proofs.NextInputs.{begins_none}
 use Rattle.cdb_show.specs.Runs.Parsing.{IsFaultOf}
-use Rattle.cdb_feed.specs.Inputs.{ReaderFailed}
+use Rattle.cdb_show.specs.Feed.{ReaderFailed}
 use Rattle.cdb_show.specs.declared.inputs.SharedWindow.TheVariants.{InHand, Unread}
-use Rattle.cdb_tool.proofs.InputRuns.{text_stopped}
-use Rattle.cdb_tool.proofs.InputRuns.{none_put}
+use Rattle.cdb_tool.proofs.InputRuns.{text_stopped, none_put}
 
 pub ok_each : {T E P Q : Type 0} (r : Result T E) → (P → Q) → OnOk r P → OnOk r Q
 ok_each (Ok x) f p = f p

@@ -5,25 +5,23 @@ use Rattle.std.specs.Prelude.{option_map, fold}
 use Rattle.std.proofs.lemmas.Bool.{cond-true, cond-false, lt-ltb, le-ltb}
 use Rattle.cdb_tool.proofs.Words.{Appends, Damage, Fault, Incoming, IsOfText, IsReadFault, KeyValue, Known, NotAdded, ReadFault, RunOptions, TellsEach, TellsPart, TextFault, Told, Walked, came, file_size, fold-append, from_inputs, put_result, walk_of, with_newlines}
 use Rattle.cdb_command.specs.declared.style.Style.TheVariants.{Native, Map}
-use Rattle.cdb_form.specs.Text.Amending.{Change, Putting, Removing, SpellsChange}
-use Rattle.cdb_form.specs.Text.List.{SpellsKey}
+use Rattle.cdb_form.specs.Text.Parse.{Change, Putting, Removing, SpellsChange, SpellsKey}
 use Rattle.cdb_form.specs.Text.Map.{map_lines}
 use Rattle.cdb_form.specs.Text.Native.{Spells}
 use Rattle.cdb_form.specs.Text.Form.{Spelled}
 use Rattle.cdb_form.specs.Views.MapReader.{ReadAmid}
 use Rattle.cdb_form.specs.declared.text.fault.TextFault.TheVariants as text
 use Rattle.cdb_store.specs.declared.make_fault.MakeFault.TheVariants as make
-use Rattle.cdb_read.specs.Views.ReadFault.{damage_fault}
+use Rattle.cdb_read.specs.Views.Reads.{damage_fault}
 use Rattle.cdb_read.specs.declared.fault.ReadFault.TheVariants as read
-use Rattle.cdb_tool.specs.Runs.Course.{Course, Task, task_of, with_change, with_next, is_going, at_start, course_of, told, mode_of, StopsSo}
+use Rattle.cdb_tool.specs.Runs.Make.{Course, Task, task_of, with_change, with_next, is_going, at_start, course_of, told, mode_of, StopsSo, records_of, IsSomeBase, Makes, MakesDatabase, MeetsInput, MakeStops, BaseStops, InputsStop, RunFails, MakeRuns, terms_of}
+use Rattle.cdb_tool.specs.Runs.MakesSo.{MakesSo, IsMakeRefusal, ComesOf}
+use Rattle.cdb_tool.specs.Runs.Made.{Made, ended_by, made_from, walk_fault, base_fault, unless_stopped, made_of}
 use Rattle.cdb_tool.proofs.ToldLines.{part_more, part_none, part_whole}
 use Rattle.cdb_show.proofs.GivenInputs.{after, all_given, begins_given, first_fails, left_known}
 use Rattle.cdb_show.specs.Runs.Inputs.{InputForm, HasFaults, Puts, Changes, Lists, input_form, InputsLeft, BeginsWithItems, HasItemFault, OneBegins, FirstBegins, FirstHas}
-use Rattle.cdb_tool.specs.Runs.Make.{records_of, IsSomeBase, Makes, MakesDatabase, MeetsInput, MakeStops, BaseStops, InputsStop, RunFails, MakeRuns, terms_of}
 use Rattle.cdb_tool.specs.Runs.Make as make_run
-use Rattle.cdb_tool.specs.Runs.MakesSo.{MakesSo, IsMakeRefusal, ComesOf}
 use Rattle.cdb_show.specs.Runs.Given.{Given, given_from}
-use Rattle.cdb_tool.specs.Runs.Made.{Made, ended_by, made_from, walk_fault, base_fault, unless_stopped, made_of}
 use Rattle.cdb_show.specs.declared.fault.Fault.TheVariants.{Text, Make, Duplicate, Missing, Read, Walk, Output, Long, Open, Rename, NoMemory, Old, New, NoOldTables, NoNewTables, NoBaseTables}
 
 -- ---- the course over more items

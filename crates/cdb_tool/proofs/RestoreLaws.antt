@@ -4,11 +4,10 @@ use Rattle.std.proofs.lemmas.List.Sums.{sum_by-cons}
 use Rattle.std.specs.List.{AllByRecursion}
 use Rattle.std.specs.Prelude.{sum_by}
 use Rattle.cdb_form.specs.Laws.Text.{LengthsFit}
-use Rattle.cdb_form.specs.Format.Record.{KeyValue, IsRecord, record_size}
+use Rattle.cdb_form.specs.Format.{KeyValue, IsRecord, record_size}
 use Rattle.cdb_form.proofs.NativeTexts.TextLaws.{text_reads_back}
 use Rattle.cdb_form.proofs.Files.WalkLaws.{walk_of-file_bytes}
-use Rattle.cdb_show.specs.Runs.Form.{dump_form}
-use Rattle.cdb_show.specs.Runs.WalkText.{walk_text}
+use Rattle.cdb_show.specs.Runs.WalkText.{dump_form, walk_text}
 use Rattle.cdb_command.specs.declared.style.Style.TheVariants.{Native}
 use Rattle.cdb_tool.specs.Laws.{Restores}
 

@@ -2,11 +2,10 @@
 -- then the flush.
 use Rattle.cdb_tool.proofs.Words.{AreAllInputs, Bool, Change, ComesFrom, Err, FailsFinishing, Fault, FirstBegins, Flushed, Ghosts, Holds, Incoming, InputForm, InputsLeft, IsFile, IsOk, Keeps, KeyValue, List, MakeFault, Maker, None, Ok, OneBegins, OneInput, Option, Result, RunOptions, Some, TellsPart, WhereHonest, [], ap, appends_kept, appends_none, arith, bytes_of, came, file_size, from_inputs, holds_fits, inl, inr, is_some, limit_of, make_fault, not_ok, refl, subst, sym, terms_of, true≢false, walk_of, ℕ, ◌<◌, ◌∙◌, ◌≡◌, ◌≤◌, ◌⊎◌}
 use Rattle.cdb_form.specs.declared.width.Width.{Ghosts as Widths}
-use Rattle.cdb_make.specs.Views.Making.{MakingFault}
+use Rattle.cdb_make.specs.Views.Maker.{MakingFault}
 use Rattle.cdb_store.specs.declared.make_fault.MakeFault.TheVariants as make
-use Rattle.cdb_tool.specs.Runs.Course.{Task, task_of, course_of, Goes, EndsSo, StopsSo}
+use Rattle.cdb_tool.specs.Runs.Make.{Task, task_of, course_of, Goes, EndsSo, StopsSo, InCourse, MakeStops, InputsFail, RunFails, MakeRuns, form_of, records_of, OfBase, HoldsBase, BaseStopped, HandsBack, IsBase, IsSomeBase, BaseFails, IsOfStore}
 use Rattle.cdb_show.specs.Runs.Inputs as form
-use Rattle.cdb_tool.specs.Runs.Make.{InCourse, MakeStops, InputsFail, RunFails, MakeRuns, form_of, records_of, OfBase, HoldsBase, BaseStopped, HandsBack, IsBase, IsSomeBase, BaseFails, IsOfStore}
 use Rattle.cdb_show.specs.declared.fault.Fault.TheVariants.{Text, Make, Duplicate, Missing, Read, Walk, Output, Long, Open, Rename, NoMemory, Old, New, NoOldTables, NoNewTables, NoBaseTables}
 use Rattle.cdb_tool.proofs.ToldLines.{part_kept, part_whole, tells_kept, tells_none}
 use Rattle.cdb_tool.proofs.Courses.{came_none, course_starts}

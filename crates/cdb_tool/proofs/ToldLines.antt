@@ -5,7 +5,7 @@ use Rattle.cdb_tool.proofs.Words.{Appends, Keeps, Put, RunOptions, append-nil, c
 use denote.Bor.{Bor}
 use Rattle.cdb_form.specs.Views.KnownBytes.{AppendsPrefix, Writes}
 use Rattle.cdb_form.proofs.Bytes.WritingLemmas.{appends_kept, appends_none, appends_then, prefix_in, prefix_last}
-use Rattle.cdb_tool.specs.Runs.Course.{meets_key, told}
+use Rattle.cdb_tool.specs.Runs.Make.{meets_key, told}
 use Rattle.cdb_show.specs.Message.{AreLines, TellsEach, TellsPart, Told, duplicate_line, duplicate_lines, plain_lines}
 
 -- the lines of some, and of some more

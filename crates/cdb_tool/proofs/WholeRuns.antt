@@ -3,7 +3,7 @@ use Rattle.std.proofs.Common.{◌≡◌, ◌≢◌, ℕ, ◌<◌, ◌≤◌, inl
 use Rattle.std.specs.Prelude.{IsOk, codes}
 use Rattle.std.specs.Io.KnownBytes.{Keeps, Appends}
 use Rattle.cdb_tool.proofs.Words.{FailsPutting, Fault, Flushed, Ghosts, Holds, IsOfText, IsReadFault, KeyValue, MakeFault, Maker, TextFault, appends_kept, limit_of}
-use Rattle.cdb_form.specs.Format.File.{file_size, file_bytes}
+use Rattle.cdb_form.specs.Format.{file_size, file_bytes}
 use Rattle.cdb_form.specs.declared.text.fault.TextFault.TheVariants as text_fault
 use Rattle.cdb_form.specs.declared.text.fault.TextFault.TheVariants.{Syntax, Ended, Large, Input, Endless}
 use Rattle.cdb_form.specs.Views.Feed.{Consumes, Feed, FromTo}
@@ -21,7 +21,7 @@ use Rattle.cdb_form.specs.declared.mode.Mode.TheVariants as mode
 use Rattle.cdb_store.specs.declared.make_fault.MakeFault.TheVariants as make
 use Rattle.cdb_show.specs.Views.Fault as run
 use Rattle.cdb_show.proofs.SpelledInputs.{GaveSpelled, spelled_all, spelled_more, spelled_none}
-use Rattle.cdb_tool.specs.Runs.MakeBytes.{IsNewText, FailsText, FailsRead, PassesGreatest, TextNotRead, ReadsFitting, MakesFile, MakesBytes}
+use Rattle.cdb_tool.specs.Runs.Make.{IsNewText, FailsText, FailsRead, PassesGreatest, TextNotRead, ReadsFitting, MakesFile, MakesBytes}
 use Rattle.cdb_show.specs.declared.fault.Fault.TheVariants.{Text, Make, Duplicate, Missing, Read, Walk, Output, Long, Open, Rename, NoMemory, Old, New, NoOldTables, NoNewTables, NoBaseTables}
 use Rattle.cdb_show.proofs.Writers.{prefix_kept, whole_prefix, keeps_self, keeps_then, not_ok}
 

@@ -1,14 +1,12 @@
 -- The words that most proofs here name.
-pub use Rattle.cdb_feed.specs.Inputs.{AgreesWith, AreRead, AreUnread, CutShort, FirstAgree, HasFault, IsUnread, NoMore, NotBegun, Stop, StopsSo, TakesOne, reached}
-pub use Rattle.cdb_feed.specs.declared.input_reader.InputReader.{InputReader}
+pub use Rattle.cdb_show.specs.Feed.{AgreesWith, AreRead, AreUnread, CutShort, FirstAgree, HasFault, IsUnread, NoMore, NotBegun, Stop, StopsSo, TakesOne, reached}
+pub use Rattle.cdb_show.specs.declared.input_reader.InputReader.{InputReader}
 pub use Rattle.cdb_form.proofs.Bytes.WritingLemmas.{appends_kept, appends_none}
 pub use Rattle.cdb_form.proofs.Fed.FeedLemmas.{from_weaker, nothing_taken}
 pub use Rattle.cdb_form.specs.Views.Feed.{Consumes, Feed, FromTo}
-pub use Rattle.cdb_form.specs.Format.File.{file_size}
-pub use Rattle.cdb_form.specs.Format.Record.{KeyValue}
-pub use Rattle.cdb_form.specs.Format.Walk.{Walked, with_first}
-unfoldable pub use Rattle.cdb_form.specs.Format.Walk.{walk_of}
-pub use Rattle.cdb_form.specs.Text.Amending.{Change, Putting, Removing}
+pub use Rattle.cdb_form.specs.Format.{file_size, KeyValue, Walked, with_first}
+unfoldable pub use Rattle.cdb_form.specs.Format.{walk_of}
+pub use Rattle.cdb_form.specs.Text.Parse.{Change, Putting, Removing}
 pub use Rattle.cdb_form.specs.Text.Map.{with_newlines}
 pub use Rattle.cdb_form.specs.Views.Pairs.{key_values}
 pub use Rattle.cdb_form.specs.Views.TextFault.{IsOfText, IsReadFault}
@@ -20,8 +18,7 @@ pub use Rattle.cdb_make.specs.Survivors.{fits, put_answer, put_list, put_result}
 pub use Rattle.cdb_make.specs.Views.Maker.{ComesFrom, FailsFinishing, FailsPutting, Follows, Holds, IsFile, Puts, WhereHonest, limit_of}
 pub use Rattle.cdb_make.specs.declared.answer.Put.{Put}
 pub use Rattle.cdb_make.specs.declared.maker.Maker.{Maker}
-pub use Rattle.cdb_read.specs.Views.Walk.{left_of}
-pub use Rattle.cdb_read.specs.Views.Walking.{record_in}
+pub use Rattle.cdb_read.specs.Views.Walking.{left_of, record_in}
 pub use Rattle.cdb_read.specs.declared.fault.ReadFault.{ReadFault}
 pub use Rattle.cdb_show.proofs.ItemInputs.{GaveItems}
 pub use Rattle.cdb_show.proofs.Writers.{not_ok, prefix_kept, whole_prefix}
@@ -31,7 +28,7 @@ pub use Rattle.cdb_show.specs.Runs.Incoming.{Incoming, Known, came, from_input, 
 pub use Rattle.cdb_show.specs.Runs.Inputs.{AreAllInputs, BeginsWithItems, FirstBegins, HasFaults, HasItemFault, InputForm, InputsLeft, IsInputOf, OneBegins, OneInput, bytes_of, input_form}
 pub use Rattle.cdb_show.specs.Runs.Lookups.{StopsBehind}
 pub use Rattle.cdb_show.specs.Views.Fault.{make_fault}
-pub use Rattle.cdb_show.specs.Views.Inputs.{ArePassed, shared_feed}
+pub use Rattle.cdb_show.specs.Views.Noted.{ArePassed, shared_feed}
 pub use Rattle.cdb_show.specs.Views.ItemReader.{form_of, reader_of}
 pub use Rattle.cdb_show.specs.Views.Output.{OutputSays}
 pub use Rattle.cdb_show.specs.declared.fault.Fault.{Fault}
@@ -41,13 +38,10 @@ pub use Rattle.cdb_store.proofs.Reading.{reads_more, reads_nothing}
 pub use Rattle.cdb_store.specs.Reads.{OnlyReads}
 pub use Rattle.cdb_store.specs.declared.make_fault.MakeFault.{MakeFault}
 pub use Rattle.cdb_store.specs.declared.store.Store.{Ghosts}
-pub use Rattle.cdb_tool.specs.Runs.Base.{NotAdded}
-pub use Rattle.cdb_tool.specs.Runs.Course.{Course, EndsSo, Task, course_of, ends, is_going, mode_of, with_change, with_next}
-pub use Rattle.cdb_tool.specs.Runs.FormParsing.{BeginsSo, FailsSo, parsing}
-pub use Rattle.cdb_tool.specs.Runs.InputsRead.{HasRead, RunsRead, StopsInput, WereRead, feeds_of, run_state, stop_by}
+pub use Rattle.cdb_tool.specs.Runs.Make.{NotAdded, Course, EndsSo, Task, course_of, ends, is_going, mode_of, with_change, with_next, InCourse, MakeRuns, OfBase, PutsInputs, PutsInputsStop, PutsStop, progress, terms_of}
 pub use Rattle.cdb_tool.specs.Runs.Made.{made_of}
-pub use Rattle.cdb_tool.specs.Runs.Make.{InCourse, MakeRuns, OfBase, PutsInputs, PutsInputsStop, PutsStop, progress, terms_of}
 pub use Rattle.cdb_tool.specs.Runs.MakesSo.{ComesOf}
+pub use Rattle.cdb_tool.specs.Runs.InputsRead.{BeginsSo, FailsSo, parsing, HasRead, RunsRead, StopsInput, WereRead, feeds_of, run_state, stop_by}
 pub use Rattle.cdb_tool.specs.declared.runs.options.RunOptions.{RunOptions}
 pub use Rattle.std.proofs.Common.{Bool, Err, List, None, Ok, Option, Result, Some, [], ap, append_assoc, arith, drop, false, if◌then◌else◌, inl, inr, is_some, length, length-append, map, refl, rules, subst, sym, take, true, true≢false, ℕ, ◌*◌, ◌++◌, ◌+◌, ◌<◌, ◌^◌, ◌∙◌, ◌∷◌, ◌≡◌, ◌≢◌, ◌≤◌, ◌⊎◌}
 pub use Rattle.std.proofs.Math.Seq.{drop-length}

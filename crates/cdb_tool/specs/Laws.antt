@@ -1,16 +1,13 @@
 -- Laws of the runs, as propositions.
 use Rattle.std.specs.Prelude.{ℕ, ◌≡◌, List, [], ◌∷◌, None, Some}
 use Rattle.cdb_form.specs.Laws.Text.{TextReadsBack}
-use Rattle.cdb_form.specs.Format.Record.{KeyValue}
-use Rattle.cdb_form.specs.Format.File.{file_bytes}
-use Rattle.cdb_form.specs.Format.Walk.{walk_of}
+use Rattle.cdb_form.specs.Format.{KeyValue, file_bytes, walk_of}
 use Rattle.cdb_form.specs.Text.Native.{text_of}
 use Rattle.cdb_read.specs.Difference.{difference}
 use Rattle.cdb_read.specs.Laws.{brought_up}
-use Rattle.cdb_tool.specs.Runs.Course.{course_of, plain, task_of}
+use Rattle.cdb_tool.specs.Runs.Make.{course_of, plain, task_of}
 use Rattle.cdb_show.specs.Runs.Incoming.{from_inputs}
-use Rattle.cdb_show.specs.Runs.Form.{dump_form}
-use Rattle.cdb_show.specs.Runs.WalkText.{walk_text}
+use Rattle.cdb_show.specs.Runs.WalkText.{dump_form, walk_text}
 use Rattle.cdb_command.specs.declared.options.MakeOptions.{MakeOptions}
 use Rattle.cdb_command.specs.declared.style.Style.TheVariants.{Native}
 

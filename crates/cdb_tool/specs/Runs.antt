@@ -1,9 +1,5 @@
 -- What the runs that make a database leave.
-pub mod MakeBytes
-pub mod Course
 pub mod Make
+pub mod InputsRead
 pub mod Made
 pub mod MakesSo
-pub mod Base
-pub mod FormParsing
-pub mod InputsRead

@@ -1,11 +1,11 @@
 //! Laws of the runs. Each is the contract of a function whose parameters are what it ranges over.
 ghost use Rattle.std.specs.Prelude.{◌≡◌, ◌≤◌};
-ghost use Rattle.cdb_form.specs.Format.File.{file_size};
+ghost use Rattle.cdb_form.specs.Format.{file_size};
 ghost use Rattle.cdb_form.specs.Views.Pairs.{key_values};
 ghost use Rattle.cdb_form.specs.declared.mode.Mode.TheVariants.{Add};
 ghost use Rattle.cdb_read.specs.Laws.{brought_up};
 ghost use Rattle.cdb_tool.specs.Laws.{MakerHoldsAll, Restores};
-ghost use Rattle.cdb_tool.specs.Runs.Course.{mode_of};
+ghost use Rattle.cdb_tool.specs.Runs.Make.{mode_of};
 ghost use Rattle.cdb_tool.specs.Runs.MakesSo.{RunsComeOf};
 
 use crate::runs::options::RunOptions;

@@ -6,7 +6,7 @@ use Rattle.cdb_form.proofs.Words.{KeyValue, PairFits, WordPair, file_bytes, file
 use Rattle.std.proofs.lemmas.List.Concat.{length-flat_map}
 use Rattle.std.proofs.lemmas.List.FromFn.{sum_by-map-range_with_len_more, length-map-range_with_len}
 use Rattle.std.proofs.lemmas.List.Elements.{All-cons, All-nil}
-use Rattle.cdb_form.specs.Format.Table.{in_table, slots_with, filled_slots, file_entries, entries_from, table_entries, slots_of, table_slots, file_tables, empty_slot}
+use Rattle.cdb_form.specs.Format.{in_table, slots_with, filled_slots, file_entries, entries_from, table_entries, slots_of, table_slots, file_tables, empty_slot}
 use Rattle.cdb_form.proofs.Bytes.HeadLemmas.{length-flat_map_words}
 
 -- a table keeps its number of slots

@@ -5,7 +5,7 @@ use Rattle.std.proofs.lemmas.List.{nil_from_length, append-nil, take_at, take-ap
 use Rattle.std.proofs.lemmas.Bool.{cond-true, cond-false, cond_both, ne_eqb, eq-eqb, not_from_true, not_from_false, cases_eq}
 use Rattle.byteorder.specs.Numbers.{little_from-lt}
 use Rattle.cdb_form.specs.declared.damage.Damage.TheVariants.{Record}
-use Rattle.cdb_form.specs.Laws.Walk.{Stand, StandLongest, HasHead, IsWalk, WalksBack}
+use Rattle.cdb_form.specs.Laws.Parse.{Stand, StandLongest, HasHead, IsWalk, WalksBack}
 use Rattle.cdb_form.proofs.Bytes.ReadBack.{map-nth_pair}
 use Rattle.cdb_form.proofs.Files.Places.{slot_count, tables_bytes, length-file_pointers, slot_count-file_tables, file_of_is, drop-head}
 use Rattle.cdb_form.proofs.Files.Sizes.{length-records, size_split, length-file_bytes, pointers_fit, sum_by-table_entries, tables_are}

@@ -3,7 +3,7 @@ use Rattle.std.proofs.Common.{◌≡◌, ◌⊎◌, ℕ, zero, suc, ◌+◌, ◌
 use Rattle.std.proofs.lemmas.Bool.{cond_both, ltb-true, ltb-false, leb-true, leb-false, eqb-true, eqb-false, and_parts, and_cases, cases_lt}
 use Rattle.std.proofs.lemmas.List.{map-append}
 use Rattle.cdb_form.proofs.Words.{AllDigits, Change, FailsByte, FailsField, FailsItem, FailsNumber, IsNumeral, IsOfText, Putting, Removing, Spells, SpellsChange, SpellsKey, SpellsRemoval, TextFault, digit_value, digits_push, digits_value, digits_value_push}
-use Rattle.cdb_form.specs.Format.Record.{AreBytes, KeyValue, IsRecord, record_of}
+use Rattle.cdb_form.specs.Format.{AreBytes, KeyValue, IsRecord, record_of}
 use Rattle.cdb_form.specs.declared.text.fault.TextFault.TheVariants.{Syntax, Ended, Large, Input, Endless, NoMemory}
 use Rattle.cdb_form.specs.Laws.Parse.{HoldsOf, IsParsed}
 use Rattle.cdb_form.specs.Text.Form.{Spelled, Reads, HasNoItem, WholeItems, HasNoText, LongestPrefix, LiftsLength, HasFault}

@@ -3,7 +3,7 @@ use Rattle.cdb_form.proofs.Words.{AllByRecursion, AllDigits, IsRecord, KeyValue,
 use Rattle.std.proofs.lemmas.Str.Parse.{IsNumeralModel}
 use Rattle.std.proofs.lemmas.Fmt.{digits_decimal, digits_value-decimal}
 use Rattle.std.specs.Fmt.{digits}
-use Rattle.cdb_form.specs.Text.Amending.{Change, Putting, Removing, SpellsChange, SpellsRemoval, SpelledChanges, change_line, removal_line}
+use Rattle.cdb_form.specs.Text.Parse.{Change, Putting, Removing, SpellsChange, SpellsRemoval, SpelledChanges, change_line, removal_line}
 use Rattle.cdb_form.specs.Text.Native.{IsNumeral, Spells, Spelled, spelling_of}
 use Rattle.cdb_form.specs.Laws.Text.{LengthsFit, KeyFits, TextReadsBack, ChangesReadBack, AmendsByPuts}
 use Rattle.cdb_form.proofs.NativeTexts.Spelling.{records, changes}

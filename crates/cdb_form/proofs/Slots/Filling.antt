@@ -3,8 +3,7 @@ use Rattle.std.proofs.Common.{◌≡◌, ℕ, ◌+◌, ◌-◌, ◌%◌, ◌<◌
 use Rattle.cdb_form.proofs.Words.{WordPair, cases_lt, fold-append, length-take-le, nat_tests, prefix_len, prefix_len-le-length, take-append-drop, take_more}
 use Rattle.std.proofs.Math.Nat.{mod-eq_of_lt, add-mod_left}
 use Rattle.std.proofs.lemmas.List.Folds.{prefix_len-append}
-use Rattle.cdb_form.specs.Format.Table.{is_used, slots_from, slots_with, filled_slots, empty_slot}
-use Rattle.cdb_form.specs.Format.Hash.{home_slot}
+use Rattle.cdb_form.specs.Format.{is_used, slots_from, slots_with, filled_slots, empty_slot, home_slot}
 
 -- the first empty slot is at home or after it
 pub first_behind : (p : WordPair → Bool) (xs : List WordPair) (home n b : ℕ) → length xs ≡ n → home < n → b ≡ prefix_len p (drop home xs) → b < n - home → home + b ≡ (home + prefix_len p (slots_from home xs)) % n

@@ -1,6 +1,6 @@
 -- What a reader gave, request after request.
 use Rattle.cdb_form.specs.Views.Taking.{IsUnread, IsWhy}
-use Rattle.cdb_form.specs.Views.Reading.{IsOfReader}
+use Rattle.cdb_form.specs.Views.KnownBytes.{IsOfReader}
 use Rattle.cdb_form.specs.Views.WalkFault.{IsDamage, unread_walk}
 use Rattle.cdb_form.specs.declared.reading.ReadStop.{ReadStop}
 use Rattle.cdb_form.specs.declared.reading.ReadStop.TheVariants as unread

@@ -1,8 +1,8 @@
 -- Map texts and texts of keys, read and written by hand.
 use Rattle.std.specs.Fmt.{digits}
 use Rattle.std.specs.Prelude.{List, [], codes, refl, ◌++◌, ◌∷◌, ◌≡◌}
-use Rattle.cdb_form.specs.Format.Record.{KeyValue}
-use Rattle.cdb_form.specs.Text.List.{keys_text, list_text}
+use Rattle.cdb_form.specs.Format.{KeyValue}
+use Rattle.cdb_form.specs.Text.Parse.{keys_text, list_text}
 use Rattle.cdb_form.specs.Text.Map.{map_lines, map_text}
 
 -- six lines with three records, the last one without a newline

@@ -1,8 +1,7 @@
 -- What worked texts say.
 use Rattle.std.specs.Prelude.{◌≡◌, true, false, [], ◌∷◌, codes, Ok, Err, refl}
-use Rattle.cdb_form.specs.Format.Record.{record_of}
-use Rattle.cdb_form.specs.Text.Amending.{Putting, Removing}
-use Rattle.cdb_form.specs.Text.Parse.{listed, parse, parse_list, text_from}
+use Rattle.cdb_form.specs.Format.{record_of}
+use Rattle.cdb_form.specs.Text.Parse.{Putting, Removing, listed, parse, parse_list, text_from}
 use Rattle.cdb_form.specs.declared.text.fault.TextFault.TheVariants.{Syntax, Ended, Large}
 
 -- two records, and what follows the text

@@ -1,8 +1,7 @@
 -- Laws of the texts.
 use Rattle.std.specs.Prelude.{ℕ, List, ◌++◌, length, map, ◌≤◌, ◌≡◌}
-use Rattle.cdb_form.specs.Format.Record.{KeyValue, AreBytes}
-use Rattle.cdb_form.specs.Text.Amending.{Change, Putting, Removing, SpellsChange, ReadsChanges}
-use Rattle.cdb_form.specs.Text.Amending.{amending_text}
+use Rattle.cdb_form.specs.Format.{KeyValue, AreBytes}
+use Rattle.cdb_form.specs.Text.Parse.{Change, Putting, Removing, SpellsChange, ReadsChanges, amending_text}
 use Rattle.cdb_form.specs.Text.Form as form
 use Rattle.cdb_form.specs.Text.Map.{map_lines, map_text}
 use Rattle.cdb_form.specs.Text.Native.{Spells, Reads, text_of}

@@ -1,8 +1,7 @@
 -- The map text of a list of records: a line for each, its key, a blank, and its value.
 use Rattle.std.specs.List.{position_or_len, prefix_len, slice_split}
-use Rattle.std.specs.Prelude.{All, Bool, List, [], codes, drop, flat_map, ◌++◌, ◌==◌, ◌||◌, ◌∷◌}
-use Rattle.std.specs.Prelude.{◌≡◌, false, if◌then◌else◌, take, true, ℕ}
-use Rattle.cdb_form.specs.Format.Record.{KeyValue}
+use Rattle.std.specs.Prelude.{All, Bool, List, [], codes, drop, flat_map, ◌++◌, ◌==◌, ◌||◌, ◌∷◌, ◌≡◌, false, if◌then◌else◌, take, true, ℕ}
+use Rattle.cdb_form.specs.Format.{KeyValue}
 
 -- a space or a tab
 abbrev pub is_blank : ℕ → Bool

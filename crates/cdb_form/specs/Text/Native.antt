@@ -1,8 +1,7 @@
 -- The native text of a list of records, whose lengths are at most `greatest`.
-use Rattle.std.specs.Prelude.{ℕ, List, ◌<◌, ◌++◌, length, flat_map, ◌≤◌, ◌≡◌}
-use Rattle.std.specs.Prelude.{decimal, codes}
+use Rattle.std.specs.Prelude.{ℕ, List, ◌<◌, ◌++◌, length, flat_map, ◌≤◌, ◌≡◌, decimal, codes}
 use Rattle.std.specs.Str.Parse.{AllDigits, digits_value}
-use Rattle.cdb_form.specs.Format.Record.{KeyValue, IsRecord}
+use Rattle.cdb_form.specs.Format.{KeyValue, IsRecord}
 use Rattle.cdb_form.specs.Text.Form as form
 use Rattle.cdb_form.specs.declared.text.fault.TextFault.{TextFault}
 

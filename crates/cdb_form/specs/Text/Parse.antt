@@ -1,14 +1,93 @@
--- What bytes say as a text: its items up to its end or its fault. Each part of an item is read from the
--- place `at` on.
+-- What is parsed of texts: an amending text, a list, and any of them.
+use Rattle.std.specs.Prelude.{ℕ, List, ◌++◌, length, flat_map, ◌≤◌, ◌≡◌, decimal, codes, ◌+◌, ◌*◌, ◌==◌, ◌&&◌, nat_lt, nat_le, Bool, if◌then◌else◌, zero, suc, [], ◌∷◌, take, drop, Option, None, Some, Result, Ok, Err, map}
+use Rattle.cdb_form.specs.Format.{KeyValue, AreBytes, record_of}
+use Rattle.cdb_form.specs.Text.Form as form
+use Rattle.cdb_form.specs.Text.Native.{IsNumeral, Spells, spelling_of}
 use Rattle.std.specs.Char.{digit_value}
-use Rattle.std.specs.Prelude.{ℕ, ◌+◌, ◌*◌, ◌==◌, ◌&&◌, nat_lt, nat_le, Bool, if◌then◌else◌}
-use Rattle.std.specs.Prelude.{zero, suc, List, [], ◌∷◌, length, take, drop, Option, None, Some}
-use Rattle.std.specs.Prelude.{Result, Ok, Err, map}
-use Rattle.cdb_form.specs.Format.Record.{KeyValue, record_of}
-use Rattle.cdb_form.specs.Text.Amending.{Change, Putting, Removing}
 use Rattle.cdb_form.specs.Text.Map.{map_lines}
 use Rattle.cdb_form.specs.declared.text.fault.TextFault.{TextFault}
 use Rattle.cdb_form.specs.declared.text.fault.TextFault.TheVariants.{Syntax, Ended, Large}
+
+-- ---- The amending text of a list of changes, whose lengths are at most `greatest`: the larger form, of
+-- which the native texts are those that put alone.
+
+-- an item puts a record, or removes a key
+pub data Change : Type 0 where
+  Putting : KeyValue → Change
+  Removing : List ℕ → Change
+
+-- a removal is spelled -klen:key and a newline, its length a numeral of at most `greatest`
+pub record SpellsRemoval (greatest : ℕ) (text key : List ℕ) : Type 0 where
+  pub klen : List ℕ
+  pub klen_is : IsNumeral klen (length key)
+  pub key_fits : length key ≤ greatest
+  pub bytes : AreBytes key
+  pub text_is : text ≡ codes "-" ++ klen ++ codes ":" ++ key ++ codes "\n"
+
+-- a put is spelled as the record in a native text
+abbrev pub SpellsChange : ℕ → List ℕ → Change → Type 0
+SpellsChange greatest text (Putting r) = Spells greatest text r
+SpellsChange greatest text (Removing key) = SpellsRemoval greatest text key
+
+-- the text is spelled changes, and then the rest
+abbrev pub SpelledChanges : ℕ → List Change → List ℕ → List ℕ → Type 0
+SpelledChanges greatest changes text rest = form.Spelled SpellsChange greatest changes text rest
+
+-- the text is an amending one, spelled changes and a newline, and then the rest
+abbrev pub ReadsChanges : ℕ → List Change → List ℕ → List ℕ → Type 0
+ReadsChanges greatest changes text rest = form.Reads SpellsChange greatest changes text rest
+
+-- the spelling of a removal with the shortest numeral
+abbrev pub removal_line : List ℕ → List ℕ
+removal_line key = codes "-" ++ decimal (length key) ++ codes ":" ++ key ++ codes "\n"
+
+-- the spelling of a change with the shortest numerals
+abbrev pub change_line : Change → List ℕ
+change_line (Putting r) = spelling_of r
+change_line (Removing key) = removal_line key
+
+-- the text of some changes, with the shortest numerals
+abbrev pub amending_text : List Change → List ℕ
+amending_text changes = flat_map change_line changes ++ codes "\n"
+
+-- ---- The texts of the keys of a list of records; and the list texts of a list of keys, whose lengths are at
+-- most `greatest`.
+
+-- a key with its length in the shortest decimal
+abbrev pub list_line : List ℕ → List ℕ
+list_line key = codes "+" ++ decimal (length key) ++ codes ":" ++ key ++ codes "\n"
+
+-- the list text: a newline ends it
+abbrev pub list_text : List KeyValue → List ℕ
+list_text rs = flat_map (λ r. list_line r.key) rs ++ codes "\n"
+
+-- the keys alone, a line for each
+abbrev pub key_line : List ℕ → List ℕ
+key_line key = key ++ codes "\n"
+
+abbrev pub keys_text : List KeyValue → List ℕ
+keys_text rs = flat_map (λ r. key_line r.key) rs
+
+-- ---- list texts that are read
+
+-- a key is spelled +klen:key and a newline, its length a numeral of at most `greatest`
+pub record SpellsKey (greatest : ℕ) (text key : List ℕ) : Type 0 where
+  pub klen : List ℕ
+  pub klen_is : IsNumeral klen (length key)
+  pub key_fits : length key ≤ greatest
+  pub bytes : AreBytes key
+  pub text_is : text ≡ codes "+" ++ klen ++ codes ":" ++ key ++ codes "\n"
+
+-- the text is spelled keys, and then the rest
+abbrev pub SpelledKeys : ℕ → List (List ℕ) → List ℕ → List ℕ → Type 0
+SpelledKeys greatest keys text rest = form.Spelled SpellsKey greatest keys text rest
+
+-- the text is a list text, spelled keys and a newline, and then the rest
+abbrev pub ReadsKeys : ℕ → List (List ℕ) → List ℕ → List ℕ → Type 0
+ReadsKeys greatest keys text rest = form.Reads SpellsKey greatest keys text rest
+
+-- ---- What bytes say as a text: its items up to its end or its fault. Each part of an item is read from the
+-- place `at` on.
 
 -- a part was found, up to a place and these bytes; or a fault
 pub data Part (X : Type 0) : Type 0 where

@@ -1,7 +1,7 @@
 -- What a clause reads of a reader of an amending text.
 use Rattle.std.specs.Prelude.{ℕ, List, ◌+◌, ◌*◌}
-use Rattle.cdb_form.specs.Format.Record.{KeyValue}
-use Rattle.cdb_form.specs.Text.Amending.{Change, SpellsChange}
+use Rattle.cdb_form.specs.Format.{KeyValue}
+use Rattle.cdb_form.specs.Text.Parse.{Change, SpellsChange}
 use Rattle.cdb_form.specs.declared.text.fault.TextFault.{TextFault}
 use Rattle.cdb_form.specs.declared.text.amend_reader.AmendReader.{AmendReader}
 use Rattle.cdb_form.specs.Views.Feed.{Feed}

@@ -1,6 +1,7 @@
 -- What is known of the bytes of a reader, and what a call does to it. No clause names bytes before they come: it says
 -- which bytes may have been left before, for any bytes that may be left now.
-use Rattle.std.specs.Prelude.{◌≡◌, ℕ, List, [], ◌++◌, Option, Some, None, ⊤}
+use Rattle.std.specs.Prelude.{◌≡◌, ℕ, List, [], ◌++◌, Option, Some, None, ⊤, Result}
+use Rattle.std.proofs.Common.{sym, ◌∙◌}
 
 -- Whether anything is known of a reader, and which bytes agree with it: all of them from the start, and those left.
 -- And that it has failed: of a `Read` nobody knows it.
@@ -42,3 +43,18 @@ IsSome (Some rest) = ⊤
 abbrev pub reader_feed : (remaining : Option (List ℕ)) → Feed
 reader_feed remaining =
     record { known = IsSome remaining; may = λ whole rest. remaining ≡ Some rest; failed = ⊤ }
+
+-- ---- That all bytes of a reader determine those that are left.
+
+same_some : {xs ys : List ℕ} → ◌≡◌ {A = Option (List ℕ)} (Some xs) (Some ys) → xs ≡ ys
+same_some e = cc
+
+pub same_remaining : {remaining : Option (List ℕ)} {xs ys : List ℕ} → remaining ≡ Some xs
+    → remaining ≡ Some ys → xs ≡ ys
+same_remaining a b = same_some (sym a ∙ b)
+
+-- ---- What a reader answers for good.
+
+-- it gave the answer that it had given, and read nothing
+abbrev pub Repeats : {T A E : Type 0} → Result A E → (old new : T) → Result A E → Type 0
+Repeats answer old new result = (result ≡ answer) × (new ≡ old)

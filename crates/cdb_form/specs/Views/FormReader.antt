@@ -1,8 +1,7 @@
 -- What a clause reads of a reader of a text of some form, whose items are spelled as `spelling` says.
-use Rattle.std.specs.Prelude.{ℕ, List, ◌+◌, ◌-◌, ◌<◌, ◌≤◌, length, take, ◌≡◌, Bool, true, false}
-use Rattle.std.specs.Prelude.{codes}
-use Rattle.cdb_form.specs.Format.Record.{KeyValue}
-use Rattle.cdb_form.specs.Text.Amending.{SpellsChange}
+use Rattle.std.specs.Prelude.{ℕ, List, ◌+◌, ◌-◌, ◌<◌, ◌≤◌, length, take, ◌≡◌, Bool, true, false, codes}
+use Rattle.cdb_form.specs.Format.{KeyValue}
+use Rattle.cdb_form.specs.Text.Parse.{SpellsChange}
 use Rattle.cdb_form.specs.Text.Form.{HasFault, HasNoItem}
 use Rattle.cdb_form.specs.Text.Native.{Spells}
 use Rattle.cdb_form.specs.Views.Prefix.{BeginsWithRecord}

@@ -1,6 +1,6 @@
 -- What a clause reads of a reader of a list text.
 use Rattle.std.specs.Prelude.{ℕ, List, ◌<◌, ◌≤◌, ◌≡◌}
-use Rattle.cdb_form.specs.Text.List.{SpellsKey}
+use Rattle.cdb_form.specs.Text.Parse.{SpellsKey}
 use Rattle.cdb_form.specs.Views.FormReader.{Ends, MeetsFault, ReadsItem}
 use Rattle.cdb_form.specs.Views.Source.{budget}
 use Rattle.cdb_form.specs.declared.text.fault.TextFault.{TextFault}

@@ -1,18 +1,15 @@
 -- What a byte is to the parser of a map text, and what it read of a line.
-use Rattle.std.specs.Prelude.{Bool, List, None, Option, Some, [], codes, if◌then◌else◌, length, not}
-use Rattle.std.specs.Prelude.{◌*◌, ◌+◌, ◌++◌, ◌||◌, ◌∷◌, ◌≡◌, ◌≤◌, ℕ, IfNone, IfSome, false}
-use Rattle.cdb_form.specs.Text.Map.{is_blank, is_newline, BeginsOther, IsIgnoredLine, IsLineOf}
-use Rattle.cdb_form.specs.Text.Map.{Lacks, line_pair}
+use Rattle.std.specs.Prelude.{Bool, List, None, Option, Some, [], codes, if◌then◌else◌, length, not, ◌*◌, ◌+◌, ◌++◌, ◌||◌, ◌∷◌, ◌≡◌, ◌≤◌, ℕ, IfNone, IfSome, false}
+use Rattle.cdb_form.specs.Text.Map.{is_blank, is_newline, BeginsOther, IsIgnoredLine, IsLineOf, Lacks, line_pair}
 use Rattle.cdb_form.specs.Views.Source.{Takes, budget}
 use Rattle.cdb_form.specs.declared.text.kind.Kind.{Kind}
 use Rattle.cdb_form.specs.declared.text.kind.Kind.TheVariants.{Blank, InLine, InWord}
 use Rattle.cdb_form.specs.declared.text.source.Source.{Source}
 use Rattle.std.specs.List.{AllPass}
 use Rattle.cdb_form.specs.Views.Feed.{Feed, IsAtEnd}
-use Rattle.cdb_form.specs.Format.Record.{AreBytes, KeyValue}
+use Rattle.cdb_form.specs.Format.{AreBytes, KeyValue}
 use Rattle.cdb_form.specs.declared.text.map_parser.LineRead.{LineRead}
-use Rattle.cdb_form.specs.declared.text.map_parser.LineRead.TheVariants.{Ignored, Last, LastPair}
-use Rattle.cdb_form.specs.declared.text.map_parser.LineRead.TheVariants.{Pair}
+use Rattle.cdb_form.specs.declared.text.map_parser.LineRead.TheVariants.{Ignored, Last, LastPair, Pair}
 
 -- whether a byte is of a kind
 abbrev pub is_of : Kind → ℕ → Bool

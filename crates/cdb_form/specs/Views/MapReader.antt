@@ -1,10 +1,9 @@
 -- What a clause reads of a reader of a map text.
 use Rattle.std.specs.Prelude.{All, List, [], flat_map, ◌++◌, ◌<◌, ◌∷◌, ◌≡◌, ℕ, codes}
-use Rattle.cdb_form.specs.Format.Record.{KeyValue}
-use Rattle.cdb_form.specs.Text.Map.{IsIgnoredLine, IsLineOf, Lacks, is_newline, line_records}
-use Rattle.cdb_form.specs.Text.Map.{with_newlines}
+use Rattle.cdb_form.specs.Format.{KeyValue}
+use Rattle.cdb_form.specs.Text.Map.{IsIgnoredLine, IsLineOf, Lacks, is_newline, line_records, with_newlines}
 use Rattle.cdb_form.specs.Views.MapParser.{ReadsToEnding}
-use Rattle.cdb_form.specs.Views.PrefixLine.{BeginsWithLine}
+use Rattle.cdb_form.specs.Views.Prefix.{BeginsWithLine}
 use Rattle.cdb_form.specs.Views.Source.{LeavesAmid, at_hand}
 use Rattle.cdb_form.specs.declared.text.fault.TextFault.{TextFault}
 use Rattle.cdb_form.specs.declared.text.going.Going.TheVariants.{AtEnd, Failed, On}

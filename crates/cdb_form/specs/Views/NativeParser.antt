@@ -1,16 +1,14 @@
 -- What a fault of the native parser says of the part of an item that it was reading. `from` is the
 -- place of the text's first byte.
 use Rattle.std.specs.Char.{digit_value}
-use Rattle.std.specs.Prelude.{ℕ, ◌*◌, List, ◌+◌, ◌<◌, [], ◌∷◌, ◌++◌, ◌-◌, take, length, ◌≤◌, ◌≡◌, ⊤}
-use Rattle.std.specs.Prelude.{◌≢◌, Bool, true, false}
+use Rattle.std.specs.Prelude.{ℕ, ◌*◌, List, ◌+◌, ◌<◌, [], ◌∷◌, ◌++◌, ◌-◌, take, length, ◌≤◌, ◌≡◌, ⊤, ◌≢◌, Bool, true, false}
 use Rattle.std.specs.Str.Parse.{AllDigits, digits_value}
-use Rattle.cdb_form.specs.Format.Record.{AreBytes}
-use Rattle.cdb_form.specs.Text.Amending.{SpellsChange}
+use Rattle.cdb_form.specs.Format.{AreBytes}
+use Rattle.cdb_form.specs.Text.Parse.{SpellsChange}
 use Rattle.cdb_form.specs.Text.Native.{Spells}
 use Rattle.cdb_form.specs.Views.TextFault.{IsOfText, LastRead}
 use Rattle.cdb_form.specs.declared.text.fault.TextFault.{TextFault}
-use Rattle.cdb_form.specs.declared.text.fault.TextFault.TheVariants.{Syntax, Ended, Large, Input}
-use Rattle.cdb_form.specs.declared.text.fault.TextFault.TheVariants.{Endless}
+use Rattle.cdb_form.specs.declared.text.fault.TextFault.TheVariants.{Syntax, Ended, Large, Input, Endless}
 use Rattle.cdb_form.specs.Views.Feed.{Feed, Consumes, FromTo}
 use Rattle.cdb_form.specs.Views.Taking.{Took}
 use Rattle.cdb_form.specs.Views.Source.{IsTold, budget}

@@ -1,12 +1,13 @@
 -- What bytes of a native text begin with, and those of a database file.
-use Rattle.std.specs.Prelude.{List, drop, length, take, [], codes, ◌+◌, ◌++◌, ◌∷◌, ◌≡◌, ◌<◌, ◌≤◌, ℕ}
-use Rattle.std.specs.Prelude.{Option, Some, None}
-use Rattle.cdb_form.specs.Format.Record.{KeyValue}
-use Rattle.cdb_form.specs.Format.Walk.{prefix_record, prefix_size}
+use Rattle.std.specs.Prelude.{List, drop, length, take, [], codes, ◌+◌, ◌++◌, ◌∷◌, ◌≡◌, ◌<◌, ◌≤◌, ℕ, Option, Some, None, Bool, nat_le, not, ◌==◌}
+use Rattle.cdb_form.specs.Format.{KeyValue, prefix_record, prefix_size}
 use Rattle.cdb_form.specs.Text.Native.{IsNumeral, Spells}
 use Rattle.cdb_form.specs.declared.text.prefix.PrefixLengths.{PrefixLengths}
 use Rattle.cdb_form.specs.declared.text.prefix.PrefixNumeral.{PrefixNumeral}
 use Rattle.cdb_form.specs.declared.text.prefix.PeekedRecord.{PeekedRecord}
+use Rattle.cdb_form.specs.Text.Map.{IsLineOf, is_newline}
+use Rattle.cdb_form.specs.declared.text.kind.Kind.{Kind}
+use Rattle.cdb_form.specs.declared.text.kind.Kind.TheVariants.{Blank, InLine, InWord}
 
 -- a numeral followed by `stop`
 pub record BeginsWithNumeral (stop : ℕ) (bytes : List ℕ) (n : PrefixNumeral) : Type 0 where
@@ -51,3 +52,18 @@ pub record IsStored (w : ℕ) (bytes : List ℕ) (n : ℕ) (r : KeyValue) : Type
 abbrev pub PrefixTells : ℕ → List ℕ → Option ℕ → Type 0
 PrefixTells w bytes None = length bytes < prefix_size w bytes
 PrefixTells w bytes (Some n) = (n ≡ prefix_size w bytes) × (n ≤ length bytes)
+
+-- ---- What bytes of a map text begin with.
+
+-- whether a byte may end a run of a kind: those that may not are of the kind
+abbrev pub may_end : Kind → ℕ → Bool
+may_end Blank c = not (c == 32)
+may_end InWord c = nat_le c 32
+may_end InLine c = is_newline c
+
+-- n bytes that are the line of a record with its newline
+pub record BeginsWithLine (bytes : List ℕ) (n : ℕ) (r : KeyValue) : Type 0 where
+  pub line : List ℕ
+  pub is : IsLineOf r line
+  pub front : take n bytes ≡ line ++ codes "\n"
+  pub within : n ≤ length bytes

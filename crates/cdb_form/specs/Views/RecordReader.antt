@@ -1,11 +1,8 @@
 -- What a clause reads of a reader of the records of a file.
 use Rattle.std.specs.Prelude.{ℕ, ◌^◌, ◌+◌, ◌<◌, List, drop, take, ◌≡◌, ⊤, ◌-◌, max}
-use Rattle.cdb_form.specs.Format.Pair.{head_size, pair_size}
-use Rattle.cdb_form.specs.Format.Record.{KeyValue}
-use Rattle.cdb_form.specs.Format.Walk.{Walked, walk_of, walk_from, record_end, no_walk, with_first}
-use Rattle.cdb_form.specs.Views.KnownBytes.{StillFrom}
+use Rattle.cdb_form.specs.Format.{head_size, pair_size, KeyValue, Walked, walk_of, walk_from, record_end, no_walk, with_first}
+use Rattle.cdb_form.specs.Views.KnownBytes.{StillFrom, IsKept}
 use Rattle.cdb_form.specs.Views.Prefix.{IsStored}
-use Rattle.cdb_form.specs.Views.Reading.{IsKept}
 use Rattle.cdb_form.specs.Views.WalkFault.{IsDamage, stopped_by}
 use Rattle.cdb_form.specs.declared.record.Record.{Record}
 use Rattle.cdb_form.specs.declared.walk.keeping.Keeping.{Keeping}
@@ -13,8 +10,7 @@ use Rattle.cdb_form.specs.declared.walk.fault.WalkFault.{WalkFault}
 use Rattle.cdb_form.specs.declared.walk.record_area.RecordArea.{RecordArea}
 use Rattle.cdb_form.specs.declared.walk.record_reader.RecordReader.{RecordReader}
 use Rattle.cdb_form.specs.declared.walk.record_reader.Progress.{Progress}
-use Rattle.cdb_form.specs.declared.walk.record_reader.Progress.TheVariants.{AtHead, At, AtEnd}
-use Rattle.cdb_form.specs.declared.walk.record_reader.Progress.TheVariants.{Failed}
+use Rattle.cdb_form.specs.declared.walk.record_reader.Progress.TheVariants.{AtHead, At, AtEnd, Failed}
 use Rattle.cdb_form.specs.Views.Feed.{Feed, FromTo}
 use Rattle.cdb_form.specs.Views.Taking.{IsUnread, ReadsFirst, ReadsNoFurther, ReadsNoRecord}
 

@@ -1,10 +1,7 @@
 -- What calls that read take of a reader, and what is then known of the bytes that were left before.
 use Rattle.std.specs.Prelude.{ℕ, ◌≡◌, ◌+◌, ◌<◌, ◌≤◌, ◌⊎◌, ◌++◌, List, [], length}
 use Rattle.cdb_form.specs.Views.Feed.{Feed, Consumes, FromTo, IsAtEnd}
-use Rattle.cdb_form.specs.Format.Pair.{head_size, pair_size}
-use Rattle.cdb_form.specs.Format.Reading.{head_at, pair_at}
-use Rattle.cdb_form.specs.Format.Record.{KeyValue}
-use Rattle.cdb_form.specs.Format.Walk.{Walked, walk_of, walk_from, with_first}
+use Rattle.cdb_form.specs.Format.{head_size, pair_size, head_at, pair_at, KeyValue, Walked, walk_of, walk_from, with_first}
 use Rattle.cdb_form.specs.Views.Pairs.{head_pairs, header_pair}
 use Rattle.cdb_form.specs.declared.head.Head.{Head}
 use Rattle.cdb_form.specs.declared.header.Header.{Header}

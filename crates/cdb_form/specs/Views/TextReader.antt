@@ -1,6 +1,6 @@
 -- What a clause reads of a reader of a native text.
 use Rattle.std.specs.Prelude.{ℕ, List, ◌+◌, ◌*◌}
-use Rattle.cdb_form.specs.Format.Record.{KeyValue}
+use Rattle.cdb_form.specs.Format.{KeyValue}
 use Rattle.cdb_form.specs.Text.Native.{Spells}
 use Rattle.cdb_form.specs.declared.text.fault.TextFault.{TextFault}
 use Rattle.cdb_form.specs.declared.text.native_reader.TextReader.{TextReader}

@@ -1,13 +1,12 @@
 -- What kind of fault a fault of a walk is, and its number.
 use Rattle.std.specs.Prelude.{ℕ, ⊤, List, [], ◌++◌, codes, decimal, Option, Some, None}
-use Rattle.cdb_form.specs.Format.Walk.{Walked}
+use Rattle.cdb_form.specs.Format.{Walked}
 use Rattle.cdb_form.specs.declared.damage.Damage.{Damage}
 use Rattle.cdb_form.specs.declared.damage.Damage.TheVariants as damage
 use Rattle.cdb_form.specs.declared.reading.ReadStop.{ReadStop}
 use Rattle.cdb_form.specs.declared.reading.ReadStop.TheVariants as unread
 use Rattle.cdb_form.specs.declared.walk.fault.WalkFault.{WalkFault}
-use Rattle.cdb_form.specs.declared.walk.fault.WalkFault.TheVariants.{Short, Table, Record, Input}
-use Rattle.cdb_form.specs.declared.walk.fault.WalkFault.TheVariants.{NoMemory}
+use Rattle.cdb_form.specs.declared.walk.fault.WalkFault.TheVariants.{Short, Table, Record, Input, NoMemory}
 
 -- the fault is one of the file
 abbrev pub IsDamage : WalkFault → Type 0

@@ -1,10 +1,10 @@
 // Items out of an amending text.
 ghost use Rattle.std.specs.Prelude.{◌≡◌, ◌^◌, ◌≤◌, IfOk, IfErr, IfSome, MatchOption};
-ghost use Rattle.cdb_form.specs.Format.Record.{KeyValue};
-ghost use Rattle.cdb_form.specs.Text.Amending.{Putting};
+ghost use Rattle.cdb_form.specs.Format.{KeyValue};
+ghost use Rattle.cdb_form.specs.Text.Parse.{Putting};
 ghost use Rattle.cdb_form.specs.Views.Prefix.{shown_by};
 ghost use Rattle.cdb_form.specs.Views.Pairs.{change_in, change_of};
-ghost use Rattle.cdb_form.specs.Views.Repeats.{Repeats};
+ghost use Rattle.cdb_form.specs.Views.Feed.{Repeats};
 
 use crate::feeds::Feeds;
 use crate::item::{Item, ItemKind};
@@ -28,9 +28,7 @@ pub struct AmendReader<R, L> {
 }
 
 impl<R: Feeds, L: Width> AmendReader<R, L> {
-    ghost use Rattle.cdb_form.specs.Views.AmendReader.{reader_of, taken_of, asks_left, IsGoing};
-    ghost use Rattle.cdb_form.specs.Views.AmendReader.{HasEnded, HasFailed, HasPeeked, GivesChange};
-    ghost use Rattle.cdb_form.specs.Views.AmendReader.{GivesEnd, Fails};
+    ghost use Rattle.cdb_form.specs.Views.AmendReader.{reader_of, taken_of, asks_left, IsGoing, HasEnded, HasFailed, HasPeeked, GivesChange, GivesEnd, Fails};
 
     /// A reader of the text that `reader` gives. It may request bytes 2^48 times.
     pub fn new(alloc: Global, reader: R) -> AmendReader<R, L>

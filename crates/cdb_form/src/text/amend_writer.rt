@@ -1,6 +1,6 @@
 // A removal of an amending text to a writer.
 ghost use Rattle.std.specs.Prelude.{OnErr};
-ghost use Rattle.cdb_form.specs.Text.Amending.{removal_line};
+ghost use Rattle.cdb_form.specs.Text.Parse.{removal_line};
 ghost use Rattle.cdb_form.specs.Views.KnownBytes.{Writes};
 
 use crate::writing::{OutFault, Sink, write_pieces};

@@ -1,12 +1,11 @@
 // Items out of a text of either form: what `TextReader` and `AmendReader` are made of.
-ghost use Rattle.std.specs.Prelude.{◌≡◌, ◌≢◌, ◌≤◌, ◌^◌, false, Some, IfOk, IfErr, IfSome};
-ghost use Rattle.std.specs.Prelude.{MatchOption};
-ghost use Rattle.cdb_form.specs.Format.Record.{KeyValue};
-ghost use Rattle.cdb_form.specs.Text.Amending.{Putting, SpellsChange};
+ghost use Rattle.std.specs.Prelude.{◌≡◌, ◌≢◌, ◌≤◌, ◌^◌, false, Some, IfOk, IfErr, IfSome, MatchOption};
+ghost use Rattle.cdb_form.specs.Format.{KeyValue};
+ghost use Rattle.cdb_form.specs.Text.Parse.{Putting, SpellsChange};
 ghost use Rattle.cdb_form.specs.Views.Prefix.{shown_by};
 ghost use Rattle.cdb_form.specs.Views.Pairs.{change_in};
 ghost use Rattle.cdb_form.specs.declared.item.ItemKind.TheVariants.{Remove};
-ghost use Rattle.cdb_form.specs.Views.Repeats.{Repeats};
+ghost use Rattle.cdb_form.specs.Views.Feed.{Repeats};
 
 use crate::feeds::Feeds;
 use crate::item::ItemKind;
@@ -28,9 +27,7 @@ pub struct FormReader<R, L> {
 }
 
 impl<R: Feeds, L: Width> FormReader<R, L> {
-    ghost use Rattle.cdb_form.specs.Views.FormReader.{FailsAs, GivesEnd, GivesItem};
-    ghost use Rattle.cdb_form.specs.Views.FormReader.{HasEnded, HasFailed, HasPeeked, IsGoing};
-    ghost use Rattle.cdb_form.specs.Views.FormReader.{asks_left, reader_of, taken_of};
+    ghost use Rattle.cdb_form.specs.Views.FormReader.{FailsAs, GivesEnd, GivesItem, HasEnded, HasFailed, HasPeeked, IsGoing, asks_left, reader_of, taken_of};
 
     /// A reader of the text that `reader` gives. It may request bytes `asks` times.
     pub fn new(reader: R, asks: u64) -> FormReader<R, L>

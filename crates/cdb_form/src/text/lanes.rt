@@ -1,7 +1,7 @@
 // Bytes that are looked at 16 or 32 at once.
 ghost use Rattle.std.specs.Prelude.{◌≡◌, true, ℕ, ◌<◌, ◌≤◌, length, map, slice_index};
 ghost use Rattle.std.specs.Simd.Lanes.{mask_l};
-ghost use Rattle.cdb_form.specs.Views.PrefixLine.{may_end};
+ghost use Rattle.cdb_form.specs.Views.Prefix.{may_end};
 ghost use Rattle.cdb_form.specs.Views.MapParser.{is_of};
 ghost use Rattle.cdb_form.specs.declared.text.kind.Kind.TheVariants.{InWord};
 

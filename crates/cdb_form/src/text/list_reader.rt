@@ -1,6 +1,6 @@
 // Keys out of a list text.
 ghost use Rattle.std.specs.Prelude.{◌≡◌, ◌^◌, ◌≤◌, false, IfOk, IfErr, MatchBool};
-ghost use Rattle.cdb_form.specs.Views.Repeats.{Repeats};
+ghost use Rattle.cdb_form.specs.Views.Feed.{Repeats};
 
 use crate::feeds::Feeds;
 use crate::record::Record;
@@ -22,8 +22,7 @@ pub struct ListReader<R, L> {
 }
 
 impl<R: Feeds, L: Width> ListReader<R, L> {
-    ghost use Rattle.cdb_form.specs.Views.ListReader.{reader_of, taken_of, asks_left, IsGoing};
-    ghost use Rattle.cdb_form.specs.Views.ListReader.{HasEnded, HasFailed, GivesKey, GivesEnd, Fails};
+    ghost use Rattle.cdb_form.specs.Views.ListReader.{reader_of, taken_of, asks_left, IsGoing, HasEnded, HasFailed, GivesKey, GivesEnd, Fails};
 
     /// A reader of the text that `reader` gives. It may request bytes 2^48 times.
     pub fn new(reader: R) -> ListReader<R, L>

@@ -1,6 +1,6 @@
 // The texts of keys to a writer.
 ghost use Rattle.std.specs.Prelude.{OnErr, ◌≡◌, ◌+◌, ◌≤◌, length, take};
-ghost use Rattle.cdb_form.specs.Text.List.{key_line, list_line};
+ghost use Rattle.cdb_form.specs.Text.Parse.{key_line, list_line};
 ghost use Rattle.cdb_form.specs.Views.KnownBytes.{Writes};
 
 use crate::text::line::{LINE, put_mark, put_number, put_piece};

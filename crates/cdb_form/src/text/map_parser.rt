@@ -1,13 +1,11 @@
 // The parser of a map text: it takes line after line, a record's that is at hand by one step, and
 // else runs of bytes and single ones.
 ghost use Rattle.std.specs.Prelude.{◌≡◌, ◌<◌, true, ℕ, List, ◌∷◌, OnOk, IfOk, IfErr};
-ghost use Rattle.cdb_form.specs.Format.Record.{AreBytes};
+ghost use Rattle.cdb_form.specs.Format.{AreBytes};
 ghost use Rattle.cdb_form.specs.Text.Map.{Lacks, is_newline};
-ghost use Rattle.cdb_form.specs.Views.MapParser.{MovesRun, ReadsLine, ReadsPair, ReadsRun, ReadsValue};
-ghost use Rattle.cdb_form.specs.Views.MapReader.{ReadsEntry};
+ghost use Rattle.cdb_form.specs.Views.MapParser.{MovesRun, ReadsLine, ReadsPair, ReadsRun, ReadsValue, is_of, line_end};
+ghost use Rattle.cdb_form.specs.Views.MapReader.{ReadsEntry, IsAmidLines};
 ghost use Rattle.cdb_form.specs.Views.Source.{LeavesAmid};
-ghost use Rattle.cdb_form.specs.Views.MapParser.{is_of, line_end};
-ghost use Rattle.cdb_form.specs.Views.MapReader.{IsAmidLines};
 ghost use Rattle.cdb_form.specs.declared.text.fault.TextFault.TheVariants.{NoMemory};
 ghost use Rattle.cdb_form.specs.Views.Pairs.{key_value};
 ghost use Rattle.cdb_form.specs.declared.text.kind.Kind.TheVariants.{InWord};

@@ -1,9 +1,9 @@
 // Records out of a map text.
 ghost use Rattle.std.specs.Prelude.{◌≡◌, ◌^◌, ◌≤◌, false, IfOk, IfErr, IfSome, MatchOption, MatchBool};
-ghost use Rattle.cdb_form.specs.Format.Record.{KeyValue};
+ghost use Rattle.cdb_form.specs.Format.{KeyValue};
 ghost use Rattle.cdb_form.specs.Views.Prefix.{shown_by};
 ghost use Rattle.cdb_form.specs.Views.Pairs.{key_value};
-ghost use Rattle.cdb_form.specs.Views.Repeats.{Repeats};
+ghost use Rattle.cdb_form.specs.Views.Feed.{Repeats};
 
 use crate::feeds::Feeds;
 use crate::record::Record;
@@ -29,9 +29,7 @@ pub struct MapReader<R> {
 }
 
 impl<R: Feeds> MapReader<R> {
-    ghost use Rattle.cdb_form.specs.Views.MapReader.{reader_of, taken_of, asks_left, IsGoing};
-    ghost use Rattle.cdb_form.specs.Views.MapReader.{HasEnded, HasFailed, HasPeeked, GivesRecord};
-    ghost use Rattle.cdb_form.specs.Views.MapReader.{GivesEnd, Fails};
+    ghost use Rattle.cdb_form.specs.Views.MapReader.{reader_of, taken_of, asks_left, IsGoing, HasEnded, HasFailed, HasPeeked, GivesRecord, GivesEnd, Fails};
 
     /// A reader of the text that `reader` gives. It may request bytes 2^48 times.
     pub fn new(alloc: Global, reader: R) -> MapReader<R>

@@ -1,17 +1,12 @@
 // The parser of a native text, of an amending one, and of a list: a machine that takes byte after
 // byte.
-ghost use Rattle.std.specs.Prelude.{◌≡◌, ◌≢◌, true, false, Some, ℕ, List, ◌+◌, ◌*◌, ◌^◌, ◌<◌, ◌≤◌, []};
-ghost use Rattle.std.specs.Prelude.{◌∷◌, ◌++◌, codes, length, OnOk, IfOk, IfErr};
-ghost use Rattle.std.specs.Prelude.{MatchBool, MatchOption, SomeIff};
+ghost use Rattle.std.specs.Prelude.{◌≡◌, ◌≢◌, true, false, Some, ℕ, List, ◌+◌, ◌*◌, ◌^◌, ◌<◌, ◌≤◌, [], ◌∷◌, ◌++◌, codes, length, OnOk, IfOk, IfErr, MatchBool, MatchOption, SomeIff};
 ghost use Rattle.cdb_form.specs.Views.Feed.{Consumes};
-ghost use Rattle.cdb_form.specs.Format.Record.{AreBytes};
-ghost use Rattle.cdb_form.specs.Text.Amending.{SpellsChange, SpellsRemoval};
-ghost use Rattle.cdb_form.specs.Text.List.{SpellsKey};
+ghost use Rattle.cdb_form.specs.Format.{AreBytes};
+ghost use Rattle.cdb_form.specs.Text.Parse.{SpellsChange, SpellsRemoval, SpellsKey};
 ghost use Rattle.cdb_form.specs.Text.Native.{IsNumeral, Spells};
 ghost use Rattle.cdb_form.specs.Views.FormReader.{ReadsItem};
-ghost use Rattle.cdb_form.specs.Views.NativeParser.{FailsNumber, FailsByte, FailsField};
-ghost use Rattle.cdb_form.specs.Views.NativeParser.{FailsEntry, FailsItem};
-ghost use Rattle.cdb_form.specs.Views.NativeParser.{FailsIn, Leaves, ReadsBehind};
+ghost use Rattle.cdb_form.specs.Views.NativeParser.{FailsNumber, FailsByte, FailsField, FailsEntry, FailsItem, FailsIn, Leaves, ReadsBehind};
 ghost use Rattle.cdb_form.specs.Views.Source.{budget};
 ghost use Rattle.cdb_form.specs.Views.Pairs.{change_in, key_value};
 ghost use Rattle.cdb_form.specs.declared.item.ItemKind.TheVariants.{Remove};

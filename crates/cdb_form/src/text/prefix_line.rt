@@ -2,8 +2,7 @@
 ghost use Rattle.std.specs.Prelude.{◌≡◌, true, ℕ, ◌<◌, ◌≤◌, length, slice_index, IfOk, IfSome};
 ghost use Rattle.std.specs.List.{prefix_len};
 ghost use Rattle.cdb_form.specs.Text.Map.{is_blank};
-ghost use Rattle.cdb_form.specs.Views.Prefix.{shown_by};
-ghost use Rattle.cdb_form.specs.Views.PrefixLine.{BeginsWithLine};
+ghost use Rattle.cdb_form.specs.Views.Prefix.{shown_by, BeginsWithLine};
 ghost use Rattle.cdb_form.specs.Views.MapParser.{is_of};
 ghost use Rattle.cdb_form.specs.Views.Pairs.{key_value};
 

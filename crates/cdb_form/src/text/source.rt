@@ -1,6 +1,5 @@
 // A reader of a text, with the count of what it gave and of the requests that it may still get.
-ghost use Rattle.std.specs.Prelude.{◌≡◌, ◌+◌, ◌*◌, ◌^◌, ◌<◌, ◌≤◌, [], ◌∷◌, length, take};
-ghost use Rattle.std.specs.Prelude.{OnOk, OnErr, IfOk, IfErr, MatchOption};
+ghost use Rattle.std.specs.Prelude.{◌≡◌, ◌+◌, ◌*◌, ◌^◌, ◌<◌, ◌≤◌, [], ◌∷◌, length, take, OnOk, OnErr, IfOk, IfErr, MatchOption};
 ghost use Rattle.cdb_form.specs.Views.Feed.{Consumes, IsAtEnd, Keeps};
 
 use crate::feeds::Feeds;
@@ -21,11 +20,9 @@ pub(crate) struct Source<R> {
 }
 
 impl<R: Feeds> Source<R> {
-    ghost use Rattle.cdb_form.specs.Format.Record.{AreBytes};
-    ghost use Rattle.cdb_form.specs.Views.NativeParser.{FailsIn, Leaves};
-    ghost use Rattle.cdb_form.specs.Views.Source.{IsTold, Takes};
-    ghost use Rattle.cdb_form.specs.Views.NativeParser.{FailsBytes};
-    ghost use Rattle.cdb_form.specs.Views.Source.{at_hand, budget};
+    ghost use Rattle.cdb_form.specs.Format.{AreBytes};
+    ghost use Rattle.cdb_form.specs.Views.NativeParser.{FailsIn, Leaves, FailsBytes};
+    ghost use Rattle.cdb_form.specs.Views.Source.{IsTold, Takes, at_hand, budget};
     ghost use Rattle.cdb_form.specs.Views.TextFault.{IsReadFault};
 
     /// A reader that gave nothing yet, and may get `asks` requests.

@@ -1,11 +1,9 @@
 // The next record of a database file.
 ghost use Rattle.std.specs.Prelude.{◌≡◌, ◌+◌, ◌-◌, ◌<◌, drop, OnErr, IfOk, IfErr};
 ghost use Rattle.cdb_form.specs.Views.Feed.{FromTo};
-ghost use Rattle.cdb_form.specs.Format.Pair.{pair_size};
+ghost use Rattle.cdb_form.specs.Format.{pair_size, KeyValue, record_size, walk_from, with_first};
 ghost use Rattle.cdb_form.specs.Views.Taking.{IsUnread, LosesAtMost, ReadsFirst, ReadsNoFurther, ReadsNoRecord};
-ghost use Rattle.cdb_form.specs.Views.Reading.{IsKept};
-ghost use Rattle.cdb_form.specs.Format.Record.{KeyValue, record_size};
-ghost use Rattle.cdb_form.specs.Format.Walk.{walk_from, with_first};
+ghost use Rattle.cdb_form.specs.Views.KnownBytes.{IsKept};
 ghost use Rattle.cdb_form.specs.declared.walk.keeping.Keeping.TheVariants.{Key};
 ghost use Rattle.cdb_form.specs.Views.WalkFault.{IsDamage, stopped_by};
 

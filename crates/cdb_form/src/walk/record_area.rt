@@ -1,10 +1,8 @@
 // Where the records of a database file are, by its head.
-ghost use Rattle.std.specs.Prelude.{◌≡◌, ◌≤◌, drop};
-ghost use Rattle.std.specs.Prelude.{OnErr, IfOk, IfErr};
+ghost use Rattle.std.specs.Prelude.{◌≡◌, ◌≤◌, drop, OnErr, IfOk, IfErr};
 ghost use Rattle.cdb_form.specs.Views.Feed.{FromTo};
 ghost use Rattle.cdb_form.specs.Views.Taking.{IsUnread, LosesAtMost, ReadsHead, ReadsNoRecord};
-ghost use Rattle.cdb_form.specs.Format.Pair.{head_size};
-ghost use Rattle.cdb_form.specs.Format.Walk.{record_end, walk_of, walk_from};
+ghost use Rattle.cdb_form.specs.Format.{head_size, record_end, walk_of, walk_from};
 ghost use Rattle.cdb_form.specs.Views.WalkFault.{IsDamage, stopped_by};
 
 use crate::feeds::Feeds;

@@ -1,18 +1,13 @@
 // Records out of a database file that is read in one pass.
-ghost use Rattle.std.specs.Prelude.{◌≡◌, ℕ, ◌+◌, ◌-◌, ◌^◌, ◌<◌, List, max, false};
-ghost use Rattle.std.specs.Prelude.{drop, OnErr, IfOk, IfErr, IfSome, MatchOption, MatchBool};
+ghost use Rattle.std.specs.Prelude.{◌≡◌, ℕ, ◌+◌, ◌-◌, ◌^◌, ◌<◌, List, max, false, drop, OnErr, IfOk, IfErr, IfSome, MatchOption, MatchBool};
 ghost use Rattle.std.specs.Bool.{OnTrue, OnFalse};
-ghost use Rattle.cdb_form.specs.Views.KnownBytes.{StillFrom};
-ghost use Rattle.cdb_form.specs.Format.Pair.{head_size, pair_size};
-ghost use Rattle.cdb_form.specs.Views.Reading.{IsKept};
-ghost use Rattle.cdb_form.specs.Format.Record.{KeyValue};
-ghost use Rattle.cdb_form.specs.Format.Walk.{walk_of, walk_from, record_end, no_walk};
-ghost use Rattle.cdb_form.specs.Format.Walk.{with_first};
+ghost use Rattle.cdb_form.specs.Views.KnownBytes.{StillFrom, IsKept};
+ghost use Rattle.cdb_form.specs.Format.{head_size, pair_size, KeyValue, walk_of, walk_from, record_end, no_walk, with_first};
 ghost use Rattle.cdb_form.specs.declared.walk.keeping.Keeping.TheVariants.{Key};
 ghost use Rattle.cdb_form.specs.Views.WalkFault.{IsDamage, stopped_by};
 ghost use Rattle.cdb_form.specs.Views.Pairs.{key_value};
 ghost use Rattle.cdb_form.specs.Views.Prefix.{shown_by};
-ghost use Rattle.cdb_form.specs.Views.Repeats.{Repeats};
+ghost use Rattle.cdb_form.specs.Views.Feed.{Repeats};
 
 use crate::feeds::Feeds;
 use crate::record::Record;
@@ -48,10 +43,7 @@ pub struct RecordReader<R, L> {
 }
 
 impl<R: Feeds, L: Width> RecordReader<R, L> {
-    ghost use Rattle.cdb_form.specs.Views.RecordReader.{Between, Fails, GivesEnd, GivesKept, GivesKey};
-    ghost use Rattle.cdb_form.specs.Views.RecordReader.{GivesRecord, HasEnded, HasFailed, HasPeeked};
-    ghost use Rattle.cdb_form.specs.Views.RecordReader.{IsFresh, IsGoing, behind_end, behind_records};
-    ghost use Rattle.cdb_form.specs.Views.RecordReader.{bytes_left, reader_of, walk_left};
+    ghost use Rattle.cdb_form.specs.Views.RecordReader.{Between, Fails, GivesEnd, GivesKept, GivesKey, GivesRecord, HasEnded, HasFailed, HasPeeked, IsFresh, IsGoing, behind_end, behind_records, bytes_left, reader_of, walk_left};
     ghost use Rattle.cdb_form.specs.Views.Taking.{IsUnread, ReadsFirst, ReadsNoFurther, ReadsNoRecord};
 
     /// A reader of the records of the file that `reader` gives. Nothing is read yet.

@@ -1,13 +1,11 @@
 // Bytes of a file from a reader. That it has no more is a damage of the file.
 ghost use Rattle.std.specs.Prelude.{◌+◌, ◌≡◌, ◌<◌, length, OnOk, OnErr, IfOk, IfErr};
 ghost use Rattle.cdb_form.specs.Views.Feed.{Consumes};
-ghost use Rattle.cdb_form.specs.Format.Pair.{head_size, pair_size};
-ghost use Rattle.cdb_form.specs.Format.Record.{AreBytes, KeyValue};
+ghost use Rattle.cdb_form.specs.Format.{head_size, pair_size, AreBytes, KeyValue};
 ghost use Rattle.cdb_form.specs.declared.walk.fault.WalkFault.TheVariants.{Short};
 ghost use Rattle.cdb_form.specs.declared.walk.keeping.Keeping.TheVariants.{Key};
-ghost use Rattle.cdb_form.specs.Views.Taking.{BodyRead, HeadRead, HeaderRead, IsUnread, LosesAtMost, LosesFewer};
-ghost use Rattle.cdb_form.specs.Views.Taking.{Passes, ReadsShort, ValueRead};
-ghost use Rattle.cdb_form.specs.Views.Reading.{IsKept};
+ghost use Rattle.cdb_form.specs.Views.Taking.{BodyRead, HeadRead, HeaderRead, IsUnread, LosesAtMost, LosesFewer, Passes, ReadsShort, ValueRead};
+ghost use Rattle.cdb_form.specs.Views.KnownBytes.{IsKept};
 ghost use Rattle.cdb_form.specs.Views.WalkFault.{IsDamage};
 
 use crate::feeds::Feeds;

@@ -1,6 +1,6 @@
 // The reader of records, on worked, damaged and foreign files, and over readers that fail.
 ghost use Rattle.std.specs.Prelude.{◌≡◌, None, IfOk, MatchOption};
-ghost use Rattle.cdb_form.specs.Format.Walk.{walk_of};
+ghost use Rattle.cdb_form.specs.Format.{walk_of};
 ghost use Rattle.cdb_form.specs.Views.Feed.{FromTo};
 ghost use Rattle.cdb_form.specs.Views.RecordReader.{IsFresh, reader_of};
 ghost use Rattle.cdb_form.specs.Views.WalkFault.{IsDamage, damage_of};

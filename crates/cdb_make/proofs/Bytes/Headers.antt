@@ -4,7 +4,7 @@ use Rattle.cdb_make.proofs.Words.{AfterRead, AreSized, bytes_eq, bytes_eq-Decide
 use Rattle.cdb_form.specs.declared.header.Header.{Header}
 use Rattle.cdb_form.proofs.Bytes.WordLemmas.{pair_at-take}
 use Rattle.cdb_make.specs.declared.key_at.LookFault.TheVariants.{Foreign}
-use Rattle.cdb_make.specs.Looks.{key_at, size_at, NoNewImage, HasLengthsInImages, HoldAt, TellsSameInImages, LooksAtImages}
+use Rattle.cdb_make.specs.Chains.{key_at, size_at, NoNewImage, HasLengthsInImages, HoldAt, TellsSameInImages, LooksAtImages}
 
 prefix_pair : (w n : ℕ) (xs : List ℕ) → n ≡ 2 * w → pair_at w (take n xs) ≡ pair_at w xs
 prefix_pair w n xs e =

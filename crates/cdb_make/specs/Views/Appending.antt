@@ -1,18 +1,13 @@
 -- Whole records that are appended at once.
-use Rattle.std.specs.Prelude.{ℕ, ◌≡◌, ◌+◌, ◌*◌, ◌<◌, ◌≤◌, ◌⊎◌, true, false, List, [], ◌∷◌, ◌++◌, length, take, drop, vec_capacity}
-use Rattle.std.specs.Prelude.{flat_map, sum_by}
+use Rattle.std.specs.Prelude.{ℕ, ◌≡◌, ◌+◌, ◌*◌, ◌<◌, ◌≤◌, ◌⊎◌, true, false, List, [], ◌∷◌, ◌++◌, length, take, drop, vec_capacity, flat_map, sum_by}
 use Rattle.cdb_store.specs.declared.store.Store.{Ghosts}
 use Rattle.cdb_form.specs.declared.width.Width.{Ghosts as Widths}
-use Rattle.cdb_form.specs.Format.File.{file_size, whole_size}
-use Rattle.cdb_form.specs.Format.Record.{KeyValue, record_bytes, record_size}
-use Rattle.cdb_form.specs.Format.Walk.{whole_records}
+use Rattle.cdb_form.specs.Format.{file_size, whole_size, KeyValue, record_bytes, record_size, whole_records}
 use Rattle.cdb_store.specs.declared.make_fault.MakeFault.{MakeFault}
-use Rattle.cdb_store.specs.declared.make_fault.MakeFault.TheVariants.{Broken, Lookup, TooBig, NoMemory}
-use Rattle.cdb_store.specs.declared.make_fault.MakeFault.TheVariants.{Writing}
+use Rattle.cdb_store.specs.declared.make_fault.MakeFault.TheVariants.{Broken, Lookup, TooBig, NoMemory, Writing}
 use Rattle.cdb_make.specs.declared.maker.Maker.{Maker}
 use Rattle.cdb_make.specs.Rolls.{Sees}
-use Rattle.cdb_make.specs.Views.Maker.{Holds, WhereHonest, HasStoreFailed, HasNotFailed, HasGone}
-use Rattle.cdb_make.specs.Views.Maker.{SameCounts, StaysWhole, Passes, gone_in, count_in}
+use Rattle.cdb_make.specs.Views.Maker.{Holds, WhereHonest, HasStoreFailed, HasNotFailed, HasGone, SameCounts, StaysWhole, Passes, gone_in, count_in}
 
 -- all whole records at the start of some bytes
 abbrev pub records_at : ℕ → List ℕ → List KeyValue

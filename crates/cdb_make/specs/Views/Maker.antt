@@ -1,14 +1,10 @@
 -- What a maker holds, and what its calls leave.
 use Rattle.std.specs.Prelude.{ℕ, ◌≡◌, ◌≢◌, ◌+◌, ◌-◌, ◌*◌, ◌<◌, ◌≤◌, ◌⊎◌, Bool, true, false, cond, List, [], ◌∷◌, ◌++◌, length, map, sum, sum_by, Result, OnOk, OnErr}
 use Rattle.cdb_store.specs.declared.store.Store.{Ghosts}
-use Rattle.cdb_store.specs.Images.{KeepsPart}
-use Rattle.cdb_store.specs.Laws.{HasNoImage}
+use Rattle.cdb_store.specs.Images.{KeepsPart, HasNoImage, SameImages}
 use Rattle.cdb_store.specs.Reads.{OnlyReads}
 use Rattle.cdb_form.specs.declared.width.Width.{Ghosts as Widths}
-use Rattle.cdb_form.specs.Format.File.{file_bytes, file_size, whole_size}
-use Rattle.cdb_form.specs.Format.Hash.{key_hash}
-use Rattle.cdb_form.specs.Format.Pair.{head_size}
-use Rattle.cdb_form.specs.Format.Record.{KeyValue, record_of, record_size, records_end}
+use Rattle.cdb_form.specs.Format.{file_bytes, file_size, whole_size, key_hash, head_size, KeyValue, record_of, record_size, records_end}
 use Rattle.cdb_store.specs.declared.make_fault.MakeFault.{MakeFault}
 use Rattle.cdb_store.specs.declared.make_fault.MakeFault.TheVariants.{Broken, Lookup, TooBig, NoMemory, Writing}
 use Rattle.cdb_make.specs.declared.candidate.Candidate.{Candidate}
@@ -16,13 +12,11 @@ use Rattle.cdb_make.specs.declared.key_at.LookFault.{LookFault}
 use Rattle.cdb_make.specs.declared.key_at.LookFault.TheVariants.{Failed, Foreign}
 use Rattle.cdb_make.specs.declared.maker.Maker.{Maker}
 use Rattle.cdb_make.specs.declared.roll.Roll.{Roll}
-use Rattle.cdb_make.specs.Finished.{HeadIsLast}
-use Rattle.cdb_make.specs.Tables.{roll_tables}
+use Rattle.cdb_make.specs.Tables.{HeadIsLast, roll_tables}
 use Rattle.cdb_make.specs.Unfinished.{IsUnfinished}
-use Rattle.cdb_make.specs.Marks.{gone_of, found_of, AreNone, HaveHash}
+use Rattle.cdb_make.specs.Spans.{gone_of, found_of, AreNone, HaveHash, left, picked, behind, or_each}
 use Rattle.cdb_make.specs.Rolls.{Sees, LooksAll, fresh}
-use Rattle.cdb_make.specs.Spans.{left, picked, behind, or_each}
-use Rattle.cdb_make.specs.Tags.{second_hash}
+use Rattle.cdb_make.specs.Chains.{second_hash}
 use Rattle.cdb_make.specs.Survivors.{has_key, is_there, count_of, without, behind_first, put_list, put_answer}
 use Rattle.cdb_form.specs.declared.mode.Mode.{Mode}
 use Rattle.cdb_form.specs.declared.mode.Mode.TheVariants.{Add, Warn, Insert, Replace}
@@ -694,3 +688,14 @@ FailsFinishing old new Writing =
     (StaysWhole old new × HasStoreFailed old new)
     ⊎ (HasGone old × (old.broken ≡ false) × (new.broken ≡ true) × HasStoreFailed old new)
 FailsFinishing old new fault = ⊥
+
+-- ---- What is left of a store in which no maker was made.
+
+-- if memory was refused, it is as it was and has not failed; else it failed
+abbrev pub MakingFault : {S : Type 0} → (S → List ℕ → Type 0) → (S → ℕ) → (S → ℕ) → (S → ℕ)
+    → S → S → MakeFault → Type 0
+MakingFault image size written failures old new NoMemory =
+    SameImages (image old) (image new) × (size new ≡ size old) × (written new ≡ written old)
+    × (failures new ≡ failures old)
+MakingFault image size written failures old new Writing = failures old < failures new
+MakingFault image size written failures old new fault = ⊥

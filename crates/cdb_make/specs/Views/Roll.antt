@@ -1,9 +1,9 @@
 -- What a roll notes.
 use Rattle.std.specs.Prelude.{ℕ, ◌≡◌, ◌<◌, true, false, List, length, vec_capacity}
 use Rattle.cdb_form.specs.declared.width.Width.{Ghosts as Widths}
-use Rattle.cdb_form.specs.Format.Hash.{key_hash}
-use Rattle.cdb_make.specs.Marks.{all_marks}
-use Rattle.cdb_make.specs.Tags.{second_hash, searched_by, sought_by}
+use Rattle.cdb_form.specs.Format.{key_hash}
+use Rattle.cdb_make.specs.Spans.{all_marks}
+use Rattle.cdb_make.specs.Chains.{second_hash, searched_by, sought_by}
 use Rattle.cdb_make.specs.Views.Places.{places_in, places_room}
 use Rattle.cdb_make.specs.declared.mark.Mark.{Mark}
 use Rattle.cdb_make.specs.declared.roll.Roll.{Roll}

@@ -1,13 +1,11 @@
 // The whole file of a roll's records, in their store.
-ghost use Rattle.std.specs.Prelude.{◌≡◌, ℕ, ◌+◌, ◌-◌, ◌*◌, ◌<◌, ◌≤◌, ◌⊎◌, length, map, sum_by, All, Err};
-ghost use Rattle.std.specs.Prelude.{OnOk, IfErr, IsErrOf, flat_map};
+ghost use Rattle.std.specs.Prelude.{◌≡◌, ℕ, ◌+◌, ◌-◌, ◌*◌, ◌<◌, ◌≤◌, ◌⊎◌, length, map, sum_by, All, Err, OnOk, IfErr, IsErrOf, flat_map};
 ghost use Rattle.cdb_store.specs.declared.store.StoreFault.TheVariants.{NoMemory as Refused};
 ghost use Rattle.cdb_store.specs.Images.{SameImages, KeepsPart, HasCause, ImagesHold as AreIn};
-ghost use Rattle.cdb_form.specs.Format.Pair.{head_size, pair_size};
+ghost use Rattle.cdb_form.specs.Format.{head_size, pair_size};
 ghost use Rattle.cdb_store.specs.declared.make_fault.MakeFault.TheVariants.{NoMemory, Writing};
-ghost use Rattle.cdb_make.specs.Finished.{EndsWith, IsFinished, HeadIsLast};
-ghost use Rattle.cdb_make.specs.Parts.{table_bytes, tables_end};
-ghost use Rattle.cdb_make.specs.Tables.{roll_tables, HaveRoom};
+ghost use Rattle.cdb_make.specs.Tables.{EndsWith, IsFinished, HeadIsLast, roll_tables, HaveRoom};
+ghost use Rattle.cdb_make.specs.Spans.{table_bytes, tables_end};
 
 use crate::finish::counts::{counts_of, longest};
 use crate::finish::gather::room_for;

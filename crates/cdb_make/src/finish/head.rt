@@ -2,11 +2,9 @@
 ghost use Rattle.std.specs.Prelude.{◌≡◌, ℕ, ◌+◌, ◌*◌, ◌<◌, ◌≤◌, List, length, map, max, sum, OnOk, IsErrOf};
 ghost use Rattle.cdb_store.specs.declared.store.StoreFault.TheVariants.{NoMemory};
 ghost use Rattle.cdb_store.specs.Images.{AfterWrite, AfterTornWrite, HasCause};
-ghost use Rattle.cdb_form.specs.Format.File.{pointers_from};
-ghost use Rattle.cdb_form.specs.Format.Pair.{WordPair, head_size};
-ghost use Rattle.cdb_form.specs.Format.Table.{slots_of};
+ghost use Rattle.cdb_form.specs.Format.{pointers_from, WordPair, head_size, slots_of};
 ghost use Rattle.cdb_form.specs.Views.Pairs.{head_pairs};
-ghost use Rattle.cdb_make.specs.Parts.{head_bytes};
+ghost use Rattle.cdb_make.specs.Spans.{head_bytes};
 
 use cdb_form::{GREATEST_HEAD, Head, Pointer, Width, head_size, pair_size, write_head};
 use cdb_store::{Store, StoreFault};

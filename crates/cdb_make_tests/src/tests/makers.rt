@@ -1,6 +1,6 @@
 //! Makers, eager and lazy ones, and buffers, for the tests in which nothing refuses them.
 ghost use Rattle.std.specs.Prelude.{◌≤◌};
-ghost use Rattle.cdb_form.specs.Format.Pair.{head_size};
+ghost use Rattle.cdb_form.specs.Format.{head_size};
 
 use cdb_form::Width;
 use cdb_make::{MakeFault, Maker};

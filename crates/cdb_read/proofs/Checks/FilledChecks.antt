@@ -5,7 +5,7 @@ use Rattle.std.proofs.Math.Nat.{mul-le-mul_left}
 use Rattle.cdb_form.specs.declared.slot.Slot.{Slot}
 use Rattle.cdb_form.proofs.Bytes.WordLemmas.{pair_at_part}
 use Rattle.cdb_form.proofs.Slots.SlotBytes.{count_slots, get_or-slots_in}
-use Rattle.cdb_read.specs.Views.FilledTable.{AreFresh, IsFilled}
+use Rattle.cdb_read.specs.Views.Check.{AreFresh, IsFilled}
 use Rattle.cdb_read.proofs.Checks.Entered.{get_or-entries_of, length-entries_of}
 use Rattle.cdb_read.proofs.FilledTables.Filled.{AllUsed, IsUsed}
 use Rattle.cdb_read.proofs.FilledTables.Fits.{used}

@@ -1,6 +1,6 @@
 -- One slot of a table after another.
 use Rattle.cdb_read.proofs.Words.{Bool, Damage, List, Marks, None, TableRecords, WordPair, [], ap, append-nil, append_assoc, arith, cond-false, cond-true, drop, empty_slot, eq-eqb, false, first_of, is_reached, is_right_slot, is_used, length, ne_eqb, not_from_false, not_from_true, nth_slot, pair_at, range_with_len, slot_fault, slots_at, subst, sym, take, take_all, take_more, true, used_fault, ℕ, ◌*◌, ◌++◌, ◌+◌, ◌<◌, ◌∙◌, ◌∷◌, ◌≡◌, ◌≤◌}
-use Rattle.cdb_read.specs.Views.Checked.{SlotIsClear, SlotHas, TableIsClear, TableHas}
+use Rattle.cdb_read.specs.Views.Check.{SlotIsClear, SlotHas, TableIsClear, TableHas}
 use Rattle.cdb_read.proofs.Checks.Entered.{marks_unused}
 use Rattle.cdb_read.proofs.Checks.FaultSteps.{first_of-nil, none_next, first_next}
 use Rattle.cdb_read.proofs.Probing.Probes.{slot_is, length-slots_at}

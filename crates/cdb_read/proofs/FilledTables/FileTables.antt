@@ -1,9 +1,7 @@
 -- The tables of the file of some records: where they lie, and that they are read back.
 use Rattle.cdb_read.proofs.Words.{KeyValue, List, PairFits, [], and_from, ap, arith, drop, drop-drop, drop_at, flat_map, get_or, get_or-map-range_with_len, is_inside, le-leb, length, length-map-range_with_len, map, nth_pair, range_with_len, record_bytes, record_size, records_end, recursion_from_All, refl, slots_at, suc, sum_by, sym, take, true, zero, ℕ, ◌*◌, ◌++◌, ◌+◌, ◌<◌, ◌∙◌, ◌∷◌, ◌≡◌, ◌≤◌}
 use Rattle.std.proofs.lemmas.List.Sums.{sum_by-cons, sum_by_more_le}
-use Rattle.cdb_form.specs.Format.Pair.{WordPair, pair_bytes, head_size}
-use Rattle.cdb_form.specs.Format.Table.{empty_slot, table_slots, file_tables}
-use Rattle.cdb_form.specs.Format.File.{pointers_from, file_pointers, file_bytes}
+use Rattle.cdb_form.specs.Format.{WordPair, pair_bytes, head_size, empty_slot, table_slots, file_tables, pointers_from, file_pointers, file_bytes}
 use Rattle.cdb_form.proofs.Bytes.HeadLemmas.{length-flat_map_words}
 use Rattle.cdb_form.proofs.Files.Places.{slot_count, slot_count-file_tables, length-file_pointers, tables_bytes, file_of_is, drop-head}
 use Rattle.cdb_form.proofs.Bytes.ReadBack.{nth_pair-flat_map, map-nth_pair}

@@ -2,7 +2,7 @@
 use Rattle.cdb_read.proofs.Words.{All-cons, All-filter, All-head, All-nil, All-replicate, All-set, All-tail, AllByRecursion, AreBytes, IsRecord, KeyValue, List, PairFits, WordPair, [], ap, arith, empty_slot, entries_from, file_entries, filled_slots, fold, hash_step, head_size, in_table, inl, inr, key_hash, length, ne_eqb, not_from_false, record_size, records_end, replicate, slots_of, slots_with, suc, sum_by-cons, table_entries, table_slots, true, ℕ, ◌%◌, ◌*◌, ◌+◌, ◌<◌, ◌^◌, ◌∙◌, ◌∷◌, ◌≡◌, ◌≤◌, ◌⊎◌}
 use Rattle.std.specs.Prelude.{◌==◌, not, filter, sum_by, bit_xor, All}
 use Rattle.std.proofs.lemmas.Nat.{xor_lt}
-use Rattle.cdb_form.specs.Format.File.{file_size}
+use Rattle.cdb_form.specs.Format.{file_size}
 use Rattle.cdb_form.proofs.Files.Sizes.{size_split}
 use Rattle.cdb_read.proofs.FilledTables.Filled.{IsUsed, AllUsed}
 

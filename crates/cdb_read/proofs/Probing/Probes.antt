@@ -5,7 +5,7 @@ use Rattle.std.proofs.Math.Nat.{add-mod_left}
 use Rattle.cdb_form.specs.declared.damage.Damage.TheVariants.{Record}
 use Rattle.cdb_read.proofs.WholeFiles.LookupLaws.{same_found}
 use Rattle.cdb_read.proofs.Lists.Meeting.{met, met-used, met-unused, met-none}
-use Rattle.cdb_read.specs.Search.{slot_at}
+use Rattle.cdb_read.specs.Lookup.{slot_at}
 
 -- so many slots from one on
 abbrev pub ahead : ℕ → ℕ → List WordPair → List WordPair

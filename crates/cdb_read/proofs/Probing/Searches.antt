@@ -1,7 +1,6 @@
 -- What a probe of a search reports.
 use Rattle.cdb_read.proofs.Words.{Found, List, Probe, Span, WordPair, ap, arith, eq-eqb, false, found_at, has_hash, is_used, key_hash, map, ne_eqb, not_from_false, not_from_true, nothing_found, pointer_pair, refl, slots_at, suc, sym, true, with_span, ℕ, ◌%◌, ◌+◌, ◌-◌, ◌<◌, ◌==◌, ◌∙◌, ◌∷◌, ◌≡◌, ◌≢◌, ◌≤◌}
-use Rattle.cdb_read.specs.Views.Search.{found_ahead, probe_slot, LooksAt, ProbedFrom, Meets}
-use Rattle.cdb_read.specs.Views.Probing.{ProbeInside, next_probe}
+use Rattle.cdb_read.specs.Views.Search.{found_ahead, probe_slot, LooksAt, ProbedFrom, Meets, ProbeInside, next_probe}
 use Rattle.cdb_read.specs.declared.lookup.key_at.Look.TheVariants as look
 use Rattle.cdb_read.specs.declared.lookup.search.Probed.TheVariants as step
 use Rattle.cdb_read.specs.declared.lookup.search.Met.TheVariants as met

@@ -2,10 +2,9 @@
 use Rattle.cdb_read.proofs.Words.{Ghosts, KeyValue, List, RecordArea, Walk, WordPair, [], ap, arith, cases_Bool, cases_lt, cond-false, cond-true, drop, drop-append-le, drop-drop, drop-take, false, inl, inr, le-leb, leb-true, length, length-append, length-drop, length-take, length-take-le, min, nil_from_length, pair_at, pair_at-take, part, record_size, refl, subst, suc, sum_by, sum_by-append, sum_by-cons, sym, take, take-append-drop, take-append-le, take-take, take_all, zero, ℕ, ◌*◌, ◌++◌, ◌+◌, ◌-◌, ◌<◌, ◌∙◌, ◌∷◌, ◌≡◌, ◌≤◌}
 use Rattle.std.proofs.Math.Seq.{take-add}
 use Rattle.std.proofs.Math.Bridge.{le_prop}
-use Rattle.cdb_form.specs.Format.Walk.{Walked, prefix_size, prefix_record, whole_records, walk_from, with_records}
+use Rattle.cdb_form.specs.Format.{Walked, prefix_size, prefix_record, whole_records, walk_from, with_records}
 use Rattle.cdb_form.specs.declared.width.Width.{Ghosts as Widths}
-use Rattle.cdb_read.specs.Views.Walk.{GivesRecords, bytes_left, place_of}
-use Rattle.cdb_read.specs.Views.Walking.{records_length, RecordsAhead, walk_ahead, next_place, size_ahead}
+use Rattle.cdb_read.specs.Views.Walking.{GivesRecords, bytes_left, place_of, records_length, RecordsAhead, walk_ahead, next_place, size_ahead}
 use Rattle.cdb_read.specs.declared.walking.state.Walking.{Walking}
 use Rattle.cdb_read.specs.declared.walking.state.Walking.TheVariants.{At, AtEnd, NoTable, NoRecord}
 use Rattle.cdb_form.proofs.Files.Prefixes.{all_records, fits_prefix, whole_records-none, whole_records-room}

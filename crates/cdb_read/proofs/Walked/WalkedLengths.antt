@@ -3,7 +3,7 @@ use Rattle.cdb_read.proofs.Words.{Damage, Ghosts, HasLengths, KeyValue, Lengths,
 use Rattle.cdb_form.specs.declared.width.Width.{Ghosts as Widths}
 use Rattle.cdb_form.specs.declared.damage.Damage.TheVariants as damage
 pub use Rattle.cdb_store.proofs.Reading.{reads_nothing}
-use Rattle.cdb_read.specs.Views.Walk.{left_of, WalkingFails}
+use Rattle.cdb_read.specs.Views.Walking.{left_of, WalkingFails}
 use Rattle.cdb_read.specs.declared.fault.ReadFault.TheVariants.{Short, Table, Record, Slot, Twice, Unindexed, Device, NoMemory, Output}
 
 -- some records were given, whose lengths these are, and then what is left of the walk

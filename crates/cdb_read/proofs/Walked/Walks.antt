@@ -1,8 +1,8 @@
 -- Where the walk of a file begins, and where it ends.
 use Rattle.cdb_read.proofs.Words.{List, None, WordPair, ap, cases_lt, drop, head_at, head_size, inl, inr, length, refl, subst, sym, ℕ, ◌<◌, ◌∙◌, ◌≡◌, ◌≤◌}
-use Rattle.cdb_form.specs.Format.Walk.{Walked, walk_of, walk_from, record_end, least_place, first_table_at, damaged}
+use Rattle.cdb_form.specs.Format.{Walked, walk_of, walk_from, record_end, least_place, first_table_at, damaged}
 use Rattle.cdb_form.specs.declared.damage.Damage.TheVariants.{Table}
-use Rattle.cdb_form.specs.Laws.Walk.{HasHead}
+use Rattle.cdb_form.specs.Laws.Parse.{HasHead}
 use Rattle.cdb_form.proofs.Files.WalkSteps.{walk_of-short, walk_of-table, walk_of-records}
 
 pub record_end-is : (w : ℕ) (b : List ℕ) → record_end w b ≡ least_place (head_size w) (head_at w b)

@@ -3,7 +3,7 @@ use Rattle.cdb_read.proofs.Words.{All, All-cons, All-contains, All-from_get_or, 
 use Rattle.std.proofs.lemmas.List.FromFn.{length-range_with_len, get_or-range_with_len}
 use Rattle.std.proofs.lemmas.Bool.{cases_Bool, cases_lt, cond-true, cond-false, both_ways, eq-eqb, eqb-true, not-false, not_from_true, not_from_false, and_parts, and_from, and_left, and_right, or_cases, or_left, or_right, le-ltb, lt-ltb}
 use Rattle.cdb_form.specs.declared.damage.Damage.TheVariants.{Table, Slot, Twice, Unindexed}
-use Rattle.cdb_read.specs.Faults.{entry_fault, fault_if, first_fault, first_of, is_right, is_same, slot_fault, slots_fault, table_fault}
+use Rattle.cdb_read.specs.Sound.{entry_fault, fault_if, first_fault, first_of, is_right, is_same, slot_fault, slots_fault, table_fault}
 use Rattle.cdb_read.specs.Laws.{SoundIsNoDamage}
 use Rattle.cdb_read.proofs.Lists.Apart.{Contains-cases, entries-above}
 use Rattle.cdb_read.proofs.Lists.Counts.{any_none, any_some}

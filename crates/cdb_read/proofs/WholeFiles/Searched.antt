@@ -4,8 +4,7 @@ use Rattle.std.specs.Prelude.{◌/◌}
 use Rattle.std.proofs.Math.Nat.{mod-lt}
 use Rattle.std.proofs.lemmas.Bool.{eqb-false}
 use Rattle.cdb_form.specs.declared.damage.Damage.TheVariants.{Table}
-use Rattle.cdb_read.specs.Lookup.{found_damaged}
-use Rattle.cdb_read.specs.Search.{is_of_key, search_of, slot_at, value_at, values_from}
+use Rattle.cdb_read.specs.Lookup.{found_damaged, is_of_key, search_of, slot_at, value_at, values_from}
 use Rattle.cdb_read.proofs.FilledTables.Filled.{length-slots_from}
 use Rattle.cdb_read.proofs.Lists.Meeting.{met}
 use Rattle.cdb_read.proofs.Probing.Beginnings.{and_true}

@@ -1,26 +1,48 @@
--- What a search is still to give, and what each part of it says of the bytes that it reads.
-use Rattle.std.specs.Prelude.{ℕ, ◌≡◌, ◌+◌, ◌*◌, ◌<◌, ◌≤◌, Bool, true, false, List}
-use Rattle.std.specs.Prelude.{length, map, filter, take, drop, take_while}
+-- What clauses read of a search: where it is, and what it finds.
+use Rattle.std.specs.Prelude.{ℕ, ◌≡◌, ◌+◌, ◌-◌, ◌*◌, ◌%◌, ◌<◌, ◌≤◌, Bool, true, false, List, length, map, filter, take, drop, take_while}
+use Rattle.cdb_form.specs.Format.{pair_size, head_size, key_hash, WordPair, pair_at, is_used, slots_from}
+use Rattle.cdb_read.specs.declared.lookup.probe.Searching.{Searching}
+use Rattle.cdb_read.specs.declared.lookup.probe.Searching.TheVariants.{At, AtEnd, NoTable, NoRecord}
+use Rattle.cdb_read.specs.declared.lookup.probe.Probe.{Probe}
 use Rattle.std.specs.Bool.{Decides}
 use Rattle.cdb_store.specs.Images.{part}
 use Rattle.cdb_form.specs.declared.damage.Damage.TheVariants as damage
-use Rattle.cdb_form.specs.Format.Hash.{key_hash}
-use Rattle.cdb_form.specs.Format.Pair.{WordPair, pair_size}
-use Rattle.cdb_form.specs.Format.Reading.{pair_at}
-use Rattle.cdb_form.specs.Format.Table.{is_used, slots_from}
 use Rattle.cdb_form.specs.Views.Pairs.{pointer_pair}
-use Rattle.cdb_read.specs.Lookup.{Found, nothing_found, found_damaged, with_span, found_at}
-use Rattle.cdb_read.specs.Lookup.{has_hash, has_key, is_whole, slots_at, value_span}
-use Rattle.cdb_read.specs.Views.Probing.{ProbeInside, next_probe}
+use Rattle.cdb_read.specs.Lookup.{Found, nothing_found, found_damaged, with_span, found_at, has_hash, has_key, is_whole, slots_at, value_span, bytes_of, lookup_of}
 use Rattle.cdb_read.specs.declared.lookup.key_at.Look.{Look}
 use Rattle.cdb_read.specs.declared.lookup.key_at.Look.TheVariants as look
 use Rattle.cdb_read.specs.declared.lookup.search.Met.{Met}
 use Rattle.cdb_read.specs.declared.lookup.search.Met.TheVariants as met
 use Rattle.cdb_read.specs.declared.lookup.search.Probed.{Probed}
 use Rattle.cdb_read.specs.declared.lookup.search.Probed.TheVariants as step
-use Rattle.cdb_read.specs.declared.lookup.probe.Searching.{Searching}
-use Rattle.cdb_read.specs.declared.lookup.probe.Searching.TheVariants.{At, AtEnd, NoTable, NoRecord}
-use Rattle.cdb_read.specs.declared.lookup.probe.Probe.{Probe}
+use Rattle.cdb_store.specs.declared.store.Store.{Ghosts}
+use Rattle.cdb_read.specs.declared.fault.ReadFault.{ReadFault}
+use Rattle.cdb_read.specs.declared.fault.ReadFault.TheVariants.{Table, Record, Device, NoMemory}
+use Rattle.cdb_read.specs.declared.span.Span.{Span}
+
+-- ---- Where a search is.
+
+-- its table lies after the head and inside a file of this size, and it has no more probes than
+-- slots
+pub record ProbeInside (w size : ℕ) (probe : Probe) : Type 0 where
+  pub behind : head_size w ≤ probe.table.place
+  pub inside : probe.table.place + pair_size w * probe.table.slots ≤ size
+  pub slot : probe.slot < probe.table.slots
+  pub left : probe.left ≤ probe.table.slots
+
+abbrev pub IsSearchInside : ℕ → ℕ → Searching → Type 0
+IsSearchInside w size searching = (probe : Probe) → searching ≡ At probe → ProbeInside w size probe
+
+-- the probe after a probe
+abbrev pub next_probe : Probe → Probe
+next_probe probe =
+    record {
+      table = probe.table;
+      slot = (probe.slot + 1) % probe.table.slots;
+      left = probe.left - 1;
+    }
+
+-- ---- What a search is still to give, and what each part of it says of the bytes that it reads.
 
 -- the slots that are left of a search
 abbrev pub slots_ahead : ℕ → List ℕ → Probe → List WordPair
@@ -96,3 +118,24 @@ abbrev pub MetWithin : ℕ → ℕ → Probe → Met → Type 0
 MetWithin w size probe (met.Value span then) =
     (span.place + span.len ≤ size) × ProbeInside w size then × (then.left < probe.left)
 MetWithin w size probe other = Unit {0}
+
+-- ---- What the first value of a key is, and why none was given.
+
+-- what a look-up gives first
+abbrev pub IsFirstSpan : Found → Span → Type 0
+IsFirstSpan found span = (rest : Found) × (found ≡ with_span span rest)
+
+-- and its bytes
+abbrev pub IsFirst : List ℕ → Found → List ℕ → Type 0
+IsFirst b found value = (span : Span) × IsFirstSpan found span × (value ≡ bytes_of b span)
+
+-- why it was not given: the store failed, there was no memory, or the look-up is damaged
+abbrev pub GettingFails : {S : Type 0} → ℕ → Ghosts S → (key : List ℕ) → (old new : S) → ReadFault
+    → Type 0
+GettingFails w s key old new Device = s.failures old < s.failures new
+GettingFails w s key old new NoMemory = Unit {0}
+GettingFails w s key old new (Table n) =
+    (b : List ℕ) → s.image new b → lookup_of w b key ≡ found_damaged (damage.Table n)
+GettingFails w s key old new (Record place) =
+    (b : List ℕ) → s.image new b → lookup_of w b key ≡ found_damaged (damage.Record place)
+GettingFails w s key old new fault = ⊥

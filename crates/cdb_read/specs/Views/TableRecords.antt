@@ -1,9 +1,8 @@
 -- What a check keeps of the records of a walk, and which of them slots have pointed to.
-use Rattle.std.specs.Prelude.{ℕ, ◌≡◌, ◌<◌, Bool, false, List, [], ◌∷◌, ◌++◌, map, length, All}
-use Rattle.std.specs.Prelude.{slice_index}
+use Rattle.std.specs.Prelude.{ℕ, ◌≡◌, ◌<◌, Bool, false, List, [], ◌∷◌, ◌++◌, map, length, All, slice_index}
 use Rattle.std.specs.List.{list_any}
 use Rattle.std.specs.List.Sorted.{IsStrictlyIncreasing}
-use Rattle.cdb_form.specs.Format.Pair.{WordPair}
+use Rattle.cdb_form.specs.Format.{WordPair}
 use Rattle.cdb_form.specs.declared.slot.Slot.{Slot}
 use Rattle.cdb_read.specs.Sound.{has_place}
 use Rattle.cdb_read.specs.declared.checking.table_records.TableRecords.{TableRecords}

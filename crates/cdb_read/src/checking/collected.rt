@@ -1,7 +1,6 @@
 // The records of a walk, collected table by table.
 ghost use Rattle.std.specs.Prelude.{◌≡◌, ℕ, List, IfOk, IfErr, length};
-ghost use Rattle.cdb_read.specs.Views.Check.{CheckTells};
-ghost use Rattle.cdb_read.specs.Views.Checked.{HasEntries, WalkHas};
+ghost use Rattle.cdb_read.specs.Views.Check.{CheckTells, HasEntries, WalkHas};
 ghost use Rattle.cdb_store.specs.Reads.{OnlyReads};
 
 use crate::checking::record_lists::{add_entry, no_lists};

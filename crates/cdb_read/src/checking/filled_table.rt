@@ -1,12 +1,10 @@
 // A table that its records fill in their order, as a maker leaves it.
 ghost use Rattle.std.specs.Prelude.{◌≡◌, ℕ, ◌*◌, ◌<◌, ◌≤◌, ◌^◌, List, true, get_or, length, replicate, IfOk, IfErr};
-ghost use Rattle.cdb_form.specs.Format.Pair.{pair_size};
-ghost use Rattle.cdb_form.specs.Format.Table.{slots_of};
-ghost use Rattle.cdb_form.specs.Views.Pairs.{pointer_pair};
-ghost use Rattle.cdb_form.specs.Views.SlotBytes.{slots_in};
+ghost use Rattle.cdb_form.specs.Format.{pair_size, slots_of};
+ghost use Rattle.cdb_form.specs.Views.Pairs.{pointer_pair, slots_in};
 ghost use Rattle.cdb_store.specs.Reads.{OnlyReads};
-ghost use Rattle.cdb_read.specs.Views.FilledTable.{AreFresh, IsFilled};
-ghost use Rattle.cdb_read.specs.Views.Inside.{StandsInside};
+ghost use Rattle.cdb_read.specs.Views.Check.{AreFresh, IsFilled};
+ghost use Rattle.cdb_read.specs.Views.Spans.{StandsInside};
 ghost use Rattle.cdb_read.specs.Views.Reads.{StoreFails};
 ghost use Rattle.cdb_read.specs.Views.TableRecords.{entry_pairs};
 ghost use Rattle.cdb_read.specs.Views.Window.{Shows};

@@ -1,6 +1,6 @@
 // The hash of a key that is in a store.
 ghost use Rattle.std.specs.Prelude.{◌≡◌, ℕ, ◌+◌, ◌<◌, ◌≤◌, ◌^◌, List, IfOk, IfErr};
-ghost use Rattle.cdb_form.specs.Format.Hash.{key_hash};
+ghost use Rattle.cdb_form.specs.Format.{key_hash};
 ghost use Rattle.cdb_read.specs.Lookup.{bytes_of};
 ghost use Rattle.cdb_store.specs.Reads.{OnlyReads};
 ghost use Rattle.cdb_read.specs.Views.Reads.{StoreFails};

@@ -1,8 +1,8 @@
 // The records of a walk, table by table.
 ghost use Rattle.std.specs.Prelude.{◌≡◌, [], List, IfOk, OnOk, length, option_map};
-ghost use Rattle.cdb_form.specs.Format.Pair.{WordPair};
+ghost use Rattle.cdb_form.specs.Format.{WordPair};
 ghost use Rattle.cdb_form.specs.declared.damage.Damage.TheVariants.{Unindexed};
-ghost use Rattle.cdb_read.specs.Faults.{first_of, lost_fault};
+ghost use Rattle.cdb_read.specs.Sound.{first_of, lost_fault};
 ghost use Rattle.cdb_read.specs.Views.RecordLists.{earlier_of, HasAdded, ListsMark};
 
 use crate::checking::table_records::TableRecords;

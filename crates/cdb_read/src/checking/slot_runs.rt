@@ -1,11 +1,10 @@
 // Runs of used slots, one after the other.
-ghost use Rattle.std.specs.Prelude.{◌≡◌, ℕ, ◌+◌, ◌*◌, ◌<◌, ◌≤◌, ◌^◌, ◌∷◌, [], ◌++◌, List};
-ghost use Rattle.std.specs.Prelude.{IfOk, IfErr};
-ghost use Rattle.cdb_form.specs.Format.Pair.{WordPair};
+ghost use Rattle.std.specs.Prelude.{◌≡◌, ℕ, ◌+◌, ◌*◌, ◌<◌, ◌≤◌, ◌^◌, ◌∷◌, [], ◌++◌, List, IfOk, IfErr};
+ghost use Rattle.cdb_form.specs.Format.{WordPair};
 ghost use Rattle.cdb_form.specs.Views.Pairs.{pointer_pair, slot_pair};
 ghost use Rattle.cdb_read.specs.Lookup.{slots_at};
-ghost use Rattle.cdb_read.specs.SlotRuns.{run_of};
-ghost use Rattle.cdb_read.specs.Views.Inside.{StandsInside};
+ghost use Rattle.cdb_read.specs.Sound.{run_of};
+ghost use Rattle.cdb_read.specs.Views.Spans.{StandsInside};
 ghost use Rattle.cdb_store.specs.Reads.{OnlyReads};
 ghost use Rattle.cdb_read.specs.Views.Reads.{StoreFails};
 ghost use Rattle.cdb_read.specs.Views.Window.{Shows};

@@ -1,11 +1,9 @@
 // The slots of tables, checked against the records of a walk.
 ghost use Rattle.std.specs.Prelude.{◌≡◌, ℕ, ◌<◌, ◌^◌, List, All, map, length, OnOk, IfErr};
-ghost use Rattle.cdb_form.specs.Format.Reading.{head_at};
+ghost use Rattle.cdb_form.specs.Format.{head_at};
 ghost use Rattle.cdb_form.specs.Views.Pairs.{pointer_pair, slot_pair};
-ghost use Rattle.cdb_read.specs.Views.Check.{FaultTells, ReadTells};
-ghost use Rattle.cdb_read.specs.Views.Checked.{SlotIsClear, SlotHas, TableIsClear, TableHas};
-ghost use Rattle.cdb_read.specs.Views.Checked.{TablesAreClear, TablesHave};
-ghost use Rattle.cdb_read.specs.Views.Inside.{StandsInside};
+ghost use Rattle.cdb_read.specs.Views.Check.{FaultTells, ReadTells, SlotIsClear, SlotHas, TableIsClear, TableHas, TablesAreClear, TablesHave};
+ghost use Rattle.cdb_read.specs.Views.Spans.{StandsInside};
 ghost use Rattle.cdb_store.specs.Reads.{OnlyReads};
 ghost use Rattle.cdb_read.specs.Views.Window.{Shows};
 

@@ -2,9 +2,8 @@
 ghost use Rattle.std.specs.Prelude.{◌≡◌, ℕ, List, All, map, length, OnOk, IfErr};
 ghost use Rattle.cdb_form.specs.Views.Pairs.{pointer_pair};
 ghost use Rattle.cdb_read.specs.Sound.{IsSound};
-ghost use Rattle.cdb_read.specs.Views.Check.{CheckFails, ReadTells};
-ghost use Rattle.cdb_read.specs.Views.Checked.{TablesAreClear, TablesHave};
-ghost use Rattle.cdb_read.specs.Views.Inside.{StandsInside};
+ghost use Rattle.cdb_read.specs.Views.Check.{CheckFails, ReadTells, TablesAreClear, TablesHave};
+ghost use Rattle.cdb_read.specs.Views.Spans.{StandsInside};
 ghost use Rattle.cdb_store.specs.Reads.{OnlyReads};
 
 use crate::checking::collected::walk_entries;

@@ -1,6 +1,5 @@
 // The records of a walk whose keys have one table, as a check keeps them.
-ghost use Rattle.std.specs.Prelude.{◌≡◌, ◌<◌, ◌≤◌, ◌^◌, [], OnOk, IfSome, MatchOption, length};
-ghost use Rattle.std.specs.Prelude.{get_or, replicate, slice_set, true, false, List, option_map};
+ghost use Rattle.std.specs.Prelude.{◌≡◌, ◌<◌, ◌≤◌, ◌^◌, [], OnOk, IfSome, MatchOption, length, get_or, replicate, slice_set, true, false, List, option_map};
 
 use crate::checking::directory::Directory;
 use cdb_form::{Slot, table_number};
@@ -24,12 +23,12 @@ pub(crate) struct TableRecords {
 impl TableRecords {
     ghost use Rattle.std.specs.List.{list_any};
     ghost use Rattle.std.specs.List.Sorted.{IsStrictlyIncreasing};
-    ghost use Rattle.cdb_form.specs.Format.Pair.{WordPair};
+    ghost use Rattle.cdb_form.specs.Format.{WordPair};
     ghost use Rattle.cdb_form.specs.Views.Pairs.{slot_pair};
     ghost use Rattle.cdb_form.specs.declared.damage.Damage.TheVariants.{Unindexed};
-    ghost use Rattle.cdb_read.specs.Faults.{first_of, is_same, lost_fault};
+    ghost use Rattle.cdb_read.specs.Sound.{first_of, is_same, lost_fault};
     ghost use Rattle.cdb_read.specs.Views.TableRecords.{entry_pairs, HasEntry, HasMore, Marks};
-    ghost use Rattle.cdb_read.specs.Views.FilledTable.{AreFresh};
+    ghost use Rattle.cdb_read.specs.Views.Check.{AreFresh};
 
     /// No records.
     pub(crate) fn new(alloc: Global) -> TableRecords

@@ -1,14 +1,12 @@
 // The values of a key, one after the other.
-ghost use Rattle.std.specs.Prelude.{◌≡◌, ℕ, ◌+◌, ◌<◌, ◌≤◌, List, IfOk, IfErr};
-ghost use Rattle.std.specs.Prelude.{MatchOption, Ok, Err, None};
-ghost use Rattle.cdb_form.specs.Format.Hash.{key_hash};
+ghost use Rattle.std.specs.Prelude.{◌≡◌, ℕ, ◌+◌, ◌<◌, ◌≤◌, List, IfOk, IfErr, MatchOption, Ok, Err, None};
+ghost use Rattle.cdb_form.specs.Format.{key_hash};
 ghost use Rattle.cdb_form.specs.Views.KnownBytes.{Writes};
 ghost use Rattle.cdb_read.specs.Lookup.{bytes_of, lookup_of};
 ghost use Rattle.cdb_store.specs.Reads.{OnlyReads};
 ghost use Rattle.cdb_read.specs.declared.fault.ReadFault.TheVariants.{Output};
 ghost use Rattle.cdb_read.specs.Views.Reads.{StoreFails, CopyingFails};
-ghost use Rattle.cdb_read.specs.Views.Search.{found_ahead, Meets, MetWithin};
-ghost use Rattle.cdb_read.specs.Views.Probing.{ProbeInside, IsSearchInside};
+ghost use Rattle.cdb_read.specs.Views.Search.{found_ahead, Meets, MetWithin, ProbeInside, IsSearchInside};
 
 use crate::fault::ReadFault;
 use crate::lookup::probe::{Probe, Searching, first_probe};
@@ -129,8 +127,7 @@ impl<S: Store, L: Width> Reader<S, L> {
 }
 
 impl<'a, S: Store, L: Width> Finder<'a, S, L> {
-    ghost use Rattle.cdb_read.specs.Views.Finder.{GivesSpan, GivesNone, FindingFails};
-    ghost use Rattle.cdb_read.specs.Views.Finder.{HasEnded, HasNoTable, HasNoRecord};
+    ghost use Rattle.cdb_read.specs.Views.Finder.{GivesSpan, GivesNone, FindingFails, HasEnded, HasNoTable, HasNoRecord};
     ghost use Rattle.cdb_read.specs.declared.fault.ReadFault.TheVariants.{Table, Record};
 
     /// The next value. From the second on more bytes are read at once than it needs.

@@ -1,7 +1,7 @@
 // The first value of a key.
 ghost use Rattle.std.specs.Prelude.{◌≡◌, ℕ, ◌+◌, ◌≤◌, List, IfOk, IfErr, IfSome, IsErrOf, MatchOption};
 ghost use Rattle.cdb_read.specs.Lookup.{lookup_of, nothing_found};
-ghost use Rattle.cdb_read.specs.Views.Getting.{IsFirst, IsFirstSpan, GettingFails};
+ghost use Rattle.cdb_read.specs.Views.Search.{IsFirst, IsFirstSpan, GettingFails};
 ghost use Rattle.cdb_read.specs.declared.fault.ReadFault.TheVariants.{NoMemory};
 ghost use Rattle.cdb_store.specs.Reads.{OnlyReads};
 

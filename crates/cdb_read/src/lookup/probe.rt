@@ -1,12 +1,11 @@
 // How far a search is.
 ghost use Rattle.std.specs.Prelude.{◌≡◌, ◌<◌, ℕ, List, length};
 ghost use Rattle.std.specs.Bool.{Decides};
-ghost use Rattle.cdb_form.specs.Format.Hash.{key_hash};
+ghost use Rattle.cdb_form.specs.Format.{key_hash};
 ghost use Rattle.cdb_form.specs.Views.Pairs.{pointer_pair};
 ghost use Rattle.cdb_read.specs.Lookup.{found_by};
-ghost use Rattle.cdb_read.specs.Views.Inside.{LiesInside};
-ghost use Rattle.cdb_read.specs.Views.Probing.{next_probe, IsSearchInside};
-ghost use Rattle.cdb_read.specs.Views.Search.{found_ahead};
+ghost use Rattle.cdb_read.specs.Views.Spans.{LiesInside};
+ghost use Rattle.cdb_read.specs.Views.Search.{next_probe, IsSearchInside, found_ahead};
 
 use cdb_form::{Pointer, Width, head_size, home_slot, pair_size, table_number};
 

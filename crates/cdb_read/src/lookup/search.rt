@@ -1,11 +1,10 @@
 // The search of a key in a table.
 ghost use Rattle.std.specs.Prelude.{◌≡◌, ℕ, ◌<◌, ◌^◌, List, length, IfOk, IfErr};
-ghost use Rattle.cdb_form.specs.Format.Hash.{key_hash};
+ghost use Rattle.cdb_form.specs.Format.{key_hash};
 ghost use Rattle.cdb_form.specs.Views.Pairs.{slot_pair};
 ghost use Rattle.cdb_store.specs.Reads.{OnlyReads};
 ghost use Rattle.cdb_read.specs.Views.Reads.{StoreFails};
-ghost use Rattle.cdb_read.specs.Views.Search.{probe_slot, ProbedFrom, ProbedWithin, Meets, MetWithin};
-ghost use Rattle.cdb_read.specs.Views.Probing.{ProbeInside};
+ghost use Rattle.cdb_read.specs.Views.Search.{probe_slot, ProbedFrom, ProbedWithin, Meets, MetWithin, ProbeInside};
 ghost use Rattle.cdb_read.specs.Views.Window.{Shows};
 
 use crate::fault::ReadFault;

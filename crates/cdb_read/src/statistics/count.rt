@@ -1,13 +1,12 @@
 // Counts what a database holds.
 ghost use Rattle.std.specs.Prelude.{◌≡◌, ℕ, List, All, map, IfOk, IfErr};
-ghost use Rattle.cdb_form.specs.Format.Reading.{head_at};
+ghost use Rattle.cdb_form.specs.Format.{head_at};
 ghost use Rattle.cdb_form.specs.Views.Pairs.{pointer_pair};
 ghost use Rattle.cdb_read.specs.Statistics.{distances_of};
-ghost use Rattle.cdb_read.specs.Views.Counting.{Counts};
-ghost use Rattle.cdb_read.specs.Views.Inside.{StandsInside};
+ghost use Rattle.cdb_read.specs.Views.Stats.{Counts, HasStats, StatsFail};
+ghost use Rattle.cdb_read.specs.Views.Spans.{StandsInside};
 ghost use Rattle.cdb_store.specs.Reads.{OnlyReads};
 ghost use Rattle.cdb_read.specs.Views.Reads.{StoreFails};
-ghost use Rattle.cdb_read.specs.Views.Stats.{HasStats, StatsFail};
 
 use crate::fault::ReadFault;
 use crate::reader::Reader;

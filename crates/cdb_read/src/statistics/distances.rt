@@ -16,7 +16,7 @@ pub(crate) struct Distances {
 }
 
 impl Distances {
-    ghost use Rattle.cdb_read.specs.Views.Counting.{Counts};
+    ghost use Rattle.cdb_read.specs.Views.Stats.{Counts};
 
     /// That of no slots.
     pub(crate) fn new() -> Distances

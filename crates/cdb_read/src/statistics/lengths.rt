@@ -1,6 +1,6 @@
 // How long the keys and the values of a database are.
 ghost use Rattle.std.specs.Prelude.{◌≡◌, ℕ, List, IfOk, IfErr};
-ghost use Rattle.cdb_read.specs.Views.Lengths.{HasLengths, LengthsFail};
+ghost use Rattle.cdb_read.specs.Views.Reads.{HasLengths, LengthsFail};
 ghost use Rattle.cdb_store.specs.Reads.{OnlyReads};
 
 use crate::fault::ReadFault;

@@ -17,7 +17,7 @@ pub(crate) struct Spread {
 
 impl Spread {
     ghost use Rattle.cdb_read.specs.Statistics.{average_of};
-    ghost use Rattle.cdb_read.specs.Views.Counting.{Spreads};
+    ghost use Rattle.cdb_read.specs.Views.Stats.{Spreads};
 
     /// That of no numbers.
     pub(crate) fn new() -> Spread

@@ -42,7 +42,7 @@ pub struct Stats {
 
 impl Stats {
     ghost use Rattle.cdb_read.specs.Statistics.{stats_of};
-    ghost use Rattle.cdb_read.specs.Views.Counting.{Counts, Spreads};
+    ghost use Rattle.cdb_read.specs.Views.Stats.{Counts, Spreads};
 
     /// What the lengths of records, the sizes of tables and the slots of them come to.
     pub(crate) fn from_counts(lengths: &Lengths, sizes: &Spread, distances: &Distances) -> Stats

@@ -1,6 +1,5 @@
 // A walk over the records of a database.
-ghost use Rattle.std.specs.Prelude.{◌≡◌, ℕ, ◌+◌, ◌<◌, ◌≤◌, List, IfOk, IfErr, MatchOption};
-ghost use Rattle.std.specs.Prelude.{Ok, Err, None, OnOk};
+ghost use Rattle.std.specs.Prelude.{◌≡◌, ℕ, ◌+◌, ◌<◌, ◌≤◌, List, IfOk, IfErr, MatchOption, Ok, Err, None, OnOk};
 ghost use Rattle.cdb_read.specs.Lookup.{bytes_of};
 ghost use Rattle.cdb_store.specs.Reads.{OnlyReads};
 ghost use Rattle.cdb_read.specs.Views.Reads.{ValueFails};
@@ -23,8 +22,7 @@ pub struct Walk<'a, S: Store, L: Width> {
 }
 
 impl<'a, S: Store, L: Width> Walk<'a, S, L> {
-    ghost use Rattle.cdb_read.specs.Views.Walk.{GivesRecord, GivesNoRecord, WalkingFails};
-    ghost use Rattle.cdb_read.specs.Views.Walk.{HasWalked, HasNoTable, HasNoRecord, GivesRecords};
+    ghost use Rattle.cdb_read.specs.Views.Walking.{GivesRecord, GivesNoRecord, WalkingFails, HasWalked, HasNoTable, HasNoRecord, GivesRecords};
     ghost use Rattle.cdb_read.specs.declared.fault.ReadFault.TheVariants.{Table, Record, Device};
 
     /// Where the next record lies, or `None` at the record end.

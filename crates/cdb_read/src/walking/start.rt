@@ -1,12 +1,10 @@
 // A walk is begun, or goes on.
 ghost use Rattle.std.specs.Prelude.{◌≡◌, ℕ, ◌+◌, ◌<◌, ◌≤◌, List, IfOk, IfErr, OnOk};
-ghost use Rattle.cdb_form.specs.Format.Walk.{walk_of};
-ghost use Rattle.cdb_form.specs.Format.Pair.{head_size};
+ghost use Rattle.cdb_form.specs.Format.{walk_of, head_size};
 ghost use Rattle.cdb_read.specs.Lookup.{bytes_of};
 ghost use Rattle.cdb_store.specs.Reads.{OnlyReads};
 ghost use Rattle.cdb_read.specs.Views.Reads.{StoreFails, ValueFails};
-ghost use Rattle.cdb_read.specs.Views.Walking.{walk_ahead, next_place, StandsAt, StandsWithin};
-ghost use Rattle.cdb_read.specs.Views.Walk.{left_of, place_of};
+ghost use Rattle.cdb_read.specs.Views.Walking.{walk_ahead, next_place, StandsAt, StandsWithin, left_of, place_of};
 
 use crate::fault::ReadFault;
 use crate::reader::Reader;

@@ -1,7 +1,6 @@
 // The next whole records of a walk, as bytes.
 ghost use Rattle.std.specs.Prelude.{◌≡◌, ◌≤◌, length, sum_by, IfOk, IfErr};
-ghost use Rattle.cdb_form.specs.Format.Record.{record_size};
-ghost use Rattle.cdb_form.specs.Format.Walk.{whole_records};
+ghost use Rattle.cdb_form.specs.Format.{record_size, whole_records};
 ghost use Rattle.cdb_store.specs.Reads.{OnlyReads};
 ghost use Rattle.cdb_read.specs.Views.Reads.{StoreFails};
 ghost use Rattle.cdb_read.specs.Views.Walking.{RecordsAhead};

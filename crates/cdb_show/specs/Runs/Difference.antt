@@ -1,22 +1,19 @@
 -- What a run that writes the difference of two databases leaves, in words of w bytes. An image is one
 -- of its store as it was handed back.
-use Rattle.std.specs.Prelude.{ℕ, ◌≡◌, ◌<◌, ◌≤◌, ⊤, Bool, true, false, nat_lt, if◌then◌else◌}
-use Rattle.std.specs.Prelude.{List, length, Option, None, Some, option_map, Result, OnOk, IfErr}
+use Rattle.std.specs.Prelude.{ℕ, ◌≡◌, ◌<◌, ◌≤◌, ⊤, Bool, true, false, nat_lt, if◌then◌else◌, List, length, Option, None, Some, option_map, Result, OnOk, IfErr}
 use Rattle.std.specs.Option.{option_or}
 use Rattle.std.specs.Io.KnownBytes.{Keeps}
 use Rattle.cdb_store.specs.declared.store.Store.{Ghosts}
 use Rattle.cdb_store.specs.Reads.{OnlyReads}
-use Rattle.cdb_form.specs.Format.Pair.{head_size}
+use Rattle.cdb_form.specs.Format.{head_size}
 use Rattle.cdb_form.specs.declared.damage.Damage.TheVariants as damage
-pub use Rattle.cdb_difference.specs.Difference.{HasDamage, InBoth, IsOneDamaged, WritesDifference}
-pub use Rattle.cdb_difference.specs.Difference.{WritesDifferencePrefix, difference_of}
-use Rattle.cdb_read.specs.OtherWidth.{lacks_tables}
+pub use Rattle.cdb_read.specs.Differing.{HasDamage, InBoth, IsOneDamaged, WritesDifference, WritesDifferencePrefix, difference_of}
+use Rattle.cdb_read.specs.Sound.{lacks_tables}
 use Rattle.cdb_read.specs.Statistics.{outside_table}
 use Rattle.cdb_read.specs.declared.fault.ReadFault.{ReadFault}
 use Rattle.cdb_read.specs.declared.fault.ReadFault.TheVariants as read
 use Rattle.cdb_show.specs.declared.fault.Fault.{Fault}
-use Rattle.cdb_show.specs.declared.fault.Fault.TheVariants.{Old, New, Output, NoMemory}
-use Rattle.cdb_show.specs.declared.fault.Fault.TheVariants.{NoOldTables, NoNewTables}
+use Rattle.cdb_show.specs.declared.fault.Fault.TheVariants.{Old, New, Output, NoMemory, NoOldTables, NoNewTables}
 
 -- ---- what is compared
 

@@ -1,7 +1,6 @@
 -- What inputs say, one after the other: their items, and the fault of the one that ends them.
 use Rattle.cdb_command.specs.declared.style.Style.TheVariants.{Map, Native}
-use Rattle.cdb_form.specs.Text.Amending.{Change}
-use Rattle.cdb_form.specs.Text.Parse.{parse, parse_list, parse_map, Parsed}
+use Rattle.cdb_form.specs.Text.Parse.{Change, parse, parse_list, parse_map, Parsed}
 use Rattle.cdb_form.specs.declared.text.fault.TextFault.{TextFault}
 use Rattle.cdb_show.specs.Runs.Inputs.{InputForm, Puts, Changes, Lists}
 use Rattle.cdb_show.specs.declared.fault.Fault.{Fault}

@@ -1,6 +1,6 @@
 -- The items of some inputs as they come, and what is known of the bytes of the inputs.
-use Rattle.cdb_form.specs.Format.Record.{AreBytes}
-use Rattle.cdb_form.specs.Text.Amending.{Change}
+use Rattle.cdb_form.specs.Format.{AreBytes}
+use Rattle.cdb_form.specs.Text.Parse.{Change}
 use Rattle.cdb_show.specs.Runs.Inputs.{OneInput, InputsLeft}
 use Rattle.std.specs.Prelude.{ℕ, List, Option, Some, None, ⊤, map, ◌+◌, [], ◌∷◌, ◌++◌, ◌≡◌}
 use Rattle.cdb_show.specs.Runs.Inputs as form

@@ -1,22 +1,17 @@
 -- What was read of the bytes of an input, or a fault of its text: the function of its bytes says the same.
 use Rattle.std.proofs.Common.{◌≡◌, ℕ, List, [], ◌++◌, map, sym, ap, subst, ◌∙◌, Ok, Err}
 use Rattle.std.proofs.lemmas.List.{map-append}
-use Rattle.cdb_feed.specs.Parsing as fed
+use Rattle.cdb_show.specs.Feed as fed
 use Rattle.cdb_command.specs.declared.style.Style.TheVariants.{Native, Map}
-use Rattle.cdb_form.specs.Format.Record.{AreBytes}
-use Rattle.cdb_form.specs.Text.Amending.{Change, Putting, SpellsChange}
-use Rattle.cdb_form.specs.Text.List.{SpellsKey}
+use Rattle.cdb_form.specs.Format.{AreBytes}
+use Rattle.cdb_form.specs.Text.Parse.{Change, Putting, SpellsChange, SpellsKey, Parsed}
 use Rattle.cdb_form.specs.Text.Native.{Spells}
-use Rattle.cdb_form.specs.Text.Parse.{Parsed}
 use Rattle.cdb_form.specs.Views.TextFault.{IsOfText}
 use Rattle.cdb_form.specs.declared.text.fault.TextFault.{TextFault}
 use Rattle.cdb_form.proofs.Bytes.ByteLemmas.{AreBytes-nil}
-use Rattle.cdb_form.proofs.NativeTexts.Parsing.{native_is, native_fault_is, native_begins}
-use Rattle.cdb_form.proofs.NativeTexts.Parsing.{amending_is, amending_fault_is, amending_begins}
-use Rattle.cdb_form.proofs.NativeTexts.Parsing.{list_is, list_fault_is, list_begins, bytes_left}
+use Rattle.cdb_form.proofs.NativeTexts.Parsing.{native_is, native_fault_is, native_begins, amending_is, amending_fault_is, amending_begins, list_is, list_fault_is, list_begins, bytes_left}
 use Rattle.cdb_show.specs.Runs.Given.{input_parsed}
-use Rattle.cdb_show.specs.Runs.Inputs.{InputForm, Puts, Changes, Lists, HasFaults, IsInputOf}
-use Rattle.cdb_show.specs.Runs.Inputs.{BeginsWithItems, HasItemFault}
+use Rattle.cdb_show.specs.Runs.Inputs.{InputForm, Puts, Changes, Lists, HasFaults, IsInputOf, BeginsWithItems, HasItemFault}
 
 -- it is what the function says
 pub text_input : (f : InputForm) (g : ℕ) (items : List Change) (input rest : List ℕ)

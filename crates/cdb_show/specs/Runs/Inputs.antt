@@ -1,15 +1,11 @@
 -- The items of the inputs of a run, by the form of its inputs. An input is the bytes of its reader, if
 -- they are known.
-use Rattle.std.specs.Prelude.{ℕ, ◌≡◌, ◌+◌, ◌*◌, ◌^◌, ◌≤◌, Bool, true, false, List, [], ◌∷◌, ◌++◌}
-use Rattle.std.specs.Prelude.{length, map, flat_map, Option, Some, IfSome, ⊤}
-use Rattle.cdb_form.specs.Format.Record.{KeyValue}
-use Rattle.cdb_form.specs.Text.Amending.{Change, Putting, Removing, SpellsChange, SpelledChanges}
-use Rattle.cdb_form.specs.Text.Amending.{ReadsChanges}
+use Rattle.std.specs.Prelude.{ℕ, ◌≡◌, ◌+◌, ◌*◌, ◌^◌, ◌≤◌, Bool, true, false, List, [], ◌∷◌, ◌++◌, length, map, flat_map, Option, Some, IfSome, ⊤}
+use Rattle.cdb_form.specs.Format.{KeyValue}
+use Rattle.cdb_form.specs.Text.Parse.{Change, Putting, Removing, SpellsChange, SpelledChanges, ReadsChanges, SpellsKey, SpelledKeys, ReadsKeys, listed}
 use Rattle.cdb_form.specs.Text.Form.{WholeItems, HasFault}
-use Rattle.cdb_form.specs.Text.List.{SpellsKey, SpelledKeys, ReadsKeys}
 use Rattle.cdb_form.specs.Text.Map.{map_lines}
 use Rattle.cdb_form.specs.Text.Native.{Spells, Spelled, Reads}
-use Rattle.cdb_form.specs.Text.Parse.{listed}
 use Rattle.cdb_form.specs.Views.KnownBytes.{FromTo}
 use Rattle.cdb_form.specs.Views.MapReader.{ReadAmid}
 use Rattle.cdb_form.specs.Views.TextFault.{IsOfText, IsReadFault}

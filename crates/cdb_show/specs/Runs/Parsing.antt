@@ -1,9 +1,8 @@
 -- What the function of the bytes of an input makes of them, and how clauses of what was read say so.
 use Rattle.std.specs.Prelude.{◌≡◌, ◌≢◌, ℕ, List, Option, None, Some, Result, Err, IfSome, ⊤}
-use Rattle.cdb_feed.specs.Inputs.{Stop, HasFault, CutShort}
-use Rattle.cdb_feed.specs.Parsing.{Parsing}
-use Rattle.cdb_form.specs.Format.Record.{AreBytes}
-use Rattle.cdb_form.specs.Text.Amending.{Change}
+use Rattle.cdb_show.specs.Feed.{Stop, HasFault, CutShort, Parsing}
+use Rattle.cdb_form.specs.Format.{AreBytes}
+use Rattle.cdb_form.specs.Text.Parse.{Change}
 use Rattle.cdb_form.specs.Views.TextFault.{IsOfText}
 use Rattle.cdb_form.specs.declared.text.fault.TextFault.{TextFault}
 use Rattle.cdb_form.specs.declared.text.fault.TextFault.TheVariants.{Syntax, Ended, Large}

@@ -1,19 +1,59 @@
--- What the text of a file leaves, whatever gives the bytes of the file. What was written is named
--- first, and then what it is of each file that agrees with what was taken: `f` is what may have been
--- left before the run, and `r` what may be left after it.
-use Rattle.std.specs.Prelude.{ℕ, ◌≡◌, List, [], ◌++◌, Option, None, Some, Result, OnOk, IfErr, flat_map}
+-- What a dump and a list leave, and what reading a whole file does.
+use Rattle.std.specs.Prelude.{ℕ, ◌≡◌, List, [], codes, ◌++◌, Option, None, Some, Result, OnOk, IfErr, flat_map}
+use Rattle.cdb_form.specs.Format.{KeyValue, record_of, Walked, walk_of}
+use Rattle.cdb_form.specs.Text.Native.{spelling_of}
+use Rattle.cdb_form.specs.Text.Map.{map_line}
+use Rattle.cdb_form.specs.Text.Parse.{list_line, key_line}
+use Rattle.cdb_command.specs.declared.style.Style.{Style}
+use Rattle.cdb_command.specs.declared.style.Style.TheVariants.{Native, Map}
+use Rattle.cdb_show.specs.declared.runs.content.Content.{Content}
+use Rattle.cdb_show.specs.declared.runs.content.Content.TheVariants.{Records, Keys}
 use Rattle.std.specs.Io.KnownBytes.{Appends}
 use Rattle.cdb_form.specs.Views.Feed.{Feed, Consumes, FromTo}
-use Rattle.cdb_form.specs.Format.Record.{KeyValue}
-use Rattle.cdb_form.specs.Format.Walk.{Walked, walk_of}
 use Rattle.cdb_form.specs.Views.KnownBytes.{AppendsPrefix}
 use Rattle.cdb_form.specs.Views.RecordReader.{behind_records}
 use Rattle.cdb_form.specs.Views.WalkFault.{damage_of}
 use Rattle.cdb_form.specs.declared.damage.Damage.{Damage}
 use Rattle.cdb_form.specs.declared.walk.fault.WalkFault.TheVariants as walk
-use Rattle.cdb_show.specs.Runs.Form.{Form}
 use Rattle.cdb_show.specs.declared.fault.Fault.{Fault}
-use Rattle.cdb_show.specs.declared.fault.Fault.TheVariants.{Walk, Output, NoMemory}
+use Rattle.cdb_show.specs.declared.fault.Fault.TheVariants.{Walk, Output, NoMemory, Long}
+use Rattle.cdb_form.specs.Views.Taking.{GivesMore, LosesAtMost}
+
+-- ---- How the text of a file is formed, by its style: of its records, or of their keys alone.
+
+-- what a text has of each record, and what ends it
+pub record Form : Type 0 where
+  pub item : KeyValue → List ℕ
+  pub end : List ℕ
+
+abbrev pub item_of : Content → Style → KeyValue → List ℕ
+item_of Records Native r = spelling_of r
+item_of Records Map r = map_line r
+item_of Keys Native r = list_line r.key
+item_of Keys Map r = key_line r.key
+
+abbrev pub end_of : Style → List ℕ
+end_of Native = codes "\n"
+end_of Map = []
+
+abbrev pub form_of : Content → Style → Form
+form_of content style = record { item = item_of content style; end = end_of style }
+
+-- a dump has the records, a list their keys
+abbrev pub dump_form : Style → Form
+dump_form style = form_of Records style
+
+abbrev pub list_form : Style → Form
+list_form style = form_of Keys style
+
+-- what a text has of this record is in this key and this value
+abbrev pub IsHeld : Content → (key value : List ℕ) → KeyValue → Type 0
+IsHeld Records key value r = r ≡ record_of key value
+IsHeld Keys key value r = r.key ≡ key
+
+-- ---- What the text of a file leaves, whatever gives the bytes of the file. What was written is named
+-- first, and then what it is of each file that agrees with what was taken: `f` is what may have been
+-- left before the run, and `r` what may be left after it.
 
 -- what ends a text, which a damage leaves out
 abbrev pub closing : Form → Option Damage → List ℕ
@@ -86,3 +126,13 @@ pub record WritesWalk (w : ℕ) (form : Form) (file rest : Feed) (old new : Opti
     (result : Result Unit Fault) : Type 0 where
   pub ok : OnOk result (WritesAll w form file rest old new)
   pub err : IfErr result (WritingFails w form file rest old new)
+
+-- ---- What stops a load of a file, whatever gives the bytes of the file.
+
+-- what a fault leaves: of a longer file one byte above the most was taken; if the reader failed or
+-- memory ran out, no more than the most
+abbrev pub LoadStops : ℕ → (old new : Feed) → Fault → Type 0
+LoadStops most old new Long = (bytes : List ℕ) × GivesMore most old new bytes
+LoadStops most old new (Walk walk.Input) = LosesAtMost old new most × new.failed
+LoadStops most old new NoMemory = LosesAtMost old new most
+LoadStops most old new fault = ⊥

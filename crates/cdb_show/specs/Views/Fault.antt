@@ -10,8 +10,8 @@ use Rattle.cdb_store.specs.declared.make_fault.MakeFault.{MakeFault}
 use Rattle.cdb_store.specs.declared.make_fault.MakeFault.TheVariants as make
 use Rattle.cdb_read.specs.declared.fault.ReadFault.{ReadFault}
 use Rattle.cdb_read.specs.declared.fault.ReadFault.TheVariants as read
-use Rattle.cdb_difference.specs.declared.stop.Stop.{Stop}
-use Rattle.cdb_difference.specs.declared.stop.Stop.TheVariants.{Own, Other}
+use Rattle.cdb_read.specs.declared.difference.stop.Stop.{Stop}
+use Rattle.cdb_read.specs.declared.difference.stop.Stop.TheVariants.{Own, Other}
 use Rattle.cdb_show.specs.declared.fault.Fault.{Fault}
 use Rattle.cdb_show.specs.declared.fault.Fault.TheVariants.{Text, Make, Read, Walk, Output}
 use Rattle.cdb_show.specs.declared.fault.Fault.TheVariants.{Duplicate, Missing, Long, Open, Rename}

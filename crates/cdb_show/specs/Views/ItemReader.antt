@@ -3,8 +3,8 @@ use Rattle.std.specs.Prelude.{List, false, true, ◌≡◌, ◌^◌, ℕ}
 use Rattle.cdb_form.specs.Views.Feed.{Feed}
 use Rattle.cdb_form.specs.Views.FormReader as fed
 use Rattle.cdb_form.specs.Views.MapReader as fed_map
-use Rattle.cdb_form.specs.Format.Record.{KeyValue}
-use Rattle.cdb_form.specs.Text.Amending.{Change, Putting, SpellsChange}
+use Rattle.cdb_form.specs.Format.{KeyValue}
+use Rattle.cdb_form.specs.Text.Parse.{Change, Putting, SpellsChange}
 use Rattle.cdb_form.specs.Text.Native.{Spells}
 use Rattle.cdb_form.specs.declared.text.fault.TextFault.{TextFault}
 use Rattle.cdb_command.specs.declared.style.Style.TheVariants as style

@@ -4,7 +4,7 @@ use Rattle.std.specs.Prelude.{List, ◌≡◌, ◌^◌, ℕ}
 use Rattle.cdb_form.specs.Views.Feed.{Feed}
 use Rattle.cdb_form.specs.Views.ListReader as fed_list
 use Rattle.cdb_form.specs.Views.MapReader as fed_map
-use Rattle.cdb_form.specs.Format.Record.{KeyValue}
+use Rattle.cdb_form.specs.Format.{KeyValue}
 use Rattle.cdb_form.specs.declared.text.fault.TextFault.{TextFault}
 use Rattle.cdb_form.specs.declared.text.map_reader.MapReader.{MapReader}
 use Rattle.cdb_command.specs.declared.style.Style.TheVariants as style

@@ -2,11 +2,10 @@
 use Rattle.std.specs.Prelude.{ℕ, ◌≡◌, List, ◌++◌, Option}
 use Rattle.cdb_store.specs.Reads.{OnlyReads}
 use Rattle.cdb_store.specs.declared.store.Store.{Ghosts}
-use Rattle.cdb_form.specs.Text.Amending.{Change}
+use Rattle.cdb_form.specs.Text.Parse.{Change}
 use Rattle.cdb_form.specs.declared.width.Width.{Ghosts as Widths}
 use Rattle.cdb_show.specs.Runs.Inputs.{keys_of}
-use Rattle.cdb_show.specs.Runs.LookupTask.{LookupTask, lookup_task}
-use Rattle.cdb_show.specs.Runs.Lookups.{HasLooked, LookupsStopAt}
+use Rattle.cdb_show.specs.Runs.Lookups.{LookupTask, lookup_task, HasLooked, LookupsStopAt}
 use Rattle.cdb_show.specs.declared.fault.Fault.{Fault}
 use Rattle.cdb_show.specs.declared.runs.lookups.LookUps.{LookUps}
 

@@ -1,7 +1,7 @@
 // Whether a database is sound.
 ghost use Rattle.std.specs.Prelude.{OnOk, IfErr};
 ghost use Rattle.cdb_store.specs.Reads.{OnlyReads};
-ghost use Rattle.cdb_show.specs.Runs.Check.{FindsSound, CheckingFails};
+ghost use Rattle.cdb_show.specs.Runs.Stats.{FindsSound, CheckingFails};
 
 use crate::fault::Fault;
 use cdb_form::Width;

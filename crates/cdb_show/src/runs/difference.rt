@@ -5,8 +5,8 @@ ghost use Rattle.cdb_show.specs.Runs.Difference.{TellsDifference, difference_sta
 
 use crate::fault::Fault;
 use crate::runs::flushed::flushed;
-use cdb_difference::write_difference;
 use cdb_form::{Sink, Width};
+use cdb_read::difference::write_difference;
 use cdb_read::{ReadFault, Reader};
 use cdb_store::Store;
 use std::alloc::Global;
@@ -72,7 +72,7 @@ fn difference_unflushed<L: Width, S: Store, T: Store, W: Sink>(
 
 /// Writes what changed between two databases, the old one and the new one, as an amending text:
 /// done to the old one, it leaves a database that answers each key as the new one does. It is the
-/// text of `cdb_difference::write_difference`. The faults:
+/// text of `cdb_read::difference::write_difference`. The faults:
 /// - `Old(fault)`, `New(fault)`: this database was not read: it is `Short`, or table `n` lies
 ///   outside of it, `Table(n)`, the first such one by its number; or its walk or a look-up met the
 ///   damage `Record(place)`, or its store failed, `Device`;

@@ -1,13 +1,12 @@
 // The items of an input, whatever its form, of any bytes that agree with what was taken of it.
 ghost use Rattle.std.specs.Prelude.{◌≡◌, true, false, Some, None, IfErr, IfOk, IfSome, MatchOption};
-ghost use Rattle.cdb_form.specs.Format.Record.{KeyValue};
-ghost use Rattle.cdb_form.specs.Text.Amending.{Putting};
+ghost use Rattle.cdb_form.specs.Format.{KeyValue};
+ghost use Rattle.cdb_form.specs.Text.Parse.{Putting};
 ghost use Rattle.cdb_form.specs.Views.Pairs.{change_in};
 ghost use Rattle.cdb_form.specs.Views.Prefix.{shown_by};
 ghost use Rattle.cdb_form.specs.declared.item.ItemKind.TheVariants.{Put};
 ghost use Rattle.cdb_show.specs.Runs.Inputs.{input_form};
-ghost use Rattle.cdb_show.specs.Views.ItemReader.{Fails, GivesEnd, GivesItem, HasPeeked, IsNew};
-ghost use Rattle.cdb_show.specs.Views.ItemReader.{form_of, reader_of};
+ghost use Rattle.cdb_show.specs.Views.ItemReader.{Fails, GivesEnd, GivesItem, HasPeeked, IsNew, form_of, reader_of};
 
 use cdb_command::Style;
 use cdb_form::{

@@ -3,7 +3,7 @@ ghost use Rattle.std.specs.Prelude.{◌≡◌, ◌+◌, ◌-◌, ◌^◌, ◌<�
 ghost use Rattle.cdb_store.specs.Contents.{contents};
 ghost use Rattle.cdb_form.specs.Views.Feed.{reader_feed};
 ghost use Rattle.cdb_form.specs.Views.Taking.{GivesAll, LosesAtMost};
-ghost use Rattle.cdb_show.specs.Runs.Load.{LoadStops};
+ghost use Rattle.cdb_show.specs.Runs.WalkText.{LoadStops};
 
 use crate::fault::Fault;
 use cdb_form::{Extent, Feeds, read_whole};

@@ -3,10 +3,9 @@ ghost use Rattle.std.specs.Prelude.{◌≤◌, List, IfSome, IfErr, OnOk};
 ghost use Rattle.std.proofs.Props.{props};
 ghost use Rattle.cdb_show.specs.Views.Output.{OutputSays};
 ghost use Rattle.cdb_form.specs.Views.Feed as fed;
-ghost use Rattle.cdb_form.specs.Text.Amending.{Change};
+ghost use Rattle.cdb_form.specs.Text.Parse.{Change};
 ghost use Rattle.cdb_show.specs.Runs.Inputs.{IsInputOf};
-ghost use Rattle.cdb_show.specs.Runs.LookedUp.{key_query};
-ghost use Rattle.cdb_show.specs.Runs.Lookups.{StopsBehind};
+ghost use Rattle.cdb_show.specs.Runs.Lookups.{key_query, StopsBehind};
 ghost use Rattle.cdb_show.specs.Runs.Query.{Queries};
 ghost use Rattle.cdb_show.specs.Views.KeyReader.{form_of, reader_of, IsNew};
 

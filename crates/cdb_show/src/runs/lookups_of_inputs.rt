@@ -1,19 +1,17 @@
 // The records of the keys that some inputs give, whose readers come back.
-ghost use Rattle.std.specs.Prelude.{◌≡◌, ◌+◌, ◌≤◌, ◌++◌, ℕ, List, [], Option, None, Err};
-ghost use Rattle.std.specs.Prelude.{IfErr, IfSome, OnOk, drop, length};
-ghost use Rattle.cdb_feed.specs.Inputs.{AreRead, NoMore, ReaderFailed, SomeFailed, TakesOne};
+ghost use Rattle.std.specs.Prelude.{◌≡◌, ◌+◌, ◌≤◌, ◌++◌, ℕ, List, [], Option, None, Err, IfErr, IfSome, OnOk, drop, length};
+ghost use Rattle.cdb_show.specs.Feed.{AreRead, NoMore, ReaderFailed, SomeFailed, TakesOne};
 ghost use Rattle.cdb_form.specs.Views.Feed.{FromTo};
-ghost use Rattle.cdb_form.specs.Text.Amending.{Change};
-ghost use Rattle.cdb_show.specs.Runs.Lookups.{LookupsLeave, LooksUp, StopsInText};
-ghost use Rattle.cdb_show.specs.Runs.LookupTask.{lookup_state, lookup_task};
+ghost use Rattle.cdb_form.specs.Text.Parse.{Change};
+ghost use Rattle.cdb_show.specs.Runs.Lookups.{LookupsLeave, LooksUp, StopsInText, HasLooked, LookupsStopAt, StopsBehind, lookup_state, lookup_task};
 ghost use Rattle.cdb_show.specs.Runs.Inputs.{IsInputOf, keys_form, keys_of, keys_of_each};
-ghost use Rattle.cdb_show.specs.Runs.Lookups.{HasLooked, LookupsStopAt, StopsBehind};
 ghost use Rattle.cdb_show.specs.Runs.Parsing.{IsFaultOf, fault_in, stop_of, stopped_parsing};
-ghost use Rattle.cdb_show.specs.Views.Inputs.{shared_feed};
+ghost use Rattle.cdb_show.specs.Views.Noted.{shared_feed};
 ghost use Rattle.cdb_show.specs.Views.LookUps.{GoesOn, Looks, StopsLooking, task_of};
 ghost use Rattle.cdb_show.specs.Views.Output.{OutputSays};
 ghost use Rattle.cdb_show.specs.Views.Window.{feed_of};
 
+use crate::InputReader;
 use crate::fault::Fault;
 use crate::inputs::{Inputs, SharedWindow};
 use crate::lines::{InLined, Lined, Lines};
@@ -23,7 +21,6 @@ use crate::runs::lookup_options::LookupOptions;
 use crate::runs::lookups::LookUps;
 use crate::runs::walk_text::write_last;
 use crate::window::{InWindow, Window};
-use cdb_feed::InputReader;
 use cdb_form::{Feeds, Sink, Width};
 use cdb_read::Reader;
 use cdb_store::Store;

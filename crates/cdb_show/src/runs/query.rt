@@ -14,8 +14,8 @@ use crate::fault::Fault;
 use crate::runs::flushed::flushed;
 use crate::runs::shown::Shown;
 use cdb_command::Style;
-use cdb_difference::write_put;
 use cdb_form::{OutFault, Sink, Width, write_pieces, write_whole};
+use cdb_read::difference::write_put;
 use cdb_read::{Finder, ReadFault, Reader, Span};
 use cdb_store::Store;
 

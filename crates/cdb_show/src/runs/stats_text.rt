@@ -1,8 +1,7 @@
 // The text of statistics.
 ghost use Rattle.std.specs.Prelude.{OnErr, ◌++◌, codes, decimal};
 ghost use Rattle.cdb_form.specs.Views.KnownBytes.{Writes};
-ghost use Rattle.cdb_show.specs.Runs.StatsText.{count_line, triple_line, distance_lines};
-ghost use Rattle.cdb_show.specs.Runs.StatsText.{stats_text};
+ghost use Rattle.cdb_show.specs.Runs.Stats.{count_line, triple_line, distance_lines, stats_text};
 
 use cdb_form::{OutFault, Sink, write_pieces};
 use cdb_read::Stats;

@@ -1,8 +1,7 @@
 // A file made a text: a dump has its records, a list their keys.
 ghost use Rattle.std.specs.Prelude.{ℕ, List, Option};
 ghost use Rattle.cdb_show.specs.Views.Output.{OutputSays};
-ghost use Rattle.cdb_show.specs.Runs.Form.{form_of, dump_form, list_form};
-ghost use Rattle.cdb_show.specs.Runs.WalkText.{WritesWalk};
+ghost use Rattle.cdb_show.specs.Runs.WalkText.{form_of, dump_form, list_form, WritesWalk};
 ghost use Rattle.cdb_form.specs.Views.Feed.{reader_feed};
 
 use crate::fault::Fault;

@@ -1,12 +1,10 @@
 // The text of the records or of the keys of a file.
 ghost use Rattle.std.specs.Prelude.{OnErr, ◌≡◌, IfOk, IfErr, MatchBool};
 ghost use Rattle.cdb_show.specs.Views.Output.{OutputSays};
-ghost use Rattle.cdb_form.specs.Format.Record.{KeyValue};
+ghost use Rattle.cdb_form.specs.Format.{KeyValue};
 ghost use Rattle.cdb_form.specs.Views.KnownBytes.{Writes};
-ghost use Rattle.cdb_form.specs.Views.RecordReader.{reader_of, IsFresh};
-ghost use Rattle.cdb_form.specs.Views.RecordReader.{GivesRecord, GivesEnd, Fails};
-ghost use Rattle.cdb_show.specs.Runs.Form.{item_of, end_of, form_of, IsHeld};
-ghost use Rattle.cdb_show.specs.Runs.WalkText.{WritesWalk};
+ghost use Rattle.cdb_form.specs.Views.RecordReader.{reader_of, IsFresh, GivesRecord, GivesEnd, Fails};
+ghost use Rattle.cdb_show.specs.Runs.WalkText.{item_of, end_of, form_of, IsHeld, WritesWalk};
 ghost use Rattle.cdb_show.specs.declared.runs.content.Content.TheVariants.{Keys};
 
 use crate::fault::Fault;

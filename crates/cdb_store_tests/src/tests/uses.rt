@@ -1,8 +1,7 @@
 // Uses of a store, as a caller writes them. `CALLING.md` shows the first.
 ghost use Rattle.std.specs.Prelude.{◌≡◌, ◌+◌, ◌<◌, ◌≤◌, ◌^◌, ℕ, List, length, OnOk, IfOk, IsErrOf};
 ghost use Rattle.cdb_store.specs.declared.store.StoreFault.TheVariants.{NoMemory};
-ghost use Rattle.cdb_store.specs.Images.{SameImages, ImagesHold};
-ghost use Rattle.cdb_store.specs.Laws.{StaysHeld};
+ghost use Rattle.cdb_store.specs.Images.{SameImages, ImagesHold, StaysHeld};
 
 use super::support::buffered::buffered;
 use cdb_store::{FileStore, MemStore, Store, StoreFault};

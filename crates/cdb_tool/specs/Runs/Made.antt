@@ -1,18 +1,14 @@
 -- What a run that makes a database comes to, if nothing is refused: a function of its options and of the
 -- bytes that it reads.
-use Rattle.std.specs.Prelude.{ℕ, nat_lt, if◌then◌else◌, List, [], Option, None, Some}
-use Rattle.std.specs.Prelude.{option_map, is_some, Result, Ok, Err}
+use Rattle.std.specs.Prelude.{ℕ, nat_lt, if◌then◌else◌, List, [], Option, None, Some, option_map, is_some, Result, Ok, Err}
 use Rattle.cdb_command.specs.declared.options.MakeOptions.{MakeOptions}
-use Rattle.cdb_form.specs.Format.File.{file_size, file_bytes}
-use Rattle.cdb_form.specs.Format.Record.{KeyValue}
-use Rattle.cdb_form.specs.Format.Walk.{Walked, walk_of}
+use Rattle.cdb_form.specs.Format.{file_size, file_bytes, KeyValue, Walked, walk_of}
 use Rattle.cdb_store.specs.declared.make_fault.MakeFault.TheVariants.{TooBig}
-use Rattle.cdb_read.specs.Views.ReadFault.{damage_fault}
+use Rattle.cdb_read.specs.Views.Reads.{damage_fault}
 use Rattle.cdb_show.specs.Message.{Told, plain_lines}
-use Rattle.cdb_tool.specs.Runs.Course.{Task, course_of, plain, task_of}
+use Rattle.cdb_tool.specs.Runs.Make.{Task, course_of, plain, task_of, records_of}
 use Rattle.cdb_show.specs.Runs.Incoming.{from_inputs}
 use Rattle.cdb_show.specs.Runs.Inputs.{input_form}
-use Rattle.cdb_tool.specs.Runs.Make.{records_of}
 use Rattle.cdb_show.specs.declared.fault.Fault.{Fault}
 use Rattle.cdb_show.specs.declared.fault.Fault.TheVariants.{Make, Read}
 use Rattle.cdb_show.specs.Runs.Given.{Given, given_from}

@@ -1,35 +1,185 @@
--- What a run leaves that makes a database of the records of a base, if it has one, and of what its
--- inputs say.
-use Rattle.std.specs.Prelude.{ℕ, ◌≡◌, ◌≢◌, ◌+◌, ◌<◌, ◌≤◌, ⊤, ◌⊎◌, List, [], ◌∷◌}
-use Rattle.std.specs.Prelude.{◌++◌, length, Option, None, Some, is_some, Result, IfSome, OnOk, IfErr}
-use Rattle.std.specs.Io.KnownBytes.{Appends}
-use Rattle.cdb_store.specs.Reads.{OnlyReads}
+-- What the run that makes a database leaves, of its base and its inputs.
+use Rattle.std.specs.Prelude.{ℕ, ◌≡◌, ◌<◌, ◌≤◌, ⊤, Bool, false, List, ◌++◌, Some, true, ◌&&◌, ◌||◌, if◌then◌else◌, [], ◌∷◌, fold, Option, None, unwrap_or, Result, Ok, Err, ◌≢◌, ◌+◌, ◌⊎◌, length, is_some, IfSome, OnOk, IfErr, ◌*◌, ◌^◌, take}
 use Rattle.cdb_store.specs.declared.store.Store.{Ghosts}
+use Rattle.cdb_form.specs.declared.damage.Damage.{Damage}
 use Rattle.cdb_form.specs.declared.width.Width.{Ghosts as Widths}
-use Rattle.cdb_form.specs.Format.File.{file_size}
-use Rattle.cdb_form.specs.Format.Record.{KeyValue}
-use Rattle.cdb_form.specs.Format.Walk.{walk_of}
-use Rattle.cdb_form.specs.Text.Amending.{Change}
-use Rattle.cdb_form.specs.Views.TextFault.{IsOfText}
+use Rattle.cdb_form.specs.Format.{file_size, KeyValue, Walked, no_walk, with_records, walk_of, file_bytes}
+use Rattle.cdb_make.specs.Views.Maker.{Holds, Follows, WhereHonest, IsFile, limit_of, told_count, IsUsable}
+use Rattle.cdb_store.specs.declared.make_fault.MakeFault.TheVariants.{TooBig, Writing, Lookup}
+use Rattle.cdb_make.specs.declared.maker.Maker.{Maker}
+use Rattle.cdb_read.specs.Views.Reads.{damage_fault}
+use Rattle.cdb_read.specs.declared.fault.ReadFault.TheVariants as read
+use Rattle.cdb_show.specs.declared.fault.Fault.{Fault}
+use Rattle.cdb_show.specs.declared.fault.Fault.TheVariants.{Make, Read, NoMemory, Duplicate, Output, Text}
+use Rattle.cdb_form.specs.Text.Parse.{Change, Putting, Removing}
+use Rattle.cdb_make.specs.Survivors.{put_step, put_result, without}
+use Rattle.cdb_store.specs.declared.make_fault.MakeFault.{MakeFault}
+use Rattle.cdb_form.specs.declared.mode.Mode.{Mode}
+use Rattle.cdb_form.specs.declared.mode.Mode.TheVariants.{Insert}
+use Rattle.cdb_make.specs.declared.answer.Put.{Put}
+use Rattle.cdb_make.specs.declared.answer.Put.TheVariants.{Added, AddedAgain, Present, Replaced}
+use Rattle.cdb_show.specs.Message.{TellsEach, TellsPart, Told}
+use Rattle.cdb_command.specs.declared.options.MakeOptions.{MakeOptions}
+use Rattle.cdb_tool.specs.declared.runs.options.RunOptions.{RunOptions}
+use Rattle.cdb_show.specs.Runs.Incoming.{Incoming, from_inputs, came}
+use Rattle.std.specs.Io.KnownBytes.{Appends, Keeps}
+use Rattle.cdb_store.specs.Reads.{OnlyReads}
+use Rattle.cdb_form.specs.Views.TextFault.{IsOfText, IsReadFault, LastRead}
 use Rattle.cdb_form.specs.declared.text.fault.TextFault.{TextFault}
 use Rattle.cdb_form.specs.declared.text.fault.TextFault.TheVariants as text_fault
-use Rattle.cdb_make.specs.Views.Maker.{Follows, Holds, WhereHonest, IsFile, limit_of, told_count, IsUsable}
-use Rattle.cdb_store.specs.declared.make_fault.MakeFault.TheVariants.{Lookup, Writing}
-use Rattle.cdb_make.specs.declared.maker.Maker.{Maker}
-use Rattle.cdb_read.specs.declared.fault.ReadFault.TheVariants as read
-use Rattle.cdb_tool.specs.Runs.Base.{NotAdded}
-use Rattle.cdb_tool.specs.Runs.Course.{Task, task_of, course_of, Goes}
-use Rattle.cdb_show.specs.Runs.Incoming.{Incoming, from_inputs}
-use Rattle.cdb_tool.specs.Runs.Course.{StopsSo}
-use Rattle.cdb_show.specs.Runs.Inputs.{InputForm, input_form, HasItemFault}
+use Rattle.cdb_show.specs.Runs.Inputs.{InputForm, input_form, HasItemFault, InputsLeft, AreInputs, AreAllInputs, FirstBegins, FirstHas, HasFaultBehind}
 use Rattle.cdb_show.specs.Runs.Parsing.{IsOfRun}
-use Rattle.cdb_show.specs.Runs.Inputs.{InputsLeft, AreInputs, AreAllInputs, FirstBegins, FirstHas}
 use Rattle.cdb_show.specs.Views.Output.{OutputSays}
-use Rattle.cdb_show.specs.declared.fault.Fault.{Fault}
-use Rattle.cdb_show.specs.declared.fault.Fault.TheVariants.{Text, Make, Read, NoMemory}
-use Rattle.cdb_tool.specs.declared.runs.options.RunOptions.{RunOptions}
 use Rattle.cdb_command.specs.declared.style.Style.TheVariants.{Native}
-use Rattle.cdb_show.specs.Runs.Incoming.{came}
+use Rattle.cdb_form.specs.Text.Native.{Spells, Spelled, Reads}
+use Rattle.cdb_form.specs.Views.Feed.{Feed, FromTo}
+use Rattle.cdb_form.specs.Views.KnownBytes.{AppendsPrefix}
+use Rattle.cdb_form.specs.Views.Taking.{Took}
+use Rattle.cdb_form.specs.Views.TextReader.{IsGoing, taken_of, asks_left}
+use Rattle.cdb_form.specs.declared.text.native_reader.TextReader.{TextReader}
+use Rattle.cdb_form.specs.declared.text.fault.TextFault.TheVariants.{Ended, Endless}
+
+-- ---- What is added of the records of a base, a window of them at once.
+
+-- the first records of what a walk had left were added; or nothing was left
+pub record AddsNext {S L : Type 0} {s : Ghosts S} {l : Widths L} (w : ℕ) (images : List ℕ → Type 0)
+    (left rest : List ℕ → Walked) (old new : Maker S L s l) (more : Bool) : Type 0 where
+  pub records : List KeyValue
+  pub given : (b : List ℕ) → images b → left b ≡ with_records records (rest b)
+  pub holds : (rs : List KeyValue) → Holds old rs → Holds new (rs ++ records)
+  pub ended : more ≡ false → (b : List ℕ) → images b → rest b ≡ no_walk
+
+-- why the records of a walk are not all added: they pass the limit, which comes first; or the walk has
+-- a damage; or the store or the memory failed
+abbrev pub NotAdded : (w limit : ℕ) → Walked → Fault → Type 0
+NotAdded w limit walk (Make TooBig) = limit < file_size w walk.records
+NotAdded w limit walk (Make Writing) = ⊤
+NotAdded w limit walk (Read read.Device) = ⊤
+NotAdded w limit walk (Read fault) = (damage : Damage) × (fault ≡ damage_fault damage)
+    × (walk.damage ≡ Some damage) × (file_size w walk.records ≤ limit)
+NotAdded w limit walk NoMemory = ⊤
+NotAdded w limit walk fault = ⊥
+
+-- ---- How a run that makes a database goes: it begins with the records of its base, if it has one; then
+-- what its inputs say is done, one item after the other, up to the one that ends it.
+
+-- what a run is to do: its options, and the records of its base, if it has one
+pub record Task : Type 0 where
+  pub options : RunOptions
+  pub base : Option (List KeyValue)
+
+abbrev pub task_of : RunOptions → Option (List KeyValue) → Task
+task_of options base = record { options = options; base = base }
+
+-- the options of a run that explains no duplicate
+abbrev pub plain : MakeOptions → RunOptions
+plain o = record { make = o; names = None }
+
+-- how each record is put
+abbrev pub mode_of : MakeOptions → Mode
+mode_of o = if o.stop then Insert else o.mode
+
+-- whether a put met records of its key
+abbrev pub meets_key : Put → Bool
+meets_key Added = false
+meets_key AddedAgain = true
+meets_key Present = true
+meets_key (Replaced n) = true
+
+-- a put of a key, by the numbers of its input and of its item there
+abbrev pub put_at : (input number : ℕ) → (key : List ℕ) → Told
+put_at input number key = record { input = input; number = number; key = key }
+
+-- what is reported of a put
+abbrev pub told : MakeOptions → ℕ → ℕ → (key : List ℕ) → Result Put MakeFault → List Told
+told o input number key (Ok put) =
+    if (o.warn || o.stop) && meets_key put
+    then put_at input number key ∷ [] else []
+told o input number key (Err fault) = []
+
+-- why it ends the run, or not
+abbrev pub ends : MakeOptions → Result Put MakeFault → Option Fault
+ends o (Ok Present) = if o.stop then Some Duplicate else None
+ends o (Ok put) = None
+ends o (Err fault) = Some (Make fault)
+
+-- the records that are held, the duplicates that were reported, and why the run has ended, or not
+pub record Course : Type 0 where
+  pub records : List KeyValue
+  pub told : List Told
+  pub ended : Option Fault
+
+-- before the inputs the records of the base are held, which were added one after the other
+abbrev pub at_start : Task → Course
+at_start t = record { records = unwrap_or t.base []; told = []; ended = None }
+
+abbrev pub is_going : Option Fault → Bool
+is_going None = true
+is_going (Some fault) = false
+
+-- a record of an input is put
+abbrev pub with_put : ℕ → MakeOptions → Course → ℕ → ℕ → KeyValue → Course
+with_put w o s input number r =
+    let answer = put_result w o.limit (mode_of o) r s.records in
+    record {
+      records = put_step w o.limit (mode_of o) r s.records;
+      told = s.told ++ told o input number r.key answer;
+      ended = ends o answer;
+    }
+
+-- an item is done: a removal takes out every record of its key, and nothing is said of it
+abbrev pub with_change : ℕ → MakeOptions → Course → ℕ → ℕ → Change → Course
+with_change w o s input number (Putting r) = with_put w o s input number r
+with_change w o s input number (Removing key) =
+    record { records = without key s.records; told = s.told; ended = s.ended }
+
+-- one item more comes, which is done unless the run has ended
+abbrev pub with_next : ℕ → MakeOptions → Course → Incoming → Course
+with_next w o s c = if is_going s.ended then with_change w o s c.input c.number c.it else s
+
+-- the course over these items
+abbrev pub course_of : ℕ → Task → List Incoming → Course
+course_of w t cs = fold (with_next w t.options.make) (at_start t) cs
+
+-- what is reported of a put if the run stops there: its line was appended, or a prefix of it if the writer failed
+abbrev pub TellFails : RunOptions → Told → Put → (old new : Option (List ℕ)) → Fault → Type 0
+TellFails o one put old new Duplicate =
+    TellsEach o.names (told o.make one.input one.number one.key (Ok put)) old new
+    × (ends o.make (Ok put) ≡ Some Duplicate)
+TellFails o one put old new Output =
+    TellsPart o.names (told o.make one.input one.number one.key (Ok put)) old new
+TellFails o one put old new fault = ⊥
+
+-- the run has not ended, and its lines were appended
+pub record Goes (w : ℕ) (t : Task) (cs : List Incoming) (old new : Option (List ℕ)) : Type 0
+  where
+    pub going : (course_of w t cs).ended ≡ None
+    pub lines : TellsEach t.options.names (course_of w t cs).told old new
+
+-- the last of these items ended it, and its lines were appended
+pub record EndsSo (w : ℕ) (t : Task) (cs : List Incoming) (fault : Fault)
+    (old new : Option (List ℕ)) : Type 0 where
+  pub before : List Incoming
+  pub last : Incoming
+  pub are : cs ≡ before ++ last ∷ []
+  pub going : (course_of w t before).ended ≡ None
+  pub ended : (course_of w t cs).ended ≡ Some fault
+  pub lines : TellsEach t.options.names (course_of w t cs).told old new
+
+-- how a run stopped after these items: by the last one; before it by a fault of the store or of
+-- memory; or by one of the writer of its lines
+abbrev pub StopsSo : ℕ → Task → List Incoming → Option (List ℕ) → Option (List ℕ) → Fault
+    → Type 0
+StopsSo w t cs old new (Make TooBig) = EndsSo w t cs (Make TooBig) old new
+StopsSo w t cs old new Duplicate = EndsSo w t cs Duplicate old new
+StopsSo w t cs old new (Make Lookup) = Goes w t cs old new
+StopsSo w t cs old new (Make Writing) = Goes w t cs old new
+StopsSo w t cs old new NoMemory = Goes w t cs old new
+StopsSo w t cs old new Output = TellsPart t.options.names (course_of w t cs).told old new
+StopsSo w t cs old new fault = ⊥
+
+-- ---- What a run leaves that makes a database of the records of a base, if it has one, and of what its
+-- inputs say.
 
 -- ---- the base
 
@@ -331,3 +481,82 @@ abbrev pub BaseStopped : {B : Type 0} → ℕ → ℕ → Ghosts B → Option B 
 BaseStopped w limit s None images fault = ⊥
 BaseStopped w limit s (Some base) images fault =
     (b : List ℕ) → s.image base b → WhereHonest images (BaseFails w limit b fault)
+
+-- ---- What the making of a file of a text leaves. A text is the bytes of its reader, if they are known, and
+-- the rest is what its reader has left.
+
+-- nothing was read of it, and its reader may get 2^48 requests
+pub record IsNewText {R L : Type 0} (text : TextReader R L) : Type 0 where
+  pub going : IsGoing text
+  pub taken : taken_of text ≡ 0
+  pub asks : asks_left text ≡ 2 ^ 48
+
+-- these are the records of the text, whose file fits, and what follows the text is unread
+pub record ReadsFitting (w greatest : ℕ) (text rest : Feed) (records : List KeyValue)
+    : Type 0 where
+  pub reads : FromTo text rest (Reads greatest records)
+  pub fits : file_size w records ≤ greatest
+
+-- the text has this fault, and the file of all whole records before it fits
+pub record FailsText (w greatest : ℕ) (text : List ℕ) (fault : TextFault) : Type 0 where
+  pub records : List KeyValue
+  pub fits : file_size w records ≤ greatest
+  pub behind : HasFaultBehind Spells greatest text records fault
+
+-- How far the text was read: up to the byte at its fault's place. If the reader failed, what it gave
+-- ends early as a text: after its whole records, whose file fits, it has neither a record nor the
+-- closing newline. It has no end only if it took 2^48 requests, of 1001 a byte at the most.
+pub record ReadsTo (w greatest : ℕ) (text rest : Feed) (fault : TextFault) : Type 0 where
+  pub taken : ℕ
+  pub took : Took text rest 0 taken
+  pub last : LastRead taken fault
+  pub part : FromTo text rest
+      (λ t r. IsReadFault fault → FailsText w greatest (take taken t) (Ended taken))
+  pub asked : fault ≡ Endless → 2 ^ 48 ≤ 1001 * (taken + 1)
+
+-- records were read up to the first with which their file doesn't fit
+pub record PassesGreatest (w greatest : ℕ) (text rest : List ℕ) : Type 0 where
+  pub before : List KeyValue
+  pub last : KeyValue
+  pub spelled : Spelled greatest (before ++ last ∷ []) text rest
+  pub fits : file_size w before ≤ greatest
+  pub larger : greatest < file_size w (before ++ last ∷ [])
+
+-- a text was read up to this fault
+pub record FailsRead (w greatest : ℕ) (text rest : Feed) (input : ℕ) (fault : TextFault)
+    : Type 0 where
+  pub first : input ≡ 1
+  pub memory : fault ≢ text_fault.NoMemory
+  pub read : ReadsTo w greatest text rest fault
+  pub fails : FromTo text rest (λ t r. IsOfText fault → FailsText w greatest t fault)
+
+-- why no file is made of a text
+abbrev pub TextNotRead : ℕ → ℕ → Feed → Feed → Fault → Type 0
+TextNotRead w greatest text rest (Text input fault) = FailsRead w greatest text rest input fault
+TextNotRead w greatest text rest (Make TooBig) = FromTo text rest (PassesGreatest w greatest)
+TextNotRead w greatest text rest NoMemory = ⊤
+TextNotRead w greatest text rest fault = ⊥
+
+-- the file of the text was appended
+pub record MakesFile (w greatest : ℕ) (text rest : Feed) (old new : Option (List ℕ)) : Type 0 where
+  pub records : List KeyValue
+  pub read : ReadsFitting w greatest text rest records
+  pub appended : Appends old new (file_bytes w records)
+
+-- a prefix of the file of the text was appended
+pub record MakesPrefix (w greatest : ℕ) (text rest : Feed) (old new : Option (List ℕ)) : Type 0 where
+  pub records : List KeyValue
+  pub read : ReadsFitting w greatest text rest records
+  pub appended : AppendsPrefix old new (file_bytes w records)
+
+-- what a fault leaves: a prefix of the file if the writer failed, else nothing was written
+abbrev pub MakeFails : ℕ → ℕ → (text rest : Feed) → (old new : Option (List ℕ)) → Fault → Type 0
+MakeFails w greatest text rest old new Output = MakesPrefix w greatest text rest old new
+MakeFails w greatest text rest old new fault =
+    TextNotRead w greatest text rest fault × Keeps old new
+
+-- what a run leaves
+pub record MakesBytes (w greatest : ℕ) (text rest : Feed) (old new : Option (List ℕ)) (result : Result Unit Fault)
+    : Type 0 where
+  pub ok : OnOk result (MakesFile w greatest text rest old new)
+  pub err : IfErr result (MakeFails w greatest text rest old new)

@@ -1,37 +1,30 @@
 // A database made of the records of a base, if there is one, and of what some inputs say.
-ghost use Rattle.std.specs.Prelude.{◌≡◌, ◌+◌, ◌<◌, ◌≤◌, ℕ, List, [], map, Option, is_some};
-ghost use Rattle.std.specs.Prelude.{Result, Ok, Err, length, IfErr, OnOk};
+ghost use Rattle.std.specs.Prelude.{◌≡◌, ◌+◌, ◌<◌, ◌≤◌, ℕ, List, [], map, Option, is_some, Result, Ok, Err, length, IfErr, OnOk};
 ghost use Rattle.cdb_form.specs.Views.Feed.{FromTo};
-ghost use Rattle.cdb_form.specs.Format.Pair.{head_size};
-ghost use Rattle.cdb_form.specs.Text.Amending.{Change};
-ghost use Rattle.cdb_feed.specs.Inputs.{AreRead, NoMore, ReaderFailed, SomeFailed, TakesOne};
+ghost use Rattle.cdb_form.specs.Format.{head_size};
+ghost use Rattle.cdb_form.specs.Text.Parse.{Change};
+ghost use Rattle.cdb_show.specs.Feed.{AreRead, NoMore, ReaderFailed, SomeFailed, TakesOne};
 ghost use Rattle.cdb_make.specs.Views.Maker.{WhereHonest};
 ghost use Rattle.cdb_show.specs.Runs.Inputs.{IsInputOf, input_form, own_inputs};
 ghost use Rattle.cdb_show.specs.Runs.Lookups.{StopsBehind};
 ghost use Rattle.cdb_show.specs.Runs.Parsing.{IsFaultOf};
-ghost use Rattle.cdb_show.specs.Views.Inputs.{ArePassed, shared_feed};
+ghost use Rattle.cdb_show.specs.Views.Noted.{ArePassed, shared_feed};
 ghost use Rattle.cdb_show.specs.Views.Output.{OutputSays};
 ghost use Rattle.cdb_show.specs.Views.Window.{feed_of};
 ghost use Rattle.cdb_show.specs.declared.fault.Fault.TheVariants.{NoMemory};
-ghost use Rattle.cdb_tool.specs.Runs.Course.{plain};
-ghost use Rattle.cdb_tool.specs.Runs.FormParsing.{parsing};
-ghost use Rattle.cdb_tool.specs.Runs.InputsRead.{RunsRead, StopsInput, WereRead};
-ghost use Rattle.cdb_tool.specs.Runs.InputsRead.{feeds_of, run_state, stop_by};
-ghost use Rattle.cdb_tool.specs.Runs.Make.{StepsOn, MakeRuns, IsOfStore, IsOfBase};
-ghost use Rattle.cdb_tool.specs.Runs.Make.{OfBase, HandsBack, BaseHasFailed};
-ghost use Rattle.cdb_tool.specs.Runs.Make.{PutsInputs, PutsInputsStop, PutsItems, PutsStop};
-ghost use Rattle.cdb_tool.specs.Runs.Make.{progress, terms_of};
+ghost use Rattle.cdb_tool.specs.Runs.Make.{plain, StepsOn, MakeRuns, IsOfStore, IsOfBase, OfBase, HandsBack, BaseHasFailed, PutsInputs, PutsInputsStop, PutsItems, PutsStop, progress, terms_of};
+ghost use Rattle.cdb_tool.specs.Runs.InputsRead.{parsing, RunsRead, StopsInput, WereRead, feeds_of, run_state, stop_by};
 
 use crate::runs::context::RunContext;
 use crate::runs::make_base::add_base;
 use crate::runs::make_input::{Turn, put_input};
 use crate::runs::options::RunOptions;
 use cdb_command::MakeOptions;
-use cdb_feed::InputReader;
 use cdb_form::{Feeds, Sink, Width};
 use cdb_make::Maker;
 use cdb_show::{
-    Fault, InLined, InWindow, Inputs, ItemReader, Lined, Lines, SharedWindow, Window, flushed,
+    Fault, InLined, InWindow, InputReader, Inputs, ItemReader, Lined, Lines, SharedWindow, Window,
+    flushed,
 };
 use cdb_store::Store;
 use std::alloc::Global;

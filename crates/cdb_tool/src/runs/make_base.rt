@@ -1,14 +1,11 @@
 // The records of a base, which a maker begins with.
 ghost use Rattle.std.specs.Prelude.{◌≡◌, ◌<◌, ◌≤◌, ℕ, List, [], true, OnOk, IfOk, IfErr};
 ghost use Rattle.cdb_store.specs.Reads.{OnlyReads};
-ghost use Rattle.cdb_form.specs.Format.Record.{KeyValue};
-ghost use Rattle.cdb_form.specs.Format.Walk.{with_records};
+ghost use Rattle.cdb_form.specs.Format.{KeyValue, with_records};
 ghost use Rattle.cdb_make.specs.Views.Maker.{Follows, Holds, WhereHonest, limit_of, store_of};
-ghost use Rattle.cdb_read.specs.Views.Walk.{left_of, bytes_left};
+ghost use Rattle.cdb_read.specs.Views.Walking.{left_of, bytes_left};
 ghost use Rattle.cdb_show.specs.Views.Output.{OutputSays};
-ghost use Rattle.cdb_tool.specs.Runs.Base.{AddsNext, NotAdded};
-ghost use Rattle.cdb_tool.specs.Runs.Make.{BaseFails, HandsBack, BaseHasFailed, IsOfMaking, StepsOn};
-ghost use Rattle.cdb_tool.specs.Runs.Make.{AddsBase, HoldsBase, BaseStopped};
+ghost use Rattle.cdb_tool.specs.Runs.Make.{AddsNext, NotAdded, BaseFails, HandsBack, BaseHasFailed, IsOfMaking, StepsOn, AddsBase, HoldsBase, BaseStopped};
 ghost use Rattle.cdb_show.specs.declared.fault.Fault.TheVariants.{NoMemory};
 
 use cdb_form::Width;

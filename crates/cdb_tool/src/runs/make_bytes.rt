@@ -1,13 +1,12 @@
 // A text made a file.
 ghost use Rattle.std.specs.Prelude.{◌≡◌, ℕ, [], List, Option, IfOk, IfErr};
 ghost use Rattle.cdb_show.specs.Views.Output.{OutputSays};
-ghost use Rattle.cdb_form.specs.Format.File.{file_bytes};
-ghost use Rattle.cdb_form.specs.Format.Record.{KeyValue};
+ghost use Rattle.cdb_form.specs.Format.{file_bytes, KeyValue};
 ghost use Rattle.cdb_form.specs.Views.Feed.{reader_feed};
 ghost use Rattle.cdb_form.specs.Views.TextReader.{reader_of};
 ghost use Rattle.cdb_make.specs.Views.Maker.{Holds, limit_of};
 ghost use Rattle.cdb_show.specs.declared.fault.Fault.TheVariants.{NoMemory};
-ghost use Rattle.cdb_tool.specs.Runs.MakeBytes.{IsNewText, ReadsFitting, TextNotRead, MakesBytes};
+ghost use Rattle.cdb_tool.specs.Runs.Make.{IsNewText, ReadsFitting, TextNotRead, MakesBytes};
 
 use cdb_form::{Feeds, Record, Sink, TextReader, Width, write_whole};
 use cdb_make::{Maker, Mode};

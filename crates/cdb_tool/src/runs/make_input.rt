@@ -1,9 +1,8 @@
 // The items of an input, one after the other: records are put, and keys removed.
-ghost use Rattle.std.specs.Prelude.{◌≡◌, ◌+◌, ◌<◌, ◌≤◌, ℕ, List, [], ◌∷◌, ◌++◌, length, Option};
-ghost use Rattle.std.specs.Prelude.{◌||◌, None, Ok, OnOk, OnErr, IfErr};
+ghost use Rattle.std.specs.Prelude.{◌≡◌, ◌+◌, ◌<◌, ◌≤◌, ℕ, List, [], ◌∷◌, ◌++◌, length, Option, ◌||◌, None, Ok, OnOk, OnErr, IfErr};
 ghost use Rattle.cdb_form.specs.Views.Feed.{FromTo};
-ghost use Rattle.cdb_form.specs.Format.Record.{KeyValue};
-ghost use Rattle.cdb_form.specs.Text.Amending.{Change, Putting, Removing};
+ghost use Rattle.cdb_form.specs.Format.{KeyValue};
+ghost use Rattle.cdb_form.specs.Text.Parse.{Change, Putting, Removing};
 ghost use Rattle.cdb_form.specs.Views.Pairs.{change_in};
 ghost use Rattle.cdb_make.specs.Views.Maker.{Follows, WhereHonest, store_of};
 ghost use Rattle.cdb_show.specs.Message.{TellsEach, TellsPart};
@@ -13,10 +12,7 @@ ghost use Rattle.cdb_show.specs.Runs.Lookups.{StopsBehind};
 ghost use Rattle.cdb_show.specs.Views.ItemReader.{form_of, reader_of, IsNew};
 ghost use Rattle.cdb_show.specs.Views.Output.{OutputSays};
 ghost use Rattle.cdb_show.specs.declared.fault.Fault.TheVariants.{NoMemory};
-ghost use Rattle.cdb_tool.specs.Runs.Course.{mode_of, meets_key, put_at, told};
-ghost use Rattle.cdb_tool.specs.Runs.Course.{StopsSo, Task, ends, TellFails};
-ghost use Rattle.cdb_tool.specs.Runs.Make.{DoesItem, InCourse, StepsOn, IsOfStore, IsOfBase};
-ghost use Rattle.cdb_tool.specs.Runs.Make.{IsHalt, IsOfMaking, PutsItems, PutsStop, progress};
+ghost use Rattle.cdb_tool.specs.Runs.Make.{mode_of, meets_key, put_at, told, StopsSo, Task, ends, TellFails, DoesItem, InCourse, StepsOn, IsOfStore, IsOfBase, IsHalt, IsOfMaking, PutsItems, PutsStop, progress};
 ghost use Rattle.cdb_tool.specs.declared.runs.options.RunOptions.{RunOptions};
 
 use crate::runs::context::RunContext;

@@ -3,9 +3,9 @@
 use super::differing::made;
 use super::fakes::{FakeWriter, NotingWriter, SlowWriter};
 use super::worked::File;
-use cdb_feed::InputReader;
 use cdb_form::{Narrow, TextFault, Wide, Width};
 use cdb_read::ReadFault;
+use cdb_show::InputReader;
 use cdb_store::{FuseStore, MemStore, Store};
 use cdb_tool::{Fault, Inputs, Lines, LookupOptions, Style, lookups_run, query_run};
 use std::alloc::{AllocError, Global};

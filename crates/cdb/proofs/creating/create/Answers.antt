@@ -4,9 +4,9 @@ use Rattle.std.proofs.Common.{map, option_map, string_bytes, ◌≡◌, ◌⊎�
 use Rattle.cdb_names.specs.Replacing.{IsNoName}
 use Rattle.cdb_system.specs.Answered.{if_some}
 use Rattle.cdb_system.specs.Opening.{base_left}
-use Rattle.cdb_system.specs.Places.{temporary_of}
+use Rattle.cdb_system.specs.State.{temporary_of}
 use Rattle.cdb.specs.Contents.{sources_left}
-use Rattle.cdb.specs.Machine.{machine_of}
+use Rattle.cdb.specs.Agreeing.{machine_of}
 use Rattle.cdb.specs.Reasons.{HasFailedFile, HasRefusedFile, HasRefusedName, calls_made, left_reasons, run_reasons, store_reasons}
 use Rattle.cdb.proofs.Reasons.{all_opened, each_weaker, file_then, reason_weaker, some_any}
 use Rattle.cdb.proofs.creating.create.Goals as goal

@@ -4,7 +4,7 @@ use Rattle.cdb.proofs.Databases.{database_synced, named_says, synced_says}
 use Rattle.cdb.proofs.HandedBack.{hands_left, making_opens, missing_opens}
 use Rattle.std.proofs.Common.{map, option_map, string_bytes}
 use Rattle.cdb.specs.Contents.{sources_left}
-use Rattle.cdb.specs.Machine.{machine_of}
+use Rattle.cdb.specs.Agreeing.{machine_of}
 use Rattle.cdb.specs.Reasons.{AnyStoreFailed, calls_made, left_reasons, run_reasons}
 use Rattle.cdb.proofs.NameReasons.{finds_one}
 use Rattle.cdb.proofs.Reasons.{each_weaker, emptying_reason, seen_reason, some_any, synced_reason}

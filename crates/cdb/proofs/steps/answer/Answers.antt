@@ -1,6 +1,6 @@
 use Rattle.cdb.proofs.Words.{Err, Keeps-refl, Ok, [], ap, inl, inr, output_bytes, refl, rules, says_more}
 use Rattle.cdb_command.specs.Refused.{refused_in}
-use Rattle.cdb_system.specs.CauseLine.{more_of}
+use Rattle.cdb_system.specs.Causes.{more_of}
 use Rattle.cdb_system.proofs.Explained.{none_said}
 use Rattle.cdb.proofs.steps.answer.Goals as goal
 

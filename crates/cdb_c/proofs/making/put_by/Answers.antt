@@ -1,8 +1,7 @@
 use Rattle.std.proofs.Common.{IfErr, subst}
 use Rattle.cdb_form.specs.declared.mode.Mode.{Mode}
 use Rattle.cdb_make.specs.Views.Maker.{FailsPutting}
-use Rattle.cdb_handle.specs.Kept.{kept_in}
-use Rattle.cdb_handle.specs.Calls.{BetweenCalls}
+use Rattle.cdb_c.specs.Calls.{kept_in, BetweenCalls}
 use Rattle.cdb_c.proofs.making.put_by.Goals as goal
 
 -- src/making.rt:30:1

@@ -1,5 +1,5 @@
 use Rattle.std.proofs.Common.{ℕ, subst}
-use Rattle.cdb_memory.specs.Walks.{WalkBegins}
+use Rattle.cdb_read.specs.Memory.{WalkBegins}
 use Rattle.cdb_c.specs.Answers.{rest_at}
 use Rattle.cdb_c.proofs.walking.cdb_c_record_end.Goals as goal
 

@@ -1,5 +1,5 @@
 use Rattle.std.proofs.Common.{◌≡◌, drop}
-use Rattle.cdb_command.specs.Explained.{have}
+use Rattle.cdb_command.specs.Refused.{have}
 use Rattle.cdb_command.proofs.explained.have.Given as goal
 
 abbrev pub invariant-loop-letter : goal.invariant-loop-letter

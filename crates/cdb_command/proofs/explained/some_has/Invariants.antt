@@ -1,5 +1,5 @@
 use Rattle.std.proofs.Common.{◌≡◌, drop, map, string_bytes}
-use Rattle.cdb_command.specs.Explained.{some_has}
+use Rattle.cdb_command.specs.Refused.{some_has}
 use Rattle.cdb_command.proofs.explained.some_has.Given as goal
 
 abbrev pub invariant-loop-word : goal.invariant-loop-word

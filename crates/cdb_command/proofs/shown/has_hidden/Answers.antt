@@ -1,7 +1,7 @@
 use Rattle.std.proofs.Common.{◌≡◌, ◌∙◌, ◌++◌, ◌||◌, ap, sym, ℕ, List, Bool, true, false, IsUtf8, encode_utf8}
 use Rattle.std.proofs.lemmas.Str.{IsUtf8-past_char, chars_past_char}
 use Rattle.std.specs.List.{list_any}
-use Rattle.cdb_command.specs.Shown.{has_hidden, is_hidden}
+use Rattle.cdb_command.specs.Refused.{has_hidden, is_hidden}
 use Rattle.cdb_command.proofs.Characters.{no_chars}
 use Rattle.cdb_command.proofs.shown.has_hidden.Goals as goal
 

@@ -1,5 +1,5 @@
 use Rattle.std.proofs.Common.{◌≡◌, IsUtf8}
-use Rattle.cdb_command.specs.Shown.{has_hidden}
+use Rattle.cdb_command.specs.Refused.{has_hidden}
 use Rattle.cdb_command.proofs.shown.has_hidden.Given as goal
 
 -- what was met so far is not hidden

@@ -1,7 +1,7 @@
 use Rattle.std.proofs.Common.{◌∙◌, ◌&&◌, ap, sym, not}
 use Rattle.std.proofs.lemmas.Bool.{false_from_ne_true}
 use Rattle.std.proofs.lemmas.Str.{IsUtf8-from_is_utf8, is_utf8-from_IsUtf8}
-use Rattle.cdb_command.specs.Shown.{has_hidden}
+use Rattle.cdb_command.specs.Refused.{has_hidden}
 use Rattle.cdb_command.proofs.shown.is_printable.Goals as goal
 
 pub returns-in-Ok : goal.returns-in-Ok

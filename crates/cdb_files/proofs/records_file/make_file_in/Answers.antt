@@ -1,6 +1,6 @@
 use Rattle.std.proofs.Common.{List, ℕ, ◌≡◌, ◌∙◌, ap, subst}
 use Rattle.cdb_form.specs.declared.record.Record.{Record}
-use Rattle.cdb_form.specs.Format.File.{file_bytes}
+use Rattle.cdb_form.specs.Format.{file_bytes}
 use Rattle.cdb_form.specs.Views.Pairs.{key_values}
 use Rattle.cdb_files.specs.Made.{FailsToMake, IsFileOf}
 use Rattle.cdb_files.proofs.Failing.{building_fault}

@@ -1,6 +1,6 @@
 use Rattle.std.proofs.Common.{arith, ◌≡◌, ◌∙◌, ◌+◌, ◌<◌, ◌++◌, ◌∷◌, ℕ, List, [], ap, sym, subst, take, length, get_or}
 use Rattle.std.proofs.lemmas.List.{map_push, take_more}
-use Rattle.cdb_form.specs.Format.Record.{KeyValue}
+use Rattle.cdb_form.specs.Format.{KeyValue}
 use Rattle.cdb_form.specs.Views.Pairs.{key_value, key_values}
 use Rattle.cdb_form.specs.declared.record.Record.{Record}
 use Rattle.cdb_make.specs.Views.Maker.{Holds}

@@ -1,6 +1,6 @@
 use Rattle.cdb_make.proofs.Words.{WordPair, ap, arith, head_size, left, lowered, record_size, ℕ, ◌-◌, ◌∙◌, ◌≡◌}
 use Rattle.std.specs.Prelude.{List, filter, map}
-use Rattle.cdb_form.specs.Format.Table.{entries_from, file_entries, table_entries, in_table}
+use Rattle.cdb_form.specs.Format.{entries_from, file_entries, table_entries, in_table}
 use Rattle.cdb_form.specs.Views.Pairs.{key_values}
 use Rattle.cdb_make.proofs.Lowering.{left_lower}
 use Rattle.cdb_make.proofs.laws.taken_out.Goals as goal

@@ -1,6 +1,6 @@
 use Rattle.std.proofs.Common.{◌∙◌, ◌++◌, ◌∷◌, [], ap, sym, unwrap_or}
 use Rattle.cdb_system.proofs.Words.{parts_line, same_writes, shown}
-use Rattle.cdb_system.specs.CauseLine.{name_ending, reason_name, said_of}
+use Rattle.cdb_system.specs.Causes.{name_ending, reason_name, said_of}
 use Rattle.cdb_system.proofs.Said.{cause_parts, named_so}
 use Rattle.cdb_system.proofs.explaining.write_reason.Goals as goal
 

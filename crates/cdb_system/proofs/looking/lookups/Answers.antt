@@ -1,4 +1,4 @@
-use Rattle.cdb_system.specs.Wanted.{wanted_lookups}
+use Rattle.cdb_system.specs.State.{wanted_lookups}
 use Rattle.cdb_system.proofs.StreamsRead.{keys_looked_up}
 use Rattle.cdb_system.proofs.looking.lookups.Goals as goal
 

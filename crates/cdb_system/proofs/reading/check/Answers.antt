@@ -1,7 +1,6 @@
 use Rattle.std.proofs.Common.{ap, refl, option_map, rules, string_bytes}
-use Rattle.cdb_system.specs.Files.{files_of}
+use Rattle.cdb_system.specs.State.{files_of, standard_of, state_of}
 use Rattle.cdb_system.specs.Reading.{ChecksStore}
-use Rattle.cdb_system.specs.State.{standard_of, state_of}
 use Rattle.cdb_system.proofs.StreamsRead.{on_input_read, on_stream_read}
 use Rattle.cdb_system.proofs.reading.check.Goals as goal
 

@@ -1,6 +1,5 @@
 use Rattle.std.proofs.Common.{ap, refl, option_map, string_bytes}
-use Rattle.cdb_system.specs.Files.{files_of}
-use Rattle.cdb_system.specs.State.{standard_of, state_of}
+use Rattle.cdb_system.specs.State.{files_of, standard_of, state_of}
 use Rattle.cdb_system.proofs.StreamsRead.{text_of_file, text_of_input}
 use Rattle.cdb_system.proofs.reading.text.Goals as goal
 

@@ -1,6 +1,6 @@
 use Rattle.cdb_system.proofs.Words.{err_from_is_err_and, fault_line, refl}
 use Rattle.cdb_form.proofs.Bytes.WritingLemmas.{prefix_in, writes_last, writes_prefix}
-use Rattle.cdb_system.specs.CauseLine.{more_of}
+use Rattle.cdb_system.specs.Causes.{more_of}
 use Rattle.cdb_system.proofs.telling.write_told.Goals as goal
 
 pub returns-in_err-write_fault-clause-writes : goal.returns-in_err-write_fault-clause-writes

@@ -3,7 +3,7 @@ use Rattle.std.proofs.lemmas.Result.{IfErr-weaker, on_ok_weaker}
 use Rattle.cdb_store.specs.BufferedStore.{bytes_of}
 use Rattle.cdb_store.specs.Images.{overwrite}
 use Rattle.cdb_store.proofs.OverLemmas.{over_emptied}
-use Rattle.cdb_names.specs.Unsynced.{inner_of}
+use Rattle.cdb_names.specs.Replacing.{inner_of}
 use Rattle.cdb.specs.Reasons.{run_reasons}
 use Rattle.cdb.proofs.Agreeing.{built_of_all}
 use Rattle.cdb.proofs.Databases.{database_made, run_under}

@@ -2,7 +2,7 @@ use Rattle.std.proofs.Common.{subst, ap, take, ◌∙◌, ◌≡◌, OnOk, Ok, E
 use Rattle.std.proofs.lemmas.Result.{IfErr-weaker}
 use Rattle.cdb_store.specs.BufferedStore.{bytes_of}
 use Rattle.cdb_store.proofs.OverLemmas.{over_emptied}
-use Rattle.cdb_names.specs.Unsynced.{inner_of}
+use Rattle.cdb_names.specs.Replacing.{inner_of}
 use Rattle.cdb_files.proofs.Failing.{building_below, building_later}
 use Rattle.cdb_files.proofs.records_file.RecordsBuilder.build.Goals as goal
 

@@ -1,5 +1,5 @@
 use Rattle.cdb_make.proofs.Words.{AreBytes, filled_slots, gathered_in, length, pair_size, slots_in, take, ◌*◌, ◌≡◌}
-use Rattle.cdb_form.specs.Views.UsedRuns.{AreRuns}
+use Rattle.cdb_form.specs.Views.Pairs.{AreRuns}
 use Rattle.cdb_make.proofs.finish.tables.fill_table_of.Given as goal
 
 -- the slots that the entries so far fill

@@ -1,5 +1,5 @@
 use Rattle.cdb_read.proofs.Words.{entry_pairs, filled_slots, length, pair_size, slots_in, take, ◌*◌, ◌≡◌}
-use Rattle.cdb_form.specs.Views.UsedRuns.{AreRuns}
+use Rattle.cdb_form.specs.Views.Pairs.{AreRuns}
 use Rattle.cdb_read.proofs.checking.filled_table.put_all.Given as goal
 
 -- the slots that the entries so far fill

@@ -1,6 +1,6 @@
 use Rattle.std.proofs.Common.{◌≡◌, ℕ, ◌+◌, ◌≤◌, List, Some, None, length, drop, length-drop, sym, ap, ◌∙◌, subst, arith}
 use Rattle.std.proofs.lemmas.List.{drop-drop, take_rest}
-use Rattle.cdb_form.specs.Format.Walk.{prefix_size}
+use Rattle.cdb_form.specs.Format.{prefix_size}
 use Rattle.cdb_form.specs.Views.Prefix.{PrefixTells}
 use Rattle.cdb_read.proofs.Walked.WalkedLengths.{some_word}
 use Rattle.cdb_read.proofs.Walked.AheadRecords.{all_size, size_step, size_end}

@@ -1,4 +1,4 @@
-use Rattle.cdb_show.specs.Runs.LookupTask.{lookup_task}
+use Rattle.cdb_show.specs.Runs.Lookups.{lookup_task}
 use Rattle.cdb_show.proofs.FedLookupRuns.{fed_begun, fed_unopened}
 use Rattle.cdb_show.proofs.runs.lookups_of_inputs.lookups_unflushed.Goals as goal
 

@@ -1,4 +1,4 @@
-use Rattle.cdb_show.specs.Runs.StatsText.{distance_lines}
+use Rattle.cdb_show.specs.Runs.Stats.{distance_lines}
 use Rattle.cdb_show.proofs.StatsTexts.{IsAmid, lines_from}
 use Rattle.cdb_show.proofs.runs.stats_text.write_distances.Given as goal
 

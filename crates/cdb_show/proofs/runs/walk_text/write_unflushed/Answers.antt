@@ -1,7 +1,7 @@
 use Rattle.std.proofs.lemmas.Result.{err_from_is_err_and}
 use Rattle.cdb_form.specs.Views.Prefix.{shown_by}
 use Rattle.cdb_show.proofs.WholeTexts.{held_by, held_in, written_none, written_more, written_all, record_fails, end_fails, reader_fails}
-use Rattle.cdb_show.specs.Runs.Form.{form_of}
+use Rattle.cdb_show.specs.Runs.WalkText.{form_of}
 use Rattle.cdb_show.proofs.runs.walk_text.write_unflushed.Goals as goal
 
 pub loop-peeked-init : goal.loop-peeked-init

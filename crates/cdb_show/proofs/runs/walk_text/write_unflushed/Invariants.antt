@@ -1,5 +1,5 @@
 use Rattle.cdb_form.specs.Views.RecordReader.{bytes_left, reader_of}
-use Rattle.cdb_show.specs.Runs.Form.{form_of}
+use Rattle.cdb_show.specs.Runs.WalkText.{form_of}
 use Rattle.cdb_show.proofs.WholeTexts.{WrittenSoFar}
 use Rattle.cdb_show.proofs.runs.walk_text.write_unflushed.Given as goal
 

@@ -1,5 +1,5 @@
 use Rattle.cdb_tool.proofs.Words.{Follows, OnlyReads, ◌≡◌}
-use Rattle.cdb_read.specs.Views.Walk.{left_of, bytes_left}
+use Rattle.cdb_read.specs.Views.Walking.{left_of, bytes_left}
 use Rattle.cdb_tool.proofs.BaseRecords.{AddedSoFar}
 use Rattle.cdb_tool.proofs.runs.make_base.add_records.Given as goal
 

@@ -1,3 +1,0 @@
-mod FeedExamples
-pub mod GivenInputs
-pub mod InputsInTurn

@@ -1,0 +1,16 @@
+//! Callers of the library crates, as a newcomer would write them. Each is proved from the public
+//! contracts of what it calls, and from lemmas of those crates on what the clauses' words mean.
+
+mod ask;
+mod edits;
+mod files;
+mod form;
+mod read;
+mod steps;
+
+pub use ask::AskFault;
+pub use edits::Edit;
+pub use files::make_and_get;
+pub use form::first_record;
+pub use read::write_values;
+pub use steps::{Built, Step, build, build_and_ask};

@@ -1,6 +1,0 @@
-use Rattle.cdb_handle.proofs.Looks.{finds_key}
-use Rattle.cdb_handle.proofs.making.look.Goals as goal
-
-pub returns-clause-there : goal.returns-clause-there
-returns-clause-there c =
-    finds_key c.exists.result c.args.key.now c.args.making.now _ c.exists.ensures.there
