@@ -2,7 +2,7 @@
 pub use Rattle.byteorder.specs.Endian.{little_number}
 pub use Rattle.byteorder.specs.Numbers.{length-bytes_low_first}
 pub use Rattle.cdb_form.specs.Views.Feed.{Consumes, Feed, FromTo, IsAtEnd, Keeps, reader_feed}
-pub use Rattle.cdb_form.specs.Views.MapParser.{ReadsPair, ReadsValue, EndsLine, is_of, line_end}
+pub use Rattle.cdb_form.specs.Views.MapParser.{ReadsPair, ReadsValue, is_of, line_end}
 pub use Rattle.cdb_form.specs.Views.NativeParser.{FailsIn, Leaves, ReadsBehind, FailsByte, FailsEntry, FailsField, FailsItem, FailsNumber, seen, told}
 pub use Rattle.cdb_form.specs.Views.Taking.{LosesAtMost, LosesFewer, ReadsFirst, ReadsNoRecord, ReadsShort}
 pub use Rattle.cdb_form.specs.Format.{file_size, hash_step, WordPair, head_size, pair_bytes, pair_size, nth_pair, pair_at, AreBytes, IsRecord, KeyValue, record_size, records_end, empty_slot, is_used, slots_of, Walked, damaged, first_table_at, has_slots, least_place, no_walk, prefix_record, prefix_size, with_first}
@@ -17,8 +17,8 @@ pub use Rattle.cdb_form.specs.Views.Pairs.{PairFits, changes_of, header_pair, ke
 pub use Rattle.cdb_form.specs.Views.Prefix.{BeginsWithBody, BeginsWithNumeral, IsStored, BeginsWithLine, may_end}
 pub use Rattle.cdb_form.specs.Views.RecordReader.{behind_records}
 unfoldable pub use Rattle.cdb_form.specs.Views.Pairs.{slots_in}
-pub use Rattle.cdb_form.specs.Views.Source.{LeavesAmid, budget}
-pub use Rattle.cdb_form.specs.Views.TextFault.{IsOfText, IsReadFault, IsSpent}
+pub use Rattle.cdb_form.specs.Views.Source.{budget}
+pub use Rattle.cdb_form.specs.Views.TextFault.{IsOfText, IsReadFault}
 pub use Rattle.cdb_form.specs.Views.WalkFault.{stopped_by}
 pub use Rattle.cdb_form.specs.declared.damage.Damage.{Damage}
 pub use Rattle.cdb_form.specs.declared.head.Pointer.{Pointer}
@@ -32,7 +32,7 @@ pub use Rattle.cdb_form.specs.declared.text.map_reader.MapReader.{MapReader}
 pub use Rattle.cdb_form.specs.declared.text.source.Source.{Source}
 pub use Rattle.cdb_form.specs.declared.walk.fault.WalkFault.{WalkFault}
 pub use Rattle.cdb_form.specs.declared.walk.record_reader.RecordReader.{RecordReader}
-pub use Rattle.std.proofs.Common.{All, IfSome, List, None, Option, Some, [], ap, append_assoc, arith, decimal, drop, eqb, false, flat_map, fold, get_or, inl, inr, leb, length, length-append, length-drop, length-take, lit<, lit≤, map, not, refl, replicate, rules, slice_set, subst, suc, sym, take, true, w8, zero, ℕ, ◌%◌, ◌*◌, ◌++◌, ◌+◌, ◌-◌, ◌/◌, ◌<◌, ◌^◌, ◌∙◌, ◌∷◌, ◌≡◌, ◌≢◌, ◌≤◌, ◌⊎◌}
+pub use Rattle.std.proofs.Common.{All, List, None, Option, Some, [], ap, append_assoc, arith, decimal, drop, eqb, false, flat_map, fold, get_or, inl, inr, leb, length, length-append, length-drop, length-take, lit<, lit≤, map, not, refl, replicate, rules, slice_set, subst, suc, sym, take, true, w8, zero, ℕ, ◌%◌, ◌*◌, ◌++◌, ◌+◌, ◌-◌, ◌/◌, ◌<◌, ◌^◌, ◌∙◌, ◌∷◌, ◌≡◌, ◌≢◌, ◌≤◌, ◌⊎◌}
 pub use Rattle.std.proofs.Math.Nat.{mul-le-mul_left}
 pub use Rattle.std.proofs.Math.Seq.{take-add}
 pub use Rattle.std.proofs.lemmas.Bool.{cases_eq, cases_lt, cond-false, cond-true, cond_both, eq-eqb, eqb-true, le-ltb, leb-true, lt-ltb, ne_eqb}
@@ -51,6 +51,6 @@ pub use Rattle.std.specs.Char.{digit_value}
 pub use Rattle.std.specs.Int.{bytes_low_first}
 pub use Rattle.std.specs.Io.KnownBytes.{Appends}
 pub use Rattle.std.specs.List.{AllByRecursion, AllPass, position_or_len, prefix_len, range_with_len, reduce}
-pub use Rattle.std.specs.Prelude.{codes, if◌then◌else◌, max, nat_lt, sum_by, unwrap_or, ⊤, ◌==◌}
+pub use Rattle.std.specs.Prelude.{codes, if◌then◌else◌, max, nat_lt, sum_by, unwrap_or, ◌==◌}
 pub use Rattle.std.specs.Simd.Lanes.{mask_l}
 pub use Rattle.std.specs.Str.Parse.{AllDigits, digits_value}

@@ -13,7 +13,7 @@ pub use Rattle.cdb_make.specs.Spans.{AreNone, HaveHash, IsFirstMarked, IsPutBack
 pub use Rattle.cdb_make.specs.Rolls.{IsFreshRecord, Sees, SeesNone, fresh}
 unfoldable pub use Rattle.cdb_make.specs.Tables.{tables_of}
 pub use Rattle.cdb_make.specs.Views.Appending.{AreFirst, Enters, FailsAppending, KeepsLimit, PassesLimit, full_size, records_at}
-pub use Rattle.cdb_make.specs.Views.Maker.{ComesFrom, CompactsAll, FailsLooking, HasGone, HasNotFailed, Holds, IsFile, Meets, SameCounts, StaysWhole, count_in, found_in, gone_in, made_size}
+pub use Rattle.cdb_make.specs.Views.Maker.{ComesFrom, CompactsAll, HasGone, HasNotFailed, Holds, IsFile, Meets, SameCounts, StaysWhole, count_in, found_in, gone_in, made_size}
 pub use Rattle.cdb_make.specs.Views.Places.{of_halves, places_in}
 pub use Rattle.cdb_make.specs.Views.Roll.{HasRoom, SameRecords, marks_in, searched, sought_in}
 pub use Rattle.cdb_make.specs.declared.key_at.LookFault.{LookFault}

@@ -31,19 +31,19 @@ pub use Rattle.cdb_read.specs.declared.fault.ReadFault.{ReadFault}
 pub use Rattle.cdb_show.specs.Lines.{newlines}
 pub use Rattle.cdb_show.specs.Message.{duplicate_line, numbered}
 pub use Rattle.cdb_show.specs.Runs.Flushed.{Flushed}
-pub use Rattle.cdb_show.specs.Runs.WalkText.{Form, end_of}
+pub use Rattle.cdb_show.specs.Runs.WalkText.{end_of}
 pub use Rattle.cdb_show.specs.Runs.Given.{Given, given_from}
-pub use Rattle.cdb_show.specs.Runs.Incoming.{Incoming, Known, came, from_input, from_inputs, one_input}
-pub use Rattle.cdb_show.specs.Runs.Inputs.{AreAllInputs, AreInputs, BeginsWithItems, FirstBegins, FirstHas, HasFaultBehind, HasFaults, HasInputFault, HasItemFault, InputForm, InputsBeginWith, InputsLeft, IsInput, IsInputOf, OneBegins, OneInput, Puts, ReadsOne, bytes_of, key_of, keys_form, keys_of, keys_of_each}
+pub use Rattle.cdb_show.specs.Runs.Incoming.{Incoming, came, from_input, from_inputs}
+pub use Rattle.cdb_show.specs.Runs.Inputs.{BeginsWithItems, FirstBegins, FirstHas, HasFaults, HasInputFault, HasItemFault, InputForm, InputsBeginWith, InputsLeft, IsInput, IsInputOf, OneBegins, OneInput, Puts, bytes_of, key_of, keys_form, keys_of, keys_of_each}
 pub use Rattle.cdb_show.specs.Runs.Lookups.{looked_up, LookupState, LookupTask, lookup_state, FaultBehind, HasLooked, LookupsStopAt, StopsBehind, missing_answer}
-pub use Rattle.cdb_show.specs.Runs.Parsing.{StopsIn, fault_in, stop_of, stopped_parsing}
+pub use Rattle.cdb_show.specs.Runs.Parsing.{fault_in, stop_of, stopped_parsing}
 pub use Rattle.cdb_show.specs.Runs.Query.{Queries, Query, QueryAnswers, QueryFails, WritesQueryPrefix, query_answer, query_text}
 pub use Rattle.cdb_show.specs.Runs.Stats.{keys_line, records_line, sizes_line, tables_line, values_line}
 unfoldable pub use Rattle.cdb_show.specs.Runs.Stats.{distance_lines}
 pub use Rattle.cdb_show.specs.Views.Fault.{read_fault}
-pub use Rattle.cdb_show.specs.Views.Noted.{one_of, shared_feed, noted_by}
-pub use Rattle.cdb_show.specs.Views.KeyReader.{form_of, reader_of}
+pub use Rattle.cdb_show.specs.Views.Noted.{noted_by, one_of, shared_feed}
 pub use Rattle.cdb_show.specs.Views.Output.{output_bytes, passed_bytes, writer_bytes}
+pub use Rattle.cdb_show.specs.Views.KeyReader.{form_of, reader_of}
 pub use Rattle.cdb_show.specs.Views.Window.{feed_of}
 pub use Rattle.cdb_show.specs.declared.fault.Fault.{Fault}
 pub use Rattle.cdb_show.specs.declared.inputs.Inputs.{Inputs}
@@ -58,5 +58,5 @@ pub use Rattle.std.proofs.lemmas.Grind.{common_steps}
 pub use Rattle.std.proofs.lemmas.List.{append-nil, drop-drop, length-take, length-take-le, map-append, take-append-drop, take-take}
 pub use Rattle.std.proofs.lemmas.List.Concat.{flat_map-append}
 pub use Rattle.std.proofs.lemmas.Result.{err_from_is_err_and}
-pub use Rattle.std.specs.Io.KnownBytes.{Appends, Keeps, append_known}
+pub use Rattle.std.specs.Io.KnownBytes.{Appends, Keeps}
 pub use Rattle.std.specs.Prelude.{IsOk, ⊤}

@@ -39,6 +39,7 @@ impl LineCount {
     pub(crate) fn begun(self, is_shared: bool) -> LineCount
         ensures counts { Counts (if is_shared then shared_newlines self else 0) [] result }
         ensures shared { shared_newlines result ≡ shared_newlines self }
+        ensures kind { result.is_shared ≡ is_shared }
     {
         let shared = if self.is_shared {
             self.newlines
