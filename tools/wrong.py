@@ -10,7 +10,7 @@ First the right bodies of the functions that the edits touch are proved, with al
 kept. This is kept in bin/right for the next run. A refusal shows nothing if the right body is refused too. No library is built:
 the crates below are read as sources, and of COPY, a repository in which `rt ci` ran, as the libraries that it left. These need no
 proof, so the gate passes its copy.
-Then wrong bodies of different functions are tried in one check, over hard links of what is kept: so the check
+Then its wrong bodies of different functions are tried in one check, over hard links of what is kept: so the check
 proves the functions that they touch, and nothing else. One counts as refused if a goal of its own function
 stays open, and the goal has no stored proof that names a call or an argument which the edit took away: such a proof would be
 refused for a right body too. The goal's clause must be the one that the edit's line of the list names. Whatever does not
@@ -43,7 +43,7 @@ from dataclasses import dataclass, field
 
 import over
 from answers import answer_of, named_in, taken_by
-from build import GIB, QUIET_SECONDS, checker, interrupt, missing, most_at_once
+from build import GIB, QUIET_SECONDS, checker, interrupt, missing, most_at_once, work_of
 from counterexamples import is_shown
 from edits import LIST, UNSHOWN, BadEdit, applied, edits_of, function_at, listed, module_of, note_clause, test_of, texts_of, unshown
 from trees import PROVED, SOURCES, Trees, alone_now, crates_below, read
@@ -301,11 +301,14 @@ class Trials:
         # Over sources crates share what they prove, so one is proved after the other, by all processors.
         self.jobs, self.crates_at_once = (1, self.most) if words.over else (self.most, 1)
         self.lock = threading.Lock()
+        self.changed = threading.Condition(self.lock)
         self.kit = over.toolchain()
         self.module = over.module_of(self.kit)
         self.processes, self.rooms = [], itertools.count()
         self.tried = self.count = self.passed = self.failed = 0
         self.is_stopped, self.said = False, time.monotonic()
+        # The crates whose right bodies are to be proved, with their wrong bodies, how many are being proved, and how many checks run.
+        self.unproved, self.proving, self.running = [], 0, 0
         # The wrong bodies that are to be tried, in groups.
         self.left = []
 
@@ -359,7 +362,8 @@ class Trials:
                 break
         if told.is_read and told.is_proved:
             print(f"{crate}: the right bodies are proved, in {time.monotonic() - began:.0f} s", flush=True)
-            self.left += [(crate, it) for it in passes_of(trials)]
+            with self.lock:
+                self.left += [(crate, it) for it in passes_of(trials)]
         elif not self.is_stopped:
             for it in trials:
                 self.end(it, f"cannot be tried: the right body is not proved: {told.error}", [])
@@ -437,33 +441,58 @@ class Trials:
             self.refusals.keep(edit)
 
     def try_all(self, trials):
-        """Tries the wrong bodies of crates: first some at a time, then each that is not settled alone."""
+        """Tries the wrong bodies of crates: those of one once its right bodies are proved; some at a time, and each that is not
+        settled alone."""
         self.count = sum(len(found) for found in trials.values())
         self.places = {it.edit: self.refusals.place_of(it.edit) for found in trials.values() for it in found}
         for it in [it for found in trials.values() for it in found if it.why]:
             self.end(it, it.why, [])
         ready = {crate: [it for it in found if not it.why] for crate, found in trials.items()}
-        self.at_once([(self.prove, crate, found) for crate, found in ready.items() if found], self.crates_at_once)
-        while self.left and not self.is_stopped:
-            # The checks with most to prove come first.
-            groups, self.left = sorted(self.left, key=lambda it: -len(it[1])), []
-            self.at_once([(self.run, *it) for it in groups], self.most)
-
-    def at_once(self, calls, most):
-        """Makes calls, so many at once."""
-        with ThreadPoolExecutor(most) as pool:
-            running = [pool.submit(*it) for it in calls]
+        # The checks with most to prove come last here, and so first.
+        self.unproved = sorted(((crate, it) for crate, it in ready.items() if it), key=lambda it: work_of(self.trees.folder(it[0])))
+        with ThreadPoolExecutor(self.most) as pool:
+            working = [pool.submit(self.work) for _ in range(self.most)]
             try:
-                for done in running:
+                for done in working:
                     done.result()
             except KeyboardInterrupt:
                 self.stop()
                 raise
 
+    def work(self):
+        """Makes one check after the other, until none is left."""
+        while (found := self.take()) is not None:
+            check, crate, trials = found
+            try:
+                check(crate, trials)
+            finally:
+                with self.changed:
+                    self.running -= 1
+                    self.proving -= check == self.prove
+                    self.changed.notify_all()
+
+    def take(self):
+        """The check to be made next: of right bodies, else of a group; None once none is left and none that runs may leave more."""
+        with self.changed:
+            while not self.is_stopped:
+                if self.unproved and self.proving < self.crates_at_once:
+                    self.running, self.proving = self.running + 1, self.proving + 1
+                    return self.prove, *self.unproved.pop()
+                # Over sources right bodies take all processors.
+                if self.left and (self.words.over or not self.proving):
+                    self.running += 1
+                    self.left.sort(key=lambda it: len(it[1]))
+                    return self.run, *self.left.pop()
+                if self.running == 0:
+                    return None
+                self.changed.wait()
+        return None
+
     def stop(self):
         """Ends the checks that run."""
-        with self.lock:
+        with self.changed:
             self.is_stopped = True
+            self.changed.notify_all()
             for process in self.processes:
                 # It has copies of itself at work.
                 with contextlib.suppress(ProcessLookupError):
