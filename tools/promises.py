@@ -1,9 +1,9 @@
 """The tables of docs/audit/PROMISES.md, out of the sources.
 
-A table is what stands between two marks of the page, `<!-- calls of CRATE -->` and `<!-- end -->`. It has a row for
-each function that a caller of the crate sees and that a wrong body edits, and for each law: what the function does, by
-the first sentence of its `///`; and its wrong bodies, each with the clause that refuses it. Wrong bodies of private
-functions are counted below. The rest of the page is written by hand.
+They stand between two marks of the page, `<!-- calls of CRATE -->` and `<!-- end -->`. One has a row for each law: what it says,
+by the first sentence of its `///`. One has a row for each function that a caller of the crate sees and that a wrong body edits:
+its wrong bodies, each with the clause that refuses it. Wrong bodies of private functions are counted below. The rest of the
+page is written by hand.
 """
 
 import os
@@ -14,7 +14,8 @@ from trees import lines_of, read
 
 PAGE = "docs/audit/PROMISES.md"
 TABLE = re.compile(r"(<!-- calls of (\w+) -->\n).*?(<!-- end -->\n)", re.DOTALL)
-HEAD = "| function | what it does | wrong bodies |\n|---|---|---|\n"
+LAWS = "\n| law | what it says |\n|---|---|\n"
+FUNCTIONS = "\n| function | wrong bodies |\n|---|---|\n"
 # A sentence ends with a full stop or a colon before a blank; neither stands within backquotes.
 SENTENCE = re.compile(r"((?:`[^`]*`|[^`])*?)[.:](?= |$)")
 
@@ -32,19 +33,6 @@ def name_at(text, head):
     """The name of a function with that of its type or trait."""
     owners = [it for it in OWNER.finditer(text) if it.start() < head.start()]
     return f"{owners[-1][2]}::{head[2]}" if head[1] and owners else head[2]
-
-
-def trait_promises(tops):
-    """What stands over the functions of traits, by their names."""
-    found = {}
-    for folder in tops:
-        for path in sources(folder):
-            text = read(folder, path)
-            for head in FUNCTION.finditer(text):
-                owners = [it for it in OWNER.finditer(text) if it.start() < head.start()]
-                if head[1] and owners and "trait" in owners[-1][0].split():
-                    found.setdefault(head[2], promise_at(text, head))
-    return found
 
 
 def promise_at(text, head):
@@ -89,8 +77,8 @@ def is_seen(text, head, items):
     return owners[-1][2] in items and (head[0].lstrip().startswith("pub ") or bool(owners[-1][1]))
 
 
-def table_of(folder, of_traits):
-    """The rows of a crate. A function of a trait's instance that says nothing of itself does what the trait says."""
+def table_of(folder):
+    """The tables of a crate."""
     texts = {path: read(folder, path) for path in sources(folder)}
     items, wrong = exported(texts), {}
     for edit in edits_of(folder):
@@ -98,24 +86,24 @@ def table_of(folder, of_traits):
         head = head_of(texts[path], texts[path].index(old)) if path in texts else None
         place = (path, head.start() if head else 0)
         wrong.setdefault(place, []).append(f"`{edit.name.split('.')[-1]}` ({edit.clause or 'the compiler'})")
-    rows, private = [], 0
+    laws, rows, private = [], [], 0
     for path, text in texts.items():
         for head in FUNCTION.finditer(text):
             bodies = wrong.pop((path, head.start()), [])
-            if not is_law(path) and not is_seen(text, head, items):
+            if is_law(path):
+                laws.append(f"| `{name_at(text, head)}` | {promise_at(text, head)} |\n")
+            elif not is_seen(text, head, items):
                 private += len(bodies)
-            elif bodies or is_law(path):
-                promise = promise_at(text, head) or of_traits.get(head[2], "")
-                rows.append(f"| `{name_at(text, head)}` | {promise} | {', '.join(bodies)} |\n")
+            elif bodies:
+                rows.append(f"| `{name_at(text, head)}` | {', '.join(bodies)} |\n")
     private += sum(len(bodies) for bodies in wrong.values())
     count = f"\nWrong bodies of private functions: {private}.\n" if private else ""
-    return (f"\n{HEAD}{''.join(rows)}" if rows else "") + f"{count}\n"
+    return "".join([LAWS, *laws] if laws else []) + "".join([FUNCTIONS, *rows] if rows else []) + f"{count}\n"
 
 
 def with_tables(top, page):
     """The page with its tables as the sources give them, and the crates with wrong bodies that have no table."""
     folders = {it: os.path.join(top, "crates", it) for it in lines_of(top)}
-    of_traits = trait_promises(folders.values())
-    made = TABLE.sub(lambda it: it[1] + table_of(folders[it[2]], of_traits) + it[3], page)
+    made = TABLE.sub(lambda it: it[1] + table_of(folders[it[2]]) + it[3], page)
     tables = {it[2] for it in TABLE.finditer(page)}
     return made, [it for it, folder in folders.items() if edits_of(folder) and it not in tables]
