@@ -91,7 +91,7 @@ pub record AnsweredNames (disk : Disk) (name : List ℕ) (was now : NameCalls) :
   pub held : Option (List ℕ)
   pub has : Has (place_of name) (disk name) now held
 
--- all that is read is known, if the base is handed back
+-- all that is read is known, if the base is returned
 abbrev pub Knows : {F : Type 0} → Ghosts F → (w : ℕ) → Disk → (base : Option (List ℕ)) → (inputs : List (List ℕ)) → (input : List ℕ) → (file read : Option F) → InputsLeft → Type 0
 Knows s w disk base inputs input file read items = HandsBack s file read → AllKnown s w disk base inputs input read items
 

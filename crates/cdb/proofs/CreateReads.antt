@@ -37,7 +37,7 @@ pub record AllKnown {F : Type 0} (s : Ghosts F) (w : ℕ) (disk : Disk) (base : 
   pub are : inputs_of disk inputs ≡ Some files
   pub known : Known files input left
 
--- the bytes of a base that was opened, whose store is handed back
+-- the bytes of a base that was opened, whose store is returned
 base_shown : {F I J M N R Y : Type 0} (s : Ghosts F) (y : Systems Y F I M J N R) (disk : Disk) (name : List ℕ) (came : F) (read : Option F) (old new calls : OpenCalls) → OpensBase y (Some name) (Some came) old new → new ≡ calls ++ old → AreAnswered s disk calls (if_some read)
     → (b : List ℕ) × (disk name ≡ Some b) × BaseHas s read (Some b)
 base_shown s y disk name came read old new calls opens e all =
@@ -139,7 +139,7 @@ all_agree own disk (name ∷ names) (reader.Own old ∷ before) (reader.Shared �
 all_agree own disk (name ∷ names) (reader.Shared ∷ before) [] (None ∷ files) placed of fit agree = absurd placed
 all_agree own disk (name ∷ names) (reader.Shared ∷ before) (reader.Own left ∷ after) (None ∷ files) placed of fit agree = absurd placed
 
--- the bytes of the inputs, which agree with the readers that are handed back
+-- the bytes of the inputs, which agree with the readers that are returned
 pub record InputsFound {I J : Type 0} (own : I → Feed) (shared : J → Feed) (disk : Disk) (inputs : List (List ℕ)) (input : List ℕ) (before after : Inputs I J) : Type 0 where
   pub files : List (Option (List ℕ))
   pub are : inputs_of disk inputs ≡ Some files
@@ -195,7 +195,7 @@ module _ {F I J M N R Y : Type 0} (s : Ghosts F) (m : Ghosts M) (feed : I → Fe
         };
       }
 
-  -- and the base, if it is handed back
+  -- and the base, if it is returned
   pub all_found : left.other ≡ None → HandsBack s file left.read → AllKnown s w disk base inputs input left.read (bytes_of inputs_found.files input)
   all_found alone hands =
       let found = inputs_found in

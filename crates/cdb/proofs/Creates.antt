@@ -13,7 +13,7 @@ use Rattle.cdb.proofs.CreatePlaced.{emptied_so, emptying_refused, in_place_unope
 
 -- ---- each create
 
--- nothing that was made is handed back
+-- nothing that was made is returned
 with_none : {F I J M : Type 0} (m : Ghosts M) (disk : Disk) (name : List ℕ) (temporary : Option (List ℕ)) (o : RunOptions) (c : Created) (opened : OpenCalls) (was now : NameCalls) (base : Option F) (left : Left F M I J) (start end told said : Option (List ℕ)) (result : Result Unit Fault) → HandsBase base left → CreateSo m disk name temporary o c [] was now None start end told said result
     → CreateSo m disk name temporary o c opened was now left.made start end told said result
 with_none m disk name temporary o c opened was now base left start end told said result e h =
@@ -29,7 +29,7 @@ in_place_not : (name : List ℕ) (temporary : Option (List ℕ)) → (IsInPlace 
 in_place_not name None other = refl
 in_place_not name (Some t) other = or_from _ _ (false_from_ne_true (bytes_eq t (codes "-")) (λ e. other (inl ((bytes_eq-Decides t (codes "-")).0 e)))) (false_from_ne_true (bytes_eq t name) (λ e. other (inr ((bytes_eq-Decides t name).0 e))))
 
--- no other store is handed back
+-- no other store is returned
 module _ {F I J M N R Y : Type 0} (s : Ghosts F) (m : Ghosts M) (r : Raw R) (feed : I → Feed) (y : Systems Y F I M J N R) (w g : ℕ) (name : List ℕ) (base : Option (List ℕ)) (inputs : List (List ℕ)) (temporary : Option (List ℕ)) (o : RunOptions) (mid new : OpenCalls) (left : Left F M I J) (was now : NameCalls) (start end told said : Option (List ℕ)) (result : Result Unit Fault) (file : Option F) (items : InputsLeft) where
   alone_so : MakesAt (machine_of s m feed y r) (record { word = w; greatest = g; options = o; base = file; inputs = items }) (record { word = w; greatest = g; options = o; name = name; base = base; inputs = inputs; temporary = temporary }) (state_of mid was start told) (state_of new now end said) left result → left.other ≡ None
   alone_so (inl (at_output, same, calls, handed, makes)) = handed.other

@@ -1,4 +1,4 @@
--- What a store has once a run over it succeeded, and what a run says whose lines were handed on.
+-- What a store has once a run over it succeeded, and what a run says whose lines were forwarded.
 use Rattle.cdb.proofs.Words.{Asked, Bool, Err, Fault, Feed, Ghosts, HasDatabase, IsDatabase, IsMakeRun, Keeps, Left, List, Making, NameCalls, None, Ok, OnErr, OnOk, OpenCalls, Option, OutputSays, Refused, Result, Runs, SeesName, Some, Standard, Syncs, WhereHonest, failed_of, given_of, inl, inr, refused_lines, says_more, state_of, subst, sym, true, ℕ, ◌∙◌, ◌≡◌}
 use Rattle.cdb_names.specs.declared.answer.Answer.TheVariants.{No, Unknown, Yes}
 use Rattle.cdb_store.specs.declared.raw.RawFile.{Ghosts as Raw}

@@ -1,4 +1,4 @@
--- What a create hands back, and that it opened no more files to be read.
+-- What a create returns, and that it opened no more files to be read.
 use Rattle.cdb.proofs.Words.{Answer, AreInPlace, Err, Fault, HandsBase, HandsInputs, Inputs, Left, List, None, Ok, OpensNoMore, Option, Result, SeesName, Sources, [], all_passed, ap, append_assoc, inl, inr, refl, sym, ℕ, ◌++◌, ◌∙◌, ◌∷◌, ◌≡◌}
 use Rattle.cdb_names.specs.declared.answer.Answer.TheVariants.{Yes}
 use Rattle.cdb_names.specs.declared.answer.Lock.TheVariants.{Held}

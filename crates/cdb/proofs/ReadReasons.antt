@@ -208,7 +208,7 @@ module _ {F I J M N R Y : Type 0} (machine : Machine F I J M N R Y) (input : Sta
   command_reason w most explained asked.Help left result h create = tells_reason _ left result h.2
   command_reason w most explained asked.Version left result h create = tells_reason _ left result h.2
 
--- an output that was handed on changes a fault into no other but its own
+-- an output that was forwarded changes a fault into no other but its own
 pub handed_reason : (why : Reasons) (end final : Option (List ℕ)) (unwritten : Type 0) (answer result : Result Unit Fault) → HandsOn end final unwritten answer result → IfErr answer (HasReason why) → IfErr result (HasReason why)
 handed_reason why end final unwritten answer result h is = elim h.answered as (λ _. IfErr result (HasReason why)) [
   | inl same ↦ subst (λ r. IfErr r (HasReason why)) (sym same) is

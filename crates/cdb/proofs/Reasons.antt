@@ -54,7 +54,7 @@ output_reason P r (Err f) h = subst (HasReason r) (sym h.0) tt
 
 -- ---- a run
 
--- a reader of the inputs is one of those that are handed back
+-- a reader of the inputs is one of those that are returned
 pub some_any : {R S : Type 0} (own : R → Feed) (shared : S → Feed) (readers : List (InputReader R)) (it : S) → SomeFailed own shared readers it → AnyFailed own (own_readers readers) ⊎ AnyFailed shared (it ∷ [])
 some_any own shared [] it h = inr (inl h)
 some_any own shared (Own reader ∷ readers) it (inl h) = inl (inl h)

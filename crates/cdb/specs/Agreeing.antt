@@ -1,4 +1,4 @@
--- Which bytes agree with the inputs of a create, as they were opened and as their readers are handed back.
+-- Which bytes agree with the inputs of a create, as they were opened and as their readers are returned.
 use Rattle.std.specs.Prelude.{ℕ, ◌≡◌, ◌++◌, List, Option, Some, None, ⊤, length, map}
 use Rattle.std.specs.List.{AllByRecursion}
 use Rattle.cdb_show.specs.Feed.{AgreesWith, AreUnread, FirstAgree, IsUnread}
@@ -49,7 +49,7 @@ pub record OpensNoMore (old new : OpenCalls) : Type 0 where
   pub are : new ≡ since ++ old
   pub each : AllByRecursion (λ c. OpensNone c.0) since
 
--- the readers of the inputs are handed back, each in its place, and no other stream is
+-- the readers of the inputs are returned, each in its place, and no other stream is
 pub record HandsInputs {F I J M : Type 0} (inputs handed : Inputs I J) (left : Left F M I J) : Type 0 where
   pub readers : left.inputs ≡ Some handed.readers
   pub shared : left.input ≡ Some handed.shared

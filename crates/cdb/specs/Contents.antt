@@ -33,7 +33,7 @@ wanted_of word greatest creation = record {
   temporary = option_map string_bytes creation.temporary.now;
 }
 
--- what was read is handed back, and the file that was made in place, if one was
+-- what was read is returned, and the file that was made in place, if one was
 abbrev pub sources_left : {F M S I : Type 0} → Sources F S I → (made : Option M) → Left F M S I
 sources_left sources made = record none_left {
   read = sources.base;

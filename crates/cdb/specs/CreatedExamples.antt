@@ -147,7 +147,7 @@ newline_is : AreBytes (codes "\n")
 newline_is zero = omega arith
 newline_is (suc k) = omega arith
 
--- whether all are bytes
+-- true if all are bytes
 abbrev are_small : List ℕ → Bool
 are_small [] = true
 are_small (x ∷ xs) = nat_lt x 256 && are_small xs
@@ -198,7 +198,7 @@ from y = files_of in_memory in_memory noted_feed y
 abbrev standard : (input : List ℕ) → Standard Reader
 standard input = standard_of noted_feed (fresh input)
 
--- what is handed back
+-- what is returned
 abbrev left_of : Sources MemStore Reader Reader → Left MemStore MemStore Reader Reader
 left_of sources = sources_left sources None
 

@@ -39,8 +39,8 @@ use Rattle.cdb.specs.Created.{head_fault}
 
 -- ---- the database
 
--- what is wanted: in words of so many bytes, in a file of at most the greatest length, by these
--- options, the database of this name, of this base and these inputs, by way of this temporary file
+-- what is wanted: in words of so many bytes, in a file of at most the greatest length, by these options, the database
+-- of this name, of this base and these inputs, through this temporary file
 pub record Wanted : Type 0 where
   pub word : ℕ
   pub greatest : ℕ
@@ -204,7 +204,7 @@ SeesName name was now (Ok done) result =
     (answer : Answer) × (now ≡ (Own answer, name) ∷ was) × (result ≡ named_as answer)
 SeesName name was now (Err fault) result = (now ≡ was) × (result ≡ Err fault)
 
--- no file of a store is handed back but the base, which is this
+-- no file of a store is returned but the base, which is this
 pub record HandsBase {F I J M : Type 0} (base : Option F) (left : Left F M I J) : Type 0 where
   pub read : left.read ≡ base
   pub other : left.other ≡ None
@@ -230,9 +230,8 @@ pub record MakesEmptied {F I J M N R Y : Type 0} (files : Files F I J M N R Y) (
   pub has : OnOk synced (HasDatabase files.stores m left.read (files.made.image last))
   pub named : SeesName name emptied new.opened synced result
 
--- a file that is read may be the one of the name; or none is, as was looked up for each, and then the file of
--- the name is not emptied, or it is, once its lock is held. The base is handed back, as it was if nothing
--- was built
+-- a file that is read may be the one of the name; or none is, as was looked up for each, and then the file of the name
+-- is not emptied, or it is, once its lock is held. The base is returned, as it was if nothing was built
 abbrev pub MakesInPlace : {F I J M N R Y : Type 0} → Files F I J M N R Y → Making F → Wanted
     → (old new : State OpenCalls) → Left F M I J → Result Unit Fault → Type 0
 MakesInPlace files m wanted old new left result =
@@ -344,8 +343,7 @@ pub record OpensAll {F I J M N R Y : Type 0} (w : ℕ) (files : Files F I J M N 
 abbrev pub IsOfNoOutput : Fault → Type 0
 IsOfNoOutput fault = OutputSays {A = Unit} ⊥ (Err fault)
 
--- or the base was not, or is refused, or an input after it was not opened. A base that was opened is
--- handed back
+-- or the base was not, or is refused, or an input after it was not opened. A base that was opened is returned
 pub record NotOpened {F I J M N R Y : Type 0} (w : ℕ) (files : Files F I J M N R Y) (base : Option (List ℕ))
     (inputs : List (List ℕ)) (old new : OpenCalls) (back : Option F) (fault : Fault) : Type 0 where
   pub calls : (MissesBase base old new fault × (back ≡ None))
@@ -363,8 +361,8 @@ MakesAt machine m wanted old new left result =
     ⊎ ((IsStandard wanted.name → ⊥) × Keeps old.output new.output
     × MakesNamed machine m wanted old new left result)
 
--- Inputs were opened and handed back, and no other file was opened to be read. Of all inputs that agree with
--- their readers, this is what was done.
+-- Inputs were opened and returned, and no other file was opened to be read. Of all inputs that agree with their
+-- readers, this is what was done.
 pub record HandsAll {F I J M N R Y : Type 0} (files : Files F I J M N R Y) (standard : Standard J)
     (inputs : Inputs I J) (mid new : OpenCalls) (left : Left F M I J) (Does : InputsLeft → Type 0)
     : Type 0 where
@@ -374,9 +372,8 @@ pub record HandsAll {F I J M N R Y : Type 0} (files : Files F I J M N R Y) (stan
   pub opens : OpensNoMore mid new
   pub does : OfAgreeing files.feed standard.feed inputs handed Does
 
--- all that is read is opened, and then the database is made of it; or nothing is made. A base that was
--- opened is handed back, as it came if nothing was built; so is a file that was made in place, and so are
--- the readers of the inputs
+-- all that is read is opened, and then the database is made of it; or nothing is made. A base that was opened is
+-- returned, as it came if nothing was built; so is a file that was made in place, and so are the readers of the inputs
 abbrev pub Creates : {F I J M N R Y : Type 0} → Machine F I J M N R Y → Wanted
     → (standard : Standard J) → (old new : State OpenCalls) → Left F M I J → Result Unit Fault → Type 0
 Creates {F = F} {I = I} {J = J} machine wanted standard old new left result =

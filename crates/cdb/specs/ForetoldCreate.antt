@@ -138,8 +138,7 @@ pub record IsGivenUp {S : Type 0} (c : Created) (explained : Bool) (old new : St
   pub output : AppendsPrefix old.output new.output c.output
   pub lines : explained ≡ false → SaysPart c.lines (fault_line fault) old.errors new.errors
 
--- what is expected of a create: of a disk, of the database of this name, by way of this temporary
--- file
+-- what is expected of a create: of a disk, of the database of this name, through this temporary file
 pub record Expected : Type 0 where
   pub disk : Disk
   pub name : List ℕ

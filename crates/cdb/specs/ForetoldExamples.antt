@@ -127,7 +127,7 @@ files = files_of in_memory in_memory noted_feed of_disk
 abbrev standard : Standard Reader
 standard = standard_of noted_feed (fresh tt)
 
--- what is handed back by a command that makes nothing
+-- what is returned by a command that makes nothing
 abbrev Back : Type 0
 Back = Left MemStore MemStore Reader Reader
 

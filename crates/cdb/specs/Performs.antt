@@ -116,8 +116,7 @@ pub record HandsOn (end final : Option (List ℕ)) (unwritten : Type 0)
   pub taken : (held ≡ []) ⊎ unwritten
   pub answered : (result ≡ answer) ⊎ (IsWhole answer × (result ≡ Err Output) × unwritten)
 
--- the command was performed, and what it wrote was handed on; a fault of a reader, a store or a name has its
--- reason
+-- the command was performed, and what it wrote was forwarded; a fault of a reader, a store or a name has its reason
 pub record Does {F I J M N R Y : Type 0} (machine : Machine F I J M N R Y)
     (given : Given Asked J) (old new : State Y) (left : Left F M I J) (unwritten : Type 0)
     (result : Result Unit Fault) : Type 0 where
@@ -173,8 +172,8 @@ pub record AsksFor {F I J M N R Y : Type 0} (machine : Machine F I J M N R Y)
     pub says : Says result more before new.errors failed.errors
     pub is_status : status ≡ status_of command result
 
--- from its words to its exit status: what was written, what standard output has of it, and what is
--- said on standard error; what failed of them, or of the calls on names; and which files are handed back
+-- from its words to its exit status: what was written, what standard output has of it, and what is said on standard
+-- error; what failed of them, or of the calls on names; and which files are returned
 abbrev pub Runs : {F I J M N R Y : Type 0} → Machine F I J M N R Y
     → Given (Result Asked Refused) J → (old new : State Y) → (final : Option (List ℕ)) → Left F M I J
     → Failed → (status : ℕ)

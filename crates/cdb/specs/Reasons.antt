@@ -111,12 +111,12 @@ HasReason why Open = why.name
 HasReason why Rename = why.name
 HasReason why fault = ⊤
 
--- of what is read at places and opened, by the stores that are handed back
+-- of what is read at places and opened, by the stores that are returned
 abbrev pub store_reasons : {S : Type 0} → Ghosts S → List S → (name : Type 0) → Reasons
 store_reasons s stores name =
     record { reader = ⊥; store = AnyStoreFailed s stores; made = ⊥; name = name }
 
--- of a run over what a create read, as it is handed back
+-- of a run over what a create read, as it is returned
 abbrev pub run_reasons : {F J I : Type 0} → Ghosts F → (own : J → Feed) → (shared : I → Feed)
     → Sources F J I → (made name : Type 0) → Reasons
 run_reasons s own shared sources made name = record {
@@ -134,7 +134,7 @@ pub record CallsMade : Type 0 where
 abbrev pub calls_made : OpenCalls → NameCalls → CallsMade
 calls_made opened named = record { opened = opened; named = named }
 
--- of a command, by what it hands back and by its calls
+-- of a command, by what it returns and by its calls
 abbrev pub left_reasons : {F I J M N R Y : Type 0} → Machine F I J M N R Y → (standard : J → Feed)
     → (old new : CallsMade) → Left F M I J → (nameless : Type 0) → Reasons
 left_reasons machine standard old new left nameless = record {

@@ -45,7 +45,7 @@ written w = state_of w.system w.named (output_bytes w.output) (output_bytes w.er
 abbrev pub taken : {Y O E : Type 0} → World Y O E → State Y
 taken w = state_of w.system w.named (writer_bytes w.output) (writer_bytes w.errors)
 
--- what the words request was done, and its output handed on, if no older one was held
+-- what the words request was done, and its output forwarded, if no older one was held
 pub record Answers {F I J M N R Y O E : Type 0} (machine : Machine F I J M N R Y)
     (given : Given (Result Asked Refused) J) (old new : World Y O E)
     (left : Left F M I J) (status : ℕ) : Type 0 where

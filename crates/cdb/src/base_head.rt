@@ -10,7 +10,7 @@ use cdb_read::Reader;
 use cdb_store::Store;
 use cdb_tool::Fault;
 
-/// Reads the head of a base, and hands the base back.
+/// Reads the head of a base, and returns the base.
 // In line it leaves the room of a reader on the stack of the whole create.
 #[inline(never)]
 fn see_head<L: Width, F: Store>(base: F) -> (F, Result<(), Fault>)
@@ -30,7 +30,7 @@ fn see_head<L: Width, F: Store>(base: F) -> (F, Result<(), Fault>)
     (base, Ok(()))
 }
 
-/// Reads the head of a base, if there is one, and hands the base back.
+/// Reads the head of a base, if there is one, and returns the base.
 ///
 /// `Read(Short)`: it is shorter than its head. `NoBaseTables`: no table has slots, though bytes
 /// follow the head. Its words may have the other width, and then a run would find no record in it.

@@ -16,7 +16,7 @@ use cdb_tool::{Fault, make_run_from};
 use std::alloc::Global;
 use std::marker::PhantomData;
 
-/// Makes it in a store, which is handed back, and what was read too.
+/// Makes it in a store, which is returned, and what was read too.
 pub(crate) fn make_in<L, S, Y, E>(
     alloc: Global,
     store: S,
@@ -52,8 +52,8 @@ where
     (store, Sources { base, inputs }, made)
 }
 
-/// Builds the database in a file that is empty, through a buffer. What was read is handed back,
-/// also if there is no file to build in.
+/// Builds the database in a file that is empty, through a buffer. What was read is returned, also
+/// if there is no file to build in.
 #[derive(Drop)]
 pub(crate) struct Building<'a, L: Width, Y: System, E> {
     pub(crate) alloc: Global,

@@ -8,7 +8,7 @@ use cdb_system::{Left, System};
 use cdb_tool::RunContext;
 use std::marker::PhantomData;
 
-/// The files and streams that a create reads, as they were opened or as they are handed back.
+/// The files and streams that a create reads, as they were opened or as they are returned.
 #[derive(Drop)]
 pub(crate) struct Sources<F, J, I> {
     /// The base, if one is amended.
@@ -27,7 +27,7 @@ pub(crate) type SourcesOf<Y> = Sources<
 impl<F: Drop, J: Drop, I: Drop> Sources<F, J, I> {
     ghost use Rattle.cdb.specs.Contents.{sources_left};
 
-    /// What a create hands back of them, and of a file that was made in place.
+    /// What a create returns of them, and of a file that was made in place.
     pub(crate) fn into_left<M: Drop>(self, made: Option<M>) -> Left<F, M, J, I>
         ensures { result ≡ sources_left self made }
     {

@@ -40,8 +40,8 @@ pub(crate) struct Creation<'a> {
 
 /// Makes a database, on standard output or under its name: in place, or in a temporary file. The
 /// base and then all inputs are opened before anything is made, and a base that its head refuses
-/// ends the create there. A base that was opened is handed back, however the create ends, and so is
-/// a file that was made in place. If all inputs were opened, their readers are handed back too, and
+/// ends the create there. A base that was opened is returned, however the create ends, and so is a
+/// file that was made in place. If all inputs were opened, their readers are returned too, and
 /// standard input.
 #[inline(never)]
 pub(crate) fn create<L, Y, O, E>(
@@ -158,7 +158,7 @@ where
     }
 }
 
-/// Makes it in memory and writes it. What was read is handed back.
+/// Makes it in memory and writes it. What was read is returned.
 #[inline(never)]
 fn make_on_output<L, Y, O, E>(
     alloc: Global,

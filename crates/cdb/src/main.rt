@@ -89,7 +89,7 @@ fn all_held(rt: &HostRuntime) -> [Option<File>; 3] {
     }
 }
 
-/// Whether the place of standard input is held: it is closed.
+/// Returns true if the place of standard input is held: it is closed.
 fn is_input_held(held: &[Option<File>; 3]) -> bool {
     matches!(&held[0], Some(first) if first.as_raw_fd() == 0)
 }

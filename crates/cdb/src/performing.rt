@@ -53,7 +53,7 @@ fn shown_options<'a>(lines: &Lines, inputs: &'a [String], options: MakeOptions) 
     }
 }
 
-/// Performs a command, with words as wide as `L` says, and hands back what it leaves open. If lines
+/// Performs a command, with words as wide as `L` says, and returns what it leaves open. If lines
 /// are counted, duplicates are explained.
 pub(crate) fn perform_in<L, Y, O, E>(
     alloc: Global,

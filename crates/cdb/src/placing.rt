@@ -26,8 +26,8 @@ use cdb_tool::Fault;
 use std::alloc::Global;
 use std::marker::PhantomData;
 
-/// Whether a file that is read may be the one of this name, which is not followed as a link: it is,
-/// or the system did not say.
+/// Returns true if a file that is read may be the one of this name, which is not followed as a
+/// link: it is, or the system did not say.
 fn may_be_one<N: Names>(names: &mut N, name: &str, file: &str) -> bool
     ensures other { result ≡ false
         → N.calls names.new ≡ (Same No, name.now, file.now, []) ∷ N.calls names.old }
@@ -40,7 +40,7 @@ fn may_be_one<N: Names>(names: &mut N, name: &str, file: &str) -> bool
     }
 }
 
-/// Whether the file of standard input may be: it is, or the system did not say.
+/// Returns true if the file of standard input may be: it is, or the system did not say.
 fn may_be_standard<N: Names>(names: &mut N, name: &str) -> bool
     ensures other { result ≡ false
         → N.calls names.new ≡ (Input No, name.now, [], []) ∷ N.calls names.old }
@@ -52,7 +52,7 @@ fn may_be_standard<N: Names>(names: &mut N, name: &str) -> bool
     }
 }
 
-/// Whether an input may be.
+/// Returns true if an input may be.
 fn may_be_input<N: Names>(names: &mut N, name: &str, input: &str) -> bool
     ensures other { result ≡ false → AsksOne name.now input.now
         (N.calls names.old) (N.calls names.new) }
@@ -65,7 +65,7 @@ fn may_be_input<N: Names>(names: &mut N, name: &str, input: &str) -> bool
     may_be_one(names, name, input)
 }
 
-/// Whether one of the inputs may be.
+/// Returns true if one of the inputs may be.
 fn may_be_one_of_inputs<N: Names>(names: &mut N, name: &str, inputs: &[String]) -> bool
     ensures others { result ≡ false → AsksEach name.now (map string_bytes inputs.now)
         (N.calls names.old) (N.calls names.new) }
@@ -80,7 +80,7 @@ fn may_be_one_of_inputs<N: Names>(names: &mut N, name: &str, inputs: &[String]) 
     false
 }
 
-/// Whether an input may be; if there are no inputs, whether standard input may be.
+/// Returns true if an input may be; if there are no inputs, whether standard input may be.
 #[tactic(auto, using(crate::proofs::Asks::asks_standard, crate::proofs::Asks::finds_standard, crate::proofs::Asks::asks_named, crate::proofs::Asks::finds_named))]
 fn may_be_one_read<N: Names>(names: &mut N, name: &str, inputs: &[String]) -> bool
     ensures others { result ≡ false → AsksEach name.now (inputs_read (map string_bytes inputs.now))
@@ -94,7 +94,7 @@ fn may_be_one_read<N: Names>(names: &mut N, name: &str, inputs: &[String]) -> bo
     may_be_one_of_inputs(names, name, inputs)
 }
 
-/// Whether the base may be.
+/// Returns true if the base may be.
 fn may_be_base<N: Names>(names: &mut N, name: &str, base: &Option<String>) -> bool
     ensures other { result ≡ false → AsksBase name.now (option_map string_bytes base.now)
         (N.calls names.old) (N.calls names.new) }
@@ -107,7 +107,8 @@ fn may_be_base<N: Names>(names: &mut N, name: &str, base: &Option<String>) -> bo
     }
 }
 
-/// Whether the base or an input may be the file of this name, which is not followed as a link.
+/// Returns true if the base or an input may be the file of this name, which is not followed as a
+/// link.
 fn may_be_read<N: Names>(names: &mut N, name: &str, creation: Creation<'_>) -> bool
     ensures others { result ≡ false → AsksAll name.now
         (option_map string_bytes creation.entry.base.now) (map string_bytes creation.entry.inputs.now)
@@ -163,7 +164,7 @@ fn named(has_file: Answer) -> Result<(), Fault>
 /// `Rename`: another file has the name before the file is emptied or once it is whole, or none has,
 /// or the system did not say.
 ///
-/// What was read is handed back, and the file if it was opened.
+/// What was read is returned, and the file if it was opened.
 #[inline(never)]
 pub(crate) fn make_in_place<L, Y, E>(
     alloc: Global,
@@ -241,7 +242,7 @@ where
 /// Makes it in a temporary file, which replaces the database once it is whole.
 ///
 /// If the temporary name refers to the base or to an input, or the system did not say whether it
-/// does, nothing is removed and the call fails. What was read is handed back, also if nothing was
+/// does, nothing is removed and the call fails. What was read is returned, also if nothing was
 /// built.
 #[inline(never)]
 pub(crate) fn replace_database<L, Y, E>(

@@ -17,7 +17,7 @@ use cdb_tool::{Command, DONE, Fault, Lines, Output, explains, plan_explained, st
 use std::alloc::Global;
 use std::io::Write;
 
-/// Does what the words request, of which the first is the program's name, hands back what it leaves
+/// Does what the words request, of which the first is the program's name, returns what it leaves
 /// open, and answers the exit status. A fault has its line on `errors`, unless that fails.
 pub(crate) fn run<Y, O, E>(
     alloc: Global,
@@ -154,7 +154,7 @@ where
     (left, handed_on(&mut streams.output, answer))
 }
 
-/// Hands on what the output of a command still holds, after a fault too. A flush that fails is
+/// Forwards what the output of a command still holds, after a fault too. A flush that fails is
 /// `Output` if no other fault came than `Missing`, after which all that was found is to be written.
 fn handed_on<O: Write>(output: &mut Output<O>, answer: Result<(), Fault>) -> Result<(), Fault>
     ensures hands { HandsOn (output_bytes output.old) (writer_bytes output.new)
@@ -170,7 +170,7 @@ fn handed_on<O: Write>(output: &mut Output<O>, answer: Result<(), Fault>) -> Res
     }
 }
 
-/// Whether a command is about words of 8 bytes.
+/// Returns true if a command is about words of 8 bytes.
 fn is_wide(command: &Command) -> bool
     ensures { result ≡ has_wide_words (asked_in command.now) }
 {

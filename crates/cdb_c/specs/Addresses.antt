@@ -17,7 +17,7 @@ abbrev pub address_owns : Global → Ptr → Option Database → Fml
 address_owns alloc p None = ftrue
 address_owns alloc p (Some d) = box_owns (ghosts.dealloc_token alloc) the_row p d
 
--- whether there is a database
+-- true if there is a database
 abbrev pub is_kept : Option Database → Bool
 is_kept None = false
 is_kept (Some d) = true

@@ -34,12 +34,12 @@ pub record IsCount (m : Making) (n : ℕ) : Type 0 where
       → WhereHonest (images_of (store_of m.maker)) (n ≡ length rs)
   pub told : n ≡ told_count m.maker
 
--- how many records a maker holds; of any other database none is said
+-- the number of records that a maker holds; of any other database none is said
 abbrev pub HandleCounts : Option Database → ℕ → Type 0
 HandleCounts (Some (Open m)) n = IsCount m n
 HandleCounts old n = n ≡ 0
 
--- how many bytes the file of a maker has, as its store counts them; of any other database none is said
+-- the number of bytes that the file of a maker has, as its store counts them; of any other database none is said
 abbrev pub HandleWrote : Option Database → ℕ → Type 0
 HandleWrote (Some (Open m)) n = n ≡ len_of (inner_of (store_of m.maker))
 HandleWrote old n = n ≡ 0

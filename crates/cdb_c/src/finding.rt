@@ -16,7 +16,7 @@ use cdb_read::memory::{Search, begin, find, next};
 pub struct Found {
     /// The place of its first byte.
     pub place: u32,
-    /// How many bytes it has.
+    /// The number of bytes it has.
     pub len: u32,
 }
 
@@ -41,11 +41,11 @@ pub struct State {
     pub hash: u64,
     /// The place of the table.
     pub table: u64,
-    /// How many slots the table has.
+    /// The number of slots that the table has.
     pub slots: u64,
     /// The number of the next slot.
     pub slot: u64,
-    /// How many slots are left, that one among them.
+    /// The number of slots that are left, that one among them.
     pub left: u64,
 }
 

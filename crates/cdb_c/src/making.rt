@@ -93,7 +93,7 @@ pub extern "C" fn cdb_c_make_append(alloc: Global, handle: &mut Handle, bytes: &
     appended_code(append(alloc, handle, bytes))
 }
 
-/// How many records a maker holds. 0: the handle has none.
+/// Returns the number of records that a maker holds. 0: the handle has none.
 #[unsafe(no_mangle)]
 pub extern "C" fn cdb_c_make_count(alloc: Global, handle: &mut Handle) -> u64
     ensures count { HandleCounts (kept_in handle.old) result }
@@ -102,8 +102,8 @@ pub extern "C" fn cdb_c_make_count(alloc: Global, handle: &mut Handle) -> u64
     count(alloc, handle)
 }
 
-/// How many bytes the file of a maker has, by the calls that were made of it: what the maker still
-/// collects is not there. 0: the handle has none.
+/// Returns the number of bytes that the file of a maker has, by the calls that were made of it:
+/// what the maker still collects is not there. 0: the handle has none.
 #[unsafe(no_mangle)]
 pub extern "C" fn cdb_c_make_written(alloc: Global, handle: &mut Handle) -> u64
     ensures written { HandleWrote (kept_in handle.old) result }

@@ -57,7 +57,7 @@ IsInRange (Create name base inputs temporary options wide) =
 IsInRange Help = Unit
 IsInRange Version = Unit
 
--- whether its words have 8 bytes
+-- true if its words have 8 bytes
 abbrev pub has_wide_words : Asked → Bool
 has_wide_words (Query name key number lines wide) = wide
 has_wide_words (Lookups name inputs number style wide) = wide

@@ -36,11 +36,11 @@ some_has sought [] = false
 some_has sought (word ∷ words) =
     if bytes_eq word (codes "--") then false else (has sought word || some_has sought words)
 
--- whether it wants its faults explained. The first of the words is the program's name
+-- true if it wants its faults explained. The first of the words is the program's name
 abbrev pub explains_in : List Text → Bool
 explains_in words = some_has (codes "v") (drop 1 words)
 
--- whether it requests a command
+-- true if it requests a command
 abbrev pub asks_in : List Text → Bool
 asks_in words = some_has (codes "qdlsckDhV") (drop 1 words)
 
@@ -66,7 +66,7 @@ first_piece (b ∷ bytes) = b ∷ take (continuation_len b) bytes
 abbrev pub is_printable : List ℕ → Bool
 is_printable bytes = is_utf8 bytes && not (has_hidden bytes)
 
--- how many bytes the character has that some bytes begin with, if it is shown as it is, or else 0
+-- the number of bytes that the character has that some bytes begin with, if it is shown as it is, or else 0
 abbrev pub printable_len : List ℕ → ℕ
 printable_len bytes = if is_printable (first_piece bytes) then length (first_piece bytes) else 0
 

@@ -64,18 +64,18 @@ only_letter (x ∷ y ∷ more) = Err (refused.TwoCommands (letter_code x) (lette
 abbrev pub is_hyphen : Text → Bool
 is_hyphen name = bytes_eq name (codes "-")
 
--- whether a create writes the database to standard output: then no file is built
+-- true if a create writes the database to standard output: then no file is built
 abbrev pub writes_out : List Text → Bool
 writes_out [] = false
 writes_out (name ∷ inputs) = is_hyphen name
 
--- whether the file in which a create builds has this name; it is the database's name and `.tmp` if no name is given
+-- true if the file in which a create builds has this name; it is the database's name and `.tmp` if no name is given
 abbrev pub is_built_in : Option Text → List Text → Text → Bool
 is_built_in (Some temporary) names file = bytes_eq temporary file
 is_built_in None [] file = false
 is_built_in None (name ∷ inputs) file = bytes_eq (name ++ codes ".tmp") file
 
--- whether a create takes this base: not if it builds in place by `-t -`, and not if it would build in the base
+-- true if a create takes this base: not if it builds in place by `-t -`, and not if it would build in the base
 abbrev pub takes_base : Given → Text → Bool
 takes_base g base = not (unwrap_or (option_map is_hyphen g.temporary) false)
     && (writes_out g.names || not (is_built_in g.temporary g.names base))

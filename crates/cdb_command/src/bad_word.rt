@@ -84,7 +84,7 @@ fn letters_met<'a>(mut values: Values, word: &str) -> Result<Values, WordFault<'
     Ok(values)
 }
 
-/// Whether a word has no letters: a name, or the value of the letter before it.
+/// Returns true if a word has no letters: a name, or the value of the letter before it.
 fn is_plain(word: &str) -> bool
     ensures { result ≡ is_plain word.now }
 {
@@ -94,7 +94,7 @@ fn is_plain(word: &str) -> bool
     }
 }
 
-/// Whether the second letter of a word is a hyphen.
+/// Returns true if the second letter of a word is a hyphen.
 fn is_long(word: &str) -> bool
     ensures { result ≡ is_long word.now }
 {
@@ -153,7 +153,7 @@ fn first_bad(words: &[String]) -> WordFault<'_>
     end_met(values.waiting)
 }
 
-/// Whether it is the word that requests help of other programs.
+/// Returns true if it is the word that requests help of other programs.
 fn is_help(fault: &WordFault<'_>) -> bool
     ensures { result ≡ is_help (refused_in fault.now) }
 {

@@ -35,7 +35,7 @@ pub(crate) fn flag_letters<'a>() -> [(&'a str, char); 17]
     ]
 }
 
-/// Whether a letter is one without a value.
+/// Returns true if a letter is one without a value.
 pub(crate) fn is_flag(letter: char) -> bool
     ensures { result ≡ is_flag letter }
 {
@@ -68,7 +68,7 @@ pub(crate) struct Flags {
     pub(crate) insert: bool,
 }
 
-/// Whether a letter is there.
+/// Returns true if a letter is there.
 fn has(matches: &ArgMatches<'_>, id: &str) -> bool
     ensures { result ≡ has id.now (rows_of (found_of matches.now)) }
 {

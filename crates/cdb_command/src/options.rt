@@ -7,13 +7,13 @@ use cdb_form::Mode;
 pub struct MakeOptions {
     /// What is done with a record whose key is there already, unless the run is to stop there.
     pub mode: Mode,
-    /// Whether such a record is reported.
+    /// True if such a record is reported.
     pub warn: bool,
-    /// Whether the run stops at the first such record and reports it. Each record is put by
+    /// True if the run stops at the first such record and reports it. Each record is put by
     /// `Insert` then, whatever the mode.
     pub stop: bool,
     /// The form of the inputs.
     pub style: Style,
-    /// How many bytes the database may have at most.
+    /// The number of bytes that the database may have at most.
     pub limit: u64,
 }

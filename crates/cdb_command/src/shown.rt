@@ -3,8 +3,8 @@ ghost use Rattle.std.specs.Prelude.{◌≡◌, ◌<◌, ◌≤◌, ◌+◌, leng
 ghost use Rattle.std.specs.Str.{continuation_len};
 ghost use Rattle.cdb_command.specs.Refused.{digit, escaped, first_piece, has_hidden, is_hidden, is_printable, printable_len};
 
-/// Whether a character could end a line, command a terminal, turn the order of what is read, or be
-/// taken for the number of a byte.
+/// Returns true if a character could end a line, command a terminal, turn the order of what is
+/// read, or be taken for the number of a byte.
 fn is_hidden(character: char) -> bool
     ensures { result ≡ is_hidden character }
 {
@@ -20,7 +20,7 @@ fn is_hidden(character: char) -> bool
         )
 }
 
-/// Whether a text has such a character.
+/// Returns true if a text has such a character.
 fn has_hidden(text: &str) -> bool
     ensures { result ≡ has_hidden text.now }
 {
@@ -32,7 +32,7 @@ fn has_hidden(text: &str) -> bool
     false
 }
 
-/// Whether bytes are a text that has none.
+/// Returns true if bytes are a text that has none.
 fn is_printable(bytes: &[u8]) -> bool
     ensures { result ≡ is_printable bytes.now }
 {
@@ -42,7 +42,7 @@ fn is_printable(bytes: &[u8]) -> bool
     }
 }
 
-/// How many bytes follow the first one of a character, as that says.
+/// Returns the number of bytes that follow the first one of a character, as that says.
 fn continuation_len(first: u8) -> usize
     ensures { result ≡ continuation_len first }
 {
@@ -69,10 +69,10 @@ fn first_piece(bytes: &[u8]) -> &[u8]
     }
 }
 
-/// How many bytes the character has that some bytes begin with, if a line shows it as it is: or
-/// else 0. All of UTF-8 is shown so but control characters, the separators of lines and paragraphs,
-/// characters that mark, embed, override or isolate a direction of writing, tag characters, and the
-/// backslash. Of 0 the first byte is shown `escaped`.
+/// Returns the number of bytes that the character has that some bytes begin with, if a line shows
+/// it as it is: or else 0. All of UTF-8 is shown so but control characters, the separators of lines
+/// and paragraphs, characters that mark, embed, override or isolate a direction of writing, tag
+/// characters, and the backslash. Of 0 the first byte is shown `escaped`.
 pub fn printable_len(bytes: &[u8]) -> usize
     ensures exact { result ≡ printable_len bytes.now }
     ensures bound { result ≤ length bytes.now }

@@ -18,7 +18,7 @@ use clap::ArgMatches;
 use clap::error::ErrorKind;
 use std::alloc::Global;
 
-/// Whether `clap` refused words since memory ran out.
+/// Returns true if `clap` refused words since memory ran out.
 fn is_of_memory(error: &clap::Error) -> bool
     ensures { result ≡ false → kind_of error.now ≢ ErrorKind.OutOfMemory }
 {

@@ -47,7 +47,7 @@ HasNone old new = Consumes old new (codes "\n")
 
 -- ---- one step
 
--- whether a maker is broken, and how often its store has failed
+-- true if a maker is broken, and how often its store has failed
 pub record Stage : Type 0 where
   pub broken : Bool
   pub failures : ℕ
@@ -60,7 +60,7 @@ abbrev pub call_of : Edit → Call
 call_of (Put mode r) = Putting mode (key_value r)
 call_of (Remove key) = Removing key.items
 
--- whether the file keeps the limit after a call
+-- true if the file keeps the limit after a call
 abbrev pub is_within : ℕ → ℕ → List KeyValue → Call → Bool
 is_within w limit rs (Putting mode r) = fits w limit mode r rs
 is_within w limit rs (Removing key) = true
@@ -121,7 +121,7 @@ MeetsStep w limit rs step fault old new = StepMeets (AnswersStep w limit rs step
 
 -- ---- steps in turn
 
--- whether a call met no fault but the limit
+-- true if a call met no fault but the limit
 abbrev pub is_done : Option MakeFault → Bool
 is_done None = true
 is_done (Some TooBig) = true

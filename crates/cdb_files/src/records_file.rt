@@ -121,8 +121,8 @@ impl<'a, S: Store, L: Width> Builder<S> for Records<'a, L> {
     fn give_up(self) {}
 }
 
-/// Makes the database of some records under a name, by way of a temporary name, in place of what
-/// has the name. Several records may have one key.
+/// Makes the database of some records under a name, through a temporary name, in place of what has
+/// the name. Several records may have one key.
 ///
 /// What had the name keeps it until the new file is whole and synced, and after a fault, unless a
 /// rename that answered a fault happened all the same.
@@ -163,7 +163,7 @@ pub fn make_file_in<L: Width, N: Names>(
     }
 }
 
-/// Makes the database of some records under a name, by way of the name with `.tmp` after it.
+/// Makes the database of some records under a name, through the name with `.tmp` after it.
 ///
 /// `Open`: the name is empty or ends in a slash, or no file can be made of that temporary name.
 /// `Rename`: the file cannot be given the name, which may be that of a folder. `NoMemory`: there

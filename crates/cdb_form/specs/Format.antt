@@ -30,7 +30,7 @@ pub record WordPair : Type 0 where
   pub first : ℕ
   pub second : ℕ
 
--- how many bytes it has
+-- the number of bytes it has
 abbrev pub pair_size : ℕ → ℕ
 pair_size w = 2 * w
 
@@ -38,7 +38,7 @@ pair_size w = 2 * w
 abbrev pub pair_bytes : ℕ → WordPair → List ℕ
 pair_bytes w p = little_bytes w p.first ++ little_bytes w p.second
 
--- how many bytes the 256 pairs of the head have, and so the place of the first record
+-- the number of bytes that the 256 pairs of the head have, and so the place of the first record
 abbrev pub head_size : ℕ → ℕ
 head_size w = 512 * w
 
@@ -80,7 +80,7 @@ unfoldable pub record_bytes : ℕ → KeyValue → List ℕ
 record_bytes w r = pair_bytes w (record { first = length r.key; second = length r.value }) ++ r.key
     ++ r.value
 
--- how many they are
+-- their number
 abbrev pub record_size : ℕ → KeyValue → ℕ
 record_size w r = pair_size w + length r.key + length r.value
 
@@ -140,7 +140,7 @@ file_tables w rs = map (table_slots w rs) (range_with_len 0 256)
 
 -- ---- The records of a file, one after the other, in words of w bytes.
 
--- whether a pointer's table has slots
+-- true if a pointer's table has slots
 abbrev pub has_slots : WordPair → Bool
 has_slots p = not (p.second == 0)
 
@@ -156,7 +156,7 @@ record_end w bytes = least_place (head_size w) (head_at w bytes)
 abbrev pub first_table_at : ℕ → List WordPair → ℕ
 first_table_at place ps = position_or_len (λ p. has_slots p && (p.first == place)) ps
 
--- how many bytes the record at the start of some bytes takes, by the lengths in its header
+-- the number of bytes that the record at the start of some bytes takes, by the lengths in its header
 abbrev pub prefix_size : ℕ → List ℕ → ℕ
 prefix_size w bytes = 2 * w + (pair_at w bytes).first + (pair_at w bytes).second
 
@@ -215,7 +215,7 @@ walk_of w bytes =
 
 -- ---- The file of a list of records, in words of w bytes.
 
--- how many bytes a record takes in all: its own, and those of two slots
+-- the number of bytes that a record takes in all: its own, and those of two slots
 abbrev pub whole_size : ℕ → KeyValue → ℕ
 whole_size w r = record_size w r + 4 * w
 

@@ -15,7 +15,7 @@ pub const GREATEST_HEAD: usize = 4096;
 pub struct Pointer {
     /// The place of its first slot, in bytes from the file's start.
     pub place: u64,
-    /// How many slots it has.
+    /// The number of slots it has.
     pub slots: u64,
 }
 
@@ -61,7 +61,7 @@ impl Head {
     }
 }
 
-/// How many bytes the head takes, and so the place of the first record.
+/// Returns the number of bytes that the head takes, and so the place of the first record.
 pub fn head_size<L: Width>() -> usize
     ensures { result ≡ head_size L.WORD }
 {

@@ -5,7 +5,7 @@ ghost use Rattle.cdb_form.specs.Views.Pairs.{pair_of, PairFits};
 
 use crate::width::Width;
 
-/// How many bytes two words take at most: those of words of 8 bytes.
+/// The number of bytes that two words take at most: those of words of 8 bytes.
 pub const GREATEST_PAIR: usize = 16;
 
 /// Two words.
@@ -15,7 +15,7 @@ pub(crate) struct TwoWords {
     pub(crate) second: u64,
 }
 
-/// How many bytes two words take: those of a header, of a slot or of a pointer.
+/// Returns the number of bytes that two words take: those of a header, of a slot or of a pointer.
 pub fn pair_size<L: Width>() -> usize
     ensures { result ≡ pair_size L.WORD }
 {

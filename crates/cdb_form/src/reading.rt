@@ -10,7 +10,7 @@ use crate::feeds::Feeds;
 use std::alloc::AllocError;
 use std::io::ErrorKind;
 
-/// As many bytes as a pipe holds. So many are read or written at once, and make a window.
+/// As many bytes as a pipe holds. So many are read or written at a time, and make a window.
 pub const PIPE: usize = 65536;
 
 /// How often in a row a reader or a writer is called again if a signal interrupts it.

@@ -9,7 +9,7 @@ use crate::pair::pair_size;
 use crate::slot::{Slot, write_slot};
 use crate::width::Width;
 
-/// Whether a slot of a table's bytes is used.
+/// Returns true if a slot of a table's bytes is used.
 #[inline(always)]
 fn is_used<L: Width>(bytes: &[u8], at: usize) -> bool
     requires { at < length (slots_in L.WORD bytes.now) }
@@ -20,7 +20,8 @@ fn is_used<L: Width>(bytes: &[u8], at: usize) -> bool
     L::read_word(&slot[L::WORD..]) != 0
 }
 
-/// How many slots are known to be used from `at` on: none if it is empty, or past the last.
+/// Returns the number of slots that are known to be used from `at` on: none if it is empty, or past
+/// the last.
 #[inline(always)]
 fn run_at<L: Width>(bytes: &[u8], runs: &[u32], at: usize) -> usize
     requires long { length runs.now ≡ length (slots_in L.WORD bytes.now) }

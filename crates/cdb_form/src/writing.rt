@@ -45,7 +45,7 @@ pub trait Sink {
         ensures failed { OnErr result (failed self.new) }
         ensures stays { failed self.old → failed self.new };
 
-    /// Hands on what it holds back.
+    /// Forwards what it holds back.
     fn flush_whole(&mut self) -> Result<(), OutFault>
         ensures bytes { Keeps (contents self.old) (contents self.new) }
         ensures failed { OnErr result (failed self.new) }

@@ -50,7 +50,7 @@ sees_at {l = l} m all b k r words top lt is h =
     let fits : PairFits l.TOP (lengths_of r) = record { first = omega (arith, few); second = omega (arith, few) } in
     (reads_as w l.TOP (get_or (places_in m.places) k m.end) b r words fits at, next ∙ ap (λ (n : ℕ). get_or (places_in m.places) k m.end + n) size)
 
--- whether it has a key and does not go
+-- true if it has a key and does not go
 pub fresh_at : (key : List ℕ) (ms : List Bool) (rs : List KeyValue) (k : ℕ) (r : KeyValue) → length ms ≡ length rs → k < length rs → get_or (fresh key ms rs) k false ≡ cond (get_or ms k true) false (has_key key (get_or rs k r))
 fresh_at key [] [] k r e lt = absurd (omega arith)
 fresh_at key [] (q ∷ rs) k r e lt = absurd (omega arith)

@@ -63,7 +63,7 @@ none_behind k (r ∷ rs) e =
     ] in
     f (has_key k r) refl
 
--- how many bytes those have that go and those that were found
+-- the number of bytes that those have that go and those that were found
 pub kept_picked : {L : Type 0} {l : Widths L} (m : Roll L l) (all : List KeyValue) (b : List ℕ) → Sees m all b → m.gone.size + m.found.size ≡ sum (picked (or_each (gone_of (marks_in m)) (found_of (marks_in m))) (map (record_size l.WORD) all))
 kept_picked {l = l} m all b sees =
     let ms : List Mark = marks_in m in

@@ -25,7 +25,7 @@ fresh_past key (m ∷ ms) [] k le is = (let t : false ≡ true = is in cc)
 fresh_past key (m ∷ ms) (r ∷ rs) zero le is = absurd (omega arith)
 fresh_past key (m ∷ ms) (r ∷ rs) (suc k) le is = fresh_past key ms rs k (omega arith) is
 
--- whether a search for the last one has found one
+-- true if a search for the last one has found one
 pub last_there : (key : List ℕ) (ms : List Bool) (rs : List KeyValue) (end : ℕ) (last : Option ℕ) → length ms ≡ length rs → length rs ≤ end → FindsLast (IsFreshRecord key ms rs) end last → is_some last ≡ is_there key (left ms rs)
 last_there key ms rs end (Some n) long all h = sym (there_at key ms rs n h.here)
 last_there key ms rs end None long all h = sym (there_none key ms rs long (λ k is. elim (cases_lt k end) [

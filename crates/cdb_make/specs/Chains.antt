@@ -80,7 +80,7 @@ key_at w p image = (prefix_record w (drop p image)).key
 unfoldable pub size_at : ℕ → ℕ → List ℕ → ℕ
 size_at w p image = prefix_size w (drop p image)
 
--- whether it has this key
+-- true if it has this key
 abbrev pub has_key_at : ℕ → List ℕ → List ℕ → ℕ → Bool
 has_key_at w key image p = bytes_eq (key_at w p image) key
 

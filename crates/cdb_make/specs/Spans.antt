@@ -92,7 +92,7 @@ picked [] xs = []
 picked (m ∷ ms) [] = []
 picked (m ∷ ms) (x ∷ xs) = cond m (x ∷ picked ms xs) (picked ms xs)
 
--- how many marks there are
+-- the number of marks there are
 abbrev pub number : List Bool → ℕ
 number [] = 0
 number (m ∷ ms) = cond m 1 0 + number ms

@@ -10,11 +10,11 @@ use Rattle.cdb_make.specs.declared.answer.Put.{Put}
 use Rattle.cdb_make.specs.declared.answer.Put.TheVariants.{Added, AddedAgain, Present, Replaced}
 use Rattle.cdb_make.specs.Spans.{left}
 
--- whether a record has the key
+-- true if a record has the key
 abbrev pub has_key : List ℕ → KeyValue → Bool
 has_key k r = bytes_eq r.key k
 
--- whether some record has it, and how many have
+-- true if some record has it, and how many have
 abbrev pub is_there : List ℕ → List KeyValue → Bool
 is_there k rs = list_any (has_key k) rs
 
@@ -45,7 +45,7 @@ put_answer Warn r rs = if is_there r.key rs then AddedAgain else Added
 put_answer Insert r rs = if is_there r.key rs then Present else Added
 put_answer Replace r rs = if is_there r.key rs then Replaced (count_of r.key rs) else Added
 
--- whether the file of the records after a put is within the limit
+-- true if the file of the records after a put is within the limit
 abbrev pub fits : ℕ → ℕ → Mode → KeyValue → List KeyValue → Bool
 fits w limit mode r rs = nat_le (file_size w (put_list mode r rs)) limit
 

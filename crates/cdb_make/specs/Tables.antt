@@ -51,7 +51,7 @@ pub record HaveRoom {L : Type 0} {l : Widths L} (counts : List ℕ) (gs : List (
 
 -- ---- Entries that are gathered by their tables, from the first of a roll on.
 
--- whether a hash belongs to a table or to so many more after it; table 0 follows table 255
+-- true if a hash belongs to a table or to so many more after it; table 0 follows table 255
 abbrev pub is_among : ℕ → ℕ → ℕ → Bool
 is_among first more h = nat_le ((table_number h + (256 - first)) % 256) more
 

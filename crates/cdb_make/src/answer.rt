@@ -16,7 +16,7 @@ pub enum Put {
 }
 
 impl Put {
-    /// Whether the key was there already, and nothing was appended.
+    /// Returns true if the key was there already, and nothing was appended.
     pub(crate) fn is_present(self) -> bool
         ensures { result ≡ is_present self }
     {

@@ -15,7 +15,7 @@ use cdb_store::{MakeFault, Store};
 #[derive(Clone, Copy)]
 struct First<'a> {
     key: &'a [u8],
-    /// How many bytes it has.
+    /// The number of bytes it has.
     size: usize,
 }
 
@@ -37,9 +37,9 @@ fn first_record<L: Width>(bytes: &[u8]) -> First<'_>
 /// Which records of a run are appended.
 #[derive(Clone, Copy)]
 struct Fitting {
-    /// How many they are.
+    /// Their number.
     count: usize,
-    /// How many bytes they have.
+    /// The number of bytes they have.
     size: usize,
     /// The limit keeps out a whole record that follows them.
     passes: bool,
@@ -196,8 +196,8 @@ impl<S: Store, L: Width> Maker<S, L> {
         self.enter_all(bytes, count)
     }
 
-    /// Whether some records go, and beside them there is no room for all whole records of some
-    /// bytes.
+    /// Returns true if some records go, and beside them there is no room for all whole records of
+    /// some bytes.
     fn crowds(&self, bytes: &[u8]) -> bool
         ensures beside { result ≡ false → (self.now.roll.gone.count ≡ 0) ⊎ (full_size self.now
             + sum_by (whole_size L.WORD) (records_at L.WORD bytes.now) ≤ self.now.limit) }

@@ -7,10 +7,10 @@ ghost use Rattle.cdb_make.specs.Chains.{AreChained, FindsLast, IsLast, IsIn, Has
 use crate::mark::{Mark, is_found_at, is_gone_at, is_gone_of_all};
 use std::alloc::{AllocError, Global};
 
-/// How many entries have a chain at most, since their numbers are 32 bits wide.
+/// The number of entries that have a chain at most, since their numbers are 32 bits wide.
 const MOST: usize = 4294967295;
 
-/// Whether an entry has a hash, and its record does not go.
+/// Returns true if an entry has a hash, and its record does not go.
 #[inline(always)]
 fn is_left(hashes: &[u32], marks: &[Mark], hash: u32, entry: usize) -> bool
     requires within { entry < length hashes.now }
@@ -155,14 +155,14 @@ impl Chains {
         }
     }
 
-    /// How many entries are in chains.
+    /// Returns the number of entries that are in chains.
     pub(crate) fn len(&self) -> usize
         ensures { result ≡ length self.now.before.items }
     {
         self.before.len()
     }
 
-    /// Whether one more entry can be put into a chain.
+    /// Returns true if one more entry can be put into a chain.
     #[inline(always)]
     fn has_room(&self) -> bool
         ensures room { result ≡ true → length self.now.before.items < vec_capacity self.now.before }

@@ -66,7 +66,7 @@ pub(crate) fn compact_bytes<S: Store, L: Width>(
 /// What is left once records were taken out.
 #[derive(Clone, Copy)]
 pub(crate) struct Left {
-    /// How many there are.
+    /// Their number.
     pub(crate) count: usize,
     /// Where they end.
     pub(crate) end: u64,

@@ -8,7 +8,7 @@ ghost use Rattle.cdb_make.specs.Chains.{TellsSameInImages, HoldAt, HasLengthsInI
 use cdb_form::{GREATEST_PAIR, Header, Width, pair_size, read_header};
 use cdb_store::{Store, StoreFault};
 
-/// How many bytes of a key are read at once.
+/// The number of bytes of a key that are read at a time.
 const PIECE: usize = 4096;
 
 /// The longest key for which a piece of this length does.
@@ -34,7 +34,7 @@ impl From<StoreFault> for LookFault {
     }
 }
 
-/// Whether a key's bytes are at a place. As many are read at once as a piece has.
+/// Returns true if a key's bytes are at a place. As many are read at a time as a piece has.
 fn is_read_at<S: Store>(
     store: &mut S,
     place: u64,
@@ -62,8 +62,8 @@ fn is_read_at<S: Store>(
     Ok(true)
 }
 
-/// Whether a key's bytes are at a place. A piece is zeroed at each call, so short keys have a
-/// short one.
+/// Returns true if a key's bytes are at a place. A piece is zeroed at each call, so short keys have
+/// a short one.
 pub(crate) fn key_is_at<S: Store>(store: &mut S, place: u64, key: &[u8]) -> Result<bool, StoreFault>
     requires inside { place + length key.now ≤ S.size store.old }
     requires fits { place + length key.now < 2 ^ 63 }
@@ -80,8 +80,8 @@ pub(crate) fn key_is_at<S: Store>(store: &mut S, place: u64, key: &[u8]) -> Resu
     }
 }
 
-/// How many bytes of a key are read with the header of a record: all if the key is short and may
-/// end before `end`, else none.
+/// Returns the number of bytes of a key that are read with the header of a record: all if the key
+/// is short and may end before `end`, else none.
 fn bytes_beside(key: &[u8], room: u64) -> usize
     ensures all { 0 < result → result ≡ length key.now }
     ensures within { result ≤ room }
@@ -94,8 +94,8 @@ fn bytes_beside(key: &[u8], room: u64) -> usize
     }
 }
 
-/// Whether a key's bytes are at a place, from which on these bytes were read: as many as the key
-/// has, or none.
+/// Returns true if a key's bytes are at a place, from which on these bytes were read: as many as
+/// the key has, or none.
 fn key_follows<S: Store>(
     store: &mut S,
     place: u64,
@@ -142,8 +142,8 @@ fn read_prefix<S: Store, L: Width>(
     Ok(read_header::<L>(&front[..pair_size::<L>()]))
 }
 
-/// How many bytes the record at a place takes, if it has this key. The header and a short key take
-/// one read.
+/// Returns the number of bytes that the record at a place takes, if it has this key. The header and
+/// a short key take one read.
 ///
 /// `Foreign`: the place, or the record by the lengths of its header, passes `end`.
 pub(crate) fn look_at<S: Store, L: Width>(

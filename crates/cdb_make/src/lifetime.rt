@@ -106,8 +106,8 @@ impl<S: Store, L: Width> Maker<S, L> {
     /// a maker leaves that does not finish is damaged. The store is flushed after this head, so no
     /// byte of a record is on the disk before it.
     ///
-    /// The store is handed back if that failed: with `NoMemory` as it was, and with `Writing`
-    /// it failed, and may hold anything.
+    /// The store is returned if that failed: with `NoMemory` as it was, and with `Writing` it
+    /// failed, and may hold anything.
     pub fn new(alloc: Global, store: S, limit: u64) -> Result<Maker<S, L>, Refused<S>>
         requires head { head_size L.WORD ≤ limit }
         requires words { limit ≤ L.GREATEST }
@@ -190,8 +190,8 @@ impl<S: Store, L: Width> Maker<S, L> {
     /// has handed it on to what holds its bytes. Records that go are taken out first, by one pass.
     ///
     /// All memory is taken before a byte of the tables is written, and the head is written last.
-    /// The maker is handed back if that failed. `NoMemory`: a pass was made if records were to go,
-    /// and no more. `Writing`: the store failed; amid the pass that breaks the maker, else it holds
+    /// The maker is returned if that failed. `NoMemory`: a pass was made if records were to go, and
+    /// no more. `Writing`: the store failed; amid the pass that breaks the maker, else it holds
     /// what it held. `Broken`: an earlier call broke the maker.
     pub fn finish(mut self) -> Result<S, Unfinished<S, L>>
         ensures whole { IfOk result (λ _. IsUsable self) }

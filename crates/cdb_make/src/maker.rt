@@ -16,9 +16,9 @@ use std::alloc::Global;
 /// What a maker counts.
 #[derive(Clone, Copy)]
 pub(crate) struct Counts {
-    /// How many records it holds.
+    /// The number of records it holds.
     pub(crate) count: u64,
-    /// How many bytes their file would have.
+    /// The number of bytes that their file would have.
     pub(crate) size: u64,
 }
 

@@ -14,7 +14,7 @@ pub(crate) enum Mark {
 }
 
 impl Mark {
-    /// Whether the record goes with the next pass.
+    /// Returns true if the record goes with the next pass.
     #[inline(always)]
     pub(crate) fn is_gone(self) -> bool
         ensures { result ≡ is_gone self }
@@ -25,7 +25,7 @@ impl Mark {
         }
     }
 
-    /// Whether a look has found it.
+    /// Returns true if a look has found it.
     #[inline(always)]
     pub(crate) fn is_found(self) -> bool
         ensures { result ≡ is_found self }
@@ -37,7 +37,7 @@ impl Mark {
     }
 }
 
-/// Whether a record of some goes.
+/// Returns true if a record of some goes.
 #[inline(always)]
 pub(crate) fn is_gone_at(marks: &[Mark], n: usize) -> bool
     requires { n < length marks.now }
@@ -46,7 +46,7 @@ pub(crate) fn is_gone_at(marks: &[Mark], n: usize) -> bool
     marks[n].is_gone()
 }
 
-/// Whether a record goes of so many, of which those past the marks stay.
+/// Returns true if a record goes of so many, of which those past the marks stay.
 #[inline(always)]
 pub(crate) fn is_gone_of_all(marks: &[Mark], n: usize) -> bool
     ensures { (count : ℕ) → length marks.now ≤ count → n < count
@@ -55,7 +55,7 @@ pub(crate) fn is_gone_of_all(marks: &[Mark], n: usize) -> bool
     n < marks.len() && is_gone_at(marks, n)
 }
 
-/// Whether a look has found a record of some.
+/// Returns true if a look has found a record of some.
 #[inline(always)]
 pub(crate) fn is_found_at(marks: &[Mark], n: usize) -> bool
     requires { n < length marks.now }

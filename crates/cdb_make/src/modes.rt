@@ -58,8 +58,8 @@ impl<S: Store, L: Width> Maker<S, L> {
         }
     }
 
-    /// Whether a put adds its record and does no more: no other goes or was found, and none is
-    /// tagged.
+    /// Returns true if a put adds its record and does no more: no other goes or was found, and none
+    /// is tagged.
     #[inline(always)]
     fn only_adds(&self, mode: Mode) -> bool
         ensures add { result ≡ true → mode ≡ Add }

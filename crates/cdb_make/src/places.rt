@@ -7,10 +7,10 @@ use cdb_form::Width;
 use std::alloc::{AllocError, Global};
 use std::marker::PhantomData;
 
-/// How many places have the same upper half.
+/// The number of places that have the same upper half.
 const HALF: u64 = 4294967296;
 
-/// Whether places have an upper half.
+/// Returns true if places have an upper half.
 fn is_wide<L: Width>() -> bool
     ensures wide { result ≡ true → L.WORD ≡ 8 }
     ensures narrow { result ≡ false → L.WORD ≡ 4 }
@@ -59,7 +59,7 @@ impl<L: Width> Places<L> {
         })
     }
 
-    /// How many they are.
+    /// Returns their number.
     pub(crate) fn len(&self) -> usize
         ensures { result ≡ length (places_in self.now) }
     {

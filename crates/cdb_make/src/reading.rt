@@ -14,7 +14,7 @@ use cdb_store::{MakeFault, Store};
 impl<S: Store, L: Width> Maker<S, L> {
     ghost use Rattle.cdb_make.specs.Views.Maker.{Holds, Rests, FailsLooking, Seeks, HasNotFailed, told_count, told_size, Looks, Follows, SameCounts, WritesNothing};
 
-    /// How many records it holds.
+    /// Returns the number of records it holds.
     ///
     /// In a broken maker it is what it was before the call that broke it.
     pub fn count(&self) -> u64
@@ -29,7 +29,7 @@ impl<S: Store, L: Width> Maker<S, L> {
         }
     }
 
-    /// How many bytes the file of its records would have.
+    /// Returns the number of bytes that the file of its records would have.
     ///
     /// In a broken maker it is what it was before the call that broke it.
     pub fn size(&self) -> u64
@@ -44,8 +44,8 @@ impl<S: Store, L: Width> Maker<S, L> {
         self.roll.left_end() + 2 * pair_size::<L>() as u64 * self.roll.left_count()
     }
 
-    /// Whether an earlier call broke it, or found that its store gave back other bytes than were
-    /// written. Then every call that can fail answers `Broken`.
+    /// Returns true if an earlier call broke it, or found that its store gave back other bytes than
+    /// were written. Then every call that can fail answers `Broken`.
     pub fn is_broken(&self) -> bool
         ensures { result ≡ self.now.broken }
     {
@@ -93,7 +93,7 @@ impl<S: Store, L: Width> Maker<S, L> {
         }
     }
 
-    /// Whether some record has a key.
+    /// Returns true if some record has a key.
     ///
     /// It writes nothing and takes no memory. `Lookup`: the store failed while it was read.
     /// `Broken`: an earlier call broke the maker, or the store gave back other bytes than were
@@ -136,8 +136,8 @@ impl<S: Store, L: Width> Maker<S, L> {
         }
     }
 
-    /// Whether some record has a key of this number, as `exists` says it. It leaves no record noted
-    /// as found.
+    /// Returns true if some record has a key of this number, as `exists` says it. It leaves no
+    /// record noted as found.
     #[inline(always)]
     pub(crate) fn look(&mut self, sought: u32, key: &[u8]) -> Result<bool, MakeFault>
         requires { IsSought self.old.roll key.now sought }

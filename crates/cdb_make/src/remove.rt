@@ -13,8 +13,8 @@ const LEAST: u64 = 4_194_304;
 impl<S: Store, L: Width> Maker<S, L> {
     ghost use Rattle.cdb_make.specs.Views.Maker.{Removes, FailsRemoving, Follows, TakesOut, Tears, CompactsAll, FailsCompactingAll, HasNotFailed, SameCounts};
 
-    /// Whether a pass frees more bytes than it moves: those of the records that go and that were
-    /// found are more than the others, and 4 MiB.
+    /// Returns true if a pass frees more bytes than it moves: those of the records that go and that
+    /// were found are more than the others, and 4 MiB.
     fn is_due(&self) -> bool
         ensures due { result ≡ true → self.now.roll.end + 4194304
             < 2 * (self.now.roll.gone.size + self.now.roll.found.size) }
@@ -26,7 +26,7 @@ impl<S: Store, L: Width> Maker<S, L> {
         self.roll.end - kept > kept + LEAST
     }
 
-    /// Whether records that are taken out wait for a later pass.
+    /// Returns true if records that are taken out wait for a later pass.
     pub(crate) fn waits(&self) -> bool
         ensures lazy { result ≡ true → self.now.lazy ≡ true }
         ensures spare { result ≡ true → 2 * (self.now.roll.gone.size + self.now.roll.found.size)

@@ -22,9 +22,9 @@ pub(crate) struct Picked {
     /// The number of the first of them. If there are none, it is past all, however many records
     /// follow.
     pub(crate) first: usize,
-    /// How many they are.
+    /// Their number.
     pub(crate) count: u64,
-    /// How many bytes they have.
+    /// The number of bytes they have.
     pub(crate) size: u64,
 }
 
@@ -174,7 +174,7 @@ impl<L: Width> Roll<L> {
         }
     }
 
-    /// How many records there are, those that go too.
+    /// Returns the number of records there are, those that go too.
     pub(crate) fn len(&self) -> usize
         ensures { result ≡ length self.now.hashes.items }
     {
@@ -188,7 +188,7 @@ impl<L: Width> Roll<L> {
         self.end - self.gone.size
     }
 
-    /// How many records there are without those that go.
+    /// Returns the number of records there are without those that go.
     pub(crate) fn left_count(&self) -> u64
         ensures { result + self.now.gone.count ≡ length self.now.hashes.items }
     {
@@ -202,7 +202,7 @@ impl<L: Width> Roll<L> {
         self.end - self.gone.size - self.found.size
     }
 
-    /// How many records there are without those that go and those that were found.
+    /// Returns the number of records there are without those that go and those that were found.
     pub(crate) fn kept_count(&self) -> u64
         ensures { result + (self.now.gone.count + self.now.found.count)
             ≡ length self.now.hashes.items }
@@ -210,7 +210,7 @@ impl<L: Width> Roll<L> {
         self.len() as u64 - self.gone.count - self.found.count
     }
 
-    /// Whether no record goes and none was found.
+    /// Returns true if no record goes and none was found.
     pub(crate) fn takes_none(&self) -> bool
         ensures none { result ≡ true → self.now.gone.count + self.now.found.count ≡ 0 }
         ensures some { result ≡ false → 0 < self.now.gone.count + self.now.found.count }

@@ -21,7 +21,7 @@ pub(crate) enum Look {
     Unknown(Option<i32>),
 }
 
-/// Whether something is so, or the number of the error of the call that did not say.
+/// True if something is so, or the number of the error of the call that did not say.
 pub(crate) type Said = Result<bool, Option<i32>>;
 
 /// What a look came to. Only "no such file" says that nothing is there.
@@ -33,7 +33,7 @@ pub(crate) fn looked(answer: io::Result<Metadata>) -> Look {
     }
 }
 
-/// Whether both are of one file: of one device and inode.
+/// Answers whether both are of one file: of one device and inode.
 pub(crate) fn is_one(one: &Look, other: &Look) -> Said {
     match (one, other) {
         (Look::There(one), Look::There(other)) => {
@@ -44,7 +44,7 @@ pub(crate) fn is_one(one: &Look, other: &Look) -> Said {
     }
 }
 
-/// Whether a file is what a name has, or what it leads to as a link.
+/// Answers whether a file is what a name has, or what it leads to as a link.
 pub(crate) fn is_one_of<R: Files<File = File>>(rt: &R, file: &Look, name: &str) -> Said {
     let found = looked(fs::symlink_metadata(rt, name));
     match is_one(file, &found) {
@@ -53,12 +53,12 @@ pub(crate) fn is_one_of<R: Files<File = File>>(rt: &R, file: &Look, name: &str) 
     }
 }
 
-/// Whether what was looked at is a link.
+/// Returns true if what was looked at is a link.
 pub(crate) fn is_link(look: &Look) -> bool {
     matches!(look, Look::There(found) if found.is_symlink())
 }
 
-/// Whether a name has an open file, or the number of the error of the look that failed.
+/// Returns true if a name has an open file, or the number of the error of the look that failed.
 pub fn has_name<R: Files<File = File>>(
     rt: &R,
     name: &str,

@@ -61,14 +61,14 @@ pub trait Names {
     /// last, if the system gave one.
     fn file_error(&self) -> Option<i32>;
 
-    /// Whether a name leads to something that is no regular file, and so is not to be replaced: a
-    /// folder, a device, a socket or a pipe. A name that leads to nothing does not.
+    /// Answers whether a name leads to something that is no regular file, and so is not to be
+    /// replaced: a folder, a device, a socket or a pipe. A name that leads to nothing does not.
     fn is_special(&mut self, name: &str) -> Answer
         ensures { calls self.new ≡ (Special result, name.now, [], []) ∷ calls self.old };
 
-    /// Whether what has a name, be it a file or a link, has the other name too, or is the file that
-    /// the other leads to as a link. So a file is known by another spelling of its name and by a
-    /// link to it, and a link by another spelling.
+    /// Answers whether what has a name, be it a file or a link, has the other name too, or is the
+    /// file that the other leads to as a link. So a file is known by another spelling of its name
+    /// and by a link to it, and a link by another spelling.
     fn is_file_of(&mut self, name: &str, other: &str) -> Answer
         ensures { calls self.new ≡ (Same result, name.now, other.now, []) ∷ calls self.old };
 
@@ -96,11 +96,11 @@ pub trait Names {
     fn lock(&mut self, name: &str, file: &Self::File) -> Lock
         ensures { calls self.new ≡ (Locked result, name.now, [], []) ∷ calls self.old };
 
-    /// Whether a name has an open file. A link is not followed.
+    /// Answers whether a name has an open file. A link is not followed.
     fn has_file(&mut self, name: &str, file: &Self::File) -> Answer
         ensures { calls self.new ≡ (Own result, name.now, [], []) ∷ calls self.old };
 
-    /// Whether what has a name is the file of standard input. A link is not followed.
+    /// Answers whether what has a name is the file of standard input. A link is not followed.
     fn is_input(&mut self, name: &str) -> Answer
         ensures { calls self.new ≡ (Input result, name.now, [], []) ∷ calls self.old };
 

@@ -42,7 +42,7 @@ pub trait Builder<S: Store> {
     /// What it writes to beside the store, as for lines of warnings: `()` if there is nothing.
     type Told;
 
-    /// What it hands back beside the store, such as what it read: `()` if there is nothing.
+    /// What it returns beside the store, such as what it read: `()` if there is nothing.
     type Back;
 
     /// The files that it may build if it hands this back.
@@ -52,23 +52,23 @@ pub trait Builder<S: Store> {
     /// not say may fail for any reason.
     ghost fails: { Self → S → S → Self.Fault → Type 0 } = { λ _ _ _ _. ⊤ };
 
-    /// What it hands back, and what it leaves in what it writes to beside, as that was and as it is
+    /// What it returns, and what it leaves in what it writes to beside, as that was and as it is
     /// then, with the images of the store and the answer.
     ghost tells: { Self → Self.Back → Self.Told → Self.Told → (List ℕ → Type 0)
         → Result Unit Self.Fault → Type 0 };
 
-    /// What it may hand back if it is given no store.
+    /// What it may return if it is given no store.
     ghost gives_up: { Self → Self.Back → Type 0 };
 
-    /// Builds the file, and hands the store back. It need not flush the store: the caller does,
-    /// after its own last change. After a fault the store may hold anything.
+    /// Builds the file, and returns the store. It need not flush the store: the caller does, after
+    /// its own last change. After a fault the store may hold anything.
     fn build(self, store: S, told: &mut Self::Told) -> (S, Self::Back, Result<(), Self::Fault>)
         ensures built { OnOk result.2
             ((b : List ℕ) → S.image result.0 b → builds self result.1 b) }
         ensures fails { IfErr result.2 (fails self store result.0) }
         ensures tells { tells self result.1 told.old told.new (S.image result.0) result.2 };
 
-    /// Hands back what it holds: there is no store to build in.
+    /// Returns what it holds: there is no store to build in.
     fn give_up(self) -> Self::Back
         ensures { gives_up self result };
 }
@@ -92,7 +92,7 @@ pub enum ReplaceFault<E> {
     Build(E),
 }
 
-/// Whether no file can have this name: it is empty or ends in a slash.
+/// Returns true if no file can have this name: it is empty or ends in a slash.
 pub fn is_no_name(name: &str) -> bool
     ensures { IsTrue result ↔ IsNoName name.now }
 {
@@ -220,9 +220,9 @@ fn clear<N: Names, E: Drop>(
     }
 }
 
-/// Whether the temporary name has the file that was made, and is of another file than the name.
-/// Both are seen once the file is locked: another create may have taken it for an old file before,
-/// and two names can be of one file though none was there.
+/// Returns true if the temporary name has the file that was made, and is of another file than the
+/// name. Both are seen once the file is locked: another create may have taken it for an old file
+/// before, and two names can be of one file though none was there.
 fn is_own_apart<N: Names>(names: &mut N, name: &str, temporary: &str, file: &N::File) -> bool
     ensures seen { result ≡ true → N.calls names.new ≡ (Same No, temporary.now, name.now, [])
         ∷ (Own Yes, temporary.now, [], []) ∷ N.calls names.old }
@@ -511,13 +511,13 @@ fn publish<N: Names, E: Drop>(
 /// permission bits of the regular file that it replaces, if that is of the same user, and is synced
 /// with them; if its owner may not write it then, it is synced before too. If there is none of this
 /// user by then, it gets those of the one that was there before the build, or those of a plain new
-/// file: one that was made under the temporary name showed them before. After a fault the temporary name is taken from the file, if it still has it. A folder
-/// that cannot be synced is no fault.
+/// file: one that was made under the temporary name showed them before. After a fault the temporary
+/// name is taken from the file, if it still has it. A folder that cannot be synced is no fault.
 ///
 /// If the system did not say what a name has, nothing is touched: `Open`.
 ///
-/// What the builder writes to beside the file is passed on to it. What it handed back is handed on,
-/// as it built or as it gave up, if no temporary file could be made.
+/// What the builder writes to beside the file is passed on to it. What it returned is forwarded, as
+/// it built or as it gave up, if no temporary file could be made.
 pub fn replace_file<N: Names, B: Builder<FileStore<N::File>>>(
     names: &mut N,
     name: &str,

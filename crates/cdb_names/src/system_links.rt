@@ -6,7 +6,7 @@ use std::os::unix::fs::MetadataExt;
 use std::path::PathBuf;
 use std::rt::Files;
 
-/// How many links the system follows from a name.
+/// The number of links that the system follows from a name.
 const LINKS: u32 = 40;
 
 /// The system's number for "cannot allocate memory".
@@ -15,8 +15,8 @@ const ENOMEM: i32 = 12;
 /// The system's number for "too many levels of symbolic links".
 const ELOOP: i32 = 40;
 
-/// Whether a name is that of a link in `/dev`, or of one that lies in `/proc` or leads there by a
-/// link, as `/dev/stdout` does wherever it lies.
+/// Answers whether a name is that of a link in `/dev`, or of one that lies in `/proc` or leads
+/// there by a link, as `/dev/stdout` does wherever it lies.
 pub(crate) fn is_system_link<R: Files<File = File> + Alloc>(rt: &R, name: &str) -> Said {
     if link_at(rt, name)? {
         return leads_into_system(rt, name);
@@ -24,7 +24,7 @@ pub(crate) fn is_system_link<R: Files<File = File> + Alloc>(rt: &R, name: &str) 
     Ok(false)
 }
 
-/// Whether a link is one, or leads to one. Memory that is refused is no answer.
+/// Answers whether a link is one, or leads to one. Memory that is refused is no answer.
 fn leads_into_system<R: Files<File = File> + Alloc>(rt: &R, name: &str) -> Said {
     let Ok(mut at) = PathBuf::from_str(rt.alloc(), name) else {
         return Err(Some(ENOMEM));
@@ -49,7 +49,7 @@ fn leads_into_system<R: Files<File = File> + Alloc>(rt: &R, name: &str) -> Said 
     Err(Some(ELOOP))
 }
 
-/// Whether a name is that of a link.
+/// Answers whether a name is that of a link.
 fn link_at<R: Files<File = File>>(rt: &R, name: &str) -> Said {
     match looked(fs::symlink_metadata(rt, name)) {
         Look::Unknown(number) => Err(number),
@@ -57,7 +57,7 @@ fn link_at<R: Files<File = File>>(rt: &R, name: &str) -> Said {
     }
 }
 
-/// Whether a folder is `/dev`, or lies in `/proc`.
+/// Answers whether a folder is `/dev`, or lies in `/proc`.
 fn is_in_system<R: Files<File = File>>(rt: &R, folder: &str) -> Said {
     let found = looked(fs::metadata(rt, folder));
     if is_one(&found, &looked(fs::metadata(rt, "/dev")))? {
@@ -66,7 +66,7 @@ fn is_in_system<R: Files<File = File>>(rt: &R, folder: &str) -> Said {
     is_in_processes(rt, &found)
 }
 
-/// Whether a folder is of the file system that `/proc` has, if that has one of its own.
+/// Answers whether a folder is of the file system that `/proc` has, if that has one of its own.
 fn is_in_processes<R: Files<File = File>>(rt: &R, folder: &Look) -> Said {
     let processes = looked(fs::metadata(rt, "/proc"));
     let root = looked(fs::metadata(rt, "/"));

@@ -35,7 +35,7 @@ impl Wanted {
         }
     }
 
-    /// Whether a file may get its name with these bits.
+    /// Returns true if a file may get its name with these bits.
     pub fn suits(self, bits: u32) -> bool
         ensures { IsTrue result ↔ Suits self bits }
     {

@@ -59,7 +59,7 @@ joined_first g false x xs = refl
 
 -- ---- the keys of a list
 
--- whether some record has a key
+-- true if some record has a key
 unfoldable pub there : List ℕ → List KeyValue → Bool
 there key [] = false
 there key (r ∷ rs) = cond (bytes_eq r.key key) true (there key rs)

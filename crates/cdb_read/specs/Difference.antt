@@ -6,7 +6,7 @@ use Rattle.cdb_form.specs.Text.Parse.{Change, Putting, Removing}
 use Rattle.cdb_read.specs.Lookup.{values_of, bytes_of, lookup_of}
 use Rattle.cdb_read.specs.declared.span.Span.{Span}
 
--- whether two lists of values are the same
+-- true if two lists of values are the same
 unfoldable pub values_eq : List (List ℕ) → List (List ℕ) → Bool
 values_eq [] [] = true
 values_eq [] (v ∷ vs) = false
@@ -18,7 +18,7 @@ unfoldable pub first_keys : List KeyValue → List (List ℕ)
 first_keys [] = []
 first_keys (r ∷ rs) = r.key ∷ filter (λ k. not (bytes_eq k r.key)) (first_keys rs)
 
--- whether a key has other values in ss than in rs; and the keys of rs that have
+-- true if a key has other values in ss than in rs; and the keys of rs that have
 abbrev pub is_changed : List KeyValue → List KeyValue → List ℕ → Bool
 is_changed rs ss key = not (values_eq (values_of key rs) (values_of key ss))
 

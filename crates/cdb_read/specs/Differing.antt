@@ -38,12 +38,12 @@ use Rattle.cdb_read.specs.declared.difference.in_step.Places.{Places}
 abbrev pub values_at : ℕ → List ℕ → List ℕ → List (List ℕ)
 values_at w b key = map (bytes_of b) (lookup_of w b key).spans
 
--- whether the first of some values lies at a place
+-- true if the first of some values lies at a place
 abbrev pub first_at : ℕ → List Span → Bool
 first_at place [] = false
 first_at place (span ∷ spans) = span.place == place
 
--- whether the value at a place is the first of its key, and the key has other values in c
+-- true if the value at a place is the first of its key, and the key has other values in c
 abbrev pub is_first_changed : ℕ → (b c key : List ℕ) → ℕ → Bool
 is_first_changed w b c key place = first_at place (lookup_of w b key).spans
     && not (values_eq (values_at w b key) (values_at w c key))
@@ -227,7 +227,7 @@ OtherStops w other other_now (Other fault) = FindingFails w other other_now faul
 
 -- ---- How far ahead the first value of a key is.
 
--- how many bytes a place is after another; one that is before it is the farthest
+-- the number of bytes that a place is after another; one that is before it is the farthest
 abbrev pub bytes_between : (from to : ℕ) → ℕ
 bytes_between from to = if nat_le from to then to - from else 18446744073709551615
 
@@ -265,7 +265,7 @@ pub record ReadBoth {S T L : Type 0} {s : Ghosts S} {t : Ghosts T} {l : Widths L
 
 -- ---- Marks of hashes, as the bits of words of 64 bits.
 
--- whether the mark of a hash is set: hashes with the same low 22 bits share one
+-- true if the mark of a hash is set: hashes with the same low 22 bits share one
 unfoldable pub mark_at : List ℕ → ℕ → Bool
 mark_at words hash =
     let at = hash % 4194304 in
@@ -279,7 +279,7 @@ mark_step h byte = bit_xor ((h * 2654435761) % 2 ^ 32) byte
 abbrev pub mark_hash : List ℕ → ℕ
 mark_hash key = fold mark_step 2166136261 key
 
--- whether the mark of a key is set
+-- true if the mark of a key is set
 abbrev pub is_marked : List ℕ → List ℕ → Bool
 is_marked words key = mark_at words (mark_hash key)
 
@@ -350,7 +350,7 @@ pub record AreInStep {S T : Type 0} (w : ℕ) (s : Ghosts S) (t : Ghosts T) (own
   pub in_step : (b c : List ℕ) → s.image own b → t.image other c
       → InStep w words b c (left_from w b at.own) (left_from w c at.other)
 
--- how many bytes are left of both
+-- the number of bytes that are left of both
 abbrev pub bytes_ahead : Places → ℕ
 bytes_ahead at = size_ahead at.own.walking + size_ahead at.other.walking
 

@@ -10,12 +10,12 @@ use Rattle.cdb_read.specs.declared.span.Span.{Span}
 abbrev pub bytes_of : List ℕ → Span → List ℕ
 bytes_of bytes s = take s.len (drop s.place bytes)
 
--- whether the record at a place lies after the head and inside the file
+-- true if the record at a place lies after the head and inside the file
 abbrev pub is_whole : ℕ → List ℕ → ℕ → Bool
 is_whole w bytes place =
     nat_le (head_size w) place && nat_le (place + prefix_size w (drop place bytes)) (length bytes)
 
--- whether it has a key
+-- true if it has a key
 abbrev pub has_key : ℕ → List ℕ → List ℕ → ℕ → Bool
 has_key w bytes key place = bytes_eq (prefix_record w (drop place bytes)).key key
 
@@ -25,7 +25,7 @@ value_span w bytes place =
     let lengths = pair_at w (drop place bytes) in
     record { place = place + pair_size w + lengths.first; len = lengths.second }
 
--- whether a pointer's table lies after the head and inside the file, and its slots
+-- true if a pointer's table lies after the head and inside the file, and its slots
 abbrev pub is_inside : ℕ → List ℕ → WordPair → Bool
 is_inside w bytes p =
     nat_le (head_size w) p.first && nat_le (p.first + pair_size w * p.second) (length bytes)

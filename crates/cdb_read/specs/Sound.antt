@@ -28,7 +28,7 @@ nth_slot slots i = get_or slots i empty_slot
 abbrev pub distance : ℕ → ℕ → ℕ → ℕ
 distance home slots i = (i + (slots - home)) % slots
 
--- whether no empty slot lies on the way to slot i from the home of its hash
+-- true if no empty slot lies on the way to slot i from the home of its hash
 abbrev pub is_reached : List WordPair → ℕ → Bool
 is_reached slots i =
     let home = home_slot (nth_slot slots i).first (length slots) in
@@ -41,7 +41,7 @@ pub record IsRight (entries : List WordPair) (n : ℕ) (slots : List WordPair) (
   pub in_table : table_number (nth_slot slots i).first ≡ n
   pub reached : is_reached slots i ≡ true
 
--- whether a slot has the place of an entry
+-- true if a slot has the place of an entry
 abbrev pub has_place : WordPair → WordPair → Bool
 has_place entry slot = slot.second == entry.second
 
@@ -76,8 +76,8 @@ table_fault w bytes n =
     let p = nth_pair w bytes n in
     fault_if (has_slots p && not (is_inside w bytes p)) (Table n)
 
--- whether a slot has the hash and the place of an entry, and whether a slot of table n is right
--- among such entries, whether a search comes to it or not; and slot i
+-- true if a slot has the hash and the place of an entry, and whether a slot of table n is right among such entries,
+-- whether a search comes to it or not; and slot i
 abbrev pub is_same : WordPair → WordPair → Bool
 is_same slot entry = (entry.first == slot.first) && (entry.second == slot.second)
 

@@ -11,7 +11,7 @@ use crate::window::WINDOW;
 use cdb_form::Width;
 use cdb_store::Store;
 
-/// How many bytes can be at hand at once.
+/// The number of bytes that can be at hand at once.
 pub const AT_HAND: usize = WINDOW;
 
 impl<S: Store, L: Width> Reader<S, L> {

@@ -62,8 +62,8 @@ pub struct Reader<S: Store, L: Width> {
 impl<S: Store, L: Width> Reader<S, L> {
     ghost use Rattle.cdb_read.specs.Views.Reader.{Opens};
 
-    /// A reader of the database in a store, of which it reads the head. The store is handed back
-    /// if that failed: it is `Short`, or a `Device` failed.
+    /// A reader of the database in a store, of which it reads the head. The store is returned if
+    /// that failed: it is `Short`, or a `Device` failed.
     pub fn open(store: S) -> Result<Reader<S, L>, Unread<S>>
         ensures reads { IfOk result (λ r. Opens store r) }
         ensures fails { IfErr result (λ u. OpeningFails L.WORD S.Store store u.store u.fault) }
@@ -135,15 +135,15 @@ impl<S: Store, L: Width> Reader<S, L> {
         take_span(&mut self.store, span, &mut self.window.bytes, into)
     }
 
-    /// How many bytes its file has.
+    /// Returns the number of bytes that its file has.
     pub fn size(&self) -> u64
         ensures { result ≡ S.size self.now.store }
     {
         self.store.len()
     }
 
-    /// Whether no table of its file has slots, though bytes follow the head: so a file with words
-    /// of the other width looks. An empty one of this width ends after its head.
+    /// Returns true if no table of its file has slots, though bytes follow the head: so a file with
+    /// words of the other width looks. An empty one of this width ends after its head.
     pub fn lacks_tables(&self) -> bool
         ensures { (b : List ℕ) → S.image self.now.store b → result ≡ lacks_tables L.WORD b }
     {

@@ -11,7 +11,7 @@ use cdb_form::{Header, Width, pair_size};
 pub struct Span {
     /// The place of the first of them, in bytes from the file's start.
     pub place: u64,
-    /// How many they are.
+    /// Their number.
     pub len: u64,
 }
 
@@ -26,7 +26,7 @@ pub struct Pair {
     pub value: Span,
 }
 
-/// Whether a file of so many bytes has `len` bytes from a place on.
+/// Returns true if a file of so many bytes has `len` bytes from a place on.
 #[inline(always)]
 pub fn has_bytes(size: u64, place: u64, len: u64) -> bool
     ensures { Decides result (place + len ≤ size) }

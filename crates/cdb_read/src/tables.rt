@@ -35,14 +35,14 @@ pub(crate) fn first_outside<L: Width>(tables: &[Pointer], size: u64) -> Option<u
     None
 }
 
-/// Whether a table has slots.
+/// Returns true if a table has slots.
 pub(crate) fn any_slots(tables: &[Pointer]) -> bool
     ensures { result ≡ list_any (λ p. not (p.slots == 0)) tables.now }
 {
     tables.iter().any(|table| table.slots != 0)
 }
 
-/// How many slots the tables have that have some.
+/// Returns the number of slots that the tables have that have some.
 pub(crate) fn sizes_of(tables: &[Pointer]) -> Spread
     ensures { Spreads result (table_sizes (map pointer_pair tables.now)) }
 {
@@ -95,7 +95,7 @@ pub(crate) fn slot_at<S: Store, L: Width>(
     Ok(read_slot::<L>(window.shown(place, slot_size)))
 }
 
-/// Counts the used slots of a table. Many are read at once.
+/// Counts the used slots of a table. Many are read at a time.
 fn count_table<S: Store, L: Width>(
     store: &mut S,
     table: Pointer,

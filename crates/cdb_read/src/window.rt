@@ -11,7 +11,7 @@ use crate::pieces::read_part;
 use crate::span::has_bytes;
 use cdb_store::Store;
 
-/// How many bytes a window has room for.
+/// The number of bytes that a window has room for.
 pub(crate) const WINDOW: usize = 4096;
 
 /// Bytes of a store that were read, and their place.
@@ -21,7 +21,7 @@ pub(crate) struct Window {
     pub(crate) bytes: [u8; WINDOW],
     /// The place of the first of them.
     pub(crate) place: u64,
-    /// How many they are.
+    /// Their number.
     pub(crate) len: usize,
 }
 
@@ -44,7 +44,7 @@ impl Window {
         }
     }
 
-    /// Whether so many bytes from a place on are among its own.
+    /// Returns true if so many bytes from a place on are among its own.
     pub(crate) fn covers(&self, place: u64, n: u64) -> bool
         ensures { OnTrue result (Covers self.now place n) }
     {

@@ -1,4 +1,4 @@
--- Readers that a run hands back are in their places.
+-- Readers that a run returns are in their places.
 use Rattle.cdb_show.proofs.Words.{AreRead, CutShort, Feed, HasFault, InputReader, List, NoMore, NotBegun, Parsing, Stop, TakesOne, [], subst, sym, ℕ, ◌∷◌, ◌≡◌}
 use Rattle.cdb_show.specs.declared.input_reader.InputReader.TheVariants.{Own, Shared}
 use Rattle.cdb_show.specs.Views.Noted.{AreInPlace, ArePassed}

@@ -56,7 +56,7 @@ text_is w b q found e = ap (λ f. spans_text b q f.spans) e
 still_long : {S : Type 0} {s : Ghosts S} {old new : S} (w : ℕ) → OnlyReads s old new → head_size w ≤ s.size old → head_size w ≤ s.size new
 still_long {s = s} {old = old} {new = new} w reads long = subst (λ n. head_size w ≤ n) (sym reads.size) long
 
--- the store that is handed back is the finder's
+-- the store that is returned is the finder's
 pub handed_back : {S : Type 0} {w : ℕ} {s : Ghosts S} {q : Query} {old : S} {start now : Option (List ℕ)} {answer : Result Unit Fault} (new last : S) → last ≡ new → Queries w s q old new start now answer → Queries w s q old last start now answer
 handed_back {w = w} {s = s} {q = q} {old = old} {start = start} {now = now} {answer = answer} new last same h = subst (λ x. Queries w s q old x start now answer) (sym same) h
 

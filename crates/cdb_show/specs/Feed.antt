@@ -138,7 +138,7 @@ AreRead {S = S} own shared p (items ∷ read) stop (reader ∷ before) (left ∷
     × AreRead own shared p read stop before after mid new
 AreRead own shared p (items ∷ read) stop _ _ old new = ⊥
 
--- how many inputs were reached
+-- the number of inputs that were reached
 abbrev pub reached : {Item Fault : Type 0} → (read : List (List Item)) → Stop Item Fault → ℕ
 reached [] NoMore = 0
 reached [] NotBegun = 0

@@ -4,7 +4,7 @@ use Rattle.std.specs.List.{count_by}
 use Rattle.cdb_form.specs.Text.Map.{is_newline}
 use Rattle.cdb_show.specs.declared.line_count.LineCount.{LineCount}
 
--- how many newlines they have
+-- the number of newlines they have
 abbrev pub newlines : List ℕ → ℕ
 newlines bytes = count_by is_newline bytes
 
@@ -18,6 +18,6 @@ pub record Counts (before : ℕ) (taken : List ℕ) (count : LineCount) : Type 0
   pub bytes : count.bytes ≡ min (length taken) (2 ^ 64 - 1)
   pub amid : 0 < length taken → count.amid ≡ not (is_newline (get_or taken (length taken - 1) 0))
 
--- how many newlines the reader gave that inputs share
+-- the number of newlines that the reader gave that inputs share
 abbrev pub shared_newlines : LineCount → ℕ
 shared_newlines count = if count.is_shared then count.newlines else count.shared

@@ -7,7 +7,7 @@ use Rattle.cdb_read.specs.declared.fault.ReadFault.TheVariants as read
 use Rattle.cdb_show.specs.declared.fault.Fault.{Fault}
 use Rattle.cdb_show.specs.declared.fault.Fault.TheVariants.{Missing, Read}
 
--- whether a fault of a reader is one of the file
+-- true if a fault of a reader is one of the file
 abbrev pub is_damage : ReadFault → Bool
 is_damage read.Device = false
 is_damage read.NoMemory = false

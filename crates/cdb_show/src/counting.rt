@@ -1,11 +1,12 @@
-// How many newlines some bytes have.
+// The number of newlines that some bytes have.
 ghost use Rattle.std.specs.Prelude.{◌≡◌, ◌≤◌, length};
 ghost use Rattle.cdb_show.specs.Lines.{newlines};
 
-/// How many bytes are counted at once: as many as one byte can count, in which it is quick.
+/// The number of bytes that are counted at a time: as many as one byte can count, in which it is
+/// quick.
 const FEW: usize = 255;
 
-/// How many newlines a few bytes have.
+/// Returns the number of newlines that a few bytes have.
 fn few_newlines(bytes: &[u8]) -> u8
     requires { length bytes.now ≤ 255 }
     ensures { result ≡ newlines bytes.now }
@@ -17,7 +18,7 @@ fn few_newlines(bytes: &[u8]) -> u8
     count
 }
 
-/// How many newlines some bytes have.
+/// Returns the number of newlines that some bytes have.
 pub(crate) fn newlines(bytes: &[u8]) -> u64
     ensures { result ≡ newlines bytes.now }
 {

@@ -10,7 +10,7 @@ use crate::shown::write_line;
 use cdb_form::{OutFault, Sink};
 use itoa::Buffer;
 
-/// How many bytes of a key are shown.
+/// The number of bytes of a key that are shown.
 const SHOWN: usize = 256;
 
 /// As much of a key as is shown.

@@ -12,7 +12,7 @@ use std::io::Read;
 /// What a run read of its inputs, one after the other, is what one function of their bytes says.
 ///
 /// `_before` are the readers of the inputs before the run, of which nothing was read, and `_after`
-/// those that were reached, as they were handed back; `_old` and `_new` are the reader that several
+/// those that were reached, as they were returned; `_old` and `_new` are the reader that several
 /// inputs share. For all bytes that agree with what is known of these readers at the end, the items
 /// of the inputs are those that the function gives: all of them, or those up to the first input
 /// with a fault, with that fault, or the first ones if the run stopped for another reason. So the

@@ -7,15 +7,16 @@ use crate::counting::newlines;
 /// How many newlines and bytes were taken of the input that was begun last.
 #[derive(Clone, Copy)]
 pub(crate) struct LineCount {
-    /// How many newlines were taken: of the input, or of the reader that it shares with others.
+    /// The number of newlines that were taken: of the input, or of the reader that it shares with
+    /// others.
     newlines: u64,
-    /// Whether the byte that was taken last is none of them.
+    /// True if the byte that was taken last is none of them.
     amid: bool,
-    /// How many bytes were taken of the input.
+    /// The number of bytes that were taken of the input.
     bytes: u64,
-    /// Whether the input shares its reader with others.
+    /// True if the input shares its reader with others.
     is_shared: bool,
-    /// How many newlines were taken of that reader before another input began.
+    /// The number of newlines that were taken of that reader before another input began.
     shared: u64,
 }
 

@@ -14,7 +14,7 @@ use std::io;
 /// to it.
 #[derive(Drop)]
 pub struct Lines {
-    /// Whether they are counted.
+    /// True if they are counted.
     pub counts: bool,
     count: Cell<LineCount>,
 }

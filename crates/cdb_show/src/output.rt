@@ -9,8 +9,8 @@ use cdb_form::{OutFault, Sink};
 use std::alloc::{AllocError, Global};
 use std::io::Write;
 
-/// How many bytes go straight on at once. Of more a file's cache takes memory in larger blocks,
-/// which costs the system more.
+/// The number of bytes that go straight on at once. Of more a file's cache takes memory in larger
+/// blocks, which costs the system more.
 const MOST: usize = 131072;
 
 /// Takes the bytes for a writer, which is given many at once, and notes what that took.
@@ -55,7 +55,7 @@ impl<W: Write> Output<W> {
         })
     }
 
-    /// Whether the writer has failed.
+    /// Returns true if the writer has failed.
     pub fn has_failed(&self) -> bool
         ensures { result ≡ self.now.failed }
     {

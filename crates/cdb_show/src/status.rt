@@ -18,7 +18,7 @@ const NEGATIVE: u8 = 100;
 /// The exit status for every other fault.
 pub const FAILED: u8 = 111;
 
-/// Whether a file is damaged, as a fault of its reader says.
+/// Returns true if a file is damaged, as a fault of its reader says.
 fn is_damage(fault: ReadFault) -> bool
     ensures { result ≡ is_damage fault }
 {

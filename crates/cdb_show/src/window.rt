@@ -7,11 +7,11 @@ use cdb_form::{AtHand, Feeds, PIPE};
 use std::alloc::Global;
 use std::io::{self, ErrorKind};
 
-/// How many bytes a window has that may grow.
+/// The number of bytes that a window has that may grow.
 const FIRST: usize = 4096;
 
 /// Takes the bytes of a reader many at a time, and gives them as they are requested. `into_reader`
-/// hands the reader back.
+/// returns the reader.
 ///
 /// The contracts hold of whatever bytes agree with those that the reader gave.
 #[derive(Drop)]
@@ -20,7 +20,7 @@ pub struct Window<F> {
     window: Vec<u8>,
     start: usize,
     end: usize,
-    /// How many bytes the window has once a read has filled it.
+    /// The number of bytes that the window has once a read has filled it.
     most: usize,
     ghost some: { 0 < vec_len window },
     ghost ordered: { start ≤ end },

@@ -15,7 +15,7 @@ capacity_of f = f.capacity
 abbrev pub start_of : {S : Type 0} {inner : Ghosts S} → BufferedStore S inner → ℕ
 start_of f = f.pos
 
--- how many bytes it has collected
+-- the number of bytes it has collected
 abbrev pub held_of : {S : Type 0} {inner : Ghosts S} → BufferedStore S inner → ℕ
 held_of f = f.held
 
@@ -31,6 +31,6 @@ size_of {inner = inner} f = max (inner.size f.inner) (f.pos + held_of f)
 abbrev pub images_of : {S : Type 0} {inner : Ghosts S} → BufferedStore S inner → List ℕ → Type 0
 images_of {inner = inner} f = Over f.pos (bytes_of f) (inner.image f.inner)
 
--- how many bytes were written to it
+-- the number of bytes that were written to it
 abbrev pub written_of : {S : Type 0} {inner : Ghosts S} → BufferedStore S inner → ℕ
 written_of f = written_count f.trace.events

@@ -36,7 +36,7 @@ Agrees ((Interrupted, bytes) ∷ calls) b = Agrees calls b
 Agrees ((Failed, bytes) ∷ calls) b = Agrees calls b
 Agrees ((Refused, bytes) ∷ calls) b = Agrees calls b
 
--- how many calls failed; one that a signal interrupted is made again
+-- the number of calls that failed; one that a signal interrupted is made again
 abbrev pub failure_count : Calls → ℕ
 failure_count [] = 0
 failure_count ((NotWritten pos n, bytes) ∷ calls) = failure_count calls + 1
@@ -65,13 +65,13 @@ IsSynced ((Refused, bytes) ∷ calls) = IsSynced calls
 IsSynced ((Lost, bytes) ∷ calls) = IsSynced calls
 IsSynced ((_, bytes) ∷ calls) = ⊥
 
--- how many bytes were written
+-- the number of bytes that were written
 abbrev pub written_count : Calls → ℕ
 written_count [] = 0
 written_count ((Wrote pos, bytes) ∷ calls) = written_count calls + length bytes
 written_count ((_, bytes) ∷ calls) = written_count calls
 
--- whether its length isn't known any more
+-- true if its length isn't known any more
 abbrev pub lost : Calls → Bool
 lost [] = false
 lost ((Lost, bytes) ∷ calls) = true

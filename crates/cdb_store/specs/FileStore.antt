@@ -25,7 +25,7 @@ images_of f = FileImage f.len (calls_of f)
 abbrev pub failures_of : {F : Type 0} {file : Ghosts F} → FileStore F file → ℕ
 failures_of f = failure_count (calls_of f)
 
--- how many bytes were written to it
+-- the number of bytes that were written to it
 abbrev pub written_of : {F : Type 0} {file : Ghosts F} → FileStore F file → ℕ
 written_of f = written_count (calls_of f)
 

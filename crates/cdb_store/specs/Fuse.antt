@@ -6,7 +6,7 @@ use Rattle.cdb_store.specs.Images.{AfterWrite}
 abbrev pub Blows : (calls limit : ℕ) → Type 0
 Blows calls limit = (calls ≡ limit) × (limit < 18446744073709551615)
 
--- how many calls it has failed by itself
+-- the number of calls it has failed by itself
 abbrev pub blown : (calls limit : ℕ) → ℕ
 blown calls limit = if nat_lt limit calls then 1 else 0
 

@@ -14,7 +14,7 @@ limit_of f = f.limit
 abbrev pub part_of : {S : Type 0} → FuseStore S → ℕ
 part_of f = f.part
 
--- how many calls counted so far, and how many bytes
+-- the number of calls that counted so far, and how many bytes
 abbrev pub calls_of : {S : Type 0} → FuseStore S → ℕ
 calls_of f = f.calls
 

@@ -16,7 +16,7 @@ use std::alloc::{AllocError, AllocFailed, Global};
 /// It hands the bytes on when another position is written, at a read of bytes that lie in the
 /// buffer in part, at a cut, at `flush`, and when the buffer is full. Bytes in the buffer are read
 /// from it, and a read that touches none of them is passed straight on. A write first has the inner
-/// store reserve its room, so what is in the buffer takes no memory to be handed on. If handing on
+/// store reserve its room, so what is in the buffer takes no memory to be forwarded. If handing on
 /// fails the buffer keeps its bytes, and the next call tries again. A buffer that is let go is
 /// lost: call `flush` or `into_inner` first.
 #[derive(Drop)]
@@ -24,11 +24,11 @@ pub struct BufferedStore<S: Store> {
     inner: S,
     /// Bytes of which the first ones are held. It grows as they come, up to its capacity.
     buffer: Vec<u8>,
-    /// How many bytes it holds.
+    /// The number of bytes it holds.
     held: usize,
     /// The position of the bytes that it holds.
     pos: u64,
-    /// How many bytes it holds at most.
+    /// The number of bytes it holds at most.
     capacity: usize,
     trace: Trace,
     ghost placed: { pos ≤ S.size inner },
@@ -45,7 +45,7 @@ impl<S: Store> BufferedStore<S> {
 
     /// A store over `inner` with a buffer of `capacity` bytes.
     ///
-    /// If memory for the buffer is refused, the inner store is handed back as it was.
+    /// If memory for the buffer is refused, the inner store is returned as it was.
     pub fn new(alloc: Global, inner: S, capacity: usize) -> Result<BufferedStore<S>, AllocFailed<S>>
         ensures images { IfOk result (λ f. SameImages (S.image inner) (images_of f)) }
         ensures size { IfOk result (λ f. size_of f ≡ S.size inner) }
@@ -69,7 +69,7 @@ impl<S: Store> BufferedStore<S> {
         }
     }
 
-    /// The inner store, once what is left in the buffer was handed on to it, and how that went.
+    /// The inner store, once what is left in the buffer was forwarded to it, and how that went.
     ///
     /// After `Device` the inner store lacks those bytes: their range may hold anything.
     pub fn into_inner(mut self) -> (S, Result<(), StoreFault>)
@@ -125,7 +125,7 @@ impl<S: Store> BufferedStore<S> {
         inner
     }
 
-    /// Hands on what was collected.
+    /// Forwards what was collected.
     fn settle(&mut self) -> Result<(), StoreFault>
         ensures images { SameImages (images_of self.old) (images_of self.new) }
         ensures size { size_of self.new ≡ size_of self.old }
@@ -256,7 +256,7 @@ fn lengthen(buffer: &mut Vec<u8>, end: usize, most: usize) -> Result<(), AllocEr
     buffer.resize(len, 0)
 }
 
-/// Whether these `n` bytes from `pos` on all lie among the `held` bytes from `start` on.
+/// Returns true if these `n` bytes from `pos` on all lie among the `held` bytes from `start` on.
 fn lies_within(pos: u64, n: usize, start: u64, held: usize) -> bool
     requires { start + held < 2 ^ 63 }
     ensures { IsTrue result ↔ ((start ≤ pos) × (pos + n ≤ start + held)) }
@@ -264,7 +264,7 @@ fn lies_within(pos: u64, n: usize, start: u64, held: usize) -> bool
     start <= pos && pos <= start + held as u64 && n as u64 <= start + held as u64 - pos
 }
 
-/// Whether these `n` bytes from `pos` on share none with the `held` bytes from `start` on.
+/// Returns true if these `n` bytes from `pos` on share none with the `held` bytes from `start` on.
 fn lies_apart(pos: u64, n: usize, start: u64, held: usize) -> bool
     requires { start + held < 2 ^ 63 }
     ensures { IsTrue result ↔ AreApart pos n start held }

@@ -33,9 +33,9 @@ const GREATEST_LENGTH: u64 = (1 << 63) - 1;
 pub struct FileStore<F: RawFile = RealFile> {
     file: F,
     len: u64,
-    /// Whether a failed write or cut has left a length that couldn't be measured.
+    /// True if a failed write or cut has left a length that couldn't be measured.
     is_lost: bool,
-    /// Whether a flush has failed.
+    /// True if a flush has failed.
     is_unsynced: bool,
     ghost bounded: { len < 2 ^ 63 },
     ghost known: { is_lost ≡ lost (F.calls file) },

@@ -16,13 +16,13 @@ use crate::{Store, StoreFault};
 #[derive(Drop)]
 pub struct FuseStore<S> {
     inner: S,
-    /// How many calls it passes before the one that it fails.
+    /// The number of calls it passes before the one that it fails.
     limit: u64,
-    /// How many bytes the failed write writes.
+    /// The number of bytes that the failed write writes.
     part: u64,
-    /// How many calls counted.
+    /// The number of calls that counted.
     calls: u64,
-    /// How many bytes the inner store's writes that answered Ok wrote.
+    /// The number of bytes that the inner store's writes that answered Ok wrote.
     written: u64,
 }
 
@@ -62,14 +62,15 @@ impl<S: Store> FuseStore<S> {
         inner
     }
 
-    /// How many calls counted so far, the failed one too. It stops at `u64::MAX`.
+    /// Returns the number of calls that counted so far, the failed one too. It stops at `u64::MAX`.
     pub fn calls(&self) -> u64
         ensures { result ≡ calls_of self.now }
     {
         self.calls
     }
 
-    /// How many bytes the inner store's writes that answered Ok wrote. It stops at `u64::MAX`.
+    /// Returns the number of bytes that the inner store's writes that answered Ok wrote. It stops
+    /// at `u64::MAX`.
     pub fn written(&self) -> u64
         ensures { result ≡ counted_by self.now }
     {

@@ -25,7 +25,7 @@ fn apart(file: File) -> io::Result<File> {
     Ok(file)
 }
 
-/// Whether both are of one file.
+/// Returns true if both are of one file.
 fn is_one(one: &Metadata, other: &Metadata) -> bool {
     one.dev() == other.dev() && one.ino() == other.ino()
 }
@@ -39,7 +39,7 @@ pub struct RealFile {
     error: Option<i32>,
     /// What it was as it was opened, if a read fails once it is another.
     seen: Option<Stamp>,
-    /// Whether a read failed for that.
+    /// True if a read failed for that.
     is_changed: bool,
 }
 
@@ -62,7 +62,7 @@ impl Stamp {
         })
     }
 
-    /// Whether both are of one moment.
+    /// Returns true if both are of one moment.
     fn is(&self, other: &Stamp) -> bool {
         self.len == other.len
             && self.seconds == other.seconds
@@ -195,7 +195,7 @@ impl RealFile {
         self.error
     }
 
-    /// Whether a read failed since the file changed.
+    /// Returns true if a read failed since the file changed.
     pub fn is_changed(&self) -> bool {
         self.is_changed
     }

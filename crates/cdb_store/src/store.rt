@@ -78,13 +78,13 @@ impl<T: Drop> From<AllocFailed<T>> for StoreFault {
 /// exactly one, a file that was opened every list of its length until it is read. Its *failures*
 /// and *bytes written* are counts without a bound. Its *unwritten* count rises with each write that
 /// fails, so a caller that only read cannot answer that a write failed. Its *room* is how far
-/// writes go without taking memory. It is *settled* if all that it was given to write was handed on
+/// writes go without taking memory. It is *settled* if all that it was given to write was forwarded
 /// to what holds the bytes.
 //
 // The order of each method's clauses means nothing to a caller. It is the one in which the checker
 // hands the bound `S: Store` on at a call in a seventh of the steps.
 pub trait Store {
-    /// How many bytes it has.
+    /// The number of bytes it has.
     ghost size: { Self → ℕ };
 
     /// The byte lists that agree with all that it was given to write and all that it gave back.
@@ -96,17 +96,17 @@ pub trait Store {
     /// A count that rises if a write, a cut or a flush fails. It may rise elsewhere too.
     ghost unwritten: { Self → ℕ };
 
-    /// How many bytes were written by calls that answered Ok, and at most as many by those that
-    /// failed.
+    /// The number of bytes that were written by calls that answered Ok, and at most as many by
+    /// those that failed.
     ghost written: { Self → ℕ };
 
     /// Writes that end at or before it take no memory.
     ghost room: { Self → ℕ };
 
-    /// All that it was given to write was handed on to what holds the bytes.
+    /// All that it was given to write was forwarded to what holds the bytes.
     ghost settled: { Self → Type 0 };
 
-    /// How many bytes it has.
+    /// Returns the number of bytes it has.
     fn len(&self) -> u64
         ensures { result ≡ size self.now };
 

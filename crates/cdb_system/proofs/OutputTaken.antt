@@ -5,7 +5,7 @@ use Rattle.cdb_show.specs.Views.Output.{OutputSays}
 use Rattle.cdb_show.specs.declared.fault.Fault.TheVariants.{Text, Make, Duplicate, Missing, Read, Walk, Output, Long, Open, Rename, NoMemory, Old, New, NoOldTables, NoNewTables, NoBaseTables}
 use Rattle.cdb_system.specs.Answered.{IsRefusal, Reading}
 
--- whether a command writes on standard output
+-- true if a command writes on standard output
 abbrev pub writes_output : Asked → Bool
 writes_output (asked.Check name wide) = false
 writes_output command = true

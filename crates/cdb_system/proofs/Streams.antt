@@ -39,7 +39,7 @@ module _ (w : ℕ) (form : Form) (old mid new : Feed) (kept : Keeps old mid) (st
   walk_since (Ok done) h = record { ok = record { walked = h.ok.walked; ends = h.ok.ends; appended = h.ok.appended; is = from_behind old mid new [] _ kept h.ok.is }; err = tt }
   walk_since (Err fault) h = record { ok = tt; err = fails_since fault h.err }
 
--- of a window over a reader, which is handed back
+-- of a window over a reader, which is returned
 pub text_handed : {R : Type 0} (feed : R → Feed) (w : ℕ) (form : Form) (first window : Feed) (last : Window R) (left : R) (start end : Option (List ℕ)) (result : Result Unit Fault) → Keeps first window → left ≡ reader_of last → WritesWalk w form window (feed_of feed last) start end result → WritesText w form first (feed left) start end result
 text_handed feed w form first window last left start end result kept is h =
     let walk = walk_since w form first window (feed_of feed last) kept start end result h in

@@ -60,7 +60,7 @@ AreAnswered s disk [] stores = ⊤
 AreAnswered s disk (call ∷ calls) stores = IsAnswered s disk stores call.0 call.1
     × AreAnswered s disk calls (stores_before call.0 stores)
 
--- the stores that a command read and hands back, as they are then
+-- the stores that a command read and returns, as they are then
 abbrev pub if_some : {F : Type 0} → Option F → List F
 if_some None = []
 if_some (Some store) = store ∷ []

@@ -71,7 +71,7 @@ MissesEmptying name old new fault =
     ⊎ ((answer : Answer) × AsksToEmpty name old new answer × (named_as answer ≡ Err fault))
     ⊎ ((locked : OpenCalls) × TakesToEmpty name old locked × Misses name locked new fault)
 
--- no file is handed back; or one that was read, a base if there is one, or an old database and a new
+-- no file is returned; or one that was read, a base if there is one, or an old database and a new
 abbrev pub none_left : {F M S I : Type 0} → Left F M S I
 none_left = record { read = None; other = None; made = None; stream = None; inputs = None; input = None }
 

@@ -144,7 +144,7 @@ of_inputs (Some inputs) outcome = outcome inputs
 
 -- ---- the oracle
 
--- how many bytes a word has, and how many a file that is taken into memory
+-- the number of bytes that a word has, and how many a file that is taken into memory
 abbrev pub word_size : (wide : Bool) → ℕ
 word_size wide = if wide then 8 else 4
 

@@ -71,7 +71,7 @@ abbrev pub ReadsText : ℕ → Form → (before after : Feed) → (start end : O
 ReadsText w form before after start end result =
     LacksMemory start end result ⊎ WritesText w form before after start end result
 
--- of the file that came, of which nothing had been taken, and whose reader is handed back
+-- of the file that came, of which nothing had been taken, and whose reader is returned
 pub record WritesFile {F I J M N R Y : Type 0} (files : Files F I J M N R Y) (t : WantedText) (name : List ℕ)
     (left : Left F M I J) (start end : Option (List ℕ)) (result : Result Unit Fault) : Type 0 where
   pub file : I
@@ -155,7 +155,7 @@ pub record OfFile {F I J M N R Y : Type 0} (files : Files F I J M N R Y) (name :
   pub is_last : left ≡ read_left last
   pub does : done file last
 
--- nothing had been taken of it: it is taken into memory, and its reader is handed back
+-- nothing had been taken of it: it is taken into memory, and its reader is returned
 pub record OfStream {F I J M N R Y : Type 0} (files : Files F I J M N R Y) (s : WantedStore F)
     (name : List ℕ) (left : Left F M I J) (start end : Option (List ℕ)) (result : Result Unit Fault)
     : Type 0 where
@@ -228,8 +228,8 @@ PerformsDifference files d old new left result =
 
 -- ---- many keys
 
--- the records of the keys of the inputs that were opened after the file that came. Nothing had been taken of any
--- input, and their readers are handed back with the file
+-- the records of the keys of the inputs that were opened after the file that came. Nothing had been taken of any input,
+-- and their readers are returned with the file
 pub record LooksUpFile {F I J M N R Y : Type 0} (files : Files F I J M N R Y) (l : WantedLookups)
     (input : Standard J) (old new : State Y) (left : Left F M I J) (result : Result Unit Fault)
     : Type 0 where

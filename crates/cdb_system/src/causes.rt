@@ -33,7 +33,7 @@ pub enum Told {
 pub struct Reason<'a> {
     /// The name of the file, but for `.tmp` after it. It is empty if the name itself is.
     pub name: &'a str,
-    /// Whether `.tmp` follows it.
+    /// True if `.tmp` follows it.
     pub is_temporary: bool,
     /// Why.
     pub told: Told,
@@ -149,8 +149,8 @@ fn of_no_name(command: &Command) -> Option<Reason<'_>>
     Some(of_name(name.as_str(), Told::Words(told)))
 }
 
-/// Whether a refusal, as files were opened, is of another name than that of the database of a
-/// create.
+/// Returns true if a refusal, as files were opened, is of another name than that of the database of
+/// a create.
 fn is_of_another(command: &Command, opened: Option<&Refusal>) -> bool
     ensures { result ≡ true → opened.entry ≡ None → ⊥ }
 {
@@ -252,7 +252,7 @@ where
     }
 }
 
-/// Whether a base that was read is another file than the one that was opened.
+/// Returns true if a base that was read is another file than the one that was opened.
 fn is_changed<Y>(system: &Y, file: &Option<Y::File>) -> bool
 where
     Y: System,

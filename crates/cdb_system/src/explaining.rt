@@ -25,7 +25,7 @@ fn said_parts(told: Told, digits: &mut Buffer) -> (&'static str, &str)
     }
 }
 
-/// Whether a reason's file has a name that is not empty.
+/// Returns true if a reason's file has a name that is not empty.
 fn is_named(reason: &Reason<'_>) -> bool
     ensures { result ≡ nat_lt 0 (length (reason_name reason.now)) }
 {

@@ -12,7 +12,7 @@ use std::alloc::Global;
 /// The word that means standard input on the command line.
 pub const HYPHEN: &str = "-";
 
-/// Whether a name is that of standard input.
+/// Returns true if a name is that of standard input.
 pub fn is_standard(name: &str) -> bool
     ensures { IsTrue result ↔ IsStandard name.now }
 {

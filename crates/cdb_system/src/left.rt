@@ -1,4 +1,4 @@
-// What a command hands back.
+// What a command returns.
 ghost use Rattle.std.specs.Prelude.{◌≡◌};
 ghost use Rattle.cdb_system.specs.Opening.{none_left, read_left, base_left, both_left};
 ghost use Rattle.cdb_system.specs.Opening.{stream_left, input_left, looked_left};
@@ -25,7 +25,7 @@ pub struct Left<F, M, S, I> {
     pub input: Option<I>,
 }
 
-/// What a command hands back that was performed on a system.
+/// What a command returns that was performed on a system.
 pub type LeftOf<Y> = Left<
     <Y as System>::File,
     <Y as System>::Made,
@@ -36,7 +36,7 @@ pub type LeftOf<Y> = Left<
 /// And what it came to.
 pub type Performed<Y> = (LeftOf<Y>, Result<(), Fault>);
 
-/// No file is handed back.
+/// No file is returned.
 pub fn none_left<F: Drop, M: Drop, S: Drop, I: Drop>() -> Left<F, M, S, I>
     ensures { result ≡ none_left }
 {
@@ -50,7 +50,7 @@ pub fn none_left<F: Drop, M: Drop, S: Drop, I: Drop>() -> Left<F, M, S, I>
     }
 }
 
-/// A file that was read is handed back.
+/// A file that was read is returned.
 pub fn read_left<F: Drop, M: Drop, S: Drop, I: Drop>(file: F) -> Left<F, M, S, I>
     ensures { result ≡ read_left file }
 {
@@ -60,7 +60,7 @@ pub fn read_left<F: Drop, M: Drop, S: Drop, I: Drop>(file: F) -> Left<F, M, S, I
     }
 }
 
-/// The base of a create is handed back, if it has one.
+/// The base of a create is returned, if it has one.
 pub fn base_left<F: Drop, M: Drop, S: Drop, I: Drop>(base: Option<F>) -> Left<F, M, S, I>
     ensures { result ≡ base_left base }
 {
@@ -70,7 +70,7 @@ pub fn base_left<F: Drop, M: Drop, S: Drop, I: Drop>(base: Option<F>) -> Left<F,
     }
 }
 
-/// Two files that were read are handed back.
+/// Two files that were read are returned.
 pub fn both_left<F: Drop, M: Drop, S: Drop, I: Drop>(old: F, new: F) -> Left<F, M, S, I>
     ensures { result ≡ both_left old new }
 {
@@ -81,7 +81,7 @@ pub fn both_left<F: Drop, M: Drop, S: Drop, I: Drop>(old: F, new: F) -> Left<F, 
     }
 }
 
-/// A file that was read from its start on is handed back.
+/// A file that was read from its start on is returned.
 pub fn stream_left<F: Drop, M: Drop, S: Drop, I: Drop>(file: S) -> Left<F, M, S, I>
     ensures { result ≡ stream_left file }
 {
@@ -91,7 +91,7 @@ pub fn stream_left<F: Drop, M: Drop, S: Drop, I: Drop>(file: S) -> Left<F, M, S,
     }
 }
 
-/// Standard input was read, and is handed back.
+/// Standard input was read, and is returned.
 pub fn input_left<F: Drop, M: Drop, S: Drop, I: Drop>(input: I) -> Left<F, M, S, I>
     ensures { result ≡ input_left input }
 {
@@ -101,8 +101,7 @@ pub fn input_left<F: Drop, M: Drop, S: Drop, I: Drop>(input: I) -> Left<F, M, S,
     }
 }
 
-/// A file in which keys were looked up is handed back, and the readers of the inputs that gave
-/// them.
+/// A file in which keys were looked up is returned, and the readers of the inputs that gave them.
 pub fn looked_left<F: Drop, M: Drop, S: Drop, I: Drop>(
     file: F,
     inputs: Inputs<S, I>,

@@ -26,7 +26,7 @@ pub struct KeyLookups<'a> {
 }
 
 /// Writes the records of the keys of some inputs, whose values are counted from 1. The database is
-/// opened first, and then all inputs, before anything is written. What was read is handed back.
+/// opened first, and then all inputs, before anything is written. What was read is returned.
 #[inline(never)]
 pub fn lookups<L, Y, O>(
     alloc: Global,

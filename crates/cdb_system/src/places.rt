@@ -5,7 +5,7 @@ ghost use Rattle.cdb_system.specs.State.{IsInPlace};
 /// With this name as temporary file there is none.
 const NO_FILE: &str = "-";
 
-/// Whether the database is made in the file of its name.
+/// Returns true if the database is made in the file of its name.
 pub fn is_in_place(name: &str, temporary: &Option<String>) -> bool
     ensures { IsTrue result ↔ IsInPlace name.now (option_map string_bytes temporary.now) }
 {

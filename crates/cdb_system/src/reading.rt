@@ -60,8 +60,8 @@ where
     }
 }
 
-/// Writes the records of a database that is read in one pass, or their keys, and hands its reader
-/// back.
+/// Writes the records of a database that is read in one pass, or their keys, and returns its
+/// reader.
 fn write_text<L: Width, F: Feeds + Drop, O: Sink>(
     alloc: Global,
     content: Content,
@@ -96,7 +96,7 @@ pub struct FileText<'a> {
     pub style: Style,
 }
 
-/// Writes the text of a file, or of standard input. What was read is handed back.
+/// Writes the text of a file, or of standard input. What was read is returned.
 #[inline(never)]
 pub fn text<L, Y, O>(
     alloc: Global,
@@ -130,7 +130,7 @@ where
     }
 }
 
-/// Takes a stream into memory, and hands its reader back.
+/// Takes a stream into memory, and returns its reader.
 fn taken<L: Width, F: Feeds + Drop>(alloc: Global, stream: F) -> (F, Result<MemStore, Fault>)
     ensures ok { IfOk result.1 (IsWhole L.GREATEST (F.feed stream) (F.feed result.0)) }
     ensures fails { IfErr result.1 (IsNotLoaded L.GREATEST (F.feed stream) (F.feed result.0)) }
@@ -145,7 +145,7 @@ fn taken<L: Width, F: Feeds + Drop>(alloc: Global, stream: F) -> (F, Result<MemS
     }
 }
 
-/// Writes the statistics of a stream, and hands its reader back.
+/// Writes the statistics of a stream, and returns its reader.
 fn stats_of_stream<L: Width, F: Feeds + Drop, O: Sink>(
     alloc: Global,
     stream: F,
@@ -164,7 +164,7 @@ fn stats_of_stream<L: Width, F: Feeds + Drop, O: Sink>(
 }
 
 /// Writes the statistics of a file, or of a stream: standard input, a pipe or a device. What was
-/// read is handed back.
+/// read is returned.
 #[inline(never)]
 pub fn stats<L, Y, O>(
     alloc: Global,
@@ -212,7 +212,7 @@ where
     }
 }
 
-/// Checks a stream, and hands its reader back.
+/// Checks a stream, and returns its reader.
 fn check_of_stream<L: Width, F: Feeds + Drop>(alloc: Global, stream: F) -> (F, Result<(), Fault>)
     ensures takes { (known : Option (List ℕ)) → Takes L.GREATEST (F.feed stream)
         (F.feed result.0) known known result.1 (ChecksStore L.WORD known known result.1 in_memory) }
@@ -226,7 +226,7 @@ fn check_of_stream<L: Width, F: Feeds + Drop>(alloc: Global, stream: F) -> (F, R
 }
 
 /// Checks a file, or a stream: standard input, a pipe or a device. Nothing is written. What was
-/// read is handed back.
+/// read is returned.
 #[inline(never)]
 pub fn check<L, Y>(
     alloc: Global,

@@ -393,8 +393,8 @@ fn of_emptying<R: Files<File = File>>(rt: &R, name: &str, error: &io::Error) -> 
     }
 }
 
-/// Whether a name is that of a pipe or a device, which is read from its start to its end alone. A
-/// name that nothing has is not.
+/// Returns true if a name is that of a pipe or a device, which is read from its start to its end
+/// alone. A name that nothing has is not.
 fn is_stream<R: Files<File = File>>(rt: &R, name: &str) -> Result<bool, Cause>
     ensures { IfErr result (λ cause. is_of_system cause ≡ true) }
 {

@@ -34,9 +34,9 @@ pub struct Seen {
     read_error: Cell<Option<i32>>,
     /// The regular file into which standard output writes, if no input may be that.
     output_file: Cell<Option<FileNumber>>,
-    /// Whether standard input is not read, since standard output writes into its file.
+    /// True if standard input is not read, since standard output writes into its file.
     is_own: Cell<bool>,
-    /// Whether the last read that failed was refused for that.
+    /// True if the last read that failed was refused for that.
     reads_output: Cell<bool>,
     /// The number of the error of the last write on standard output that failed.
     output_error: Cell<Option<i32>>,
@@ -62,7 +62,7 @@ impl Seen {
         self.read_error.get()
     }
 
-    /// Whether the last read that failed was refused: standard output writes into the file.
+    /// Returns true if the last read that failed was refused: standard output writes into the file.
     pub fn reads_output(&self) -> bool {
         self.reads_output.get()
     }
@@ -116,9 +116,9 @@ impl Seen {
 pub struct SeenReader<'a, R> {
     reader: R,
     seen: &'a Seen,
-    /// Whether it is standard input.
+    /// True if it is standard input.
     is_input: bool,
-    /// Whether it is standard input, and closed: the file that holds its place fails for a reason
+    /// True if it is standard input, and closed: the file that holds its place fails for a reason
     /// of its own.
     is_closed: bool,
 }
@@ -176,7 +176,7 @@ impl<'a, R: Read> Read for SeenReader<'a, R> {
 pub struct SeenWriter<'a, W> {
     writer: W,
     seen: &'a Seen,
-    /// Whether it is standard error.
+    /// True if it is standard error.
     is_of_errors: bool,
 }
 

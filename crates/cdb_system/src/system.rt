@@ -54,13 +54,13 @@ pub trait System {
     /// The number of the error of the last call that failed on a file that is made.
     fn made_error(&self, file: &Self::Made) -> Option<i32>;
 
-    /// Whether a read of a base failed since the file had changed.
+    /// Returns true if a read of a base failed since the file had changed.
     fn is_changed(&self, file: &Self::File) -> bool;
 
     /// The number of the error of the last read of an input that failed.
     fn read_error(&self) -> Option<i32>;
 
-    /// Whether that read failed since standard output writes into the file.
+    /// Returns true if that read failed since standard output writes into the file.
     fn reads_output(&self) -> bool;
 
     /// The number of the error of the last write on standard output that failed.
@@ -95,7 +95,8 @@ pub trait System {
         ensures unread { IfOk result (λ stream. IsUnread (Self.Stream.feed stream)) }
         ensures fails { IfErr result (Misses name.now (calls self.old) (calls self.new)) };
 
-    /// Whether a name is that of a pipe or a device, which is read from its start to its end alone.
+    /// Answers whether a name is that of a pipe or a device, which is read from its start to its
+    /// end alone.
     fn is_stream(&mut self, name: &str) -> Answer
         ensures calls { calls self.new ≡ (Stream result, name.now) ∷ calls self.old };
 
@@ -109,11 +110,11 @@ pub trait System {
     fn lock(&mut self, name: &str, file: &RealFile) -> Lock
         ensures calls { calls self.new ≡ (Locked result, name.now) ∷ calls self.old };
 
-    /// Whether a name has the file that was opened to be emptied. A link is not followed.
+    /// Answers whether a name has the file that was opened to be emptied. A link is not followed.
     fn has_file(&mut self, name: &str, file: &RealFile) -> Answer
         ensures { calls self.new ≡ (Own result, name.now) ∷ calls self.old };
 
-    /// Whether a name has a file that was made. A link is not followed.
+    /// Answers whether a name has a file that was made. A link is not followed.
     fn has_made(&mut self, name: &str, file: &Self::Made) -> Answer
         ensures { calls self.new ≡ (Own result, name.now) ∷ calls self.old };
 

@@ -1,4 +1,4 @@
--- What a run makes that hands its readers back: what the function says of any bytes that agree with these.
+-- What a run makes that returns its readers: what the function says of any bytes that agree with these.
 use Rattle.cdb_tool.proofs.Words.{AgreesWith, AreUnread, ComesOf, Fault, Feed, FirstAgree, Ghosts, Inputs, InputsLeft, IsUnread, List, MakeRuns, OfBase, Option, Result, RunOptions, RunsRead, Some, WhereHonest, feeds_of, input_form, length, made_of, map, reached, refl, run_state, terms_of, ℕ, ◌≡◌}
 use Rattle.cdb_form.specs.Format.{AreBytes}
 use Rattle.cdb_show.specs.Runs.Incoming.{EachOfBytes, Known, one_input}

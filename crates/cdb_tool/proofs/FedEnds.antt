@@ -1,4 +1,4 @@
--- How a run ends whose readers are handed back: for all inputs that agree with what was read, as its maker says.
+-- How a run ends whose readers are returned: for all inputs that agree with what was read, as its maker says.
 use Rattle.cdb_tool.proofs.Words.{AreAllInputs, ArePassed, AreRead, BeginsSo, Bool, Change, ComesFrom, Consumes, CutShort, Err, FailsFinishing, Fault, Feed, Flushed, Ghosts, HasFault, HasFaults, HasItemFault, Holds, InputForm, InputReader, Inputs, InputsLeft, IsFile, IsOk, KeyValue, List, MakeFault, Maker, NoMore, NotBegun, Ok, Option, Result, RunOptions, SharedWindow, Stop, StopsSo, TakesOne, Task, TextFault, WhereHonest, [], ap, arith, came, drop, drop-length, feeds_of, from_weaker, inl, input_form, inr, is_some, length, limit_of, make_fault, not_ok, nothing_taken, parsing, progress, reached, refl, run_state, shared_feed, subst, sym, terms_of, ℕ, ◌+◌, ◌∙◌, ◌∷◌, ◌≡◌, ◌⊎◌}
 use Rattle.std.proofs.Common.{IfErr, IfSome, None, Some}
 use Rattle.std.specs.Vec.{with_items}

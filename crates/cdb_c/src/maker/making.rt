@@ -20,7 +20,7 @@ use std::fs::File;
 use std::mem::replace;
 use std::os::fd::{AsRawFd, IntoRawFd};
 
-/// How many bytes are written at once.
+/// The number of bytes that are written at a time.
 const WINDOW: usize = 65536;
 
 /// The number of the descriptor of a file that C gives, which stays open. C compares it with the
@@ -54,7 +54,7 @@ fn collecting(
     }
 }
 
-/// A new maker of an empty file of less than 4 GiB. The file is handed back if that failed.
+/// A new maker of an empty file of less than 4 GiB. The file is returned if that failed.
 fn begin(alloc: Global, file: File) -> Result<Making, Refused<FileStore<RealFile>>>
     ensures new { IfOk result IsNew }
     ensures fault { IfErr result (λ r. (r.fault ≡ NoMemory) ⊎ (r.fault ≡ Writing)) }
@@ -150,7 +150,7 @@ pub fn append(alloc: Global, handle: &mut Handle, bytes: &[u8]) -> Result<usize,
     answer
 }
 
-/// How many records a maker holds.
+/// Returns the number of records that a maker holds.
 fn count_in(database: &Database) -> u64
     ensures { HandleCounts (Some database.now) result }
 {
@@ -160,7 +160,7 @@ fn count_in(database: &Database) -> u64
     }
 }
 
-/// How many records a maker holds. 0: the handle has none.
+/// Returns the number of records that a maker holds. 0: the handle has none.
 pub fn count(alloc: Global, handle: &mut Handle) -> u64
     ensures count { HandleCounts (kept_in handle.old) result }
     ensures kept { kept_in handle.new ≡ kept_in handle.old }
@@ -173,7 +173,7 @@ pub fn count(alloc: Global, handle: &mut Handle) -> u64
     count
 }
 
-/// How many bytes the file of a maker has, by the calls that were made of it.
+/// Returns the number of bytes that the file of a maker has, by the calls that were made of it.
 fn written_in(database: &Database) -> u64
     ensures { HandleWrote (Some database.now) result }
 {
@@ -183,8 +183,8 @@ fn written_in(database: &Database) -> u64
     }
 }
 
-/// How many bytes the file of a maker has, by the calls that were made of it: what the maker still
-/// collects is not there. 0: the handle has none.
+/// Returns the number of bytes that the file of a maker has, by the calls that were made of it:
+/// what the maker still collects is not there. 0: the handle has none.
 pub fn written(alloc: Global, handle: &mut Handle) -> u64
     ensures written { HandleWrote (kept_in handle.old) result }
     ensures kept { kept_in handle.new ≡ kept_in handle.old }
@@ -237,7 +237,7 @@ pub fn put(
     answer
 }
 
-/// Whether some record of a maker has a key.
+/// Returns true if some record of a maker has a key.
 fn look(making: &mut Making, key: &[u8]) -> Result<bool, MakeFault>
     ensures there { IfOk result (λ there. FindsKey there key.now making.old making.new) }
     ensures ok { OnOk result (WritesNothing making.old.maker making.new.maker) }
@@ -248,7 +248,7 @@ fn look(making: &mut Making, key: &[u8]) -> Result<bool, MakeFault>
     making.maker.exists(key)
 }
 
-/// Whether some record has a key, if the database has an open maker.
+/// Returns true if some record has a key, if the database has an open maker.
 fn look_in(database: &mut Database, key: &[u8]) -> Result<bool, MakeFault>
     ensures there { IfOk result (λ there. BetweenCalls (Some database.old) (Some database.new)
         (FindsKey there key.now)) }
@@ -268,8 +268,8 @@ fn look_in(database: &mut Database, key: &[u8]) -> Result<bool, MakeFault>
     }
 }
 
-/// Whether some record has a key, as `Maker::exists` says. `Broken`: the handle has no maker, or a
-/// broken one.
+/// Returns true if some record has a key, as `Maker::exists` says. `Broken`: the handle has no
+/// maker, or a broken one.
 pub fn exists(alloc: Global, handle: &mut Handle, key: &[u8]) -> Result<bool, MakeFault>
     ensures there { IfOk result (λ there. BetweenCalls (kept_in handle.old) (kept_in handle.new)
         (FindsKey there key.now)) }

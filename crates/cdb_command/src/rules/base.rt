@@ -6,7 +6,7 @@ ghost use Rattle.cdb_command.specs.Rules.{is_hyphen, writes_out, is_built_in, ta
 use crate::line::Line;
 use crate::rules::names::is_hyphen;
 
-/// Whether a file has the name of the temporary file that is made if none is given.
+/// Returns true if a file has the name of the temporary file that is made if none is given.
 fn is_default(name: &str, file: &str) -> bool
     ensures { result ≡ bytes_eq (name.now ++ codes ".tmp") file.now }
 {
@@ -16,7 +16,7 @@ fn is_default(name: &str, file: &str) -> bool
     }
 }
 
-/// Whether the database is written to standard output, and no file is built.
+/// Returns true if the database is written to standard output, and no file is built.
 fn writes_out(names: Option<&[&str]>) -> bool
     ensures { result ≡ writes_out (names_in names.entry) }
 {
@@ -26,7 +26,7 @@ fn writes_out(names: Option<&[&str]>) -> bool
     }
 }
 
-/// Whether the file in which the database is built has this name.
+/// Returns true if the file in which the database is built has this name.
 fn is_built_in(temporary: Option<&str>, names: Option<&[&str]>, file: &str) -> bool
     ensures { result ≡ is_built_in (option_map (λ s. s.now) temporary.entry) (names_in names.entry) file.now }
 {
@@ -37,8 +37,8 @@ fn is_built_in(temporary: Option<&str>, names: Option<&[&str]>, file: &str) -> b
     }
 }
 
-/// Whether a create takes this base: not beside `-t -`, which builds in place, and not if it would
-/// build in the base.
+/// Returns true if a create takes this base: not beside `-t -`, which builds in place, and not if
+/// it would build in the base.
 fn takes(line: &Line<'_, '_>, base: &str) -> bool
     ensures { result ≡ takes_base (given_in line.now) base.now }
 {
@@ -50,7 +50,7 @@ fn takes(line: &Line<'_, '_>, base: &str) -> bool
     writes_out(line.names) || !is_built_in(line.temporary, line.names, base)
 }
 
-/// Whether a create takes the base of a line, if it has one.
+/// Returns true if a create takes the base of a line, if it has one.
 pub(crate) fn takes_base(line: &Line<'_, '_>) -> bool
     ensures { result ≡ unwrap_or (option_map (takes_base (given_in line.now))
         (given_in line.now).base) true }

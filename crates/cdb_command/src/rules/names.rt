@@ -23,7 +23,7 @@ pub(crate) fn two_names<'a>(
     }
 }
 
-/// Whether a name is that of a standard stream.
+/// Returns true if a name is that of a standard stream.
 pub(crate) fn is_hyphen(name: &str) -> bool
     ensures { result ≡ is_hyphen name.now }
 {

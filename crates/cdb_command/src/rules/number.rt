@@ -6,7 +6,7 @@ ghost use Rattle.cdb_command.specs.Rules.{value_number, decimal_in, number_in};
 
 use crate::word_fault::WordFault;
 
-/// Whether a text has decimal digits alone.
+/// Returns true if a text has decimal digits alone.
 fn is_digits(text: &str) -> bool
     ensures { result ≡ all_ascii_digits text.now }
 {

@@ -30,7 +30,7 @@ fn options_on(line: &Line<'_, '_>) -> [(bool, char); 9]
     ]
 }
 
-/// Whether a command takes an option of a line.
+/// Returns true if a command takes an option of a line.
 fn takes_option(letter: Letter, option: char, line: &Line<'_, '_>) -> bool
     ensures { result ≡ list_any (λ o. o == option) (taken_by letter (given_in line.now)) }
 {

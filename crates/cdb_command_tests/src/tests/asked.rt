@@ -5,7 +5,7 @@ use std::alloc::{AllocError, Global};
 use std::prelude::*;
 use std::test::Fail;
 
-/// Whether a line requests the command that is shown so.
+/// Returns true if a line requests the command that is shown so.
 fn asks(alloc: Global, line: &str, shown: &str) -> Result<bool, AllocError> {
     match plan(alloc, words_of(alloc, line)?) {
         Ok(command) => Ok(format!(in alloc; "{command:?}")?.as_str() == shown),
@@ -13,7 +13,7 @@ fn asks(alloc: Global, line: &str, shown: &str) -> Result<bool, AllocError> {
     }
 }
 
-/// Whether a line requests a create of `x`, in words of 4 bytes, that is shown with these.
+/// Returns true if a line requests a create of `x`, in words of 4 bytes, that is shown with these.
 fn creates(
     alloc: Global,
     line: &str,

@@ -5,7 +5,7 @@ use std::alloc::{AllocError, Global};
 use std::prelude::*;
 use std::test::Fail;
 
-/// Whether a line wants its faults explained.
+/// Returns true if a line wants its faults explained.
 fn wants(alloc: Global, line: &str) -> Result<bool, AllocError> {
     Ok(explains(words_of(alloc, line)?.as_slice()))
 }

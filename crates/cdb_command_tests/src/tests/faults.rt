@@ -7,7 +7,7 @@ use std::test::Fail;
 /// What is said of all but one.
 const BAD: &str = "bad command line, see cdb -h";
 
-/// Whether a fault has this number, and is said so.
+/// Returns true if a fault has this number, and is said so.
 fn is_said(alloc: Global, usage: &Usage, number: u8, said: &str) -> Result<bool, AllocError> {
     let shown = format!(in alloc; "{usage}")?;
     Ok(usage.number() == number && usage.message() == said && shown.as_str() == said)

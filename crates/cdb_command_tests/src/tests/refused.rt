@@ -5,7 +5,8 @@ use std::alloc::{AllocError, Global};
 use std::prelude::*;
 use std::test::Fail;
 
-/// Whether a line is refused with this fault, and by `plan` with what it is whatever the word.
+/// Returns true if a line is refused with this fault, and by `plan` with what it is whatever the
+/// word.
 fn is_refused(alloc: Global, line: &str, fault: WordFault<'_>) -> Result<bool, AllocError> {
     let words = words_of(alloc, line)?;
     let explained = match plan_explained(alloc, words.as_slice()) {

@@ -17,7 +17,7 @@ const TEXT: &str = "usage: cdb -q [-W] [-m] [-n number] database key
        with each: -v  say which file and why
 ";
 
-/// Whether so much room holds these bytes then, and the answer is this one.
+/// Returns true if so much room holds these bytes then, and the answer is this one.
 fn writes(room: usize, answer: Result<(), OutFault>, text: &str) -> bool {
     let mut bytes = [0; 1000];
     let Some(mut left) = bytes.get_mut(..room) else {
@@ -38,7 +38,7 @@ fn the_usage_text_is_written(rt: HostRuntime) -> Result<(), Fail> {
     Ok(())
 }
 
-/// Whether the version is a line that begins so.
+/// Returns true if the version is a line that begins so.
 fn is_versioned(front: &str) -> bool {
     let mut bytes = [0; 100];
     let mut left = &mut bytes[..];

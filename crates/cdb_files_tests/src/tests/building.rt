@@ -32,7 +32,8 @@ fn records_of(alloc: Global, keys: &[&[u8]], len: usize) -> Result<Vec<Record>, 
     Ok(records)
 }
 
-/// How many calls of its store the database of a record of each key takes, and how long it is.
+/// Returns the number of calls of its store that the database of a record of each key takes, and
+/// how long it is.
 fn calls_for(alloc: Global, keys: &[&[u8]]) -> Result<(u64, usize), Fail> {
     let records = records_of(alloc, keys, LONG)?;
     let store = FuseStore::new(MemStore::new(alloc), u64::MAX, 0);

@@ -25,7 +25,8 @@ fn the_first_record_of_a_text(rt: HostRuntime) -> Result<(), Fail> {
     Ok(())
 }
 
-/// Whether the database of `one` with `Hello`, made under a name, gives this value of a key.
+/// Returns true if the database of `one` with `Hello`, made under a name, gives this value of a
+/// key.
 fn gives(rt: &HostRuntime, key: &[u8], wanted: Option<&[u8]>) -> Result<bool, Fail> {
     let mut records = Vec::new(rt.alloc());
     records.push(Record {

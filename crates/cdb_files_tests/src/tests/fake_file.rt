@@ -7,7 +7,7 @@ use cdb_store::{Call, RawFault, RawFile, Trace, note_part};
 #[derive(Drop)]
 pub struct FakeFile {
     pub bytes: Vec<u8>,
-    /// Whether nothing was changed since it was synced.
+    /// True if nothing was changed since it was synced.
     pub is_sure: bool,
     trace: Trace,
     calls: u64,

@@ -31,21 +31,21 @@ pub struct FakeNames {
     pub database: Held,
     /// The bytes of a new file under it.
     pub bytes: Vec<u8>,
-    /// Whether the temporary name has a file.
+    /// True if the temporary name has a file.
     pub has_temporary: bool,
     /// What it is, if it has one.
     pub kind: Found,
-    /// Whether another create holds it.
+    /// True if another create holds it.
     pub is_held: bool,
     /// The permission bits of the new file.
     pub bits: u32,
-    /// Whether it keeps those that it is given.
+    /// True if it keeps those that it is given.
     pub keeps_bits: bool,
     /// The permission bits that the database is to have, which a plain new file shows if it is new.
     pub wanted: Wanted,
     /// What another user's database shows, if it replaces one.
     pub others: Option<Shown>,
-    /// How many calls were made.
+    /// The number of calls that were made.
     pub calls: u64,
     alloc: Global,
     first: u64,

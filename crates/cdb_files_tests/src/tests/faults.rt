@@ -32,8 +32,8 @@ pub fn two_records(alloc: Global) -> Result<Vec<Record>, Fail> {
     Ok(records)
 }
 
-/// Whether a make that answered so left what it is to leave: at a fault the old file and, unless
-/// the removal failed, no temporary name; at Ok the new one.
+/// Returns true if a make that answered so left what it is to leave: at a fault the old file and,
+/// unless the removal failed, no temporary name; at Ok the new one.
 fn is_right(names: &FakeNames, made: bool) -> bool {
     match names.database {
         Held::Old => !made,

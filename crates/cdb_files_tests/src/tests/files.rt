@@ -68,7 +68,7 @@ fn a_link_of_the_temporary_name_stays(rt: HostRuntime) -> Result<(), Fail> {
     Ok(())
 }
 
-/// The answer of a make by way of another spelling of the database's name.
+/// The answer of a make through another spelling of the database's name.
 fn made_by_another_spelling(rt: &HostRuntime) -> Result<Option<FileFault>, Fail> {
     let records = two_records(rt.alloc())?;
     let made = make_file_in::<Narrow, _>(

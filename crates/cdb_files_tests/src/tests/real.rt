@@ -10,12 +10,12 @@ fn made(rt: &HostRuntime, name: &str) -> Result<RealFile, NameFault> {
     RealNames::new(rt).make_new(name, 0o600)
 }
 
-/// Whether a file of so many bytes is given another name.
+/// Returns true if a file of so many bytes is given another name.
 fn is_renamed(rt: &HostRuntime, file: RealFile, len: u64, name: &str, other: &str) -> bool {
     RealNames::new(rt).rename(file, len, name, other).is_ok()
 }
 
-/// Whether a name has a file of so many bytes.
+/// Returns true if a name has a file of so many bytes.
 fn has_bytes(rt: &HostRuntime, name: &str, len: u64) -> bool {
     matches!(fs::metadata(rt, name), Ok(found) if found.len() == len)
 }

@@ -3,7 +3,7 @@ use Rattle.cdb_form.proofs.Words.{KeyValue, List, WordPair, [], ap, append_assoc
 use Rattle.cdb_form.proofs.Bytes.HeadLemmas.{length-flat_map_words}
 use Rattle.cdb_form.proofs.Files.Sizes.{length-slots_of, length-pointers_from, sum_by-table_entries, tables_are}
 
--- how many slots some tables have
+-- the number of slots that some tables have
 abbrev pub slot_count : List (List WordPair) → ℕ
 slot_count ts = sum_by length ts
 

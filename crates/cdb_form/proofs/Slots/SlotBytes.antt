@@ -9,7 +9,7 @@ use Rattle.cdb_form.proofs.Bytes.WordLemmas.{pair_at-take, pair_at_part}
 use Rattle.cdb_form.proofs.Bytes.HeadLemmas.{rest_of, length-pair_bytes}
 use borrow.Rule.Slice.PartMut.{mid_of, put_mid, post_of, mid_len, same_len_mid, take_put, drop_put}
 
--- how many slots some bytes hold
+-- the number of slots that some bytes hold
 pub length-slots_in : (w : ℕ) (bytes : List ℕ) → length (slots_in w bytes) ≡ length bytes / pair_size w
 unfolding slots_in
 length-slots_in w bytes = length-map-range_with_len (nth_pair w bytes) 0 (length bytes / pair_size w)

@@ -12,11 +12,11 @@ use Rattle.cdb_form.specs.Views.Feed.{Feed}
 abbrev pub reader_of : {R L : Type 0} → ListReader R L → R
 reader_of t = t.source.reader
 
--- how many bytes it read
+-- the number of bytes it read
 abbrev pub taken_of : {R L : Type 0} → ListReader R L → ℕ
 taken_of t = t.source.taken
 
--- how many requests its reader may still get
+-- the number of requests that its reader may still get
 abbrev pub asks_left : {R L : Type 0} → ListReader R L → ℕ
 asks_left t = t.source.asks
 

@@ -11,7 +11,7 @@ use Rattle.cdb_form.specs.Format.{AreBytes, KeyValue}
 use Rattle.cdb_form.specs.declared.text.map_parser.LineRead.{LineRead}
 use Rattle.cdb_form.specs.declared.text.map_parser.LineRead.TheVariants.{Ignored, Last, LastPair, Pair}
 
--- whether a byte is of a kind
+-- true if a byte is of a kind
 abbrev pub is_of : Kind → ℕ → Bool
 is_of Blank c = is_blank c
 is_of InWord c = not (is_blank c || is_newline c)

@@ -17,11 +17,11 @@ use Rattle.cdb_form.specs.declared.text.map_parser.Entry.TheVariants.{Closed, En
 abbrev pub reader_of : {R : Type 0} → MapReader R → R
 reader_of t = t.source.reader
 
--- how many bytes it read
+-- the number of bytes it read
 abbrev pub taken_of : {R : Type 0} → MapReader R → ℕ
 taken_of t = t.source.taken
 
--- how many requests its reader may still get
+-- the number of requests that its reader may still get
 abbrev pub asks_left : {R : Type 0} → MapReader R → ℕ
 asks_left t = t.source.asks
 

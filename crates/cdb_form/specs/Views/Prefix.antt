@@ -48,14 +48,14 @@ pub record IsStored (w : ℕ) (bytes : List ℕ) (n : ℕ) (r : KeyValue) : Type
   pub is : prefix_record w (take n bytes) ≡ r
   pub within : n ≤ length bytes
 
--- how many bytes the record at the start of some bytes has, if it is whole there
+-- the number of bytes that the record at the start of some bytes has, if it is whole there
 abbrev pub PrefixTells : ℕ → List ℕ → Option ℕ → Type 0
 PrefixTells w bytes None = length bytes < prefix_size w bytes
 PrefixTells w bytes (Some n) = (n ≡ prefix_size w bytes) × (n ≤ length bytes)
 
 -- ---- What bytes of a map text begin with.
 
--- whether a byte may end a run of a kind: those that may not are of the kind
+-- true if a byte may end a run of a kind: those that may not are of the kind
 abbrev pub may_end : Kind → ℕ → Bool
 may_end Blank c = not (c == 32)
 may_end InWord c = nat_le c 32

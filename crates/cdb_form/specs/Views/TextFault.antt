@@ -61,8 +61,7 @@ text_display (Ended at) = codes "byte " ++ decimal at ++ codes ": " ++ text_mess
 text_display (Large at) = codes "byte " ++ decimal at ++ codes ": " ++ text_message (Large at)
 text_display fault = text_message fault
 
--- how many bytes were read in all, if the text has this fault: the byte at its place was the
--- last one
+-- the number of bytes that were read in all, if the text has this fault: the byte at its place was the last one
 abbrev pub LastRead : ℕ → TextFault → Type 0
 LastRead taken (Syntax at) = taken ≡ at + 1
 LastRead taken (Large at) = taken ≡ at + 1

@@ -11,11 +11,11 @@ use Rattle.cdb_form.specs.Views.FormReader as form
 abbrev pub reader_of : {R L : Type 0} → TextReader R L → R
 reader_of t = form.reader_of t.items
 
--- how many bytes it read
+-- the number of bytes it read
 abbrev pub taken_of : {R L : Type 0} → TextReader R L → ℕ
 taken_of t = form.taken_of t.items
 
--- how many requests its reader may still get
+-- the number of requests that its reader may still get
 abbrev pub asks_left : {R L : Type 0} → TextReader R L → ℕ
 asks_left t = form.asks_left t.items
 

@@ -16,7 +16,7 @@ pub(crate) enum Going {
 }
 
 impl Going {
-    /// Whether it reads on. The fault that it reports again comes as the fault.
+    /// Returns true if it reads on. The fault that it reports again comes as the fault.
     #[inline(always)]
     pub(crate) fn reads_on(self) -> Result<bool, TextFault>
         ensures ok { IfOk result (λ on. MatchBool on (self ≡ On) (self ≡ AtEnd)) }

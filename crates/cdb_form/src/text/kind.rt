@@ -17,7 +17,7 @@ pub(crate) enum Kind {
 }
 
 impl Kind {
-    /// Whether a byte is of this kind.
+    /// Returns true if a byte is of this kind.
     pub(crate) fn has(self, byte: u8) -> bool
         ensures { result ≡ is_of self byte }
     {

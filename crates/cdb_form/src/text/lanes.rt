@@ -28,8 +28,8 @@ fn word_ends(bytes: u8x16) -> u64
     bytes.simd_le(u8x16::splat(b' ')).to_bitmask()
 }
 
-/// How many bytes of a word some bytes begin with, as far as whole 16 show it: most words are
-/// short.
+/// Returns the number of bytes of a word that some bytes begin with, as far as whole 16 show it:
+/// most words are short.
 #[inline(always)]
 pub(crate) fn word_run(bytes: &[u8]) -> usize
     ensures within { result ≤ length bytes.now }
@@ -46,7 +46,7 @@ pub(crate) fn word_run(bytes: &[u8]) -> usize
     place
 }
 
-/// How many bytes of a kind some bytes begin with, as far as whole 32 show it.
+/// Returns the number of bytes of a kind that some bytes begin with, as far as whole 32 show it.
 #[inline(always)]
 pub(crate) fn wide_run(kind: Kind, bytes: &[u8]) -> usize
     ensures within { result ≤ length bytes.now }

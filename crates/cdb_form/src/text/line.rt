@@ -3,7 +3,7 @@ ghost use Rattle.std.specs.Prelude.{◌≡◌, ◌+◌, ◌<◌, ◌≤◌, ◌+
 
 use itoa::Buffer;
 
-/// How many bytes a line has at most that is written as one.
+/// The number of bytes that a line has at most that is written as one.
 pub(crate) const LINE: usize = 256;
 
 /// Puts a mark into a line at a place, and answers the place after it.

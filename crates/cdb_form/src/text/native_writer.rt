@@ -6,10 +6,11 @@ ghost use Rattle.cdb_form.specs.Views.KnownBytes.{Writes};
 use crate::text::line::{LINE, put_mark, put_number, put_piece};
 use crate::writing::{OutFault, Sink, write_at_once, write_each, write_whole};
 
-/// How many bytes a line has at most before its key: two numerals of 20 digits, and three marks.
+/// The number of bytes that a line has at most before its key: two numerals of 20 digits, and three
+/// marks.
 const LONGEST: usize = 43;
 
-/// How many bytes a key and a value have at most of which a line has room.
+/// The number of bytes that a key and a value have at most of which a line has room.
 const ROOM: usize = LINE - LONGEST - 3;
 
 /// Puts what comes before the key into a line, and answers the place after it.

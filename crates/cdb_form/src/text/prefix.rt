@@ -19,7 +19,7 @@ pub(crate) struct PrefixNumeral {
 pub struct PeekedRecord<'a> {
     pub key: &'a [u8],
     pub value: &'a [u8],
-    /// How many bytes the reader has of it.
+    /// The number of bytes that the reader has of it.
     pub len: usize,
 }
 
@@ -114,7 +114,7 @@ fn prefix_lengths(bytes: &[u8], greatest: u64) -> PrefixLengths
     }
 }
 
-/// Whether some bytes begin with a key and a value of these lengths, with their marks.
+/// Returns true if some bytes begin with a key and a value of these lengths, with their marks.
 #[inline(always)]
 fn has_body(bytes: &[u8], klen: usize, vlen: usize) -> bool
     requires { klen + vlen < 2000000000 }

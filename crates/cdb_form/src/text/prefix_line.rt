@@ -13,8 +13,8 @@ use crate::text::lanes::{wide_run, word_run};
 use crate::text::prefix::PeekedRecord;
 use std::alloc::AllocError;
 
-/// How many bytes of a kind some bytes begin with, if so many are known to be. The others are
-/// looked at one by one.
+/// Returns the number of bytes of a kind that some bytes begin with, if so many are known to be.
+/// The others are looked at one by one.
 #[inline(always)]
 fn run_past(known: usize, kind: Kind, bytes: &[u8]) -> usize
     requires held { known ≤ length bytes.now }
@@ -29,7 +29,8 @@ fn run_past(known: usize, kind: Kind, bytes: &[u8]) -> usize
     place
 }
 
-/// How many blanks some bytes begin with. They are few, so each is looked at alone.
+/// Returns the number of blanks that some bytes begin with. They are few, so each is looked at
+/// alone.
 #[inline(always)]
 fn blanks(bytes: &[u8]) -> usize
     ensures within { result ≤ length bytes.now }
@@ -38,7 +39,7 @@ fn blanks(bytes: &[u8]) -> usize
     run_past(0, Kind::Blank, bytes)
 }
 
-/// How many bytes of a kind some bytes begin with.
+/// Returns the number of bytes of a kind that some bytes begin with.
 #[inline(always)]
 fn run(kind: Kind, bytes: &[u8]) -> usize
     ensures within { result ≤ length bytes.now }

@@ -7,7 +7,7 @@ use crate::reading::{some_bytes, vector};
 use crate::text::at_hand::{AtHand, window_within};
 use crate::text::fault::TextFault;
 
-/// How many bytes of a key or value are requested at once.
+/// The number of bytes of a key or value that are requested at a time.
 const PIECE: u64 = 4096;
 
 /// A reader with the count of the bytes that it gave, and of the requests that it has left.

@@ -7,7 +7,8 @@ use crate::pair::pair_size;
 use crate::text::prefix::PeekedRecord;
 use crate::width::Width;
 
-/// How many bytes the record has that some bytes begin with, or `None` if they end before it does.
+/// Returns the number of bytes that the record has that some bytes begin with, or `None` if they
+/// end before it does.
 pub fn record_len<L: Width>(bytes: &[u8]) -> Option<usize>
     ensures { PrefixTells L.WORD bytes.now result }
 {

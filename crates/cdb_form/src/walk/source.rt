@@ -18,12 +18,12 @@ use crate::walk::fault::WalkFault;
 use crate::walk::keeping::Keeping;
 use crate::width::Width;
 
-/// How many requests a reader may get for the bytes of one vector: each request gives a byte or is
-/// one of at most 1000 in a row that signals interrupt, so no vector that memory can hold takes as
-/// many.
+/// The number of requests that a reader may get for the bytes of one vector: each request gives a
+/// byte or is one of at most 1000 in a row that signals interrupt, so no vector that memory can
+/// hold takes as many.
 const ASKS: u64 = u64::MAX;
 
-/// How many bytes of a value that is passed over are requested at once.
+/// How many bytes of a value that is passed over are requested at a time.
 const PASSED: usize = 512;
 
 /// Fills all of `into`, or answers `early` if the reader ends before that.

@@ -46,7 +46,7 @@ fn read_all<L: Width, R: Read + Drop>(
     Ok((shown, None))
 }
 
-/// Whether a text is read as these items, shown, and this fault.
+/// Returns true if a text is read as these items, shown, and this fault.
 fn reads<L: Width, R: Read + Drop>(
     alloc: Global,
     reader: R,
@@ -141,7 +141,7 @@ fn each_cut_text_ends_early_and_each_failure_is_input(rt: HostRuntime) -> Result
     Ok(())
 }
 
-/// Whether an item puts this record.
+/// Returns true if an item puts this record.
 fn is_put(item: &Item, key: &[u8], value: &[u8]) -> bool {
     match item {
         Item::Put(it) => it.key.as_slice() == key && it.value.as_slice() == value,
@@ -149,7 +149,7 @@ fn is_put(item: &Item, key: &[u8], value: &[u8]) -> bool {
     }
 }
 
-/// Whether an item removes this key.
+/// Returns true if an item removes this key.
 pub(super) fn is_removal(item: &Item, key: &[u8]) -> bool {
     match item {
         Item::Put(_) => false,
@@ -157,7 +157,7 @@ pub(super) fn is_removal(item: &Item, key: &[u8]) -> bool {
     }
 }
 
-// Whether a text puts a record, removes its key, and has no more for good.
+// Returns true if a text puts a record, removes its key, and has no more for good.
 fn puts_and_removes(alloc: Global, text: &mut &[u8]) -> bool {
     let mut changes: AmendReader<&mut &[u8], Narrow> = AmendReader::new(alloc, text);
     let put = matches!(changes.next(), Ok(Some(item)) if is_put(&item, b"one", b"Hello"));

@@ -111,8 +111,8 @@ impl FakeWriter {
 }
 
 impl FakeWriter {
-    /// Whether it holds as much of a text as it had room for, and the answer says whether that is
-    /// the whole text.
+    /// Returns true if it holds as much of a text as it had room for, and the answer says whether
+    /// that is the whole text.
     pub(super) fn holds_prefix(
         &self,
         answer: Result<(), OutFault>,

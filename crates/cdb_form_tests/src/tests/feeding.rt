@@ -7,8 +7,8 @@ use std::prelude::*;
 /// More calls than any reader here has items.
 const CALLS: usize = 9;
 
-/// How many items an amending text has, if both readers give the same ones, the same end or fault
-/// after them, and leave the same bytes. The key of each item is compared.
+/// Returns the number of items that an amending text has, if both readers give the same ones, the
+/// same end or fault after them, and leave the same bytes. The key of each item is compared.
 fn items(alloc: Global, text: &[u8], behind: Behind) -> Option<usize> {
     let mut old: AmendReader<FakeReader<'_>, Narrow> = AmendReader::new(
         alloc,

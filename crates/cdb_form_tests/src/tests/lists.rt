@@ -5,8 +5,8 @@ use std::alloc::Global;
 use std::prelude::*;
 use std::test::Fail;
 
-// How many keys the list has and how long they are together, and its fault. No more than 2^48
-// requests are allowed.
+// Returns the number of keys that the list has and how long they are together, and its fault. No
+// more than 2^48 requests are allowed.
 fn read_all<L: Width>(
     alloc: Global,
     reader: FakeReader<'_>,
@@ -88,7 +88,7 @@ fn lists_of_readers_that_fail(rt: HostRuntime) {
     assert!(rt; answer == (0, 0, Some(TextFault::Endless)), "no end");
 }
 
-// Whether a list has one key, and no more for good; the rest stays.
+// Returns true if a list has one key, and no more for good; the rest stays.
 fn gives_one(alloc: Global, text: &mut &[u8]) -> bool {
     let mut keys: ListReader<&mut &[u8], Narrow> = ListReader::new(text);
     let mut item = Record {

@@ -47,7 +47,7 @@ fn read_all<R: Read + Drop>(
     Ok((given, None))
 }
 
-/// Whether a text is read as these records, shown, and this fault.
+/// Returns true if a text is read as these records, shown, and this fault.
 fn reads<R: Read + Drop>(
     alloc: Global,
     reader: R,
@@ -127,12 +127,12 @@ fn records_of_texts(rt: HostRuntime) -> Result<(), Fail> {
     Ok(())
 }
 
-/// Whether there is one more record, of which a new reader takes no byte too many.
+/// Returns true if there is one more record, of which a new reader takes no byte too many.
 fn gives_one(alloc: Global, rest: &mut &[u8]) -> bool {
     matches!(MapReader::new(alloc, rest).next(), Ok(Some(_)))
 }
 
-/// Whether the text is at its end, for good.
+/// Returns true if the text is at its end, for good.
 fn is_at_end(alloc: Global, rest: &[u8]) -> bool {
     let mut maps = MapReader::new(alloc, rest);
     (0..3).all(|_| matches!(maps.next(), Ok(None)))
@@ -162,7 +162,7 @@ fn one_byte_is_asked_for_at_once(rt: HostRuntime) -> Result<(), Fail> {
     Ok(())
 }
 
-/// Whether a text of this byte without end is given up, for good.
+/// Returns true if a text of this byte without end is given up, for good.
 fn is_given_up(alloc: Global, byte: u8) -> bool {
     let reader = FakeReader::new(b"", Behind::ForEver(byte));
     let mut maps = MapReader::with_bound(alloc, reader, 100);

@@ -34,7 +34,7 @@ fn no_more_than_one_byte_above_the_most_is_taken(rt: HostRuntime) -> Result<(), 
     Ok(())
 }
 
-/// Whether a read of so many bytes at most answers so, and holds these bytes then.
+/// Returns true if a read of so many bytes at most answers so, and holds these bytes then.
 fn reads_so(
     alloc: Global,
     mut reader: FakeReader<'_>,

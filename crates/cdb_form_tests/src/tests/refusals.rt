@@ -18,7 +18,7 @@ const RECORDS: [(&[u8], &[u8]); 2] = [
     ),
 ];
 
-/// Whether the text gives its records and ends.
+/// Returns true if the text gives its records and ends.
 fn gives_records(alloc: Global) -> Result<bool, TextFault> {
     let mut maps = MapReader::new(alloc, TEXT);
     for (key, value) in RECORDS {
@@ -46,7 +46,7 @@ fn a_map_reader_tells_refused_memory(rt: HostRuntime) -> Result<(), Fail> {
 /// By its removal the vector of the reader grows more than once.
 const REMOVAL: &[u8] = b"+1,1:a->b\n-38:a_key_longer_than_a_vector_is_at_first\n\n";
 
-/// Whether the text puts a record, removes a key and ends.
+/// Returns true if the text puts a record, removes a key and ends.
 fn gives_items(alloc: Global) -> Result<bool, TextFault> {
     let mut changes: AmendReader<&[u8], Narrow> = AmendReader::new(alloc, REMOVAL);
     let (key, _) = RECORDS[1];

@@ -8,7 +8,8 @@ use std::test::Fail;
 
 const TWO: &[u8] = b"+3,5:one->Hello\n+3,7:two->Goodbye\n\n";
 
-// How many records the text has, and its fault. No more than 2^48 requests are allowed.
+// Returns the number of records that the text has, and its fault. No more than 2^48 requests are
+// allowed.
 fn read_all<L: Width, R: Read + Drop>(
     alloc: Global,
     reader: R,
@@ -73,7 +74,7 @@ fn wide_lengths(rt: HostRuntime) {
     }
 }
 
-// Whether a text has one record, and no more for good.
+// Returns true if a text has one record, and no more for good.
 fn gives_hello(alloc: Global, text: &mut &[u8]) -> bool {
     let mut texts: TextReader<&mut &[u8], Narrow> = TextReader::new(alloc, text);
     let (key, value): (&[u8], &[u8]) = (b"one", b"Hello");
@@ -177,7 +178,7 @@ fn what_stands_behind_a_fault_stays(rt: HostRuntime) {
     }
 }
 
-// Whether a text has one record, of a value of 9000 bytes.
+// Returns true if a text has one record, of a value of 9000 bytes.
 fn gives_long(alloc: Global, reader: &mut FakeReader<'_>) -> bool {
     let mut texts: TextReader<&mut FakeReader<'_>, Narrow> = TextReader::new(alloc, reader);
     let is_long = matches!(texts.next(), Ok(Some(it)) if it.value.len() == 9000);

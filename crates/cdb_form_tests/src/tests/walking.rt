@@ -36,7 +36,7 @@ fn walk<L: Width, F: Feeds>(
     }
 }
 
-// Whether a file has so many records, and this fault.
+// Returns true if a file has so many records, and this fault.
 fn walks<L: Width, R: Read + Drop>(
     alloc: Global,
     reader: R,
@@ -126,7 +126,7 @@ fn put_words(file: &mut [u8], table: usize, place: u32, slots: u32) {
     put(file, at.saturating_add(4), &slots.to_le_bytes());
 }
 
-// Whether a file has exactly these records, and no fault.
+// Returns true if a file has exactly these records, and no fault.
 fn gives(alloc: Global, file: &[u8], want: &[(&[u8], &[u8])]) -> Result<bool, AllocError> {
     let mut reader: RecordReader<&[u8], Narrow> = RecordReader::new(alloc, file);
     let (records, fault) = walk::<Narrow, &[u8]>(alloc, &mut reader)?;
@@ -200,7 +200,7 @@ const CHANGED: [Changed; 9] = [
     (0, b"\x64\0\0\0\0\0\0\0", 2, None),
 ];
 
-/// Whether a changed file has its records and its fault.
+/// Returns true if a changed file has its records and its fault.
 fn changed_walks(alloc: Global, changed: &Changed) -> Result<bool, AllocError> {
     let (at, bytes, records, fault) = *changed;
     let mut file = two_file(alloc)?;
@@ -319,7 +319,7 @@ fn long_file(alloc: Global, klen: u32, vlen: u32) -> Result<Vec<u8>, AllocError>
     Ok(file)
 }
 
-/// Whether a reader of keys alone gives one of so many bytes, and then the end.
+/// Returns true if a reader of keys alone gives one of so many bytes, and then the end.
 fn gives_key(alloc: Global, reader: FakeReader<'_>, klen: usize) -> bool {
     let mut reader: RecordReader<FakeReader<'_>, Narrow> = RecordReader::new(alloc, reader);
     let mut record = Record {
@@ -372,7 +372,7 @@ fn what_follows_a_damaged_header_stays(rt: HostRuntime) -> Result<(), Fail> {
     Ok(())
 }
 
-// Whether the two records are read, and then the end for good.
+// Returns true if the two records are read, and then the end for good.
 fn reads_to_the_end(alloc: Global, rest: &mut &[u8]) -> bool {
     let mut reader: RecordReader<&mut &[u8], Narrow> = RecordReader::new(alloc, rest);
     let mut record = Record {
@@ -403,7 +403,8 @@ fn what_follows_the_record_end_stays(rt: HostRuntime) -> Result<(), Fail> {
     Ok(())
 }
 
-// Whether the keys of the two records are read over a record whose value stays, and then the end.
+// Returns true if the keys of the two records are read over a record whose value stays, and then
+// the end.
 fn reads_keys(alloc: Global, rest: &mut &[u8]) -> Result<bool, AllocError> {
     let mut reader: RecordReader<&mut &[u8], Narrow> = RecordReader::new(alloc, rest);
     let mut record = Record {

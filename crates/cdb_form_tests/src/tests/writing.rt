@@ -18,7 +18,7 @@ fn a_writer_that_fails_holds_a_prefix(rt: HostRuntime) {
     }
 }
 
-/// Whether a write and a flush that are interrupted so often answer so.
+/// Returns true if a write and a flush that are interrupted so often answer so.
 fn answer_so(alloc: Global, interrupts: u64, want: Result<(), OutFault>) -> bool {
     let mut written = FakeWriter::new(alloc, 5, interrupts);
     let mut flushed = FakeWriter::new(alloc, 5, interrupts);
@@ -94,7 +94,8 @@ fn written_texts(alloc: Global, key: &[u8], value: &[u8]) -> Result<Vec<u8>, Fai
     Ok(out)
 }
 
-/// Whether a record of a key and a value of so many bytes each is written whole in each style.
+/// Returns true if a record of a key and a value of so many bytes each is written whole in each
+/// style.
 fn writes_all(alloc: Global, len: usize) -> Result<bool, Fail> {
     let (key, value) = (vec![in alloc; b'k'; len]?, vec![in alloc; b'v'; len]?);
     let (key, value): (&[u8], &[u8]) = (&key, &value);

@@ -13,7 +13,7 @@ use Rattle.cdb_make.specs.Views.Maker.{Holds, WhereHonest, HasStoreFailed, HasNo
 abbrev pub records_at : ℕ → List ℕ → List KeyValue
 records_at w bytes = whole_records w (length bytes) bytes
 
--- how many bytes the first so many of them have
+-- the number of bytes that the first so many of them have
 abbrev pub first_size : ℕ → List ℕ → ℕ → ℕ
 first_size w bytes count = sum_by (record_size w) (take count (records_at w bytes))
 

@@ -239,7 +239,7 @@ pub record IsThere (there : Bool) (k : List ℕ) (rs : List KeyValue) (images : 
     : Type 0 where
   pub each : (b : List ℕ) → images b → there ≡ is_there k rs
 
--- how many records it counts, and the size that their file would have
+-- the number of records it counts, and the size that their file would have
 abbrev pub count_in : {S L : Type 0} {s : Ghosts S} {l : Widths L} → Maker S L s l → ℕ
 count_in m = length m.roll.hashes.items - m.roll.gone.count
 
@@ -511,7 +511,7 @@ pub record Looks {S L : Type 0} {s : Ghosts S} {l : Widths L} (old new : Maker S
   pub none : AreNone (found_in new)
   pub is : (rs : List KeyValue) → Holds old rs → IsThere answer key rs (s.image new.store)
 
--- how many bytes a put writes: the records that it moves, and its own
+-- the number of bytes that a put writes: the records that it moves, and its own
 abbrev pub put_bytes : ℕ → Mode → KeyValue → List KeyValue → ℕ
 put_bytes w Add r rs = record_size w r
 put_bytes w Warn r rs = record_size w r

@@ -1,4 +1,4 @@
-// How many entries each table has.
+// The number of entries that each table has.
 ghost use Rattle.std.specs.Prelude.{◌≡◌, ℕ, ◌+◌, ◌*◌, ◌<◌, ◌≤◌, length, map, get_or, All, List};
 ghost use Rattle.cdb_make.specs.Tables.{roll_tables};
 
@@ -6,7 +6,7 @@ use crate::finish::gather::{GROUPS, TABLES};
 use crate::roll::Roll;
 use cdb_form::{Width, table_number};
 
-/// How many entries each table has.
+/// Returns the number of entries that each table has.
 pub(crate) fn counts_of<L: Width>(roll: &Roll<L>) -> [usize; 256]
     ensures { result ≡ map length (roll_tables roll.now) }
 {

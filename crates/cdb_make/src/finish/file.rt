@@ -62,7 +62,7 @@ fn settle_tables<S: Store, L: Width>(
 }
 
 /// Writes the tables after the records up to `last`, cuts the store after them, and once that is
-/// handed on writes the head, and flushes it. It takes no memory.
+/// forwarded writes the head, and flushes it. It takes no memory.
 ///
 /// `Device`: the bytes of the records stay.
 fn write_parts<S: Store, L: Width>(

@@ -10,8 +10,8 @@ use cdb_form::{Width, table_number};
 use std::alloc::{AllocError, Global};
 use std::simd::prelude::*;
 
-/// So many tables are gathered at once, and so many times. More at once would take more memory, and
-/// fewer more passes over all hashes.
+/// So many tables are gathered at a time, and so many times. More at once would take more memory,
+/// and fewer more passes over all hashes.
 pub(crate) const TABLES: usize = 32;
 
 pub(crate) const GROUPS: usize = 8;

@@ -31,7 +31,7 @@ impl<L: Width> Gathered<L> {
         })
     }
 
-    /// How many entries there are.
+    /// Returns the number of entries there are.
     pub(crate) fn len(&self) -> usize
         ensures { result ≡ length (gathered_in self.now) }
     {

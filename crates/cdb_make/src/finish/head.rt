@@ -27,7 +27,7 @@ fn head_of<L: Width>(counts: &[usize], end: u64) -> Head
     Head { pointers }
 }
 
-/// Writes the head at the start of a store that has handed on all else: so no head is on the disk
+/// Writes the head at the start of a store that has forwarded all else: so no head is on the disk
 /// before what it points to. It takes no memory.
 ///
 /// `Device`: the head's bytes may be any, and those after it stay.

@@ -25,8 +25,8 @@ fn fill_table_of<L: Width>(bytes: &mut [u8], runs: &mut [u32], list: &Gathered<L
     }
 }
 
-/// Writes the table of some entries at a place, by way of its bytes. It takes no memory. A table
-/// with no slots isn't written.
+/// Writes the table of some entries at a place, through its bytes. It takes no memory. A table with
+/// no slots isn't written.
 ///
 /// `Device`: the table's bytes may be any, and those before and after it stay.
 fn write_table<S: Store, L: Width>(
@@ -60,7 +60,7 @@ fn write_table<S: Store, L: Width>(
     store.write_at(place, bytes)
 }
 
-/// Writes one table after another from `start` on, each by way of the same bytes, and answers where
+/// Writes one table after another from `start` on, each through the same bytes, and answers where
 /// the last ends. It takes no memory.
 ///
 /// `Device`: the tables' bytes may be any, and those before and after them stay.
@@ -104,7 +104,7 @@ fn write_group<S: Store, L: Width>(
     Ok(place)
 }
 
-/// Writes the tables of a roll one after another from `end` on. Some are gathered at once, by a
+/// Writes the tables of a roll one after another from `end` on. Some are gathered at a time, by a
 /// pass over its entries. It takes no memory.
 ///
 /// `Device`: the tables' bytes may be any, and those before and after them stay.

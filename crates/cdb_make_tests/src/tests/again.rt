@@ -101,7 +101,7 @@ fn begin<S: Store + Drop, L: Width>(
     }
 }
 
-/// Whether a call that should give this answer takes records out.
+/// Returns true if a call that should give this answer takes records out.
 fn takes_out(wanted: Answer) -> bool {
     match wanted {
         Answer::Put(Put::Replaced(_)) => true,
@@ -110,7 +110,7 @@ fn takes_out(wanted: Answer) -> bool {
     }
 }
 
-/// Whether a call that should give this answer appends a record.
+/// Returns true if a call that should give this answer appends a record.
 fn appends(wanted: Answer) -> bool {
     match wanted {
         Answer::Put(put) => put != Put::Present,
@@ -118,12 +118,13 @@ fn appends(wanted: Answer) -> bool {
     }
 }
 
-/// Whether a call looks for a key.
+/// Returns true if a call looks for a key.
 fn looks(step: Step) -> bool {
     step != Step::Put(Mode::Add) && step != Step::Append
 }
 
-/// Whether an eager maker may fail so if a call of its store does, which leaves it broken or not.
+/// Returns true if an eager maker may fail so if a call of its store does, which leaves it broken
+/// or not.
 fn may_fail_at_once(step: Step, wanted: Answer, broken: bool) -> bool {
     if takes_out(wanted) {
         return broken;
@@ -132,7 +133,7 @@ fn may_fail_at_once(step: Step, wanted: Answer, broken: bool) -> bool {
 }
 
 impl<S: Store, L: Width> Tried<S, L> {
-    /// Whether a call may fail so.
+    /// Returns true if a call may fail so.
     fn may_fail(&self, step: Step, wanted: Answer, fault: MakeFault) -> bool {
         let broken = self.maker.is_broken();
         match (self.cause, fault) {
@@ -189,7 +190,7 @@ impl<S: Store, L: Width> Tried<S, L> {
     }
 }
 
-/// Whether each call on a maker but the finish answers `Broken`.
+/// Returns true if each call on a maker but the finish answers `Broken`.
 fn refuses_all<S: Store, L: Width>(maker: &mut Maker<S, L>) -> bool {
     let mut same = maker.remove(b"a") == Err(MakeFault::Broken);
     same = same && maker.exists(b"a") == Err(MakeFault::Broken);

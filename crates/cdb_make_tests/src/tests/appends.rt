@@ -62,7 +62,7 @@ fn records_of_words_of_8_bytes_are_appended(rt: HostRuntime) -> Result<(), Fail>
     Ok(())
 }
 
-/// How many bytes the whole records have of a run of `two` that is cut.
+/// Returns the number of bytes that the whole records have of a run of `two` that is cut.
 fn whole(len: usize) -> usize {
     if len < 16 {
         0

@@ -11,7 +11,7 @@ use std::prelude::*;
 use std::process::Abort;
 use std::test::Fail;
 
-/// How many bytes a buffer over the fuse has; none: there is no buffer.
+/// The number of bytes that a buffer over the fuse has; none: there is no buffer.
 const BUFFERS: [Option<usize>; 3] = [None, Some(16), Some(4096)];
 
 /// A store of which one call fails.
@@ -21,9 +21,9 @@ type Fuse = FuseStore<MemStore>;
 #[derive(Clone, Copy)]
 struct Trial {
     way: Way,
-    /// How many bytes a buffer over the fuse has.
+    /// The number of bytes that a buffer over the fuse has.
     buffer: Option<usize>,
-    /// How many bytes the write that fails writes.
+    /// The number of bytes that the write that fails writes.
     part: u64,
 }
 
@@ -48,8 +48,8 @@ fn play_buffered<L: Width>(
     Ok(Played { store, met, broke })
 }
 
-/// Whether a script meets the fault of a store that fails the call after so many. It comes to what
-/// is wanted in any case, unless it leaves the maker broken.
+/// Returns true if a script meets the fault of a store that fails the call after so many. It comes
+/// to what is wanted in any case, unless it leaves the maker broken.
 fn meets_fault<L: Width>(
     alloc: Global,
     script: &[Call],
@@ -76,7 +76,7 @@ fn meets_fault<L: Width>(
     }
 }
 
-/// How many calls of the store a script makes, each of which failed once.
+/// Returns the number of calls of the store that a script makes, each of which failed once.
 fn faults<L: Width>(alloc: Global, script: &[Call], trial: Trial) -> Result<u64, Fail> {
     let wanted = expected_within::<L>(alloc, script, trial.way.most)?;
     for calls in 0..2000u64 {
@@ -87,7 +87,8 @@ fn faults<L: Width>(alloc: Global, script: &[Call], trial: Trial) -> Result<u64,
     Err(Fail::new("a script has no end"))
 }
 
-/// How many calls of the store a script makes over each of `BUFFERS`, each of which failed once.
+/// Returns the number of calls of the store that a script makes over each of `BUFFERS`, each of
+/// which failed once.
 fn faults_over_buffers(
     alloc: Global,
     script: &[Call],
@@ -103,7 +104,7 @@ fn faults_over_buffers(
 
 /// Asserts how many calls of the store a script makes over each of `BUFFERS`, whatever part of its
 /// bytes a failed write writes: on an eager maker, and on a lazy one. A long buffer of the lazy one
-/// hands on the record that it put last before the pass, which is one write more.
+/// forwards the record that it put last before the pass, which is one write more.
 fn assert_faults(
     rt: &impl Abort,
     alloc: Global,

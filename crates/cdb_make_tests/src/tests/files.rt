@@ -26,7 +26,7 @@ fn fill<S: Store + Drop>(
     Ok(store)
 }
 
-/// Whether a script makes its file of so many bytes.
+/// Returns true if a script makes its file of so many bytes.
 fn makes_plainly(
     rt: &HostRuntime,
     (name, way): (&str, Way),
@@ -44,7 +44,7 @@ fn makes_plainly(
     Ok(store.len() == size && fs::read(rt, name)? == wanted.file)
 }
 
-/// Whether a script makes its file through a buffer, which the finish has handed on.
+/// Returns true if a script makes its file through a buffer, which the finish has forwarded.
 fn makes_through_a_buffer(
     rt: &HostRuntime,
     (name, way): (&str, Way),
@@ -58,7 +58,7 @@ fn makes_through_a_buffer(
     Ok(is_made)
 }
 
-/// Whether a script makes a file of so many bytes, as over a store in memory.
+/// Returns true if a script makes a file of so many bytes, as over a store in memory.
 fn makes_file(rt: &HostRuntime, name: &str, script: &[Call], size: u64) -> Result<bool, Fail> {
     let wanted = expected::<Narrow>(rt.alloc(), script)?;
     let mut makes = true;

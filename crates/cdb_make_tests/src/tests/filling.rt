@@ -53,7 +53,8 @@ fn filled(alloc: Global, entries: &[(u32, u32)]) -> Result<Vec<u32>, Fail> {
     Ok(words)
 }
 
-/// Whether the table of some records with drawn keys is the one that is filled slot by slot.
+/// Returns true if the table of some records with drawn keys is the one that is filled slot by
+/// slot.
 fn is_filled(alloc: Global, state: &mut u64) -> Result<bool, Fail> {
     let keys = keys_of_a_table(alloc, state)?;
     let mut maker: Maker<MemStore, Narrow> = maker_in(alloc, MemStore::new(alloc))?;

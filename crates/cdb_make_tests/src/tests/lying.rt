@@ -16,9 +16,9 @@ use std::test::Fail;
 struct LyingStore<S: Store> {
     /// The store.
     inner: S,
-    /// How many reads come before the one that lies.
+    /// The number of reads that come before the one that lies.
     honest: u64,
-    /// How many reads there were.
+    /// The number of reads there were.
     reads: u64,
 }
 

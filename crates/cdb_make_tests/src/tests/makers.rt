@@ -16,8 +16,8 @@ pub(super) struct Way {
     pub(super) lazy: bool,
     /// It makes a pass after each seventh call.
     pub(super) compacts: bool,
-    /// How many bytes its file may have more than those of a head. None: as many as the width has
-    /// them.
+    /// The number of bytes that its file may have more than those of a head. None: as many as the
+    /// width has them.
     pub(super) most: Option<u16>,
 }
 

@@ -15,7 +15,7 @@ pub(super) const RUN: [(&[u8], &[u8]); 2] = [(b"one", b"!"), (b"a", b"")];
 pub(super) struct Wanted {
     /// What its calls should answer.
     pub(super) answers: Vec<Answer>,
-    /// How many records are left then.
+    /// The number of records that are left then.
     pub(super) count: u64,
     /// Their file, made from scratch.
     pub(super) file: Vec<u8>,
@@ -33,7 +33,7 @@ struct Row<'a> {
 /// The records of a key that are left.
 #[derive(Clone, Copy)]
 struct Held {
-    /// How many they are.
+    /// Their number.
     count: u64,
     /// How much shorter the file is without them.
     size: u64,
@@ -43,7 +43,7 @@ struct Held {
 #[derive(Drop)]
 struct Model<'a> {
     rows: Vec<Row<'a>>,
-    /// How many bytes a word has.
+    /// The number of bytes that a word has.
     word: u64,
     size: u64,
     /// What the size may be.
@@ -51,7 +51,8 @@ struct Model<'a> {
 }
 
 impl<'a> Model<'a> {
-    /// How many bytes a record takes in the file: a header, the key, the value, and two slots.
+    /// Returns the number of bytes that a record takes in the file: a header, the key, the value,
+    /// and two slots.
     fn cost(&self, key: &[u8], value: &[u8]) -> u64 {
         let bytes = (key.len() as u64).saturating_add(value.len() as u64);
         self.word.saturating_mul(6).saturating_add(bytes)
@@ -80,7 +81,7 @@ impl<'a> Model<'a> {
         }
     }
 
-    /// Whether a record is within the limit, once so many bytes are free.
+    /// Returns true if a record is within the limit, once so many bytes are free.
     fn fits(&self, key: &[u8], value: &[u8], free: u64) -> bool {
         let left = self.size.saturating_sub(free);
         left.saturating_add(self.cost(key, value)) <= self.limit
@@ -142,7 +143,7 @@ impl<'a> Model<'a> {
         }
     }
 
-    /// How many records are left.
+    /// Returns the number of records that are left.
     fn count(&self) -> u64 {
         self.rows.iter().filter(|row| row.stands).count() as u64
     }

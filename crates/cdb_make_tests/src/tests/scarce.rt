@@ -39,7 +39,7 @@ impl<S: Store> ScarceStore<S> {
         }
     }
 
-    /// Whether memory for bytes up to `end` is refused.
+    /// Returns true if memory for bytes up to `end` is refused.
     fn refuses(&mut self, end: u64) -> bool
         ensures inner { self.new.inner ≡ self.old.inner }
         ensures room { self.new.room ≡ self.old.room }
@@ -119,7 +119,7 @@ fn two_records(alloc: Global, way: Way, refusals: u32) -> Result<Held, Fail> {
     Ok(maker)
 }
 
-/// Whether each of two puts that want memory is refused.
+/// Returns true if each of two puts that want memory is refused.
 fn refuses_puts(maker: &mut Held) -> bool {
     let refused = Err(MakeFault::NoMemory);
     maker.put(Mode::Add, b"a", b"1") == refused

@@ -37,11 +37,11 @@ pub(super) struct Call<'a> {
 pub(super) enum Answer {
     /// A put's answer.
     Put(Put),
-    /// How many records were taken out.
+    /// The number of records that were taken out.
     Removed(u64),
-    /// Whether the key is there.
+    /// True if the key is there.
     There(bool),
-    /// How many bytes the records have that were appended.
+    /// The number of bytes that the records have that were appended.
     Appended(usize),
     /// Nothing but a fault.
     Refused(MakeFault),
@@ -60,9 +60,9 @@ pub(super) fn replaced(count: u64) -> Answer {
 pub(super) struct Made {
     /// What its calls answered.
     pub(super) answers: Vec<Answer>,
-    /// How many bytes each of them wrote, and then the finish.
+    /// The number of bytes that each of them wrote, and then the finish.
     pub(super) wrote: Vec<u64>,
-    /// How many records were held at the end.
+    /// The number of records that were held at the end.
     pub(super) count: u64,
     /// How long their file was to be.
     pub(super) size: u64,
@@ -220,7 +220,7 @@ pub(super) fn all_come_to<L: Width>(
     Ok(answers.filter(|answer| **answer == too_big).count() as u64)
 }
 
-/// Whether these words of 4 bytes are in a file from a place on, and nothing follows them.
+/// Returns true if these words of 4 bytes are in a file from a place on, and nothing follows them.
 pub(super) fn words(file: &[u8], place: usize, wanted: &[u32]) -> bool {
     let stands = file.get(place..).unwrap_or(&[]);
     let pairs = stands.chunks_exact(4).zip(wanted.iter());

@@ -20,7 +20,7 @@ get_or-file_tables : (w : ℕ) (rs : List KeyValue) (n : ℕ) → n < 256 → ge
 unfolding file_tables
 get_or-file_tables w rs n low = get_or-map-range_with_len (table_slots w rs) 0 256 n n [] low (plus_none n)
 
--- how many slots lie before table n
+-- the number of slots that lie before table n
 abbrev pub slots_before : ℕ → List KeyValue → ℕ → ℕ
 slots_before w rs n = slot_count (take n (file_tables w rs))
 

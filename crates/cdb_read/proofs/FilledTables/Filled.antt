@@ -83,7 +83,7 @@ count_by-slots_from p home slots =
     let split = sum_by-take-drop (λ (x : WordPair). cond (p x) 1 0) slots home in
     omega arith
 
--- how many slots are used
+-- the number of slots that are used
 abbrev pub used_count : List WordPair → ℕ
 used_count slots = count_by is_used slots
 

@@ -30,7 +30,7 @@ none_counted p (x ∷ xs) none =
     let both = count-cons p x xs in
     All-cons (λ y. p y ≡ false) x xs (elim (cases_Bool (p x)) [ inl t ↦ (let one = counts_one (p x) t in absurd (omega arith)) | inr f ↦ f ]) (none_counted p xs (omega arith))
 
--- whether one does
+-- true if one does
 pub none_any : {X : Type 0} (p : X → Bool) (xs : List X) → count_by p xs ≡ 0 → list_any p xs ≡ false
 none_any p [] none = refl
 none_any p (x ∷ xs) none =

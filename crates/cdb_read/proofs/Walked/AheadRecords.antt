@@ -10,7 +10,7 @@ use Rattle.cdb_read.specs.declared.walking.state.Walking.TheVariants.{At, AtEnd,
 use Rattle.cdb_form.proofs.Files.Prefixes.{all_records, fits_prefix, whole_records-none, whole_records-room}
 use Rattle.cdb_form.proofs.Files.WalkSteps.{walk_from-is, walk_with, stopped}
 
--- how many bytes the whole records at the start of some have
+-- the number of bytes that the whole records at the start of some have
 abbrev pub all_size : ℕ → List ℕ → ℕ
 all_size w bytes = sum_by (record_size w) (all_records w bytes)
 

@@ -17,7 +17,7 @@ abbrev pub left_in : {S L : Type 0} {s : Ghosts S} {l : Widths L} → ℕ → Li
     → Found
 left_in w b t = found_ahead w b t.key.now t.searching
 
--- how many slots it may still look at
+-- the number of slots it may still look at
 abbrev pub probes_left : Searching → ℕ
 probes_left (At probe) = probe.left
 probes_left other = 0

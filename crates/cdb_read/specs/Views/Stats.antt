@@ -32,7 +32,7 @@ pub record Spreads (spread : Spread) (ns : List ℕ) : Type 0 where
   pub greatest : spread.greatest ≡ greatest_of ns
   pub sum : spread.sum ≡ sum ns
 
--- how many distances there are, and how many of each
+-- the number of distances there are, and how many of each
 pub record Counts (distances : Distances) (ds : List ℕ) : Type 0 where
   pub entries : distances.entries ≡ capped (length ds)
   pub collisions : distances.collisions ≡ collisions_of ds

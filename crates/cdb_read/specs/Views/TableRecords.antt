@@ -28,7 +28,7 @@ pub record HasEntry (e : TableRecords) (slot : Slot) (k : ℕ) : Type 0 where
   pub place : slice_index e.places.items k ≡ slot.place
   pub hash : slice_index e.hashes.items k ≡ slot.hash
 
--- whether some of these slots has the place of an entry; and of each entry
+-- true if some of these slots has the place of an entry; and of each entry
 abbrev pub is_told : List WordPair → WordPair → Bool
 is_told slots e = list_any (has_place e) slots
 

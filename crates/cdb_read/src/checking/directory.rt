@@ -79,7 +79,7 @@ impl Directory {
     }
 }
 
-/// Whether the places before this number are below a place.
+/// Returns true if the places before this number are below a place.
 fn is_below(places: &[u64], n: usize, place: u64) -> bool
     ensures { result ≡ true → IsStrictlyIncreasing places.now → (k : ℕ) → k < n
         → get_or places.now k 0 ≡ place → ⊥ }
@@ -87,7 +87,7 @@ fn is_below(places: &[u64], n: usize, place: u64) -> bool
     n == 0 || (n <= places.len() && places[n - 1] < place)
 }
 
-/// Whether the places from this number on are above a place.
+/// Returns true if the places from this number on are above a place.
 fn is_above(places: &[u64], n: usize, place: u64) -> bool
     ensures within { result ≡ true → n ≤ length places.now }
     ensures above { result ≡ true → IsStrictlyIncreasing places.now → (k : ℕ) → n ≤ k

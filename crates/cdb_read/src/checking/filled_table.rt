@@ -51,8 +51,8 @@ fn fill_table<L: Width>(
     Ok(bytes)
 }
 
-/// Whether table `n` is what its records make of it, put in their order, and no slot points to one
-/// of them yet. It counts as another one if memory for it is refused.
+/// Returns true if table `n` is what its records make of it, put in their order, and no slot points
+/// to one of them yet. It counts as another one if memory for it is refused.
 pub(crate) fn is_filled<S: Store, L: Width>(
     alloc: Global,
     store: &mut S,

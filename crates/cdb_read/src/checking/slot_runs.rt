@@ -25,8 +25,8 @@ pub(crate) fn run_with(run: u64, slot: Slot) -> u64
     if slot.place == 0 { 0 } else { run + 1 }
 }
 
-/// How many used slots in a row end a table. The last are looked at first, and many are read at
-/// once.
+/// How many used slots in a row end a table. The last are looked at first, and many are read at a
+/// time.
 pub(crate) fn last_run<S: Store, L: Width>(
     store: &mut S,
     table: Pointer,

@@ -14,7 +14,7 @@ pub(crate) struct TableRecords {
     places: Vec<u64>,
     /// The hash of each record's key.
     hashes: Vec<u32>,
-    /// Whether a slot points to the record.
+    /// True if a slot points to the record.
     marks: Vec<bool>,
     ghost paired: { length hashes.items ≡ length places.items },
     ghost marked: { length marks.items ≡ length places.items },
@@ -56,7 +56,7 @@ impl TableRecords {
         Ok(())
     }
 
-    /// How many there are.
+    /// Returns their number.
     pub(crate) fn len(&self) -> usize
         ensures { result ≡ length self.now.places.items }
     {
@@ -77,7 +77,8 @@ impl TableRecords {
         }
     }
 
-    /// Whether all of them have table `n` and places of at most `top`, and no slot points to one.
+    /// Returns true if all of them have table `n` and places of at most `top`, and no slot points
+    /// to one.
     pub(crate) fn are_fresh(&self, n: u64, top: u64) -> bool
         ensures { result ≡ true → AreFresh n top self.now }
     {
@@ -125,7 +126,7 @@ impl TableRecords {
         }
     }
 
-    /// Whether a slot points to a record.
+    /// Returns true if a slot points to a record.
     pub(crate) fn is_marked(&self, k: usize) -> bool
         requires { k < length self.now.places.items }
         ensures { result ≡ get_or self.now.marks.items k false }

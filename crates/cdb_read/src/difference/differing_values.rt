@@ -12,8 +12,8 @@ use crate::{Finder, Reader, Span};
 use cdb_form::Width;
 use cdb_store::Store;
 
-/// Whether two values have the same bytes. They are read piece by piece, up to the first that
-/// differs.
+/// Returns true if two values have the same bytes. They are read piece by piece, up to the first
+/// that differs.
 fn same_bytes<L: Width, S: Store, T: Store>(
     own: &mut Finder<'_, S, L>,
     value: Span,
@@ -69,7 +69,7 @@ fn next_other<L: Width, T: Store>(other: &mut Finder<'_, T, L>) -> Result<Option
     }
 }
 
-/// Whether the other finder has no value left.
+/// Returns true if the other finder has no value left.
 fn ends<L: Width, T: Store>(other: &mut Finder<'_, T, L>) -> Result<bool, Stop>
     ensures looks { LooksOn other.old other.new }
     ensures ends { (c : List ℕ) → T.image other.new.reader.now.store c
@@ -83,8 +83,8 @@ fn ends<L: Width, T: Store>(other: &mut Finder<'_, T, L>) -> Result<bool, Stop>
     }
 }
 
-/// Whether a value and those that its finder has left are, one by one, those that another finder
-/// has left. The first that differs ends it.
+/// Returns true if a value and those that its finder has left are, one by one, those that another
+/// finder has left. The first that differs ends it.
 fn same_values<L: Width, S: Store, T: Store>(
     own: &mut Finder<'_, S, L>,
     first: Span,
@@ -116,8 +116,8 @@ fn same_values<L: Width, S: Store, T: Store>(
     Ok(false)
 }
 
-/// Whether the value at a place is the first of its key, and the key has other values in the other
-/// database.
+/// Returns true if the value at a place is the first of its key, and the key has other values in
+/// the other database.
 pub(crate) fn is_first_changed<L: Width, S: Store, T: Store>(
     own: &mut Reader<S, L>,
     other: &mut Reader<T, L>,

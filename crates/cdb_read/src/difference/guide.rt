@@ -13,7 +13,7 @@ use cdb_store::Store;
 /// How far ahead, in bytes, a key may be at first if one walk alone is to go on to it.
 const REACH: u64 = 4096;
 
-/// How many equal records pay for a look.
+/// The number of equal records that pay for a look.
 const PRICE: u64 = 4;
 
 /// What is paid at first, and at most: 1024 looks.
@@ -47,7 +47,8 @@ pub(crate) struct Guide {
     credit: u64,
 }
 
-/// How many bytes a place is after another. One that is before it is the farthest.
+/// Returns the number of bytes that a place is after another. One that is before it is the
+/// farthest.
 fn bytes_between(from: u64, to: u64) -> u64
     ensures { result ≡ bytes_between from to }
 {

@@ -4,10 +4,10 @@ ghost use Rattle.cdb_read.specs.Differing.{mark_at, Grows, KeepsOthers};
 
 use std::alloc::{AllocError, Global};
 
-/// How many marks there are, 512 KiB of them.
+/// The number of marks there are, 512 KiB of them.
 const MARKS: usize = 1 << 22;
 
-/// How many marks a word has.
+/// The number of marks that a word has.
 const WORD: usize = 64;
 
 /// A mark for each hash. Hashes with the same low bits share one.
@@ -38,7 +38,7 @@ impl Marks {
         self.words[at / WORD] |= 1 << (at % WORD);
     }
 
-    /// Whether the mark of a hash is set.
+    /// Returns true if the mark of a hash is set.
     pub(crate) fn has(&self, hash: u32) -> bool
         ensures { result ≡ mark_at self.now.words.items hash }
     {

@@ -15,11 +15,11 @@ use cdb_form::{ItemKind, Sink, Width};
 use cdb_store::Store;
 use std::alloc::Global;
 
-/// How many bytes of a value are compared at once.
+/// The number of bytes of a value that are compared at a time.
 const PIECE: usize = 4096;
 
-/// Whether the mark of a record's key is set, and it is the first record of the key, and the key
-/// has other values in the other database. Then `key` has the bytes of the key.
+/// Returns true if the mark of a record's key is set, and it is the first record of the key, and
+/// the key has other values in the other database. Then `key` has the bytes of the key.
 fn is_change<L: Width, S: Store, T: Store>(
     own: &mut Reader<S, L>,
     other: &mut Reader<T, L>,

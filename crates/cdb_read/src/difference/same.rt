@@ -9,15 +9,15 @@ use crate::{AT_HAND, Reader, Span};
 use cdb_form::Width;
 use cdb_store::Store;
 
-/// Whether some bytes are the same.
+/// Returns true if some bytes are the same.
 pub(crate) fn is_same(piece: &[u8], beside: &[u8]) -> bool
     ensures { Decides result (piece.now ≡ beside.now) }
 {
     piece == beside
 }
 
-/// Whether two spans have the same bytes. They are compared piece by piece, up to the first that
-/// differs.
+/// Returns true if two spans have the same bytes. They are compared piece by piece, up to the first
+/// that differs.
 #[inline(always)]
 pub(crate) fn is_same_span<L: Width, S: Store, T: Store>(
     own: &mut Reader<S, L>,

@@ -17,7 +17,8 @@ use crate::window::WINDOW;
 use cdb_form::{Sink, Width, hash, table_number};
 use cdb_store::Store;
 
-/// How many bytes are read at once up to the first value: of most records the key and the value.
+/// The number of bytes that are read at a time up to the first value: of most records the key and
+/// the value.
 const SHORT_RECORD: usize = 256;
 
 /// Finds the values of a key.
@@ -31,7 +32,7 @@ pub struct Finder<'a, S: Store, L: Width> {
     pub(crate) hash: u64,
     /// Where the search is.
     pub(crate) searching: Searching,
-    /// Whether it gave a value. The next ones are mostly near, so more is read at once.
+    /// True if it gave a value. The next ones are mostly near, so more is read at a time.
     pub(crate) has_given: bool,
     ghost inside: { IsSearchInside L.WORD (S.size reader.now.store) searching },
     ghost hashed: { hash ≡ key_hash key.now },
@@ -52,7 +53,7 @@ impl<S: Store, L: Width> Reader<S, L> {
     }
 
     /// The search of a key, which has this hash, from a probe on, up to its next value. So many
-    /// bytes are read at once.
+    /// bytes are read at a time.
     #[inline(always)]
     fn next_met(
         &mut self,
@@ -130,7 +131,7 @@ impl<'a, S: Store, L: Width> Finder<'a, S, L> {
     ghost use Rattle.cdb_read.specs.Views.Finder.{GivesSpan, GivesNone, FindingFails, HasEnded, HasNoTable, HasNoRecord};
     ghost use Rattle.cdb_read.specs.declared.fault.ReadFault.TheVariants.{Table, Record};
 
-    /// The next value. From the second on more bytes are read at once than it needs.
+    /// The next value. From the second on more bytes are read at a time than it needs.
     #[inline(always)]
     pub fn next(&mut self) -> Result<Option<Span>, ReadFault>
         ensures same_reader { self.new.reader.ghost_name ≡ self.old.reader.ghost_name }

@@ -23,7 +23,7 @@ pub enum Look {
     Value(Span),
 }
 
-/// Whether these bytes are at a place. As many are read at once as a window has room for.
+/// Returns true if these bytes are at a place. As many are read at a time as a window has room for.
 #[inline(always)]
 pub(crate) fn bytes_are_at<S: Store>(
     store: &mut S,

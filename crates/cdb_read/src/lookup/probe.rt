@@ -29,7 +29,7 @@ pub struct Probe {
     pub table: Pointer,
     /// The number of the slot.
     pub slot: u64,
-    /// How many slots are left, this one among them.
+    /// The number of slots that are left, this one among them.
     pub left: u64,
 }
 
@@ -50,7 +50,7 @@ impl Probe {
     }
 }
 
-/// Whether a table lies after the head and inside a file of so many bytes.
+/// Returns true if a table lies after the head and inside a file of so many bytes.
 pub fn lies_inside<L: Width>(table: Pointer, size: u64) -> bool
     ensures { Decides result (LiesInside L.WORD size (pointer_pair table)) }
 {

@@ -16,7 +16,7 @@ use crate::window::Window;
 use cdb_form::{Slot, Width};
 use cdb_store::Store;
 
-/// How many bytes of slots are read at once, if no more are to be read ahead.
+/// How many bytes of slots are read at a time, if no more are to be read ahead.
 const SLOTS_AHEAD: usize = 64;
 
 /// What one probe of a search comes to.

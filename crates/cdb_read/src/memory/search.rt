@@ -18,11 +18,11 @@ pub struct Search {
     pub hash: u64,
     /// The place of the table, in bytes from the file's start.
     pub table: u64,
-    /// How many slots the table has.
+    /// The number of slots that the table has.
     pub slots: u64,
     /// The number of the next slot, from 0 on.
     pub slot: u64,
-    /// How many slots are left, that one among them. A search with none left has ended.
+    /// The number of slots that are left, that one among them. A search with none left has ended.
     pub left: u64,
 }
 
@@ -56,7 +56,7 @@ impl Search {
     }
 }
 
-/// Whether a probe's table and slot lie inside a file of so many bytes.
+/// Returns true if a probe's table and slot lie inside a file of so many bytes.
 fn is_inside<L: Width>(probe: Probe, size: u64) -> bool
     ensures { Decides result (ProbeInside L.WORD size probe) }
 {

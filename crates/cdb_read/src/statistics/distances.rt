@@ -1,13 +1,13 @@
 // How far the used slots of tables are from where their searches begin.
 ghost use Rattle.std.specs.Prelude.{ℕ, ◌≡◌, ◌++◌, [], ◌∷◌, List};
 
-/// How many distances are counted apart: 0 to 9, and 10 or more.
+/// The number of distances that are counted apart: 0 to 9, and 10 or more.
 pub(crate) const DISTANCES: usize = 11;
 
 /// Counts of used slots, each of which stops at the greatest number.
 #[derive(Clone, Copy)]
 pub(crate) struct Distances {
-    /// How many they are.
+    /// Their number.
     pub(crate) entries: u64,
     /// How many lie elsewhere than where their searches begin.
     pub(crate) collisions: u64,

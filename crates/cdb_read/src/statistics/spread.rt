@@ -4,7 +4,7 @@ ghost use Rattle.std.specs.Prelude.{ℕ, ◌+◌, ◌*◌, ◌<◌, ◌≤◌, �
 /// What is reported of some numbers. Of none all is 0.
 #[derive(Clone, Copy)]
 pub(crate) struct Spread {
-    /// How many they are.
+    /// Their number.
     pub(crate) count: u64,
     /// The least of them.
     pub(crate) least: u64,

@@ -9,7 +9,7 @@ use crate::statistics::spread::Spread;
 /// average and the greatest of nothing are 0, and an average is rounded down.
 #[derive(Clone, Copy, Debug, PartialEq, Eq)]
 pub struct Stats {
-    /// How many records it has.
+    /// The number of records it has.
     pub records: u64,
     /// The length of the shortest key.
     pub key_least: u64,
@@ -23,11 +23,11 @@ pub struct Stats {
     pub value_average: u64,
     /// The length of the longest value.
     pub value_greatest: u64,
-    /// How many tables have slots.
+    /// The number of tables that have slots.
     pub tables: u64,
-    /// How many slots are used.
+    /// The number of slots that are used.
     pub entries: u64,
-    /// How many used slots lie elsewhere than where their searches begin.
+    /// The number of used slots that lie elsewhere than where their searches begin.
     pub collisions: u64,
     /// The fewest slots of a table that has some.
     pub size_least: u64,
@@ -35,8 +35,8 @@ pub struct Stats {
     pub size_average: u64,
     /// The most slots of a table.
     pub size_greatest: u64,
-    /// How many used slots lie at a distance of 0 to 9 slots from where their searches begin, and
-    /// how many at 10 or more.
+    /// The number of used slots that lie at a distance of 0 to 9 slots from where their searches
+    /// begin, and how many at 10 or more.
     pub distances: [u64; 11],
 }
 

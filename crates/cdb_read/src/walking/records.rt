@@ -12,7 +12,7 @@ use cdb_form::Width;
 use cdb_store::Store;
 use std::alloc::Global;
 
-/// Gives the records of a database, one after the other. Many are read at once.
+/// Gives the records of a database, one after the other. Many are read at a time.
 #[derive(Drop)]
 pub struct Walk<'a, S: Store, L: Width> {
     /// The database.

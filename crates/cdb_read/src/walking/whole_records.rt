@@ -12,7 +12,7 @@ use crate::walking::state::RecordArea;
 use cdb_form::{Width, record_len};
 use cdb_store::Store;
 
-/// How many bytes the whole records at the start of some bytes have together.
+/// Returns the number of bytes that the whole records at the start of some bytes have together.
 fn whole_len<L: Width>(bytes: &[u8]) -> usize
     ensures within { result ≤ length bytes.now }
     ensures whole { result ≡ sum_by (record_size L.WORD)

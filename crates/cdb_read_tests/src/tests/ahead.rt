@@ -1,4 +1,5 @@
-// The further values of a key: many are read at once, and a bad place spoils no value but its own.
+// The further values of a key: many are read at a time, and a bad place spoils no value but its
+// own.
 use super::bad_bytes::opened;
 use super::counting::four_file;
 use super::files::{fused, opened_again, push_words};
@@ -8,7 +9,7 @@ use std::alloc::{AllocError, Global};
 use std::prelude::*;
 use std::test::Fail;
 
-/// How many values the long file has.
+/// The number of values that the long file has.
 const MANY: u64 = 600;
 
 /// The hash of the key `a`, whose table is 196.

@@ -28,14 +28,14 @@ pub(super) fn opened<L: Width>(file: Vec<u8>, bad: Bad<'_>) -> Result<Spoiled<'_
     }
 }
 
-/// Whether a look-up finds this span first, and no bad byte is read.
+/// Returns true if a look-up finds this span first, and no bad byte is read.
 fn finds<L: Width>(file: Vec<u8>, bad: Bad<'_>, key: &[u8], span: Span) -> Result<bool, ReadFault> {
     let mut reader = opened::<L>(file, bad)?;
     let mut finder = reader.find(key);
     Ok(finder.next()? == Some(span))
 }
 
-/// Whether the bytes of a span are given and copied, and no bad byte is read.
+/// Returns true if the bytes of a span are given and copied, and no bad byte is read.
 fn gives<L: Width>(
     alloc: Global,
     file: Vec<u8>,

@@ -24,7 +24,7 @@ impl<'a> BadFile<'a> {
         }
     }
 
-    /// Whether so many bytes from a position on are good.
+    /// Returns true if so many bytes from a position on are good.
     fn is_good(&self, pos: u64, n: usize) -> bool {
         let end = pos.saturating_add(n as u64);
         self.bad

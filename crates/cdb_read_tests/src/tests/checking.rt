@@ -23,7 +23,7 @@ fn checked<L: Width>(alloc: Global, store: Fused) -> Result<(Answer, u64), ReadF
     Ok((answer, reader.into_store().calls()))
 }
 
-/// Whether a check of a file answers this whichever call of the store fails.
+/// Returns true if a check of a file answers this whichever call of the store fails.
 fn always_answers<L: Width>(
     alloc: Global,
     file: &Vec<u8>,
@@ -38,7 +38,8 @@ fn always_answers<L: Width>(
     Ok(same)
 }
 
-/// Whether a check always reports this of the file of two records with other bytes from a place on.
+/// Returns true if a check always reports this of the file of two records with other bytes from a
+/// place on.
 fn of_two(alloc: Global, at: usize, bytes: &[u8], wanted: Answer) -> Result<bool, ReadFault> {
     always_answers::<Narrow>(alloc, &changed(two_file(alloc)?, at, bytes), wanted)
 }
@@ -268,7 +269,7 @@ fn a_slot_behind_an_empty_one_is_told(rt: HostRuntime) -> Result<(), Fail> {
     Ok(())
 }
 
-/// How many records the long table has.
+/// The number of records that the long table has.
 const MANY: u32 = 300;
 
 /// A file of 300 values of the key `a`, whose table 196 has no empty slot: the slot of the first

@@ -21,7 +21,7 @@ fn counted<L: Width>(store: Fused) -> Result<(Answer, u64), ReadFault> {
     Ok((answer, reader.into_store().calls()))
 }
 
-/// Whether this is counted of a file whichever call of the store fails.
+/// Returns true if this is counted of a file whichever call of the store fails.
 fn always_counts<L: Width>(file: &Vec<u8>, wanted: Answer) -> Result<bool, ReadFault> {
     let (answer, calls) = counted::<L>(fused(file.clone()?, u64::MAX))?;
     let mut same = answer == wanted;
@@ -32,7 +32,7 @@ fn always_counts<L: Width>(file: &Vec<u8>, wanted: Answer) -> Result<bool, ReadF
     Ok(same)
 }
 
-/// Whether this is counted of the file of two records with other bytes from a place on.
+/// Returns true if this is counted of the file of two records with other bytes from a place on.
 fn counts_with(alloc: Global, at: usize, bytes: &[u8], wanted: Answer) -> Result<bool, ReadFault> {
     always_counts::<Narrow>(&changed(two_file(alloc)?, at, bytes), wanted)
 }

@@ -15,12 +15,13 @@ fn stays(fault: ReadFault) -> [Answer; 2] {
     [Err(fault), Err(fault)]
 }
 
-/// Whether in a file of words of 4 bytes two keys have these answers.
+/// Returns true if in a file of words of 4 bytes two keys have these answers.
 fn both(file: &Vec<u8>, one: &[Answer], two: &[Answer]) -> Result<bool, ReadFault> {
     Ok(always_gives::<Narrow>(file, b"one", one)? && always_gives::<Narrow>(file, b"two", two)?)
 }
 
-/// Whether a key has these answers in the file of the two records with other bytes from a place on.
+/// Returns true if a key has these answers in the file of the two records with other bytes from a
+/// place on.
 fn gives_with(
     alloc: Global,
     at: usize,

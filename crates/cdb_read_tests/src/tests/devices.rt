@@ -23,7 +23,7 @@ enum Job {
     Copy(Span),
 }
 
-/// Whether a look-up answers `Device`.
+/// Returns true if a look-up answers `Device`.
 fn finding_tells<L: Width>(reader: &mut Reader<Fused, L>, key: &[u8], answers: u8) -> bool {
     let mut finder = reader.find(key);
     for _ in 0..answers {
@@ -34,7 +34,7 @@ fn finding_tells<L: Width>(reader: &mut Reader<Fused, L>, key: &[u8], answers: u
     false
 }
 
-/// Whether a walk does.
+/// Returns true if a walk does.
 fn walking_tells<L: Width>(reader: &mut Reader<Fused, L>, answers: u8) -> bool {
     let mut records = walk(reader);
     for _ in 0..answers {
@@ -45,7 +45,7 @@ fn walking_tells<L: Width>(reader: &mut Reader<Fused, L>, answers: u8) -> bool {
     false
 }
 
-/// Whether a job does.
+/// Returns true if a job does.
 fn job_tells<L: Width>(alloc: Global, reader: &mut Reader<Fused, L>, job: Job) -> bool {
     match job {
         Job::Find(key, answers) => finding_tells(reader, key, answers),

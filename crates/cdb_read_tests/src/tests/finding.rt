@@ -34,7 +34,7 @@ pub(super) fn gives<L: Width>(
     Ok((same, reader.into_store().calls()))
 }
 
-/// Whether the look-up gives these answers whichever call of the store fails.
+/// Returns true if the look-up gives these answers whichever call of the store fails.
 pub(super) fn always_gives<L: Width>(
     file: &Vec<u8>,
     key: &[u8],
@@ -183,7 +183,7 @@ fn all_copied(alloc: Global, store: Fused, key: &[u8]) -> Result<Vec<u8>, ReadFa
     Ok(out)
 }
 
-/// Whether the four values of `a` are copied though the store fails its call of a number.
+/// Returns true if the four values of `a` are copied though the store fails its call of a number.
 fn copies_four(alloc: Global, fails: u64) -> Result<bool, ReadFault> {
     let copied = all_copied(alloc, fused(four_file(alloc)?, fails), b"a")?;
     Ok(copied.as_slice() == b"1234".as_slice())

@@ -35,7 +35,7 @@ impl Write for ShortWriter {
     }
 }
 
-/// Whether a span lies inside the file of a reader.
+/// Returns true if a span lies inside the file of a reader.
 pub(super) fn lies_inside<S: Store, L: Width>(reader: &Reader<S, L>, span: Span) -> bool
     ensures { Decides result (span.place + span.len ≤ S.size reader.now.store) }
 {
@@ -62,7 +62,8 @@ fn value_again<L: Width>(
     reader.value(alloc, span)
 }
 
-/// Whether the value at a span of a file is this one, though the store fails its call of a number.
+/// Returns true if the value at a span of a file is this one, though the store fails its call of a
+/// number.
 fn has_value<L: Width>(
     alloc: Global,
     file: Vec<u8>,
@@ -75,7 +76,8 @@ fn has_value<L: Width>(
     Ok(found.as_slice() == value)
 }
 
-/// Whether a copy of a span answers this to a writer with so much room, which then holds this.
+/// Returns true if a copy of a span answers this to a writer with so much room, which then holds
+/// this.
 fn copies(
     file: Vec<u8>,
     span: Span,
@@ -152,8 +154,8 @@ fn a_copy_leaves_what_its_writer_takes(rt: HostRuntime) -> Result<(), Fail> {
     Ok(())
 }
 
-/// Whether a copy of a span whose store fails at its call of a number leaves a prefix of these
-/// bytes, and the same copy again all of them.
+/// Returns true if a copy of a span whose store fails at its call of a number leaves a prefix of
+/// these bytes, and the same copy again all of them.
 fn copies_again(
     alloc: Global,
     file: Vec<u8>,
@@ -216,7 +218,7 @@ fn four_values_are_given_whichever_call_of_the_store_fails(rt: HostRuntime) -> R
 }
 
 /// The first bytes of the file of two records, so many, opened over a store that fails a call of a
-/// number: why not, and how many bytes the store has that is handed back.
+/// number: why not, and how many bytes the store has that is returned.
 fn refusal(alloc: Global, size: usize, fails: u64) -> Result<Option<(ReadFault, u64)>, AllocError> {
     let mut file = two_file(alloc)?;
     file.truncate(size);

@@ -28,7 +28,7 @@ fn opened(alloc: Global) -> Result<Reader<MemStore, Narrow>, AllocError> {
     }
 }
 
-/// Whether the long value is given, and then the first key of a walk.
+/// Returns true if the long value is given, and then the first key of a walk.
 fn gives_values(alloc: Global, reader: &mut Reader<MemStore, Narrow>) -> Result<bool, ReadFault> {
     if !lies_inside(reader, SPAN) {
         return Ok(false);

@@ -30,7 +30,7 @@ fn gives<L: Width>(store: Fused, wanted: &[Answer]) -> Result<(bool, u64), ReadF
     Ok((same, reader.into_store().calls()))
 }
 
-/// Whether the walk gives these answers whichever call of the store fails.
+/// Returns true if the walk gives these answers whichever call of the store fails.
 fn always_gives<L: Width>(file: &Vec<u8>, wanted: &[Answer]) -> Result<bool, ReadFault> {
     let (mut same, calls) = gives::<L>(fused(file.clone()?, u64::MAX), wanted)?;
     for fails in 0..calls.min(20) {
@@ -40,7 +40,8 @@ fn always_gives<L: Width>(file: &Vec<u8>, wanted: &[Answer]) -> Result<bool, Rea
     Ok(same)
 }
 
-/// Whether a walk of the file of two records with other bytes from a place on gives these answers.
+/// Returns true if a walk of the file of two records with other bytes from a place on gives these
+/// answers.
 fn walks_with(
     alloc: Global,
     at: usize,
@@ -153,7 +154,7 @@ pub(super) fn many(alloc: Global, n: u32) -> Result<Vec<u8>, AllocError> {
     Ok(file)
 }
 
-/// How many records a walk gives, and how many calls its store counted.
+/// Returns the number of records that a walk gives, and how many calls its store counted.
 fn walked(store: Fused) -> Result<(u64, u64), ReadFault> {
     let mut reader = opened_again::<Narrow>(store)?;
     let mut records = walk(&mut reader);

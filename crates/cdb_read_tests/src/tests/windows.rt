@@ -19,8 +19,8 @@ fn read_again<L: Width>(
     }
 }
 
-/// How many bytes each call with a window of a length reads, up to the one that reads none, and
-/// all these bytes.
+/// Returns the number of bytes that each call with a window of a length reads, up to the one that
+/// reads none, and all these bytes.
 fn read_buffered<L: Width>(
     alloc: Global,
     records: &mut Walk<'_, Fused, L>,
@@ -67,7 +67,7 @@ fn reads<L: Width>(
     Ok((same, reader.into_store().calls()))
 }
 
-/// Whether they do so whichever call of the store fails.
+/// Returns true if they do so whichever call of the store fails.
 fn always_reads<L: Width>(
     alloc: Global,
     file: &Vec<u8>,

@@ -1,5 +1,5 @@
--- What a run that writes the difference of two databases leaves, in words of w bytes. An image is one
--- of its store as it was handed back.
+-- What a run that writes the difference of two databases leaves, in words of w bytes. An image is one of its store as
+-- it was returned.
 use Rattle.std.specs.Prelude.{ℕ, ◌≡◌, ◌<◌, ◌≤◌, ⊤, Bool, true, false, nat_lt, if◌then◌else◌, List, length, Option, None, Some, option_map, Result, OnOk, IfErr}
 use Rattle.std.specs.Option.{option_or}
 use Rattle.std.specs.Io.KnownBytes.{Keeps}
@@ -17,7 +17,7 @@ use Rattle.cdb_show.specs.declared.fault.Fault.TheVariants.{Old, New, Output, No
 
 -- ---- what is compared
 
--- how many bytes a word has, and what is known of such stores
+-- the number of bytes that a word has, and what is known of such stores
 pub record DifferenceTask (S T : Type 0) : Type 1 where
   pub word : ℕ
   pub old : Ghosts S
@@ -55,7 +55,7 @@ heads_fault w b c =
     else option_or (option_map (λ n. Old (read.Table n)) (outside_table w b))
     (option_map (λ n. New (read.Table n)) (outside_table w c))
 
--- whether each image of a store lacks tables, and the first table outside of each
+-- true if each image of a store lacks tables, and the first table outside of each
 abbrev pub DifferenceLacks : {S : Type 0} → ℕ → Ghosts S → S → Bool → Type 0
 DifferenceLacks w s store lacks = (b : List ℕ) → s.image store b → lacks_tables w b ≡ lacks
 

@@ -86,8 +86,7 @@ records_asked w g options inputs shared bytes =
 
 -- ---- What look-ups of the keys that inputs give go by, and what they change.
 
--- how many bytes a word has, the greatest length in a text, what is known of such stores, and the
--- options
+-- the number of bytes that a word has, the greatest length in a text, what is known of such stores, and the options
 pub record LookupTask (S : Type 0) : Type 1 where
   pub word : ℕ
   pub greatest : ℕ
@@ -109,7 +108,7 @@ abbrev pub lookup_state : {J I S : Type 0} → Inputs J I → S → (output : Op
 lookup_state inputs store output = record { inputs = inputs; store = store; output = output }
 
 -- ---- What a query of the keys that some inputs give leaves, whatever bytes agree with the readers of the
--- inputs as they come back. An image is one of its store as it was handed back.
+-- inputs as they come back. An image is one of its store as it was returned.
 
 -- ---- the keys, one after the other
 

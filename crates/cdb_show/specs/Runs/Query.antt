@@ -1,5 +1,4 @@
--- What a query of a key leaves, in words of w bytes. An image is one of its store as it was handed
--- back.
+-- What a query of a key leaves, in words of w bytes. An image is one of its store as it was returned.
 use Rattle.std.specs.Prelude.{ℕ, ◌≡◌, ◌≢◌, ◌-◌, ◌<◌, ◌≤◌, Bool, true, false, nat_le, if◌then◌else◌, List, [], ◌∷◌, ◌++◌, length, take, drop, map, flat_map, codes, Option, None, Some, Result, Ok, Err, OnOk, IfErr}
 use Rattle.std.specs.Io.KnownBytes.{Appends, Keeps}
 use Rattle.cdb_store.specs.declared.store.Store.{Ghosts}
@@ -60,7 +59,7 @@ spans_text b q spans =
 abbrev pub query_text : ℕ → List ℕ → Query → List ℕ
 query_text w b q = spans_text b q (lookup_of w b q.key).spans
 
--- whether all is there that is requested: some value, and no damage after the last; or as many values as the number
+-- true if all is there that is requested: some value, and no damage after the last; or as many values as the number
 abbrev pub has_asked : Option ℕ → List Span → Option Damage → Bool
 has_asked (Some number) spans damage = nat_le number (length spans)
 has_asked None spans (Some damage) = false

@@ -66,7 +66,7 @@ stats_text s =
     ++ distance_lines s.distances
 
 -- ---- What writing the statistics of a file leaves, in words of w bytes. An image is one of its store
--- as it was handed back.
+-- as it was returned.
 
 -- what is written of an image
 abbrev pub statistics_text : ℕ → List ℕ → List ℕ

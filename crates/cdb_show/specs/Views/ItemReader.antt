@@ -24,7 +24,7 @@ abbrev pub reader_of : {F L : Type 0} → ItemReader F L → F
 reader_of (Form t removals) = fed.reader_of t
 reader_of (Map t) = fed_map.reader_of t
 
--- how many bytes it took, and how many requests its reader may still get
+-- the number of bytes it took, and how many requests its reader may still get
 abbrev pub taken_of : {F L : Type 0} → ItemReader F L → ℕ
 taken_of (Form t removals) = fed.taken_of t
 taken_of (Map t) = fed_map.taken_of t

@@ -23,7 +23,7 @@ abbrev pub reader_of : {F L : Type 0} → KeyReader F L → F
 reader_of (reader.List t) = fed_list.reader_of t
 reader_of (reader.Map t) = fed_map.reader_of t
 
--- how many bytes it took, and how many requests its reader may still get
+-- the number of bytes it took, and how many requests its reader may still get
 abbrev pub taken_of : {F L : Type 0} → KeyReader F L → ℕ
 taken_of (reader.List t) = fed_list.taken_of t
 taken_of (reader.Map t) = fed_map.taken_of t

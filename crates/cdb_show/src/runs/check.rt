@@ -10,15 +10,14 @@ use cdb_store::Store;
 use std::alloc::Global;
 
 /// Checks whether the database in a store is sound, whatever program made it: its tables and its
-/// records agree. `CALLING.md` of `cdb_read` says what that means for look-ups. The
-/// faults:
+/// records agree. `CALLING.md` of `cdb_read` says what that means for look-ups. The faults:
 /// - `Read(Short)`: the store is shorter than a head, and was not read;
 /// - `Read(Table(n))`, `Read(Record(place))`, `Read(Slot(n, i))`, `Read(Twice(place))`,
 ///   `Read(Unindexed(place))`: the file is not sound, and this is the first of its faults;
 /// - `Read(Device)`: the store failed;
 /// - `NoMemory`: memory ran out. 13 bytes are taken for each record.
 ///
-/// The store is handed back whatever the answer, and was only read.
+/// The store is returned whatever the answer, and was only read.
 // In line it takes room on the stack of a check of standard input, beside that of this call.
 #[inline(never)]
 pub fn check_run<L: Width, S: Store>(alloc: Global, store: S) -> (S, Result<(), Fault>)

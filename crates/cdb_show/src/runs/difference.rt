@@ -84,8 +84,8 @@ fn difference_unflushed<L: Width, S: Store, T: Store, W: Sink>(
 /// By the heads alone is seen, before anything else, and nothing is written then, whether a
 /// database is `Short`, whether one lacks tables, and whether a table lies outside, in this order,
 /// and of each the old one first. After the other faults a prefix of the text was written. Both
-/// stores are handed back whatever the answer, and were only read. The writer is flushed last,
-/// after a fault too.
+/// stores are returned whatever the answer, and were only read. The writer is flushed last, after a
+/// fault too.
 pub fn difference_run<L: Width, S: Store, T: Store, W: Sink>(
     alloc: Global,
     old: S,

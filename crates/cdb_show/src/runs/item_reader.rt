@@ -32,7 +32,7 @@ pub enum ItemReader<F, L> {
     Form {
         /// Reads the text.
         reader: FormReader<F, L>,
-        /// Whether it may remove keys.
+        /// True if it may remove keys.
         removals: bool,
     },
     /// A map text, which only puts records.

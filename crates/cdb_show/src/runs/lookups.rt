@@ -45,7 +45,7 @@ pub(crate) struct LookUps<'a, S: Store, L: Width> {
     pub(crate) reader: Reader<S, L>,
     /// Which records are written, and how.
     pub(crate) options: LookupOptions,
-    /// Whether some key had no value.
+    /// True if some key had no value.
     pub(crate) missing: bool,
     /// What may count the lines of the inputs.
     pub(crate) lines: &'a Lines,

@@ -260,11 +260,11 @@ fn lookups_unflushed<L: Width, S: Store, J: Feeds + Drop, I: Feeds, W: Sink>(
 /// - `Read(Device)`: the store failed; a prefix of the text was written;
 /// - `Output`: the writer failed, and holds a prefix of the text.
 ///
-/// Only after `Missing`, and at Ok, is what ends the text written. The store is handed back
-/// whatever the answer, and was only read. So are the readers of the inputs, each in its place:
-/// what was taken of one after its text, or after the last key, is lost. The writer is flushed
-/// last, after a fault too. If that fails, `Output` takes the place of Ok and of `Missing`. `lines`
-/// may count the lines of the inputs, and then knows afterwards that of a fault.
+/// Only after `Missing`, and at Ok, is what ends the text written. The store is returned whatever
+/// the answer, and was only read. So are the readers of the inputs, each in its place: what was
+/// taken of one after its text, or after the last key, is lost. The writer is flushed last, after a
+/// fault too. If that fails, `Output` takes the place of Ok and of `Missing`. `lines` may count the
+/// lines of the inputs, and then knows afterwards that of a fault.
 pub fn lookups_run<L: Width, S: Store, J: Feeds + Drop, I: Feeds, W: Sink>(
     alloc: Global,
     store: S,

@@ -242,8 +242,8 @@ fn query_unflushed<L: Width, S: Store, W: Sink>(
 /// - `Read(Device)`: the store failed; a prefix of the text was written;
 /// - `Output`: the writer failed, and holds a prefix of the text.
 ///
-/// The store is handed back whatever the answer, and was only read. The writer is flushed last,
-/// after a fault too.
+/// The store is returned whatever the answer, and was only read. The writer is flushed last, after
+/// a fault too.
 ///
 /// Which reads of a store succeeded is not seen. So of `Read(Device)` and `Output` the contract
 /// says that a prefix of the text was written. `query_from`, whose caller keeps the finder, says

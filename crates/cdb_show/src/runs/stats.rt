@@ -39,8 +39,8 @@ fn stats_unflushed<L: Width, S: Store, W: Sink>(store: S, w: &mut W) -> (S, Resu
 }
 
 /// Writes the statistics of the database in a store: how many records it has, how long their keys
-/// and values are, how many tables have slots and how many of these are used, and how far those
-/// are from where searches begin.
+/// and values are, how many tables have slots and how many of these are used, and how far those are
+/// from where searches begin.
 ///
 /// All is counted before anything is written, and no memory is taken. The faults:
 /// - `Read(Short)`: the store is shorter than a head, and was not read;
@@ -49,7 +49,7 @@ fn stats_unflushed<L: Width, S: Store, W: Sink>(store: S, w: &mut W) -> (S, Resu
 /// - `Read(Device)`: the store failed;
 /// - `Output`: the writer failed, and holds a prefix of the text.
 ///
-/// But for `Output` nothing was written then. The store is handed back whatever the answer, and was
+/// But for `Output` nothing was written then. The store is returned whatever the answer, and was
 /// only read. The writer is flushed last, after a fault too.
 pub fn stats_run<L: Width, S: Store, W: Sink>(store: S, w: &mut W) -> (S, Result<(), Fault>)
     ensures tells { TellsStats L.WORD S.Store store result.0 (W.contents w.old) (W.contents w.new)

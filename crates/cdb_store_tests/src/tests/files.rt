@@ -17,13 +17,13 @@ fn leave_two<S: Store>(store: &mut S) -> bool {
         && store.flush().is_ok()
 }
 
-/// Whether a store is `xy`.
+/// Returns true if a store is `xy`.
 fn has_two<S: Store>(store: &mut S) -> bool {
     let mut into = [0; 2];
     store.len() == 2 && store.read_at(0, &mut into).is_ok() && into == *b"xy"
 }
 
-/// Whether a store is `xy`, and stays so when a write and a cut fail.
+/// Returns true if a store is `xy`, and stays so when a write and a cut fail.
 fn only_gives_two<S: Store>(store: &mut S) -> bool {
     let failed = Err(StoreFault::Device);
     let is_there = has_two(store);
@@ -39,7 +39,7 @@ fn a_file_is_made_written_cut_and_read(rt: HostRuntime) -> Result<(), Fail> {
     Ok(())
 }
 
-/// Whether a name is reported as a device that failed.
+/// Returns true if a name is reported as a device that failed.
 fn opening_fails(rt: &HostRuntime, name: &str) -> bool {
     match FileStore::open(rt, name) {
         Ok(_) => false,
@@ -59,7 +59,7 @@ fn names_that_cannot_be_opened(rt: HostRuntime) {
     }
 }
 
-/// Whether a name is refused for a new file.
+/// Returns true if a name is refused for a new file.
 fn is_refused(rt: &HostRuntime, name: &str) -> bool {
     FileStore::create_new(rt, name).is_err()
 }
@@ -81,7 +81,7 @@ fn emptied(rt: &HostRuntime, name: &str) -> io::Result<FileStore> {
     Ok(FileStore::made(RealFile::opened_to_empty(rt, name)?.emptied()?))
 }
 
-/// Whether a name is refused for a file that is to be emptied.
+/// Returns true if a name is refused for a file that is to be emptied.
 fn is_foreign(rt: &HostRuntime, name: &str) -> bool {
     RealFile::opened_to_empty(rt, name).is_err()
 }
@@ -210,7 +210,7 @@ fn write_long<F: RawFile>(file: &mut F) -> Result<bool, RawFault>
     Ok(written == 2 && is_long && has_length(file, (5 << 30) - 1))
 }
 
-/// Whether a raw file has this byte at a position.
+/// Returns true if a raw file has this byte at a position.
 fn has_byte<F: RawFile>(file: &mut F, pos: u64, byte: u8) -> bool
     requires { lost (F.calls file.old) ≡ false }
     ensures { lost (F.calls file.new) ≡ false }

@@ -53,8 +53,8 @@ fn other_calls_fail_and_do_nothing(rt: HostRuntime) -> Result<(), Fail> {
     Ok(())
 }
 
-/// How many calls of the script fail over a buffer whose inner store fails the call after so many,
-/// if each call that is made again succeeds and the bytes are right at last.
+/// Returns the number of calls of the script that fail over a buffer whose inner store fails the
+/// call after so many, if each call that is made again succeeds and the bytes are right at last.
 fn faults_below(alloc: Global, capacity: usize, limit: u64) -> Result<Option<u64>, Fail> {
     let inner = FuseStore::new(MemStore::new(alloc), limit, 1);
     let mut store = buffered(alloc, inner, capacity)?;

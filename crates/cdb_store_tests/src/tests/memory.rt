@@ -3,14 +3,14 @@ use cdb_store::{BufferedStore, MemStore, Store, StoreFault};
 use std::alloc::Global;
 use std::test::Fail;
 
-/// Whether writes in a new store, over what is there and after it, leave `aXYd`.
+/// Returns true if writes in a new store, over what is there and after it, leave `aXYd`.
 fn writes(store: &mut MemStore) -> bool {
     let is_written = store.write_at(0, b"abc").is_ok() && store.write_at(1, b"XY").is_ok();
     let is_longer = store.len() == 3 && store.write_at(3, b"d").is_ok();
     is_written && is_longer && store.bytes() == b"aXYd".as_slice() && store.len() == 4
 }
 
-/// Whether a store of `aXYd` gives the bytes in its middle, and leaves its first two bytes.
+/// Returns true if a store of `aXYd` gives the bytes in its middle, and leaves its first two bytes.
 fn reads_and_cuts(store: &mut MemStore) -> bool {
     let mut into = [0; 2];
     let is_read = store.len() >= 4 && store.read_at(1, &mut into).is_ok() && into == *b"XY";
@@ -18,7 +18,7 @@ fn reads_and_cuts(store: &mut MemStore) -> bool {
     is_read && is_cut && store.bytes() == b"aX".as_slice()
 }
 
-/// Whether nothing is written and read at the end of a store of two bytes.
+/// Returns true if nothing is written and read at the end of a store of two bytes.
 fn takes_nothing<S: Store>(store: &mut S) -> bool {
     let is_written = store.len() == 2 && store.write_at(2, b"").is_ok();
     is_written && store.len() == 2 && store.read_at(2, &mut []).is_ok()
@@ -43,8 +43,8 @@ fn writes_past_the_end(rt: HostRuntime) -> Result<(), Fail> {
     Ok(())
 }
 
-/// Whether a store of `abc` stays as it is if it is refused room, and is handed back so if a buffer
-/// over it is.
+/// Returns true if a store of `abc` stays as it is if it is refused room, and is returned so if a
+/// buffer over it is.
 fn stays(alloc: Global, mut store: MemStore) -> bool {
     let is_refused = store.reserve(1 << 62) == Err(StoreFault::NoMemory);
     let is_whole = store.bytes() == b"abc".as_slice();

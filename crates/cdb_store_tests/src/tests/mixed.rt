@@ -50,7 +50,7 @@ const ROWS: [(Step, u64, u32); 32] = [
     (Step::Flush, 3, 0),
 ];
 
-/// How many bytes a row writes or reads at most.
+/// The number of bytes that a row writes or reads at most.
 const GREATEST_ROW: usize = 8192;
 
 /// Fills with the bytes that a row writes.
@@ -119,7 +119,7 @@ fn rows_met<S: Store>(store: &mut S, in_parts: bool) -> usize {
     ROWS.len()
 }
 
-/// Whether each kind of store meets each row, by itself and below a buffer.
+/// Returns true if each kind of store meets each row, by itself and below a buffer.
 fn all_meet_rows(rt: &HostRuntime, in_parts: bool) -> Result<bool, Fail> {
     let in_memory = rows_met(&mut MemStore::new(rt.alloc()), in_parts);
     let in_file = rows_met(&mut FileStore::create(rt, "rows.store")?, in_parts);

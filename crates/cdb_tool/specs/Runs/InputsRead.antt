@@ -83,8 +83,8 @@ abbrev pub StopsInput : {R S : Type 0} → InputFeeds R S → Parsing Change Tex
 StopsInput feeds p stop before after old new =
     StopsSo feeds.own feeds.shared p stop (before ∷ []) (after ∷ []) old new
 
--- The inputs of a run were read in turn, the first ones whole, with these items, and the readers of those that were
--- not reached are as they were. What the window over the shared reader held was lost when the reader was handed back.
+-- The inputs of a run were read in turn, the first ones whole, with these items, and the readers of those that were not
+-- reached are as they were. What the window over the shared reader held was lost when the reader was returned.
 pub record WereRead {J I : Type 0} (feeds : InputFeeds J I) (p : Parsing Change TextFault)
     (read : List (List Change)) (stop : Stop Change TextFault) (before after : Inputs J I)
     : Type 0 where
@@ -128,8 +128,8 @@ run_state base inputs lines = record { base = base; inputs = inputs; lines = lin
 abbrev pub read_form : {B J I : Type 0} → Terms → RunState B J I → InputForm
 read_form terms before = input_form terms.options.make.style (is_some before.base)
 
--- What a run leaves that read its inputs, by its base as it was and as it was handed back: what `MakeRuns` says of
--- any inputs that agree with what was read. If a reader is the fault, one has failed.
+-- What a run leaves that read its inputs, by its base as it was and as it was returned: what `MakeRuns` says of any
+-- inputs that agree with what was read. If a reader is the fault, one has failed.
 pub record RunsRead {B J I : Type 0} (terms : Terms) (feeds : InputFeeds J I) (s : Ghosts B)
     (before after : RunState B J I) (images : List ℕ → Type 0) (result : Result Unit Fault)
     : Type 0 where

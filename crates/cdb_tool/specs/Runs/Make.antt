@@ -79,7 +79,7 @@ plain o = record { make = o; names = None }
 abbrev pub mode_of : MakeOptions → Mode
 mode_of o = if o.stop then Insert else o.mode
 
--- whether a put met records of its key
+-- true if a put met records of its key
 abbrev pub meets_key : Put → Bool
 meets_key Added = false
 meets_key AddedAgain = true
@@ -211,7 +211,7 @@ abbrev pub OfBase : {B : Type 0} → Ghosts B → Option B → (Option (List ℕ
 OfBase s None P = P None
 OfBase s (Some base) P = (b : List ℕ) → s.image base b → P (Some b)
 
--- a base is handed back, and was read and nothing else
+-- a base is returned, and was read and nothing else
 abbrev pub HandsBack : {B : Type 0} → Ghosts B → Option B → Option B → Type 0
 HandsBack s None None = ⊤
 HandsBack s (Some old) (Some new) = OnlyReads s old new

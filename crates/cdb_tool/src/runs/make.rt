@@ -31,8 +31,8 @@ use std::alloc::Global;
 use std::io::Read;
 use std::mem::replace;
 
-/// Does what an input says from here on, and hands its window back, which goes on after its text.
-/// Its lines are counted if duplicates are explained.
+/// Does what an input says from here on, and returns its window, which goes on after its text. Its
+/// lines are counted if duplicates are explained.
 fn put_text<L: Width, S: Store, F: Feeds + Drop, E: Sink>(
     alloc: Global,
     maker: &mut Maker<S, L>,
@@ -65,8 +65,8 @@ fn put_text<L: Width, S: Store, F: Feeds + Drop, E: Sink>(
     (items.into_reader(), put)
 }
 
-/// Does what an input says, and hands back what the inputs share. The input keeps its reader; what
-/// a window took of it past the text is lost.
+/// Does what an input says, and returns what the inputs share. The input keeps its reader; what a
+/// window took of it past the text is lost.
 fn put_turn<L: Width, S: Store, J: Feeds + Drop, I: Feeds + Drop, E: Sink>(
     alloc: Global,
     maker: &mut Maker<S, L>,
@@ -126,11 +126,11 @@ fn put_turn<L: Width, S: Store, J: Feeds + Drop, I: Feeds + Drop, E: Sink>(
 struct Turns<'a> {
     /// How the run goes.
     run: RunContext<'a>,
-    /// Whether native inputs may remove keys.
+    /// True if native inputs may remove keys.
     amends: bool,
 }
 
-/// Does what some inputs say, one after the other, and hands back what they share.
+/// Does what some inputs say, one after the other, and returns what they share.
 fn put_turns<L: Width, S: Store, J: Feeds + Drop, I: Feeds + Drop, E: Sink>(
     alloc: Global,
     maker: &mut Maker<S, L>,
@@ -192,8 +192,8 @@ fn put_turns<L: Width, S: Store, J: Feeds + Drop, I: Feeds + Drop, E: Sink>(
 /// were done, unless it is broken, and the lines are those of these items. `errors` is not flushed.
 /// The lines of the inputs are counted if duplicates are explained.
 ///
-/// The inputs are handed back whatever the answer; what their windows took past the texts is lost.
-/// The contract holds of whatever bytes agree with what the readers gave.
+/// The inputs are returned whatever the answer; what their windows took past the texts is lost. The
+/// contract holds of whatever bytes agree with what the readers gave.
 pub fn put_inputs<L: Width, S: Store, J: Feeds + Drop, I: Feeds + Drop, E: Sink>(
     alloc: Global,
     maker: &mut Maker<S, L>,
@@ -239,7 +239,7 @@ pub fn put_inputs<L: Width, S: Store, J: Feeds + Drop, I: Feeds + Drop, E: Sink>
     (inputs, put)
 }
 
-/// What a run hands back, and its answer.
+/// What a run returns, and its answer.
 #[derive(Drop)]
 struct Made<S, B, J, I> {
     store: S,
@@ -343,10 +343,10 @@ fn make_unflushed<L: Width, S: Store, B: Store, J: Feeds + Drop, I: Feeds + Drop
 /// If an allocation or the store failed, the lines are those of some first records: `put_inputs`
 /// says which.
 ///
-/// The base is read before any input, 64 KiB at a time. Store and base are handed back whatever
-/// the answer; the base was only read. At Ok the store holds the file of the records that survive,
-/// and nothing else, and has handed it on to what holds its bytes; after a fault it may hold
-/// anything. `errors` is flushed last, after a fault too.
+/// The base is read before any input, 64 KiB at a time. Store and base are returned whatever the
+/// answer; the base was only read. At Ok the store holds the file of the records that survive, and
+/// nothing else, and has handed it on to what holds its bytes; after a fault it may hold anything.
+/// `errors` is flushed last, after a fault too.
 pub fn make_run<L: Width, S: Store, B: Store, R: Read + Drop, E: Sink>(
     alloc: Global,
     store: S,
@@ -392,8 +392,8 @@ pub fn make_run<L: Width, S: Store, B: Store, R: Read + Drop, E: Sink>(
 /// where the text of the one before it ended. A map text leaves nothing. If duplicates are
 /// explained, `run.lines` counts the lines of the inputs, and knows afterwards that of a fault.
 ///
-/// The inputs are handed back whatever the answer; what their windows took past the texts is lost.
-/// The contract holds of whatever bytes agree with what the readers gave: for all inputs that agree
+/// The inputs are returned whatever the answer; what their windows took past the texts is lost. The
+/// contract holds of whatever bytes agree with what the readers gave: for all inputs that agree
 /// with what was read, it says what `make_run` says of its own.
 pub fn make_run_from<L: Width, S: Store, B: Store, J: Feeds + Drop, I: Feeds + Drop, E: Sink>(
     alloc: Global,

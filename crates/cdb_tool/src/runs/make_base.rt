@@ -15,7 +15,7 @@ use cdb_show::Fault;
 use cdb_store::Store;
 use std::alloc::{AllocError, Global};
 
-/// How many bytes of a base are read at once.
+/// The number of bytes of a base that are read at a time.
 const AT_ONCE: usize = 65536;
 
 /// Room for what is read of a base.
@@ -101,8 +101,7 @@ fn add_records<L: Width, S: Store, B: Store>(
     Ok(())
 }
 
-/// Adds all records of a base, if there is one, to a maker that holds none. The base is handed
-/// back.
+/// Adds all records of a base, if there is one, to a maker that holds none. The base is returned.
 pub(crate) fn add_base<L: Width, S: Store, B: Store>(
     alloc: Global,
     maker: &mut Maker<S, L>,

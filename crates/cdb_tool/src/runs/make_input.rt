@@ -35,14 +35,14 @@ fn put_mode(options: &MakeOptions) -> Mode
     }
 }
 
-/// Whether a record is reported whose key was there already.
+/// Returns true if a record is reported whose key was there already.
 fn tells(options: &MakeOptions) -> bool
     ensures { result ≡ (options.now.warn || options.now.stop) }
 {
     options.warn || options.stop
 }
 
-/// Whether a put met records of its key.
+/// Returns true if a put met records of its key.
 fn meets_key(put: Put) -> bool
     ensures { result ≡ meets_key put }
 {
@@ -57,7 +57,7 @@ fn meets_key(put: Put) -> bool
 pub(crate) struct Turn<'a> {
     /// How the run goes.
     pub(crate) run: RunContext<'a>,
-    /// Whether native inputs may remove keys.
+    /// True if native inputs may remove keys.
     pub(crate) amends: bool,
     /// The number of the input, counted from 1.
     pub(crate) number: u64,

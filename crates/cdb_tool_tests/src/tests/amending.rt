@@ -46,7 +46,7 @@ pub(super) struct Amended {
 }
 
 impl Amended {
-    /// Whether the file and the lines are these, and the base is what it was.
+    /// Returns true if the file and the lines are these, and the base is what it was.
     pub(super) fn made(&self, file: &[u8], lines: &[u8], base: &[u8]) -> bool {
         self.answer == Ok(())
             && self.file.as_slice() == file
@@ -54,7 +54,7 @@ impl Amended {
             && self.base.as_slice() == base
     }
 
-    /// Whether it failed so, with these lines, and the base is what it was.
+    /// Returns true if it failed so, with these lines, and the base is what it was.
     fn fails(&self, fault: Fault, lines: &[u8], base: &[u8]) -> bool {
         self.answer == Err(fault) && self.lines.as_slice() == lines && self.base.as_slice() == base
     }
@@ -63,7 +63,7 @@ impl Amended {
 /// A record is removed, and put again with another value.
 const REPLACED_BY_HAND: &[u8] = b"-3:one\n+3,5:one->Again\n\n";
 
-/// The bytes of a base that was handed back.
+/// The bytes of a base that was returned.
 fn handed(alloc: Global, base: Option<MemStore>) -> Vec<u8> {
     match base {
         Some(base) => base.into_vec(),
@@ -227,7 +227,7 @@ fn first_bytes(alloc: Global, many: usize) -> Result<Vec<u8>, AllocError> {
     Ok(bytes)
 }
 
-/// Whether a base is refused so, before an input that is no text is read.
+/// Returns true if a base is refused so, before an input that is no text is read.
 fn refuses(alloc: Global, base: &[u8], limit: u64, fault: Fault) -> Result<bool, AllocError>
     requires least { 2048 ≤ limit }
     requires most { limit ≤ 4294967295 }
@@ -287,8 +287,8 @@ fn over_fuse(
     Ok((answer, base, store.into_vec()))
 }
 
-/// Whether a base of which any call fails is handed back as it was, with that fault, and a run that
-/// meets none makes this file.
+/// Returns true if a base of which any call fails is returned as it was, with that fault, and a run
+/// that meets none makes this file.
 fn hands_back(
     alloc: Global,
     input: &'static [u8],

@@ -18,7 +18,7 @@ fn four_values(alloc: Global, bad: Bad<'_>) -> Result<FileStore<BadFile<'_>>, St
     FileStore::over(BadFile::new(file, bad))
 }
 
-/// Whether a query of a value by its number, from 1 on, has this answer, and writes this.
+/// Returns true if a query of a value by its number, from 1 on, has this answer, and writes this.
 fn answers(
     alloc: Global,
     bad: Bad<'_>,

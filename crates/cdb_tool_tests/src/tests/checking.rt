@@ -21,7 +21,7 @@ fn answer<L: Width>(alloc: Global, file: Vec<u8>) -> Answer {
     check_run::<L, MemStore>(alloc, MemStore::from_vec(file)).1
 }
 
-/// Whether a file, with other bytes from a place on, has this answer.
+/// Returns true if a file, with other bytes from a place on, has this answer.
 fn answers<L: Width>(
     alloc: Global,
     file: File,
@@ -100,7 +100,7 @@ const FAULTY: [Faulty; 10] = [
     ),
 ];
 
-/// Whether a file that is cut in its head is reported so.
+/// Returns true if a file that is cut in its head is reported so.
 fn is_cut_short(alloc: Global) -> Result<bool, AllocError> {
     let mut file = File::Two.bytes(alloc)?;
     file.truncate(2047);
@@ -138,7 +138,7 @@ const SAID: [Said; 3] = [
     ),
 ];
 
-/// Whether the fault of such a file has its line.
+/// Returns true if the fault of such a file has its line.
 fn says(alloc: Global, said: &Said) -> Result<bool, Fault> {
     let (file, place, new, line) = *said;
     let mut written = Vec::new(alloc);
@@ -165,7 +165,7 @@ fn fused(alloc: Global, file: Vec<u8>, calls: u64) -> (Answer, FuseStore<MemStor
     (answer, store)
 }
 
-/// Whether the fault of the store is reported, and a check of what it holds answers so.
+/// Returns true if the fault of the store is reported, and a check of what it holds answers so.
 fn fails_and_goes_again(alloc: Global, file: Vec<u8>, calls: u64, want: Answer) -> bool {
     let (first, store) = fused(alloc, file, calls);
     let again = answer::<Narrow>(alloc, store.into_inner().into_vec());

@@ -93,7 +93,7 @@ fn answer<L: Width, W: Write>(file: Vec<u8>, w: &mut W) -> Answer {
     stats_run::<L, MemStore, W>(MemStore::from_vec(file), w).1
 }
 
-/// Whether a run over a file has this answer, and writes this.
+/// Returns true if a run over a file has this answer, and writes this.
 fn tells<L: Width>(alloc: Global, file: Vec<u8>, want: Answer, text: &[u8]) -> bool {
     let mut out = Vec::new(alloc);
     answer::<L, Vec<u8>>(file, &mut out) == want && out.as_slice() == text
@@ -149,13 +149,13 @@ const CHANGED: [Changed; 4] = [
     (2086, b"\x11", Ok(()), OF_TWO),
 ];
 
-/// Whether a run over a changed file has its answer, and writes its text.
+/// Returns true if a run over a changed file has its answer, and writes its text.
 fn changed_tells(alloc: Global, changed: &Changed) -> Result<bool, AllocError> {
     let (place, new, want, text) = *changed;
     Ok(tells::<Narrow>(alloc, File::Two.changed(alloc, place, new)?, want, text))
 }
 
-/// Whether a file that is cut in its head is reported so.
+/// Returns true if a file that is cut in its head is reported so.
 fn is_cut_short(alloc: Global) -> Result<bool, AllocError> {
     let mut file = File::Two.bytes(alloc)?;
     file.truncate(2047);
@@ -180,8 +180,8 @@ fn fused(alloc: Global, file: Vec<u8>, calls: u64) -> (Answer, Vec<u8>, FuseStor
     (answer, out, store)
 }
 
-/// Whether the fault of the store is reported, with nothing written, and the same run over what it
-/// holds writes all.
+/// Returns true if the fault of the store is reported, with nothing written, and the same run over
+/// what it holds writes all.
 fn fails_and_goes_again(alloc: Global, file: Vec<u8>, calls: u64) -> bool {
     let (answer, out, store) = fused(alloc, file, calls);
     let is_told = answer == damaged(ReadFault::Device) && out.is_empty();

@@ -15,7 +15,7 @@ pub(super) fn made<L: Width>(alloc: Global, text: &[u8]) -> Result<MemStore, Fau
     Ok(MemStore::from_vec(file))
 }
 
-/// Whether the difference of the databases of two texts is a text.
+/// Returns true if the difference of the databases of two texts is a text.
 fn differs<L: Width>(alloc: Global, row: &(&[u8], &[u8], &[u8])) -> Result<bool, Fault> {
     let (old, new) = (made::<L>(alloc, row.0)?, made::<L>(alloc, row.1)?);
     let mut out = Vec::new(alloc);
@@ -120,8 +120,8 @@ fn refused_cut<L: Width>(alloc: Global, old: usize, new: usize) -> Result<Option
 /// Of how many bytes the last table of each file is: two slots of one record in words of 4 bytes.
 const LAST: usize = 16;
 
-/// Whether a cut is seen by the heads, from the first byte that lacks on. The last table of the old
-/// file is that of `b`, of the new one that of `c`; before both is that of `a`.
+/// Returns true if a cut is seen by the heads, from the first byte that lacks on. The last table of
+/// the old file is that of `b`, of the new one that of `c`; before both is that of `a`.
 fn cuts_are_seen<L: Width>(alloc: Global, last: usize) -> Result<bool, Fault> {
     let more = last.saturating_add(1);
     Ok(
@@ -183,7 +183,7 @@ fn ends(alloc: Global, old: u64, new: u64, want: Fault) -> Result<Ended, Fault> 
     })
 }
 
-/// How many calls a difference makes of the old store and of the new one.
+/// Returns the number of calls that a difference makes of the old store and of the new one.
 fn calls_made(alloc: Global) -> Result<(u64, u64), Fault> {
     let first = FuseStore::new(made_long(alloc, OLD)?, u64::MAX, 0);
     let second = FuseStore::new(made_long(alloc, NEW)?, u64::MAX, 0);
@@ -228,7 +228,7 @@ fn the_new_store_fails_at_each_call(rt: HostRuntime) -> Result<(), Fail> {
     Ok(())
 }
 
-/// Whether a writer with so much room holds as much of the text.
+/// Returns true if a writer with so much room holds as much of the text.
 fn holds_front(alloc: Global, room: usize) -> Result<bool, Fault> {
     let (old, new) = (made::<Narrow>(alloc, OLD)?, made::<Narrow>(alloc, NEW)?);
     let mut w = FakeWriter::new(alloc, room);

@@ -17,7 +17,7 @@ fn dumped<L: Width, R: Read + Drop>(alloc: Global, file: R) -> (Result<(), Fault
     (answer, out)
 }
 
-// Whether the answer for a file is this one, and this text was written.
+// Returns true if the answer for a file is this one, and this text was written.
 fn dumps<L: Width, R: Read + Drop>(
     alloc: Global,
     file: R,
@@ -35,7 +35,7 @@ const WHOLE: [(File, &[u8]); 4] = [
     (File::Zeros, b"\n"),
 ];
 
-/// Whether a file with bytes after its tables is dumped.
+/// Returns true if a file with bytes after its tables is dumped.
 fn longer_is_dumped(alloc: Global) -> Result<bool, AllocError> {
     let mut longer = File::Two.bytes(alloc)?;
     longer.extend_from_slice(b"12345")?;
@@ -82,7 +82,7 @@ const CHANGED: [Changed; 6] = [
     ),
 ];
 
-/// Whether a changed file has its answer, and its text is written.
+/// Returns true if a changed file has its answer, and its text is written.
 fn changed_dumps(alloc: Global, changed: &Changed) -> Result<bool, AllocError> {
     let (place, new, want, text) = *changed;
     let file = File::Two.changed(alloc, place, new)?;
@@ -108,7 +108,7 @@ fn cut_answer(cut: usize) -> (&'static [u8], Option<WalkFault>) {
     }
 }
 
-// Whether a file that is cut has that answer, of a reader that then ends or fails.
+// Returns true if a file that is cut has that answer, of a reader that then ends or fails.
 fn cut_dumps(alloc: Global, piece: &[u8], fails: bool) -> bool {
     let (text, damage) = cut_answer(piece.len());
     let reader = FakeReader {
@@ -220,7 +220,7 @@ const LEFT: [(usize, &[u8], usize); 4] = [
     (2048, b"\xff\xff\xff\xff", 2056),
 ];
 
-// Whether this is left of a changed file.
+// Returns true if this is left of a changed file.
 fn leaves(alloc: Global, place: usize, new: &[u8], left: usize) -> Result<bool, AllocError> {
     let file = File::Two.changed(alloc, place, new)?;
     let mut rest = file.as_slice();

@@ -47,8 +47,8 @@ impl FakeWriter {
 }
 
 impl FakeWriter {
-    /// Whether a run that answered so left in it as much of a text as it had room for, and flushed
-    /// it once.
+    /// Returns true if a run that answered so left in it as much of a text as it had room for, and
+    /// flushed it once.
     pub(super) fn holds_prefix(&self, answer: Result<(), Fault>, text: &[u8], room: usize) -> bool {
         let is_whole = room >= text.len();
         let want = if is_whole { Ok(()) } else { Err(Fault::Output) };

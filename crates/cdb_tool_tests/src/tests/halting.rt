@@ -66,8 +66,8 @@ pub(super) fn put_in_memory(alloc: Global) -> Option<(Result<(), Fault>, u64, bo
     Some((answer, count, lines.as_slice() == lines_of(count)))
 }
 
-/// How many records a maker holds whose store failed its call of a number, if it was made. The
-/// lines are to be those of these records.
+/// Returns the number of records that a maker holds whose store failed its call of a number, if it
+/// was made. The lines are to be those of these records.
 fn held(alloc: Global, calls: u64) -> Result<Option<u64>, AllocError> {
     let store = FuseStore::new(MemStore::new(alloc), calls, 0);
     let Ok(mut maker) = Fused::lazy(alloc, store, 4294967295) else {

@@ -158,7 +158,7 @@ const SAID: [(Fault, u8, &str); 37] = [
     ),
 ];
 
-/// Whether a writer takes the line of a fault, which an output of four bytes hands on.
+/// Returns true if a writer takes the line of a fault, which an output of four bytes forwards.
 fn is_said<W: Write>(alloc: Global, fault: &Fault, writer: &mut W) -> Result<bool, AllocError> {
     let mut output = Output::new(alloc, writer, 4)?;
     let is_written = write_fault(fault, &mut output).is_ok();

@@ -60,7 +60,7 @@ fn write_text<R: Read + Drop, W: Write>(
     }
 }
 
-/// Whether the answer for a file is this one, and this text was written.
+/// Returns true if the answer for a file is this one, and this text was written.
 fn writes<R: Read + Drop>(
     alloc: Global,
     file: R,
@@ -73,7 +73,7 @@ fn writes<R: Read + Drop>(
     answer == want && out.as_slice() == written
 }
 
-/// Whether the text of a file is written whole.
+/// Returns true if the text of a file is written whole.
 fn is_written(alloc: Global, file: File, text: Text, want: &[u8]) -> Result<bool, AllocError> {
     let file = file.bytes(alloc)?;
     Ok(writes::<&[u8]>(alloc, &file, text, Ok(()), want))
@@ -100,7 +100,7 @@ fn cut_answer(text: Text, cut: usize) -> (&'static [u8], Option<WalkFault>) {
     }
 }
 
-/// Whether a file that is cut has that answer, of a reader that then ends or fails.
+/// Returns true if a file that is cut has that answer, of a reader that then ends or fails.
 fn cut_writes(alloc: Global, piece: &[u8], text: Text, fails: bool) -> bool {
     let (written, damage) = cut_answer(text, piece.len());
     let reader = FakeReader {
@@ -155,7 +155,7 @@ fn interrupted_reads_are_asked_again(rt: HostRuntime) -> Result<(), Fail> {
     Ok(())
 }
 
-/// Whether a writer with room for so many bytes holds as many of the text.
+/// Returns true if a writer with room for so many bytes holds as many of the text.
 fn leaves_prefix(alloc: Global, file: &[u8], text: Text, room: usize) -> bool {
     let mut w = FakeWriter::new(alloc, room);
     let answer = write_text::<&[u8], _>(alloc, file, text, &mut w);

@@ -16,7 +16,7 @@ fn bytes_in(loaded: Result<MemStore, Fault>) -> Result<Vec<u8>, Fault> {
     }
 }
 
-/// Whether a load of so many bytes at the most gives a file whole.
+/// Returns true if a load of so many bytes at the most gives a file whole.
 fn is_loaded(alloc: Global, file: &[u8], most: u32) -> bool {
     match load::<&[u8]>(alloc, file, u64::from(most)) {
         Ok(store) => store.bytes() == file,
@@ -24,7 +24,7 @@ fn is_loaded(alloc: Global, file: &[u8], most: u32) -> bool {
     }
 }
 
-/// Whether it is too long for that.
+/// Returns true if it is too long for that.
 fn is_too_long(alloc: Global, file: &[u8], most: u32) -> bool {
     bytes_in(load::<&[u8]>(alloc, file, u64::from(most))) == Err(Fault::Long)
 }

@@ -15,7 +15,7 @@ fn made<R: Read + Drop>(alloc: Global, text: R) -> (Result<(), Fault>, Vec<u8>) 
     (answer, out)
 }
 
-// Whether the answer for a text is this one, and this file was written.
+// Returns true if the answer for a text is this one, and this file was written.
 fn makes<R: Read + Drop>(alloc: Global, text: R, want: Result<(), Fault>, file: &[u8]) -> bool {
     let (answer, out) = made(alloc, text);
     answer == want && out.as_slice() == file
@@ -47,7 +47,7 @@ const WIDE: [(&[u8], File, usize); 2] = [
     (b"+3,5:one->Hello\n\n", File::WideOne, 4152),
 ];
 
-/// Whether a wide file is made of a text.
+/// Returns true if a wide file is made of a text.
 fn makes_wide(alloc: Global, text: &[u8], file: &[u8]) -> bool {
     let mut out = Vec::new(alloc);
     let answer = make_bytes::<Wide, &[u8], Vec<u8>>(alloc, text, &mut out);
@@ -76,7 +76,7 @@ const REFUSED: [(&[u8], TextFault, &[u8]); 8] = [
     (b"+3,5:one->Hello\n", TextFault::Ended(16), b""),
 ];
 
-/// Whether a text is refused with nothing written, and with so much of it left.
+/// Returns true if a text is refused with nothing written, and with so much of it left.
 fn is_refused(alloc: Global, text: &[u8], fault: TextFault, left: &[u8]) -> bool {
     let mut w = FakeWriter::new(alloc, 4096);
     let mut rest = text;

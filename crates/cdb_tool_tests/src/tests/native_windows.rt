@@ -272,7 +272,7 @@ fn by_byte(alloc: Global, form: Form, text: &[u8]) -> Result<Outcome, Fail> {
     Ok(Outcome { shown, fault, rest })
 }
 
-/// Whether a text is read in the same way through each window.
+/// Returns true if a text is read in the same way through each window.
 fn is_read_the_same(alloc: Global, form: Form, text: &[u8]) -> Result<bool, Fail> {
     let wanted = by_byte(alloc, form, text)?;
     let mut same = true;

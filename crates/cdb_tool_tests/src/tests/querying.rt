@@ -48,7 +48,7 @@ fn answer<L: Width, W: Write>(file: Vec<u8>, asked: Asked, w: &mut W) -> Answer 
     ask::<L, MemStore, W>(MemStore::from_vec(file), asked, w).1
 }
 
-/// Whether a query of a file has this answer, and writes this.
+/// Returns true if a query of a file has this answer, and writes this.
 fn answers<L: Width>(
     alloc: Global,
     file: Vec<u8>,
@@ -123,7 +123,7 @@ fn worked_and_foreign_files(rt: HostRuntime) -> Result<(), Fail> {
 /// A file with other bytes from a place on, what is requested of it, and what comes.
 type Changed = (File, usize, &'static [u8], Asked, Answer, &'static [u8]);
 
-/// Whether a query of a changed file has its answer, and writes its text.
+/// Returns true if a query of a changed file has its answer, and writes its text.
 fn changed_answers<L: Width>(alloc: Global, changed: &Changed) -> Result<bool, AllocError> {
     let (file, place, new, asked, want, text) = *changed;
     let file = file.changed(alloc, place, new)?;
@@ -323,7 +323,7 @@ const WIDE: [Changed; 4] = [
     ),
 ];
 
-/// Whether a query of a wide file that is cut is reported so.
+/// Returns true if a query of a wide file that is cut is reported so.
 fn is_cut_short(alloc: Global, cut: usize) -> Result<bool, AllocError> {
     let mut file = File::WideNone.bytes(alloc)?;
     file.truncate(cut);
@@ -357,7 +357,7 @@ fn cut_answer(cut: usize, n: u64, end: usize, value: &'static [u8]) -> (Answer, 
     }
 }
 
-/// Whether both keys of the two-record file have that answer if it is cut to a length.
+/// Returns true if both keys of the two-record file have that answer if it is cut to a length.
 fn cut_answers(alloc: Global, file: &Vec<u8>, cut: usize) -> Result<bool, AllocError> {
     let mut file = file.clone()?;
     file.truncate(cut);
@@ -390,17 +390,17 @@ fn fused(
     (answer, out, store)
 }
 
-/// How many calls of its store a query makes.
+/// Returns the number of calls of its store that a query makes.
 fn calls_of(alloc: Global, file: Vec<u8>, asked: Asked) -> u64 {
     fused(alloc, file, u64::MAX, asked).2.calls()
 }
 
-/// How many calls a query makes for the head, of which no more is read than is needed.
+/// The number of calls that a query makes for the head, of which no more is read than is needed.
 const HEAD: u64 = 1;
 
-/// Whether the fault of the store is reported, with a prefix of the text written, and the same
-/// query of what it holds writes all. After the head a query may also write all at once: if bytes
-/// that were only read ahead failed, what is needed is read again.
+/// Returns true if the fault of the store is reported, with a prefix of the text written, and the
+/// same query of what it holds writes all. After the head a query may also write all at once: if
+/// bytes that were only read ahead failed, what is needed is read again.
 fn fails_and_goes_again(
     alloc: Global,
     file: Vec<u8>,
@@ -476,7 +476,7 @@ const WRITTEN: [(Asked, &[u8]); 2] = [
     (Asked::Lines(b"two"), b"Goodbye\n"),
 ];
 
-/// Whether a writer with room for so many bytes holds as many of a text.
+/// Returns true if a writer with room for so many bytes holds as many of a text.
 fn leaves_prefix(alloc: Global, file: Vec<u8>, asked: Asked, text: &[u8], room: usize) -> bool {
     let mut w = FakeWriter::new(alloc, room);
     let answer = answer::<Narrow, _>(file, asked, &mut w);

@@ -227,7 +227,7 @@ fn a_replacing_run_tells_refused_memory(rt: HostRuntime) -> Result<(), Fail> {
 }
 
 /// Whether the two-record file is amended so by a text, and what was answered. `None`: there was no
-/// memory for base and text. The base is to be handed back as it was.
+/// memory for base and text. The base is to be returned as it was.
 fn amended(alloc: Global, text: &'static [u8], two: &[u8], file: &[u8]) -> Option<(bool, bool)> {
     match amend_two(alloc, text, Mode::Warn, Duplicates::Told) {
         Ok(amended) => {
@@ -268,7 +268,7 @@ fn an_amended_base_tells_refused_memory(rt: HostRuntime) -> Result<(), Fail> {
     tell(&rt, amend(rt.alloc(), text, &ONE_AGAIN))
 }
 
-/// Whether the file is loaded whole.
+/// Returns true if the file is loaded whole.
 fn loads(alloc: Global, file: &[u8]) -> Result<bool, Fault> {
     let bytes = load::<&[u8]>(alloc, file, 20_000)?.into_vec();
     Ok(bytes.as_slice() == file)

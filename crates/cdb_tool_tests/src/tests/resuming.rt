@@ -10,8 +10,8 @@ use std::test::Fail;
 
 const DEVICE: Result<(), Fault> = Err(Fault::Read(ReadFault::Device));
 
-/// Whether the values of `a` are all written in two calls, over a store whose call of this number
-/// fails. If it fails while a value is copied, that value alone is missing.
+/// Returns true if the values of `a` are all written in two calls, over a store whose call of this
+/// number fails. If it fails while a value is copied, that value alone is missing.
 fn resumes(alloc: Global, calls: u64) -> Result<bool, AllocError> {
     let store = MemStore::from_vec(File::FourValues.bytes(alloc)?);
     let Ok(mut reader) = Reader::<_, Narrow>::open(FuseStore::new(store, calls, 0)) else {

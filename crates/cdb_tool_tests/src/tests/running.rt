@@ -54,12 +54,12 @@ pub(super) struct Made {
 }
 
 impl Made {
-    /// Whether it answered so, with this file and these lines.
+    /// Returns true if it answered so, with this file and these lines.
     pub(super) fn is(&self, answer: Result<(), Fault>, file: &[u8], lines: &[u8]) -> bool {
         self.answer == answer && self.file.as_slice() == file && self.lines.as_slice() == lines
     }
 
-    /// Whether it failed so, with these lines.
+    /// Returns true if it failed so, with these lines.
     fn fails(&self, fault: Fault, lines: &[u8]) -> bool {
         self.answer == Err(fault) && self.lines.as_slice() == lines
     }
@@ -116,8 +116,8 @@ pub(super) fn run(
     run_style(alloc, inputs, mode, duplicates, Style::Native)
 }
 
-/// Whether a run that warns of duplicates answers so, with these lines, and with this file if it
-/// does not fail.
+/// Returns true if a run that warns of duplicates answers so, with these lines, and with this file
+/// if it does not fail.
 fn warns(
     alloc: Global,
     inputs: &[&'static [u8]],

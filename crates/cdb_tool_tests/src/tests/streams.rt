@@ -29,7 +29,7 @@ const READS: [(&[usize], &[u8], u64); 4] = [
     (&[8, 8, 8, 8], b"abcde", 4),
 ];
 
-/// Whether reads of these sizes give a text, with so many requests.
+/// Returns true if reads of these sizes give a text, with so many requests.
 fn reads(alloc: Global, sizes: &[usize], text: &[u8], asked: u64) -> Result<bool, Fail> {
     let mut reader = CountingReader {
         text: b"abcde",
@@ -47,8 +47,8 @@ fn a_read_asks_its_reader_once_at_most(rt: HostRuntime) -> Result<(), Fail> {
     Ok(())
 }
 
-/// Whether a read of so many bytes, of an input with a window of four, reports the interrupt that
-/// its reader met, and the next read gives so many bytes.
+/// Returns true if a read of so many bytes, of an input with a window of four, reports the
+/// interrupt that its reader met, and the next read gives so many bytes.
 fn reports_an_interrupt(alloc: Global, size: usize, given: usize) -> Result<bool, Fail> {
     let reader = FakeReader {
         interrupts: 1,
@@ -76,7 +76,7 @@ fn an_interrupted_input_reports_it(rt: HostRuntime) -> Result<(), Fail> {
     Ok(())
 }
 
-/// Whether all that a reader gives through a window of so many bytes is this, or it fails.
+/// Returns true if all that a reader gives through a window of so many bytes is this, or it fails.
 fn reads_whole(
     alloc: Global,
     interrupts: u64,
@@ -114,7 +114,7 @@ fn an_input_is_interrupted_1000_times_in_a_row(rt: HostRuntime) -> Result<(), Fa
     Ok(())
 }
 
-/// Whether some pieces are written through a window of four bytes, and flushed.
+/// Returns true if some pieces are written through a window of four bytes, and flushed.
 fn write_through<W: Write>(
     alloc: Global,
     writer: &mut W,
@@ -155,7 +155,7 @@ fn interrupts_are_counted_in_a_row(rt: HostRuntime) -> Result<(), Fail> {
     Ok(())
 }
 
-/// Whether a first flush of some bytes fails, and the second does not.
+/// Returns true if a first flush of some bytes fails, and the second does not.
 fn flushes_again(alloc: Global, writer: &mut FlakyWriter) -> Result<bool, AllocError> {
     let mut output = Output::new(alloc, writer, 4)?;
     let taken = write_whole(&mut output, b"abcd").is_ok();

@@ -338,7 +338,7 @@ fn shown_of(wanted: &Wanted, keeping: Keeping) -> &'static [u8] {
     }
 }
 
-/// Whether a file that comes through a window gives what is wanted.
+/// Returns true if a file that comes through a window gives what is wanted.
 fn is_walked(
     alloc: Global,
     file: Bytes<'_>,
@@ -359,7 +359,7 @@ fn is_walked(
     Ok(left && fault == wanted.fault && shown.as_slice() == shown_of(wanted, keeping))
 }
 
-/// Whether a file gives what is wanted with no window.
+/// Returns true if a file gives what is wanted with no window.
 fn is_walked_plainly(
     alloc: Global,
     file: Bytes<'_>,
@@ -375,8 +375,8 @@ fn is_walked_plainly(
     Ok(left && fault == wanted.fault && shown.as_slice() == shown_of(wanted, keeping))
 }
 
-/// Whether a file gives what is wanted, with no window and through windows of these sizes, over
-/// readers that give so many bytes at once.
+/// Returns true if a file gives what is wanted, with no window and through windows of these sizes,
+/// over readers that give so many bytes at once.
 fn is_walked_by_all(
     alloc: Global,
     file: Bytes<'_>,
@@ -396,7 +396,7 @@ fn is_walked_by_all(
     Ok(is_same)
 }
 
-/// Whether the file of a row gives what is wanted.
+/// Returns true if the file of a row gives what is wanted.
 fn is_row(alloc: Global, row: &Row) -> Result<bool, Fail> {
     let file = row.file.changed(alloc, row.place, row.new)?;
     let bytes = Bytes {
@@ -489,8 +489,8 @@ fn list(alloc: Global, piece: &[u8], text: &[u8]) -> Result<(Result<(), Fault>, 
     Ok((answer, out.as_slice() == text))
 }
 
-/// Whether the file of two records, cut and then failing, has this dump and this list through
-/// a window.
+/// Returns true if the file of two records, cut and then failing, has this dump and this list
+/// through a window.
 fn is_written(
     alloc: Global,
     cut: usize,

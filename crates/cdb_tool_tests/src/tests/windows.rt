@@ -71,7 +71,7 @@ const RECORDS: [(&[u8], &[u8]); 23] = [
 /// The sizes of the windows.
 pub(super) const SIZES: [usize; 6] = [1, 2, 3, 7, 16, 4096];
 
-/// How many bytes a reader gives at once.
+/// The number of bytes that a reader gives at once.
 pub(super) const MOST: [usize; 3] = [1, 2, 4096];
 
 /// Gives a text, so many bytes at once at most.
@@ -171,7 +171,8 @@ const ASKS: [(u64, usize, bool); 5] = [
     (9, 2, true),
 ];
 
-/// How many records come through a window for so many requests, and whether then the end does.
+/// Returns the number of records that come through a window for so many requests, and whether then
+/// the end does.
 fn given_for(alloc: Global, asks: u64, size: usize) -> Result<(usize, bool), Fail> {
     let mut reader = Dripping {
         text: TWO_LINES,

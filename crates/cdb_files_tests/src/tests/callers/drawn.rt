@@ -202,7 +202,7 @@ fn slot(file: &[u8], n: u64, i: u64) -> (u32, u32) {
     (word(file, at), word(file, at + 4))
 }
 
-/// Whether no empty slot lies on the way from the home of a hash to slot `i` of a table.
+/// Returns true if no empty slot lies on the way from the home of a hash to slot `i` of a table.
 fn is_reached(file: &[u8], n: u64, hash: u32, i: u64) -> bool {
     let slots = table(file, n).1.max(1);
     let home = u64::from(hash / 256) % slots;
@@ -224,7 +224,7 @@ fn hash_at(file: &[u8], key: Span) -> u32 {
     hash(behind.get(..key.len as usize).unwrap_or(b""))
 }
 
-/// Whether a slot points to a record of a walk, is in its table, and is reached.
+/// Returns true if a slot points to a record of a walk, is in its table, and is reached.
 fn is_right(file: &[u8], walked: &Came, n: u64, i: u64) -> bool {
     let (hash, place) = slot(file, n, i);
     let mut told = false;
@@ -297,7 +297,7 @@ fn checked(alloc: Global, file: &[u8]) -> Result<Option<ReadFault>, AllocError> 
     Ok(unindexed(&walked, &seen))
 }
 
-/// How many records of a walk have a key.
+/// Returns the number of records of a walk that have a key.
 fn count_of(file: &[u8], walked: &Came, key: &[u8]) -> usize {
     let mut count = 0usize;
     for there in walked.spans.iter().step_by(2) {
@@ -309,7 +309,7 @@ fn count_of(file: &[u8], walked: &Came, key: &[u8]) -> usize {
     count
 }
 
-/// Whether a look-up found the values of a key in a walk, each once, and no damage.
+/// Returns true if a look-up found the values of a key in a walk, each once, and no damage.
 fn has_all(file: &[u8], walked: &Came, key: &[u8], found: &Came) -> bool {
     let mut same = found.damage.is_none() && found.spans.len() == count_of(file, walked, key);
     for (number, value) in found.spans.iter().enumerate() {
@@ -319,8 +319,8 @@ fn has_all(file: &[u8], walked: &Came, key: &[u8], found: &Came) -> bool {
     same
 }
 
-/// Whether a check of a file comes to what a plain one does; and if the file is sound, each look-up
-/// to the values of the walk.
+/// Returns true if a check of a file comes to what a plain one does; and if the file is sound, each
+/// look-up to the values of the walk.
 fn checks(alloc: Global, file: &Vec<u8>) -> Result<bool, AllocError> {
     let Ok(mut reader) = Reader::open(MemStore::from_vec(file.clone()?)) else {
         return Ok(file.len() < 2048);
@@ -379,7 +379,8 @@ fn walk_found(alloc: Global, reader: &mut Reader<MemStore, Narrow>) -> Result<Ca
     Ok(came)
 }
 
-/// Whether a reader of a file comes to what a plain reading does, for each key and for the walk.
+/// Returns true if a reader of a file comes to what a plain reading does, for each key and for the
+/// walk.
 fn agrees(alloc: Global, file: &Vec<u8>) -> Result<bool, AllocError> {
     let mut reader = match Reader::open(MemStore::from_vec(file.clone()?)) {
         Ok(reader) => reader,

@@ -72,7 +72,7 @@ fn a_cut_file_has_lost_its_tables(rt: HostRuntime) -> Result<(), Fail> {
     Ok(())
 }
 
-/// Whether `next` answers a damage from a state, and leaves it.
+/// Returns true if `next` answers a damage from a state, and leaves it.
 fn refuses(file: &[u8], key: &[u8], state: Search, damage: Damage) -> bool {
     let mut search = state;
     let answer = next::<Narrow>(file, key, &mut search);

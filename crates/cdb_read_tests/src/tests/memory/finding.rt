@@ -17,8 +17,8 @@ pub(super) fn value(place: u64, len: u64) -> Answer {
     Ok(Some(Span { place, len }))
 }
 
-/// Whether `begin` and `next` give these answers in turn. A damage of `begin` counts as each
-/// answer.
+/// Returns true if `begin` and `next` give these answers in turn. A damage of `begin` counts as
+/// each answer.
 fn searches<L: Width>(file: &[u8], key: &[u8], wanted: &[Answer]) -> bool {
     if file.len() < head_size::<L>() {
         return false;

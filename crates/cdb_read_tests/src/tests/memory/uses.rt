@@ -5,7 +5,7 @@ use cdb_read::memory::{begin, find, first_record, next, next_record};
 use std::prelude::*;
 use std::test::Fail;
 
-/// Whether a database in memory has a key.
+/// Returns true if a database in memory has a key.
 fn has_key(file: &[u8], key: &[u8]) -> Result<bool, Damage> {
     if file.len() < head_size::<Narrow>() {
         return Ok(false);
@@ -27,7 +27,7 @@ fn first_value<'a>(file: &'a [u8], key: &[u8]) -> Result<Option<&'a [u8]>, Damag
     }
 }
 
-/// How many values a key has.
+/// Returns the number of values that a key has.
 fn count_values(file: &[u8], key: &[u8]) -> Result<u64, Damage> {
     if file.len() < head_size::<Narrow>() {
         return Ok(0);
@@ -41,7 +41,7 @@ fn count_values(file: &[u8], key: &[u8]) -> Result<u64, Damage> {
     Ok(u64::MAX)
 }
 
-/// How many records a database has.
+/// Returns the number of records that a database has.
 fn count_records(file: &[u8]) -> Result<u64, Damage> {
     if file.len() < head_size::<Narrow>() {
         return Ok(0);

@@ -36,7 +36,8 @@ fn two() -> Answer {
     pair(2064, (2072, 3), (2075, 7))
 }
 
-/// Whether a walk gives these answers in turn. A damage of `first_record` counts as each answer.
+/// Returns true if a walk gives these answers in turn. A damage of `first_record` counts as each
+/// answer.
 fn walks<L: Width>(file: &[u8], wanted: &[Answer]) -> bool {
     if file.len() < head_size::<L>() {
         return false;

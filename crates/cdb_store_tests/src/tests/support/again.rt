@@ -4,9 +4,9 @@ use cdb_store::{Store, StoreFault};
 /// What a script met.
 #[derive(Drop)]
 pub struct Outcome {
-    /// How many calls failed.
+    /// The number of calls that failed.
     pub failed: u64,
-    /// Whether each call that was called again answered Ok, or a flush as it should, and each read
+    /// True if each call that was called again answered Ok, or a flush as it should, and each read
     /// gave the right bytes.
     pub is_right: bool,
 }

@@ -64,7 +64,7 @@ impl FakeFile {
     }
 }
 
-/// How many bytes a call of `n` bytes reads or writes.
+/// Returns the number of bytes that a call of `n` bytes reads or writes.
 fn share(trouble: Option<Trouble>, n: usize) -> Result<usize, RawFault>
     requires { 0 < n }
     ensures { IfOk result (λ k. (0 < k) × (k ≤ n)) }
