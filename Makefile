@@ -10,6 +10,8 @@
 # make dist       makes the tarball of the sources that are committed, dist/pezundrix-VERSION.tar.gz, and if they are
 #                 built that of the proved objects, which installs without the toolchain (release/Makefile)
 # make deb        builds it and the C library, and makes the three Debian packages in dist/
+# make release    builds both of a commit on which make test TESTS=proved passed, and makes all of these: at first it writes
+#                 release/SHA256SUMS, which is to be committed
 # make install    installs cdb, its manual pages, completion, guide and license below $(DESTDIR)$(PREFIX)
 # make install-clib  installs the C library, its header and its manual page there
 # make uninstall  removes what these two installed, unless it is another's by now
@@ -35,7 +37,7 @@ KIT = $(dir $(shell $(RT) doc 2> /dev/null))
 HEAP = $(KIT)c/liblibc_c.a $(KIT)c/libos_c.a
 
 
-.PHONY: help all try quick demo test wrong tests heap dist deb install interop bench clean
+.PHONY: help all try quick demo test wrong tests heap dist deb release install interop bench clean
 
 all: $(OUT)/cdb
 
@@ -91,6 +93,14 @@ install: install-program
 deb: $(OUT)/cdb clib
 	@$(PYTHON) tools/package.py deb $(OUT)/cdb dist
 	@$(PYTHON) tools/package.py clib $(OUT) dist
+
+# The tarballs have the sums that are committed, so they are made once those are the objects'.
+release:
+	@$(PYTHON) tools/publish.py ready
+	@$(MAKE) -s $(OUT)/cdb clib
+	@RT='$(RT)' $(PYTHON) tools/publish.py sums $(OUT)/cdb.o $(OUT)/libcdb_c.a
+	@if git diff --quiet HEAD -- release/SHA256SUMS; then $(MAKE) -s dist deb; else \
+		echo "release/SHA256SUMS has the sums of $$(cat VERSION) now: commit it, and run make release again"; fi
 
 interop: $(OUT)/cdb
 	$(PYTHON) tests/interop/run.py $(OUT)/cdb

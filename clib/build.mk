@@ -45,8 +45,9 @@ $(OUT)/libcdb.a: $(ARCHIVED_OBJECTS)
 	$(AR) rc $@ $(ARCHIVED_OBJECTS)
 
 $(OUT)/libcdb.so.1: $(CLIB_OBJECTS) $(OUT)/libcdb_c.a clib/libcdb.map | heap
-	$(filter-out $(KINDS),$(CC) $(CFLAGS) $(LDFLAGS)) -shared -fno-lto -Wl,-soname,libcdb.so.1 -Wl,--version-script=clib/libcdb.map \
-		-Wl,--gc-sections -Wl,-z,relro,-z,now -o $@ $(CLIB_OBJECTS) $(OUT)/libcdb_c.a $(HEAP)
+	$(filter-out $(KINDS),$(CC)) -Wl,--gc-sections -Wl,-z,relro,-z,now $(filter-out $(KINDS),$(CFLAGS) $(LDFLAGS)) \
+		-shared -fno-lto -Wl,-soname,libcdb.so.1 -Wl,--version-script=clib/libcdb.map \
+		-o $@ $(CLIB_OBJECTS) $(OUT)/libcdb_c.a $(HEAP)
 
 $(OUT)/answers $(OUT)/makes: $(OUT)/%: tests/clib/%.c clib/cdb.h $(OUT)/libcdb.so.1
 	$(CC) -O2 -Wall -Wextra $(WERROR) -Iclib -o $@ $< $(OUT)/libcdb.so.1

@@ -87,6 +87,8 @@ def parts_of(program, is_gate):
     code = f"{place}/libcdb_c.a"
     proved = (f"{code}, nor toolchain that builds it,", code if os.path.isfile(os.path.join(TOP, code)) else checker())
     objects = (os.path.join(os.path.dirname(program), "cdb.o"), code)
+    git = ("command git", "git")
+    released = (c, git, *((f"file {it}", it) for it in objects))
     parts = [
         Part("tests/docs/check.py", sources=True),
         Part("tests/cli/run.py", (program,)),
@@ -110,7 +112,9 @@ def parts_of(program, is_gate):
         Part("tests/build/gate.py", sources=True),
         Part("tests/package/version.py", sources=True),
         Part("tests/package/run.py", (program,), (package, static)),
-        Part("tests/package/release.py", objects, (c, ("command git", "git"), *((f"file {it}", it) for it in objects)), sources=True),
+        Part("tests/package/release.py", objects, released, sources=True),
+        Part("tests/package/packagers.py", objects, released, sources=True),
+        Part("tests/package/releasing.py", needs=(c, git, package), sources=True),
         Part("tests/package/installing.py", (program, made["libcdb.so.1"]), (c, proved), (made["libcdb.so.1"],)),
         Part("tests/faults/run.py", (loaded, refuse, "memory"), (c, dynamic), (refuse,)),
         Part("tests/faults/run.py", (loaded, refuse, "calls"), (c, dynamic), (refuse,)),

@@ -15,7 +15,8 @@ A line a minute says what is done and about how long the rest takes, on a termin
 end a table has the time of each part, and below it is each part of the tests that was left out, and each crate and wrong
 body that failed. Nothing passes because it was left out: each crate must be proved or its tests run, each listed wrong body be
 tried, and each part of the tests and each crate's tests pass as many as tools/floors.txt says. The last line counts the tests
-that passed and failed, and each other part that failed as one more. What the parts say goes to files in bin.
+that passed and failed, and each other part that failed as one more. What the parts say goes to files in bin. If nothing failed
+and all is committed, bin/passed names the commit, for tools/publish.py.
 """
 
 import contextlib
@@ -33,7 +34,7 @@ import time
 from build import BYTES_A_SECOND, GATE_DISK, QUIET_SECONDS, checker, interrupt, missing, processors, show_end, work_of
 from edits import FOLDER, edits_of
 from link import links_statically
-from trees import KEPT, Trees, alone_now, files_of, lines_of, read
+from trees import KEPT, Trees, alone_now, commit_of, files_of, lines_of, read
 from unproved import TESTS, crates_of_tests, floors, program_of
 from wrong import chosen
 
@@ -42,6 +43,8 @@ TOOLS = os.path.dirname(os.path.abspath(__file__))
 BUILT, TESTED = "bin", os.path.join("bin", "tested")
 ARCHIVE, LOADED = "libcdb_c.a", "loaded"
 COPY = os.path.join("bin", "gate")
+# Says at which commit the gate passed last, and whether the crates of tests were proved.
+PASSED = os.path.join("bin", "passed")
 BODIES, OF_CRATES = "wrong bodies", "crates' tests"
 COUNTED = re.compile(r"^(\d+) passed, (\d+) failed")
 # What the parts say of a crate, a crate's tests, a wrong body and a part of the tests that is done.
@@ -404,6 +407,14 @@ def refused(top):
     return missing(trees, crates, GATE_DISK)
 
 
+def note_passed(top):
+    """Notes at which commit the gate passed, which a release looks for, if all is committed."""
+    commit = commit_of(top)
+    if commit:
+        with open(PASSED, "w", encoding="utf-8") as file:
+            file.write(f"{commit} {os.environ.get('TESTS', '')}\n")
+
+
 def main():
     if len(sys.argv) != 1 or os.environ.get("TESTS", "") not in ("", "proved"):
         sys.exit(__doc__)
@@ -416,6 +427,8 @@ def main():
                 sys.exit(f"The gate cannot run: {why}")
             for it in (signal.SIGTERM, signal.SIGHUP):
                 signal.signal(it, interrupt)
+            with contextlib.suppress(FileNotFoundError):
+                os.remove(PASSED)
             gate = Gate(top)
             try:
                 gate.run(os.path.join(top, COPY))
@@ -426,6 +439,8 @@ def main():
         sys.exit("The gate runs in this folder already.")
     for line in [*gate.table(), *gate.left_out, *(f"failed: {it}" for it in gate.wrong)]:
         gate.show(line)
+    if not gate.failed:
+        note_passed(top)
     print(f"{gate.passed} passed, {gate.failed} failed")
     sys.exit(1 if gate.failed else 0)
 

@@ -6,7 +6,8 @@ OTHER_LIBRARIES = $(filter-out $(LIBDIR)/%,$(wildcard /usr/lib/libcdb.so.1 /usr/
 
 .PHONY: install-program install-clib uninstall
 
-# What is installed stands in lists, and `make uninstall` removes that and nothing else.
+# What is installed stands in lists, and `make uninstall` removes that and nothing else. A packager, whose tools remove what
+# they installed, writes LISTS= for none.
 LISTS := $(PREFIX)/share/pezundrix
 NOTES := $(PREFIX)/share/doc/pezundrix
 BASH_COMPLETION := $(PREFIX)/share/bash-completion/completions/cdb
@@ -28,7 +29,7 @@ install-program: $(OUT)/cdb
 	install -D -m 644 completion/cdb.fish $(DESTDIR)$(FISH_COMPLETION)
 	install -D -m 644 docs/GUIDE.md $(DESTDIR)$(NOTES)/GUIDE.md
 	install -D -m 644 LICENSE $(DESTDIR)$(NOTES)/LICENSE
-	@sh tools/installed.sh note '$(DESTDIR)' $(LISTS)/program.list $(PROGRAM_FILES)
+	@test -z '$(LISTS)' || sh tools/installed.sh note '$(DESTDIR)' $(LISTS)/program.list $(PROGRAM_FILES)
 
 # The loader may take this library for tinycdb's programs too, so a line says so.
 install-clib: clib
@@ -42,7 +43,7 @@ install-clib: clib
 	sed -e 's|@PREFIX@|$(PREFIX)|' -e 's|@LIBDIR@|$(LIBDIR)|' -e 's|@VERSION@|$(INTERFACE)|' \
 		-e "s|@RELEASE@|$$(cat VERSION)|" clib/libcdb.pc.in > $(OUT)/libcdb.pc
 	install -D -m 644 $(OUT)/libcdb.pc $(DESTDIR)$(LIBDIR)/pkgconfig/libcdb.pc
-	@sh tools/installed.sh note '$(DESTDIR)' $(LISTS)/clib.list $(CLIB_FILES)
+	@test -z '$(LISTS)' || sh tools/installed.sh note '$(DESTDIR)' $(LISTS)/clib.list $(CLIB_FILES)
 	@test -n '$(DESTDIR)' || echo 'Run ldconfig, so that the loader finds the library.'
 	@for other in $(OTHER_LIBRARIES); do \
 		echo "$$other is installed too: programs load the one whose folder the loader searches first"; \

@@ -6,7 +6,7 @@ over the machine's C library. The object is copied beside the program, for a rel
 
 A static program starts without a loader. It is position-independent, as the one that the checker links is. If
 there is no C compiler, or no static C library, TARGET is that one, which needs a C library on the machine that it
-runs on. One line says which.
+runs on. One line says which. The flags of the environment's LDFLAGS come after those of here.
 """
 
 import os
@@ -46,7 +46,7 @@ def links_statically(crate, target):
     if not os.path.isfile(made):
         return False
     shutil.copy(made, os.path.join(os.path.dirname(os.path.abspath(target)), os.path.basename(made)))
-    words = [*compiler(), *FLAGS, "-o", target, made, *archives()]
+    words = [*compiler(), *FLAGS, *shlex.split(os.environ.get("LDFLAGS") or ""), "-o", target, made, *archives()]
     try:
         return subprocess.run(words, capture_output=True, check=False).returncode == 0
     except OSError:

@@ -5,10 +5,12 @@
     tools/package.py deb PROGRAM FOLDER     a program that was built, with its pages, as a package
     tools/package.py clib LIBRARIES FOLDER  libcdb.so.1 and libcdb.a of a folder, as two packages:
                                             the shared library, and what programs are built with
+    tools/package.py source TARBALL FOLDER  the tarball of a release's objects with packaging/debian, as
+                                            the source package of these three
 
 Each prints the SHA-256 of the files that it made. The same commit, and the same program, libraries
 and pages, give the same bytes: every date is that of the version in CHANGELOG.md, or of the commit,
-and every file belongs to root. A package needs the commands `dpkg-deb` and `strip`. If the environment has
+and every file belongs to root. A package needs the commands `dpkg-deb` and `strip`, that of the sources `dpkg-source`. If the environment has
 HOMEPAGE, VCS_GIT or MAINTAINER, as who publishes the packages sets them, each package has that field.
 """
 
@@ -17,78 +19,24 @@ import gzip
 import hashlib
 import os
 import re
+import shutil
 import subprocess
 import sys
 import tempfile
 
 TOP = os.path.join(os.path.dirname(os.path.abspath(__file__)), "..")
 NAME = "pezundrix"
-MAINTAINER = "Pezundrix maintainers <maintainers@users.noreply.pezundrix.example>"
+# What a distribution builds the packages of, beside the tarball of a release.
+DEBIAN = "packaging/debian"
 # The fields that only who publishes the packages knows, and the variables of the environment that give them.
 PUBLISHED = {"Homepage": "HOMEPAGE", "Vcs-Git": "VCS_GIT"}
 PAGES = ("cdb.1", "cdb.5")
 
-CONTROL = """\
-Package: {name}
-Version: {version}
-Architecture: {architecture}
-Maintainer: {maintainer}
-{published}Installed-Size: {size}
-{depends}Conflicts: tinycdb
-Replaces: tinycdb
-Section: utils
-Priority: optional
-Description: make, query and check constant databases (cdb)
- The command cdb makes, queries, lists, dumps and checks constant databases:
- files that map keys to values, made once, looked up often, and replaced
- whole. Mail and name servers keep their maps in them.
- .
- It replaces the command of tinycdb and writes the same files. Every function
- of it is proved to meet its contract.
-"""
-
-SHARED_CONTROL = """\
-Package: {name}-libcdb1
-Source: {name}
-Version: {version}
-Architecture: {architecture}
-Multi-Arch: same
-Maintainer: {maintainer}
-{published}Installed-Size: {size}
-{depends}Provides: libcdb1 (= {interface})
-Conflicts: libcdb1:{architecture}
-Replaces: libcdb1:{architecture}
-Section: libs
-Priority: optional
-Description: library for constant databases (cdb)
- The calls of the library of tinycdb: programs look up keys in constant
- databases, walk over their records, and make databases.
- .
- It replaces libcdb1: a program that was built with either runs with either.
- Its look-ups and its maker are proved to meet their contracts.
-"""
-
-BUILDING_CONTROL = """\
-Package: {name}-libcdb-dev
-Source: {name}
-Version: {version}
-Architecture: {architecture}
-Multi-Arch: same
-Maintainer: {maintainer}
-{published}Installed-Size: {size}
-Depends: {name}-libcdb1 (= {version})
-Provides: libcdb-dev (= {interface})
-Conflicts: libcdb-dev
-Replaces: libcdb-dev
-Section: libdevel
-Priority: optional
-Description: library for constant databases (cdb), development files
- The header, the static library and the manual page of the calls that look up
- keys in constant databases, walk over their records, and make databases.
- .
- It replaces libcdb-dev: a program that was written for either is built with
- either.
-"""
+# The fields of a package, in order. packaging/debian/control has those that are the same in each version.
+ORDER = (
+    *("Package", "Source", "Version", "Architecture", "Multi-Arch", "Maintainer", *PUBLISHED, "Installed-Size", "Depends"),
+    *("Provides", "Conflicts", "Replaces", "Section", "Priority", "Description"),
+)
 
 COPYRIGHT = """\
 Format: https://www.debian.org/doc/packaging-manuals/copyright-format/1.0/
@@ -102,7 +50,7 @@ License: 0BSD
 {license}"""
 
 CHANGELOG = """\
-{name} ({version}) unstable; urgency=medium
+{name} ({version}{revision}) unstable; urgency=medium
 
   * Version {version}. NEWS.gz has what users got.
 
@@ -157,7 +105,7 @@ def architecture_of(program):
 
 
 def depends_of(program):
-    """The field that names the libraries that a program needs, if any."""
+    """The packages of the libraries that a program needs, if any."""
     versions = re.findall(rb"GLIBC_(\d+)\.(\d+)", program)
     needed = []
     if versions:
@@ -165,7 +113,7 @@ def depends_of(program):
         needed.append("libc6 (>= %d.%d)" % least)
     if b"\0libgcc_s.so.1\0" in program:
         needed.append("libgcc-s1")
-    return f"Depends: {', '.join(needed)}\n" if needed else ""
+    return ", ".join(needed)
 
 
 def license_lines():
@@ -176,10 +124,33 @@ def license_lines():
 
 def facts():
     """What the texts of each package name."""
-    maintainer = os.environ.get("MAINTAINER") or MAINTAINER
-    fields = [(it, os.environ.get(variable)) for it, variable in PUBLISHED.items()]
-    published = "".join(f"{it}: {value}\n" for it, value in fields if value)
-    return dict(name=NAME, version=version(), maintainer=maintainer, published=published, interface=interface())
+    return dict(name=NAME, version=version(), maintainer=source_fields()["Maintainer"])
+
+
+def paragraphs():
+    """The paragraphs of packaging/debian/control, each as its fields: that of the source, and those of the packages."""
+    texts = read(DEBIAN, "control").decode().strip("\n").split("\n\n")
+    return [dict(re.findall(r"^([\w-]+): (.*(?:\n .*)*)", it, re.M)) for it in texts]
+
+
+def source_fields():
+    """The fields of the source, with those that who publishes the packages sets."""
+    given = {it: os.environ.get(variable) for it, variable in {**PUBLISHED, "Maintainer": "MAINTAINER"}.items()}
+    return paragraphs()[0] | {it: value for it, value in given.items() if value}
+
+
+def control_of(package, program, size):
+    """The fields of a package, as dpkg reads them, of the program or the library in it and the size of its files in KiB."""
+    source = source_fields()
+    named = {it: source[it] for it in ("Maintainer", "Section", "Priority", *PUBLISHED) if it in source}
+    fields = named | next(it for it in paragraphs()[1:] if it["Package"] == package)
+    fields |= {"Version": version(), "Architecture": architecture_of(program), "Installed-Size": str(size)}
+    fields |= {} if package == NAME else {"Source": NAME}
+    known = {"${shlibs:Depends}": depends_of(program), "${misc:Depends}": "", "${binary:Version}": version()}
+    needed = re.sub(r"\$\{[\w:]+\}", lambda it: known[it[0]], fields.pop("Depends"))
+    needed = ", ".join(it for it in needed.split(", ") if it)
+    fields |= {"Depends": needed} if needed else {}
+    return "".join(f"{it}: {fields[it]}\n" for it in ORDER if it in fields)
 
 
 def interface():
@@ -187,15 +158,23 @@ def interface():
     return re.search(r"^#define TINYCDB_VERSION (.*)$", read("clib", "cdb.h").decode(), re.M)[1]
 
 
+def copyright_text():
+    """The license, as Debian has it."""
+    return COPYRIGHT.format(license=license_lines(), **facts()).encode()
+
+
+def changelog_text(when, revision=""):
+    """The changes, as Debian has them, of the version in some revision."""
+    date = when.strftime("%a, %d %b %Y %H:%M:%S +0000")
+    return CHANGELOG.format(date=date, revision=revision, **facts()).encode()
+
+
 def notes_of(package, when):
     """The license and the changes of a package."""
-    date = when.strftime("%a, %d %b %Y %H:%M:%S +0000")
     notes = f"usr/share/doc/{package}"
-    license_text = COPYRIGHT.format(license=license_lines(), **facts())
-    changes = CHANGELOG.format(date=date, **facts())
     return {
-        f"{notes}/copyright": (0o644, license_text.encode()),
-        f"{notes}/changelog.gz": (0o644, squeezed(changes.encode())),
+        f"{notes}/copyright": (0o644, copyright_text()),
+        f"{notes}/changelog.gz": (0o644, squeezed(changelog_text(when))),
         f"{notes}/NEWS.gz": (0o644, squeezed(read("CHANGELOG.md"))),
     }
 
@@ -209,18 +188,13 @@ def pages_of(*pages):
     }
 
 
-def controlled(files, control, program):
+def controlled(files, package, program):
     """The files of a package with those that describe it. A text is that of a link."""
     held = {name: data for name, (_, data) in files.items() if isinstance(data, bytes)}
     sums = "".join(
         f"{hashlib.md5(data).hexdigest()}  {name}\n" for name, data in sorted(held.items())
     )
-    described = control.format(
-        architecture=architecture_of(program),
-        depends=depends_of(program),
-        size=sum(len(data) // 1024 + 1 for data in held.values()),
-        **facts(),
-    )
+    described = control_of(package, program, sum(len(data) // 1024 + 1 for data in held.values()))
     return files | {
         "DEBIAN/md5sums": (0o644, sums.encode()),
         "DEBIAN/control": (0o644, described.encode()),
@@ -237,7 +211,7 @@ def files_of(program, when):
         f"usr/share/doc/{NAME}/GUIDE.md.gz": (0o644, squeezed(read("docs", "GUIDE.md"))),
         f"usr/share/lintian/overrides/{NAME}": (0o644, OVERRIDES.format(**facts()).encode()),
     }
-    return controlled(files | notes_of(NAME, when) | pages_of(*PAGES), CONTROL, program)
+    return controlled(files | notes_of(NAME, when) | pages_of(*PAGES), NAME, program)
 
 
 # The calls of the library that tinycdb has not.
@@ -263,7 +237,7 @@ def shared_files(library, when):
         f"{where}/libcdb.so.1": (0o644, library),
         f"usr/share/lintian/overrides/{package}": (0o644, overrides),
     }
-    files = controlled(held | notes_of(package, when), SHARED_CONTROL, library)
+    files = controlled(held | notes_of(package, when), package, library)
     # What a package that is built with it depends on, and that the loader's cache is made anew.
     files["DEBIAN/shlibs"] = (0o644, f"libcdb 1 {package} | libcdb1\n".encode())
     files["DEBIAN/symbols"] = (0o644, symbols_of(package).encode())
@@ -283,8 +257,8 @@ def building_files(library, archive, when):
         f"{where}/libcdb_pic.a": (0o777, "libcdb.a"),
         f"{where}/pkgconfig/libcdb.pc": (0o644, described.encode()),
     }
-    notes = notes_of(f"{NAME}-libcdb-dev", when)
-    return controlled(files | notes | pages_of("cdb.3"), BUILDING_CONTROL, library)
+    package = f"{NAME}-libcdb-dev"
+    return controlled(files | notes_of(package, when) | pages_of("cdb.3"), package, library)
 
 
 def described_library(prefix, folder):
@@ -312,17 +286,17 @@ def lay_out(folder, files, when):
 
 def make_package(package, files, architecture, folder):
     """Makes a package of some files, and answers its name."""
-    when = release_time()
     made = os.path.join(folder, f"{package}_{version()}_{architecture}.deb")
     with tempfile.TemporaryDirectory() as tree:
-        lay_out(tree, files, when)
-        subprocess.run(
-            ["dpkg-deb", "--root-owner-group", "-Zgzip", "--build", tree, made],
-            env={**os.environ, "SOURCE_DATE_EPOCH": str(int(when.timestamp()))},
-            stdout=subprocess.DEVNULL,
-            check=True,
-        )
+        lay_out(tree, files, release_time())
+        dated(["dpkg-deb", "--root-owner-group", "-Zgzip", "--build", tree, made])
     return made
+
+
+def dated(words, **how):
+    """Runs a command that dates what it makes as the version is dated."""
+    environment = {**os.environ, "SOURCE_DATE_EPOCH": str(int(release_time().timestamp()))}
+    subprocess.run(words, env=environment, stdout=subprocess.DEVNULL, check=True, **how)
 
 
 def make_deb(path, folder):
@@ -356,6 +330,34 @@ def make_clib(libraries, folder):
     ]
 
 
+def source_files():
+    """The files of the folder debian of the source package: those of packaging/debian, and what is of this version."""
+    fields = "".join(f"{it}: {value}\n" for it, value in source_fields().items())
+    rest = read(DEBIAN, "control").decode().split("\n\n", 1)[1]
+    return {
+        "control": (0o644, f"{fields}\n{rest}".encode()),
+        **{it: (0o644, read(DEBIAN, it)) for it in ("source/format", "tests/control")},
+        "rules": (0o755, read(DEBIAN, "rules")),
+        "changelog": (0o644, changelog_text(release_time(), "-1")),
+        "copyright": (0o644, copyright_text()),
+        f"{NAME}.lintian-overrides": (0o644, OVERRIDES.format(**facts()).encode()),
+        f"{NAME}-libcdb1.lintian-overrides": (0o644, SHARED_OVERRIDES.format(**facts()).encode()),
+        f"{NAME}-libcdb1.symbols": (0o644, symbols_of(f"{NAME}-libcdb1").encode()),
+    }
+
+
+def make_source(tarball, folder):
+    """Makes the source package of a release's tarball, and answers the names of its files."""
+    whole = f"{NAME}_{version()}"
+    original = os.path.join(folder, f"{whole}.orig.tar.gz")
+    shutil.copy(tarball, original)
+    with tempfile.TemporaryDirectory() as tree:
+        subprocess.run(["tar", "-xzf", original, "-C", tree, "--strip-components=1"], check=True)
+        lay_out(os.path.join(tree, "debian"), source_files(), release_time())
+        dated(["dpkg-source", "--build", tree], cwd=folder)
+    return [original, *(os.path.join(folder, f"{whole}-1.{it}") for it in ("debian.tar.xz", "dsc"))]
+
+
 def committed(whole, *paths):
     """The files of the commit that is checked out, all or those at some paths, as a tarball of a folder."""
     words = ["git", "-c", "tar.umask=0022", "archive", "--format=tar", f"--prefix={whole}/", "HEAD", *paths]
@@ -380,7 +382,7 @@ def make_dist(folder):
 
 def main():
     kind, *words = sys.argv[1:] or [""]
-    makers = {("dist", 1): make_dist, ("deb", 2): make_deb, ("clib", 2): make_clib}
+    makers = {("dist", 1): make_dist, ("deb", 2): make_deb, ("clib", 2): make_clib, ("source", 2): make_source}
     if (kind, len(words)) not in makers:
         sys.exit(__doc__)
     os.makedirs(words[-1], exist_ok=True)

@@ -5,9 +5,11 @@
 
 OBJECT is the program's, cdb.o, and LIBRARY the proved code of the C library, libcdb_c.a, as make and make clib leave
 them; the toolchain's C comes from the toolchain. The tarball has these four with their sums, the Makefile of the folder
-release, and of the commit that is checked out what is installed, the pages, and the tests that need no toolchain. The
-same commit and objects give the same bytes. If something is missing, or of another version, one line says what, and no
-tarball is made.
+release, and of the commit that is checked out what is installed, the pages, the packagers' files, and the tests that need
+no toolchain. The same commit and objects give the same bytes. If something is missing, or of another version, or if the
+version was released with other objects, one line says so, and no tarball is made.
+
+release/SHA256SUMS has the sums of the last release's objects, as tools/publish.py writes them, and one of their sources.
 """
 
 import hashlib
@@ -18,25 +20,62 @@ import shutil
 import sys
 import tarfile
 
+from build import named_toolchain
 from link import archives
 from package import NAME, TOP, committed, release_time, squeezed, version
+from trees import SOURCES, crates_below, files_of, libraries_of, read
 
 MAKEFILE = "release/Makefile"
 # The sums of the last release's objects, as they are in the tarball, too.
 SUMS = "release/SHA256SUMS"
 OBJECTS = "objects"
+# The crates of which the objects are, and what else the program and the C library are made of.
+BUILT = ("cdb", "cdb_c")
+BESIDE = ("VERSION", "crates.txt", "clib/")
 # What the tarball has of the commit, beside its own Makefile.
 HELD = (
     *("LICENSE", "VERSION", "README.md", "CHANGELOG.md", "CONTRIBUTING.md", "SECURITY.md", "docs", "man", "clib", "completion", SUMS),
+    "packaging",
     *("tools/install.mk", "tools/installed.sh", "tools/package.py"),
     *("tests/run.py", "tests/cli", "tests/clib", "tests/faults", "tests/growth", "tests/package"),
 )
 
 
+class Missing(Exception):
+    """Why there is no release of these objects."""
+
+
+def sum_of_sources():
+    """The sum of all that the program and the C library are made of, their toolchain's name included."""
+    libraries = libraries_of(TOP)
+    crates = {it for built in BUILT for it in crates_below(libraries, built)}
+    folders = tuple(f"crates/{crate}/{part}/" for crate in crates for part in SOURCES)
+    found = hashlib.sha256(named_toolchain(TOP).encode())
+    for name in sorted(it for it in files_of(TOP) if it.startswith((*folders, *BESIDE))):
+        with open(os.path.join(TOP, name), "rb") as file:
+            found.update(f"{name} {hashlib.sha256(file.read()).hexdigest()}\n".encode())
+    return found.hexdigest()
+
+
+def heading(of):
+    """The first line of the sums of a version's objects."""
+    return f"# The objects of {NAME} {of}.\n"
+
+
 def sums_of(objects):
-    """The sums of the objects, as sha256sum reads them, with the version that they are of."""
+    """The sums of the objects, as sha256sum reads them, with the version and the sources that they are of."""
     lines = [f"{hashlib.sha256(data).hexdigest()}  {name}\n" for name, data in objects.items()]
-    return f"# The objects of {NAME} {version()}.\n{''.join(lines)}"
+    return f"{heading(version())}# Sources {sum_of_sources()}.\n{''.join(lines)}"
+
+
+def released():
+    """The sums of the last release's objects."""
+    return read(TOP, SUMS)
+
+
+def is_of_release():
+    """Whether this tree has the sources of the last release."""
+    return f"{heading(version())}# Sources {sum_of_sources()}.\n" in released()
 
 
 def read_all(paths):
@@ -46,15 +85,9 @@ def read_all(paths):
         try:
             with open(path, "rb") as file:
                 objects[os.path.basename(path)] = file.read()
-        except OSError:
-            missing(f"{path} is not there")
+        except OSError as fault:
+            raise Missing(f"{path} is not there") from fault
     return objects
-
-
-def missing(why):
-    """Says why no tarball is made, and ends."""
-    print(f"No tarball of the objects: {why}")
-    sys.exit()
 
 
 def with_files(tar, whole, files):
@@ -73,22 +106,22 @@ def make_release(program, library, folder):
     """Makes the tarball of a program's object and a library, and answers its name."""
     checker = os.environ.get("RT") or "rt"
     if shutil.which(checker) is None:
-        missing(f"they need the toolchain's C, and there is no command {checker}")
+        raise Missing(f"they need the toolchain's C, and there is no command {checker}")
     objects = read_all([program, library, *archives()])
     if f"cdb {version()} ({NAME.capitalize()})\n".encode() not in objects[os.path.basename(program)]:
-        missing(f"{program} is of another version than {version()}")
+        raise Missing(f"{program} is of another version than {version()}")
     sums = sums_of(objects)
-    with open(os.path.join(TOP, SUMS), encoding="utf-8") as file:
-        if file.read() != sums:
-            print(f"{SUMS} has other sums than these objects. A release has these:\n{sums}", end="")
+    if heading(version()) in released() and sums != released():
+        raise Missing(f"{version()} was released with others, whose sums {SUMS} has")
     with open(os.path.join(TOP, MAKEFILE), "rb") as file:
         files = {"Makefile": file.read()}
     files |= {f"{OBJECTS}/{name}": data for name, data in objects.items()}
     files[f"{OBJECTS}/SHA256SUMS"] = sums.encode()
     whole = f"{NAME}-{version()}-{platform.machine()}-linux"
     made = os.path.join(folder, f"{whole}.tar.gz")
+    data = squeezed(with_files(committed(whole, *HELD), whole, files))
     with open(made, "wb") as file:
-        file.write(squeezed(with_files(committed(whole, *HELD), whole, files)))
+        file.write(data)
     return made
 
 
@@ -96,7 +129,11 @@ def main():
     if len(sys.argv) != 4:
         sys.exit(__doc__)
     os.makedirs(sys.argv[3], exist_ok=True)
-    made = make_release(*sys.argv[1:])
+    try:
+        made = make_release(*sys.argv[1:])
+    except Missing as why:
+        print(f"No tarball of the objects: {why}")
+        return
     with open(made, "rb") as file:
         print(f"{hashlib.sha256(file.read()).hexdigest()}  {made}")
 

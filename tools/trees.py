@@ -31,13 +31,29 @@ def read(*path):
 
 def files_of(top):
     """The files of the repository: those that git tracks, or all if this is no clone."""
-    listed = subprocess.run(["git", "ls-files", "-z"], cwd=top, capture_output=True, text=True, check=False)
-    found = listed.stdout.split("\0") if listed.returncode == 0 else []
+    found = git(top, "ls-files", "-z").split("\0")
     if not any(found):
         for place, folders, names in os.walk(top):
             folders[:] = [it for it in folders if it not in NOT_SOURCES]
             found += [os.path.relpath(os.path.join(place, it), top) for it in names]
     return [it for it in found if os.path.isfile(os.path.join(top, it))]
+
+
+def git(top, *words):
+    """What git says of a repository, or an empty text if it fails or this is no clone."""
+    done = subprocess.run(["git", *words], cwd=top, capture_output=True, text=True, check=False)
+    return done.stdout if done.returncode == 0 else ""
+
+
+def uncommitted(top):
+    """The first file that is not as the commit that is checked out has it, or None."""
+    lines = git(top, "status", "--porcelain").splitlines()
+    return lines[0][3:] if lines else None
+
+
+def commit_of(top):
+    """The commit that is checked out, or an empty text if this is no clone or something is not committed."""
+    return "" if uncommitted(top) else git(top, "rev-parse", "--verify", "HEAD").strip()
 
 
 def lines_of(top):

@@ -173,7 +173,7 @@ def refused(it):
         with mock.patch("shutil.disk_usage", return_value=SimpleNamespace(free=build.DISK - 1)):
             yield "disk", f"{build.DISK / 1e9:.1f} GB of disk" in build.missing(made, BUILT)
         with mock.patch("build.memory", return_value=build.CHECK_MEMORY - 1):
-            yield "memory", "4 GB of memory" in build.missing(made, BUILT)
+            yield "memory", "5 GB of memory" in build.missing(made, BUILT)
         it.write("README.md", "Proved with: `a-kit logic 5678`.\n")
         yield "logic", "README.md names" in build.missing(made, BUILT)
 

@@ -7,7 +7,8 @@ OBJECT is the program's, cdb.o, and LIBRARY the code of the C library, libcdb_c.
 checker's. What is built must run the worked example of tests/cli/files.py: by the C compiler in the environment's CC,
 else `cc`, and by clang if it is there, and as each flag says that a program is linked. Then what can go wrong: a tarball
 without its objects or with others, a compiler without a static C library, an install over a program that runs, an
-uninstall of what was changed since. The tree's own targets must say in one line what they lack. In a tree that is no
+uninstall of what was changed since. If this tree has the sources of the last release, the objects must be those of
+release/SHA256SUMS. The tree's own targets must say in one line what they lack. In a tree that is no
 git checkout nothing is tested, and the last line says so.
 """
 
@@ -22,15 +23,19 @@ import tempfile
 from held import tell
 from run import TOP, is_checkout, runs_example
 
-TOOL = os.path.join(TOP, "tools", "release.py")
+TOOL, PUBLISH = (os.path.join(TOP, "tools", it) for it in ("release.py", "publish.py"))
 # How a program is linked, and whether it is loaded then.
 KINDS = {"-pie": True, "-no-pie": True, "-static": False, "-static-pie": False}
+# The note of a program or a library that has the name of its build.
+BUILD_ID = b"\x04\x00\x00\x00\x14\x00\x00\x00\x03\x00\x00\x00GNU\x00"
 # What is installed, beside the files of the C library.
 INSTALLED = """bin/cdb share/man/man1/cdb.1 share/man/man5/cdb.5 share/doc/pezundrix/GUIDE.md share/doc/pezundrix/LICENSE
     share/bash-completion/completions/cdb share/zsh/site-functions/_cdb share/fish/vendor_completions.d/cdb.fish
     include/cdb.h lib/libcdb.so.1 lib/libcdb.a lib/pkgconfig/libcdb.pc share/man/man3/cdb.3""".split()
+# What a packager's install has.
+ALL = [*INSTALLED, "lib/libcdb.so", "lib/libcdb_pic.a"]
 # The targets of the tree that need the toolchain, or a checkout.
-TARGETS = "all try quick demo test wrong clib dist deb install install-clib interop bench".split()
+TARGETS = "all try quick demo test wrong clib dist deb release install install-clib interop bench".split()
 # Compilers: one that links nothing statically, as where there is no static C library, and one whose programs do not
 # run, as with a C library for which the objects are not made.
 NO_STATIC = """#!/bin/sh
@@ -127,6 +132,9 @@ def made_of(release):
         to.write(re.sub(rb"cdb \d\S+ \(Pezundrix\)", b"cdb 0.0.1 (Pezundrix)", read(program)))
     made, said = release.made(old, library)
     yield "no tarball of another version", made is None and said.count("\n") == 1 and "is of another version" in said
+    compared = subprocess.run([PUBLISH, "compare", program, library], stdout=subprocess.PIPE, stderr=subprocess.STDOUT, text=True, check=False)
+    if not compared.stdout.startswith("These are not the sources"):
+        yield f"the objects are those of the release: {compared.stdout}", compared.returncode == 0
 
 
 def is_built(machine, tree, *words):
@@ -151,6 +159,10 @@ def builds(release):
         tree = release.tree()
         built = is_built(machine, tree, f"CC={compiler()}", f"LDFLAGS={kind}")
         yield f"{compiler()} builds it by {kind}", built and is_loaded(f"{tree}/bin/cdb") == loaded
+    yield f"{compiler()} gives it no name of its build", BUILD_ID not in read(f"{tree}/bin/cdb")
+    tree = release.tree()
+    built = is_built(machine, tree, f"CC={compiler()}", "LDFLAGS=-pie -Wl,--build-id=sha1")
+    yield "the flags of a packager win", built and BUILD_ID in read(f"{tree}/bin/cdb") and BUILD_ID in read(f"{tree}/bin/libcdb.so.1")
     if shutil.which("clang"):
         yield "clang builds it", is_built(machine, release.tree(), "CC=clang")
 
@@ -235,6 +247,10 @@ def installs(release):
     yield "it is removed but what was changed", status == 0 and files_below(root) == {os.path.relpath(changed, root)}
     yield "a line says what stays", lines == [f"{changed} is another's by now: it stays"]
     yield "it is removed once", machine.make(tree, *words, "uninstall")[1][0].startswith("Nothing is removed")
+    plain = machine.place("packaged")
+    status, _ = machine.make(tree, words[0], f"DESTDIR={plain}", "PREFIX=/usr", "LISTS=", "install")
+    listed = {it for it in files_below(plain) if it.startswith("usr/share/pezundrix")}
+    yield "it is installed without a list for a packager", status == 0 and not listed and len(files_below(plain)) == len(ALL)
 
 
 def has_tests(release):

@@ -5,7 +5,8 @@
 
 The example is the text of two records and its file, worked out by hand in tests/cli/files.py. If
 `lintian` is installed it may find no error and warn of nothing, and if `mandoc` is, neither may it. In a git
-checkout the tarball of the sources is made twice too. Without `dpkg-deb` nothing is tested, and the last line says so.
+checkout the tarball of the sources is made twice too. Root installs the package in a folder, over an older one and over
+one of tinycdb's name. Without `dpkg-deb` nothing is tested, and the last line says so.
 """
 
 import hashlib
@@ -21,6 +22,7 @@ HERE = os.path.dirname(os.path.abspath(__file__))
 TOP = os.path.join(HERE, "..", "..")
 sys.path.insert(0, os.path.join(HERE, "..", "cli"))
 
+import upgrades
 from files import TWO_FILE, TWO_TEXT
 from held import tell
 
@@ -73,28 +75,32 @@ def holds_files(tree):
     return all(os.path.isfile(it) and os.stat(it).st_mode & 0o7777 == mode for it, mode in paths.items())
 
 
-def bash_letters(tree):
-    """The letters to which bash completes a hyphen."""
+def bash_lines(tree, word, kind):
+    """What bash completes a word to: a list that it shows (63), or what it inserts one after the other (37)."""
     script = os.path.join(tree, "usr", "share", "bash-completion", "completions", "cdb")
-    asked = f'source {script}; COMP_WORDS=(cdb -); COMP_CWORD=1; _cdb; echo "${{COMPREPLY[@]}}"'
-    return {it[1] for it in output_of(["bash", "-c", asked]).decode().split()}
+    asked = f'source {script}; COMP_WORDS=(cdb {word}); COMP_CWORD=1; COMP_TYPE={kind}; _cdb; printf "%s\\n" "${{COMPREPLY[@]}}"'
+    return output_of(["bash", "-c", asked]).decode().splitlines()
 
 
 def other_letters(tree):
     """The letters that zsh and fish get, each with what it does."""
     for name, letter in {
-        "zsh/vendor-completions/_cdb": r"^\t'(?:\([^)]*\))?-(\w)\[\w[^]]+\]",
-        "fish/vendor_completions.d/cdb.fish": r"^complete -c cdb -s (\w)(?: -\w)* -d '\w[^']+'$",
+        "zsh/vendor-completions/_cdb": r"^\t'(?:\([^)]*\))?-(\w)\[(\w[^]]+)\]",
+        "fish/vendor_completions.d/cdb.fish": r"^complete -c cdb -s (\w)(?: -\w)* -d '(\w[^']+)'$",
     }.items():
         with open(os.path.join(tree, "usr", "share", name), encoding="utf-8") as file:
-            yield set(re.findall(letter, file.read(), re.M))
+            yield {(it, meaning[0].lower() + meaning[1:]) for it, meaning in re.findall(letter, file.read(), re.M)}
 
 
 def completes(program, tree):
-    """Whether each shell completes a hyphen to the letters of the usage text."""
+    """Whether each shell completes a hyphen to the letters of the usage text, and says the same of each; bash inserts the
+    letters alone."""
     usage = output_of([program, "-h"]).decode()
     named = set(re.findall(r"-([A-Za-z])\b", usage)) | set("".join(re.findall(r"\[-([a-z]+)\]", usage)))
-    return all(named == letters for letters in (bash_letters(tree), *other_letters(tree)))
+    shown = {(it[1], it[4:]) for it in bash_lines(tree, "-", 63)}
+    is_same = {it for it, _ in shown} == named and all(shown == others for others in other_letters(tree))
+    inserted = {f"-{it}" for it in named}
+    return is_same and set(bash_lines(tree, "-", 37)) == inserted and bash_lines(tree, "-q", 63) == ["-q"]
 
 
 def conflicts(package):
@@ -132,6 +138,12 @@ def has_no_error(package):
     return not errors
 
 
+def version():
+    """The version of this tree."""
+    with open(os.path.join(TOP, "VERSION"), encoding="ascii") as file:
+        return file.read().strip()
+
+
 def is_checkout():
     """Whether git knows the commit of this tree."""
     if shutil.which("git") is None:
@@ -154,6 +166,10 @@ def tests_of(program, folder):
         "each shell completes the letters": completes(program, tree),
         "the example runs from the package": runs_example(os.path.join(tree, "usr", "bin", "cdb"), folder),
     }
+    if os.geteuid() == 0:
+        held |= upgrades.rows(package, version(), folder)
+    else:
+        print("left out: tests/package/run.py: root alone installs a package")
     if shutil.which("lintian"):
         held["lintian finds nothing of weight"] = has_no_error(package)
     if shutil.which("mandoc"):

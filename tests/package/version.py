@@ -2,6 +2,8 @@
 """Compares the version of VERSION with each place that names it.
 
     tests/package/version.py
+
+A version without `~dev` is that of one tree: once it was released, other sources need a version of their own.
 """
 
 import datetime
@@ -13,9 +15,16 @@ import sys
 from held import tell
 
 TOP = os.path.join(os.path.dirname(os.path.abspath(__file__)), "..", "..")
-# A file of a release, as pages name it.
+sys.path.insert(0, os.path.join(TOP, "tools"))
+import package  # noqa: E402
+import release  # noqa: E402
+
 # Three numbers, and what a version has that comes before a release.
 NUMBERED = re.compile(r"\d+\.\d+\.\d+(~dev)?")
+# Where the files of packagers name the version, and the one of tinycdb whose calls the library has.
+PACKAGERS = {"packaging/pezundrix.spec": r"^Version: +(\S+)$", "packaging/PKGBUILD": r"^pkgver=(.*)$"}
+INTERFACE = r"^Provides: libcdb\S+ \(= (.*)\)$"
+# A file of a release, as pages name it.
 RELEASED = re.compile(r"pezundrix[-_](\d+\.\d+\.\d+)")
 
 
@@ -57,6 +66,18 @@ def named_in_texts(version):
     return {page: found == {version} for page, found in named.items() if found}
 
 
+def named_by_packagers(version):
+    """For each file of packagers: whether it names the version, or that of the library's calls."""
+    held = {name: re.findall(line, text_of(name), re.M) == [version] for name, line in PACKAGERS.items()}
+    provided = re.findall(INTERFACE, text_of("packaging/debian/control"), re.M)
+    return held | {"packaging/debian/control": provided == [package.interface()] * 2}
+
+
+def is_one_tree(version):
+    """Whether the version is none that was released of other sources."""
+    return not release.released().startswith(release.heading(version)) or release.is_of_release()
+
+
 def main():
     if len(sys.argv) != 1:
         sys.exit(__doc__)
@@ -64,7 +85,8 @@ def main():
     held = {"VERSION is three numbers": NUMBERED.fullmatch(version) is not None}
     held["CHANGELOG.md"] = heads_changelog(version)
     held["crates/cdb_command"] = is_in_program(version)
-    held |= named_in_pages(version) | named_in_texts(version)
+    held["release/SHA256SUMS"] = is_one_tree(version)
+    held |= named_in_pages(version) | named_in_texts(version) | named_by_packagers(version)
     tell(held.items(), f"{{}}: another version than {version}, or none".format)
 
 
