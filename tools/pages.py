@@ -21,7 +21,7 @@ from trees import read
 TOP = os.path.normpath(os.path.join(os.path.dirname(os.path.abspath(__file__)), ".."))
 USAGE = "crates/cdb_command/src/usage_text.rt"
 TEXTS, MANUAL = "docs/TEXTS.md", "man/cdb.1"
-# The line that is no form of a command.
+# The line that is no form of a command, before the letter that goes with each.
 EACH = "       with each:"
 
 
@@ -55,8 +55,10 @@ def with_usage(page):
 
 def with_synopsis(page):
     """The manual page with its synopsis."""
-    forms = [it[7:].removeprefix("cdb ") for it in usage_lines() if not it.startswith(EACH)]
-    made = "".join(macros_of(it) for it in forms)
+    lines = usage_lines()
+    letter = next(it for it in lines if it.startswith(EACH)).removeprefix(EACH).split()[0]
+    forms = [it[7:].removeprefix("cdb ") for it in lines if not it.startswith(EACH)]
+    made = "".join(macros_of(re.sub(r"^-\w(?: -\w)*", rf"\g<0> [{letter}]", it)) for it in forms)
     return re.sub(r"(?<=\.Sh SYNOPSIS\n).*?(?=\.Sh )", lambda _: made, page, count=1, flags=re.DOTALL)
 
 

@@ -24,8 +24,9 @@ LIBRARY = os.path.join(HERE, "..", "..", "docs", "LIBRARY.md")
 CALLER = os.path.join(HERE, "..", "..", "crates", "cdb_files", "src", "examples", "files.rt")
 # What stands in a diagnostic in place of a number, and of another diagnostic.
 NUMBER = "[A-Z]"
-# The line of the usage text that is no form of a command.
+# The line of the usage text that is no form of a command, of a letter that the page has in each form.
 EACH = "       with each: -v  say which file and why\n"
+OF_EACH = " [-v]"
 OTHER = "..."
 
 
@@ -123,14 +124,15 @@ def main():
     }
     patterns = diagnostics_of(page)
     wrong = []
-    if usage_of(page) + EACH != usage:
-        wrong.append(f"the synopsis tells\n{usage_of(page)}and the program\n{usage}")
+    told = usage_of(page)
+    if told.replace(OF_EACH, "") + EACH != usage or told.count(OF_EACH) != told.count("\n"):
+        wrong.append(f"the synopsis tells\n{told}and the program\n{usage}")
     missing = letters_of(usage) - described_in(page)
     if missing:
         wrong.append(f"not described: {sorted(missing)}")
-    told = [line for line in lines if not any(it.fullmatch(line) for it in patterns)]
-    if told:
-        wrong.append(f"no diagnostic: {sorted(told)}")
+    unknown = [line for line in lines if not any(it.fullmatch(line) for it in patterns)]
+    if unknown:
+        wrong.append(f"no diagnostic: {sorted(unknown)}")
     count = 3
     rt = shutil.which(os.environ.get("RT") or "rt")
     if rt:
