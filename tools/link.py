@@ -6,7 +6,8 @@ over the machine's C library. The object is copied beside the program, for a rel
 
 A static program starts without a loader. It is position-independent, as the one that the checker links is. If
 there is no C compiler, or no static C library, TARGET is that one, which needs a C library on the machine that it
-runs on. One line says which. The flags of the environment's LDFLAGS come after those of here.
+runs on. One line says which. The flags of the environment's LDFLAGS come after those of here,
+but for one that asks for another kind of program.
 """
 
 import os
@@ -26,6 +27,8 @@ FLAGS = [
     "-Wl,--build-id=none",
     "-Wl,--gc-sections",
 ]
+# The flags that ask for a kind of program.
+KINDS = ("-static", "-static-pie", "-pie", "-no-pie")
 
 
 def compiler():
@@ -46,7 +49,8 @@ def links_statically(crate, target):
     if not os.path.isfile(made):
         return False
     shutil.copy(made, os.path.join(os.path.dirname(os.path.abspath(target)), os.path.basename(made)))
-    words = [*compiler(), *FLAGS, *shlex.split(os.environ.get("LDFLAGS") or ""), "-o", target, made, *archives()]
+    more = [it for it in shlex.split(os.environ.get("LDFLAGS") or "") if it not in KINDS]
+    words = [*compiler(), *FLAGS, *more, "-o", target, made, *archives()]
     try:
         return subprocess.run(words, capture_output=True, check=False).returncode == 0
     except OSError:

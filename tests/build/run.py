@@ -190,6 +190,12 @@ def linked(it):
     subprocess.run([*link.compiler(), "-fPIE", "-c", "-o", made, os.path.join(it.top, "it.c")], check=True)
     with mock.patch("link.archives", return_value=[]):
         yield "static", link.link(crate, target) == "static" and subprocess.run([target], check=False).returncode == 7
+        for flags in ("", "-pie -Wl,--build-id=sha1"):
+            with mock.patch.dict(os.environ, {"LDFLAGS": flags}):
+                link.link(crate, target)
+            with open(target, "rb") as file:
+                data = file.read()
+            yield f"flags {flags}", (b"\x03\0\0\0GNU\0" in data, b"/ld-linux" in data) == (flags != "", False)
         yield from linked_in_vain(crate, target)
         with mock.patch.dict(os.environ, {"CC": "no-such-compiler"}):
             yield "no compiler", link.link(crate, target).startswith("dynamic")
