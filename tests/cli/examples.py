@@ -137,7 +137,7 @@ def blocks_of_page(page):
     """The examples of a page: its blocks for the shell, but for those that build or install."""
     with open(os.path.join(TOP, page), encoding="utf-8") as file:
         blocks = re.findall(r"^```sh\n(.*?)^```$", file.read(), re.M | re.S)
-    return [block for block in blocks if not re.match(r"(make|apt)\b", block)]
+    return [block for block in blocks if not re.match(r"(make|apt|tar)\b", block)]
 
 
 def steps_of(block):

@@ -89,9 +89,10 @@ def toolchain_of(readme):
 
 
 def is_shown(page, source):
-    """Whether a page shows the code of a file, which follows its first line."""
+    """Whether a page shows the code of a file, which follows its first line, as another crate has it."""
     with open(page, encoding="utf-8") as shown, open(source, encoding="utf-8") as file:
-        return "```rust\n" + file.read().split("\n", 1)[1] + "```" in shown.read()
+        code = file.read().split("\n", 1)[1].replace("use crate::", "use cdb_files::")
+        return f"```rust\n{code}```" in shown.read()
 
 
 def of_toolchain(command):
