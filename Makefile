@@ -62,14 +62,14 @@ demo:
 	@sh demo/run.sh $(OUT)/cdb
 
 test:
-	@RT='$(RT)' CC='$(CC)' TESTS='$(TESTS)' $(PYTHON) tools/gate.py
+	@RT='$(RT)' CC='$(CC)' CXX='$(CXX)' TESTS='$(TESTS)' $(PYTHON) tools/gate.py
 
 wrong:
 	@RT='$(RT)' $(PYTHON) tools/wrong.py --all
 
 tests:
 	@test -x '$(BIN)' || { echo '$(BIN) is not built: run make first'; exit 1; }
-	@RT='$(RT)' CC='$(CC)' $(PYTHON) tests/run.py '$(BIN)'
+	@RT='$(RT)' CC='$(CC)' CXX='$(CXX)' $(PYTHON) tests/run.py '$(BIN)'
 
 $(OUT)/libcdb_c.a: $(SOURCES)
 	@RT='$(RT)' $(PYTHON) tools/build.py crates/cdb_c $@

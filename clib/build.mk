@@ -76,3 +76,7 @@ $(OUT)/refuse.so: tests/faults/refuse.c
 $(OUT)/orders: tests/cli/orders.c
 	@mkdir -p $(OUT)
 	$(CC) -O2 -Wall -Wextra -o $@ $<
+
+$(OUT)/drawn: tests/drawn/drawn.cpp $(wildcard tests/drawn/*.h)
+	@mkdir -p $(OUT)
+	$(CXX) -std=c++17 -O2 -Wall -Wextra -o $@ $<

@@ -45,6 +45,11 @@ def compiler():
     return (os.environ.get("CC") or "cc").split()[0]
 
 
+def cxx():
+    """The C++ compiler, as make calls it."""
+    return (os.environ.get("CXX") or "g++").split()[0]
+
+
 def checker():
     """The checker's command."""
     return os.environ.get("RT") or "rt"
@@ -78,7 +83,7 @@ def parts_of(program, is_gate):
     place = place_of(program)
     loaded = loaded_with(program, place)
     made = {it: f"{place}/{it}" for it in ("refuse.so", "orders", "libcdb.so.1", "libcdb.a", "answers")}
-    made |= {it: f"{place}/{it}" for it in ("makes", "refused", "edges", "sanitized")}
+    made |= {it: f"{place}/{it}" for it in ("makes", "refused", "edges", "sanitized", "drawn")}
     refuse, orders = made["refuse.so"], made["orders"]
     c = ("C compiler", compiler())
     package = ("command dpkg-deb", "dpkg-deb")
@@ -106,6 +111,7 @@ def parts_of(program, is_gate):
         Part("tests/cli/amends.py", (program,)),
         Part("tests/cli/differences.py", (program,)),
         Part("tests/cli/lookups.py", (program,)),
+        Part("tests/drawn/run.py", (program, made["drawn"]), (("C++ compiler", cxx()),), (made["drawn"],)),
         Part("tests/growth/run.py", (program,)),
         Part("tests/growth/calls.py", (loaded, refuse), (c, dynamic), (refuse,)),
         Part("tests/build/run.py", sources=True),
