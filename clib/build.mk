@@ -61,6 +61,12 @@ $(OUT)/sanitized: tests/clib/makes.c $(CLIB_SOURCES) clib/cdb.h $(OUT)/libcdb_c.
 	-@$(CC) -g -fsanitize=address -Iclib -o $@ tests/clib/makes.c $(CLIB_SOURCES) \
 		$(OUT)/libcdb_c.a $(HEAP)
 
+# Look-ups by the C that no proof covers, by two sanitizers.
+$(OUT)/seeks: tests/clib/seeks.c clib/seeking.c clib/cdb.h
+	@mkdir -p $(OUT)
+	$(CC) -g -O1 -Wall -Wextra $(WERROR) -fsanitize=address,undefined -fno-sanitize-recover=all -Iclib -o $@ \
+		tests/clib/seeks.c clib/seeking.c
+
 # Calls at the edges of the page, each of which reaches an export by way of premises.c.
 EXPORTS := hash find begin next record_end next_record file_number make_start make_put make_append make_count \
 	make_written make_exists make_remove

@@ -50,6 +50,16 @@ def cxx():
     return (os.environ.get("CXX") or "g++").split()[0]
 
 
+def sanitizing():
+    """The C compiler if it has its sanitizers, else nothing."""
+    words = [compiler(), "-fsanitize=address,undefined", "-x", "c", "-o", os.devnull, "-"]
+    try:
+        done = subprocess.run(words, input=b"int main(void) { return 0; }", capture_output=True, check=False)
+    except OSError:
+        return ""
+    return "" if done.returncode else compiler()
+
+
 def checker():
     """The checker's command."""
     return os.environ.get("RT") or "rt"
@@ -83,7 +93,7 @@ def parts_of(program, is_gate):
     place = place_of(program)
     loaded = loaded_with(program, place)
     made = {it: f"{place}/{it}" for it in ("refuse.so", "orders", "libcdb.so.1", "libcdb.a", "answers")}
-    made |= {it: f"{place}/{it}" for it in ("makes", "refused", "edges", "sanitized", "drawn")}
+    made |= {it: f"{place}/{it}" for it in ("makes", "refused", "edges", "sanitized", "seeks", "drawn")}
     refuse, orders = made["refuse.so"], made["orders"]
     c = ("C compiler", compiler())
     package = ("command dpkg-deb", "dpkg-deb")
@@ -142,6 +152,8 @@ def parts_of(program, is_gate):
     drivers = (made["makes"], made["refused"], made["edges"])
     makers = (*drivers, made["sanitized"], "WERROR=-Werror")
     parts.append(Part("tests/clib/making.py", (*drivers, place), (c, proved), makers))
+    sanitizers = (("C compiler with its sanitizers", sanitizing()),)
+    parts.append(Part("tests/clib/seeks.py", (made["seeks"],), sanitizers, (made["seeks"], "WERROR=-Werror")))
     parts.append(Part("tests/clib/package.py", (place,), (c, package, proved), library))
     has_sources = os.path.isdir(os.path.join(TOP, "crates"))
     return [it for it in parts if has_sources or not it.sources]
