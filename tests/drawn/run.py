@@ -79,7 +79,7 @@ def show(driver, seed, number, folder):
 
 
 def main():
-    parser = argparse.ArgumentParser(usage=__doc__)
+    parser = argparse.ArgumentParser()
     parser.add_argument("program")
     parser.add_argument("drawn")
     parser.add_argument("--seed", type=int, default=SEED)
