@@ -1072,6 +1072,7 @@ CASES = {
     "a difference to a full device": compares(TWO_FILE, EMPTY_FILE, "/dev/full", NO_OUTPUT),
     "no difference to a full device": compares(TWO_FILE, TWO_FILE, "/dev/full", NO_OUTPUT),
     "a large difference to a full device": compares(EMPTY_FILE, LARGE_FILE, "/dev/full", NO_OUTPUT),
+    "a long removal to a full device": compares(file_of([(b"k" * 100_000, b"v")]), EMPTY_FILE, "/dev/full", NO_OUTPUT),
     "a difference to a pipe that nobody reads": compares(TWO_FILE, EMPTY_FILE, UNREAD, NO_OUTPUT),
     "a large difference to a pipe that nobody reads": compares(EMPTY_FILE, LARGE_FILE, UNREAD, NO_OUTPUT),
     "a difference to no standard output": compares(TWO_FILE, EMPTY_FILE, CLOSED, NO_OUTPUT),

@@ -43,6 +43,8 @@ class Command:
         return "-t" in self.words
 
 
+# A line of a map that the window of its input has no room for.
+LONG_LINE = b"long " + b"v" * 100_000 + b"\n"
 RECORDS = records()
 TEXT = text_of(RECORDS)
 DATABASE = file_of(RECORDS)
@@ -58,7 +60,7 @@ COMMANDS = {
     "create on output": Command(["-c", "-"], TEXT),
     "create": Command(["-c", "x"], TEXT, KEPT),
     "create of files": Command(["-c", "x", "in", "-", "in"], TEXT, {**KEPT, "in": TEXT}),
-    "create of a map": Command(["-cm", "x"], lines(40), KEPT),
+    "create of a map": Command(["-cm", "x"], lines(40) + LONG_LINE, KEPT),
     "create with warnings": Command(["-cmw", "x"], lines(200), KEPT),
     "create with replacements": Command(["-cmr", "x"], lines(200), KEPT),
     "create in place that gets shorter": Command(["-cmr", "-t", "-", "x"], shorter_lines(), KEPT),

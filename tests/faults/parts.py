@@ -4,7 +4,8 @@
     tests/faults/parts.py PROGRAM LIBRARY
 
 The library is refuse.c, built to be loaded ahead of the C library. Each run of commands.py must leave
-the same as with whole reads and writes: its status, its output and its lines, and its files.
+the same as with whole reads and writes: its status, its output and its lines, and its files. A call on a database that is
+interrupted 1000 times in a row is made again, and one more time fails the run.
 """
 
 import errno
@@ -38,6 +39,10 @@ SMALL = {
     "bad words": COMMANDS["bad words"],
 }
 RUNS = COMMANDS | SMALL
+# How often in a row a call on a database may be interrupted, and a run whose first such call is.
+PATIENCE = 1000
+PATIENT = {"pwrite": "a small create", "pread": "a small query"}
+GIVEN_UP = (111, b"", b"cdb: database cannot be read or written\n")
 
 
 def left_by(program, command, first=0, last=0):
@@ -55,7 +60,7 @@ def left_by(program, command, first=0, last=0):
 
 
 def run_each(path, library, name):
-    """How often a run was made, and what is wrong of it."""
+    """Takes parts of the calls of a run, and interrupts each of them."""
     command = RUNS[name]
     interrupting = Refusing(path, library, "calls", ONLY=CALLS, ERROR=errno.EINTR)
     free, calls = left_by(interrupting, command)
@@ -72,8 +77,26 @@ def run_each(path, library, name):
     return len(ways), wrong
 
 
+def interrupt_long(path, library, call):
+    """Interrupts the first call of a kind as often as it is made again, and once more."""
+    command = RUNS[PATIENT[call]]
+    program = Refusing(path, library, "calls", ONLY=call, ERROR=errno.EINTR)
+    free, calls = left_by(program, command)
+    wrong = []
+    for times, wanted in ((PATIENCE, (free, PATIENCE + calls)), (PATIENCE + 1, ((*GIVEN_UP, command.files), PATIENCE + 1))):
+        came = left_by(program, command, 1, times)
+        if came != wanted:
+            wrong.append(f"{call} interrupted {times} times: status {came[0][0]}, {came[0][2]!r:.200}, {sorted(came[0][3])}, {came[1]} calls")
+    return 2, wrong
+
+
+def try_run(path, library, name):
+    """How often a run was made, and what is wrong of it."""
+    return (interrupt_long if name in PATIENT else run_each)(path, library, name)
+
+
 def main():
-    try_each(__doc__, run_each, list(RUNS))
+    try_each(__doc__, try_run, [*PATIENT, *RUNS])
 
 
 if __name__ == "__main__":
