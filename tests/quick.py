@@ -22,6 +22,8 @@ TOP = os.path.join(os.path.dirname(os.path.abspath(__file__)), "..")
 COUNTED = re.compile(r"^(?:test result: .*?)?(\d+) passed[,;] (\d+) failed", re.MULTILINE)
 # What the checker says of a test that takes too long.
 TOO_LONG = re.compile(r"^test (\S+) \.\.\. FAILED\n.*no-answer: the program did not end within", re.MULTILINE)
+# What a part says of a row that it leaves out.
+LEFT_OUT = re.compile(r"^left out: .*\n", re.MULTILINE)
 SECONDS = 15
 # How much memory a part takes at most.
 MEMORY = 2 << 30
@@ -82,7 +84,8 @@ def run(part):
     # A part that ends early has failed, whatever it counted.
     if done.returncode != 0 and not left_out:
         failed = max(failed, 1)
-    said = done.stdout if failed else "".join(f"left out, as it takes too long: {it}\n" for it in left_out)
+    short = [*LEFT_OUT.findall(done.stdout), *(f"left out, as it takes too long: {it}\n" for it in left_out)]
+    said = done.stdout if failed else "".join(short)
     return passed, failed, f"{said}{name}: {passed} passed, {failed} failed, {time.monotonic() - began:.0f} s"
 
 

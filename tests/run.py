@@ -4,10 +4,11 @@
     tests/run.py PROGRAM [--gate]
 
 With --gate it also runs those that need the programs of the crates' tests, which the gate makes, and each part must pass
-as many as tools/floors.txt says. A part that this machine cannot run is left out and named at the end; in CI, which the
-variable CI of the environment says, that is a failure. What the parts need is built beside the program if that is below
-bin, else in bin. A release has no sources: there the parts that read them are no parts. The last line counts all that
-passed and failed.
+as many as tools/floors.txt says. A part or a row that this machine cannot run is left out and named at the end. In CI, which
+the variable CI of the environment says, that is a failure, unless tests/commands.txt says why the command that it needs
+cannot be had. What the parts need is built beside the program if that is below bin, else in bin. A release has no sources:
+there the parts that read them are no parts. The last line counts all that passed and failed, and with --gate what was left
+out, of a part its floor.
 """
 
 import os
@@ -19,9 +20,16 @@ import time
 from dataclasses import dataclass
 
 TOP = os.path.join(os.path.dirname(os.path.abspath(__file__)), "..")
+sys.path.append(os.path.join(TOP, "tests", "cli"))
+
+from rows import CHECKOUT, is_checkout  # noqa: E402
+
 COUNTED = re.compile(r"^(\d+) passed, (\d+) failed", re.MULTILINE)
 FLOORS = os.path.join(TOP, "tools", "floors.txt")
+COMMANDS = os.path.join(TOP, "tests", "commands.txt")
 LOADED = "crates/cdb/out/cdb"
+# What a part says of a row that it leaves out.
+LEFT_OUT = re.compile(r"^left out: (.*\n)", re.MULTILINE)
 
 
 @dataclass
@@ -95,15 +103,15 @@ def parts_of(program, is_gate):
     made = {it: f"{place}/{it}" for it in ("refuse.so", "orders", "libcdb.so.1", "libcdb.a", "answers")}
     made |= {it: f"{place}/{it}" for it in ("makes", "refused", "edges", "sanitized", "seeks", "drawn")}
     refuse, orders = made["refuse.so"], made["orders"]
-    c = ("C compiler", compiler())
-    package = ("command dpkg-deb", "dpkg-deb")
-    static = ("static program", "" if is_dynamic(program) else program)
-    dynamic = (f"program {os.path.relpath(loaded, TOP)} with a loader", loaded)
+    c = ("a C compiler", compiler())
+    package = ("dpkg-deb", "dpkg-deb")
+    git = (CHECKOUT, "git" if is_checkout() else "")
+    static = ("a static program", "" if is_dynamic(program) else program)
+    dynamic = (f"the program {os.path.relpath(loaded, TOP)} with a loader", loaded)
     code = f"{place}/libcdb_c.a"
-    proved = (f"{code}, nor toolchain that builds it,", code if os.path.isfile(os.path.join(TOP, code)) else checker())
+    proved = (f"{code}, or the toolchain that builds it", code if os.path.isfile(os.path.join(TOP, code)) else checker())
     objects = (os.path.join(os.path.dirname(program), "cdb.o"), code)
-    git = ("command git", "git")
-    released = (c, git, *((f"file {it}", it) for it in objects))
+    released = (c, git, *((it, it) for it in objects))
     parts = [
         Part("tests/docs/check.py", sources=True),
         Part("tests/cli/run.py", (program,)),
@@ -178,13 +186,13 @@ def lacks(part):
 
 def run(part, place, out):
     """Runs a part, for which make builds in a folder, shows what it says and its place among the parts, and answers how
-    many of it passed and failed."""
+    many of it passed and failed, and the rows that it left out."""
     began = time.monotonic()
     if part.built:
         built = subprocess.run(["make", "-s", f"OUT={out}", *part.built], cwd=TOP, check=False)
         if built.returncode != 0:
             print(f"{part}: make could not build {' '.join(part.built)}")
-            return 0, 1
+            return 0, 1, []
     done = subprocess.run(
         [sys.executable, part.script, *part.words],
         cwd=TOP,
@@ -192,12 +200,63 @@ def run(part, place, out):
         text=True,
         check=False,
     )
-    print(done.stdout, end="")
+    # What is left out is said at the end.
+    print(LEFT_OUT.sub("", done.stdout), end="")
     print(f"{part}: {time.monotonic() - began:.0f} s, {place} parts", flush=True)
     counted = COUNTED.findall(done.stdout)
     passed, failed = map(int, counted[-1]) if counted else (0, 0)
     # A script that ends early has failed, whatever it counted.
-    return passed, failed or int(done.returncode != 0 or not counted)
+    rows = [f"{part.script}: {it.rstrip()}" for it in LEFT_OUT.findall(done.stdout)]
+    return passed, failed or int(done.returncode != 0 or not counted), rows
+
+
+def without():
+    """The commands that CI may lack."""
+    with open(COMMANDS, encoding="utf-8") as file:
+        lines = [line.split(None, 2) for line in file if not line.startswith("#")]
+    return {command for command, package, *_ in lines if package == "-"}
+
+
+def unexcused(left_out):
+    """What may not be left out in CI."""
+    excused = tuple(f", which needs {it}" for it in without())
+    return [it for it in left_out if not it.endswith(excused)]
+
+
+class Counts:
+    """How many passed, failed and were left out, and what is said of these at the end."""
+
+    def __init__(self, is_gate):
+        self.is_gate, self.least = is_gate, floors() if is_gate else {}
+        self.passed = self.failed = self.lacking = 0
+        self.left_out, self.wrong = [], []
+
+    def floor_of(self, part):
+        """How many of a part must pass at least, or None if a floor is missing."""
+        return self.least.pop(name_of(part, self.least), None if self.is_gate else 1)
+
+    def leave_out(self, part, thing):
+        """Counts a part that needs what is not here."""
+        self.left_out.append(f"{part}, which needs {thing}")
+        self.lacking += self.floor_of(part) or 0
+
+    def count(self, part, passed, failed, rows):
+        """Counts a part that has run: what it left out and what passed must be as many as its floor says."""
+        floor = self.floor_of(part)
+        if failed == 0 and (floor is None or passed + len(rows) < floor):
+            print(f"{part}: {passed} passed, and {f'at least {floor} must' if floor else 'there is no floor for it'}")
+            failed = 1
+        self.passed, self.failed, self.lacking = self.passed + passed, self.failed + failed, self.lacking + len(rows)
+        self.left_out += rows
+        if failed:
+            self.wrong.append(f"{part}: {failed}")
+
+    def end(self):
+        """Takes a floor of no part as a failure, and in CI each part and row that was left out and may not be."""
+        self.wrong += [f"{it}: there is no such part" for it in self.least]
+        self.failed += len(self.least)
+        if os.environ.get("CI"):
+            self.failed += len(unexcused(self.left_out))
 
 
 def main(words):
@@ -206,37 +265,22 @@ def main(words):
         sys.exit(__doc__)
     program = os.path.abspath(words[1])
     began = time.time()
-    passed = failed = 0
-    left_out = []
-    wrong = []
+    counts = Counts(is_gate)
     parts = parts_of(program, is_gate)
-    least = floors() if is_gate else {}
     for number, part in enumerate(parts):
         lacking = lacks(part)
         if lacking is not None:
-            left_out.append(f"{part}: no {lacking} is here")
-            continue
-        good, bad = run(part, f"{number + 1} of {len(parts)}", place_of(program))
-        floor = least.pop(name_of(part, least), None if is_gate else 1)
-        if bad == 0 and (floor is None or good < floor):
-            print(f"{part}: {good} passed, and {f'at least {floor} must' if floor else 'there is no floor for it'}")
-            bad = 1
-        passed, failed = passed + good, failed + bad
-        if bad:
-            wrong.append(f"{part}: {bad}")
-    unknown = [it for it in least if not any(left.startswith(it.split()[0]) for left in left_out)]
-    for it in unknown:
-        wrong.append(f"{it}: there is no such part")
-    failed += len(unknown)
-    for it in left_out:
+            counts.leave_out(part, lacking)
+        else:
+            counts.count(part, *run(part, f"{number + 1} of {len(parts)}", place_of(program)))
+    counts.end()
+    for it in counts.left_out:
         print(f"left out: {it}")
-    for it in wrong:
+    for it in counts.wrong:
         print(f"failed: {it}")
-    if os.environ.get("CI"):
-        failed += len(left_out)
     print(f"These tests took {time.time() - began:.0f} s.")
-    print(f"{passed} passed, {failed} failed")
-    return 1 if failed else 0
+    print(f"{counts.passed} passed, {counts.failed} failed" + (f", {counts.lacking} left out" if is_gate else ""))
+    return 1 if counts.failed else 0
 
 
 if __name__ == "__main__":

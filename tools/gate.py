@@ -47,6 +47,8 @@ COPY = os.path.join("bin", "gate")
 PASSED = os.path.join("bin", "passed")
 BODIES, OF_CRATES = "wrong bodies", "crates' tests"
 COUNTED = re.compile(r"^(\d+) passed, (\d+) failed")
+# How many of the floors the tests left out.
+LACKING = re.compile(r", (\d+) left out$")
 # What the parts say of a crate, a crate's tests, a wrong body and a part of the tests that is done.
 PROVED = re.compile(r"rt: (\w+) (?:proved$|is kept:)")
 RAN = re.compile(r"(\w+): \d+ passed, \d+ failed, \d+ s$")
@@ -339,13 +341,14 @@ class Gate:
         return self.begin("tests", words, log="bin/tests.log", steps=DONE, shows=self.is_of_now, holds=1)
 
     def count_tests(self, part):
-        """Counts how many tests passed and failed."""
+        """Counts how many tests passed and failed. What was left out was named, and counts to the floors."""
         if not COUNTED.match(part.last):
             self.show(part.last)
         passed, failed = part.counted()
         least = sum(it for name, it in self.floors.items() if name != BODIES and not is_of_tests(name))
-        if failed == 0 and passed < least:
-            self.wrong.append(f"tests: {passed} passed, and not {least}")
+        lacking = int(LACKING.search(part.last)[1]) if self.left_out and LACKING.search(part.last) else 0
+        if failed == 0 and passed + lacking < least:
+            self.wrong.append(f"tests: {passed} passed, and not {least - lacking}")
             failed = 1
         self.passed, self.failed = self.passed + passed, self.failed + failed
 

@@ -37,7 +37,7 @@ HELD = (
     *("LICENSE", "VERSION", "README.md", "CHANGELOG.md", "CONTRIBUTING.md", "SECURITY.md", "docs", "man", "clib", "completion", SUMS),
     "packaging",
     *("tools/install.mk", "tools/installed.sh", "tools/package.py"),
-    *("tests/README.md", "tests/run.py", "tests/cli", "tests/clib", "tests/drawn", "tests/faults", "tests/growth", "tests/package"),
+    *("tests/README.md", "tests/run.py", "tests/commands.txt", "tests/cli", "tests/clib", "tests/drawn", "tests/faults", "tests/growth", "tests/package"),
 )
 
 

@@ -14,7 +14,8 @@ import sys
 import time
 
 JOURNAL = os.environ["JOURNAL"]
-SECONDS = 20
+# How long a check waits for another, or hangs.
+SECONDS = 300
 
 
 def named(variable):

@@ -8,6 +8,10 @@ import sys
 import tempfile
 import time
 
+sys.path.append(os.path.join(os.path.dirname(os.path.abspath(__file__)), "..", "cli"))
+
+from rows import HANGS  # noqa: E402
+
 HERE = os.path.dirname(os.path.abspath(__file__))
 TOOLS = os.path.join(HERE, "..", "..", "tools")
 CHECKER = os.path.join(HERE, "checker.py")
@@ -77,7 +81,7 @@ class Repository:
     def build(self, *words, **named):
         """Builds, and gives the status and what was said."""
         with self.running(*words, **named) as process:
-            output, errors = process.communicate(timeout=300)
+            output, errors = process.communicate(timeout=HANGS)
         return process.returncode, output, errors
 
     def lines_of(self, what):
@@ -105,7 +109,7 @@ class Repository:
 
     def wait_for(self, *crates, what="begins"):
         """Waits until these checks have begun."""
-        end = time.monotonic() + 20
+        end = time.monotonic() + HANGS
         while not set(crates).issubset(self.noted(what)) and time.monotonic() < end:
             time.sleep(0.01)
 

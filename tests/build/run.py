@@ -16,6 +16,7 @@ from types import SimpleNamespace
 from unittest import mock
 
 from repository import BUILT, CHECKER, TOOLS, run_parts
+from rows import HANGS, leave_out
 
 sys.path.insert(0, TOOLS)
 import build  # noqa: E402
@@ -105,7 +106,7 @@ def stopped(it):
         with it.running(HANG="right left") as process:
             it.wait_for(*two("right", "left"))
             process.send_signal(number)
-            _, errors = process.communicate(timeout=20)
+            _, errors = process.communicate(timeout=HANGS)
         yield "status", process.returncode == 1 and "What is proved so far is kept" in errors
         yield "kept", {"low", *two("right", "left")}.issubset(it.kept()) and not it.has_trees()
         yield "ended", not {"right", "left", "top"} & set(it.noted("ends"))
@@ -116,7 +117,7 @@ def killed(it):
     with it.running(HANG="right left") as process:
         it.wait_for(*two("right", "left"))
         process.kill()
-        process.communicate(timeout=30)
+        process.communicate(timeout=HANGS)
     yield "left", it.has_trees() == IS_BESIDE
     status, _, _ = it.build()
     yield "status", status == 0 and not it.has_trees()
@@ -127,7 +128,7 @@ def two_builds(it):
     """Two builds of one repository share its trees, a crate after the other."""
     builds = [it.begin(target="bin/top"), it.begin(target="bin/another")]
     for process in builds:
-        process.communicate(timeout=60)
+        process.communicate(timeout=HANGS)
     yield "status", [process.returncode for process in builds] == [0, 0]
     yield "kept", it.kept() == list(BUILT) and not it.has_trees()
 
@@ -184,6 +185,8 @@ def linked(it):
     it.write("crates/top/out/top", "loaded")
     yield "no object", link.link(crate, target).startswith("dynamic") and os.path.getsize(target) == len("loaded")
     if shutil.which(link.compiler()[0]) is None:
+        for row in ("static", "failing linker", "what it left out", "bits", "old program", "no compiler"):
+            leave_out(f"linked: {row}", "a C compiler")
         return
     it.write("it.c", "int main(void) { return 7; }")
     made = os.path.join(crate, "out", "top.o")

@@ -17,6 +17,7 @@ import sys
 import tempfile
 
 from files import TWO_FILE, file_of, hash_of, table_of, text_of, wide_words, words
+from rows import HANGS
 
 CASES = 5000
 KEYS = [b"a", b"bc", b"cB", b"", b"one"]
@@ -114,7 +115,7 @@ class Folder:
         self.write("base", base)
         self.write("x", b"old")
         words = [self.program, "-c", *options, "-b", "base", "x"]
-        done = subprocess.run(words, cwd=self.path, input=changes, capture_output=True, timeout=60)
+        done = subprocess.run(words, cwd=self.path, input=changes, capture_output=True, timeout=HANGS)
         if self.read("base") != base or sorted(os.listdir(self.path)) != ["base", "x"]:
             return None
         return done.returncode, done.stderr, self.read("x")

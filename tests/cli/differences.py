@@ -21,6 +21,7 @@ import tempfile
 
 from amends import drawn, foreign_file_of, spelled
 from files import TWO_FILE, file_of, wide_words, words
+from rows import HANGS
 
 CASES = 1000
 PIECE = 4096
@@ -98,7 +99,7 @@ class Folder:
 
     def run(self, *words, stdin=b""):
         """The status, the output and the lines of the program."""
-        done = subprocess.run([self.program, *words], cwd=self.path, input=stdin, capture_output=True, timeout=60)
+        done = subprocess.run([self.program, *words], cwd=self.path, input=stdin, capture_output=True, timeout=HANGS)
         return done.returncode, done.stdout, done.stderr
 
     def amended(self, text, *options, base="old"):

@@ -21,6 +21,8 @@ import sys
 import tempfile
 import time
 
+from rows import HANGS
+
 TOP = os.path.join(os.path.dirname(os.path.abspath(__file__)), "..", "..")
 # What the shell makes before the examples of a page: the files that they speak of.
 BEFORE = {
@@ -176,7 +178,7 @@ class Shell:
             stdout=subprocess.PIPE,
             stderr=subprocess.STDOUT,
             text=True,
-            timeout=60,
+            timeout=HANGS,
             check=False,
         )
         return done.stdout if done.returncode == 0 else f"status {done.returncode}: {done.stdout}"
@@ -206,7 +208,7 @@ def after(shell, block):
         copy = os.path.join(folder, "work")
         shutil.copytree(shell.folder, copy, symlinks=True)
         how = {"stdin": subprocess.DEVNULL, "stdout": subprocess.DEVNULL, "stderr": subprocess.DEVNULL}
-        subprocess.run(["sh", "-c", block], cwd=copy, env=shell.environment, timeout=60, check=False, **how)
+        subprocess.run(["sh", "-c", block], cwd=copy, env=shell.environment, timeout=HANGS, check=False, **how)
         return databases(copy)
 
 
@@ -257,8 +259,8 @@ def refused(program):
 
 
 def comes_to(path, size):
-    """Whether a file comes to a size within a minute."""
-    end = time.monotonic() + 60
+    """Whether a file comes to a size."""
+    end = time.monotonic() + HANGS
     while not os.path.exists(path) or os.path.getsize(path) < size:
         if time.monotonic() > end:
             return False

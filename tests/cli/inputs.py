@@ -16,6 +16,7 @@ import sys
 import tempfile
 
 from files import EMPTY_FILE, ONE_FILE, TWO_FILE, TWO_TEXT, file_of
+from rows import HANGS
 from waiting import is_asleep
 
 UNREAD = b"cdb: database cannot be read or written\n"
@@ -54,7 +55,7 @@ def in_place(_, path):
 
 def by_create(program, path):
     """Another create makes it anew in its place."""
-    subprocess.run([program, "-c", "-t", "-", path], input=TWO_TEXT, check=True, timeout=60)
+    subprocess.run([program, "-c", "-t", "-", path], input=TWO_TEXT, check=True, timeout=HANGS)
 
 
 def longer(_, path):
@@ -102,7 +103,7 @@ def amended(program, words, base, change):
                 change(program, os.path.join(folder, "base"))
             text = os.open(pipe, os.O_RDWR)
             os.write(text, b"\n")
-            errors = process.communicate(timeout=60)[1]
+            errors = process.communicate(timeout=HANGS)[1]
             os.close(text)
         return waiting, process.returncode, errors, found_in(folder)
 
@@ -142,7 +143,7 @@ def looked_up(program, words, appends, reads=None, link=None):
         with open(os.path.join(folder, appends), "ab") as output:
             with open(os.path.join(folder, reads or "/dev/null"), "rb") as keys:
                 done = subprocess.run([program, *words], cwd=folder, stdin=keys, stdout=output,
-                                      stderr=subprocess.PIPE, timeout=60, check=False)
+                                      stderr=subprocess.PIPE, timeout=HANGS, check=False)
         left = found_in(folder)
     return done.returncode, done.stderr, left["keys"] == KEYS, left.get(appends, b"")[: len(KEYS)] == KEYS
 
@@ -170,13 +171,13 @@ def path_rows(program):
         os.mkdir(name)
         own = os.path.join(name, b"cdb")
         os.symlink(os.path.abspath(program), own)
-        usual = {it: subprocess.run([program, it], capture_output=True, timeout=60, check=True).stdout for it in ("-V", "-h")}
+        usual = {it: subprocess.run([program, it], capture_output=True, timeout=HANGS, check=True).stdout for it in ("-V", "-h")}
         for word, stdout in usual.items():
-            done = subprocess.run([own, word], capture_output=True, timeout=60, check=False)
+            done = subprocess.run([own, word], capture_output=True, timeout=HANGS, check=False)
             yield f"{word} by a path that is no text", (done.returncode, done.stdout, done.stderr), (0, stdout, b"")
-        done = subprocess.run([own, "-c", "-"], input=b"\n", capture_output=True, timeout=60, check=False)
+        done = subprocess.run([own, "-c", "-"], input=b"\n", capture_output=True, timeout=HANGS, check=False)
         yield "a create by it", (done.returncode, done.stdout, done.stderr), (0, EMPTY_FILE, b"")
-        done = subprocess.run([own, "-q", "x", b"\xe9"], capture_output=True, timeout=60, check=False)
+        done = subprocess.run([own, "-q", "x", b"\xe9"], capture_output=True, timeout=HANGS, check=False)
         line = b"cdb: bad command line, see cdb -h\n"
         yield "a key that is no text", (done.returncode, done.stdout, done.stderr), (2, b"", line)
 

@@ -16,6 +16,7 @@ import sys
 import tempfile
 
 from files import TWO_FILE, file_of, text_of
+from rows import HANGS
 
 MOMENTS = 10
 RECORDS = [(b"key%d" % n, b"value %d" % n) for n in range(200_000)]
@@ -50,7 +51,7 @@ def kill_each(words, old, new, text):
                 print(f"moment {moment}: {len(left)} bytes that are neither database")
         with open(os.path.join(folder, "x"), "wb") as file:
             file.write(old)
-        done = subprocess.run(words, cwd=folder, input=text, timeout=60)
+        done = subprocess.run(words, cwd=folder, input=text, timeout=HANGS)
         if done.returncode != 0 or read(folder, "x") != new or os.listdir(folder) != ["x"]:
             failed += 1
             print("a create after the killed ones left something else")

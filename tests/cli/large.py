@@ -16,6 +16,7 @@ import tempfile
 
 from cases import statistics
 from files import file_of, hash_of, text_of, words
+from rows import HANGS
 
 KEY = b"one"
 HASH = hash_of(KEY)
@@ -42,7 +43,7 @@ def make(path, size):
 
 def left_by(program, given, folder):
     """The status, the output and the lines of a command."""
-    done = subprocess.run([program, *given], cwd=folder, capture_output=True, timeout=60, check=False)
+    done = subprocess.run([program, *given], cwd=folder, capture_output=True, timeout=HANGS, check=False)
     return done.returncode, done.stdout, done.stderr
 
 

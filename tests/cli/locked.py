@@ -19,6 +19,7 @@ import tempfile
 import time
 
 from files import TWO_FILE, TWO_TEXT, file_of, text_of
+from rows import HANGS
 from waiting import waits
 
 OPEN = b"cdb: file cannot be opened\n"
@@ -58,13 +59,13 @@ def started(program, folder):
 def created(program, folder, text, letters=()):
     """The status and the errors of a create."""
     words = [program, *letters, "-c", "x"]
-    done = subprocess.run(words, cwd=folder, input=text, stderr=subprocess.PIPE, timeout=60, check=False)
+    done = subprocess.run(words, cwd=folder, input=text, stderr=subprocess.PIPE, timeout=HANGS, check=False)
     return done.returncode, done.stderr
 
 
 def ended(process, text):
     """The status and the errors of a create that gets its text."""
-    _, errors = process.communicate(text, timeout=60)
+    _, errors = process.communicate(text, timeout=HANGS)
     return process.returncode, errors
 
 
@@ -128,7 +129,7 @@ def in_place_is_refused(program, words, lines=OPEN):
         if not waits(first, os.path.join(folder, "x")):
             first.kill()
             return None
-        how = dict(cwd=folder, input=TWO_TEXT, stderr=subprocess.PIPE, timeout=60, check=False)
+        how = dict(cwd=folder, input=TWO_TEXT, stderr=subprocess.PIPE, timeout=HANGS, check=False)
         second = subprocess.run([program, *words], **how)
         between = read_file("x")
         return (second.returncode, second.stderr), between, ended(first, TWO_TEXT), read_file("x")
@@ -145,7 +146,7 @@ def in_place_is_killed(program):
             return None
         first.kill()
         first.communicate()
-        how = dict(cwd=folder, input=TWO_TEXT, stderr=subprocess.PIPE, timeout=60, check=False)
+        how = dict(cwd=folder, input=TWO_TEXT, stderr=subprocess.PIPE, timeout=HANGS, check=False)
         second = subprocess.run([program, *IN_PLACE], **how)
         return second.returncode, second.stderr, read_file("x")
 
@@ -188,7 +189,7 @@ def crowd_is_right(program, has_old):
         with open(os.path.join(folder, "text"), "wb") as text:
             text.write(TWO_TEXT)
         running = [subprocess.Popen([program, "-vc", "x", "text"], **how) for _ in range(CROWD)]
-        answers = {(it.returncode, lines) for it in running for _, lines in [it.communicate(timeout=60)]}
+        answers = {(it.returncode, lines) for it in running for _, lines in [it.communicate(timeout=HANGS)]}
         wanted = {(0, b""), (111, WHY % b"x.tmp"), (111, WHOLE % b"x.tmp")}
         return answers <= wanted and (0, b"") in answers and read_file("x") == TWO_FILE and read_file("x.tmp") is None
 
@@ -209,7 +210,7 @@ def round_is_right(program, chosen, is_first):
         killed = chosen.sample(range(CREATES), chosen.randint(0, 2))
         for n in killed:
             running[n].kill()
-        statuses = [process.wait(timeout=60) for process in running]
+        statuses = [process.wait(timeout=HANGS) for process in running]
         published = [files[n] for n in range(CREATES) if statuses[n] == 0]
         # One that was killed may have come to the rename.
         unknown = [files[n] for n in range(CREATES) if statuses[n] == -signal.SIGKILL]

@@ -4,24 +4,25 @@
     tests/cli/pages.py PROGRAM
 
 The synopsis is to be the usage text, each letter of it is to be described, and each line that the
-cases of cases.py await on standard error is to stand among the diagnostics. If the toolchain is there, the
-command in the environment's RT, else `rt`, README.md is to name it, as it proves the program. If the sources are there,
-docs/LIBRARY.md is to show the first caller as it is in cdb_files.
+cases of cases.py await on standard error is to stand among the diagnostics. Beside the sources README.md is to name the
+toolchain, the command in the environment's RT, else `rt`, as it proves the program, and docs/LIBRARY.md is to show the
+first caller as it is in cdb_files.
 """
 
 import os
 import re
-import shutil
 import subprocess
 import sys
 
 from cases import CASES
+from rows import has
 
 HERE = os.path.dirname(os.path.abspath(__file__))
 PAGE = os.path.join(HERE, "..", "..", "man", "cdb.1")
 README = os.path.join(HERE, "..", "..", "README.md")
 LIBRARY = os.path.join(HERE, "..", "..", "docs", "LIBRARY.md")
-CALLER = os.path.join(HERE, "..", "..", "crates", "cdb_files", "src", "examples", "files.rt")
+CRATES = os.path.join(HERE, "..", "..", "crates")
+CALLER = os.path.join(CRATES, "cdb_files", "src", "examples", "files.rt")
 # What stands in a diagnostic in place of a number, and of another diagnostic.
 NUMBER = "[A-Z]"
 # The line of the usage text that is no form of a command, of a letter that the page has in each form.
@@ -135,11 +136,11 @@ def main():
     if unknown:
         wrong.append(f"no diagnostic: {sorted(unknown)}")
     count = 3
-    rt = shutil.which(os.environ.get("RT") or "rt")
-    if rt:
-        count, wrong = count + 1, wrong + of_toolchain(rt)
-    if os.path.isfile(CALLER):
+    rt = os.environ.get("RT") or "rt"
+    if os.path.isdir(CRATES):
         count, wrong = count + 1, wrong + of_library()
+        if has(rt, "README.md names the toolchain"):
+            count, wrong = count + 1, wrong + of_toolchain(rt)
     for it in wrong:
         print(it)
     print(f"{count - len(wrong)} passed, {len(wrong)} failed")

@@ -23,6 +23,7 @@ import sys
 import tempfile
 
 from files import TWO_FILE, TWO_TEXT
+from rows import HANGS, leave_out
 from waiting import waits
 
 MODES = (0o400, 0o444, 0o600, 0o640, 0o644, 0o664, 0o666, 0o755)
@@ -68,7 +69,7 @@ def while_waiting(program, folder, mask, words, meanwhile=lambda path: None):
             return None, None
         mode = mode_of(temporary) if os.path.exists(temporary) else None
         meanwhile(database)
-        process.communicate(TWO_TEXT, timeout=60)
+        process.communicate(TWO_TEXT, timeout=HANGS)
         return mode, process.returncode
 
 
@@ -140,7 +141,7 @@ def listed(program, entries, inner=""):
 def named(program, size):
     """The status and the bits of a new database whose name has so many bytes, and how many files there are."""
     with tempfile.TemporaryDirectory() as folder:
-        how = dict(cwd=folder, input=TWO_TEXT, timeout=60, check=False, preexec_fn=lambda: os.umask(0o022) and None)
+        how = dict(cwd=folder, input=TWO_TEXT, timeout=HANGS, check=False, preexec_fn=lambda: os.umask(0o022) and None)
         done = subprocess.run([program, "-cv", "-t", "t", "n" * size], **how)
         return done.returncode, mode_of(os.path.join(folder, "n" * size)), len(os.listdir(folder))
 
@@ -178,7 +179,7 @@ def among_strangers(program, words):
             place(os.path.join(folder, name), 0o644)
             os.chown(os.path.join(folder, name), STRANGER, STRANGER)
         copy = shutil.copy(program, os.path.join(folder, "cdb"))
-        how = dict(cwd=folder, input=TWO_TEXT, stderr=subprocess.PIPE, timeout=60, check=False)
+        how = dict(cwd=folder, input=TWO_TEXT, stderr=subprocess.PIPE, timeout=HANGS, check=False)
         done = subprocess.run([copy, *words], preexec_fn=become_another, **how)
         path = os.path.join(folder, "x")
         mode = mode_of(path) if os.path.exists(path) else None
@@ -203,7 +204,7 @@ def over_a_stranger(program, maker, mask, mode, words=("-c", "x"), sticky=0):
                 become_another()
             os.umask(mask)
 
-        how = dict(cwd=folder, input=TWO_TEXT, stderr=subprocess.PIPE, timeout=60, check=False)
+        how = dict(cwd=folder, input=TWO_TEXT, stderr=subprocess.PIPE, timeout=HANGS, check=False)
         done = subprocess.run([copy, *words], preexec_fn=become, **how)
         found = done.returncode, mode_of(path), os.stat(path).st_uid, sorted(os.listdir(folder))
         return found, opens(path, os.O_RDONLY), opens(path, os.O_WRONLY)
@@ -226,7 +227,7 @@ def in_turn(program):
         path = os.path.join(folder, "x")
         copy = shutil.copy(program, os.path.join(folder, "cdb"))
         for user, bits in TURNS:
-            how = dict(cwd=folder, input=TWO_TEXT, timeout=60, check=False)
+            how = dict(cwd=folder, input=TWO_TEXT, timeout=HANGS, check=False)
             done = subprocess.run([copy, "-cv", "x"], preexec_fn=lambda: become_another(user), **how)
             came.append((done.returncode, os.stat(path).st_uid, mode_of(path), sorted(os.listdir(folder))))
             if bits is not None:
@@ -276,7 +277,7 @@ def main():
     came.append(("in place in another's file", left, ((0, 0o666, STRANGER, ["cdb", "x"]), True, True)))
     for what, left, _ in came:
         if left is None:
-            print(f"left out: {what}, which needs access lists, or root")
+            leave_out(what, "access lists, or root")
     came = [it for it in came if it[1] is not None]
     wrong = [it for it in came if it[1] != it[2]]
     for what, got, wanted in wrong:

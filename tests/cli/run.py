@@ -18,6 +18,7 @@ import tempfile
 from cases import CASES
 from causes import CAUSES
 from places import CLOSED, FOLDER, PIPE, UNREAD, Link
+from rows import HANGS
 from sets import SETS
 
 # The permissions that a new file is to have, with the mask that the program is run with.
@@ -126,7 +127,7 @@ def run(program, case, folder):
                 [program, *case["words"]],
                 cwd=folder,
                 env={},
-                timeout=60,
+                timeout=HANGS,
                 stderr=there if errors is None else errors,
                 preexec_fn=prepared(case, closed),
                 **how,

@@ -20,6 +20,7 @@ import sys
 import tempfile
 
 from files import TWO_FILE, file_of, text_of
+from rows import HANGS
 
 KIB = 1024
 STACK = 96
@@ -122,7 +123,7 @@ def run(program, words, given=None, limits=()):
     with tempfile.TemporaryDirectory(dir=where) as folder, contextlib.ExitStack() as opened:
         fill(folder)
         stdin = opened.enter_context(open(os.path.join(folder, given), "rb")) if given else subprocess.DEVNULL
-        how = dict(cwd=folder, env={}, stdin=stdin, capture_output=True, timeout=60, check=False)
+        how = dict(cwd=folder, env={}, stdin=stdin, capture_output=True, timeout=HANGS, check=False)
         done = subprocess.run([program, *words], preexec_fn=prepare, **how)
         return done.returncode, done.stdout, done.stderr, found_in(folder)
 

@@ -15,6 +15,7 @@ import sys
 import tempfile
 
 from files import ONE_FILE, TWO_FILE, TWO_TEXT
+from rows import HANGS
 
 OPEN = b"cdb: file cannot be opened\n"
 RENAME = b"cdb: database cannot be renamed\n"
@@ -23,7 +24,7 @@ IN_PLACE = ["-c", "-t", "-", "x"]
 
 def run(program, folder, words, given):
     """The status and the line of a create that reads a file, or a text through a pipe."""
-    how = dict(cwd=folder, stderr=subprocess.PIPE, timeout=60, check=False)
+    how = dict(cwd=folder, stderr=subprocess.PIPE, timeout=HANGS, check=False)
     if isinstance(given, bytes):
         done = subprocess.run([program, *words], input=given, **how)
     else:
@@ -53,7 +54,7 @@ def linked(program, target):
         path = os.path.join(folder, "x")
         os.symlink(target, path)
         with tempfile.TemporaryFile() as output:
-            how = dict(cwd=folder, input=TWO_TEXT, stdout=output, stderr=subprocess.PIPE, timeout=60, check=False)
+            how = dict(cwd=folder, input=TWO_TEXT, stdout=output, stderr=subprocess.PIPE, timeout=HANGS, check=False)
             done = subprocess.run([program, "-c", "x"], **how)
             output.seek(0)
             written = output.read()
@@ -69,12 +70,12 @@ def typed(program, keys):
         terminal, stream = pty.openpty()
         try:
             os.write(terminal, keys)
-            how = dict(cwd=folder, stdin=stream, stderr=subprocess.PIPE, timeout=60, check=False)
+            how = dict(cwd=folder, stdin=stream, stderr=subprocess.PIPE, timeout=HANGS, check=False)
             done = subprocess.run([program, "-c", "-m", "x", "-", "-"], **how)
         finally:
             os.close(stream)
             os.close(terminal)
-        dump = subprocess.run([program, "-d", "-m", "x"], cwd=folder, capture_output=True, timeout=60, check=False)
+        dump = subprocess.run([program, "-d", "-m", "x"], cwd=folder, capture_output=True, timeout=HANGS, check=False)
     return done.returncode, done.stderr, dump.stdout
 
 

@@ -16,6 +16,7 @@ import sys
 import tempfile
 
 from files import TWO_FILE, TWO_TEXT
+from rows import HANGS
 from waiting import waits
 
 RENAME = b"cdb: database cannot be renamed\n"
@@ -48,7 +49,7 @@ def left_by(program, words, text, takes, old):
                 process.kill()
                 return None
             takes(built)
-            _, errors = process.communicate(text, timeout=60)
+            _, errors = process.communicate(text, timeout=HANGS)
         files = {}
         for it in sorted(os.listdir(folder)):
             with open(os.path.join(folder, it), "rb") as file:

@@ -3,6 +3,8 @@
 import os
 import time
 
+from rows import HANGS
+
 
 def is_asleep(process):
     """Whether a process waits. A create waits for nothing but its text: it asks for locks that it gets at
@@ -14,7 +16,8 @@ def is_asleep(process):
 def waits(process, path):
     """Waits until a create has made its file, holds its lock and reads its text, which has not come; and
     answers whether it does."""
-    for _ in range(6000):
+    end = time.monotonic() + HANGS
+    while time.monotonic() < end:
         if os.path.exists(path) and is_asleep(process):
             return True
         if process.poll() is not None:

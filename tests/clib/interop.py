@@ -28,6 +28,7 @@ from maker import Maker, drawn_script
 from making import Driver as Makes
 from making import split as split_calls
 from model import answers
+from rows import HANGS
 from run import Driver, compare_plain, split
 
 ROOT = os.path.abspath(sys.argv[3]) if len(sys.argv) == 4 else ""
@@ -47,7 +48,7 @@ def run(words, folder, library, data=b""):
     """The status and the output of a program, on a library."""
     environment = dict(os.environ, MAIL_CONFIG=folder, LD_LIBRARY_PATH=library)
     done = subprocess.run(words, cwd=folder, env=environment, input=data, capture_output=True,
-                          timeout=60)
+                          timeout=HANGS)
     return done.returncode, done.stdout
 
 

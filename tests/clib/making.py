@@ -6,20 +6,22 @@
 MAKES is makes.c, built with the shared library, which FOLDER has; REFUSED is the same with the static
 library and refuse.c; EDGES is edges.c. Scripts are drawn by chance. Each request for memory and each call of the system
 of one script is refused in turn: every call must then answer that, or do as if nothing was refused,
-and a file that is not finished must not be read as a database. If FOLDER has `sanitized`, the scripts
-are made with it too, and if valgrind or qemu is installed, some are made under it.
+and a file that is not finished must not be read as a database. The scripts are
+made by `sanitized` of FOLDER too, which the address sanitizer watches, and some under valgrind and qemu.
 """
 
 import errno
 import os
-import shutil
 import subprocess
 import sys
 import tempfile
 
+sys.path.append(os.path.join(os.path.dirname(os.path.abspath(__file__)), "..", "cli"))
+
 from crash import noted_calls, wrong_state
 from maker import BEFORE, NO_MAKER, Maker, drawn_script, file_of, text_of
 from model import HEAD, hash_of, walk
+from rows import HANGS, has, leave_out
 
 SCRIPTS = 300
 CALLS = 400
@@ -29,6 +31,9 @@ OLD_FILES = [None, b"old" * 100_000, b"\x00" * 3000]
 ERRORS = [errno.ENOSPC, errno.EFBIG, errno.EIO, errno.EDQUOT]
 LAST = 2**31
 CALLS_BY_NAME = ["pwrite", "pread", "ftruncate", "fsync", "lseek", "fstat", "fcntl"]
+# The tests that need more than a C compiler.
+SANITIZED, OLD_PROCESSOR = "drawn scripts under the address sanitizer", "drawn scripts on a processor of 2006"
+WATCHED_SCRIPTS = "drawn scripts under valgrind"
 # How many calls in a row are interrupted.
 INTERRUPTED = 9
 
@@ -64,7 +69,7 @@ class Driver:
         named = {f"REFUSE_{name.upper()}": str(value) for name, value in refusing.items()}
         return subprocess.run(
             [*before, *self.words], cwd=self.folder, env=self.environment | named,
-            capture_output=True, timeout=900,
+            capture_output=True, timeout=HANGS,
         )
 
     def file(self, n):
@@ -360,12 +365,13 @@ def lose_power(driver):
 
 def call_at_edges(driver):
     """The rows of edges.c."""
-    done = subprocess.run(driver.words[:1], cwd=driver.folder, capture_output=True, timeout=900,
+    done = subprocess.run(driver.words[:1], cwd=driver.folder, capture_output=True, timeout=HANGS,
                           check=False)
     return None if done.returncode == 0 else done.stdout.decode().strip().replace("\n", "; ")
 
 
-def main(makes, refused, edges, library):
+def tests_of(makes, refused, edges, library):
+    """Each test, with its function and the program."""
     tests = [
         ("drawn scripts", compare_drawn, makes),
         ("drawn scripts by the static library", compare_drawn, refused),
@@ -384,13 +390,19 @@ def main(makes, refused, edges, library):
     ]
     sanitized = os.path.join(library, "sanitized")
     if os.path.exists(sanitized):
-        tests.append(("drawn scripts under the address sanitizer", compare_drawn, sanitized))
-    if shutil.which("qemu-x86_64") and os.uname().machine == "x86_64":
-        tests.append(("drawn scripts on a processor of 2006", compare_on_old_processor, makes))
-    if shutil.which("valgrind"):
-        tests.append(("drawn scripts under valgrind", compare_watched, makes))
+        tests.append((SANITIZED, compare_drawn, sanitized))
+    else:
+        leave_out(SANITIZED, "a C compiler with the address sanitizer")
+    if os.uname().machine == "x86_64" and has("qemu-x86_64", OLD_PROCESSOR):
+        tests.append((OLD_PROCESSOR, compare_on_old_processor, makes))
+    if has("valgrind", WATCHED_SCRIPTS):
+        tests.append((WATCHED_SCRIPTS, compare_watched, makes))
+    return tests
+
+
+def main(makes, refused, edges, library):
     passed = failed = 0
-    for name, test, program in tests:
+    for name, test, program in tests_of(makes, refused, edges, library):
         # A flush to a file system in memory takes no time.
         where = "/dev/shm" if os.access("/dev/shm", os.W_OK) else None
         with tempfile.TemporaryDirectory(dir=where) as folder:

@@ -4,26 +4,27 @@
     tests/clib/package.py FOLDER
 
 FOLDER has libcdb.so.1 and libcdb.a. The program is makes.c, built from the unpacked header with each
-library; it makes a drawn database. The library is installed into a folder too, and removed from there. If
-`lintian` is installed it may find no error and warn of nothing. If a C++ compiler is, the header is read by it
-too, and if `clang` is, it builds the library.
+library; it makes a drawn database. The library is installed into a folder too, and removed from there.
+`lintian` may find no error and warn of nothing, a C++ compiler reads the header too, and `clang` builds the library.
 """
 
 import glob
 import os
 import re
-import shutil
 import subprocess
 import sys
 import tempfile
 
 from maker import drawn_script
 from making import Driver, compare
+from rows import has
 
 HERE = os.path.dirname(os.path.abspath(__file__))
 TOP = os.path.join(HERE, "..", "..")
 TOOL = os.path.join(TOP, "tools", "package.py")
 COMPILER = (os.environ.get("CC") or "cc").split()
+# What is tested if a command is here.
+READ, BUILT, LINTED = "a C++ compiler reads the header", "clang builds the library", "lintian finds nothing of weight"
 # What each package holds, below the folder of its architecture's libraries or below usr.
 SHARED = {"LIBRARIES/libcdb.so.1": 0o644, "share/doc/pezundrix-libcdb1/copyright": 0o644}
 BUILDING = {
@@ -233,14 +234,14 @@ def tests_of(library, folder):
         "a program runs with the static library": runs(tree, folder, "libcdb.a"),
         "a program runs with its other name": runs(tree, folder, "libcdb_pic.a"),
     }
-    if shutil.which("c++"):
+    if has("c++", READ):
         words = ["c++", "-fsyntax-only", "-Wall", "-Werror", "-x", "c++", f"{tree}/usr/include/cdb.h"]
         done = subprocess.run(words, capture_output=True, check=False)
-        held["a C++ compiler reads the header"] = done.returncode == 0
-    if shutil.which("clang"):
-        held["clang builds the library"] = is_built_by_clang(tree, folder)
-    if shutil.which("lintian"):
-        held["lintian finds nothing of weight"] = has_no_error(packages)
+        held[READ] = done.returncode == 0
+    if has("clang", BUILT):
+        held[BUILT] = is_built_by_clang(tree, folder)
+    if has("lintian", LINTED):
+        held[LINTED] = has_no_error(packages)
     return held
 
 

@@ -5,17 +5,19 @@
 
 ANSWERS is answers.c, built; FOLDER has the library, libcdb.so.1; PROGRAM is the command. Without
 it the answers are compared with the plain ones of model.py alone. Each database is closed in the end,
-and what reads it is called once more. If valgrind is installed, some files are read once more under it.
+and what reads it is called once more. Some files are read once more under valgrind.
 """
 
 import os
-import shutil
 import subprocess
 import sys
 import tempfile
 
+sys.path.append(os.path.join(os.path.dirname(os.path.abspath(__file__)), "..", "cli"))
+
 from drawn import cut_files, drawn_files, good_files, worked_files
 from model import HEAD, answers
+from rows import HANGS, has
 
 GROUPS = {
     "good files": good_files,
@@ -52,7 +54,7 @@ class Driver:
         """What it prints of the files in the list, and its status and errors."""
         return subprocess.run(
             [*before, *self.words, "list", *after],
-            cwd=self.folder, env=self.environment, capture_output=True, timeout=1800,
+            cwd=self.folder, env=self.environment, capture_output=True, timeout=HANGS,
         )
 
 
@@ -94,7 +96,7 @@ def command_answers(program, folder, n, keys):
     for words in [["-d", f"{n}.cdb"]] + [["-q", "--", f"{n}.cdb", os.fsdecode(key)] for key in keys]:
         done = subprocess.run(
             [program, *words], cwd=folder, stdin=subprocess.DEVNULL, stdout=subprocess.PIPE,
-            stderr=subprocess.DEVNULL, timeout=60,
+            stderr=subprocess.DEVNULL, timeout=HANGS,
         )
         said.append((done.returncode, done.stdout))
     return said
@@ -133,7 +135,7 @@ def main(answers_path, library, program=None):
             if program:
                 path = os.path.abspath(program)
                 tests["the command"] = lambda: compare_command(driver, path, files)
-            if shutil.which("valgrind"):
+            if has("valgrind", f"{name}, valgrind"):
                 tests["valgrind"] = lambda: compare_watched(driver, files)
             for what, test in tests.items():
                 fault = test()

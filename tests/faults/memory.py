@@ -21,6 +21,7 @@ from commands import Command
 from refusing import Refusing
 
 from files import file_of, text_of
+from rows import HANGS
 
 MILLION = 1_000_000
 LONG = 64 * MILLION
@@ -170,7 +171,7 @@ def within(path, name):
             input=command.stdin,
             capture_output=True,
             preexec_fn=lambda: resource.setrlimit(resource.RLIMIT_AS, (most_bytes, most_bytes)),
-            timeout=60,
+            timeout=HANGS,
         )
     print(f"{name}: status {done.returncode} in {most_bytes} bytes at once")
     return done.returncode == 0

@@ -9,6 +9,9 @@ import tempfile
 from concurrent.futures import ProcessPoolExecutor
 from dataclasses import dataclass
 
+import commands  # noqa: F401, which makes the files of tests/cli known
+from rows import HANGS
+
 
 @dataclass
 class Call:
@@ -114,7 +117,7 @@ class Refusing:
                 stdin=given,
                 capture_output=True,
                 preexec_fn=prepare,
-                timeout=60,
+                timeout=HANGS,
             )
 
 

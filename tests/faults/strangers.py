@@ -23,6 +23,7 @@ import tempfile
 import commands  # noqa: F401, which makes the files of tests/cli known
 from files import ONE_FILE, TWO_FILE, TWO_TEXT
 from refusing import Refusing
+from rows import HANGS, leave_out
 
 STRANGER = 1001
 ATTACKERS = 2
@@ -137,7 +138,7 @@ def locked(path):
 
 def created(program, folder, words=CREATE, mask=MASK):
     """The status and the lines of a create."""
-    how = dict(cwd=folder, stdin=subprocess.DEVNULL, stderr=subprocess.PIPE, timeout=60, check=False)
+    how = dict(cwd=folder, stdin=subprocess.DEVNULL, stderr=subprocess.PIPE, timeout=HANGS, check=False)
     done = subprocess.run([program, *words], preexec_fn=lambda: os.umask(mask) and None, **how)
     return done.returncode, done.stderr
 
@@ -217,7 +218,7 @@ def main():
     rows, wrong = list(checks()), 0
     if os.getuid() != 0:
         for name, _, _ in (it for it in rows if it[1] != beside_lock):
-            print(f"left out: {name}, which needs root")
+            leave_out(name, "root")
         rows = [it for it in rows if it[1] == beside_lock]
     for name, check, given in rows:
         fault = check(program, library, given)

@@ -19,6 +19,7 @@ HERE = os.path.dirname(os.path.abspath(__file__))
 sys.path.insert(0, os.path.join(HERE, "..", "cli"))
 
 from files import LARGE, LARGE_FILE, LARGE_TEXT, file_of, text_of
+from rows import HANGS
 
 # Some aliases, of which a key stands twice.
 ALIASES = b"postmaster root\nabuse root\nwebmaster www\nabuse security\n"
@@ -64,7 +65,7 @@ class Folder:
             file.write(stdin)
             file.seek(0)
             done = subprocess.run(
-                words, cwd=self.path, stdin=file, stdout=subprocess.PIPE, timeout=60, check=True
+                words, cwd=self.path, stdin=file, stdout=subprocess.PIPE, timeout=HANGS, check=True
             )
         return done.stdout
 
@@ -77,7 +78,7 @@ def other_cdb():
     """tinycdb's program, which has the name that ours is installed by."""
     for path in ("/usr/bin/cdb", "/usr/local/bin/cdb"):
         if os.path.exists(path) and b"CDB) tool" in subprocess.run(
-            [path, "-h"], capture_output=True, timeout=60
+            [path, "-h"], capture_output=True, timeout=HANGS
         ).stdout:
             return path
     return None
@@ -209,7 +210,7 @@ def perl_with_cdb():
     perl = shutil.which("perl")
     if perl is None:
         return None
-    has = subprocess.run([perl, "-MCDB_File", "-e", "1"], capture_output=True, timeout=60)
+    has = subprocess.run([perl, "-MCDB_File", "-e", "1"], capture_output=True, timeout=HANGS)
     return perl if has.returncode == 0 else None
 
 
@@ -219,7 +220,7 @@ def postmap_with_cdb():
     postconf = shutil.which("postconf") or shutil.which("/usr/sbin/postconf")
     if postmap is None or postconf is None:
         return None
-    maps = subprocess.run([postconf, "-m"], capture_output=True, timeout=60).stdout.split()
+    maps = subprocess.run([postconf, "-m"], capture_output=True, timeout=HANGS).stdout.split()
     return postmap if b"cdb" in maps else None
 
 

@@ -5,11 +5,10 @@
 
 OBJECT is the program's, cdb.o, and LIBRARY the code of the C library, libcdb_c.a. The path has each command but the
 checker's. What is built must run the worked example of tests/cli/files.py: by the C compiler in the environment's CC,
-else `cc`, and by clang if it is there, and as each flag says that a program is linked. Then what can go wrong: a tarball
+else `cc`, and by clang, and as each flag says that a program is linked. Then what can go wrong: a tarball
 without its objects or with others, a compiler without a static C library, an install over a program that runs, an
 uninstall of what was changed since. If this tree has the sources of the last release, the objects must be those of
-release/SHA256SUMS. The tree's own targets must say in one line what they lack. In a tree that is no
-git checkout nothing is tested, and the last line says so.
+release/SHA256SUMS. The tree's own targets must say in one line what they lack.
 """
 
 import hashlib
@@ -21,7 +20,8 @@ import sys
 import tempfile
 
 from held import tell
-from run import TOP, is_checkout, runs_example
+from run import TOP, runs_example
+from rows import has
 
 TOOL, PUBLISH = (os.path.join(TOP, "tools", it) for it in ("release.py", "publish.py"))
 # How a program is linked, and whether it is loaded then.
@@ -163,7 +163,7 @@ def builds(release):
     tree = release.tree()
     built = is_built(machine, tree, f"CC={compiler()}", "LDFLAGS=-pie -Wl,--build-id=sha1")
     yield "the flags of a packager win", built and BUILD_ID in read(f"{tree}/bin/cdb") and BUILD_ID in read(f"{tree}/bin/libcdb.so.1")
-    if shutil.which("clang"):
+    if has("clang", "clang builds it"):
         yield "clang builds it", is_built(machine, release.tree(), "CC=clang")
 
 
@@ -281,9 +281,6 @@ def lacks_toolchain(machine):
 def main():
     if len(sys.argv) != 3:
         sys.exit(__doc__)
-    if not is_checkout():
-        print("0 passed, 0 failed: this is no git checkout, of which a tarball is made")
-        return
     with tempfile.TemporaryDirectory() as folder:
         machine = Machine(folder)
         release = Release(machine, [os.path.abspath(it) for it in sys.argv[1:]])

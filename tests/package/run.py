@@ -3,16 +3,14 @@
 
     tests/package/run.py PROGRAM
 
-The example is the text of two records and its file, worked out by hand in tests/cli/files.py. If
-`lintian` is installed it may find no error and warn of nothing, and if `mandoc` is, neither may it. In a git
-checkout the tarball of the sources is made twice too. Root installs the package in a folder, over an older one and over
-one of tinycdb's name. Without `dpkg-deb` nothing is tested, and the last line says so.
+The example is the text of two records and its file, worked out by hand in tests/cli/files.py. `lintian` may find no
+error and warn of nothing, and neither may `mandoc`. In a git checkout the tarball of the sources is made twice too.
+Root installs the package in a folder, over an older one and over one of tinycdb's name.
 """
 
 import hashlib
 import os
 import re
-import shutil
 import subprocess
 import sys
 import tarfile
@@ -25,8 +23,17 @@ sys.path.insert(0, os.path.join(HERE, "..", "cli"))
 import upgrades
 from files import TWO_FILE, TWO_TEXT
 from held import tell
+from rows import CHECKOUT, has, is_checkout, leave_out
 
 TOOL = os.path.join(TOP, "tools", "package.py")
+# What is tested if a command, or a git checkout, is here.
+LINTED = "lintian finds nothing of weight"
+READ = "mandoc warns of nothing in the pages"
+OF_TARBALL = (
+    "the tarball has the same bytes each time, and their sum",
+    "the tarball has the version",
+    "all may read what the tarball has",
+)
 # What the package holds, with the permissions of each.
 HELD = {
     "usr/bin/cdb": 0o755,
@@ -144,14 +151,6 @@ def version():
         return file.read().strip()
 
 
-def is_checkout():
-    """Whether git knows the commit of this tree."""
-    if shutil.which("git") is None:
-        return False
-    words = ["git", "-C", TOP, "rev-parse", "--verify", "HEAD:VERSION"]
-    return subprocess.run(words, capture_output=True, check=False).returncode == 0
-
-
 def tests_of(program, folder):
     """What is tested, each with whether it holds."""
     package, is_same = made_twice("deb", program, folder)
@@ -169,29 +168,31 @@ def tests_of(program, folder):
     if os.geteuid() == 0:
         held |= upgrades.rows(package, version(), folder)
     else:
-        print("left out: tests/package/run.py: root alone installs a package")
-    if shutil.which("lintian"):
-        held["lintian finds nothing of weight"] = has_no_error(package)
-    if shutil.which("mandoc"):
+        leave_out("the package installed over another", "root")
+    if has("lintian", LINTED):
+        held[LINTED] = has_no_error(package)
+    if has("mandoc", READ):
         pages = [os.path.join(TOP, "man", it) for it in ("cdb.1", "cdb.5")]
         done = subprocess.run(["mandoc", "-T", "lint", "-W", "warning", *pages], check=False)
-        held["mandoc warns of nothing in the pages"] = done.returncode == 0
+        held[READ] = done.returncode == 0
     if is_checkout():
-        tarball, is_same = made_twice("dist", folder)
-        held["the tarball has the same bytes each time, and their sum"] = is_same
-        with tarfile.open(tarball) as tar:
-            held["the tarball has the version"] = any(it.endswith("/VERSION") for it in tar.getnames())
-            bits = {it.mode & 0o777 for it in tar.getmembers()}
-            held["all may read what the tarball has"] = bits == {0o644, 0o755}
+        return held | dict(zip(OF_TARBALL, of_tarball(folder)))
+    for row in OF_TARBALL:
+        leave_out(row, CHECKOUT)
     return held
+
+
+def of_tarball(folder):
+    """Whether each row of the tarball of the sources holds."""
+    tarball, is_same = made_twice("dist", folder)
+    with tarfile.open(tarball) as tar:
+        has_version = any(it.endswith("/VERSION") for it in tar.getnames())
+        return is_same, has_version, {it.mode & 0o777 for it in tar.getmembers()} == {0o644, 0o755}
 
 
 def main():
     if len(sys.argv) != 2:
         sys.exit(__doc__)
-    if shutil.which("dpkg-deb") is None:
-        print("0 passed, 0 failed: dpkg-deb is not here, so no package was made")
-        return
     with tempfile.TemporaryDirectory() as folder:
         held = tests_of(os.path.abspath(sys.argv[1]), folder)
     tell(held.items())
