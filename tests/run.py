@@ -150,6 +150,7 @@ def parts_of(program, is_gate):
         Part("tests/faults/killed.py", (loaded, refuse), (c, dynamic), (refuse,)),
         Part("tests/faults/others.py", (loaded, refuse), (c, dynamic), (refuse,)),
         Part("tests/faults/pairs.py", (loaded, refuse), (c, dynamic), (refuse,)),
+        Part("tests/faults/power.py", (loaded, refuse), (c, dynamic), (refuse,)),
         Part("tests/faults/strangers.py", (loaded, refuse), (c, dynamic), (refuse,)),
         Part("tests/faults/parts.py", (loaded, refuse), (c, dynamic), (refuse,)),
     ]

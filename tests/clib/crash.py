@@ -2,11 +2,10 @@
 
 import random
 
+from choices import choices
 from model import HEAD, values, walk
 
 SECTOR = 512
-# How many states are drawn at each moment, besides those in which nothing and all came to the disk.
-DRAWN = 60
 
 
 def noted_calls(notes):
@@ -50,10 +49,8 @@ def states(old, calls):
             flushed, pending = after(flushed, pending), []
         else:
             pending += pieces_of(call, len(flushed))
-        yield made, flushed
-        yield made, after(flushed, pending)
-        for _ in range(DRAWN if pending else 0):
-            yield made, after(flushed, [it for it in pending if chance.randrange(2)])
+        for chosen in choices(pending, chance):
+            yield made, after(flushed, chosen)
 
 
 def read_as(file, wanted, keys):

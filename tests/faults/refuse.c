@@ -29,6 +29,10 @@
  * To the file that REFUSE_TRACE names, if it is set, a line is added for each call: which it was, the
  * file's number in its file system, what it answered, its flags or mode or how many bytes it was for,
  * and its name or the number of its file.
+ *
+ * To the file that REFUSE_CHANGES names, if it is set, what changed a file or a name is added: a line with what it was, the
+ * file's number in its file system, a place in it or its mode, a number of bytes, and the name if it has one; and after the line
+ * so many bytes, those that were written or the new name.
  */
 #define _GNU_SOURCE
 #include <errno.h>
@@ -52,7 +56,7 @@ extern void *__libc_memalign(size_t alignment, size_t size);
 
 static unsigned long early[2], *asks = early;
 static unsigned long first, last, most, also_first, also_last, also_asks;
-static int are_calls, are_alike, are_remote, error = EIO, trace = -1, was_refused, also_kills;
+static int are_calls, are_alike, are_remote, error = EIO, trace = -1, changes = -1, was_refused, also_kills;
 static const char *only, *act, *named, *also;
 
 /* A descriptor that the program does not get for a file of its own. */
@@ -71,6 +75,18 @@ static unsigned long number(const char *name)
 {
 	const char *text = getenv(name);
 	return text ? strtoul(text, NULL, 10) : 0;
+}
+
+/* Opens the file that a variable names, if it is set, to add to it. */
+static int opened(const char *variable)
+{
+	const char *path = getenv(variable);
+	if (!path)
+		return -1;
+	int file = syscall(SYS_openat, AT_FDCWD, path, O_WRONLY | O_APPEND);
+	int far = fcntl(file, F_DUPFD_CLOEXEC, FAR);
+	syscall(SYS_close, file);
+	return far;
 }
 
 __attribute__((constructor)) static void begin(void)
@@ -100,19 +116,15 @@ __attribute__((constructor)) static void begin(void)
 	if (getenv("REFUSE_ERROR"))
 		error = number("REFUSE_ERROR");
 	asks = counted;
-	path = getenv("REFUSE_TRACE");
-	if (path) {
-		file = syscall(SYS_openat, AT_FDCWD, path, O_WRONLY | O_APPEND);
-		trace = fcntl(file, F_DUPFD_CLOEXEC, FAR);
-		syscall(SYS_close, file);
-	}
+	trace = opened("REFUSE_TRACE");
+	changes = opened("REFUSE_CHANGES");
 }
 
 /* The number of a call's file in its file system, or 0. */
 static unsigned long inode(const struct call *call)
 {
 	struct stat found = { 0 };
-	if (trace < 0)
+	if (trace < 0 && changes < 0)
 		return 0;
 	if (call->name)
 		syscall(SYS_newfstatat, AT_FDCWD, call->name, &found, AT_SYMLINK_NOFOLLOW);
@@ -131,6 +143,17 @@ static void note(const struct call *call, unsigned long file, long answer)
 			call->detail, call->name ? call->name : open);
 		syscall(SYS_write, trace, line, size < (int)sizeof line ? size : (int)sizeof line - 1);
 	}
+}
+
+/* Adds a change of a file or a name, if the call was made. */
+static void note_change(const struct call *call, unsigned long file, long answer, unsigned long place, const void *bytes, size_t size)
+{
+	char line[256];
+	if (changes < 0 || answer < 0)
+		return;
+	int length = snprintf(line, sizeof line, "%s %lu %lu %lu %s\n", call->what, file, place, size, call->name ? call->name : "");
+	syscall(SYS_write, changes, line, length);
+	syscall(SYS_write, changes, bytes, size);
 }
 
 static int is_among(void)
@@ -266,7 +289,12 @@ int open(const char *path, int flags, ...)
 	int mode = flags & O_CREAT ? va_arg(rest, int) : 0;
 	va_end(rest);
 	struct call call = { "open", path, -1, flags };
-	return answer(&call, SYS_openat, AT_FDCWD, (long)path, flags, mode, 0);
+	unsigned long before = inode(&call);
+	int file = answer(&call, SYS_openat, AT_FDCWD, (long)path, flags, mode, 0);
+	struct stat made = { 0 };
+	if (changes >= 0 && file >= 0 && !before && syscall(SYS_fstat, file, &made) == 0)
+		note_change(&call, made.st_ino, file, made.st_mode & 07777, "", 0);
+	return file;
 }
 
 ssize_t read(int file, void *into, size_t size)
@@ -295,19 +323,25 @@ ssize_t pread(int file, void *into, size_t size, off_t place)
 ssize_t pwrite(int file, const void *bytes, size_t size, off_t place)
 {
 	struct call call = { "pwrite", NULL, file, size };
-	return answer(&call, SYS_pwrite64, file, (long)bytes, taken(size), place, 0);
+	ssize_t written = answer(&call, SYS_pwrite64, file, (long)bytes, taken(size), place, 0);
+	note_change(&call, inode(&call), written, place, bytes, written);
+	return written;
 }
 
 int ftruncate(int file, off_t size)
 {
 	struct call call = { "cut", NULL, file, size };
-	return answer(&call, SYS_ftruncate, file, size, 0, 0, 0);
+	int answered = answer(&call, SYS_ftruncate, file, size, 0, 0, 0);
+	note_change(&call, inode(&call), answered, size, "", 0);
+	return answered;
 }
 
 int fsync(int file)
 {
 	struct call call = { "sync", NULL, file, 0 };
-	return answer(&call, SYS_fsync, file, 0, 0, 0, 0);
+	int answered = answer(&call, SYS_fsync, file, 0, 0, 0, 0);
+	note_change(&call, inode(&call), answered, 0, "", 0);
+	return answered;
 }
 
 int fdatasync(int file)
@@ -329,7 +363,9 @@ int flock(int file, int how)
 int fchmod(int file, mode_t mode)
 {
 	struct call call = { "allow", NULL, file, mode };
-	return answer(&call, SYS_fchmod, file, mode, 0, 0, 0);
+	int answered = answer(&call, SYS_fchmod, file, mode, 0, 0, 0);
+	note_change(&call, inode(&call), answered, mode, "", 0);
+	return answered;
 }
 
 int close(int file)
@@ -341,13 +377,19 @@ int close(int file)
 int rename(const char *from, const char *to)
 {
 	struct call call = { "rename", from, -1, 0 };
-	return answer(&call, SYS_renameat2, AT_FDCWD, (long)from, AT_FDCWD, (long)to, 0);
+	unsigned long file = inode(&call);
+	int answered = answer(&call, SYS_renameat2, AT_FDCWD, (long)from, AT_FDCWD, (long)to, 0);
+	note_change(&call, file, answered, 0, to, strlen(to));
+	return answered;
 }
 
 int unlink(const char *path)
 {
 	struct call call = { "remove", path, -1, 0 };
-	return answer(&call, SYS_unlinkat, AT_FDCWD, (long)path, 0, 0, 0);
+	unsigned long file = inode(&call);
+	int answered = answer(&call, SYS_unlinkat, AT_FDCWD, (long)path, 0, 0, 0);
+	note_change(&call, file, answered, 0, "", 0);
+	return answered;
 }
 
 int statx(int folder, const char *path, int flags, unsigned int mask, struct statx *into)
