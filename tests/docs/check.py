@@ -9,7 +9,8 @@ The page CALLING.md of a crate names each public item and function of its librar
 a test calls each public item, or public_items.py says why it is there. What tools/pages.py writes of
 the pages is what the sources give, and CONTRIBUTING.md names each part of the tests. docs/audit/ORACLE.md
 shows each definition of the oracle as it reads. Each figure that README.md or docs/GUIDE.md repeats is that of its
-source, and each contract, wrong body and picture that pages show is as its source has it. Each wrong body can be tried.
+source, each count that a page states is that of the sources, and each contract, wrong body and picture that pages show is
+as its source has it. Each wrong body can be tried.
 """
 
 import glob
@@ -19,6 +20,7 @@ import subprocess
 import sys
 
 from copied import wrong_copies
+from counts import wrong_counts
 from figures import wrong_figures
 from public_items import wrong_items
 from sources import TOP, sources_of, text_of
@@ -233,7 +235,7 @@ def main():
         wrong += wrong_calling(crate)
         count += 1
     wrong += [*wrong_bodies(), *wrong_tests(), *wrong_parts(), *wrong_pages(), *wrong_oracle(), *wrong_items()]
-    wrong += [*wrong_figures(), *wrong_copies()]
+    wrong += [*wrong_figures(), *wrong_copies(), *wrong_counts()]
     for it in wrong:
         print(it)
     failed = len({it.split(":")[0] for it in wrong})
