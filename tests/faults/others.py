@@ -8,7 +8,9 @@ The library is refuse.c, built to be loaded ahead of the C library. In the rows 
 puts something in place of a name just before one call of the create. It must stay, and the create must
 end by the status 111 and its line, with the database as it was. A reader who locks the file that shows
 permissions stops nothing. With the errors of HELD the lock of an old file is refused: it may be another
-create's, and stays. With those of FREE there are no locks, and the database is made.
+create's, and stays. With those of FREE there are no locks, and the database is made. What the system does not say is not
+taken for a yes or a no: an old file of which it is not known whether it is standard input stays, and so does the create's own
+where no look shows that it still has its name. A call that would have to wait is no call that a signal interrupted.
 """
 
 import errno
@@ -226,6 +228,44 @@ def idle(path, library, row):
     return None if is_right else f"{done.returncode} {done.stderr}, {sorted(left)}"
 
 
+def unready(path, library, row):
+    """What is wrong with a command one of whose calls would have to wait, or None: it is not made again."""
+    words, call, output, line = row
+    with tempfile.TemporaryDirectory() as folder:
+        place(folder, KEPT)
+        before = found_in(folder)
+        waiting = Refusing(path, library, "calls", ONLY=call, ERROR=errno.EAGAIN)
+        done, _ = waiting.trace(words, TWO_TEXT, 1, 1, folder)
+        left = found_in(folder)
+    is_right = (done.returncode, done.stderr, left) == (111, line, before) and output.startswith(done.stdout)
+    return None if is_right else f"{done.returncode} {done.stderr}, {sorted(left)}"
+
+
+def unknown_input(path, library, _):
+    """What is wrong with a create that does not learn whether the old file is its standard input, or None: the file stays."""
+    with tempfile.TemporaryDirectory() as folder:
+        place(folder, STALE)
+        before = found_in(folder)
+        looking = Refusing(path, library, "calls", ONLY="look", NAME="/proc/self/fd/0")
+        done, calls = looking.trace(PLAIN, TWO_TEXT, 1, 1, folder)
+        left = found_in(folder)
+    is_right = (done.returncode, done.stderr, left) == (111, NO_FILE, before) and "/proc/self/fd/0" in [it.name for it in calls]
+    return None if is_right else f"{done.returncode} {done.stderr}, {told(left)}"
+
+
+def unknown_own(path, library, _):
+    """What is wrong with a create that fails and does not learn whether its file still has its name, or None: the name is not
+    removed."""
+    with tempfile.TemporaryDirectory() as folder:
+        place(folder, KEPT)
+        before = found_in(folder)
+        looking = Refusing(path, library, "calls", ONLY="sync", ALSO="look", ALSO_FIRST=1, ALSO_LAST=LAST)
+        done, _ = looking.trace(PLAIN, TWO_TEXT, 1, 1, folder)
+        left = found_in(folder)
+    is_right = (done.returncode, done.stderr) == (111, NO_DATABASE) and left == {**before, "x.tmp": (TWO_FILE, MODE)}
+    return None if is_right else f"{done.returncode} {done.stderr}, {told(left)}"
+
+
 def unshown(path, library, error):
     """What is wrong with a create of a new database where the file that shows the permissions of a new one
     cannot be made, or None."""
@@ -312,6 +352,9 @@ def checks():
     yield "a byte more, before its permissions are given", longer, "allow"
     yield "a byte more, before it is synced", longer, "sync"
     yield from ((f"{name} that takes no byte", idle, row) for name, row in IDLE.items())
+    yield from ((f"{name} that would have to wait", unready, row) for name, row in IDLE.items())
+    yield "standard input that is not looked at, beside an old file", unknown_input, None
+    yield "a temporary file that is not looked at, as it is to be removed", unknown_own, None
     for error in (errno.ENAMETOOLONG, errno.EIO, errno.EACCES, errno.ENOSPC, errno.EEXIST):
         yield f"a file that shows permissions, refused by {errno.errorcode[error]}", unshown, error
     yield from ((f"{name}, its names", touched, it) for name, it in CREATES.items())

@@ -7,7 +7,7 @@
 The library is refuse.c, built to be loaded ahead of the C library. Each run of commands.py is made
 once with nothing refused, which counts its asks. Then it is made twice for each of them: with that
 ask refused alone, and with that one and all later ones. It must end as with nothing refused, where
-the ask was not needed, as a read in turn and a write to a file always are; or else by the status 111 and the line of a fault,
+the ask was not needed, as a read in turn and a write or a cut of a file always are; or else by the status 111 and the line of a fault,
 with a front of its output and of its lines, the old database as it was unless it is made in place, and
 no temporary file, unless that could not be removed or locked. The line of an ask that is refused alone
 is one of its own kind. Where the writing of a line is refused, the line may be missing.
@@ -123,8 +123,8 @@ def stays(command, left, may_stay):
 def came_of(what, command, left, free, first, last):
     """What came of a refusal, or what is wrong."""
     if left.is_as(free):
-        # The program reads in turn, and writes to a file, only what it needs; of a file at places it may read more at once.
-        is_needed = what == "calls" and last == first and left.calls[first - 1] in ("read", "pwrite")
+        # The program reads in turn, writes to a file and cuts it only as it needs; of a file at places it may read more at once.
+        is_needed = what == "calls" and last == first and left.calls[first - 1] in ("read", "pwrite", "cut")
         return "a call that failed was passed over" if is_needed else DONE
     is_told = tells(lines_of(command, left, first, last), left.errors, free.errors)
     is_silenced_here = is_silenced(what, left.errors, free.errors)
