@@ -27,8 +27,8 @@ LEFT_OUT = re.compile(r"^left out: .*\n", re.MULTILINE)
 SECONDS = 15
 # How much memory a part takes at most.
 MEMORY = 2 << 30
-# How many times the program is compiled for its table of cases.
-HALVES = 2
+# On more processors than these the program is compiled twice for its table of cases.
+FEW = 2
 
 
 def checker():
@@ -54,12 +54,13 @@ def has_tests(crate):
     return False
 
 
-def parts():
-    """The parts, the long ones first: a name, the words, and the folder to run them in."""
+def parts(at_once):
+    """The parts, the long ones first, where so many run at once: a name, the words, and the folder to run them in."""
     python = [sys.executable]
     # These wait more than they work.
     found = [(it, [*python, it], TOP) for it in ("tests/build/run.py", "tests/build/gate.py")]
-    halves = [["tests/cli/unproved.py", str(it + 1), str(HALVES)] for it in range(HALVES)]
+    of = 2 if at_once > FEW else 1
+    halves = [["tests/cli/unproved.py", str(it + 1), str(of)] for it in range(of)]
     found += [(" ".join(it), python + it, TOP) for it in halves]
     crates = [it for it in os.listdir(os.path.join(TOP, "crates")) if has_tests(it)]
     for crate in sorted(crates, key=size_of, reverse=True):
@@ -99,7 +100,7 @@ def main():
     at_once = max(1, min(len(os.sched_getaffinity(0)), memory // MEMORY))
     passed = failed = 0
     with ThreadPoolExecutor(at_once) as pool:
-        for part in as_completed([pool.submit(run, it) for it in parts()]):
+        for part in as_completed([pool.submit(run, it) for it in parts(at_once)]):
             good, bad, said = part.result()
             passed, failed = passed + good, failed + bad
             print(said, flush=True)
