@@ -177,7 +177,8 @@ def tests_of(program, folder):
         held[READ] = done.returncode == 0
     if is_checkout():
         return held | dict(zip(OF_TARBALL, of_tarball(folder)))
-    for row in OF_TARBALL:
+    # A release has no sources.
+    for row in OF_TARBALL if os.path.isdir(os.path.join(TOP, "crates")) else ():
         leave_out(row, CHECKOUT)
     return held
 
