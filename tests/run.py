@@ -206,8 +206,8 @@ def run(part, place, out):
     print(f"{part}: {time.monotonic() - began:.0f} s, {place} parts", flush=True)
     counted = COUNTED.findall(done.stdout)
     passed, failed = map(int, counted[-1]) if counted else (0, 0)
-    # A script that ends early has failed, whatever it counted.
     rows = [f"{part.script}: {it.rstrip()}" for it in LEFT_OUT.findall(done.stdout)]
+    # A script that ends early has failed, whatever it counted.
     return passed, failed or int(done.returncode != 0 or not counted), rows
 
 

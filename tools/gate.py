@@ -12,7 +12,7 @@ again over these libraries. Then tools/wrong.py tries the wrong bodies that are 
 and beside it tests/run.py runs: most of its tests use one processor.
 
 A line a minute says what is done and about how long the rest takes, on a terminal one line that is rewritten. In the
-end a table has the time of each part, and below it is each part of the tests that was left out, and each crate and wrong
+end a table has the time of each part, and below it is each part and row of the tests that was left out, and each crate and wrong
 body that failed. Nothing passes because it was left out: each crate must be proved or its tests run, each listed wrong body be
 tried, and each part of the tests and each crate's tests pass as many as tools/floors.txt says. The last line counts the tests
 that passed and failed, and each other part that failed as one more. What the parts say goes to files in bin. If nothing failed
