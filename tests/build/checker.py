@@ -29,6 +29,15 @@ def note(*words):
         file.write(" ".join(map(str, words)) + "\n")
 
 
+def wait_while(holds):
+    """Waits while something holds, for a long time at most. If who began this check is gone, so is the check."""
+    parent, end = os.getppid(), time.monotonic() + SECONDS
+    while holds() and time.monotonic() < end:
+        if os.getppid() != parent:
+            sys.exit(1)
+        time.sleep(0.01)
+
+
 def begun():
     """The crates whose checks have begun."""
     with open(JOURNAL, encoding="utf-8") as file:
@@ -77,12 +86,9 @@ def prove(crate, words):
         note("has", crate)
     os.makedirs(kept, exist_ok=True)
     print("so far: 1 of 2 functions checked", flush=True)
-    end = time.monotonic() + SECONDS
     meets = named("MEET")
-    while crate in meets and not begun().issuperset(meets) and time.monotonic() < end:
-        time.sleep(0.01)
-    while crate in named("HANG") and time.monotonic() < end:
-        time.sleep(0.01)
+    wait_while(lambda: crate in meets and not begun().issuperset(meets))
+    wait_while(lambda: crate in named("HANG"))
     if crate in named("FAIL"):
         print(f"{os.getcwd()}/src/lib.rt:1:1: error: not so")
         return 1
@@ -130,9 +136,7 @@ def check(crate, words):
     note("checks" if is_room else "rights", crate, *functions)
     if told["--extern"]:
         note("over", crate, *told["--extern"])
-    end = time.monotonic() + SECONDS
-    while named("HANG") == ["checks" if is_room else "rights"] and time.monotonic() < end:
-        time.sleep(0.01)
+    wait_while(lambda: named("HANG") == ["checks" if is_room else "rights"])
     note("ends", crate)
     bodies = {it: body_of(it) for it in functions}
     unread = [it for it, (body, _) in bodies.items() if body[0] not in [*WAYS, *BROKEN, "waits"]]
@@ -187,9 +191,7 @@ def gate():
     note("files", *sorted(os.path.relpath(os.path.join(place, it), ".") for place, _, names in os.walk(".") for it in names))
     with open(os.environ.get("CHANGE", os.devnull), "a", encoding="utf-8") as file:
         file.write("changed\n")
-    end = time.monotonic() + SECONDS
-    while "ci" in named("HANG") and time.monotonic() < end:
-        time.sleep(0.01)
+    wait_while(lambda: "ci" in named("HANG"))
     crates = [it for it in listed_in(".") if it not in named("LEFT_OUT")] + named("TWICE")
     for crate in crates:
         os.makedirs(os.path.join("crates", crate, "out"), exist_ok=True)

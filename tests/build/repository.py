@@ -110,7 +110,9 @@ class Repository:
     def wait_for(self, *crates, what="begins"):
         """Waits until these checks have begun."""
         end = time.monotonic() + HANGS
-        while not set(crates).issubset(self.noted(what)) and time.monotonic() < end:
+        while not set(crates).issubset(self.noted(what)):
+            if time.monotonic() > end:
+                raise TimeoutError(f"{what}: {crates}")
             time.sleep(0.01)
 
     def read(self, name):
