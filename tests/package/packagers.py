@@ -20,7 +20,8 @@ import tempfile
 
 from held import tell
 from release import INSTALLED, Machine, Release, files_below, is_loaded, read
-from run import TOP, is_checkout, runs_example
+from run import TOP, runs_example
+from rows import is_checkout, leave_out
 
 FOLDER = os.path.join(TOP, "packaging")
 # Root makes no package of Arch Linux.
@@ -138,7 +139,7 @@ def main():
         for packager, commands in PACKAGERS.items():
             lacking = [it for it in commands if shutil.which(it) is None]
             if lacking:
-                print(f"left out: tests/package/packagers.py {packager.__name__}: no command {lacking[0]} is here")
+                leave_out(packager.__name__, lacking[0])
             else:
                 held += [(f"{packager.__name__}: {what}", holds) for what, holds in packager(release)]
     tell(held)

@@ -16,7 +16,8 @@ import sys
 import tempfile
 
 from held import tell
-from run import TOP, is_checkout
+from run import TOP
+from rows import is_checkout
 
 # The versions of the small repository's releases, and one of development.
 FIRST, SECOND, BETWEEN = "9.0.0", "9.1.0", "9.1.0~dev"
