@@ -5,8 +5,8 @@
 
 With --gate it also runs those that need the programs of the crates' tests, which the gate makes, and each part must pass
 as many as tools/floors.txt says. A part or a row that this machine cannot run is left out and named at the end. In CI, which
-the variable CI of the environment says, that is a failure, unless tests/commands.txt says why the command that it needs
-cannot be had. What the parts need is built beside the program if that is below bin, else in bin. A release has no sources:
+the variable CI of the environment says, that is a failure, unless the command that it needs cannot be had: tests/commands.txt
+says why, or .ci/run could not install it, which its variable CI_LACKS says. What the parts need is built beside the program if that is below bin, else in bin. A release has no sources:
 there the parts that read them are no parts. The last line counts all that passed and failed, and with --gate what was left
 out, of a part its floor.
 """
@@ -215,7 +215,7 @@ def without():
     """The commands that CI may lack."""
     with open(COMMANDS, encoding="utf-8") as file:
         lines = [line.split(None, 2) for line in file if not line.startswith("#")]
-    return {command for command, package, *_ in lines if package == "-"}
+    return {command for command, package, *_ in lines if package == "-"} | set(os.environ.get("CI_LACKS", "").split())
 
 
 def unexcused(left_out):
