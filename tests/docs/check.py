@@ -10,7 +10,7 @@ a test calls each public item, or public_items.py says why it is there. What too
 the pages is what the sources give, and CONTRIBUTING.md names each part of the tests. docs/audit/ORACLE.md
 shows each definition of the oracle as it reads. Each figure that README.md or docs/GUIDE.md repeats is that of its
 source, each count that a page states is that of the sources, and each contract, wrong body and picture that pages show is
-as its source has it. Each wrong body can be tried.
+as its source has it. No page has many words that point to something else (plain_words.py). Each wrong body can be tried.
 """
 
 import glob
@@ -22,6 +22,7 @@ import sys
 from copied import wrong_copies
 from counts import wrong_counts
 from figures import wrong_figures
+from plain_words import wrong_words
 from public_items import wrong_items
 from sources import TOP, sources_of, text_of
 
@@ -235,7 +236,7 @@ def main():
         wrong += wrong_calling(crate)
         count += 1
     wrong += [*wrong_bodies(), *wrong_tests(), *wrong_parts(), *wrong_pages(), *wrong_oracle(), *wrong_items()]
-    wrong += [*wrong_figures(), *wrong_copies(), *wrong_counts()]
+    wrong += [*wrong_figures(), *wrong_copies(), *wrong_counts(), *wrong_words()]
     for it in wrong:
         print(it)
     failed = len({it.split(":")[0] for it in wrong})
