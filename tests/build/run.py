@@ -1,6 +1,7 @@
 #!/usr/bin/env python3
 """Builds a small repository with a checker that proves nothing, and compares what tools/build.py does:
-what it runs side by side, and what is left after a failure, an interrupt and a kill.
+what it runs side by side, and what is left after a failure, an interrupt and a kill. In the end the toolchain's own checker
+is to take no kept proof for that of something else.
 
     tests/build/run.py
 """
@@ -15,6 +16,7 @@ import sys
 from types import SimpleNamespace
 from unittest import mock
 
+from planted import planted
 from repository import BUILT, CHECKER, TOOLS, run_parts
 from rows import HANGS, leave_out
 
@@ -216,4 +218,4 @@ def linked_in_vain(crate, target):
 
 
 if __name__ == "__main__":
-    run_parts((side_by_side, processors, again, library, minutes, failing, stopped, killed, two_builds, alone, copied, refused, linked))
+    run_parts((side_by_side, processors, again, library, minutes, failing, stopped, killed, two_builds, alone, copied, refused, linked, planted))
