@@ -118,12 +118,12 @@ def image(release):
     yield "its program needs nothing", not is_loaded(f"{place}/cdb") and runs_example(f"{place}/cdb", release.machine.place("example"))
 
 
-# The commands that each needs.
+# The commands that each needs, and how many rows it has.
 PACKAGERS = {
-    rpm: ("rpmbuild", "rpm2archive"),
-    arch: ("makepkg", "fakeroot", "bsdtar", "setpriv"),
-    debian: ("dpkg-source", "dpkg-buildpackage", "dh"),
-    image: ("strip",),
+    rpm: (("rpmbuild", "rpm2archive"), 3),
+    arch: (("makepkg", "fakeroot", "bsdtar", "setpriv"), 2),
+    debian: (("dpkg-source", "dpkg-buildpackage", "dh"), 5),
+    image: (("strip",), 3),
 }
 
 
@@ -136,10 +136,11 @@ def main():
     held = []
     with tempfile.TemporaryDirectory() as folder:
         release = Release(Machine(folder), [os.path.abspath(it) for it in sys.argv[1:]])
-        for packager, commands in PACKAGERS.items():
+        for packager, (commands, rows) in PACKAGERS.items():
             lacking = [it for it in commands if shutil.which(it) is None]
             if lacking:
-                leave_out(packager.__name__, lacking[0])
+                for row in range(rows):
+                    leave_out(f"{packager.__name__}, row {row + 1} of {rows}", lacking[0])
             else:
                 held += [(f"{packager.__name__}: {what}", holds) for what, holds in packager(release)]
     tell(held)

@@ -1,6 +1,7 @@
 // Look-ups in damaged files, and states that nobody left.
-use super::files::{changed, four_file, two_file};
+use super::files::four_file;
 use super::finding::{Answer, NONE, gives, value};
+use crate::tests::files::{changed, two_file};
 use cdb_form::{Damage, Narrow};
 use cdb_read::memory::{Search, next};
 use std::prelude::*;

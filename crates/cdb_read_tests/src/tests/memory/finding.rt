@@ -1,5 +1,6 @@
 // Look-ups: values in order, and keys that are not there.
-use super::files::{beside_file, four_file, two_file, wide_file};
+use super::files::{beside_file, four_file};
+use crate::tests::files::{two_file, wide_file};
 use cdb_form::{Damage, Narrow, Wide, Width, head_size};
 use cdb_read::Span;
 use cdb_read::memory::{begin, find, next};

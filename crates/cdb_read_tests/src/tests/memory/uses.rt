@@ -1,5 +1,6 @@
 // Callers of `cdb_read::memory`, as CALLING.md has them.
-use super::files::{four_file, two_file};
+use super::files::four_file;
+use crate::tests::files::two_file;
 use cdb_form::{Damage, Narrow, head_size};
 use cdb_read::memory::{begin, find, first_record, next, next_record};
 use std::prelude::*;

@@ -1,5 +1,6 @@
 // Walks: records in order, damage, and states that nobody left.
-use super::files::{changed, four_file, two_file, wide_file};
+use super::files::four_file;
+use crate::tests::files::{changed, two_file, wide_file};
 use cdb_form::{Damage, Narrow, Wide, Width, head_size};
 use cdb_read::memory::{RecordArea, first_record, next_record};
 use cdb_read::{Pair, Span};
