@@ -21,8 +21,8 @@ from trees import read
 TOP = os.path.normpath(os.path.join(os.path.dirname(os.path.abspath(__file__)), ".."))
 USAGE = "crates/cdb_command/src/usage_text.rt"
 TEXTS, MANUAL = "docs/TEXTS.md", "man/cdb.1"
-# The line that is no form of a command, before the letter that goes with each.
-EACH = "       with each:"
+# How each form of the command begins, and the line of the letter that goes with each.
+FORM, EACH = re.compile(r"(?:usage:|      ) cdb "), "       with each:"
 
 
 def usage_lines():
@@ -57,7 +57,7 @@ def with_synopsis(page):
     """The manual page with its synopsis."""
     lines = usage_lines()
     letter = next(it for it in lines if it.startswith(EACH)).removeprefix(EACH).split()[0]
-    forms = [it[7:].removeprefix("cdb ") for it in lines if not it.startswith(EACH)]
+    forms = [FORM.sub("", it) for it in lines if FORM.match(it)]
     made = "".join(macros_of(re.sub(r"^-\w(?: -\w)*", rf"\g<0> [{letter}]", it)) for it in forms)
     return re.sub(r"(?<=\.Sh SYNOPSIS\n).*?(?=\.Sh )", lambda _: made, page, count=1, flags=re.DOTALL)
 

@@ -233,6 +233,26 @@ usage: cdb -q [-W] [-m] [-n number] database key
        cdb -h
        cdb -V
        with each: -v  say which file and why
+
+  -q  query: write the values of a key
+  -d  dump: write all records
+  -l  list: write all keys
+  -s  write statistics
+  -c  create a database from texts
+  -k  check a database
+  -D  write what changed between two databases
+  -h  write the usage
+  -V  write the version
+  -n  write only the value with this number
+  -m  read or write a map, a key and a value a line
+  -i  look up all keys of the inputs
+  -t  build in this file
+  -b  amend this database
+  -w  report duplicate keys
+  -e  stop at a duplicate key
+  -r  a record replaces those of its key
+  -u  leave out duplicate keys
+  -W  use words of 8 bytes, for files above 4 GiB
 """
 
 with open(os.path.join(os.path.dirname(os.path.abspath(__file__)), "..", "..", "VERSION"), "rb") as version:

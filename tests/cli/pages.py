@@ -25,8 +25,9 @@ CRATES = os.path.join(HERE, "..", "..", "crates")
 CALLER = os.path.join(CRATES, "cdb_files", "src", "examples", "files.rt")
 # What stands in a diagnostic in place of a number, and of another diagnostic.
 NUMBER = "[A-Z]"
-# The line of the usage text that is no form of a command, of a letter that the page has in each form.
+# How the usage text says that a letter goes with each form, and what a letter means.
 EACH = "       with each: -v  say which file and why\n"
+MEANING = re.compile(r"^  -\w  \w.*\n", re.M)
 OF_EACH = " [-v]"
 OTHER = "..."
 
@@ -127,7 +128,8 @@ def main():
     patterns = diagnostics_of(page)
     wrong = []
     told = usage_of(page)
-    if told.replace(OF_EACH, "") + EACH != usage or told.count(OF_EACH) != told.count("\n"):
+    forms = told.replace(OF_EACH, "") + EACH + "\n" == MEANING.sub("", usage)
+    if not forms or told.count(OF_EACH) != told.count("\n"):
         wrong.append(f"the synopsis tells\n{told}and the program\n{usage}")
     missing = letters_of(usage) - described_in(page)
     if missing:

@@ -100,12 +100,13 @@ def other_letters(tree):
 
 
 def completes(program, tree):
-    """Whether each shell completes a hyphen to the letters of the usage text, and says the same of each; bash inserts the
-    letters alone."""
+    """Whether each shell completes a hyphen to the letters of the usage text, and says the same of each as that text; bash
+    inserts the letters alone."""
     usage = output_of([program, "-h"]).decode()
     named = set(re.findall(r"-([A-Za-z])\b", usage)) | set("".join(re.findall(r"\[-([a-z]+)\]", usage)))
+    meant = set(re.findall(r"^(?:  |.*: )-(\w)  (\w.*)$", usage, re.M))
     shown = {(it[1], it[4:]) for it in bash_lines(tree, "-", 63)}
-    is_same = {it for it, _ in shown} == named and all(shown == others for others in other_letters(tree))
+    is_same = {it for it, _ in meant} == named and all(meant == others for others in (shown, *other_letters(tree)))
     inserted = {f"-{it}" for it in named}
     return is_same and set(bash_lines(tree, "-", 37)) == inserted and bash_lines(tree, "-q", 63) == ["-q"]
 

@@ -31,7 +31,27 @@ usage_text = codes "usage: cdb -q [-W] [-m] [-n number] database key\n"
     ++ (codes "       cdb -D [-W] old new\n"
     ++ (codes "       cdb -h\n"
     ++ (codes "       cdb -V\n"
-    ++ codes "       with each: -v  say which file and why\n")))))))))
+    ++ (codes "       with each: -v  say which file and why\n"
+    ++ (codes "\n"
+    ++ (codes "  -q  query: write the values of a key\n"
+    ++ (codes "  -d  dump: write all records\n"
+    ++ (codes "  -l  list: write all keys\n"
+    ++ (codes "  -s  write statistics\n"
+    ++ (codes "  -c  create a database from texts\n"
+    ++ (codes "  -k  check a database\n"
+    ++ (codes "  -D  write what changed between two databases\n"
+    ++ (codes "  -h  write the usage\n"
+    ++ (codes "  -V  write the version\n"
+    ++ (codes "  -n  write only the value with this number\n"
+    ++ (codes "  -m  read or write a map, a key and a value a line\n"
+    ++ (codes "  -i  look up all keys of the inputs\n"
+    ++ (codes "  -t  build in this file\n"
+    ++ (codes "  -b  amend this database\n"
+    ++ (codes "  -w  report duplicate keys\n"
+    ++ (codes "  -e  stop at a duplicate key\n"
+    ++ (codes "  -r  a record replaces those of its key\n"
+    ++ (codes "  -u  leave out duplicate keys\n"
+    ++ codes "  -W  use words of 8 bytes, for files above 4 GiB\n")))))))))))))))))))))))))))))
 
 -- what `-V` writes
 abbrev pub version_text : List ℕ

@@ -15,11 +15,31 @@ const TEXT: &str = "usage: cdb -q [-W] [-m] [-n number] database key
        cdb -h
        cdb -V
        with each: -v  say which file and why
+
+  -q  query: write the values of a key
+  -d  dump: write all records
+  -l  list: write all keys
+  -s  write statistics
+  -c  create a database from texts
+  -k  check a database
+  -D  write what changed between two databases
+  -h  write the usage
+  -V  write the version
+  -n  write only the value with this number
+  -m  read or write a map, a key and a value a line
+  -i  look up all keys of the inputs
+  -t  build in this file
+  -b  amend this database
+  -w  report duplicate keys
+  -e  stop at a duplicate key
+  -r  a record replaces those of its key
+  -u  leave out duplicate keys
+  -W  use words of 8 bytes, for files above 4 GiB
 ";
 
 /// Returns true if so much room holds these bytes then, and the answer is this one.
 fn writes(room: usize, answer: Result<(), OutFault>, text: &str) -> bool {
-    let mut bytes = [0; 1000];
+    let mut bytes = [0; 2000];
     let Some(mut left) = bytes.get_mut(..room) else {
         return false;
     };
@@ -30,7 +50,7 @@ fn writes(room: usize, answer: Result<(), OutFault>, text: &str) -> bool {
 
 #[test]
 fn the_usage_text_is_written(rt: HostRuntime) -> Result<(), Fail> {
-    assert!(rt; writes(1000, Ok(()), TEXT), "whole");
+    assert!(rt; writes(2000, Ok(()), TEXT), "whole");
     assert!(rt;
         writes(20, Err(OutFault), "usage: cdb -q [-W] ["),
         "a front of 20"
