@@ -1,19 +1,15 @@
 """The definitions that docs/audit/ORACLE.md shows, out of the sources.
 
-What stands between two marks of the page is shown as the sources have it: after `<!-- definitions of FILE from
-FIRST to LAST -->` the definitions of a file of specs from one to another, without their types. `<!-- end -->` ends each.
+What stands between two marks of the page is shown as the sources have it: after `<!-- definitions of FILE: NAME .. -->`
+these definitions of a file of specs, in the file's order and without their types. `<!-- end -->` ends each.
 """
 
-import os
 import re
 
 from trees import read
 
 PAGE = "docs/audit/ORACLE.md"
-SHOWN = re.compile(
-    r"(<!-- definitions of (?P<file>\S+) from (?P<first>\w+) to (?P<last>\w+) -->\n).*?(<!-- end -->\n)",
-    re.DOTALL,
-)
+SHOWN = re.compile(r"(<!-- definitions of (?P<file>\S+): (?P<names>[\w ]+) -->\n).*?(<!-- end -->\n)", re.DOTALL)
 # A definition begins so. A record and a type are shown whole.
 DEFINITION = re.compile(r"(?:abbrev|unfoldable) (?:pub )?(\w+)|(?:pub )?(?:record|data) (\w+)")
 
@@ -36,12 +32,12 @@ def definitions_of(text):
 
 def shown(top, found):
     """What a mark of the page stands for."""
-    made = definitions_of(read(top, found["file"]))
-    names = list(made)
-    chosen = names[names.index(found["first"]) : names.index(found["last"]) + 1]
-    return "\n\n".join(made[it] for it in chosen)
+    made, names = definitions_of(read(top, found["file"])), found["names"].split()
+    if missing := [it for it in names if it not in made]:
+        raise SystemExit(f"{PAGE}: {found['file']} has no {missing[0]}")
+    return "\n\n".join(text for name, text in made.items() if name in names)
 
 
 def with_definitions(top, page):
     """The page as the sources have it."""
-    return SHOWN.sub(lambda it: f"{it[1]}\n```text\n{shown(top, it)}\n```\n\n{it[5]}", page)
+    return SHOWN.sub(lambda it: f"{it[1]}\n```text\n{shown(top, it)}\n```\n\n{it[4]}", page)

@@ -8,9 +8,10 @@ of a file or a folder, each name is one of the sources, each `make TARGET` a tar
 The page CALLING.md of a crate names each public item and function of its library. Something else than
 a test calls each public item, or public_items.py says why it is there. What tools/pages.py writes of
 the pages is what the sources give, and CONTRIBUTING.md names each part of the tests. docs/audit/ORACLE.md
-shows each definition of the oracle as it reads. Each figure that README.md or docs/GUIDE.md repeats is that of its
-source, each count that a page states is that of the sources, and each contract, wrong body and picture that pages show is
-as its source has it. No page has many words that point to something else (plain_words.py). Each wrong body can be tried.
+shows definitions of the oracle as they read, and names each other one with its file. Each figure that README.md
+or docs/GUIDE.md repeats is that of its source, each count that a page states is that of the sources, and each
+contract, wrong body and picture that pages show is as its source has it. No page has many words that point to
+something else (plain_words.py). Each wrong body can be tried.
 """
 
 import glob
@@ -207,7 +208,8 @@ def wrong_pages():
 
 
 def wrong_oracle():
-    """What pages show of the oracle otherwise than the sources, and the definitions that its own page leaves out."""
+    """What pages show of the oracle otherwise than the sources, and the definitions that its own page neither shows nor names in
+    a section with a link to their file."""
     sources = "\n".join(text_of(it) for it in ORACLE_SOURCES)
     known = {line.strip() for line in f"{sources}\n{text_of(RUNNING)}".split("\n")}
     for page in ("README.md", ORACLE):
@@ -215,9 +217,14 @@ def wrong_oracle():
         for line in shown.split("\n"):
             if line.strip() not in known:
                 yield f"{page}: {line.strip()} is not in the sources"
-    for name in re.findall(r"^(?:abbrev pub|pub record) (\w+) :", sources, re.M):
-        if not re.search(rf"^(?:pub record )?{name}\b.*[=:]", shown, re.M):
-            yield f"{ORACLE}: {name} is not shown"
+    sections = re.split(r"^#+ ", text_of(ORACLE), flags=re.M)
+    for source in ORACLE_SOURCES:
+        link = f"]({os.path.relpath(source, os.path.dirname(ORACLE))})"
+        named = [part for part in sections if link in part]
+        for name in re.findall(r"^(?:abbrev pub|pub record) (\w+) :", text_of(source), re.M):
+            is_shown = re.search(rf"^(?:pub record )?{name}\b.*[=:]", shown, re.M)
+            if not is_shown and not any(f"`{name}`" in part for part in named):
+                yield f"{ORACLE}: {name} is neither shown nor named with a link to {source}"
 
 
 def main():
