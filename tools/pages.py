@@ -3,10 +3,10 @@
 
     tools/pages.py [--check]
 
-They are the tables of docs/audit/PROMISES.md (see promises.py) and the definitions of docs/audit/ORACLE.md (see
+They are the lists of docs/audit/PROMISES.md (see promises.py) and the definitions of docs/audit/ORACLE.md (see
 definitions.py); and of the usage text, which crates/cdb_command/src/usage_text.rt has, the text in docs/TEXTS.md and
 the synopsis of man/cdb.1. With --check nothing is written: a page that is not what the sources give fails, and so
-does a crate with wrong bodies that has no table.
+does a crate with wrong bodies that has no list.
 """
 
 import argparse
@@ -67,14 +67,14 @@ def main():
     parser.add_argument("--check", action="store_true")
     asked = parser.parse_args()
     pages = {it: read(TOP, it) for it in (promises.PAGE, definitions.PAGE, TEXTS, MANUAL)}
-    tables, missing = promises.with_tables(TOP, pages[promises.PAGE])
+    lists, missing = promises.with_lists(TOP, pages[promises.PAGE])
     made = {
-        promises.PAGE: tables,
+        promises.PAGE: lists,
         definitions.PAGE: definitions.with_definitions(TOP, pages[definitions.PAGE]),
         TEXTS: with_usage(pages[TEXTS]),
         MANUAL: with_synopsis(pages[MANUAL]),
     }
-    wrong = [f"{promises.PAGE}: no table of {it}" for it in missing]
+    wrong = [f"{promises.PAGE}: no list of {it}" for it in missing]
     for page in (it for it in made if made[it] != pages[it]):
         if asked.check:
             wrong.append(f"{page} is not what the sources give: run tools/pages.py")

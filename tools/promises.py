@@ -1,9 +1,8 @@
-"""The tables of docs/audit/PROMISES.md, out of the sources.
+"""The lists of docs/audit/PROMISES.md, out of the sources.
 
-They stand between two marks of the page, `<!-- calls of CRATE -->` and `<!-- end -->`. One has a row for each law: what it says,
-by the first sentence of its `///`. One has a row for each function that a caller of the crate sees and that a wrong body edits:
-its wrong bodies, each with the clause that refuses it. Wrong bodies of private functions are counted below. The rest of the
-page is written by hand.
+They stand between two marks of the page, `<!-- bodies:CRATE -->` and `<!-- end -->`: the laws of the crate, and the wrong
+bodies of the functions that a caller of the crate sees, each with the clause that refuses it. Wrong bodies of private functions
+are counted. The rest of the page is written by hand.
 """
 
 import os
@@ -13,11 +12,7 @@ from edits import FUNCTION, OWNER, edits_of, heads_at
 from trees import lines_of, read
 
 PAGE = "docs/audit/PROMISES.md"
-TABLE = re.compile(r"(<!-- calls of (\w+) -->\n).*?(<!-- end -->\n)", re.DOTALL)
-LAWS = "\n| law | what it says |\n|---|---|\n"
-FUNCTIONS = "\n| function | wrong bodies |\n|---|---|\n"
-# A sentence ends with a full stop or a colon before a blank; neither stands within backquotes.
-SENTENCE = re.compile(r"((?:`[^`]*`|[^`])*?)[.:](?= |$)")
+LIST = re.compile(r"(<!-- bodies:(\w+) -->\n).*?(<!-- end -->\n)", re.DOTALL)
 
 
 def sources(folder):
@@ -33,19 +28,6 @@ def name_at(text, head):
     """The name of a function with that of its type or trait."""
     owners = [it for it in OWNER.finditer(text) if it.start() < head.start()]
     return f"{owners[-1][2]}::{head[2]}" if head[1] and owners else head[2]
-
-
-def promise_at(text, head):
-    """The first sentence that stands over a function."""
-    lines = []
-    for line in reversed(text[: head.start()].rstrip("\n").split("\n")):
-        if line.strip().startswith("///"):
-            lines.insert(0, line.strip().removeprefix("///").strip())
-        elif not line.strip().startswith("#["):
-            break
-    paragraph = " ".join(lines[: lines.index("")] if "" in lines else lines)
-    found = SENTENCE.match(paragraph)
-    return (found[1] if found else paragraph).replace("|", "\\|")
 
 
 def head_of(text, at):
@@ -77,8 +59,8 @@ def is_seen(text, head, items):
     return owners[-1][2] in items and (head[0].lstrip().startswith("pub ") or bool(owners[-1][1]))
 
 
-def table_of(folder):
-    """The tables of a crate."""
+def list_of(folder):
+    """The lists of a crate."""
     texts = {path: read(folder, path) for path in sources(folder)}
     items, wrong = exported(texts), {}
     for edit in edits_of(folder):
@@ -86,24 +68,25 @@ def table_of(folder):
         head = head_of(texts[path], texts[path].index(old)) if path in texts else None
         place = (path, head.start() if head else 0)
         wrong.setdefault(place, []).append(f"`{edit.name.split('.')[-1]}` ({edit.clause or 'the compiler'})")
-    laws, rows, private = [], [], 0
+    laws, seen, private = [], [], 0
     for path, text in texts.items():
         for head in FUNCTION.finditer(text):
             bodies = wrong.pop((path, head.start()), [])
             if is_law(path):
-                laws.append(f"| `{name_at(text, head)}` | {promise_at(text, head)} |\n")
-            elif not is_seen(text, head, items):
+                laws.append(f"`{name_at(text, head)}`")
+            elif is_seen(text, head, items):
+                seen += bodies
+            else:
                 private += len(bodies)
-            elif bodies:
-                rows.append(f"| `{name_at(text, head)}` | {', '.join(bodies)} |\n")
     private += sum(len(bodies) for bodies in wrong.values())
-    count = f"\nWrong bodies of private functions: {private}.\n" if private else ""
-    return "".join([LAWS, *laws] if laws else []) + "".join([FUNCTIONS, *rows] if rows else []) + f"{count}\n"
+    made = f"\nLaws: {', '.join(laws)}.\n" if laws else ""
+    rest = [f"{private} of private functions"] if private else []
+    return made + f"\nWrong bodies: {', '.join([*seen, *rest])}.\n\n"
 
 
-def with_tables(top, page):
-    """The page with its tables as the sources give them, and the crates with wrong bodies that have no table."""
+def with_lists(top, page):
+    """The page with its lists as the sources give them, and the crates with wrong bodies that have none."""
     folders = {it: os.path.join(top, "crates", it) for it in lines_of(top)}
-    made = TABLE.sub(lambda it: it[1] + table_of(folders[it[2]]) + it[3], page)
-    tables = {it[2] for it in TABLE.finditer(page)}
-    return made, [it for it, folder in folders.items() if edits_of(folder) and it not in tables]
+    made = LIST.sub(lambda it: it[1] + list_of(folders[it[2]]) + it[3], page)
+    lists = {it[2] for it in LIST.finditer(page)}
+    return made, [it for it, folder in folders.items() if edits_of(folder) and it not in lists]

@@ -18,11 +18,30 @@ HEAD = re.compile(r"( *)(?:pub(?:\(crate\))? )?(?:const |unsafe |extern \"C\" )*
 
 
 def wrong_contracts():
-    """The contracts that a page shows as they read, and that no source has so."""
+    """The contracts and definitions that a page shows as they read, and that no source has so."""
     code = [text_of(path) for crate in crates() for path in sources_of(crate)]
-    for shown in re.findall(r"^```rust\n(.*?)^```", text_of(PROMISES), re.M | re.S):
+    code += [text_of(path) for path in glob.glob("crates/*/specs/**/*.antt", root_dir=TOP, recursive=True)]
+    for shown in re.findall(r"^```(?:rust|text)\n(.*?)^```", text_of(PROMISES), re.M | re.S):
         if not any(shown in it for it in code):
             yield f"{PROMISES}: {shown.splitlines()[0]} is not what the source has"
+
+
+def texts_at(place):
+    """The text of a file of a crate, named without what says its kind, or of all files in a folder."""
+    found = [it for kind in ("", ".antt", "/**/*.rt") for it in glob.glob(f"crates/{place}{kind}", root_dir=TOP, recursive=True)]
+    return "".join(text_of(it) for it in found if os.path.isfile(os.path.join(TOP, it)))
+
+
+def wrong_places():
+    """The functions and clauses of a promise that none of the files has which its row names."""
+    rows = re.findall(r"^\| ([^|]*) \| ([^|]*) \| ([^|]*) \|$", text_of(PROMISES), re.M)[1:]
+    for promise, named, places in rows:
+        words = set(re.findall(r"\w+", "".join(texts_at(it) for it in re.findall(r"`(.*?)`", places))))
+        for name in re.findall(r"`(\w+)`", named):
+            if name not in words:
+                yield f"{PROMISES}: {promise}: {name} is in none of the files"
+    if not rows:
+        yield f"{PROMISES}: no promise has a row"
 
 
 def wrong_edit():
@@ -71,4 +90,4 @@ def wrong_pictures():
 
 def wrong_copies():
     """All that is not as its source has it."""
-    return [*wrong_contracts(), *wrong_edit(), *wrong_lengths(), *wrong_pictures()]
+    return [*wrong_contracts(), *wrong_places(), *wrong_edit(), *wrong_lengths(), *wrong_pictures()]
