@@ -5,8 +5,8 @@
 
 The synopsis is to be the usage text, each letter of it is to be described, and each line that the
 cases of cases.py await on standard error is to stand among the diagnostics. Beside the sources README.md is to name the
-toolchain, the command in the environment's RT, else `rt`, as it proves the program, and docs/LIBRARY.md is to show the
-first caller as it is in cdb_files.
+toolchain, the command in the environment's RT, else `rt`, as it proves the program, and docs/LIBRARY.md is to show
+two callers as they are in cdb_files.
 """
 
 import os
@@ -22,7 +22,7 @@ PAGE = os.path.join(HERE, "..", "..", "man", "cdb.1")
 README = os.path.join(HERE, "..", "..", "README.md")
 LIBRARY = os.path.join(HERE, "..", "..", "docs", "LIBRARY.md")
 CRATES = os.path.join(HERE, "..", "..", "crates")
-CALLER = os.path.join(CRATES, "cdb_files", "src", "examples", "files.rt")
+CALLERS = [os.path.join(CRATES, "cdb_files", "src", "examples", it) for it in ("read.rt", "files.rt")]
 # What stands in a diagnostic in place of a number, and of another diagnostic.
 NUMBER = "[A-Z]"
 # How the usage text says that a letter goes with each form, and what a letter means.
@@ -110,8 +110,8 @@ def of_toolchain(command):
 
 def of_library():
     """What is wrong of the page on the library."""
-    shows = is_shown(LIBRARY, CALLER)
-    return [] if shows else ["docs/LIBRARY.md does not show the first caller as it is in cdb_files"]
+    hidden = [os.path.basename(it) for it in CALLERS if not is_shown(LIBRARY, it)]
+    return [f"docs/LIBRARY.md does not show the caller of {it} as it is in cdb_files" for it in hidden]
 
 
 def main():

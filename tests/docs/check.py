@@ -5,13 +5,13 @@
 
 Each link of a page leads to a file, and to a heading if it names one. Each path in backquotes is that
 of a file or a folder, each name is one of the sources, each `make TARGET` a target of the Makefile or of a release's.
-The page CALLING.md of a crate names each public item and function of its library. Something else than
-a test calls each public item, or public_items.py says why it is there. What tools/pages.py writes of
-the pages is what the sources give, and CONTRIBUTING.md names each part of the tests. docs/audit/ORACLE.md
-shows definitions of the oracle as they read, and names each other one with its file. Each figure that README.md
-or docs/GUIDE.md repeats is that of its source, each count that a page states is that of the sources, and each
-contract, wrong body and picture that pages show is as its source has it. No page has many words that point to
-something else (plain_words.py). Each wrong body can be tried.
+What tools/contracts.py prints of a crate names each public item and function of its library, each with a comment,
+and its README.md names that command. Something else than a test calls each public item, or public_items.py says
+why it is there. What tools/pages.py writes of the pages is what the sources give, and CONTRIBUTING.md names each
+part of the tests. docs/audit/ORACLE.md shows definitions of the oracle as they read, and names each other one with
+its file. Each figure that README.md or docs/GUIDE.md repeats is that of its source, each count that a page states is
+that of the sources, and each contract, wrong body and picture that pages show is as its source has it. No page has
+many words that point to something else (plain_words.py). Each wrong body can be tried.
 """
 
 import glob
@@ -25,7 +25,11 @@ from counts import wrong_counts
 from figures import wrong_figures
 from plain_words import wrong_words
 from public_items import wrong_items
-from sources import TOP, sources_of, text_of
+from sources import TOP, crates, sources_of, text_of
+
+sys.path.append(os.path.join(TOP, "tools"))
+
+from contracts import contracts  # noqa: E402
 
 PAGES = "tools/pages.py"
 # The files that make reads, here and in a release.
@@ -143,14 +147,24 @@ def public_of(crate):
     return items, functions
 
 
-def wrong_calling(crate):
-    """The public items that a crate's page on calling leaves out."""
-    page = f"crates/{crate}/CALLING.md"
-    text = text_of(page)
+def wrong_contracts_of(crate):
+    """The public items of a crate that tools/contracts.py leaves out, and those that it prints without a comment."""
+    printed = list(contracts(TOP, crate))
+    named = {word for it in printed for word in re.findall(r"\w+", it.split("\n")[0])}
     items, functions = public_of(crate)
-    for name in sorted(items | functions):
-        if not re.search(rf"\b{name}\b", text):
-            yield f"{page}: {name} is not named"
+    for name in sorted((items | functions) - named):
+        yield f"crates/{crate}: tools/contracts.py does not print {name}"
+    for it in printed:
+        # What is of another crate is one line, and has its comment there.
+        if "\n" in it and "\n///" not in it:
+            yield f"crates/{crate}: no comment says what this is: {it.split(chr(10))[0].removeprefix('// ')}"
+
+
+def wrong_page(crate):
+    """Whether a crate's page does not say how its contracts are printed."""
+    page = f"crates/{crate}/README.md"
+    if f"`tools/contracts.py {crate}`" not in text_of(page):
+        yield f"{page}: tools/contracts.py {crate} is not named"
 
 
 def edits():
@@ -238,10 +252,12 @@ def main():
         text = text_of(page)
         wrong += [*wrong_links(page, text), *wrong_names(page, text, names, targets)]
         count += 1
-    for path in sorted(glob.glob("crates/*/CALLING.md", root_dir=TOP)):
-        crate = path.split("/")[1]
-        wrong += wrong_calling(crate)
-        count += 1
+    for crate in crates():
+        if os.path.isfile(os.path.join(TOP, "crates", crate, "README.md")):
+            wrong += wrong_page(crate)
+        if os.path.isfile(os.path.join(TOP, "crates", crate, "src", "lib.rt")) and not crate.endswith("_tests"):
+            wrong += wrong_contracts_of(crate)
+            count += 1
     wrong += [*wrong_bodies(), *wrong_tests(), *wrong_parts(), *wrong_pages(), *wrong_oracle(), *wrong_items()]
     wrong += [*wrong_figures(), *wrong_copies(), *wrong_counts(), *wrong_words()]
     for it in wrong:

@@ -8,9 +8,11 @@ import sys
 from sources import TOP, crates, sources_of, text_of
 
 sys.path.insert(0, os.path.join(TOP, "bench"))
+sys.path.append(os.path.join(TOP, "tools"))
 import growth  # noqa: E402
+from trees import lines_of  # noqa: E402
 
-PROMISES, CONTRIBUTING = "docs/audit/PROMISES.md", "CONTRIBUTING.md"
+PROMISES, CONTRIBUTING, LIBRARY = "docs/audit/PROMISES.md", "CONTRIBUTING.md", "docs/LIBRARY.md"
 # How many lines a body may have, and how a page names those that have more.
 LINES = 40
 LONGER = re.compile(r"fewer than 40 lines; a file has one idea\. \w+ bod(?:y is|ies are) longer: (.*?)\.\s")
@@ -18,12 +20,22 @@ HEAD = re.compile(r"( *)(?:pub(?:\(crate\))? )?(?:const |unsafe |extern \"C\" )*
 
 
 def wrong_contracts():
-    """The contracts and definitions that a page shows as they read, and that no source has so."""
+    """The contracts and definitions that pages show as they read, and that no source has so."""
     code = [text_of(path) for crate in crates() for path in sources_of(crate)]
     code += [text_of(path) for path in glob.glob("crates/*/specs/**/*.antt", root_dir=TOP, recursive=True)]
-    for shown in re.findall(r"^```(?:rust|text)\n(.*?)^```", text_of(PROMISES), re.M | re.S):
-        if not any(shown in it for it in code):
-            yield f"{PROMISES}: {shown.splitlines()[0]} is not what the source has"
+    for page in (PROMISES, *sorted(glob.glob("crates/*/README.md", root_dir=TOP))):
+        for shown in re.findall(r"^```\w*\n(.*?)^```", text_of(page), re.M | re.S):
+            if not any(shown in it for it in code):
+                yield f"{page}: {shown.splitlines()[0]} is not what a source has"
+
+
+def wrong_crates():
+    """The lines of crates.txt that a page shows otherwise."""
+    listed = lines_of(TOP)
+    for shown in re.findall(r"^(\w+): .*$|^(\w+):$", text_of(LIBRARY), re.M):
+        name = shown[0] or shown[1]
+        if name in listed and listed[name].strip() not in text_of(LIBRARY).splitlines():
+            yield f"{LIBRARY}: the line of {name} is not that of crates.txt"
 
 
 def texts_at(place):
@@ -90,4 +102,4 @@ def wrong_pictures():
 
 def wrong_copies():
     """All that is not as its source has it."""
-    return [*wrong_contracts(), *wrong_places(), *wrong_edit(), *wrong_lengths(), *wrong_pictures()]
+    return [*wrong_contracts(), *wrong_crates(), *wrong_places(), *wrong_edit(), *wrong_lengths(), *wrong_pictures()]
