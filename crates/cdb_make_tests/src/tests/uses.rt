@@ -1,4 +1,4 @@
-//! A caller of a maker, as CALLING.md has it.
+//! A caller of a maker.
 use cdb_form::{Narrow, Width};
 use cdb_make::{MakeFault, Maker, Mode};
 use cdb_store::MemStore;

@@ -1,4 +1,4 @@
-//! A caller of a reader, as CALLING.md has it.
+//! A caller of a reader.
 use super::files::two_file;
 use cdb_form::Narrow;
 use cdb_read::{ReadFault, Reader};

@@ -10,7 +10,7 @@ use cdb_store::Store;
 use std::alloc::Global;
 
 /// Checks whether the database in a store is sound, whatever program made it: its tables and its
-/// records agree. `CALLING.md` of `cdb_read` says what that means for look-ups. The faults:
+/// records agree. `README.md` of `cdb_read` says what that means for look-ups. The faults:
 /// - `Read(Short)`: the store is shorter than a head, and was not read;
 /// - `Read(Table(n))`, `Read(Record(place))`, `Read(Slot(n, i))`, `Read(Twice(place))`,
 ///   `Read(Unindexed(place))`: the file is not sound, and this is the first of its faults;

@@ -1,4 +1,4 @@
-// Uses of a store, as a caller writes them. `CALLING.md` shows the first.
+// Uses of a store, as a caller writes them. `README.md` of `cdb_store` shows the first.
 ghost use Rattle.std.specs.Prelude.{◌≡◌, ◌+◌, ◌<◌, ◌≤◌, ◌^◌, ℕ, List, length, OnOk, IfOk, IsErrOf};
 ghost use Rattle.cdb_store.specs.declared.store.StoreFault.TheVariants.{NoMemory};
 ghost use Rattle.cdb_store.specs.Images.{SameImages, ImagesHold, StaysHeld};

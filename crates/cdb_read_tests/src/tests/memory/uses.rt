@@ -1,4 +1,4 @@
-// Callers of `cdb_read::memory`, as CALLING.md has them.
+// Callers of `cdb_read::memory`.
 use super::files::four_file;
 use crate::tests::files::two_file;
 use cdb_form::{Damage, Narrow, head_size};
