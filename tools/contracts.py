@@ -33,7 +33,7 @@ BRACKETS = {"(": 1, "[": 1, "{": 1, ")": -1, "]": -1, "}": -1}
 
 @dataclass(frozen=True)
 class Item:
-    """An item of a crate: its name, with its owner's if it has one, its file, whether a caller sees it, its comment and its code."""
+    """An item of a crate: its name, after its owner's, its file, whether a caller sees it, its comment and its code."""
 
     name: str
     path: str
@@ -142,7 +142,8 @@ def contracts(top, crate, names=()):
     exports, found = exports_of(folder), list(items_of(folder))
     for item in found:
         if item.has_name(names) if names else item.public:
-            yield "\n".join(it for it in (f"// {path_of(folder, item, exports)}, in {item.path}", item.comment, item.code) if it)
+            parts = (f"// {path_of(folder, item, exports)}, in {item.path}", item.comment, item.code)
+            yield "\n".join(it for it in parts if it)
     for name, (module, place) in exports.items():
         below = place.split("::")[0]
         if below in libraries_of(top) and (not names or name in names):
