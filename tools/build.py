@@ -143,7 +143,8 @@ class Progress:
         self.works, self.chains = works, chains
         self.functions = {}
         self.proved = set()
-        self.began = self.said = time.monotonic()
+        # When the build began, a line was said, and a function was proved last.
+        self.began = self.said = self.moved = time.monotonic()
         self.whole = self.reckoned()
         self.lock = threading.Lock()
 
@@ -153,6 +154,8 @@ class Progress:
             # What is said of a second pass counts only what that has left.
             before, most = self.functions.get(crate, (0, 0))
             self.functions[crate] = max(before, done), max(most, of)
+            if done > before:
+                self.moved = time.monotonic()
             self.say()
 
     def end(self, crate):
@@ -162,7 +165,7 @@ class Progress:
             self.functions.pop(crate, None)
             self.clear()
             print(f"  {crate} is proved: {len(self.proved)} of {len(self.works)} crates", flush=True)
-            self.said = time.monotonic()
+            self.said = self.moved = time.monotonic()
 
     def clear(self):
         """Takes back a line that a terminal shows."""
@@ -170,8 +173,9 @@ class Progress:
             print("\r\033[K", end="")
 
     def minutes_left(self):
-        """About how many minutes are left."""
-        return at_pace(self.reckoned(), self.whole, time.monotonic() - self.began) / 60
+        """About how many minutes are left: no fewer than since the last function was proved."""
+        now = time.monotonic()
+        return max(at_pace(self.reckoned(), self.whole, now - self.began), now - self.moved) / 60
 
     def reckoned(self):
         """How many seconds are left, as long as each crate took at the last release."""

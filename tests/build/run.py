@@ -68,7 +68,8 @@ def again(it):
 
 
 def minutes(_):
-    """What is left is said in minutes: of the longest chain, or of all crates if the processors are too few for that."""
+    """What is left is said in minutes: of the longest chain, or of all crates if the processors are too few for that; and no
+    fewer than those since a function was proved last."""
     progress = build.Progress({"low": 600, "left": 60, "right": 60}, {"low": 660, "left": 60, "right": 60})
     with mock.patch("build.processors", return_value=4):
         yield "chain", round(progress.minutes_left(), 2) == round(660 / build.CHAIN_SPEED / 60, 2)
@@ -78,6 +79,11 @@ def minutes(_):
         yield "rest", round(progress.minutes_left(), 2) == round(60 / build.CHAIN_SPEED / 60, 2)
     with mock.patch("build.processors", return_value=1):
         yield "one processor", round(progress.minutes_left(), 2) == round(120 / build.USED / 60, 2)
+    progress.moved -= 420
+    yield "nothing proved for seven minutes", progress.minutes_left() >= 7
+    with mock.patch.object(progress, "say"):
+        progress.note("left", 1, 10)
+        yield "one function more", progress.minutes_left() < 7
     yield "slower", build.at_pace(300, 600, 900) == 900 and build.at_pace(300, 600, 100) == 300
     yield "too soon to say", build.at_pace(590, 600, 900) == 590
 
