@@ -17,6 +17,7 @@ body that failed. Nothing passes because it was left out: each crate must be pro
 tried, and each part of the tests and each crate's tests pass as many as tools/floors.txt says. The last line counts the tests
 that passed and failed, and each other part that failed as one more. What the parts say goes to files in bin. If nothing failed
 and all is committed, bin/passed names the commit, for tools/publish.py.
+After a kill the next gate starts well; but remove bin/gate before you run `rt ci` yourself.
 """
 
 import contextlib
