@@ -85,7 +85,7 @@ WRITTEN = {
         "nothing changed\n",
         "",
     ],
-    "man/cdb.1": ["root", "", "", "", "sound\n", "", "nothing changed\n"],
+    "man/cdb.1": ["root", "", "sound\n"],
 }
 # A last command for each page, and what it writes: what all the examples before came to.
 WHOLE = {
@@ -95,7 +95,7 @@ WHOLE = {
         "two Goodbye\nthree Hello again\npostmaster alice\n"
         "postmaster root\nlist alice,    Bob\nabuse root\n",
     ),
-    "man/cdb.1": ("cdb -d -m copy.cdb", "postmaster alice\n"),
+    "man/cdb.1": ("cdb -d -m aliases.cdb", "postmaster alice\n"),
 }
 STAND_INS = {
     # What it would find, by the look-up of the database that it is given.

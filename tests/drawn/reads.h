@@ -73,7 +73,7 @@ inline void query(const Case &it, const Database &database, Ending &end)
   else if (found.values.empty()) end.status = 100;
 }
 
-// "Query of many keys": the keys of the inputs in turn. A key without a value makes the status 100 in the end; any
+// "Query", -i: the keys of the inputs in turn. A key without a value makes the status 100 in the end; any
 // other fault ends it, without a closing newline.
 class ManyKeys {
   const Case &it;
