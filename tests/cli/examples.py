@@ -71,19 +71,14 @@ WRITTEN = {
         "",
         "",
         "",
-        "",
-        "",
         "three Hello again\n",
         "cdb: input 1: record 3: duplicate key\ncdb: twice: line 4: key one\n",
         "postmaster\n",
-        "2c2,3\n< postmaster kris\n---\n> postmaster ann\n> postmaster tom\n",
-        "",
-        "abuse kris\npostmaster tom\npostmaster ann\n",
+        "postmaster tom\nabuse kris\npostmaster ann\n",
         "",
         "",
         "",
         "nothing changed\n",
-        "",
     ],
     "man/cdb.1": ["root", "", "sound\n"],
 }
@@ -92,7 +87,7 @@ WHOLE = {
     "README.md": ("cdb -d -m aliases.cdb", "postmaster root\nhosts jim\n"),
     "docs/GUIDE.md": (
         "cdb -d -m words.cdb; cdb -d -m map.cdb; cdb -d -m aliases.cdb",
-        "two Goodbye\nthree Hello again\npostmaster alice\n"
+        "three Hello again\npostmaster alice\nabuse root\n"
         "postmaster root\nlist alice,    Bob\nabuse root\n",
     ),
     "man/cdb.1": ("cdb -d -m aliases.cdb", "postmaster alice\n"),
