@@ -1,4 +1,4 @@
-// The model of the texts that are read and written. The rules are those of docs/TEXTS.md, whose sections the
+// The model of the texts that are read and written. The rules are those of man/cdb.5, whose sections the
 // comments name.
 #pragma once
 #include <cstdint>
@@ -7,7 +7,7 @@
 #include "format.h"
 #include "rules.h"
 
-// "Native text": a record as it is written. "Lists of keys": a key. "Amending text": the removal of one.
+// "The native text": a record as it is written, and a key of a list. "The amending text": the removal of one.
 inline Bytes spelled(const Bytes &key, const Bytes &value)
 {
   return "+" + std::to_string(key.size()) + "," + std::to_string(value.size()) + ":" + key + "->" + value + "\n";
@@ -130,7 +130,7 @@ inline uint64_t after_blanks(const Bytes &text, uint64_t at, uint64_t end)
   return at;
 }
 
-// "Map text": a line is a key, blanks and a value; one without a key, or with '#' first, is ignored.
+// "The map text": a line is a key, blanks and a value; one without a key, or with '#' first, is ignored.
 inline Text map_of(const Bytes &text, uint64_t begin)
 {
   Text read;
