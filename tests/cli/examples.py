@@ -56,7 +56,7 @@ table sizes least/average/greatest: 2/2/2
 """ + "".join(f"distance {n}: {int(n == 0)}\n" for n in range(10)) + "distance 10 or more: 0\n"
 # What each block without prompts writes, in order; each page ends with what WHOLE shows.
 WRITTEN = {
-    "README.md": [None, None, None],
+    "README.md": [None, None],
     "docs/GUIDE.md": [
         None,
         "root\n",
@@ -84,7 +84,7 @@ WRITTEN = {
 }
 # A last command for each page, and what it writes: what all the examples before came to.
 WHOLE = {
-    "README.md": ("cdb -d -m aliases.cdb", "postmaster root\nhosts jim\n"),
+    "README.md": ("cdb -d -m aliases.cdb", "postmaster root\nabuse root\n"),
     "docs/GUIDE.md": (
         "cdb -d -m words.cdb; cdb -d -m map.cdb; cdb -d -m aliases.cdb",
         "three Hello again\npostmaster alice\nabuse root\n"
