@@ -2,7 +2,8 @@
 ghost use Rattle.cdb_show.specs.Views.Output.{OutputSays};
 ghost use Rattle.cdb_show.specs.Command.{asked_in, FitsIn, usage_text, version_text};
 ghost use Rattle.cdb_form.specs.Format.{head_size};
-ghost use Rattle.std.specs.Prelude.{◌⊎◌, ◌≡◌, IfErr, map, string_bytes};
+ghost use Rattle.std.specs.Prelude.{◌⊎◌, ◌≡◌, ℕ, List, Option, OnErr, IfErr, map, string_bytes};
+ghost use Rattle.cdb_form.specs.Views.KnownBytes.{Writes};
 ghost use Rattle.cdb.specs.Agreeing.{machine_of};
 ghost use Rattle.cdb.specs.Performs.{IsShown, IsUntouched, Performs};
 ghost use Rattle.cdb.specs.Reasons.{CanHaveNoFile, HasReason, IfCreate, calls_made, left_reasons};
@@ -11,7 +12,7 @@ ghost use Rattle.cdb_system.specs.State.{standard_of, state_of};
 
 use crate::creating::{Creation, create};
 use crate::streams::Streams;
-use cdb_form::{Feeds, Sink, Width};
+use cdb_form::{Feeds, OutFault, Sink, Width};
 use cdb_names::Names;
 use cdb_system::{
     FileText, KeyLookups, Performed, Request, System, check, difference, lookups, none_left, query,
@@ -23,13 +24,23 @@ use cdb_tool::{
 };
 use std::alloc::Global;
 
+/// Flushes an output to which a text was written, or a prefix of it.
+fn told<O: Sink>(output: &mut O, written: Result<(), OutFault>) -> Result<(), Fault>
+    ensures tells { (text : List ℕ) → (start : Option (List ℕ))
+        → Writes written start (O.contents output.old) text
+        → Tells text start (O.contents output.new) result }
+    ensures output { OnErr written (O.failed output.old) → OutputSays (O.failed output.new) result }
+{
+    flushed(output, written.map_err(Fault::from))
+}
+
 /// Writes how the program is called.
 fn help<O: Sink>(output: &mut O) -> Result<(), Fault>
     ensures tells { Tells usage_text (O.contents output.old) (O.contents output.new) result }
     ensures output { OutputSays (O.failed output.new) result }
 {
     let written = write_usage(output);
-    flushed(output, written.map_err(Fault::from))
+    told(output, written)
 }
 
 /// Writes which version the program is.
@@ -38,7 +49,7 @@ fn version<O: Sink>(output: &mut O) -> Result<(), Fault>
     ensures output { OutputSays (O.failed output.new) result }
 {
     let written = write_version(output);
-    flushed(output, written.map_err(Fault::from))
+    told(output, written)
 }
 
 /// The options of a run that creates, with the names of its inputs if duplicates are to be
