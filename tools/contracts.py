@@ -158,7 +158,7 @@ def main():
     asked = parser.parse_args()
     texts = list(contracts(TOP, asked.crate, asked.name))
     if not texts:
-        sys.exit(f"{asked.crate} has no item of that name")
+        sys.exit(f"{asked.crate} has no {'item of that name' if asked.name else 'public item'}")
     print("\n\n".join(texts))
 
 
