@@ -13,22 +13,23 @@ use std::alloc::{AllocError, AllocFailed, Global};
 
 /// A store over another that collects writes which continue one another in one buffer.
 ///
-/// It hands the bytes on when another position is written, at a read of bytes that lie in the
-/// buffer in part, at a cut, at `flush`, and when the buffer is full. Bytes in the buffer are read
-/// from it, and a read that touches none of them is passed straight on. A write first has the inner
-/// store reserve its room, so what is in the buffer takes no memory to be forwarded. If handing on
-/// fails the buffer keeps its bytes, and the next call tries again. A buffer that is let go is
-/// lost: call `flush` or `into_inner` first.
+/// It forwards the bytes at a write to another position, at a read of bytes that lie only in part
+/// in the buffer, at a cut, at `flush`, and when the buffer is full. Bytes in the buffer are read
+/// from it, and a read that touches none of them goes straight to the inner store. A write first
+/// reserves its room in the inner store, so forwarding the buffer takes no memory. If forwarding
+/// fails, the buffer keeps its bytes, and the next call that forwards tries again. Dropping the
+/// store loses the buffer: call `flush` or `into_inner` first.
 #[derive(Drop)]
 pub struct BufferedStore<S: Store> {
     inner: S,
-    /// Bytes of which the first ones are held. It grows as they come, up to its capacity.
+    /// The buffer: its first `held` bytes are not forwarded yet. It grows to `capacity` bytes at
+    /// most.
     buffer: Vec<u8>,
-    /// The number of bytes it holds.
+    /// The number of bytes in the buffer that are not forwarded yet.
     held: usize,
-    /// The position of the bytes that it holds.
+    /// The position in the store of the buffer's first byte.
     pos: u64,
-    /// The number of bytes it holds at most.
+    /// The greatest number of bytes in the buffer.
     capacity: usize,
     trace: Trace,
     ghost placed: { pos ≤ S.size inner },
@@ -69,7 +70,7 @@ impl<S: Store> BufferedStore<S> {
         }
     }
 
-    /// The inner store, once what is left in the buffer was forwarded to it, and how that went.
+    /// Forwards the bytes in the buffer, and returns the inner store and how that went.
     ///
     /// After `Device` the inner store lacks those bytes: their range may hold anything.
     pub fn into_inner(mut self) -> (S, Result<(), StoreFault>)
@@ -100,15 +101,15 @@ impl<S: Store> BufferedStore<S> {
         (inner, answer)
     }
 
-    /// The inner store, for its length: it lacks what is in the buffer.
+    /// Returns the inner store, for its length: it lacks the bytes in the buffer.
     pub fn inner(&self) -> &S
         ensures { result.now ≡ inner_of self.now }
     {
         &self.inner
     }
 
-    /// The inner store, as it is. What is left in the buffer is let go: after a flush that is
-    /// nothing.
+    /// Returns the inner store as it is. Bytes left in the buffer are lost: right after a flush
+    /// that returned `Ok` there are none.
     pub fn discard(self) -> S
         ensures { result ≡ inner_of self }
     {
@@ -125,7 +126,7 @@ impl<S: Store> BufferedStore<S> {
         inner
     }
 
-    /// Forwards what was collected.
+    /// Forwards the bytes in the buffer.
     fn settle(&mut self) -> Result<(), StoreFault>
         ensures images { SameImages (images_of self.old) (images_of self.new) }
         ensures size { size_of self.new ≡ size_of self.old }
@@ -157,7 +158,7 @@ impl<S: Store> BufferedStore<S> {
         Ok(())
     }
 
-    /// Makes the buffer one that goes on at `pos`, with room for `n` bytes more.
+    /// Makes the buffer continue at `pos`, with room for `n` more bytes.
     #[cold]
     #[inline(never)]
     fn make_room(&mut self, pos: u64, n: usize) -> Result<(), StoreFault>
@@ -186,7 +187,8 @@ impl<S: Store> BufferedStore<S> {
         Ok(())
     }
 
-    /// Sees to it that `n` bytes follow those held, which takes no memory.
+    /// Lengthens the buffer, if need be, so that `n` bytes follow the held ones. It takes no
+    /// memory.
     #[inline(always)]
     fn widen(&mut self, n: usize) -> Result<(), AllocError>
         requires { held_of self.old + n ≤ self.old.capacity }
@@ -205,8 +207,7 @@ impl<S: Store> BufferedStore<S> {
         lengthen(&mut self.buffer, self.held + n, self.capacity)
     }
 
-    /// Makes the buffer one in which `n` bytes follow those held, and go on at `pos`. Mostly it is
-    /// one, which takes a single test.
+    /// Makes the buffer ready for `n` more bytes at `pos`. Mostly it is, which takes a single test.
     #[inline(always)]
     fn prepare(&mut self, pos: u64, n: usize) -> Result<(), StoreFault>
         requires start { pos ≤ size_of self.old }
@@ -234,8 +235,8 @@ impl<S: Store> BufferedStore<S> {
     }
 }
 
-/// Makes a buffer `end` bytes long, and after the first time twice as long, but no longer than
-/// `most`, for which it has the capacity: so for a few bytes only a few are cleared.
+/// Lengthens an empty buffer to `end` bytes, and another one to twice that or to `most`, whichever
+/// is less. `most` is within its capacity. So for a few bytes only a few are cleared.
 #[cold]
 #[inline(never)]
 fn lengthen(buffer: &mut Vec<u8>, end: usize, most: usize) -> Result<(), AllocError>
@@ -256,7 +257,7 @@ fn lengthen(buffer: &mut Vec<u8>, end: usize, most: usize) -> Result<(), AllocEr
     buffer.resize(len, 0)
 }
 
-/// Returns true if these `n` bytes from `pos` on all lie among the `held` bytes from `start` on.
+/// Returns true if the `n` bytes at `pos` all lie among the `held` bytes at `start`.
 fn lies_within(pos: u64, n: usize, start: u64, held: usize) -> bool
     requires { start + held < 2 ^ 63 }
     ensures { IsTrue result ↔ ((start ≤ pos) × (pos + n ≤ start + held)) }
@@ -264,7 +265,7 @@ fn lies_within(pos: u64, n: usize, start: u64, held: usize) -> bool
     start <= pos && pos <= start + held as u64 && n as u64 <= start + held as u64 - pos
 }
 
-/// Returns true if these `n` bytes from `pos` on share none with the `held` bytes from `start` on.
+/// Returns true if the `n` bytes at `pos` and the `held` bytes at `start` have no byte in common.
 fn lies_apart(pos: u64, n: usize, start: u64, held: usize) -> bool
     requires { start + held < 2 ^ 63 }
     ensures { IsTrue result ↔ AreApart pos n start held }

@@ -5,7 +5,7 @@ ghost use Rattle.cdb_store.specs.Images.{overwrite, part};
 
 use std::alloc::AllocError;
 
-/// Writes bytes over those from `pos` on, and past the end.
+/// Writes `new` at `pos`, over the bytes that are there and past the end.
 pub(crate) fn write_over(bytes: &mut Vec<u8>, pos: usize, new: &[u8]) -> Result<(), AllocError>
     requires start { pos ≤ vec_len bytes.old }
     requires end { pos + length new.now < 2 ^ 63 }
@@ -37,7 +37,8 @@ pub(crate) fn join(first: &[u8], second: &[u8], third: &[u8], into: &mut [u8])
     back.copy_from_slice(third);
 }
 
-/// Writes three pieces, one after another, over bytes from `pos` on, and past the end.
+/// Writes three pieces, one after another, at `pos`, over the bytes that are there and past the
+/// end.
 pub(crate) fn write_parts_over(
     bytes: &mut Vec<u8>,
     pos: usize,
@@ -64,7 +65,7 @@ pub(crate) fn write_parts_over(
     Ok(())
 }
 
-/// Fills `into` with the bytes from `pos` on.
+/// Fills `into` with the bytes that start at `pos`.
 pub(crate) fn read_from(bytes: &[u8], pos: usize, into: &mut [u8])
     requires { pos + length into.old ≤ length bytes.now }
     ensures { into.new ≡ part pos (length into.new) bytes.now }

@@ -24,11 +24,11 @@ const GREATEST_LENGTH: u64 = (1 << 63) - 1;
 /// A store in a file.
 ///
 /// It takes no memory. After a write or a cut that failed it requests the file's length. If that
-/// fails too, or the length is none that the call can have left, `len` keeps its value and every
-/// later call but `len` and `reserve` answers `Device`, without calling the file.
+/// fails too, or the failed call cannot have left that length, `len` keeps its value and every
+/// later call but `len` and `reserve` returns `Device`, without calling the file.
 ///
-/// After a flush that failed every later flush answers `Device`, without calling the file: the
-/// system may have dropped what it could not write.
+/// After a flush that failed every later flush returns `Device`, without calling the file: the
+/// system may have dropped the bytes that it could not write.
 #[derive(Drop)]
 pub struct FileStore<F: RawFile = RealFile> {
     file: F,
@@ -44,7 +44,8 @@ pub struct FileStore<F: RawFile = RealFile> {
     ghost long: { is_lost ≡ false → AreAtLeast len (F.calls file) },
 }
 
-/// Why a file was not opened or made: the system had no memory, or all else.
+/// Returns the fault for an error in opening a file: `NoMemory` if the system had none, else
+/// `Device`.
 fn open_fault(error: &io::Error) -> StoreFault
     ensures { (result ≡ NoMemory) ↔ (error_kind error.now ≡ ErrorKind.OutOfMemory) }
 {
@@ -58,9 +59,9 @@ fn open_fault(error: &io::Error) -> StoreFault
 impl FileStore {
     ghost use Rattle.cdb_store.specs.FileStore.{calls_of, images_of, len_of};
 
-    /// Makes a file, or empties the one of that name, and reads and writes it.
+    /// Makes a file, or empties one that has the name, for reading and writing.
     ///
-    /// `NoMemory`: the system had none. `Device`: it can't be opened so.
+    /// `NoMemory`: the system had none. `Device`: the file can't be made or opened so.
     pub fn create<R: Files<File = File>>(rt: &R, path: &str) -> Result<FileStore, StoreFault>
         ensures images { IfOk result (λ f. (b : List ℕ) → (images_of f b ↔ (b ≡ []))) }
         ensures made { IfOk result (λ f. calls_of f ≡ (Made, []) ∷ []) }
@@ -70,10 +71,10 @@ impl FileStore {
         FileStore::made_by(rt, options, path)
     }
 
-    /// Makes a file, and reads and writes it. It follows no link of that name.
+    /// Makes a file for reading and writing. It follows no link of that name.
     ///
-    /// `NoMemory`: the system had none. `Device`: it can't be made, or something of that name is
-    /// there already.
+    /// `NoMemory`: the system had none. `Device`: the file can't be made, or something of that name
+    /// is there already.
     pub fn create_new<R: Files<File = File>>(rt: &R, path: &str) -> Result<FileStore, StoreFault>
         ensures images { IfOk result (λ f. (b : List ℕ) → (images_of f b ↔ (b ≡ []))) }
         ensures made { IfOk result (λ f. calls_of f ≡ (Made, []) ∷ []) }
@@ -83,7 +84,7 @@ impl FileStore {
         FileStore::made_by(rt, options, path)
     }
 
-    /// Makes a file by these options, which leave none of its bytes.
+    /// Opens a file for reading and writing, by options that make it or empty it.
     fn made_by<R: Files<File = File>>(
         rt: &R,
         mut options: OpenOptions,
@@ -98,9 +99,10 @@ impl FileStore {
         }
     }
 
-    /// Opens a file to read it. A write or a cut of it is `Device`.
+    /// Opens a file for reading. A write or a cut of the store returns `Device`.
     ///
-    /// `NoMemory`: the system had none. `Device`: it can't be opened, or has 2^63 bytes or more.
+    /// `NoMemory`: the system had none. `Device`: the file can't be opened, reports no length, or
+    /// has 2^63 bytes or more.
     pub fn open<R: Files<File = File>>(rt: &R, path: &str) -> Result<FileStore, StoreFault>
         ensures images { IfOk result (λ f. (b : List ℕ) → (images_of f b ↔ (length b ≡ len_of f))) }
         ensures told { IfOk result (λ f. calls_of f ≡ (Length (len_of f), []) ∷ []) }
@@ -113,7 +115,7 @@ impl FileStore {
 }
 
 impl<F: RawFile> FileStore<F> {
-    /// A file that was just made or emptied.
+    /// A store in a file that was just made or emptied.
     fn empty(file: F) -> FileStore<F>
         requires known { lost (F.calls file) ≡ false }
         requires sure { failed_syncs (F.calls file) ≡ 0 }
@@ -141,14 +143,14 @@ impl<F: RawFile> FileStore<F> {
         FileStore::empty(file)
     }
 
-    /// Its raw file, for questions about it.
+    /// Returns the store's raw file, for questions about it.
     pub fn file(&self) -> &F
         ensures { result.now ≡ file_of self.now }
     {
         &self.file
     }
 
-    /// Its raw file.
+    /// Returns the store's raw file, without the store.
     pub fn into_file(self) -> F
         ensures { result ≡ file_of self }
     {
@@ -165,7 +167,7 @@ impl<F: RawFile> FileStore<F> {
 impl<F: RawFile> FileStore<F> {
     ghost use Rattle.cdb_store.specs.FileStore.{calls_of};
 
-    /// Answers `Device` if the length is lost, with no call of the file.
+    /// Returns `Device` if the length is lost, without calling the file.
     fn refuse_if_lost(&mut self) -> Result<(), StoreFault>
         ensures ok { OnOk result (self.new.is_lost ≡ false) }
         ensures same { OnOk result (self.new ≡ self.old) }
@@ -188,7 +190,7 @@ impl<F: RawFile + Drop> FileStore<F> {
 
     /// A store in a raw file that was just opened, of the length that it reports.
     ///
-    /// `Device`: it reports none, or 2^63 bytes or more.
+    /// `Device`: the file reports no length, or 2^63 bytes or more.
     pub fn over(mut file: F) -> Result<FileStore<F>, StoreFault>
         requires { F.calls file ≡ [] }
         ensures images { IfOk result (λ f. (b : List ℕ) → (images_of f b ↔ (length b ≡ len_of f))) }
@@ -329,7 +331,7 @@ impl<F: RawFile> Store for FileStore<F> {
     }
 
     /// Has the file synced, so that a loss of power does not take its bytes. After a flush that
-    /// failed it answers `Device`, without calling the file.
+    /// failed it returns `Device`, without calling the file.
     fn flush(&mut self) -> Result<(), StoreFault>
         ensures images { SameImages (images_of self.old) (images_of self.new) }
         ensures size { self.new.len ≡ self.old.len }

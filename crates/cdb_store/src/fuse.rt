@@ -8,21 +8,21 @@ ghost use Rattle.cdb_store.specs.Fuse.{Blows, capped, PartWritten};
 
 use crate::{Store, StoreFault};
 
-/// A store that passes so many calls to the inner store, fails the next one, and passes all later
-/// ones.
+/// A store that passes a number of calls to the inner store, fails the next one, and passes all
+/// later ones.
 ///
 /// The calls that count are `read_at`, `write_at`, `write_parts`, `cut` and `flush`. The write that
 /// fails first writes a part of its bytes; any other call that fails does nothing.
 #[derive(Drop)]
 pub struct FuseStore<S> {
     inner: S,
-    /// The number of calls it passes before the one that it fails.
+    /// The number of calls that pass before the one that fails.
     limit: u64,
     /// The number of bytes that the failed write writes.
     part: u64,
-    /// The number of calls that counted.
+    /// The number of calls so far that count.
     calls: u64,
-    /// The number of bytes that the inner store's writes that answered Ok wrote.
+    /// The number of bytes in the inner store's writes that returned `Ok`.
     written: u64,
 }
 
@@ -69,8 +69,8 @@ impl<S: Store> FuseStore<S> {
         self.calls
     }
 
-    /// Returns the number of bytes that the inner store's writes that answered Ok wrote. It stops
-    /// at `u64::MAX`.
+    /// Returns the number of bytes in the inner store's writes that returned `Ok`. It stops at
+    /// `u64::MAX`.
     pub fn written(&self) -> u64
         ensures { result ≡ counted_by self.now }
     {
@@ -78,7 +78,7 @@ impl<S: Store> FuseStore<S> {
     }
 }
 
-/// Counts a call, and answers whether it is the one to fail.
+/// Counts a call, and returns true if it is the one to fail.
 fn blows(calls: &mut u64, limit: u64) -> bool
     ensures counted { calls.new ≡ capped (calls.old + 1) }
     ensures fits { calls.old < 2 ^ 64 }

@@ -1,5 +1,5 @@
-//! What follows from the contract of a store for those that call one. Each law is the contract of a
-//! function whose parameters are what it ranges over, the store before and after a call among them.
+//! Consequences of a store's contract for its callers. Each law is the contract of a function whose
+//! parameters are what it ranges over, among them the store before and after a call.
 ghost use Rattle.std.specs.Prelude.{◌≡◌, ◌+◌, ◌≤◌, ◌++◌, length};
 ghost use Rattle.cdb_store.specs.Images.{SameImages, AfterRead, AfterWrite, AfterTornWrite, AfterCut, TornWithin, AreApart, ImagesHold, Copied, StaysHeld, HasNoImage, Gathered};
 

@@ -1,4 +1,4 @@
-// Why a database was not made.
+// The reasons why a database was not made.
 ghost use Rattle.std.specs.Prelude.{◌≡◌, Some};
 ghost use Rattle.cdb_store.specs.MakeFault.{make_number, make_message};
 
@@ -7,23 +7,23 @@ use std::alloc::{AllocError, AllocFailed};
 use std::error::Error;
 use std::fmt;
 
-/// Why a database was not made.
+/// The reasons why a database was not made.
 #[derive(Clone, Copy, Debug, PartialEq, Eq)]
 pub enum MakeFault {
-    /// An earlier call broke the maker, or its store gave back other bytes than were written.
+    /// An earlier call broke the maker, or its store returned other bytes than were written.
     Broken,
     /// The store failed while earlier records were read.
     Lookup,
     /// The finished file would pass the limit.
     TooBig,
-    /// Memory ran out.
+    /// An allocation failed.
     NoMemory,
     /// The store failed while it was written.
     Writing,
 }
 
 impl MakeFault {
-    /// The number of the fault, from 1 on in the order of the variants.
+    /// Returns the number of the fault, counted from 1 in the order of the variants.
     pub fn number(&self) -> u8
         ensures { result ≡ make_number self.now }
     {
@@ -36,7 +36,7 @@ impl MakeFault {
         }
     }
 
-    /// What the fault is, in words.
+    /// Returns the fault's message, in words.
     pub fn message(&self) -> &'static str
         ensures { result.now ≡ make_message self.now }
     {

@@ -9,7 +9,7 @@ use crate::trace::{Call, Trace, note_parts};
 use crate::{Store, StoreFault};
 use std::alloc::Global;
 
-/// A store in memory. It never answers `Device`.
+/// A store in memory. It never returns `Device`.
 #[derive(Drop)]
 pub struct MemStore {
     bytes: Vec<u8>,
@@ -34,7 +34,7 @@ impl MemStore {
         MemStore { bytes, trace }
     }
 
-    /// Its bytes, which are its only image.
+    /// Returns the store's bytes, its only image.
     pub fn bytes(&self) -> &[u8]
         ensures bytes { result.now ≡ contents self.now }
         ensures images { (b : List ℕ)
@@ -43,7 +43,7 @@ impl MemStore {
         self.bytes.as_slice()
     }
 
-    /// Its bytes, in the vector that held them.
+    /// Returns the store's bytes, in the vector that held them.
     pub fn into_vec(self) -> Vec<u8>
         ensures { result.items ≡ contents self }
     {

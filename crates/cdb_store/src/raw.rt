@@ -11,7 +11,7 @@ ghost use Rattle.cdb_store.specs.Calls.{lost, ended, failed_syncs, GivenUp, Came
 
 use crate::trace::{Call, Trace};
 
-/// Why a read or a write did nothing.
+/// The fault of a raw call.
 #[derive(Clone, Copy, Debug, PartialEq, Eq)]
 pub enum RawFault {
     /// A signal interrupted the call before it did anything.
@@ -20,17 +20,17 @@ pub enum RawFault {
     Failed,
 }
 
-/// A file by its raw calls, each of which notes what it answered in proof-only data.
+/// The raw calls of a file. Each notes its answer in proof-only data.
 ///
-/// A call makes one request of the file, which may do less. After the file's length is
-/// lost no call reaches it, and after a sync that failed no other sync does. `give`, `refuse`,
+/// A call makes one request, and the file may do less of it. After the file's length is lost no
+/// call reaches it, and after a sync that failed no other sync does. `give`, `refuse`,
 /// `refuse_sync`, `give_up` and `lose` do nothing at run time: a store notes by them what it makes
 /// of the answers, and each requires the answers that allow it.
 pub trait RawFile {
     /// The calls, the newest first.
     ghost calls: { Self → List (Call × List ℕ) };
 
-    /// Reads at least one byte from `pos` on. A file that has none there is `Failed`.
+    /// Reads at least one byte at `pos`. If the file has none there, it returns `Failed`.
     fn read_some(&mut self, pos: u64, into: &mut [u8]) -> Result<usize, RawFault>
         requires some { 0 < length into.old }
         requires known { lost (calls self.old) ≡ false }
@@ -39,7 +39,7 @@ pub trait RawFile {
             (λ n. calls self.new ≡ (Read pos, take n into.new) ∷ calls self.old) }
         ensures err { IfErr result (λ e. calls self.new ≡ (ended Failed e, []) ∷ calls self.old) };
 
-    /// Writes at least one byte from `pos` on. A file that takes none is `Failed`.
+    /// Writes at least one byte at `pos`. If the file takes none, it returns `Failed`.
     fn write_some(&mut self, pos: u64, bytes: &[u8]) -> Result<usize, RawFault>
         requires some { 0 < length bytes.now }
         requires known { lost (calls self.old) ≡ false }
@@ -50,19 +50,19 @@ pub trait RawFile {
             (λ e. calls self.new
             ≡ (ended (NotWritten pos (length bytes.now)) e, []) ∷ calls self.old) };
 
-    /// Requests the length.
+    /// Requests the file's length.
     fn length(&mut self) -> Result<u64, RawFault>
         requires { lost (calls self.old) ≡ false }
         ensures ok { IfOk result (λ n. calls self.new ≡ (Length n, []) ∷ calls self.old) }
         ensures err { OnErr result (calls self.new ≡ (Failed, []) ∷ calls self.old) };
 
-    /// Cuts it to a length.
+    /// Cuts the file to the length `len`.
     fn set_length(&mut self, len: u64) -> Result<(), RawFault>
         requires { lost (calls self.old) ≡ false }
         ensures ok { OnOk result (calls self.new ≡ (Cut len, []) ∷ calls self.old) }
         ensures err { OnErr result (calls self.new ≡ (NotCut len, []) ∷ calls self.old) };
 
-    /// Syncs its bytes, so that they survive a loss of power.
+    /// Syncs the file's bytes, so that they survive a loss of power.
     ///
     /// After a sync that failed none may follow: the system may have dropped the bytes that it
     /// could not write, and then a later sync succeeds without them.
@@ -99,7 +99,7 @@ pub trait RawFile {
         ensures { calls self.new ≡ (Lost, []) ∷ calls self.old };
 }
 
-/// What to note of a call that a fault ended.
+/// Returns the note of a call that ended in `fault`: `failed`, unless a signal interrupted it.
 fn ended_as(failed: Call, fault: RawFault) -> Call
     ensures { result ≡ ended failed fault }
 {
@@ -109,8 +109,8 @@ fn ended_as(failed: Call, fault: RawFault) -> Call
     }
 }
 
-/// Notes what a raw read or write answered: the bytes that it did, as `done`, or how it ended,
-/// which is `failed` unless a signal interrupted it.
+/// Notes the answer of a raw read or write: the bytes that it did, as `done`, or its fault, as
+/// `failed` unless a signal interrupted it.
 pub fn note_part(
     trace: &mut Trace,
     done: Call,

@@ -10,14 +10,14 @@ use std::os::fd::AsRawFd;
 use std::os::unix::fs::{FileExt, MetadataExt, OpenOptionsExt};
 use std::rt::Files;
 
-/// The permission bits of a file that all may read and write, of which the umask takes some.
+/// The mode of a file that all may read and write, before the umask takes bits from it.
 pub const READ_AND_WRITTEN: u32 = 0o666;
 
 /// The greatest number of a standard stream.
 pub const LAST_STANDARD: i32 = 2;
 
-/// A file that was opened, unless it has the number of a standard stream, which is closed then:
-/// what is meant for that stream would be written into the file.
+/// Returns the opened file, or closes it if it has the number of a standard stream: what is meant
+/// for that stream would be written into the file.
 fn apart(file: File) -> io::Result<File> {
     if file.as_raw_fd() <= LAST_STANDARD {
         return Err(io::Error::from(ErrorKind::InvalidInput));
@@ -25,7 +25,7 @@ fn apart(file: File) -> io::Result<File> {
     Ok(file)
 }
 
-/// Returns true if both are of one file.
+/// Returns true if both are the metadata of one file.
 fn is_one(one: &Metadata, other: &Metadata) -> bool {
     one.dev() == other.dev() && one.ino() == other.ino()
 }
@@ -35,11 +35,11 @@ fn is_one(one: &Metadata, other: &Metadata) -> bool {
 pub struct RealFile {
     file: File,
     trace: Trace,
-    /// The system's number of the error that the last call which failed met.
+    /// The system's number for its latest error in a raw call.
     error: Option<i32>,
-    /// What it was as it was opened, if a read fails once it is another.
+    /// The stamp of the file when it was opened, if reads fail once that changes.
     seen: Option<Stamp>,
-    /// True if a read failed for that.
+    /// True if a read failed because the stamp had changed.
     is_changed: bool,
 }
 
@@ -52,7 +52,7 @@ struct Stamp {
 }
 
 impl Stamp {
-    /// That of an open file.
+    /// Returns the stamp of an open file.
     fn of(file: &File) -> io::Result<Stamp> {
         let found = file.metadata()?;
         Ok(Stamp {
@@ -62,7 +62,7 @@ impl Stamp {
         })
     }
 
-    /// Returns true if both are of one moment.
+    /// Returns true if both stamps are the same.
     fn is(&self, other: &Stamp) -> bool {
         self.len == other.len
             && self.seconds == other.seconds
@@ -73,7 +73,7 @@ impl Stamp {
 impl RealFile {
     ghost use Rattle.cdb_store.specs.FileStore.{events_of, trace_of};
 
-    /// A file that was just opened, of which nothing is known.
+    /// A file that was just opened, with no call noted.
     pub fn opened(file: File) -> RealFile
         ensures { result.trace.events ≡ [] }
     {
@@ -86,8 +86,8 @@ impl RealFile {
         }
     }
 
-    /// A file that was just opened, and whose reads fail once its length or the time of its last
-    /// change is another than now: what was read before and what is read then may be of two files.
+    /// A file that was just opened. Its reads fail once its length or the time of its last change
+    /// differs from now: bytes read before and after that might be of two files.
     pub fn watched(file: File) -> io::Result<RealFile>
         ensures { IfOk result (λ f. f.trace.events ≡ []) }
     {
@@ -106,8 +106,8 @@ impl RealFile {
         made
     }
 
-    /// Makes a file under a name that nothing has, and reads and writes it. It follows no link. The
-    /// file gets these permission bits, less those that the umask takes.
+    /// Makes a file under a name that nothing has, for reading and writing. It follows no link. The
+    /// file's mode is `mode` less the bits that the umask takes.
     pub fn create_new<R: Files<File = File>>(rt: &R, path: &str, mode: u32) -> io::Result<RealFile>
         ensures made { IfOk result (λ f. events_of f ≡ (Call.Made, []) ∷ []) }
     {
@@ -124,8 +124,8 @@ impl RealFile {
         }
     }
 
-    /// Opens the regular file of a name to read and write it. It does not wait: a pipe that is
-    /// opened to read and write never makes a process wait, and it is given up then.
+    /// Opens a regular file for reading and writing. It does not wait: opening a pipe to read and
+    /// write never makes a process wait, and then the function fails.
     ///
     /// `InvalidInput`: what was opened is no regular file, or it got the number of a standard
     /// stream.
@@ -139,8 +139,8 @@ impl RealFile {
         Ok(RealFile::opened(file))
     }
 
-    /// Makes a file, or opens the one of this name, and reads and writes it. It is not emptied. A
-    /// link is not followed: it is a fault.
+    /// Makes a file, or opens one that has the name without emptying it, for reading and writing.
+    /// It fails if the name is a link.
     pub fn opened_to_empty<R: Files<File = File>>(rt: &R, path: &str) -> io::Result<RealFile>
         ensures opened { IfOk result (λ f. events_of f ≡ []) }
     {
@@ -149,7 +149,7 @@ impl RealFile {
             Err(error) if error.kind() == ErrorKind::AlreadyExists => {
                 let mut options = OpenOptions::new();
                 let file = apart(options.read(true).write(true).open(rt, path)?)?;
-                // The name is looked at after the file was opened: a link has a file of its own.
+                // The check comes after the open: a link is a file of its own.
                 if !is_one(&file.metadata()?, &fs::symlink_metadata(rt, path)?) {
                     return Err(error);
                 }
@@ -181,26 +181,27 @@ impl RealFile {
         self.file.set_permissions(permissions)
     }
 
-    /// The file of the system, which stays open.
+    /// Returns the system's file, which stays open.
     pub fn into_file(self) -> File {
         let RealFile { file, trace, .. } = self;
         drop(trace);
         file
     }
 
-    /// The system's number of the error that the last call which failed met, if it was one of the
-    /// system: no error of it made a read fail past the end of the file, or a write that wrote
-    /// nothing.
+    /// Returns the system's number for its latest error in a raw call, if there was one. A read
+    /// past the end of the file and a write that writes nothing fail without one, and leave the
+    /// number.
     pub fn last_error(&self) -> Option<i32> {
         self.error
     }
 
-    /// Returns true if a read failed since the file changed.
+    /// Returns true if a read failed because the file had changed.
     pub fn is_changed(&self) -> bool {
         self.is_changed
     }
 
-    /// What a read did, unless the file changed since it was opened.
+    /// Returns `read`, or `Failed` if the file is watched and has changed or its stamp can't be
+    /// read.
     fn unchanged(&mut self, read: Result<usize, RawFault>) -> Result<usize, RawFault>
         ensures same { IfOk result (λ n. read ≡ Ok n) }
         ensures trace { self.new.trace ≡ self.old.trace }
@@ -221,20 +222,21 @@ impl RealFile {
         }
     }
 
-    /// The calls on it, which only clauses read.
+    /// Returns the calls on the file, which only clauses read.
     pub fn trace(&self) -> &Trace
         ensures { result.now ≡ trace_of self.now }
     {
         &self.trace
     }
 
-    /// What the system says of it: its kind, and its device and inode. No byte of it is read.
+    /// Returns the file's metadata, with its kind, device and inode. It reads no byte of the file.
     pub fn metadata(&self) -> io::Result<Metadata> {
         self.file.metadata()
     }
 }
 
-/// Why the system's call did nothing: a signal that interrupted it, or all else.
+/// Returns `Interrupted` if a signal interrupted the system's call, and `Failed` for any other
+/// error.
 fn fault_of(error: &io::Error) -> RawFault
     ensures { (result ≡ RawFault.Interrupted) ↔ (error_kind error.now ≡ ErrorKind.Interrupted) }
 {
@@ -245,7 +247,8 @@ fn fault_of(error: &io::Error) -> RawFault
     }
 }
 
-/// What a read or a write did: at least one byte, or else why none. The number of an error is kept.
+/// Returns the number of bytes that a read or a write did, at least one, or its fault. It leaves
+/// the system's number for an error in `error`.
 fn part_of(answer: io::Result<usize>, error: &mut Option<i32>) -> Result<usize, RawFault>
     ensures some { IfOk result (λ n. 0 < n) }
     ensures same { IfOk result (λ n. answer ≡ Ok n) }
@@ -264,7 +267,7 @@ fn part_of(answer: io::Result<usize>, error: &mut Option<i32>) -> Result<usize, 
     }
 }
 
-// That these lines do what they note no proof says: each has its tests, which are named at it.
+// No proof shows that these lines do what they note. Each function names its tests.
 impl RawFile for RealFile {
     ghost calls = { λ f. f.trace.events };
 

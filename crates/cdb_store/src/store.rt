@@ -8,20 +8,20 @@ use std::alloc::{AllocError, AllocFailed};
 use std::error::Error;
 use std::fmt::{self, Display, Formatter, Write};
 
-/// Pieces of so many bytes in all are written as one: a record with a short key and value.
+/// Pieces of at most this length in all, such as a short record, are written as one.
 const JOINED: usize = 256;
 
-/// Why a call on a store failed.
+/// The reason why a call on a store failed.
 #[derive(Clone, Copy, Debug, PartialEq, Eq)]
 pub enum StoreFault {
-    /// What holds the bytes failed, as a disk that is full.
+    /// The medium that holds the bytes failed: a full disk, for example.
     Device,
-    /// Memory was refused, and nothing has changed.
+    /// An allocation failed, and nothing has changed.
     NoMemory,
 }
 
 impl StoreFault {
-    /// Its number, by which a program reports it: 1 for `Device`, 2 for `NoMemory`.
+    /// Returns the number that a program reports for the fault: 1 for `Device`, 2 for `NoMemory`.
     pub fn number(&self) -> u8
         ensures { result ≡ fault_number self.now }
     {
@@ -31,7 +31,7 @@ impl StoreFault {
         }
     }
 
-    /// Its words, by which a program reports it to a person. `Display` writes them.
+    /// Returns the words that a program shows a person for the fault. `Display` writes them.
     pub fn message(&self) -> &'static str
         ensures { result.now ≡ fault_message self.now }
     {
@@ -65,7 +65,7 @@ impl From<AllocError> for StoreFault {
 impl<T: Drop> From<AllocFailed<T>> for StoreFault {
     ghost from_gives = { λ _ e. e ≡ NoMemory };
 
-    /// Lets go of what was not stored.
+    /// Drops the value that was not stored.
     fn from(_: AllocFailed<T>) -> Self {
         StoreFault::NoMemory
     }
@@ -73,44 +73,44 @@ impl<T: Drop> From<AllocFailed<T>> for StoreFault {
 
 /// Bytes at positions, counted from 0, that are read, written and cut.
 ///
-/// A contract speaks of a store by six facts. Its *images* are the byte lists, all of its length,
-/// that agree with all that it was given to write and all that it gave back: a store in memory has
-/// exactly one, a file that was opened every list of its length until it is read. Its *failures*
-/// and *bytes written* are counts without a bound. Its *unwritten* count rises with each write that
-/// fails, so a caller that only read cannot answer that a write failed. Its *room* is how far
-/// writes go without taking memory. It is *settled* if all that it was given to write was forwarded
-/// to what holds the bytes.
+/// A contract speaks of a store by six facts. Its *images* are the byte lists of its length that
+/// agree with all its writes and with all bytes it gave back: a store in memory has exactly one,
+/// and an opened file has every list of its length until it is read. Its *failures* and *bytes
+/// written* are counts without a bound. Its *unwritten* count rises with each write that fails, so
+/// a caller that only read cannot report a failed write. Its *room* is the position up to which
+/// writes take no memory. It is *settled* if all bytes written to it were forwarded to the medium
+/// that holds them.
 //
-// The order of each method's clauses means nothing to a caller. It is the one in which the checker
-// hands the bound `S: Store` on at a call in a seventh of the steps.
+// The order of each method's clauses means nothing to a caller. In this order the checker passes
+// the bound `S: Store` through a call in a seventh of the steps.
 pub trait Store {
-    /// The number of bytes it has.
+    /// The store's length in bytes.
     ghost size: { Self → ℕ };
 
-    /// The byte lists that agree with all that it was given to write and all that it gave back.
+    /// The byte lists that agree with all the store's writes and with all bytes it gave back.
     ghost image: { Self → List ℕ → Type 0 };
 
-    /// How often it has failed.
+    /// The number of the store's failures so far.
     ghost failures: { Self → ℕ };
 
     /// A count that rises if a write, a cut or a flush fails. It may rise elsewhere too.
     ghost unwritten: { Self → ℕ };
 
-    /// The number of bytes that were written by calls that answered Ok, and at most as many by
-    /// those that failed.
+    /// The number of bytes written so far. A write that returned `Ok` counts whole, and one that
+    /// failed counts in part or not at all.
     ghost written: { Self → ℕ };
 
-    /// Writes that end at or before it take no memory.
+    /// Writes that end at or before this position take no memory.
     ghost room: { Self → ℕ };
 
-    /// All that it was given to write was forwarded to what holds the bytes.
+    /// All bytes written to the store were forwarded to the medium that holds them.
     ghost settled: { Self → Type 0 };
 
-    /// Returns the number of bytes it has.
+    /// Returns the store's length in bytes.
     fn len(&self) -> u64
         ensures { result ≡ size self.now };
 
-    /// Fills `into` with the bytes from `pos` on, all of which lie inside the store.
+    /// Fills `into` with the bytes that start at `pos`. They all must lie inside the store.
     ///
     /// After `Device` no byte of the store has changed, and `into` may hold anything.
     fn read_at(&mut self, pos: u64, into: &mut [u8]) -> Result<(), StoreFault>
@@ -125,8 +125,8 @@ pub trait Store {
         ensures err { OnErr result (SameImages (image self.old) (image self.new)) }
         ensures memory { IsErrOf result NoMemory → ⊥ };
 
-    /// Writes the bytes from `pos` on, which is at most the store's length, over what
-    /// is there and past the end.
+    /// Writes the bytes at `pos`, over the bytes that are there and past the end. `pos` is at most
+    /// the store's length.
     ///
     /// After `Device` the range may hold any bytes and the store may have grown by a part of it,
     /// but the bytes outside of the range stay. `NoMemory` comes only if the write ends past the
@@ -154,10 +154,10 @@ pub trait Store {
         ensures ok_size { OnOk result
             (size self.new ≡ max (size self.old) (pos + length bytes.now)) };
 
-    /// Writes three pieces one after another from `pos` on, as `write_at` writes them in one.
+    /// Writes three pieces one after another at `pos`, as `write_at` writes them in one.
     ///
-    /// If it has no other way, a store writes pieces of up to 256 bytes by one `write_at`. For
-    /// longer ones it makes room for all three, and writes each by itself.
+    /// By default a store writes pieces of up to 256 bytes in all by one `write_at`. For longer
+    /// ones it makes room for all three, and writes each by itself.
     fn write_parts(
         &mut self,
         pos: u64,
@@ -225,7 +225,7 @@ pub trait Store {
         ensures size { size self.new ≡ size self.old }
         ensures err_room { OnErr result (room self.new ≡ room self.old) };
 
-    /// Cuts it to the length `len`, which is at most its own.
+    /// Cuts the store to the length `len`, which is at most its own.
     ///
     /// After `Device` its length is any from `len` to the old one, and the bytes below that stay.
     fn cut(&mut self, len: u64) -> Result<(), StoreFault>
@@ -241,7 +241,7 @@ pub trait Store {
         ensures images { AfterCut (size self.new) (image self.old) (image self.new) }
         ensures memory { IsErrOf result NoMemory → ⊥ };
 
-    /// Hands everything on to what holds the bytes. After `Device` no byte has changed.
+    /// Forwards all bytes to the medium that holds them. After `Device` no byte has changed.
     fn flush(&mut self) -> Result<(), StoreFault>
         ensures room { room self.old ≤ room self.new }
         ensures size { size self.new ≡ size self.old }
@@ -253,7 +253,7 @@ pub trait Store {
         ensures images { SameImages (image self.old) (image self.new) }
         ensures memory { IsErrOf result NoMemory → ⊥ };
 
-    /// What it has takes no memory.
+    /// The store's length is within its room.
     ghost in_room: { (s : Self) → size s ≤ room s };
 
     /// Each image has the store's length.

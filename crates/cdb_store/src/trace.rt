@@ -6,28 +6,28 @@ ghost use Rattle.cdb_store.specs.Calls.{written_count};
 
 use std::marker::{Model, PhantomData};
 
-/// What a call on a file answered, or what a store made of the answers.
+/// The answer of a call on a file, or a note that the store made.
 #[derive(Clone, Copy)]
 pub enum Call {
     /// The file was made, or emptied.
     Made,
-    /// Bytes from this position on came.
+    /// The file gave bytes that start at this position.
     Read(u64),
-    /// The bytes that came from this position on were given back to the caller.
+    /// The store gave its caller bytes that start at this position, as the file gave them.
     Gave(u64),
-    /// Bytes from this position on were written.
+    /// The file took bytes that start at this position.
     Wrote(u64),
-    /// A write at a position, of so many bytes, failed or was given up.
+    /// A write failed or was given up: its position and its number of bytes.
     NotWritten(u64, u64),
-    /// It reported its length.
+    /// The file reported this length.
     Length(u64),
-    /// It was cut to this length.
+    /// The file was cut to this length.
     Cut(u64),
-    /// Cutting it to this length failed.
+    /// Cutting the file to this length failed.
     NotCut(u64),
-    /// It was synced.
+    /// The file was synced.
     Synced,
-    /// Syncing it failed, or was refused since it had failed before.
+    /// Syncing the file failed, or the store refused it since an earlier sync had failed.
     NotSynced,
     /// A signal interrupted a call, which did nothing.
     Interrupted,
@@ -40,7 +40,7 @@ pub enum Call {
 }
 
 /// A list of calls, the newest first, each with its bytes. It takes no memory, and its methods do
-/// nothing at run time. A raw file of one's own keeps its calls in one.
+/// nothing at run time. A raw file of one's own can keep its calls in a trace.
 #[derive(Drop)]
 pub struct Trace {
     marker: PhantomData<u8>,

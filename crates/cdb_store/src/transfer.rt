@@ -12,7 +12,7 @@ ghost use Rattle.cdb_store.specs.Calls.{IsLost, AreAtLeast, failed_syncs};
 use crate::StoreFault;
 use crate::raw::{RawFault, RawFile};
 
-/// How often a read or a write is made in a row if signals interrupt it.
+/// The number of times that a read or a write is tried in a row if signals interrupt it.
 const ASKS: u32 = 1001;
 
 /// Reads some bytes. An interrupted call is made again, up to 1000 times in a row.
@@ -59,7 +59,7 @@ fn write_some<F: RawFile>(file: &mut F, pos: u64, bytes: &[u8]) -> Result<usize,
     Err(StoreFault::Device)
 }
 
-/// Fills `into` with the bytes from `pos` on, and notes that they are given back.
+/// Fills `into` with the bytes that start at `pos`.
 pub(crate) fn read_all<F: RawFile>(
     file: &mut F,
     pos: u64,
@@ -82,7 +82,7 @@ pub(crate) fn read_all<F: RawFile>(
     Ok(())
 }
 
-/// Writes all the bytes from `pos` on.
+/// Writes all the bytes at `pos`.
 pub(crate) fn write_all<F: RawFile>(file: &mut F, pos: u64, bytes: &[u8]) -> Result<(), StoreFault>
     requires end { pos + length bytes.now < 2 ^ 63 }
     requires inside { AreAtLeast pos (F.calls file.old) }
@@ -111,7 +111,7 @@ pub(crate) fn write_all<F: RawFile>(file: &mut F, pos: u64, bytes: &[u8]) -> Res
     Ok(())
 }
 
-/// The length that a file reports, if it lies in the range. Else the length is lost.
+/// Returns the length that a file reports, if it lies in the range. Else the length is lost.
 pub(crate) fn length_within<F: RawFile>(file: &mut F, least: u64, most: u64) -> Option<u64>
     requires { lost (F.calls file.old) ≡ false }
     ensures range { IfSome result (λ n. (least ≤ n) × (n ≤ most)) }
