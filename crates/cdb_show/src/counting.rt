@@ -2,8 +2,8 @@
 ghost use Rattle.std.specs.Prelude.{◌≡◌, ◌≤◌, length};
 ghost use Rattle.cdb_show.specs.Lines.{newlines};
 
-/// The number of bytes that are counted at a time: as many as one byte can count, in which it is
-/// quick.
+/// The number of bytes that are counted at a time: the most that a one-byte counter, which is fast,
+/// can count.
 const FEW: usize = 255;
 
 /// Returns the number of newlines that a few bytes have.

@@ -1,4 +1,4 @@
-// Why a run stopped.
+// The faults of a run.
 ghost use Rattle.std.specs.Prelude.{◌≡◌};
 ghost use Rattle.cdb_show.specs.Views.Fault.{fault_number, text_fault, walk_fault, make_fault};
 ghost use Rattle.cdb_show.specs.Views.Fault.{in_fault, new_fault, old_fault, read_fault, stop_fault};
@@ -9,7 +9,7 @@ use cdb_read::difference::Stop;
 use cdb_store::MakeFault;
 use std::alloc::{AllocError, AllocFailed};
 
-/// Why a run stopped.
+/// The reason why a run stopped.
 #[derive(Clone, Copy, Debug, PartialEq, Eq)]
 pub enum Fault {
     /// An input, counted from 1, was not read as a text.
@@ -18,7 +18,7 @@ pub enum Fault {
     Make(MakeFault),
     /// A record had a key that was there already, and the run was to stop there.
     Duplicate,
-    /// The value that was looked for is not there.
+    /// The value that was looked up is not there.
     Missing,
     /// A database in a store was not read.
     Read(ReadFault),
@@ -34,16 +34,15 @@ pub enum Fault {
     Rename,
     /// Memory ran out.
     NoMemory,
-    /// Of two databases in stores the old one was not read.
+    /// The old database of a difference was not read.
     Old(ReadFault),
-    /// Of two databases in stores the new one was not read.
+    /// The new database of a difference was not read.
     New(ReadFault),
-    /// Of two databases in stores the old one has no table with slots, though bytes follow its
-    /// head.
+    /// The old database of a difference has no table with slots, though bytes follow its head.
     NoOldTables,
-    /// The same of the new one.
+    /// The new database of a difference has no table with slots, though bytes follow its head.
     NoNewTables,
-    /// The same of the base of a create.
+    /// The base of a create has no table with slots, though bytes follow its head.
     NoBaseTables,
 }
 
@@ -97,7 +96,7 @@ impl Fault {
         }
     }
 
-    /// The same, if the new one was not read.
+    /// The same fault as `of_old` gives, if the new database was not read.
     pub(crate) fn of_new(fault: ReadFault) -> Fault
         ensures { result ≡ new_fault fault }
     {
@@ -108,7 +107,7 @@ impl Fault {
         }
     }
 
-    /// The same, from why their difference was not written.
+    /// The fault of a run that did not write the difference of two databases, from its reason.
     pub(crate) fn of_stop(stop: Stop) -> Fault
         ensures { result ≡ stop_fault stop }
     {

@@ -42,12 +42,12 @@ impl<J: Read, I: Read> Inputs<J, I> {
     }
 }
 
-/// The reader that inputs share, which has its window from the first of them on.
+/// The reader that inputs share. It has its window once the first of them begins.
 #[derive(Drop)]
 pub enum SharedWindow<I> {
-    /// Nothing was read of it.
+    /// Nothing was read from it.
     Unread(I),
-    /// An input was.
+    /// An input that shares it was begun.
     InHand(Window<I>),
 }
 
@@ -64,7 +64,7 @@ impl<I: Feeds> SharedWindow<I> {
         }
     }
 
-    /// Hands the reader back. The bytes that its window holds are lost.
+    /// Returns the reader. The bytes that its window holds are lost.
     pub fn into_reader(self) -> I
         ensures reader { result ≡ reader_of self }
         ensures lost { Consumes (shared_feed I.feed self) (I.feed result) (held_of self) }

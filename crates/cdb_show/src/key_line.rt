@@ -13,7 +13,7 @@ use itoa::Buffer;
 /// The number of bytes of a key that are shown.
 const SHOWN: usize = 256;
 
-/// As much of a key as is shown.
+/// Returns the part of a key that is shown: its first `SHOWN` bytes.
 fn shown_part(key: &[u8]) -> &[u8]
     ensures { result.now ≡ take 256 key.now }
 {
@@ -24,7 +24,7 @@ fn shown_part(key: &[u8]) -> &[u8]
     }
 }
 
-/// What follows that.
+/// Returns the text after the shown part of a key: `...` if the key is longer.
 fn after_key(key: &[u8]) -> &'static [u8]
     ensures { result.now ≡ after_key key.now }
 {
@@ -72,9 +72,9 @@ fn write_key<E: Sink>(name: &str, line: u64, key: &[u8], errors: &mut E) -> Resu
     )
 }
 
-/// Writes the line of a record whose key was there already, and the one that explains it if the
-/// names of the inputs are given for that: with the line of its input at which it begins. After an
-/// `OutFault` the writer holds a prefix of them.
+/// Writes the line of a record whose key was there already. If the names of the inputs are given, a
+/// second line explains it, with the line at which the record begins in its input. After an
+/// `OutFault` the writer holds a prefix of these lines.
 #[cold]
 #[inline(never)]
 pub fn write_duplicates<E: Sink>(

@@ -9,14 +9,14 @@ use crate::parser::InputParser;
 use cdb_form::Feeds;
 use std::io::Read;
 
-/// What a run read of its inputs, one after the other, is what one function of their bytes says.
+/// A run reads of its inputs, one after the other, what one function of their bytes says.
 ///
-/// `_before` are the readers of the inputs before the run, of which nothing was read, and `_after`
-/// those that were reached, as they were returned; `_old` and `_new` are the reader that several
-/// inputs share. For all bytes that agree with what is known of these readers at the end, the items
-/// of the inputs are those that the function gives: all of them, or those up to the first input
-/// with a fault, with that fault, or the first ones if the run stopped for another reason. So the
-/// bytes of an input that was not reached do not matter.
+/// `_before` are the unread readers of the inputs before the run. `_after` are the readers that
+/// were reached, as the run returned them. `_old` and `_new` are the reader that several inputs
+/// share. For all bytes that agree with what is known of these readers at the end, the items of the
+/// inputs are those that the function gives: all of them, or those up to the first input with a
+/// fault, with that fault, or the first ones if the run stopped for another reason. So the bytes of
+/// an input that was not reached do not matter.
 pub fn inputs_are_given<P: InputParser, R: Feeds, S: Feeds>(
     _parser: &P,
     _before: &[InputReader<R>],
@@ -57,8 +57,9 @@ pub fn known_inputs_are_given<P: InputParser, R: Read, S: Read>(
 
 /// How a loop over the inputs of a run says what it read.
 ///
-/// What was read of the first inputs, and then of those that follow, was read of all. Meanwhile the
-/// readers of those that follow may have changed, from `_between` to `_after`: none was reached.
+/// The items of the first inputs, and then the items of the inputs after them, are the items of
+/// all. From `_between` to `_after` only the readers after the first ones may change: the first
+/// part of the run reached none of them.
 pub fn inputs_are_read_in_turn<P: InputParser, R: Feeds, S: Feeds>(
     _parser: &P,
     _before: &[InputReader<R>],
@@ -79,8 +80,8 @@ pub fn inputs_are_read_in_turn<P: InputParser, R: Feeds, S: Feeds>(
         _before.now _after.now _old.now _new.now }
 {}
 
-/// Of a reader of which the standard library says which bytes are left, its own words and those of
-/// a feed say the same.
+/// If the standard library knows the bytes that a reader has left, its own clauses and a feed's
+/// clauses say the same of these bytes.
 pub fn known_reader_is_fed<R: Read>(_before: &R, _after: &R)
     ensures takes { (bytes : List ℕ)
         → KnownConsumes (R.remaining _before.now) (R.remaining _after.now) bytes

@@ -1,6 +1,6 @@
-//! What the program `cdb` shows of inputs and stores: a run each that only reads, which a program
-//! of one's own may call as well. Beside them is what the runs that make a database share with
-//! them: inputs, outputs, faults and lines.
+//! The runs of the program `cdb` that only read: each shows something of inputs and stores. Other
+//! programs may call them too. The runs that make a database share the inputs, outputs, faults and
+//! lines of this crate.
 #![tactic(auto)]
 
 mod counting;

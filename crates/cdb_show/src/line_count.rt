@@ -4,13 +4,13 @@ ghost use Rattle.cdb_show.specs.Lines.{Counts, line_of, shared_newlines};
 
 use crate::counting::newlines;
 
-/// How many newlines and bytes were taken of the input that was begun last.
+/// The numbers of newlines and bytes that were taken of the input that was begun last.
 #[derive(Clone, Copy)]
 pub(crate) struct LineCount {
     /// The number of newlines that were taken: of the input, or of the reader that it shares with
     /// others.
     newlines: u64,
-    /// True if the byte that was taken last is none of them.
+    /// True if the byte that was taken last is no newline.
     amid: bool,
     /// The number of bytes that were taken of the input.
     bytes: u64,

@@ -8,13 +8,12 @@ use cdb_form::{AtHand, Feeds};
 use std::cell::Cell;
 use std::io;
 
-/// The lines of the inputs of a run, as their bytes are taken: those of an input from its first
-/// byte on, and those of inputs that share a reader from the first byte of that. The count is kept
-/// in a cell, of which no clause says anything; the clauses of `LineCount` say what each step does
-/// to it.
+/// The lines of the inputs of a run, counted as their bytes are taken. Counting starts at an
+/// input's first byte, or at the first byte of the reader that inputs share. No clause mentions the
+/// count, which is kept in a cell; the clauses of `LineCount` say what each step does to it.
 #[derive(Drop)]
 pub struct Lines {
-    /// True if they are counted.
+    /// True if the lines are counted.
     pub counts: bool,
     count: Cell<LineCount>,
 }
@@ -54,8 +53,8 @@ impl Lines {
         self.count.get().last()
     }
 
-    /// The line, counted from 1, of a fault of the input that was read last, whose place is counted
-    /// in bytes from the first one of that input: nothing after that byte was taken.
+    /// Returns the line, counted from 1, of a fault at `place` of the input that was read last.
+    /// `place` counts bytes from that input's first one; nothing after it was taken.
     pub fn line_at(&self, place: u64) -> u64 {
         self.count.get().line_at(place)
     }
@@ -73,7 +72,7 @@ pub struct Lined<'a, F> {
 }
 
 impl<'a, F> Lined<'a, F> {
-    /// A window over which the lines are counted from here on.
+    /// A window whose lines are counted in `lines`, starting with its next byte.
     pub fn new(window: Window<F>, lines: &'a Lines) -> Lined<'a, F>
         ensures { result.window ≡ window }
     {

@@ -1,4 +1,4 @@
-// What is said of a fault.
+// The messages of faults.
 ghost use Rattle.std.specs.Prelude.{◌≡◌, [], ◌++◌, OnErr, Some, codes};
 ghost use Rattle.cdb_form.specs.Views.KnownBytes.{Writes};
 ghost use Rattle.cdb_show.specs.Message.{fault_message, fault_side, numbered, said_place, fault_place};
@@ -13,7 +13,7 @@ use itoa::Buffer;
 use std::error::Error;
 use std::fmt;
 
-/// Where a fault is.
+/// The place of a fault.
 #[derive(Clone, Copy)]
 enum Place {
     Nowhere,
@@ -25,12 +25,12 @@ enum Place {
     Table(u64),
     /// In the record at a place of a database file.
     Record(u64),
-    /// In a slot, from 0 on, of a table of it.
+    /// In a slot, counted from 0, of a table of a database file.
     Slot(u64, u64),
 }
 
 impl Fault {
-    /// What the fault is, in words.
+    /// Returns the fault in words, without its place.
     pub fn message(&self) -> &'static str
         ensures { result.now ≡ fault_message self.now }
     {
@@ -54,7 +54,7 @@ impl Fault {
         }
     }
 
-    /// Of some databases, which one the fault is of.
+    /// Returns the words that name the old, the new or the base database, if the fault names one.
     fn side(&self) -> &'static str
         ensures { result.now ≡ fault_side self.now }
     {
@@ -66,7 +66,7 @@ impl Fault {
         }
     }
 
-    /// Where the fault is.
+    /// Returns the place of the fault.
     fn place(&self) -> Place
         ensures { result ≡ fault_place self.now }
     {
@@ -86,7 +86,7 @@ impl Fault {
     }
 }
 
-/// Where the fault of a database in a store is.
+/// Returns the place of a fault of a database in a store.
 fn read_place(fault: ReadFault) -> Place
     ensures { result ≡ read_place fault }
 {
@@ -128,7 +128,7 @@ impl fmt::Display for Fault {
 
 impl Error for Fault {}
 
-/// Writes what is named by a number.
+/// Writes `part`, the number, a colon and a space.
 fn write_numbered<E: Sink>(part: &[u8], number: u64, errors: &mut E) -> Result<(), OutFault>
     ensures writes { Writes result (E.contents errors.old)
         (E.contents errors.new) (numbered part.now number) }
@@ -140,7 +140,7 @@ fn write_numbered<E: Sink>(part: &[u8], number: u64, errors: &mut E) -> Result<(
     write_pieces(errors, &[part, number, b": "])
 }
 
-/// Writes where a fault is.
+/// Writes the place of a fault.
 fn write_place<E: Sink>(place: Place, errors: &mut E) -> Result<(), OutFault>
     ensures writes { Writes result (E.contents errors.old)
         (E.contents errors.new) (said_place place) }
@@ -163,7 +163,7 @@ fn write_place<E: Sink>(place: Place, errors: &mut E) -> Result<(), OutFault>
     }
 }
 
-/// Writes where a fault is and what it is, in a line.
+/// Writes the line of a fault: its database, its place and its words.
 fn write_said<E: Sink>(fault: &Fault, errors: &mut E) -> Result<(), OutFault>
     ensures writes { Writes result (E.contents errors.old)
         (E.contents errors.new) (said_line fault.now) }
@@ -175,9 +175,8 @@ fn write_said<E: Sink>(fault: &Fault, errors: &mut E) -> Result<(), OutFault>
     write_pieces(errors, &[fault.message().as_bytes(), b"\n"])
 }
 
-/// Writes the line that says what a fault is, with its newline. A value that is missing has no
-/// line. After an `OutFault` the output took a prefix of it, and has failed. The output is not
-/// flushed.
+/// Writes the line of a fault, with its newline. `Missing` has no line. After an `OutFault` the
+/// output took a prefix of the line, and has failed. The output is not flushed.
 pub fn write_fault<E: Sink>(fault: &Fault, errors: &mut E) -> Result<(), OutFault>
     ensures writes { Writes result (E.contents errors.old)
         (E.contents errors.new) (fault_line fault.now) }

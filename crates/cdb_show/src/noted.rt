@@ -7,8 +7,8 @@ use cdb_store::{Call, Trace};
 use std::io::Write;
 
 /// A writer that notes what it took and whether it failed, in data that only clauses read. So a
-/// clause can speak of the bytes of a writer of the system too. That a write took the bytes that it
-/// answered is trusted, as it is of a file.
+/// clause can speak of the bytes of a writer of the system too. A write is trusted to have taken
+/// the number of bytes that it answered, as a file's write is.
 #[derive(Drop)]
 pub struct Noted<W> {
     writer: W,
@@ -18,7 +18,7 @@ pub struct Noted<W> {
 impl<W> Noted<W> {
     ghost use Rattle.cdb_show.specs.Views.Noted.{noted_by};
 
-    /// Over a writer, of which nothing is noted yet.
+    /// Returns a writer over `writer` that has noted nothing yet.
     pub fn over(writer: W) -> Noted<W>
         ensures notes { noted_by result ≡ [] }
         ensures over { result.writer ≡ writer }

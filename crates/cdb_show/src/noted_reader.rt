@@ -8,8 +8,8 @@ use crate::read_trace::{ReadCall, ReadTrace};
 use cdb_form::Feeds;
 use std::io::{self, Read};
 
-/// A reader that notes what it gave, as one of a file or of standard input, of which the standard
-/// library says nothing.
+/// A reader that notes what it gave. The standard library does not know what the reader of a file
+/// or of standard input gives.
 ///
 /// Once the reader has answered that it is at its end, it is not called again: a terminal would go
 /// on after its end.
@@ -18,12 +18,12 @@ pub struct NotedReader<R> {
     reader: R,
     ended: bool,
     trace: ReadTrace,
-    /// What it refused: a read that failed is an answer with no bytes.
+    /// The reads that failed, each as an answer with no bytes.
     refused: ReadTrace,
 }
 
 impl<R> NotedReader<R> {
-    /// Over a reader from which nothing was taken yet.
+    /// Returns a reader over `reader` that has noted nothing yet.
     pub fn over(reader: R) -> NotedReader<R>
         ensures nothing { came_of result.trace.events ≡ [] }
         ensures unread { IsUnread (noted_feed result) }
@@ -61,7 +61,7 @@ impl<R: Read> Feeds for NotedReader<R> {
         ensures agrees_err { OnErr result
             (StillAgrees (noted_feed self.old) (noted_feed self.new) [] ⊥) }
         // And it answers what its reader gave, for every reader that reports its bytes: so nothing
-        // that was taken is lost, and an end is one of the reader, or came before.
+        // that was taken is lost, and an end is the reader's own, or came before.
         ensures given { self.old.ended ≡ false → ReadConsumes (R.remaining self.old.reader)
             (R.remaining self.new.reader) result into.new }
         ensures stays { self.old.ended ≡ true → self.new.reader ≡ self.old.reader }

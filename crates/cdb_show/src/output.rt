@@ -1,4 +1,4 @@
-// Output through a buffer, from which many bytes go at once.
+// Output through a buffer, which passes many bytes in one call.
 ghost use Rattle.std.specs.Prelude.{◌≡◌, ℕ, ◌+◌, ◌<◌, ◌≤◌, [], ◌-◌, Some, length, take, min, true, false};
 ghost use Rattle.std.specs.Prelude.{IfOk, OnOk, OnErr, flat_map, vec_capacity, vec_len};
 ghost use Rattle.std.specs.Io.KnownBytes.{Keeps, Appends};
@@ -9,15 +9,15 @@ use cdb_form::{OutFault, Sink};
 use std::alloc::{AllocError, Global};
 use std::io::Write;
 
-/// The number of bytes that go straight on at once. Of more a file's cache takes memory in larger
-/// blocks, which costs the system more.
+/// The most bytes that go straight to the writer in one call. For more of them a file's cache takes
+/// memory in larger blocks, which costs the system more.
 const MOST: usize = 131072;
 
-/// Takes the bytes for a writer, which is given many at once, and notes what that took.
+/// Takes bytes for a writer, passes many of them in one call, and notes what the writer took.
 #[derive(Drop)]
 pub struct Output<W> {
     writer: Noted<W>,
-    /// The bytes that were taken, of which the writer has those before `start`.
+    /// The bytes that were taken. The writer has the bytes before `start`.
     buffer: Vec<u8>,
     start: usize,
     size: usize,
@@ -33,8 +33,8 @@ pub struct Output<W> {
 impl<W: Write> Output<W> {
     ghost use Rattle.cdb_show.specs.Views.Output.{output_bytes, passed_bytes, held_by};
 
-    /// An output over a writer, of which nothing is noted yet, with a buffer for so many bytes,
-    /// which is empty.
+    /// Returns an output over a writer, with nothing noted yet and an empty buffer for `size`
+    /// bytes.
     pub fn new(alloc: Global, writer: W, size: usize) -> Result<Output<W>, AllocError>
     where
         W: Drop,
@@ -62,7 +62,8 @@ impl<W: Write> Output<W> {
         self.failed
     }
 
-    /// Hands all bytes on to the writer. After a fault those that it did not take stay here.
+    /// Passes all held bytes to the writer. After a fault the bytes that the writer did not take
+    /// are still held.
     #[cold]
     #[inline(never)]
     fn hand_on(&mut self) -> Result<(), OutFault>
@@ -84,7 +85,7 @@ impl<W: Write> Output<W> {
         Ok(())
     }
 
-    /// Hands the bytes on that are held, and some more straight to the writer, at least one.
+    /// Passes the held bytes to the writer, and then some of `bytes`, at least one, straight to it.
     #[cold]
     #[inline(never)]
     fn pass_on(&mut self, bytes: &[u8]) -> Result<usize, OutFault>
@@ -108,7 +109,7 @@ impl<W: Write> Output<W> {
         gone
     }
 
-    /// Takes bytes into the buffer, as many as it has room for.
+    /// Takes bytes into the buffer, up to the room in it, and returns their number.
     fn take(&mut self, bytes: &[u8]) -> usize
         ensures count { result ≡ min (length bytes.now) (self.old.size - vec_len self.old.buffer) }
         ensures ok { Appends (output_bytes self.old) (output_bytes self.new)

@@ -1,15 +1,15 @@
-// What a parser makes of the bytes of an input.
+// A parser of an input, as clauses see it.
 ghost use Rattle.cdb_show.specs.Feed.{Parsing};
 
 /// A parser of one input, as clauses see it: the function that it computes of bytes, and how the
 /// clauses of its calls say so.
 pub trait InputParser {
-    /// What it reads, as records.
+    /// The type of the items that it reads.
     type Item;
 
-    /// Why an input is not a text that it reads.
+    /// The type of the reasons why an input is not a text that it reads.
     type Fault;
 
-    /// That function, and those relations.
+    /// The function that it computes of bytes, and the relations that its calls' clauses use.
     ghost parsing: { Self → Parsing Self.Item Self.Fault };
 }

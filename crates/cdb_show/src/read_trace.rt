@@ -5,7 +5,7 @@ ghost use Rattle.cdb_show.specs.declared.read_trace.ReadCall.{ReadCall};
 
 use std::marker::{Model, PhantomData};
 
-/// What a reader answered.
+/// An answer of a reader.
 #[derive(Clone, Copy)]
 pub enum ReadCall {
     /// It gave bytes, or had no room to give any.
@@ -27,7 +27,7 @@ impl Model for ReadTrace {
 }
 
 impl ReadTrace {
-    /// No answers.
+    /// Returns an empty list.
     pub fn new() -> ReadTrace
         ensures { result.events ≡ [] }
     {

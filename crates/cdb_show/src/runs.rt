@@ -1,4 +1,4 @@
-// What the program shows on request, a run each.
+// The runs of the program that show something on request.
 pub mod check;
 pub mod content;
 pub mod difference;

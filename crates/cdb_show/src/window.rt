@@ -1,4 +1,4 @@
-// A window over what gives bytes, from which single bytes come fast.
+// A window over a reader, which gives single bytes fast.
 ghost use Rattle.std.specs.Prelude.{◌≡◌, ◌<◌, ◌≤◌, [], length, take, min, IfOk, IfErr, OnOk, OnErr};
 ghost use Rattle.std.specs.Prelude.{vec_len};
 ghost use Rattle.cdb_form.specs.Views.Feed.{Consumes, IsAtEnd, Keeps};
@@ -37,8 +37,8 @@ pub struct NoWindow<F> {
 impl<F: Feeds> Window<F> {
     ghost use Rattle.cdb_show.specs.Views.Window.{feed_of, held_in, reader_of};
 
-    /// An empty window of `size` bytes over a reader, from which nothing is taken yet. If the
-    /// allocation fails, `NoWindow` has the reader as it came.
+    /// Returns an empty window of `size` bytes over a reader. Nothing is taken from the reader yet.
+    /// If the allocation fails, `NoWindow` has the reader as it came.
     pub fn new(alloc: Global, reader: F, size: usize) -> Result<Window<F>, NoWindow<F>>
         requires { 0 < size }
         ensures reader { IfOk result (λ w. reader_of w ≡ reader) }
@@ -60,9 +60,9 @@ impl<F: Feeds> Window<F> {
         }
     }
 
-    /// An empty window of 4096 bytes over a reader, from which nothing is taken yet. Once a read
-    /// has filled it, it becomes as long as a pipe (`PIPE` bytes), if there is memory for that. If
-    /// the first allocation fails, `NoWindow` has the reader as it came.
+    /// Returns an empty window of 4096 bytes over a reader. Nothing is taken from the reader yet.
+    /// Once a read has filled the window, it becomes as long as a pipe (`PIPE` bytes), if there is
+    /// memory for that. If the first allocation fails, `NoWindow` has the reader as it came.
     pub fn growing(alloc: Global, reader: F) -> Result<Window<F>, NoWindow<F>>
         ensures reader { IfOk result (λ w. reader_of w ≡ reader) }
         ensures empty { IfOk result (λ w. held_in w ≡ []) }
@@ -75,7 +75,7 @@ impl<F: Feeds> Window<F> {
         Ok(window)
     }
 
-    /// Hands the reader back. The bytes that the window holds are lost.
+    /// Returns the reader. The bytes that the window holds are lost.
     pub fn into_reader(self) -> F
         ensures reader { result ≡ reader_of self }
         ensures lost { Consumes (feed_of F.feed self) (F.feed result) (held_in self) }
@@ -142,7 +142,7 @@ impl<F: Feeds> Window<F> {
         }
     }
 
-    /// The bytes at hand: those of the window that were not given yet.
+    /// Returns the bytes at hand: the bytes of the window that were not given yet.
     #[inline(always)]
     fn at_hand(&self) -> &[u8]
         ensures { result.now ≡ held_in self.now }
@@ -186,8 +186,8 @@ impl<F: Feeds> Feeds for Window<F> {
 
     #[inline(always)]
     fn read_some(&mut self, into: &mut [u8]) -> io::Result<usize> {
-        // A read of as many bytes as a pipe holds goes past the empty window, which saves a copy.
-        // That their number is a constant keeps shorter reads as fast as they are without it.
+        // A read of `PIPE` bytes or more goes past the empty window, which saves a copy. The limit
+        // is a constant, which keeps shorter reads as fast as they are without it.
         if PIPE <= into.len() && self.start == self.end {
             return match self.read_past(into) {
                 Ok(n) => Ok(n),

@@ -1,4 +1,4 @@
-// What is said of the words of a command line that have no meaning.
+// The messages about words of a command line that have no meaning.
 ghost use Rattle.std.specs.Prelude.{◌≡◌, ◌++◌, OnErr, [], ◌∷◌, codes, encode_utf8, flat_map, map};
 ghost use Rattle.cdb_command.specs.Refused.{parts_line, refused_in, refused_line, said_lacking, shown};
 ghost use Rattle.cdb_form.specs.Views.KnownBytes.{Writes};
@@ -7,7 +7,7 @@ use crate::shown::write_line;
 use cdb_command::{Lacking, WordFault};
 use cdb_form::{OutFault, Sink};
 
-/// Which name lacks.
+/// Returns the words that say which name is missing.
 fn said_lacking(lacking: Lacking) -> &'static str
     ensures { result.now ≡ said_lacking lacking }
 {
@@ -94,8 +94,8 @@ fn write_letter<E: Sink>(letter: char, after: &str, errors: &mut E) -> Result<()
 }
 
 /// Writes the line that says which word or letters of a command line have no meaning, and why, with
-/// its newline. Of `NoMemory` there is none. After an `OutFault` the output took a prefix of it,
-/// and has failed. The output is not flushed.
+/// its newline. `NoMemory` has no line. After an `OutFault` the output took a prefix of it, and has
+/// failed. The output is not flushed.
 pub fn write_word_fault<E: Sink>(fault: &WordFault<'_>, errors: &mut E) -> Result<(), OutFault>
     ensures writes { Writes result (E.contents errors.old)
         (E.contents errors.new) (refused_line (refused_in fault.now)) }

@@ -1,4 +1,4 @@
-// Whether a database is sound.
+// The check of a database.
 ghost use Rattle.std.specs.Prelude.{OnOk, IfErr};
 ghost use Rattle.cdb_store.specs.Reads.{OnlyReads};
 ghost use Rattle.cdb_show.specs.Runs.Stats.{FindsSound, CheckingFails};
@@ -18,7 +18,7 @@ use std::alloc::Global;
 /// - `NoMemory`: memory ran out. 13 bytes are taken for each record.
 ///
 /// The store is returned whatever the answer, and was only read.
-// In line it takes room on the stack of a check of standard input, beside that of this call.
+// Inlined, it takes room on the stack of a check of standard input, besides the room of this call.
 #[inline(never)]
 pub fn check_run<L: Width, S: Store>(alloc: Global, store: S) -> (S, Result<(), Fault>)
     ensures reads { OnlyReads S.Store store result.0 }

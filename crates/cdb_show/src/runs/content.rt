@@ -1,5 +1,5 @@
-// What a text has of each record of a file.
-/// What a text has of each record.
+// Parts of each record of a file.
+/// The part of each record that a text has.
 #[derive(Clone, Copy, Debug, PartialEq, Eq)]
 pub enum Content {
     /// Each record.

@@ -1,4 +1,4 @@
-// What changed between two databases, as an amending text.
+// The difference of two databases, as an amending text.
 ghost use Rattle.std.specs.Prelude.{◌≡◌};
 ghost use Rattle.cdb_show.specs.Views.Output.{OutputSays};
 ghost use Rattle.cdb_show.specs.Runs.Difference.{TellsDifference, difference_state, difference_task};
@@ -81,9 +81,9 @@ fn difference_unflushed<L: Width, S: Store, T: Store, W: Sink>(
 /// - `Output`: the writer failed;
 /// - `NoMemory`: an allocation failed.
 ///
-/// By the heads alone is seen, before anything else, and nothing is written then, whether a
-/// database is `Short`, whether one lacks tables, and whether a table lies outside, in this order,
-/// and of each the old one first. After the other faults a prefix of the text was written. Both
+/// The heads alone show, before anything else, whether a database is `Short`, whether one lacks
+/// tables, and whether a table lies outside, in this order, and each time the old one first. After
+/// these faults nothing was written. After the other faults a prefix of the text was written. Both
 /// stores are returned whatever the answer, and were only read. The writer is flushed last, after a
 /// fault too.
 pub fn difference_run<L: Width, S: Store, T: Store, W: Sink>(

@@ -14,7 +14,7 @@ use cdb_form::{
 };
 use std::alloc::Global;
 
-/// What a text says that only puts records, if it has one more.
+/// Returns `Put` if a text that only puts records gave one more.
 #[inline(always)]
 fn put_if(given: bool) -> Option<ItemKind>
     ensures put { given ≡ true → result ≡ Some Put }
@@ -25,7 +25,7 @@ fn put_if(given: bool) -> Option<ItemKind>
 
 /// Reads what an input says, one item after the other.
 ///
-/// Its contracts say it of any bytes that agree with what was taken of its reader.
+/// Its contracts hold for any bytes that agree with what was taken of its reader.
 #[derive(Drop)]
 pub enum ItemReader<F, L> {
     /// A native text, which only puts records, or an amending one, which may also remove keys.
@@ -80,11 +80,12 @@ impl<F: Feeds, L: Width> ItemReader<F, L> {
         }
     }
 
-    /// Reads the next item over a record, whose memory it takes, and answers its kind, or `None` at
-    /// the end of the text. Of a map text it takes bytes at hand without a request to the reader.
+    /// Reads the next item over a record, whose memory it takes, and returns the item's kind, or
+    /// `None` at the end of the text. Bytes at hand of a map text are taken without a request to
+    /// the reader.
     ///
-    /// The faults are those of the reader of the form. After a fault every later call answers the
-    /// same fault.
+    /// It fails as the reader of the form does. After a fault every later call answers the same
+    /// fault.
     #[inline(always)]
     pub fn read_into<A: AtHand<F>>(
         &mut self,

@@ -12,7 +12,7 @@ use std::alloc::Global;
 pub(crate) enum KeyReader<F, L> {
     /// A list text.
     List(ListReader<F, L>),
-    /// A map text, each line of which gives a key.
+    /// A map text, whose lines each give a key.
     Map(MapReader<F>),
 }
 
@@ -29,8 +29,8 @@ impl<F: Feeds, L: Width> KeyReader<F, L> {
         }
     }
 
-    /// Reads the next key over that of a record, whose memory it takes, and answers whether there
-    /// is one. Of a map bytes at hand are taken without a request.
+    /// Reads the next key over a record's key, whose memory it takes, and returns true if there is
+    /// one. Bytes at hand of a map text are taken without a request.
     #[inline(always)]
     pub(crate) fn read_into<A: AtHand<F>>(&mut self, into: &mut Record) -> Result<bool, TextFault>
         ensures gives { IfOk result (λ given. MatchBool given

@@ -1,7 +1,7 @@
-// What look-ups of the keys of inputs go by.
+// The options of look-ups of the keys of inputs.
 use cdb_command::Style;
 
-/// Which values of each key are looked up, and how.
+/// The choice of values that are looked up for each key, and the form of the texts.
 #[derive(Clone, Copy, Debug, PartialEq, Eq)]
 pub struct LookupOptions {
     /// Only the value of each key with this number, counted from 1.

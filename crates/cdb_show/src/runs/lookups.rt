@@ -43,11 +43,11 @@ pub(crate) struct LookUps<'a, S: Store, L: Width> {
     pub(crate) alloc: Global,
     /// The database.
     pub(crate) reader: Reader<S, L>,
-    /// Which records are written, and how.
+    /// The choice of records that are written, and their form.
     pub(crate) options: LookupOptions,
     /// True if some key had no value.
     pub(crate) missing: bool,
-    /// What may count the lines of the inputs.
+    /// The counter of the inputs' lines, if they are counted.
     pub(crate) lines: &'a Lines,
     ghost counted: { IfSome options.number (λ j. 1 ≤ j) } by { Prim.hlevel props },
 }

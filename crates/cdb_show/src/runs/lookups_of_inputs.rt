@@ -28,9 +28,8 @@ use std::alloc::Global;
 use std::mem::replace;
 
 impl<'a, S: Store, L: Width> LookUps<'a, S, L> {
-    /// Writes the records of the keys that an input gives from here on, whose number is counted
-    /// from 1, and answers its window as it goes on after its text, or after the last key that was
-    /// read of it.
+    /// Writes the records of the keys that the rest of an input gives. Inputs are counted from 1.
+    /// Returns the window, which goes on after the text, or after the last key that was read.
     fn look_up_text<F: Feeds, W: Sink>(
         &mut self,
         input: u64,
@@ -59,8 +58,8 @@ impl<'a, S: Store, L: Width> LookUps<'a, S, L> {
         (keys.into_reader(), answer)
     }
 
-    /// Writes the records of the keys of an input with a reader of its own, and answers that. What
-    /// was taken of it after its text, or after the last key, is lost.
+    /// Writes the records of the keys of an input with a reader of its own, and returns this
+    /// reader. The bytes that were taken of it after its text, or after the last key, are lost.
     fn look_up_own<J: Feeds, W: Sink>(
         &mut self,
         input: u64,
@@ -86,8 +85,8 @@ impl<'a, S: Store, L: Width> LookUps<'a, S, L> {
         (window.into_reader(), answer)
     }
 
-    /// Writes the records of the keys of an input, whose number is counted from 1, and answers what
-    /// the inputs share. A reader of its own is back in its place whatever the answer.
+    /// Writes the records of the keys of an input, whose number is counted from 1, and returns the
+    /// reader that the inputs share. A reader of its own is back in its place whatever the answer.
     fn look_up_turn<J: Feeds + Drop, I: Feeds, W: Sink>(
         &mut self,
         input: u64,
@@ -129,8 +128,8 @@ impl<'a, S: Store, L: Width> LookUps<'a, S, L> {
         }
     }
 
-    /// Writes the records of the keys of some inputs, one after the other, and answers what they
-    /// share.
+    /// Writes the records of the keys of some inputs, one after the other, and returns the reader
+    /// that they share.
     fn look_up_readers<J: Feeds + Drop, I: Feeds, W: Sink>(
         &mut self,
         readers: &mut [InputReader<J>],
@@ -241,12 +240,13 @@ fn lookups_unflushed<L: Width, S: Store, J: Feeds + Drop, I: Feeds, W: Sink>(
     (looking.reader.into_store(), left, answer)
 }
 
-/// Writes the records that the database in a store has of the keys that some inputs give, key after
-/// key, as a dump writes records; with a number, the one of each key with it alone.
+/// Writes the records that the database in a store has for the keys of some inputs, key after key,
+/// as a dump writes records. With `options.number` only the record of this number is written for
+/// each key.
 ///
-/// Each input is a list text, or in the style of a map a map text, of whose records the keys are
-/// taken. Of a key without a value nothing is written. Values go from the store to the writer in
-/// pieces, and one key is held at a time. The faults:
+/// Each input is a list text, or in the map style a map text, whose keys are taken. For a key
+/// without a value nothing is written. Values go from the store to the writer in pieces, and one
+/// key is held at a time. The faults:
 /// - `Missing`: some key has no value, or fewer than the number; the records of the others, and
 ///   what ends the text, were written;
 /// - `Read(Short)`: the store is shorter than a head; it was not read, nor was an input, and
@@ -263,8 +263,8 @@ fn lookups_unflushed<L: Width, S: Store, J: Feeds + Drop, I: Feeds, W: Sink>(
 /// Only after `Missing`, and at Ok, is what ends the text written. The store is returned whatever
 /// the answer, and was only read. So are the readers of the inputs, each in its place: what was
 /// taken of one after its text, or after the last key, is lost. The writer is flushed last, after a
-/// fault too. If that fails, `Output` takes the place of Ok and of `Missing`. `lines` may count the
-/// lines of the inputs, and then knows afterwards that of a fault.
+/// fault too. If that fails, `Output` takes the place of Ok and of `Missing`. If `lines` counts the
+/// lines of the inputs, it knows the line of a fault afterwards.
 pub fn lookups_run<L: Width, S: Store, J: Feeds + Drop, I: Feeds, W: Sink>(
     alloc: Global,
     store: S,

@@ -122,8 +122,9 @@ fn write_shown<L: Width, S: Store, W: Sink>(
 /// - `Read(Table(n))`, `Read(Record(place))`: this damage follows the values, which were all
 ///   written;
 /// - `Read(Device)`: the store failed. The values that the finder gave before were written whole,
-///   and of the one in hand a prefix;
-/// - `Output`: the writer failed, and holds as much.
+///   and a prefix of the one in hand;
+/// - `Output`: the writer failed. It holds the values before whole, and a prefix of the one in
+///   hand.
 ///
 /// After `Read(Device)` a further call goes on with the values that the finder has left. The writer
 /// is not flushed.
@@ -245,9 +246,9 @@ fn query_unflushed<L: Width, S: Store, W: Sink>(
 /// The store is returned whatever the answer, and was only read. The writer is flushed last, after
 /// a fault too.
 ///
-/// Which reads of a store succeeded is not seen. So of `Read(Device)` and `Output` the contract
-/// says that a prefix of the text was written. `query_from`, whose caller keeps the finder, says
-/// that the values that it gave before were written whole.
+/// The contract does not see which reads of a store succeeded. So after `Read(Device)` and `Output`
+/// it says that a prefix of the text was written. `query_from` says more, since its caller keeps
+/// the finder: the values before the fault were written whole.
 pub fn query_run<L: Width, S: Store, W: Sink>(
     store: S,
     key: &[u8],

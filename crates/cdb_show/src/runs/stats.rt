@@ -44,13 +44,13 @@ fn stats_unflushed<L: Width, S: Store, W: Sink>(store: S, w: &mut W) -> (S, Resu
 ///
 /// All is counted before anything is written, and no memory is taken. The faults:
 /// - `Read(Short)`: the store is shorter than a head, and was not read;
-/// - `Read(Table(n))`, `Read(Record(place))`: the file has this damage, the first of its tables
-///   outside the file, else that of its records; damaged slots are not reported;
+/// - `Read(Table(n))`, `Read(Record(place))`: the file has this damage: its first table outside the
+///   file, or else the damage of its records; damaged slots are not reported;
 /// - `Read(Device)`: the store failed;
 /// - `Output`: the writer failed, and holds a prefix of the text.
 ///
-/// But for `Output` nothing was written then. The store is returned whatever the answer, and was
-/// only read. The writer is flushed last, after a fault too.
+/// After a fault other than `Output` nothing was written. The store is returned whatever the
+/// answer, and was only read. The writer is flushed last, after a fault too.
 pub fn stats_run<L: Width, S: Store, W: Sink>(store: S, w: &mut W) -> (S, Result<(), Fault>)
     ensures tells { TellsStats L.WORD S.Store store result.0 (W.contents w.old) (W.contents w.new)
         result.1 }

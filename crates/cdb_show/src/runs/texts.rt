@@ -41,8 +41,8 @@ pub fn dump_run<L: Width, R: Read + Drop, W: Sink>(
     answer
 }
 
-/// Writes the text of the keys of a database file, as `dump_run` does that of its records. Values
-/// are passed over, so they take no memory.
+/// Writes the text of the keys of a database file, as `dump_run` writes the text of the records.
+/// Values are passed over, so they take no memory.
 pub fn list_run<L: Width, R: Read + Drop, W: Sink>(
     alloc: Global,
     reader: R,

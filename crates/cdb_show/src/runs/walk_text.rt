@@ -102,8 +102,7 @@ fn write_unflushed<L: Width, R: Feeds, W: Sink, A: AtHand<R>>(
     }
 }
 
-/// Writes the text of a file, of which nothing was read yet, and flushes the writer, after a fault
-/// too.
+/// Writes the text of an unread file, and flushes the writer, after a fault too.
 pub(crate) fn write_walk<L: Width, R: Feeds, W: Sink, A: AtHand<R>>(
     alloc: Global,
     records: &mut RecordReader<R, L>,
