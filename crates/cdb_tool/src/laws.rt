@@ -19,18 +19,18 @@ pub fn dump_and_make_restore<L: Width>(_records: &[Record])
         → Restores L.WORD L.GREATEST (key_values _records.now) }
 {}
 
-/// A run that makes a database from a base, whose records these are, and does the difference of the
-/// base and the new records to it, holds records that answer each key as the new ones do, if their
-/// file fits: `lookup_of_brought_up` of `cdb_read` says so of the file.
+/// A run makes a database from a base, the records `_base`, and applies the difference of the base
+/// and the new records to it. If the file fits, the run then holds records that answer each key as
+/// the new ones do: `lookup_of_brought_up` of `cdb_read` says so of the file.
 pub fn difference_amends_base<L: Width>(_options: MakeOptions, _base: &[Record], _new: &[Record])
     ensures { mode_of _options ≡ Add
         → file_size L.WORD (brought_up (key_values _base.now) (key_values _new.now)) ≤ _options.limit
         → MakerHoldsAll L.WORD _options (key_values _base.now) (key_values _new.now) }
 {}
 
-/// What a run leaves that makes a database is what one function of its options, of its base and of
-/// its inputs says: the records of the file, the duplicates that are reported and the answer. Or
-/// the run reports a refusal, and its lines are a prefix of those.
+/// A run that makes a database leaves what one function of its options, its base and its inputs
+/// says: the records of the file, the duplicates that are reported and the answer. Or the run
+/// reports a refusal, and its lines are a prefix of the function's.
 pub fn made_is_the_run<L: Width>(_options: RunOptions<'_>)
     ensures { RunsComeOf L.WORD L.GREATEST _options.entry }
 {}

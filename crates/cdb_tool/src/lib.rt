@@ -1,5 +1,5 @@
-//! What the program `cdb` does with its inputs, stores and outputs: a run each, which a program of
-//! one's own may call as well. The runs that only read are those of `cdb_show`.
+//! The runs of the program `cdb`, which work on inputs, stores and outputs. Other programs may call
+//! them too. The runs that only read come from `cdb_show`.
 #![tactic(auto)]
 
 pub mod laws;

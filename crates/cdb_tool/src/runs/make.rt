@@ -31,7 +31,7 @@ use std::alloc::Global;
 use std::io::Read;
 use std::mem::replace;
 
-/// Does what an input says from here on, and returns its window, which goes on after its text. Its
+/// Does what the rest of an input says, and returns its window, which goes on after the text. The
 /// lines are counted if duplicates are explained.
 fn put_text<L: Width, S: Store, F: Feeds + Drop, E: Sink>(
     alloc: Global,
@@ -65,8 +65,8 @@ fn put_text<L: Width, S: Store, F: Feeds + Drop, E: Sink>(
     (items.into_reader(), put)
 }
 
-/// Does what an input says, and returns what the inputs share. The input keeps its reader; what a
-/// window took of it past the text is lost.
+/// Does what an input says, and returns the reader that the inputs share. The input keeps its
+/// reader; what a window took of it past the text is lost.
 fn put_turn<L: Width, S: Store, J: Feeds + Drop, I: Feeds + Drop, E: Sink>(
     alloc: Global,
     maker: &mut Maker<S, L>,
@@ -121,16 +121,16 @@ fn put_turn<L: Width, S: Store, J: Feeds + Drop, I: Feeds + Drop, E: Sink>(
     }
 }
 
-/// How all inputs of a run are done.
+/// The options of all inputs of a run.
 #[derive(Clone, Copy)]
 struct Turns<'a> {
-    /// How the run goes.
+    /// The context of the run.
     run: RunContext<'a>,
     /// True if native inputs may remove keys.
     amends: bool,
 }
 
-/// Does what some inputs say, one after the other, and returns what they share.
+/// Does what some inputs say, one after the other, and returns the reader that they share.
 fn put_turns<L: Width, S: Store, J: Feeds + Drop, I: Feeds + Drop, E: Sink>(
     alloc: Global,
     maker: &mut Maker<S, L>,
@@ -187,10 +187,10 @@ fn put_turns<L: Width, S: Store, J: Feeds + Drop, I: Feeds + Drop, E: Sink>(
 /// Does what some inputs say, one after the other, to a maker that its caller keeps: what
 /// `make_run` does between the base and the finish. With `amends`, native inputs may remove keys.
 ///
-/// The faults are those of `make_run` that an input, the maker or `errors` brings. After
-/// `NoMemory`, `Make(Lookup)` and `Make(Writing)` the maker holds the records of the items that
-/// were done, unless it is broken, and the lines are those of these items. `errors` is not flushed.
-/// The lines of the inputs are counted if duplicates are explained.
+/// The same faults as `make_run`, if an input, the maker or `errors` brings them. After `NoMemory`,
+/// `Make(Lookup)` and `Make(Writing)` the maker holds the records of the items that were done,
+/// unless it is broken, and the lines are the lines for these items. `errors` is not flushed. The
+/// lines of the inputs are counted if duplicates are explained.
 ///
 /// The inputs are returned whatever the answer; what their windows took past the texts is lost. The
 /// contract holds of whatever bytes agree with what the readers gave.
@@ -239,7 +239,7 @@ pub fn put_inputs<L: Width, S: Store, J: Feeds + Drop, I: Feeds + Drop, E: Sink>
     (inputs, put)
 }
 
-/// What a run returns, and its answer.
+/// The store, the base and the inputs that a run returns, and its answer.
 #[derive(Drop)]
 struct Made<S, B, J, I> {
     store: S,
@@ -321,10 +321,10 @@ fn make_unflushed<L: Width, S: Store, B: Store, J: Feeds + Drop, I: Feeds + Drop
 /// Makes a database in a store, which is emptied first: of the records of a base, if there is one,
 /// and then of what some inputs say, in turn.
 ///
-/// Each record of the base's walk is added, in order; `stop`, `warn` and the mode say nothing of
-/// these. Each input is one text of the style, and with a base a native input may also remove keys,
-/// as an amending text does. A record of an input is put by the mode, or by `Insert` if the run is
-/// to stop at a duplicate; a removal takes out every record of its key. If duplicates are reported,
+/// Each record of the base's walk is added, in order; `stop`, `warn` and the mode do not apply to
+/// it. Each input is one text of the style, and with a base a native input may also remove keys, as
+/// an amending text does. A record of an input is put by the mode, or by `Insert` if the run is to
+/// stop at a duplicate; a removal takes out every record of its key. If duplicates are reported,
 /// the line `cdb: input I: record J: duplicate key` goes to `errors` after each put that met its
 /// key, both numbers counted from 1, removals among them. With neither base nor inputs the database
 /// is empty. The run ends at the first of these faults:
@@ -340,12 +340,12 @@ fn make_unflushed<L: Width, S: Store, B: Store, J: Feeds + Drop, I: Feeds + Drop
 /// - `Make(Broken)`: the store gave back other bytes than were written;
 /// - `Output`: `errors` failed, and holds a prefix of the lines.
 ///
-/// If an allocation or the store failed, the lines are those of some first records: `put_inputs`
-/// says which.
+/// If an allocation or the store failed, the lines are the lines for some first records:
+/// `put_inputs` names these records.
 ///
 /// The base is read before any input, 64 KiB at a time. Store and base are returned whatever the
 /// answer; the base was only read. At Ok the store holds the file of the records that survive, and
-/// nothing else, and has handed it on to what holds its bytes; after a fault it may hold anything.
+/// nothing else, and has passed it to what holds its bytes; after a fault it may hold anything.
 /// `errors` is flushed last, after a fault too.
 pub fn make_run<L: Width, S: Store, B: Store, R: Read + Drop, E: Sink>(
     alloc: Global,
@@ -388,13 +388,13 @@ pub fn make_run<L: Width, S: Store, B: Store, R: Read + Drop, E: Sink>(
     (store, base, answer)
 }
 
-/// Does what `make_run` does, of inputs of which several may share a reader: each of these begins
-/// where the text of the one before it ended. A map text leaves nothing. If duplicates are
-/// explained, `run.lines` counts the lines of the inputs, and knows afterwards that of a fault.
+/// Does what `make_run` does, with inputs that may share a reader: each of these begins where the
+/// text of the one before it ended. A map text leaves nothing. If duplicates are explained,
+/// `run.lines` counts the lines of the inputs, and knows the line of a fault afterwards.
 ///
 /// The inputs are returned whatever the answer; what their windows took past the texts is lost. The
 /// contract holds of whatever bytes agree with what the readers gave: for all inputs that agree
-/// with what was read, it says what `make_run` says of its own.
+/// with what was read, it says what the contract of `make_run` says.
 pub fn make_run_from<L: Width, S: Store, B: Store, J: Feeds + Drop, I: Feeds + Drop, E: Sink>(
     alloc: Global,
     store: S,

@@ -42,7 +42,7 @@ impl Room {
 }
 
 /// Adds the next records of a walk: all that are whole in the window, as they are, or the next one
-/// if it has no room there. Answers whether there were any.
+/// if it has no room there. Returns true if there were any.
 fn add_next<L: Width, S: Store, B: Store>(
     maker: &mut Maker<S, L>,
     records: &mut Walk<'_, B, L>,

@@ -52,10 +52,10 @@ fn meets_key(put: Put) -> bool
     }
 }
 
-/// Which input of a run, and how it is done.
+/// An input of a run, and how its items are done.
 #[derive(Clone, Copy)]
 pub(crate) struct Turn<'a> {
-    /// How the run goes.
+    /// The options of the run.
     pub(crate) run: RunContext<'a>,
     /// True if native inputs may remove keys.
     pub(crate) amends: bool,
@@ -66,7 +66,7 @@ pub(crate) struct Turn<'a> {
 /// An item of an input, as a run meets it.
 #[derive(Clone, Copy)]
 struct Met<'a> {
-    /// How the run goes.
+    /// The options of the run.
     options: &'a RunOptions<'a>,
     /// How its records are put.
     mode: Mode,
@@ -103,7 +103,7 @@ fn write_put<E: Sink>(met: Met<'_>, key: &[u8], put: Put, errors: &mut E) -> Res
     }
 }
 
-/// Reports such a put, and stops the run if the options say so.
+/// Reports a put that met its key, and stops the run, each if the options say so.
 #[inline(always)]
 fn tell_put<E: Sink>(met: Met<'_>, key: &[u8], put: Put, errors: &mut E) -> Result<(), Fault>
     ensures ok { OnOk result (TellsEach met.entry.options.now.names
@@ -182,8 +182,8 @@ fn do_item<L: Width, S: Store, E: Sink>(
     }
 }
 
-/// The line of the item that was read last, before which the input was at this line: in a map text,
-/// lines that hold no item may come between.
+/// Returns the line of the item that was read last. Before it the input was at line `next`: in a
+/// map text, lines that hold no item may come between.
 fn line_of_last(style: Style, next: u64, lines: &Lines) -> u64 {
     match style {
         Style::Map => lines.last(),
@@ -191,8 +191,8 @@ fn line_of_last(style: Style, next: u64, lines: &Lines) -> u64 {
     }
 }
 
-/// Does what the items of an input say, up to the end of its text. The lines are those of the
-/// reader.
+/// Does what the items of an input say, up to the end of its text. `turn.run.lines` may count the
+/// lines of the reader.
 pub(crate) fn put_input<L: Width, S: Store, F: Feeds, E: Sink, A: AtHand<F>>(
     alloc: Global,
     maker: &mut Maker<S, L>,

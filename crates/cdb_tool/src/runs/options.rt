@@ -1,7 +1,7 @@
 // The options of a run that makes a database.
 use cdb_command::MakeOptions;
 
-/// How a database is made, and what is explained of its duplicates.
+/// The options of a make: how the database is made, and how its duplicates are explained.
 #[derive(Clone, Copy, Debug, PartialEq, Eq)]
 pub struct RunOptions<'a> {
     /// How it is made.
