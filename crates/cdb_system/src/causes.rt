@@ -15,43 +15,43 @@ use cdb_read::ReadFault;
 use cdb_show::{Fault, Lines, STANDARD_INPUT, input_at};
 use cdb_store::MakeFault;
 
-/// What is said of a file.
+/// The words about a file.
 #[derive(Clone, Copy)]
 pub enum Told {
     /// Its name alone.
     Name,
-    /// What was found.
+    /// The words for what was found.
     Words(&'static str),
     /// The system's error of this number.
     Error(i32),
-    /// The line at which it was left.
+    /// The line at which reading stopped.
     Line(u64),
 }
 
-/// Which file a fault is of, and why.
+/// The file that a fault is about, and the reason.
 #[derive(Clone, Copy)]
 pub struct Reason<'a> {
-    /// The name of the file, but for `.tmp` after it. It is empty if the name itself is.
+    /// The name of the file, without `.tmp` after it. It is empty if the name itself is.
     pub name: &'a str,
     /// True if `.tmp` follows it.
     pub is_temporary: bool,
-    /// Why.
+    /// The words about the file.
     pub told: Told,
 }
 
-/// What is said of an empty name.
+/// The words about an empty name.
 const EMPTY: &str = "the name is empty";
 
-/// What is said of an input into which standard output writes.
+/// The words about an input into which standard output writes.
 const OUTPUT: &str = "is the output";
 
 /// The name of standard output.
 const STANDARD_OUTPUT: &str = "standard output";
 
-/// The name of standard error, on which the lines of duplicates are written.
+/// The name of standard error, which gets the lines of duplicates.
 const STANDARD_ERROR: &str = "standard error";
 
-/// The reason of a file of a whole name.
+/// Returns the reason of a file with its whole name.
 fn of_name(name: &str, told: Told) -> Reason<'_>
     ensures name { reason_name result ≡ name.now }
     ensures told { result.told ≡ told }
@@ -63,7 +63,7 @@ fn of_name(name: &str, told: Told) -> Reason<'_>
     }
 }
 
-/// What is said of a call that failed with an error of this number, if the system gave one.
+/// Returns the words about a call that failed with this error number, if the system gave one.
 fn of_number(number: Option<i32>) -> Told
     ensures { said_of result ≡ option_map error_words number }
 {
@@ -73,7 +73,7 @@ fn of_number(number: Option<i32>) -> Told
     }
 }
 
-/// What is said of a name that was refused since its file is that of another name too: of the
+/// Returns the words about a refused name whose file has another name too: the name of the
 /// database, of the base, or of an input.
 fn of_same(command: &Command, refused: &str, other: &str) -> Told
     ensures { said_of result ≡ same_words (asked_in command.now) refused.now other.now }
@@ -90,7 +90,7 @@ fn of_same(command: &Command, refused: &str, other: &str) -> Told
     }
 }
 
-/// What is said of a name that was refused.
+/// Returns the words about a refused name.
 fn of_cause(command: &Command, refusal: &Refusal) -> Told
     ensures { said_of result ≡ cause_words (asked_in command.now) refusal.now.cause
         (string_bytes refusal.now.name) (string_bytes refusal.now.other) }
@@ -114,7 +114,7 @@ fn of_cause(command: &Command, refusal: &Refusal) -> Told
     }
 }
 
-/// Which name was refused, and what is said of it: of an empty one that it is empty.
+/// Returns the name that was refused, and the words about it: that it is empty, if it is.
 fn of_refusal<'a>(command: &Command, refusal: &'a Refusal) -> Reason<'a>
     ensures name { reason_name result ≡ string_bytes refusal.now.name }
     ensures told { said_of result.told ≡ refusal_words (asked_in command.now) refusal.now.cause
@@ -129,7 +129,7 @@ fn of_refusal<'a>(command: &Command, refusal: &'a Refusal) -> Reason<'a>
     of_name(name, told)
 }
 
-/// What is said of the name of a create that no file can have.
+/// Returns the reason for the name of a create, if no file can have this name.
 fn of_no_name(command: &Command) -> Option<Reason<'_>>
     ensures cause { IfSome result (λ r.
         IsNoNameOf (asked_in command.now) (reason_name r) (said_of r.told)) }
@@ -149,8 +149,8 @@ fn of_no_name(command: &Command) -> Option<Reason<'_>>
     Some(of_name(name.as_str(), Told::Words(told)))
 }
 
-/// Returns true if a refusal, as files were opened, is of another name than that of the database of
-/// a create.
+/// Returns true if a name was refused as files were opened, and the database of a create has
+/// another name.
 fn is_of_another(command: &Command, opened: Option<&Refusal>) -> bool
     ensures { result ≡ true → opened.entry ≡ None → ⊥ }
 {
@@ -160,8 +160,8 @@ fn is_of_another(command: &Command, opened: Option<&Refusal>) -> bool
     }
 }
 
-/// What is said of a name that was refused, if one was. If it was to be opened or made, a name that
-/// no file can have is named for that, unless another name was refused before it.
+/// Returns the reason of a refused name, if there is one. With `is_open`, it is a create's name
+/// that no file can have, unless another name was refused before it.
 fn of_refused<'a, Y>(
     command: &'a Command,
     is_open: bool,
@@ -195,7 +195,7 @@ where
     None
 }
 
-/// What a command reads: its database, the base of a create, or standard input.
+/// Returns the name of what a command reads: its database, the base of a create, or standard input.
 fn read_name(command: &Command) -> &str
     ensures { result.now ≡ read_name (asked_in command.now) }
 {
@@ -217,7 +217,7 @@ fn read_name(command: &Command) -> &str
     }
 }
 
-/// The new one of two databases.
+/// Returns the name of the new database of a difference.
 fn new_name(command: &Command) -> &str
     ensures { result.now ≡ new_name (asked_in command.now) }
 {
@@ -227,7 +227,7 @@ fn new_name(command: &Command) -> &str
     }
 }
 
-/// What is said of a database that was not read: why its file failed, or its name.
+/// Returns the reason of a database that was not read: why its file failed, or its name alone.
 fn of_unread(name: &str, fault: ReadFault, file: Told) -> Option<Reason<'_>>
     requires { IsOfFile (said_of file) }
     ensures name { IfSome result (λ r. reason_name r ≡ name.now) }
@@ -263,7 +263,7 @@ where
     }
 }
 
-/// What is said of a file that was read and failed.
+/// Returns the words about a file that failed as it was read.
 fn of_file<Y>(system: &Y, file: &Option<Y::File>) -> Told
 where
     Y: System,
@@ -275,7 +275,7 @@ where
     of_number(read_number::<Y>(system, file))
 }
 
-/// What is said of an input that was not read.
+/// Returns the words about an input that was not read.
 fn of_input<Y>(system: &Y) -> Told
 where
     Y: System,
@@ -299,7 +299,7 @@ fn input_name(command: &Command, number: u64) -> &str
     }
 }
 
-/// What is said of an input of which this is the fault: its line, or why it was not read.
+/// Returns the words about an input with this fault: its line, or why it was not read.
 fn of_fault<Y>(fault: TextFault, lines: &Lines, system: &Y) -> Told
 where
     Y: System,
@@ -314,7 +314,7 @@ where
     }
 }
 
-/// What is said of an input whose text was not read.
+/// Returns the reason of an input whose text was not read.
 fn of_text<'a, Y>(request: Request<'a>, number: u64, fault: TextFault, system: &Y) -> Reason<'a>
 where
     Y: System,
@@ -336,7 +336,7 @@ where
     }
 }
 
-/// What is said of a database that was not made, since its file failed.
+/// Returns the reason of a database that was not made, since its file failed.
 fn of_made<'a, Y>(
     command: &'a Command,
     system: &Y,
@@ -371,8 +371,8 @@ where
     }
 }
 
-/// What is said of the standard stream that failed: of standard output if that is unwritten, or
-/// else of standard error.
+/// Returns the reason of the standard stream that failed: standard output if `unwritten`, or else
+/// standard error.
 fn of_stream<Y>(system: &Y, unwritten: bool) -> Reason<'static>
 where
     Y: System,
@@ -386,8 +386,8 @@ where
     }
 }
 
-/// Which file a fault is of, and why, if it is of a file. `unwritten` says that standard output
-/// failed.
+/// Returns the file that a fault is about, and the reason, if it is about a file. `unwritten` says
+/// that standard output failed.
 pub fn reason_of<'a, Y>(
     request: Request<'a>,
     fault: &Fault,
@@ -422,7 +422,7 @@ where
     }
 }
 
-/// Which database a fault is of, and why, if it is of one that is read.
+/// Returns the database that a fault is about, and the reason, if that database is read.
 fn of_database<'a, Y>(
     command: &'a Command,
     fault: &Fault,

@@ -1,4 +1,4 @@
-// The line that says which file a fault is of, and why.
+// The line that names the file of a fault, and the reason.
 ghost use Rattle.std.specs.Prelude.{◌≡◌, ◌++◌, ◌∷◌, [], OnErr, length, nat_lt, unwrap_or};
 ghost use Rattle.cdb_command.specs.Refused.{parts_line};
 ghost use Rattle.cdb_form.specs.Views.KnownBytes.{Writes};
@@ -10,7 +10,7 @@ use cdb_form::{OutFault, Sink};
 use cdb_show::write_line;
 use itoa::Buffer;
 
-/// What is said of a file, in two parts.
+/// Returns the words about a file, in two parts.
 fn said_parts(told: Told, digits: &mut Buffer) -> (&'static str, &str)
     ensures { result.0.now ++ result.1.now ≡ unwrap_or (said_of told) [] }
 {
@@ -32,7 +32,7 @@ fn is_named(reason: &Reason<'_>) -> bool
     reason.is_temporary || !reason.name.is_empty()
 }
 
-/// What is between the name of a reason's file and what is said of it.
+/// Returns the text between the name of a reason's file and the words about it.
 fn between(reason: &Reason<'_>) -> &'static [u8]
     ensures { result.now ≡ between (reason_name reason.now) (said_of reason.now.told) }
 {
@@ -44,14 +44,14 @@ fn between(reason: &Reason<'_>) -> &'static [u8]
     }
 }
 
-/// What follows the name of a reason's file.
+/// Returns the ending of the name of a reason's file.
 fn ending(reason: &Reason<'_>) -> &'static [u8]
     ensures { result.now ≡ name_ending reason.now }
 {
     if reason.is_temporary { b".tmp" } else { b"" }
 }
 
-/// Writes the line of a name with its ending, and of what is said of it in two parts.
+/// Writes the line of a name with its ending, and of the words about it in two parts.
 fn write_said<'x, E: Sink>(
     name: &'x [u8],
     ending: &'x [u8],

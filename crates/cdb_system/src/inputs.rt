@@ -1,4 +1,4 @@
-// What a create reads: its base and its inputs, which are opened before anything is made.
+// The base and the inputs of a create, which are opened before anything is made.
 ghost use Rattle.std.specs.Prelude.{◌≡◌, ◌≢◌, ◌↔◌, [], ◌∷◌, map, option_map, string_bytes, codes, IfOk, IfErr, IsTrue};
 ghost use Rattle.cdb_show.specs.Feed.{AreUnread};
 ghost use Rattle.cdb_show.specs.Views.Output.{OutputSays};
@@ -12,7 +12,7 @@ use std::alloc::Global;
 /// The word that means standard input on the command line.
 pub const HYPHEN: &str = "-";
 
-/// Returns true if a name is that of standard input.
+/// Returns true if a name means standard input.
 pub fn is_standard(name: &str) -> bool
     ensures { IsTrue result ↔ IsStandard name.now }
 {
@@ -67,7 +67,8 @@ fn open_each<Y: System>(
     Ok(readers)
 }
 
-/// Opens the inputs of these names. No name is standard input, as each `-` is.
+/// Opens the inputs of these names, where `-` is standard input. Without names standard input is
+/// the only input.
 pub fn open_inputs<Y: System>(
     alloc: Global,
     system: &mut Y,

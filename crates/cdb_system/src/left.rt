@@ -1,4 +1,4 @@
-// What a command returns.
+// The files that a command returns.
 ghost use Rattle.std.specs.Prelude.{◌≡◌};
 ghost use Rattle.cdb_system.specs.Opening.{none_left, read_left, base_left, both_left};
 ghost use Rattle.cdb_system.specs.Opening.{stream_left, input_left, looked_left};
@@ -10,14 +10,14 @@ use cdb_show::{Fault, InputReader, Inputs};
 /// are at its end. A clause says what was read of them, or made.
 #[derive(Drop)]
 pub struct Left<F, M, S, I> {
-    /// The file that was read at places, which is the base of a create and the old database of a
-    /// difference.
+    /// The file that was read at places: the base of a create, or the old database of a difference,
+    /// or the database of another command.
     pub read: Option<F>,
     /// The new database of a difference.
     pub other: Option<F>,
     /// The file that was made in place.
     pub made: Option<M>,
-    /// The file that was read from its start on.
+    /// The file that was read from its start.
     pub stream: Option<S>,
     /// The readers of inputs, in their order.
     pub inputs: Option<Vec<InputReader<S>>>,
@@ -25,7 +25,7 @@ pub struct Left<F, M, S, I> {
     pub input: Option<I>,
 }
 
-/// What a command returns that was performed on a system.
+/// The files that a command on this system returns.
 pub type LeftOf<Y> = Left<
     <Y as System>::File,
     <Y as System>::Made,
@@ -33,10 +33,10 @@ pub type LeftOf<Y> = Left<
     <Y as System>::Input,
 >;
 
-/// And what it came to.
+/// The files that a command returns, and its answer.
 pub type Performed<Y> = (LeftOf<Y>, Result<(), Fault>);
 
-/// No file is returned.
+/// Returns no file.
 pub fn none_left<F: Drop, M: Drop, S: Drop, I: Drop>() -> Left<F, M, S, I>
     ensures { result ≡ none_left }
 {
@@ -50,7 +50,7 @@ pub fn none_left<F: Drop, M: Drop, S: Drop, I: Drop>() -> Left<F, M, S, I>
     }
 }
 
-/// A file that was read is returned.
+/// Returns a file that was read at places.
 pub fn read_left<F: Drop, M: Drop, S: Drop, I: Drop>(file: F) -> Left<F, M, S, I>
     ensures { result ≡ read_left file }
 {
@@ -60,7 +60,7 @@ pub fn read_left<F: Drop, M: Drop, S: Drop, I: Drop>(file: F) -> Left<F, M, S, I
     }
 }
 
-/// The base of a create is returned, if it has one.
+/// Returns the base of a create, if it has one.
 pub fn base_left<F: Drop, M: Drop, S: Drop, I: Drop>(base: Option<F>) -> Left<F, M, S, I>
     ensures { result ≡ base_left base }
 {
@@ -70,7 +70,7 @@ pub fn base_left<F: Drop, M: Drop, S: Drop, I: Drop>(base: Option<F>) -> Left<F,
     }
 }
 
-/// Two files that were read are returned.
+/// Returns the two databases of a difference.
 pub fn both_left<F: Drop, M: Drop, S: Drop, I: Drop>(old: F, new: F) -> Left<F, M, S, I>
     ensures { result ≡ both_left old new }
 {
@@ -81,7 +81,7 @@ pub fn both_left<F: Drop, M: Drop, S: Drop, I: Drop>(old: F, new: F) -> Left<F, 
     }
 }
 
-/// A file that was read from its start on is returned.
+/// Returns a file that was read from its start.
 pub fn stream_left<F: Drop, M: Drop, S: Drop, I: Drop>(file: S) -> Left<F, M, S, I>
     ensures { result ≡ stream_left file }
 {
@@ -91,7 +91,7 @@ pub fn stream_left<F: Drop, M: Drop, S: Drop, I: Drop>(file: S) -> Left<F, M, S,
     }
 }
 
-/// Standard input was read, and is returned.
+/// Returns standard input, which was read.
 pub fn input_left<F: Drop, M: Drop, S: Drop, I: Drop>(input: I) -> Left<F, M, S, I>
     ensures { result ≡ input_left input }
 {
@@ -101,7 +101,7 @@ pub fn input_left<F: Drop, M: Drop, S: Drop, I: Drop>(input: I) -> Left<F, M, S,
     }
 }
 
-/// A file in which keys were looked up is returned, and the readers of the inputs that gave them.
+/// Returns the database of look-ups, and the readers of the inputs that gave the keys.
 pub fn looked_left<F: Drop, M: Drop, S: Drop, I: Drop>(
     file: F,
     inputs: Inputs<S, I>,

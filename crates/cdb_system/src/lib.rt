@@ -1,5 +1,5 @@
-//! What the program `cdb` requests of the system, its commands that only read, and what it says of
-//! faults.
+//! The requests of the program `cdb` to the system, its commands that only read, and its lines
+//! about faults.
 #![tactic(auto)]
 
 mod causes;

@@ -12,21 +12,22 @@ use cdb_form::{Feeds, Sink, Width};
 use cdb_show::{Fault, Lines, LookupOptions, lookups_run};
 use std::alloc::Global;
 
-/// What is looked up.
+/// The look-ups that are wanted.
 #[derive(Clone, Copy)]
 pub struct KeyLookups<'a> {
     /// The name of the database.
     pub name: &'a str,
     /// The names of the inputs that give the keys. Without any, standard input is read.
     pub inputs: &'a [String],
-    /// Which values of each key are looked up, and how.
+    /// The choice of values that are looked up for each key, and the form of the texts.
     pub options: LookupOptions,
     /// The lines of the inputs.
     pub lines: &'a Lines,
 }
 
 /// Writes the records of the keys of some inputs, whose values are counted from 1. The database is
-/// opened first, and then all inputs, before anything is written. What was read is returned.
+/// opened first, and then all inputs, before anything is written. Returns what was read, and the
+/// answer.
 #[inline(never)]
 pub fn lookups<L, Y, O>(
     alloc: Global,

@@ -11,17 +11,17 @@ use std::marker::{Model, PhantomData};
 pub enum OpenCall {
     /// It was opened, to be read at places.
     AtPlaces,
-    /// It was opened so, and its reads fail once another process has changed it.
+    /// It was opened to be read at places, and its reads fail once another process has changed it.
     Watched,
-    /// It was opened, to be read from its start on.
+    /// It was opened, to be read from its start.
     InTurn,
-    /// Whether it is a stream: a pipe or a device.
+    /// The answer to whether it is a stream: a pipe or a device.
     Stream(Answer),
     /// It was opened or made, to be emptied.
     ToEmpty,
-    /// What came of the request for the lock of the file that was opened or made to be emptied.
+    /// The answer to the request for the lock of the file that was opened or made to be emptied.
     Locked(Lock),
-    /// Whether the name has that file.
+    /// The answer to whether the name has the file that was opened or made to be emptied.
     Own(Answer),
     /// It was emptied, to be written.
     Emptied,
@@ -42,7 +42,7 @@ impl Model for OpenTrace {
 }
 
 impl OpenTrace {
-    /// No calls.
+    /// Returns an empty list.
     pub fn new() -> OpenTrace
         ensures { result.events ≡ [] }
     {

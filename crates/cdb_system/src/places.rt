@@ -1,4 +1,4 @@
-// Where a create makes its database: in place, or in a temporary file.
+// The file of a database that is made: the database itself, or a temporary file.
 ghost use Rattle.std.specs.Prelude.{◌↔◌, IsTrue, option_map, string_bytes};
 ghost use Rattle.cdb_system.specs.State.{IsInPlace};
 

@@ -85,18 +85,18 @@ fn write_text<L: Width, F: Feeds + Drop, O: Sink>(
     }
 }
 
-/// Which text is written.
+/// The text that is wanted of a file.
 #[derive(Clone, Copy)]
 pub struct FileText<'a> {
-    /// Of the records of a file, or of their keys.
+    /// The content of the text: the records of a file, or their keys.
     pub content: Content,
     /// The name of the file. Without one, standard input is read.
     pub name: &'a Option<String>,
-    /// How they are written.
+    /// The form of the text.
     pub style: Style,
 }
 
-/// Writes the text of a file, or of standard input. What was read is returned.
+/// Writes the text of a file, or of standard input. Returns what was read, and the answer.
 #[inline(never)]
 pub fn text<L, Y, O>(
     alloc: Global,
@@ -163,8 +163,8 @@ fn stats_of_stream<L: Width, F: Feeds + Drop, O: Sink>(
     }
 }
 
-/// Writes the statistics of a file, or of a stream: standard input, a pipe or a device. What was
-/// read is returned.
+/// Writes the statistics of a file, or of a stream: standard input, a pipe or a device. Returns
+/// what was read, and the answer.
 #[inline(never)]
 pub fn stats<L, Y, O>(
     alloc: Global,
@@ -225,8 +225,8 @@ fn check_of_stream<L: Width, F: Feeds + Drop>(alloc: Global, stream: F) -> (F, R
     }
 }
 
-/// Checks a file, or a stream: standard input, a pipe or a device. Nothing is written. What was
-/// read is returned.
+/// Checks a file, or a stream: standard input, a pipe or a device. Nothing is written. Returns what
+/// was read, and the answer.
 #[inline(never)]
 pub fn check<L, Y>(
     alloc: Global,

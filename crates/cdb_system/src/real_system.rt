@@ -20,14 +20,14 @@ use std::rt::Files;
 /// The name under which the system shows the file of standard input.
 const INPUT: &str = "/proc/self/fd/0";
 
-/// The name under which it shows that of standard output.
+/// The name under which the system shows the file of standard output.
 const OUTPUT: &str = "/proc/self/fd/1";
 
 /// The files of the system, by their names.
 #[derive(Drop)]
 pub struct RealSystem<'a, R> {
     rt: &'a R,
-    /// What was seen of the streams that were opened, and of the standard ones.
+    /// The last state that was seen of the opened streams and of the standard ones.
     seen: &'a Seen,
     trace: OpenTrace,
     /// The name that was refused last, if there was memory for it.
@@ -37,7 +37,7 @@ pub struct RealSystem<'a, R> {
     ghost none: { last ≡ Nothing → IsUnrefused trace.events },
 }
 
-/// Why a file was not opened: the fault, and its cause.
+/// The reason why a file was not opened: the fault, and its cause.
 #[derive(Clone, Copy)]
 struct Why {
     fault: NameFault,
@@ -45,7 +45,7 @@ struct Why {
 }
 
 impl<'a, R: Files<File = File> + AllocGlobal> RealSystem<'a, R> {
-    /// Files on which no call was made yet.
+    /// Returns the files, with no call on them yet.
     pub fn new(rt: &'a R, seen: &'a Seen) -> RealSystem<'a, R>
         ensures { result.trace.events ≡ [] }
     {
@@ -74,7 +74,7 @@ impl<'a, R: Files<File = File> + AllocGlobal> RealSystem<'a, R> {
         self.trace.note(call, name.as_bytes());
     }
 
-    /// Notes that the file of a name was not opened, and answers which fault that is.
+    /// Notes that the file of a name was not opened, and returns the fault.
     fn refused(&mut self, why: Why, name: &str) -> Fault
         ensures fault { result ≡ unopened why.fault }
         ensures trace { self.new.trace.events
@@ -328,8 +328,8 @@ fn store_over(file: RealFile) -> Result<FileStore, Why>
     }
 }
 
-/// Opens the file of a name from its start on, unless it gets the number of a standard stream, or is
-/// this one.
+/// Opens the file of a name to be read from its start, unless it gets the number of a standard
+/// stream, or is the file `other`.
 fn opened_in_turn<R: Files<File = File>>(
     rt: &R,
     name: &str,
@@ -359,7 +359,7 @@ fn file_of<R: Files<File = File>>(rt: &R, name: &str) -> Option<FileNumber> {
     }
 }
 
-/// Something was found that is no file for this.
+/// Returns the reason for this cause, which is not lack of memory.
 fn found(cause: Cause) -> Why {
     Why {
         fault: NameFault::Failed,
@@ -367,7 +367,7 @@ fn found(cause: Cause) -> Why {
     }
 }
 
-/// Why the system opened no file, or did not empty one.
+/// Returns the reason why the system opened no file, or did not empty one.
 fn of_error(error: &io::Error) -> Why {
     let fault = if error.kind() == ErrorKind::OutOfMemory {
         NameFault::NoMemory
@@ -380,8 +380,9 @@ fn of_error(error: &io::Error) -> Why {
     }
 }
 
-/// Why the system opened no file to be emptied: one that was there and was not opened is a link, or
-/// was replaced, and one without a number of the system got that of a standard stream.
+/// Returns the reason why the system opened no file to be emptied. A file that was there and was
+/// not opened is a link, or was replaced. An error without a number means that the file got a
+/// standard stream's.
 fn of_emptying<R: Files<File = File>>(rt: &R, name: &str, error: &io::Error) -> Why {
     match error.kind() {
         ErrorKind::AlreadyExists => match fs::symlink_metadata(rt, name) {
@@ -393,8 +394,8 @@ fn of_emptying<R: Files<File = File>>(rt: &R, name: &str, error: &io::Error) -> 
     }
 }
 
-/// Returns true if a name is that of a pipe or a device, which is read from its start to its end
-/// alone. A name that nothing has is not.
+/// Returns true if a name leads to a pipe or a device, which is only read from its start to its
+/// end. A name without a file does not.
 fn is_stream<R: Files<File = File>>(rt: &R, name: &str) -> Result<bool, Cause>
     ensures { IfErr result (λ cause. is_of_system cause ≡ true) }
 {

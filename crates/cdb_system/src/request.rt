@@ -1,4 +1,4 @@
-// What is to be performed.
+// A command to be performed.
 
 use cdb_command::Command;
 use cdb_show::Lines;

@@ -1,4 +1,4 @@
-// What was seen of the standard streams and of the inputs: why a call on one failed.
+// The state of the standard streams and of the inputs: why a call on one failed.
 ghost use Rattle.std.specs.Prelude.{◌≡◌};
 
 use std::cell::Cell;
@@ -9,7 +9,7 @@ use std::os::unix::fs::MetadataExt;
 /// The number of the system's error for a descriptor that is not open.
 const NOT_OPEN: i32 = 9;
 
-/// By what the system tells one file from another.
+/// The numbers that tell one file of the system from another.
 #[derive(Clone, Copy, PartialEq, Eq)]
 pub struct FileNumber {
     device: u64,
@@ -17,7 +17,7 @@ pub struct FileNumber {
 }
 
 impl FileNumber {
-    /// That of the file that was looked at.
+    /// Returns the number of the file that was looked at.
     pub fn of(found: &Metadata) -> FileNumber {
         FileNumber {
             device: found.dev(),
@@ -26,8 +26,8 @@ impl FileNumber {
     }
 }
 
-/// What was seen last of what is read and written. It is kept in cells, of which no clause says
-/// anything.
+/// The state of what is read and written, as it was seen last. It is kept in cells, which no clause
+/// mentions.
 #[derive(Drop)]
 pub struct Seen {
     /// The number of the error of the last read that failed.
@@ -36,7 +36,7 @@ pub struct Seen {
     output_file: Cell<Option<FileNumber>>,
     /// True if standard input is not read, since standard output writes into its file.
     is_own: Cell<bool>,
-    /// True if the last read that failed was refused for that.
+    /// True if the last read that failed was refused, since standard output writes into the file.
     reads_output: Cell<bool>,
     /// The number of the error of the last write on standard output that failed.
     output_error: Cell<Option<i32>>,
@@ -45,7 +45,7 @@ pub struct Seen {
 }
 
 impl Seen {
-    /// Nothing was seen yet.
+    /// Returns the state when nothing was seen yet.
     pub fn new() -> Seen {
         Seen {
             read_error: Cell::new(None),
@@ -82,7 +82,7 @@ impl Seen {
         self.is_own.set(true);
     }
 
-    /// A read failed with an error of this number, or was refused.
+    /// Notes that a read failed with an error of this number, or was refused.
     fn fail_read(&self, number: Option<i32>, reads_output: bool) {
         self.read_error.set(number);
         self.reads_output.set(reads_output);
@@ -100,7 +100,7 @@ impl Seen {
         self.errors_error.get()
     }
 
-    /// A write failed, on standard error or on standard output.
+    /// Notes that a write failed, on standard error or on standard output.
     fn fail(&self, error: &io::Error, is_of_errors: bool) {
         let number = error.raw_os_error();
         if is_of_errors {
@@ -144,7 +144,7 @@ impl<'a, R> SeenReader<'a, R> {
         }
     }
 
-    /// A read failed.
+    /// Notes that a read failed.
     fn fail(&self, error: &io::Error) {
         let number = if self.is_closed {
             Some(NOT_OPEN)
@@ -181,7 +181,7 @@ pub struct SeenWriter<'a, W> {
 }
 
 impl<'a, W> SeenWriter<'a, W> {
-    /// Standard output, to which nothing was written yet.
+    /// Returns the writer of standard output, with nothing written yet.
     pub fn output(writer: W, seen: &'a Seen) -> SeenWriter<'a, W> {
         SeenWriter {
             writer,

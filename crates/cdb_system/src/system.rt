@@ -9,18 +9,18 @@ use cdb_names::{Answer, Lock, Names, Refusal};
 use cdb_show::Fault;
 use cdb_store::{RealFile, Store};
 
-/// The files of a system, by their names, each call on which is noted in proof-only data.
+/// The files of a system, by their names. Each call on them is noted in proof-only data.
 pub trait System {
     /// A file that is read at places.
     type File: Store + Drop;
 
-    /// A file that is read from its start on, of which something is known in the end.
+    /// A file that is read from its start. Something is known of its bytes in the end.
     type Stream: Feeds + Drop;
 
     /// A file that is made.
     type Made: Store + Drop;
 
-    /// Standard input, of which something is known in the end.
+    /// Standard input. Something is known of its bytes in the end.
     type Input: Feeds + Drop;
 
     /// The names of its files.
@@ -35,7 +35,7 @@ pub trait System {
     /// This file was given for the name, to be read at places.
     ghost gives: { List ℕ → Self.File → Type 0 };
 
-    /// This file was given for the name, to be read from its start on.
+    /// This file was given for the name, to be read from its start.
     ghost reads: { List ℕ → Self.Stream → Type 0 };
 
     /// This file was given for the name, to be written.
@@ -60,7 +60,8 @@ pub trait System {
     /// The number of the error of the last read of an input that failed.
     fn read_error(&self) -> Option<i32>;
 
-    /// Returns true if that read failed since standard output writes into the file.
+    /// Returns true if the last read of an input that failed was refused, since standard output
+    /// writes into the file.
     fn reads_output(&self) -> bool;
 
     /// The number of the error of the last write on standard output that failed.
@@ -83,25 +84,26 @@ pub trait System {
         ensures gives { IfOk result (gives name.now) }
         ensures fails { IfErr result (Misses name.now (calls self.old) (calls self.new)) };
 
-    /// Refuses from now on to read the file into which standard output writes: it is not opened, and
-    /// as standard input its reads fail. What is written there would be read, without an end.
+    /// Refuses every later read of the file into which standard output writes: it is not opened,
+    /// and as standard input its reads fail. A command would otherwise read its own output, without
+    /// an end.
     fn keep_apart(&self);
 
-    /// Opens the file of a name, to be read from its start on: nothing was taken of it yet. `Open`:
-    /// it cannot be opened.
+    /// Opens the file of a name, to be read from its start: nothing was taken of it yet. `Open`: it
+    /// cannot be opened.
     fn open(&mut self, name: &str) -> Result<Self::Stream, Fault>
         ensures calls { OnOk result (calls self.new ≡ (InTurn, name.now) ∷ calls self.old) }
         ensures reads { IfOk result (reads name.now) }
         ensures unread { IfOk result (λ stream. IsUnread (Self.Stream.feed stream)) }
         ensures fails { IfErr result (Misses name.now (calls self.old) (calls self.new)) };
 
-    /// Answers whether a name is that of a pipe or a device, which is read from its start to its
-    /// end alone.
+    /// Answers whether a name leads to a pipe or a device, which is only read from its start to its
+    /// end.
     fn is_stream(&mut self, name: &str) -> Answer
         ensures calls { calls self.new ≡ (Stream result, name.now) ∷ calls self.old };
 
     /// Opens the file of a name, or makes one, to be emptied. It stays as it is. `Open`: it cannot
-    /// be opened, or the name is that of a link, which is not followed.
+    /// be opened, or the name is a link, which is not followed.
     fn open_to_empty(&mut self, name: &str) -> Result<RealFile, Fault>
         ensures calls { OnOk result (calls self.new ≡ (ToEmpty, name.now) ∷ calls self.old) }
         ensures fails { IfErr result (Misses name.now (calls self.old) (calls self.new)) };

@@ -1,8 +1,8 @@
-// What the system's errors are called.
+// The words for the system's errors.
 ghost use Rattle.std.specs.Prelude.{◌≡◌, option_map};
 ghost use Rattle.cdb_system.specs.Causes.{high_errors, system_words, words_at};
 
-/// What the error of this number is called. The words are the same in each locale.
+/// Returns the words for the error of this number, the same in each locale.
 pub(crate) fn system_words(number: i32) -> Option<&'static str>
     ensures { option_map (λ words. words.now) result ≡ system_words number }
 {
@@ -34,7 +34,7 @@ pub(crate) fn system_words(number: i32) -> Option<&'static str>
     }
 }
 
-/// What the error of a greater number is called.
+/// Returns the words for an error of a greater number, from 30 up.
 fn late_words(number: i32) -> Option<&'static str>
     ensures { option_map (λ words. words.now) result ≡ words_at high_errors number }
 {

@@ -14,7 +14,7 @@ use cdb_form::{OutFault, Sink, write_pieces};
 use cdb_show::{BAD_USAGE, FAILED, Fault, Output, write_fault, write_word_fault};
 use std::io::Write;
 
-/// Writes the line of its reason, if it has one.
+/// Writes the line of a reason, if there is one.
 fn write_more<E: Write>(reason: &Option<Reason<'_>>, errors: &mut Output<E>) -> Result<(), OutFault>
     ensures writes { Writes result (output_bytes errors.old)
         (output_bytes errors.new) (more_of reason.now) }
@@ -27,7 +27,7 @@ fn write_more<E: Write>(reason: &Option<Reason<'_>>, errors: &mut Output<E>) -> 
     }
 }
 
-/// Writes the line of a fault, and that of its reason after it.
+/// Writes the line of a fault, and then the line of its reason.
 fn write_told<E: Write>(
     fault: &Fault,
     reason: &Option<Reason<'_>>,
@@ -42,7 +42,7 @@ fn write_told<E: Write>(
     write_more(reason, errors)
 }
 
-/// Says what a fault is, and what it is of if that is given, unless `errors` fails.
+/// Writes the line of a fault, and the line of its reason if one is given, unless `errors` fails.
 #[cold]
 #[inline(never)]
 pub fn tell<E: Write>(fault: &Fault, reason: &Option<Reason<'_>>, errors: &mut Output<E>)
@@ -64,8 +64,7 @@ fn refused_status(usage: &Usage) -> u8
     }
 }
 
-/// Writes why the words request nothing, and if it is to be explained which word or letters that is
-/// of.
+/// Writes why the words request nothing, and, with `explains`, which word or letters are the cause.
 fn write_refused<E: Write>(
     fault: &WordFault<'_>,
     explains: bool,
@@ -85,7 +84,7 @@ fn write_refused<E: Write>(
     Ok(())
 }
 
-/// Says why the words request nothing, unless `errors` fails, and answers the exit status.
+/// Writes why the words request nothing, unless `errors` fails, and returns the exit status.
 #[cold]
 #[inline(never)]
 pub fn refuse<E: Write>(fault: &WordFault<'_>, explains: bool, errors: &mut Output<E>) -> u8
@@ -98,8 +97,8 @@ pub fn refuse<E: Write>(fault: &WordFault<'_>, explains: bool, errors: &mut Outp
     refused_status(&fault.usage())
 }
 
-/// Says why the program cannot begin, at once, as far as `errors` takes it, and answers the exit
-/// status, and whether `errors` took the line.
+/// Writes why the program cannot begin, without a buffer, as far as `errors` takes it. Returns the
+/// exit status, and Ok if `errors` took the line.
 pub fn refuse_unbuffered<E: Sink>(usage: &Usage, errors: &mut E) -> (u8, Result<(), OutFault>)
     ensures line { Writes result.1 (E.contents errors.old) (E.contents errors.new)
         (usage_line usage.now) }
