@@ -13,4 +13,4 @@ pub use edits::Edit;
 pub use files::make_and_get;
 pub use form::first_record;
 pub use read::write_values;
-pub use steps::{Built, Step, build, build_and_ask};
+pub use steps::{Built, Step, Unbuilt, build, build_and_ask};

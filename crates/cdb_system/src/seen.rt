@@ -11,14 +11,14 @@ const NOT_OPEN: i32 = 9;
 
 /// The numbers that tell one file of the system from another.
 #[derive(Clone, Copy, PartialEq, Eq)]
-pub struct FileNumber {
+pub(crate) struct FileNumber {
     device: u64,
     inode: u64,
 }
 
 impl FileNumber {
     /// Returns the number of the file that was looked at.
-    pub fn of(found: &Metadata) -> FileNumber {
+    pub(crate) fn of(found: &Metadata) -> FileNumber {
         FileNumber {
             device: found.dev(),
             inode: found.ino(),
@@ -68,12 +68,12 @@ impl Seen {
     }
 
     /// The regular file into which standard output writes, if no input may be that.
-    pub fn output_file(&self) -> Option<FileNumber> {
+    pub(crate) fn output_file(&self) -> Option<FileNumber> {
         self.output_file.get()
     }
 
     /// Lets no later input be this regular file, into which standard output writes.
-    pub fn keep_apart(&self, output: Option<FileNumber>) {
+    pub(crate) fn keep_apart(&self, output: Option<FileNumber>) {
         self.output_file.set(output);
     }
 
