@@ -4,7 +4,8 @@ ghost use Rattle.cdb_form.specs.Format.{AreBytes};
 
 use std::alloc::AllocError;
 
-/// Copies bytes over what a vector holds. If they are as many, its room is not looked at.
+/// Copies bytes over what a vector holds. If the lengths are equal, it does not look at the
+/// vector's room.
 #[inline(always)]
 pub(crate) fn copy_over(bytes: &[u8], into: &mut Vec<u8>) -> Result<(), AllocError>
     ensures holds { OnOk result (into.new.items ≡ bytes.now) }

@@ -1,7 +1,7 @@
-// What is wrong with a database file.
+// The damage of a database file.
 
-/// What is wrong with a database file, by the definitions of the format. A place is counted
-/// in bytes from the file's start.
+/// The damage of a database file, by the definitions of the format. A place is counted in bytes
+/// from the file's start.
 #[derive(Clone, Copy, Debug, PartialEq, Eq)]
 pub enum Damage {
     /// The file is shorter than its head.
@@ -11,7 +11,7 @@ pub enum Damage {
     Table(u64),
     /// No whole record is at this place.
     Record(u64),
-    /// Of the table of the first number the slot of the second, from 0 on, is wrong.
+    /// A slot is wrong: its table's number, and its own number in the table, counted from 0.
     Slot(u64, u64),
     /// The record at this place is in two slots.
     Twice(u64),

@@ -1,15 +1,15 @@
-// What gives bytes.
+// The trait of readers.
 ghost use Rattle.std.specs.Prelude.{◌≡◌, ◌<◌, ◌≤◌, ℕ, List, length, take, IfOk, OnErr};
 ghost use Rattle.cdb_form.specs.Views.Feed.{Feed, Consumes, Keeps, IsAtEnd};
 
 use std::io::{self, Read};
 
-/// What gives bytes: any `Read`, or a reader of one's own of which more is known.
+/// A reader: any `Read`, or one of one's own, about which contracts know more.
 ///
-/// A contract speaks of it by its feed, which says of all its bytes and of those that are left
-/// whether they agree with what is known of it.
+/// A contract describes a reader by its feed: the byte lists that may be all that the reader has,
+/// each with those that may be left of it.
 pub trait Feeds {
-    /// What is known of it.
+    /// The reader's feed: the facts known about its bytes.
     ghost feed: { Self → Feed };
 
     /// Takes some of the next bytes. It takes none only at the end, or if `into` is empty.
@@ -21,7 +21,7 @@ pub trait Feeds {
         ensures kept { OnErr result (Keeps (feed self.old) (feed self.new)) }
         ensures failed { OnErr result (feed self.new).failed };
 
-    /// All its bytes determine which are left.
+    /// All bytes of the reader determine which are left.
     ghost one_rest: { (it : Self) → (whole first second : List ℕ)
         → (feed it).may whole first → (feed it).may whole second → first ≡ second };
 }

@@ -7,15 +7,15 @@ ghost use Rattle.cdb_form.specs.Views.Pairs.{pointer_pair, head_pairs, PairFits}
 use crate::pair::{TwoWords, pair_size, read_pair, write_pair};
 use crate::width::Width;
 
-/// How many bytes a head takes at most: that of words of 8 bytes.
+/// The greatest size of a head, in bytes: its size if words have 8 bytes.
 pub const GREATEST_HEAD: usize = 4096;
 
-/// Where a table lies.
+/// The place of a table, and its number of slots.
 #[derive(Clone, Copy, Debug, PartialEq, Eq)]
 pub struct Pointer {
-    /// The place of its first slot, in bytes from the file's start.
+    /// The place of the table's first slot, in bytes from the file's start.
     pub place: u64,
-    /// The number of slots it has.
+    /// The number of the table's slots.
     pub slots: u64,
 }
 
@@ -26,7 +26,7 @@ pub struct Head {
     pub pointers: [Pointer; 256],
 }
 
-/// The least place of a table that has slots.
+/// Returns the least place of a table that has slots.
 fn least_place(pointers: &[Pointer]) -> Option<u64>
     ensures { result ≡ reduce min (map (λ p. p.place) (filter (λ p.
         not (p.slots == 0)) pointers.now)) }
@@ -35,7 +35,7 @@ fn least_place(pointers: &[Pointer]) -> Option<u64>
     used.map(|p| p.place).min()
 }
 
-/// The number of the first table that has slots and lies at a place.
+/// Returns the number of the first table that has slots and lies at a place.
 fn first_at(pointers: &[Pointer], at: u64) -> Option<usize>
     ensures { result ≡ position (λ p. not (p.slots == 0) && (p.place == at)) pointers.now }
 {
@@ -45,15 +45,16 @@ fn first_at(pointers: &[Pointer], at: u64) -> Option<usize>
 impl Head {
     ghost use Rattle.cdb_form.specs.Format.{least_place, first_table_at};
 
-    /// Where the records end: at the least place of a table that has slots, or after the head
-    /// if none has.
+    /// Returns the record end: the least place of a table that has slots, or the place after the
+    /// head if none has.
     pub fn record_end<L: Width>(&self) -> u64
         ensures { result ≡ least_place (head_size L.WORD) (head_pairs self.now) }
     {
         least_place(&self.pointers).unwrap_or(head_size::<L>() as u64)
     }
 
-    /// The number of the first table that has slots and lies at a place; 256 if there is none.
+    /// Returns the number of the first table that has slots and lies at a place; 256 if there is
+    /// none.
     pub fn first_table_at(&self, place: u64) -> usize
         ensures { result ≡ first_table_at place (head_pairs self.now) }
     {

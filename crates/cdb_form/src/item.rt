@@ -1,7 +1,7 @@
 // An item of an amending text, in memory.
 use crate::record::Record;
 
-/// What an amending text says of one key.
+/// An item of an amending text: a record to put, or a key to remove.
 #[derive(Debug, Drop)]
 pub enum Item {
     /// The record is put.
@@ -10,11 +10,11 @@ pub enum Item {
     Remove(Vec<u8>),
 }
 
-/// Which kind of item was read over a record.
+/// The kind of an item that was read over a record.
 #[derive(Clone, Copy, Debug, PartialEq, Eq)]
 pub enum ItemKind {
     /// The record is put.
     Put,
-    /// Each record of its key is removed. Its value means nothing.
+    /// Each record of the key that was read is removed. The value means nothing.
     Remove,
 }

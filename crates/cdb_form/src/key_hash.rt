@@ -10,8 +10,8 @@ pub fn hash(key: &[u8]) -> u32
     hash_more(5381, key)
 }
 
-/// The hash of a key that goes on with these bytes, if this is the hash of it up to them: so a
-/// key is hashed piece by piece, from `hash(&[])` on.
+/// Returns the hash of a key that goes on with `bytes`, if `hash` is its hash up to them. So a key
+/// can be hashed piece by piece, beginning with `hash(&[])`.
 pub fn hash_more(hash: u32, bytes: &[u8]) -> u32
     ensures { result ≡ fold hash_step hash bytes.now }
 {
@@ -35,7 +35,7 @@ fn hash_each(hash: u32, bytes: &[u8]) -> u32
     hash
 }
 
-/// The number of the table, from 0 to 255, that has the records of a hash.
+/// Returns the number of the table, from 0 to 255, that has the records of a hash.
 pub fn table_number(hash: u64) -> usize
     ensures number { result ≡ table_number hash }
     ensures within { result < 256 }
@@ -43,7 +43,7 @@ pub fn table_number(hash: u64) -> usize
     (hash % 256) as usize
 }
 
-/// The slot at which the search for a hash begins in a table of so many slots.
+/// Returns the slot at which the search for a hash begins in a table of `slots` slots.
 pub fn home_slot(hash: u64, slots: u64) -> u64
     requires { 0 < slots }
     ensures slot { result ≡ home_slot hash slots }

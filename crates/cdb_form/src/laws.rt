@@ -32,9 +32,9 @@ pub fn native_text_amends_by_puts<L: Width>(_text: &[u8])
     ensures { AmendsByPuts L.GREATEST _text.now }
 {}
 
-/// What the function of a text says is what the grammar says, of native texts, of amending ones and
-/// of list texts: its items with what follows the text, or its whole items with its fault. No other
-/// items do, no other rest and no other fault.
+/// For native, amending and list texts the parse function agrees with the grammar: on the items and
+/// the bytes after the text, or on the whole items and the fault. The grammar allows no other
+/// items, no other rest and no other fault.
 pub fn text_is_parsed<L: Width>(_text: &[u8])
     ensures native { IsParsed Spells Putting L.GREATEST _text.now
         (parse false L.GREATEST _text.now) }

@@ -1,10 +1,10 @@
 //! The file format of constant databases: its words and tables, its native text, and
 //! the larger text that amends a database.
 //!
-//! The format is said once, in `specs/`: `Format` is the file of a list of records,
-//! what bytes read as, and what records any bytes hold and where they are damaged; `Text` is the
-//! grammar of the text. The contracts of this crate cite these
-//! definitions, for words of 4 bytes (`Narrow`) and of 8 bytes (`Wide`).
+//! The format is defined once, in `specs/`: `Format` is the file of a list of records, what bytes
+//! read as, and what records any bytes hold and where they are damaged; `Text` is the grammar of
+//! the text. The contracts of this crate cite these definitions, for words of 4 bytes (`Narrow`)
+//! and of 8 bytes (`Wide`).
 #![tactic(auto)]
 
 mod copying;

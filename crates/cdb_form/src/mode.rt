@@ -1,6 +1,6 @@
-// What a put does with a key that is there.
+// The modes of a put.
 
-/// What a put does if its key is there already.
+/// The mode of a put: how it treats a key that is there already.
 #[derive(Clone, Copy, Debug, PartialEq, Eq)]
 pub enum Mode {
     /// The record is appended, and nothing is looked for.

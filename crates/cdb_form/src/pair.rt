@@ -1,11 +1,11 @@
-// Two words side by side, of which headers, slots and pointers are made.
+// Two words side by side: a header, a slot or a pointer.
 ghost use Rattle.std.specs.Prelude.{◌≡◌, ◌*◌, length};
 ghost use Rattle.cdb_form.specs.Format.{pair_bytes, pair_size, pair_at};
 ghost use Rattle.cdb_form.specs.Views.Pairs.{pair_of, PairFits};
 
 use crate::width::Width;
 
-/// The number of bytes that two words take at most: those of words of 8 bytes.
+/// The greatest size of two words, in bytes: their size if words have 8 bytes.
 pub const GREATEST_PAIR: usize = 16;
 
 /// Two words.
@@ -15,7 +15,7 @@ pub(crate) struct TwoWords {
     pub(crate) second: u64,
 }
 
-/// Returns the number of bytes that two words take: those of a header, of a slot or of a pointer.
+/// Returns the number of bytes that two words take, and so a header, a slot or a pointer.
 pub fn pair_size<L: Width>() -> usize
     ensures { result ≡ pair_size L.WORD }
 {

@@ -10,22 +10,24 @@ use crate::feeds::Feeds;
 use std::alloc::AllocError;
 use std::io::ErrorKind;
 
-/// As many bytes as a pipe holds. So many are read or written at a time, and make a window.
+/// The number of bytes that a pipe holds. It is also the size of a window, and the number of bytes
+/// that are read or written at a time.
 pub const PIPE: usize = 65536;
 
-/// How often in a row a reader or a writer is called again if a signal interrupts it.
+/// The number of times in a row that a reader or a writer is called again if a signal interrupts
+/// it.
 pub(crate) const RETRIES: u32 = 1000;
 
-/// Why a reader did not give the bytes requested.
+/// The reason why a reader did not give the bytes requested.
 #[derive(Clone, Copy)]
 pub(crate) enum ReadStop {
-    /// It had no more bytes.
+    /// The reader had no more bytes.
     Ended,
-    /// It failed, or was interrupted more often in a row than it is called again.
+    /// The reader failed, or was interrupted more than 1000 times in a row.
     Failed,
-    /// It got as many requests as it may.
+    /// The reader got all requests that it may get.
     Spent,
-    /// Memory for its bytes was refused.
+    /// An allocation for the bytes failed.
     NoMemory,
 }
 
@@ -107,7 +109,7 @@ pub(crate) fn all_bytes<R: Feeds>(
     Ok(())
 }
 
-/// Makes a vector so long at least, by zeros. If memory runs out it stays as it is.
+/// Lengthens a vector to at least `len` bytes, by zeros. If an allocation fails, it stays as it is.
 #[inline(always)]
 fn lengthen(into: &mut Vec<u8>, len: usize) -> Result<(), AllocError>
     ensures front { take (length into.old.items) into.new.items ≡ into.old.items }
@@ -168,7 +170,7 @@ fn some_behind<R: Feeds>(
     }
 }
 
-/// Takes the next `len` bytes into a vector, over what it holds, `piece` at once at most.
+/// Takes the next `len` bytes into a vector, over what it holds, at most `piece` at a time.
 ///
 /// It allocates memory as the bytes come, a piece ahead. After a fault the vector holds the bytes
 /// that came.

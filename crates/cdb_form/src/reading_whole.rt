@@ -1,4 +1,4 @@
-// All that a reader has, into a vector, up to so many bytes.
+// All that a reader has, into a vector, up to a limit.
 ghost use Rattle.std.specs.Prelude.{◌≡◌, ◌+◌, ◌-◌, ◌^◌, ◌<◌, ◌≤◌, Some, codes, length, IfOk, IfErr, OnErr};
 ghost use Rattle.cdb_form.specs.Views.Feed.{Consumes};
 ghost use Rattle.cdb_form.specs.Views.Taking.{Gives, LosesAtMost};
@@ -11,26 +11,26 @@ use crate::reading::{ReadStop, vector};
 use std::error::Error;
 use std::fmt;
 
-/// How much of a reader's bytes came.
+/// The answer of `read_whole`: all of a reader's bytes came, or there are more.
 #[derive(Clone, Copy, Debug, PartialEq, Eq)]
 pub enum Extent {
-    /// All of them: the reader is at its end.
+    /// All bytes came: the reader is at its end.
     All,
-    /// More than were allowed.
+    /// More bytes came than were allowed.
     More,
 }
 
-/// Why not all of a reader's bytes came.
+/// The reason why not all of a reader's bytes came.
 #[derive(Clone, Copy, Debug, PartialEq, Eq)]
 pub enum InFault {
     /// The reader failed.
     Failed,
-    /// Memory for its bytes was refused.
+    /// An allocation for the bytes failed.
     NoMemory,
 }
 
 impl InFault {
-    /// What the fault is, in words.
+    /// Returns the fault's message, in words.
     pub fn message(&self) -> &'static str
         ensures { result.now ≡ in_message self.now }
     {

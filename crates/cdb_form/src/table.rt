@@ -20,8 +20,8 @@ fn is_used<L: Width>(bytes: &[u8], at: usize) -> bool
     L::read_word(&slot[L::WORD..]) != 0
 }
 
-/// Returns the number of slots that are known to be used from `at` on: none if it is empty, or past
-/// the last.
+/// Returns the number of slots, starting at `at`, that are known to be used: none if `at` is empty,
+/// or past the last slot.
 #[inline(always)]
 fn run_at<L: Width>(bytes: &[u8], runs: &[u32], at: usize) -> usize
     requires long { length runs.now ≡ length (slots_in L.WORD bytes.now) }
@@ -36,7 +36,7 @@ fn run_at<L: Width>(bytes: &[u8], runs: &[u32], at: usize) -> usize
     }
 }
 
-/// What is noted of a run of used slots: as many of them as 32 bits hold.
+/// Returns the note for a run of used slots: their number, or the greatest that 32 bits hold.
 #[inline(always)]
 fn noted(run: usize) -> u32
     ensures { result ≡ min run 4294967295 }
@@ -44,8 +44,8 @@ fn noted(run: usize) -> u32
     run.min(u32::MAX as usize) as u32
 }
 
-/// The first empty slot from `from` on, or the number of slots. The runs that are passed over are
-/// joined, so the next search passes them at once.
+/// Returns the first empty slot at or after `from`, or the number of slots. It joins the runs that
+/// it passes two by two, so the next search takes fewer steps.
 #[inline(always)]
 fn next_empty<L: Width>(bytes: &[u8], runs: &mut [u32], from: usize) -> usize
     requires long { length runs.old ≡ length (slots_in L.WORD bytes.now) }
@@ -67,7 +67,7 @@ fn next_empty<L: Width>(bytes: &[u8], runs: &mut [u32], from: usize) -> usize
     at
 }
 
-/// The first empty slot from `home` on, and round to it; `home` if there is none.
+/// Returns the first empty slot at or after `home`, or else the first before it; `home` if none is.
 #[inline(always)]
 fn first_empty<L: Width>(bytes: &[u8], runs: &mut [u32], home: usize) -> usize
     requires long { length runs.old ≡ length (slots_in L.WORD bytes.now) }
@@ -92,9 +92,9 @@ fn first_empty<L: Width>(bytes: &[u8], runs: &mut [u32], home: usize) -> usize
 
 /// Writes an entry into the first empty slot from its home, as Bernstein's cdb specification says.
 ///
-/// `bytes` are those of a table with at least one slot, and `runs` has a number for each slot: of a
-/// table without entries all bytes and all numbers are 0. The calls note there how many slots are
-/// used from each one on, so a search passes them at once.
+/// `bytes` is a table with at least one slot, and `runs` has a number for each slot: in a table
+/// without entries all bytes and all numbers are 0. The calls note in `runs` the lengths of runs of
+/// used slots, so a search passes a run in one step.
 #[inline(always)]
 pub fn put_entry<L: Width>(bytes: &mut [u8], runs: &mut [u32], entry: Slot)
     requires some { 0 < length (slots_in L.WORD bytes.old) }

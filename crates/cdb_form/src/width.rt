@@ -4,7 +4,7 @@ ghost use Rattle.byteorder.specs.Endian.{little_number, little_bytes};
 
 use byteorder::{ByteOrder, LittleEndian};
 
-/// How wide the words of a file are. Every layout follows from it.
+/// The width of a file's words. Every layout follows from it.
 pub trait Width {
     ghost WORD: { ℕ };
 

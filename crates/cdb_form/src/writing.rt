@@ -26,16 +26,16 @@ impl fmt::Display for OutFault {
 
 impl Error for OutFault {}
 
-/// What takes bytes: any `Write`, or a type of its own that also says whether it has failed.
+/// A sink of bytes: any `Write`, or a type of one's own that also knows whether it has failed.
 pub trait Sink {
-    /// The bytes that it holds, if they are known.
+    /// The bytes that the sink holds, if they are known.
     ghost contents: { Self → Option (List ℕ) };
-    /// That it has failed, which stays so. Of a `Write` nobody knows it.
+    /// The sink has failed, which stays so. A `Write` always counts as failed, since nobody knows.
     ghost failed: { Self → Type 0 };
 
     /// Writes some of the bytes, at least one, and answers how many.
     ///
-    /// After an `OutFault` it holds what it held.
+    /// After an `OutFault` the sink holds what it held.
     fn write_some(&mut self, bytes: &[u8]) -> Result<usize, OutFault>
         requires { 0 < length bytes.now }
         ensures count { IfOk result (λ n. (0 < n) × (n ≤ length bytes.now)) }
@@ -45,7 +45,7 @@ pub trait Sink {
         ensures failed { OnErr result (failed self.new) }
         ensures stays { failed self.old → failed self.new };
 
-    /// Forwards what it holds back.
+    /// Forwards the bytes that the sink holds back.
     fn flush_whole(&mut self) -> Result<(), OutFault>
         ensures bytes { Keeps (contents self.old) (contents self.new) }
         ensures failed { OnErr result (failed self.new) }
@@ -106,7 +106,7 @@ pub fn write_some<W: Sink>(w: &mut W, bytes: &[u8]) -> Result<usize, OutFault>
     w.write_some(bytes)
 }
 
-/// Writes all the bytes, by as many calls of the writer as it takes.
+/// Writes all the bytes, by repeated calls of the writer.
 #[inline(never)]
 fn write_rest<W: Sink>(w: &mut W, bytes: &[u8]) -> Result<(), OutFault>
     ensures writes { Writes result (W.contents w.old) (W.contents w.new) bytes.now }
@@ -130,7 +130,7 @@ pub(crate) fn write_at_once<W: Sink>(w: &mut W, bytes: &[u8]) -> Result<(), OutF
     if bytes.is_empty() {
         return Ok(());
     }
-    // Most writers take all at once.
+    // Most writers take all bytes in one call.
     let done = write_some(w, bytes)?;
     if done < bytes.len() {
         return write_rest(w, &bytes[done..]);

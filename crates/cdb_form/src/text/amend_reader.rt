@@ -19,8 +19,8 @@ use std::alloc::Global;
 /// Reads the items of an amending text, one after the other: the puts of a native text, and
 /// removals of keys.
 ///
-/// It requests no byte past those that the answer needs, and at most 4096 at once.
-/// What follows the newline that ends the text stays unread.
+/// It requests no byte past those that the answer needs, and at most 4096 at a time. Bytes after
+/// the newline that ends the text stay unread.
 #[derive(Drop)]
 pub struct AmendReader<R, L> {
     alloc: Global,
@@ -54,17 +54,17 @@ impl<R: Feeds, L: Width> AmendReader<R, L> {
         }
     }
 
-    /// Its reader, which goes on after what was read of it.
+    /// Returns the reader, which goes on after the bytes that were read.
     pub fn into_reader(self) -> R
         ensures { result ≡ reader_of self }
     {
         self.items.into_reader()
     }
 
-    /// The next item, or `None` at the newline that ends the text.
+    /// Returns the next item, or `None` at the newline that ends the text.
     ///
-    /// After the end it answers `Ok(None)` for good, and after a fault that fault. The faults are
-    /// those of `TextReader::next`, of the larger form.
+    /// After the end it returns `Ok(None)` for good, and after a fault that fault. It fails as
+    /// `TextReader::next` does, for the larger form.
     pub fn next(&mut self) -> Result<Option<Item>, TextFault>
         ensures gives { IfOk result (λ found. MatchOption found
             (GivesEnd R.feed self.old self.new)
@@ -82,8 +82,8 @@ impl<R: Feeds, L: Width> AmendReader<R, L> {
         }
     }
 
-    /// Reads the next item over a record, whose memory it takes, and answers its kind. The answers
-    /// are those of `next`. A removal leaves its key in the record's `key`, and any bytes in its
+    /// Reads the next item over a record, whose memory it takes, and returns its kind. It answers
+    /// as `next` does. A removal leaves its key in the record's `key`, and any bytes in its
     /// `value`; after `None` and after a fault the record holds anything.
     pub fn read_into(&mut self, into: &mut Record) -> Result<Option<ItemKind>, TextFault>
         ensures gives { IfOk result (λ found. MatchOption found
@@ -98,8 +98,8 @@ impl<R: Feeds, L: Width> AmendReader<R, L> {
         self.items.read_into(into, true)
     }
 
-    /// The record that the next item puts, where it lies, if it is whole at hand. Nothing is taken:
-    /// `take_peeked` does that.
+    /// Returns the record that the next item puts, where it lies, if it is whole at hand. It takes
+    /// nothing: `take_peeked` does that.
     #[inline(always)]
     pub fn peek<A: AtHand<R>>(&self) -> Option<PeekedRecord<'_>>
         ensures { IfSome result (λ f.

@@ -4,7 +4,7 @@ ghost use Rattle.cdb_form.specs.Views.Feed.{Consumes};
 
 use crate::feeds::Feeds;
 
-/// Which bytes a reader has at hand: its next ones, which need no request.
+/// The bytes that a reader has at hand: its next ones, which need no request.
 pub trait AtHand<R: Feeds> {
     /// The bytes at hand.
     ghost held: { R → List ℕ };
@@ -36,7 +36,7 @@ impl<R: Feeds> AtHand<R> for NoneAtHand {
     fn take(_: &mut R, _: usize) {}
 }
 
-/// The bytes at hand, `most` at most.
+/// Returns the bytes at hand, `most` at most.
 #[inline(always)]
 pub(crate) fn window_within<R: Feeds, A: AtHand<R>>(reader: &R, most: u64) -> &[u8]
     ensures { result.now ≡ take most (A.held reader.now) }

@@ -1,4 +1,4 @@
-// Why a text was not read.
+// The reasons why a text was not read.
 ghost use Rattle.std.specs.Prelude.{◌≡◌};
 ghost use Rattle.cdb_form.specs.Views.TextFault.{text_number, text_message, text_place};
 ghost use Rattle.cdb_form.specs.Views.TextFault.{unread_fault};
@@ -8,7 +8,7 @@ use std::alloc::{AllocError, AllocFailed};
 use std::error::Error;
 use std::fmt;
 
-/// Why a native text was not read. A place is counted in bytes from the reader's first one.
+/// The reason why a text was not read. A place is counted in bytes from the reader's first one.
 #[derive(Clone, Copy, Debug, PartialEq, Eq)]
 pub enum TextFault {
     /// No text of the form goes on with the byte at this place.
@@ -19,14 +19,14 @@ pub enum TextFault {
     Large(u64),
     /// The reader failed.
     Input,
-    /// The reader got as many requests as it may, and more is needed.
+    /// The reader got all requests that it may get, and more bytes are needed.
     Endless,
-    /// Memory ran out.
+    /// An allocation failed.
     NoMemory,
 }
 
 impl TextFault {
-    /// The number of the fault, from 1 on in the order of the variants.
+    /// Returns the number of the fault, counted from 1 in the order of the variants.
     pub fn number(&self) -> u8
         ensures { result ≡ text_number self.now }
     {
@@ -40,7 +40,7 @@ impl TextFault {
         }
     }
 
-    /// The fault of a text whose reader, after so many bytes, did not give the bytes requested.
+    /// Returns the fault of a text whose reader gave `at` bytes, and then not the bytes requested.
     pub(crate) fn of_reader(unread: ReadStop, at: u64) -> TextFault
         ensures { result ≡ unread_fault at unread }
     {
@@ -52,7 +52,7 @@ impl TextFault {
         }
     }
 
-    /// What the fault is, in words that follow the place if it has one.
+    /// Returns the fault's message. It follows the place, if the fault has one.
     pub fn message(&self) -> &'static str
         ensures { result.now ≡ text_message self.now }
     {
@@ -66,7 +66,7 @@ impl TextFault {
         }
     }
 
-    /// The place of the fault, in bytes from the reader's first one, if it has one.
+    /// Returns the place of the fault, in bytes from the reader's first one, if it has one.
     pub fn place(&self) -> Option<u64>
         ensures { result ≡ text_place self.now }
     {

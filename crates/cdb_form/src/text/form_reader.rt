@@ -44,7 +44,7 @@ impl<R: Feeds, L: Width> FormReader<R, L> {
         }
     }
 
-    /// Its reader, which goes on after what was read of it.
+    /// Returns the reader, which goes on after the bytes that were read.
     pub fn into_reader(self) -> R
         ensures { result ≡ reader_of self }
     {
@@ -73,7 +73,7 @@ impl<R: Feeds, L: Width> FormReader<R, L> {
         self.source.take_at_hand::<A>(len);
     }
 
-    /// Reads the next item over a record, and answers its kind: none is at the newline that ends
+    /// Reads the next item over a record, and returns its kind: none is at the newline that ends
     /// the text. With no removals the text is a native one.
     #[inline(always)]
     pub fn read_into(

@@ -1,22 +1,23 @@
-// How far a reader of a text has come.
+// The progress of a reader of a text.
 ghost use Rattle.std.specs.Prelude.{◌≡◌, IfOk, IfErr, MatchBool};
 ghost use Rattle.cdb_form.specs.declared.text.going.Going.TheVariants.{On, AtEnd, Failed};
 
 use crate::text::fault::TextFault;
 
-/// What a reader of a text does next.
+/// The next step of a reader of a text.
 #[derive(Clone, Copy)]
 pub(crate) enum Going {
-    /// It reads on.
+    /// The reader reads on.
     On,
-    /// Its input has ended: it reports the end.
+    /// The text has ended: the reader reports the end.
     AtEnd,
-    /// It reports this fault again.
+    /// The reader reports this fault again.
     Failed(TextFault),
 }
 
 impl Going {
-    /// Returns true if it reads on. The fault that it reports again comes as the fault.
+    /// Returns true if the reader reads on, and false at the end. It fails with the fault that the
+    /// reader reports again.
     #[inline(always)]
     pub(crate) fn reads_on(self) -> Result<bool, TextFault>
         ensures ok { IfOk result (λ on. MatchBool on (self ≡ On) (self ≡ AtEnd)) }

@@ -10,14 +10,14 @@ use memchr::{memchr, memchr3};
 pub(crate) enum Kind {
     /// A space or a tab.
     Blank,
-    /// What a key is made of: neither a blank nor a newline.
+    /// A byte of a key: neither a blank nor a newline.
     InWord,
-    /// What a line is made of: no newline.
+    /// A byte of a line: no newline.
     InLine,
 }
 
 impl Kind {
-    /// Returns true if a byte is of this kind.
+    /// Returns true if a byte has this kind.
     pub(crate) fn has(self, byte: u8) -> bool
         ensures { result ≡ is_of self byte }
     {
@@ -28,7 +28,8 @@ impl Kind {
         }
     }
 
-    /// How many bytes of this kind some bytes begin with. Blanks are few, and not looked for.
+    /// Returns the number of bytes of this kind that `bytes` begins with. Blanks are few, and not
+    /// looked for: their number is 0.
     #[inline(always)]
     pub(crate) fn run(self, bytes: &[u8]) -> usize
         ensures within { result ≤ length bytes.now }

@@ -1,4 +1,4 @@
-// Bytes that are looked at 16 or 32 at once.
+// Bytes that are looked at 16 or 32 at a time.
 ghost use Rattle.std.specs.Prelude.{◌≡◌, true, ℕ, ◌<◌, ◌≤◌, length, map, slice_index};
 ghost use Rattle.std.specs.Simd.Lanes.{mask_l};
 ghost use Rattle.cdb_form.specs.Views.Prefix.{may_end};
@@ -8,7 +8,7 @@ ghost use Rattle.cdb_form.specs.declared.text.kind.Kind.TheVariants.{InWord};
 use crate::text::kind::Kind;
 use std::simd::prelude::*;
 
-/// Which of 32 bytes may be of another kind, a bit for each.
+/// Returns a bit for each of 32 bytes: 1 if the byte may be of another kind.
 #[inline(always)]
 fn ends(kind: Kind, bytes: u8x32) -> u64
     ensures { result ≡ mask_l (map (may_end kind) bytes) }
@@ -20,7 +20,7 @@ fn ends(kind: Kind, bytes: u8x32) -> u64
     }
 }
 
-/// Which of 16 bytes may end a word, a bit for each.
+/// Returns a bit for each of 16 bytes: 1 if the byte may end a word.
 #[inline(always)]
 fn word_ends(bytes: u8x16) -> u64
     ensures { result ≡ mask_l (map (may_end InWord) bytes) }

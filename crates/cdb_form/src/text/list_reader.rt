@@ -12,8 +12,8 @@ use std::marker::PhantomData;
 
 /// Reads the keys of a list text, one after the other.
 ///
-/// It requests no byte past those that the answer needs, and at most 4096 at once.
-/// What follows the newline that ends the text stays unread.
+/// It requests no byte past those that the answer needs, and at most 4096 at a time. Bytes after
+/// the newline that ends the text stay unread.
 #[derive(Drop)]
 pub struct ListReader<R, L> {
     source: Source<R>,
@@ -49,19 +49,19 @@ impl<R: Feeds, L: Width> ListReader<R, L> {
         }
     }
 
-    /// Its reader, which goes on after what was read of it.
+    /// Returns the reader, which goes on after the bytes that were read.
     pub fn into_reader(self) -> R
         ensures { result ≡ reader_of self }
     {
         self.source.reader
     }
 
-    /// Reads the next key over that of a record, whose memory it takes, and answers whether there
-    /// is one: none is at the newline that ends the text.
+    /// Reads the next key over a record's key, whose memory it takes, and returns true if there is
+    /// one: none is at the newline that ends the text.
     ///
-    /// After the end it answers `Ok(false)` for good, and after a fault that fault. The faults are
-    /// those of `TextReader::next`, of a list text. After a key the record's `value` holds any
-    /// bytes; after `false` and after a fault the record holds anything.
+    /// After the end it returns `Ok(false)` for good, and after a fault that fault. It fails as
+    /// `TextReader::next` does, for a list text. After a key the record's `value` holds any bytes;
+    /// after `false` and after a fault the record holds anything.
     #[inline(always)]
     pub fn read_into(&mut self, into: &mut Record) -> Result<bool, TextFault>
         ensures gives { IfOk result (λ given. MatchBool given

@@ -7,8 +7,8 @@ use crate::text::line::{LINE, put_mark, put_number, put_piece};
 use crate::writing::{OutFault, Sink, write_at_once, write_each};
 use itoa::Buffer;
 
-/// The number of bytes that a key has at most of which a line has room, beside a numeral of 20
-/// digits and three marks.
+/// The length in bytes of the longest key that fits into a line, beside a numeral of 20 digits and
+/// three marks.
 const ROOM: usize = LINE - 23;
 
 /// Puts a key with its length into a line that has room for it, and answers the place after it.

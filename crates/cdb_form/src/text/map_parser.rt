@@ -18,7 +18,7 @@ use crate::text::kind::Kind;
 use crate::text::prefix_line::copy_line;
 use crate::text::source::Source;
 
-/// What was found in a line.
+/// The content and the end of a line.
 #[derive(Clone, Copy)]
 pub(crate) enum LineRead {
     /// No record, and a newline.
@@ -31,10 +31,10 @@ pub(crate) enum LineRead {
     LastPair,
 }
 
-/// What was found in the lines up to the first record's.
+/// The content of the lines up to the first record's, and their end.
 #[derive(Clone, Copy)]
 pub(crate) enum Entry {
-    /// No record: they end with the input.
+    /// No record: the lines end with the input.
     End,
     /// A record, and a newline.
     Closed,
@@ -131,8 +131,8 @@ impl<R: Feeds> Source<R> {
         Ok(stop.is_some())
     }
 
-    /// Takes the rest of a record's line after its first byte, which is one of its key. It answers
-    /// whether the line ends with a newline.
+    /// Takes the rest of a record's line after `first`, the first byte of its key. It returns true
+    /// if the line ends with a newline.
     fn pair<A: AtHand<R>>(&mut self, first: u8, into: &mut Record) -> Result<bool, TextFault>
         requires { is_of InWord first ≡ true }
         ensures reads { IfOk result (λ newline. ReadsPair R.feed self.old self.new first

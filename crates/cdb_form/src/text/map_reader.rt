@@ -56,16 +56,16 @@ impl<R: Feeds> MapReader<R> {
         }
     }
 
-    /// Its reader, which goes on after what was read of it.
+    /// Returns the reader, which goes on after the bytes that were read.
     pub fn into_reader(self) -> R
         ensures { result ≡ reader_of self }
     {
         self.source.reader
     }
 
-    /// The next record, or `None` at the end of the input.
+    /// Returns the next record, or `None` at the end of the input.
     ///
-    /// After the end it answers `Ok(None)` for good, and after a fault that fault. If the last line
+    /// After the end it returns `Ok(None)` for good, and after a fault that fault. If the last line
     /// has no newline, its record comes with the end. `Input` comes if the reader failed, or was
     /// interrupted more than 1000 times in a row; `Endless` if no request is left; `NoMemory` if an
     /// allocation failed.
@@ -82,9 +82,9 @@ impl<R: Feeds> MapReader<R> {
         Ok(self.read_into(&mut record)?.then_some(record))
     }
 
-    /// Reads the next record over another one, whose memory it takes, and answers whether there is
-    /// one. The answers are those of `next`, with `false` for `None`; after `false` and after a
-    /// fault the record holds anything.
+    /// Reads the next record over another one, whose memory it takes, and returns true if there is
+    /// one. It answers as `next` does, with `false` for `None`; after `false` and after a fault the
+    /// record holds anything.
     pub fn read_into(&mut self, into: &mut Record) -> Result<bool, TextFault>
         ensures gives { IfOk result (λ given. MatchBool given
             (GivesRecord R.feed self.old self.new (key_value into.new))
@@ -128,8 +128,8 @@ impl<R: Feeds> MapReader<R> {
         }
     }
 
-    /// The next record, where it lies, if its line is whole at hand, with its newline, and no
-    /// ignored line precedes it. Nothing is taken: `take_peeked` does that.
+    /// Returns the next record, where it lies, if its line is whole at hand, with its newline, and
+    /// no ignored line precedes it. It takes nothing: `take_peeked` does that.
     #[inline(always)]
     pub fn peek<A: AtHand<R>>(&self) -> Option<PeekedRecord<'_>>
         ensures { IfSome result (λ f. HasPeeked A.held self.now f.len (shown_by f)) }

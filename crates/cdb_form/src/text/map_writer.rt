@@ -6,7 +6,7 @@ ghost use Rattle.cdb_form.specs.Views.KnownBytes.{Writes};
 use crate::text::line::{LINE, put_mark, put_piece};
 use crate::writing::{OutFault, Sink, write_at_once, write_each};
 
-/// The number of bytes that a key and a value have at most of which a line has room.
+/// The greatest number of bytes of a key and a value together that fit into a line.
 const ROOM: usize = LINE - 2;
 
 /// Puts the line of a record into a line that has room for it, and answers the place after it.

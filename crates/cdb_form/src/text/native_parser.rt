@@ -139,8 +139,8 @@ impl<R: Feeds> Source<R> {
         Ok(())
     }
 
-    /// Takes the key after a mark, with its length before it and a newline after it: a removal's
-    /// after a minus, or that of a list text after a plus.
+    /// Takes the key after a mark, with its length before it and a newline after it. The mark is a
+    /// minus before a removal's key, and a plus before a list text's.
     fn marked_key(&mut self, into: &mut Record, greatest: u64) -> Result<(), TextFault>
         requires least { 9 ≤ greatest }
         requires most { greatest < 2 ^ 63 }

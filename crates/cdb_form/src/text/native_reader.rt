@@ -16,8 +16,8 @@ use std::alloc::Global;
 
 /// Reads the records of a native text, one after the other.
 ///
-/// It requests no byte past those that the answer needs, and at most 4096 at once.
-/// What follows the newline that ends the text stays unread.
+/// It requests no byte past those that the answer needs, and at most 4096 at a time. Bytes after
+/// the newline that ends the text stay unread.
 #[derive(Drop)]
 pub struct TextReader<R, L> {
     alloc: Global,
@@ -51,16 +51,16 @@ impl<R: Feeds, L: Width> TextReader<R, L> {
         }
     }
 
-    /// Its reader, which goes on after what was read of it.
+    /// Returns the reader, which goes on after the bytes that were read.
     pub fn into_reader(self) -> R
         ensures { result ≡ reader_of self }
     {
         self.items.into_reader()
     }
 
-    /// The next record, or `None` at the newline that ends the text.
+    /// Returns the next record, or `None` at the newline that ends the text.
     ///
-    /// After the end it answers `Ok(None)` for good, and after a fault that fault. `Syntax`,
+    /// After the end it returns `Ok(None)` for good, and after a fault that fault. `Syntax`,
     /// `Ended` and `Large` are the fault of the text, with its place in bytes from the reader's
     /// first one; `Input` comes if the reader failed, or was interrupted more than 1000 times in a
     /// row; `Endless` if no request is left; `NoMemory` if an allocation failed.
@@ -77,9 +77,9 @@ impl<R: Feeds, L: Width> TextReader<R, L> {
         Ok(self.read_into(&mut record)?.then_some(record))
     }
 
-    /// Reads the next record over another one, whose memory it takes, and answers whether there is
-    /// one. The answers are those of `next`, with `false` for `None`; after `false` and after a
-    /// fault the record holds anything.
+    /// Reads the next record over another one, whose memory it takes, and returns true if there is
+    /// one. It answers as `next` does, with `false` for `None`; after `false` and after a fault the
+    /// record holds anything.
     pub fn read_into(&mut self, into: &mut Record) -> Result<bool, TextFault>
         ensures gives { IfOk result (λ given. MatchBool given
             (GivesRecord L.GREATEST R.feed self.old self.new (key_value into.new))
@@ -93,8 +93,8 @@ impl<R: Feeds, L: Width> TextReader<R, L> {
         Ok(found.is_some())
     }
 
-    /// The next record, where it lies, if it is whole at hand. Nothing is taken: `take_peeked` does
-    /// that.
+    /// Returns the next record, where it lies, if it is whole at hand. It takes nothing:
+    /// `take_peeked` does that.
     #[inline(always)]
     pub fn peek<A: AtHand<R>>(&self) -> Option<PeekedRecord<'_>>
         ensures { IfSome result (λ f.

@@ -10,7 +10,7 @@ use crate::writing::{OutFault, Sink, write_at_once, write_each, write_whole};
 /// marks.
 const LONGEST: usize = 43;
 
-/// The number of bytes that a key and a value have at most of which a line has room.
+/// The greatest number of bytes of a key and a value together that fit into a line.
 const ROOM: usize = LINE - LONGEST - 3;
 
 /// Puts what comes before the key into a line, and answers the place after it.

@@ -3,14 +3,14 @@ ghost use Rattle.std.specs.Prelude.{◌≡◌, true, ◌+◌, ◌<◌, ◌≤◌
 ghost use Rattle.cdb_form.specs.Views.Prefix.{BeginsWithBody, BeginsWithLengths, BeginsWithNumeral};
 ghost use Rattle.cdb_form.specs.Views.Prefix.{BeginsWithRecord, shown_by};
 
-/// A numeral from here on takes no further digit: so much is never at hand.
+/// A numeral that has this value or more takes no further digit: such a length is never at hand.
 const LONG: u64 = 100_000_000;
 
 /// A numeral that some bytes begin with.
 #[derive(Clone, Copy)]
 pub(crate) struct PrefixNumeral {
     pub(crate) value: u64,
-    /// The place after the byte that ends it, or 0 if there is none.
+    /// The place after the byte that ends the numeral, or 0 if there is no numeral.
     pub(crate) end: usize,
 }
 
@@ -19,7 +19,7 @@ pub(crate) struct PrefixNumeral {
 pub struct PeekedRecord<'a> {
     pub key: &'a [u8],
     pub value: &'a [u8],
-    /// The number of bytes that the reader has of it.
+    /// The number of the reader's bytes that spell the record.
     pub len: usize,
 }
 
@@ -28,7 +28,7 @@ pub struct PeekedRecord<'a> {
 pub(crate) struct PrefixLengths {
     pub(crate) klen: usize,
     pub(crate) vlen: usize,
-    /// The place of the key, or 0 if there are none.
+    /// The place of the key, or 0 if there are no lengths.
     pub(crate) end: usize,
 }
 
@@ -56,7 +56,7 @@ fn numeral(bytes: &[u8], stop: u8) -> PrefixNumeral
     PrefixNumeral { value, end: 0 }
 }
 
-/// The same, not inlined: numerals of more than three digits are rare.
+/// Does what `numeral` does, not inlined: numerals of more than three digits are rare.
 #[cold]
 #[inline(never)]
 fn long_numeral(bytes: &[u8], stop: u8) -> PrefixNumeral
@@ -66,8 +66,8 @@ fn long_numeral(bytes: &[u8], stop: u8) -> PrefixNumeral
     numeral(bytes, stop)
 }
 
-/// The short numeral of a record that some bytes begin with, with `stop` after it. At least four
-/// bytes are left of a whole record, and over as many the loop of `numeral` is unrolled.
+/// The short numeral of a record that some bytes begin with, with `stop` after it. A whole record
+/// has at least four bytes left, and over four bytes the loop of `numeral` is unrolled.
 #[inline(always)]
 fn prefix_numeral(bytes: &[u8], stop: u8) -> PrefixNumeral
     ensures begins { 0 < result.end → BeginsWithNumeral stop bytes.now result }

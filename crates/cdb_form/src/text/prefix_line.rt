@@ -13,8 +13,8 @@ use crate::text::lanes::{wide_run, word_run};
 use crate::text::prefix::PeekedRecord;
 use std::alloc::AllocError;
 
-/// Returns the number of bytes of a kind that some bytes begin with, if so many are known to be.
-/// The others are looked at one by one.
+/// Returns the number of bytes of a kind that `bytes` begins with. The first `known` bytes are
+/// known to be of it, and the others are looked at one by one.
 #[inline(always)]
 fn run_past(known: usize, kind: Kind, bytes: &[u8]) -> usize
     requires held { known ≤ length bytes.now }

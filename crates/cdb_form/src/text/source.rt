@@ -70,7 +70,7 @@ impl<R: Feeds> Source<R> {
         Ok(Some(one[0]))
     }
 
-    /// The bytes at hand, as many at most as there are requests left.
+    /// Returns the bytes at hand, but no more than there are requests left.
     #[inline(always)]
     pub(crate) fn at_hand<A: AtHand<R>>(&self) -> &[u8]
         ensures { result.now ≡ at_hand A.held self.now }

@@ -1,4 +1,4 @@
-// Why a walk of a database file ended before the record end.
+// The reasons why a walk of a database file ended before the record end.
 ghost use Rattle.std.specs.Prelude.{◌≡◌, option_map};
 ghost use Rattle.cdb_form.specs.Views.WalkFault.{walk_number, walk_message, walk_part, unread_walk};
 
@@ -7,8 +7,8 @@ use std::alloc::{AllocError, AllocFailed};
 use std::error::Error;
 use std::fmt;
 
-/// Why a walk of a database file ended before the record end. A place is counted in bytes from the
-/// file's start.
+/// The reason why a walk of a database file ended before the record end. A place is counted in
+/// bytes from the file's start.
 #[derive(Clone, Copy, Debug, PartialEq, Eq)]
 pub enum WalkFault {
     /// The file is shorter than its head.
@@ -19,12 +19,12 @@ pub enum WalkFault {
     Record(u64),
     /// The reader failed.
     Input,
-    /// Memory ran out.
+    /// An allocation failed.
     NoMemory,
 }
 
 impl WalkFault {
-    /// The number of the fault, from 1 on in the order of the variants.
+    /// Returns the number of the fault, counted from 1 in the order of the variants.
     pub fn number(&self) -> u8
         ensures { result ≡ walk_number self.now }
     {
@@ -37,8 +37,8 @@ impl WalkFault {
         }
     }
 
-    /// The fault of a walk whose reader did not give the bytes requested, if it is `early` that it
-    /// had no more.
+    /// Returns the fault of a walk whose reader did not give the bytes requested: `early` if the
+    /// reader had no more.
     pub(crate) fn of_reader(unread: ReadStop, early: WalkFault) -> WalkFault
         ensures { result ≡ unread_walk early unread }
     {
@@ -49,7 +49,7 @@ impl WalkFault {
         }
     }
 
-    /// What the fault is, in words that follow the part of the file, if it names one.
+    /// Returns the fault's message. It follows the part of the file, if the fault names one.
     pub fn message(&self) -> &'static str
         ensures { result.now ≡ walk_message self.now }
     {
@@ -62,7 +62,7 @@ impl WalkFault {
         }
     }
 
-    /// The part of the file that the fault names, and its number or place, if it names one.
+    /// Returns the part of the file that the fault names, and its number or place, if it names one.
     pub fn part(&self) -> Option<(&'static str, u64)>
         ensures { option_map (λ p. (p.0.now, p.1)) result ≡ walk_part self.now }
     {

@@ -1,6 +1,6 @@
-// How much of a record is kept.
+// The parts of a record that are kept.
 
-/// What is kept of a record that is read.
+/// The parts that are kept of a record that is read.
 #[derive(Clone, Copy)]
 pub(crate) enum Keeping {
     /// The key and the value.

@@ -16,7 +16,7 @@ use crate::walk::record_area::RecordArea;
 use crate::walk::source::{record_body, record_header};
 use crate::width::Width;
 
-/// Reads the record at the next place, and says where those after it lie.
+/// Reads the record at the next place, and returns the area of the records after it.
 #[inline(never)]
 pub(crate) fn read_record<R: Feeds, L: Width>(
     reader: &mut R,

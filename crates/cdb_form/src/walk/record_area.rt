@@ -1,4 +1,4 @@
-// Where the records of a database file are, by its head.
+// The area of the records of a database file, by its head.
 ghost use Rattle.std.specs.Prelude.{◌≡◌, ◌≤◌, drop, OnErr, IfOk, IfErr};
 ghost use Rattle.cdb_form.specs.Views.Feed.{FromTo};
 ghost use Rattle.cdb_form.specs.Views.Taking.{IsUnread, LosesAtMost, ReadsHead, ReadsNoRecord};
@@ -11,7 +11,7 @@ use crate::walk::fault::WalkFault;
 use crate::walk::source::file_head;
 use crate::width::Width;
 
-/// Where the records lie that weren't given yet: from the next place to the record end.
+/// The area of the records that weren't given yet: from the next place to the record end.
 #[derive(Clone, Copy)]
 pub(crate) struct RecordArea {
     pub(crate) place: u64,
@@ -19,7 +19,7 @@ pub(crate) struct RecordArea {
     pub(crate) ghost ordered: { place ≤ end },
 }
 
-/// Reads the head, which says where the records end.
+/// Reads the head, and returns the area of all records.
 pub(crate) fn read_area<R: Feeds, L: Width>(reader: &mut R) -> Result<RecordArea, WalkFault>
     ensures area { IfOk result (λ area.
         FromTo (R.feed reader.old) (R.feed reader.new) (λ text rest.

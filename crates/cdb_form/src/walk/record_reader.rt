@@ -22,7 +22,7 @@ use crate::width::Width;
 use std::alloc::Global;
 use std::marker::PhantomData;
 
-/// What a reader of records does next.
+/// The next step of a reader of records.
 #[derive(Clone, Copy)]
 pub(crate) enum Progress {
     AtHead,
@@ -33,7 +33,7 @@ pub(crate) enum Progress {
 
 /// Reads the records of a database file, one after the other, in one pass.
 ///
-/// It requests no byte past those that the answer needs. What follows the record end stays unread.
+/// It requests no byte past those that the answer needs. Bytes after the record end stay unread.
 #[derive(Drop)]
 pub struct RecordReader<R, L> {
     alloc: Global,
@@ -59,19 +59,19 @@ impl<R: Feeds, L: Width> RecordReader<R, L> {
         }
     }
 
-    /// Its reader, which goes on after what was read of it.
+    /// Returns the reader, which goes on after the bytes that were read.
     pub fn into_reader(self) -> R
         ensures { result ≡ reader_of self }
     {
         self.reader
     }
 
-    /// The next record, or `None` at the record end.
+    /// Returns the next record, or `None` at the record end.
     ///
-    /// After the end it answers `Ok(None)` for good, and after a fault that fault. `Short`, `Table`
-    /// and `Record` are the damage of the file, after all whole records before it; `Input` comes
-    /// if the reader failed, or was interrupted more than 1000 times in a row; `NoMemory` if
-    /// an allocation failed.
+    /// After the end it returns `Ok(None)` for good, and after a fault that fault. `Short`, `Table`
+    /// and `Record` are the damage of the file, after all whole records before it; `Input` comes if
+    /// the reader failed, or was interrupted more than 1000 times in a row; `NoMemory` if an
+    /// allocation failed.
     pub fn next(&mut self) -> Result<Option<Record>, WalkFault>
         ensures gives { IfOk result (λ found. MatchOption found
             (GivesEnd L.WORD R.feed self.old self.new)
@@ -85,9 +85,9 @@ impl<R: Feeds, L: Width> RecordReader<R, L> {
         Ok(self.read_into(&mut record)?.then_some(record))
     }
 
-    /// Reads the next record over another one, whose memory it takes, and answers whether there is
-    /// one. The answers are those of `next`, with `false` for `None`; after `false` and after a
-    /// fault the record holds anything.
+    /// Reads the next record over another one, whose memory it takes, and returns true if there is
+    /// one. It answers as `next` does, with `false` for `None`; after `false` and after a fault the
+    /// record holds anything.
     pub fn read_into(&mut self, into: &mut Record) -> Result<bool, WalkFault>
         ensures gives { IfOk result (λ given. MatchBool given
             (GivesRecord L.WORD R.feed self.old self.new (key_value into.new))
@@ -101,8 +101,7 @@ impl<R: Feeds, L: Width> RecordReader<R, L> {
     }
 
     /// Reads the key of the next record over another record. It passes over the value, which takes
-    /// no memory, and leaves the one that the other record has. The answers are those of
-    /// `read_into`.
+    /// no memory, and leaves the one that the other record has. It answers as `read_into` does.
     pub fn read_key(&mut self, into: &mut Record) -> Result<bool, WalkFault>
         ensures gives { IfOk result (λ given. MatchBool given
             (GivesKey L.WORD R.feed self.old self.new into.new.key.items)
@@ -116,8 +115,9 @@ impl<R: Feeds, L: Width> RecordReader<R, L> {
         self.read_kept(into, Keeping::Key)
     }
 
-    /// The next record, where it lies, if it is whole at hand and ends before the record end or at
-    /// it. Nothing is taken: `take_peeked` does that. Before the head was read no record is shown.
+    /// Returns the next record, where it lies, if it is whole at hand and ends before the record
+    /// end or at it. It takes nothing: `take_peeked` does that. Before the head was read no record
+    /// is shown.
     #[inline(always)]
     pub fn peek<A: AtHand<R>>(&self) -> Option<PeekedRecord<'_>>
         ensures { IfSome result (λ f. HasPeeked L.WORD A.held self.now f.len (shown_by f)) }
@@ -147,7 +147,7 @@ impl<R: Feeds, L: Width> RecordReader<R, L> {
         }
     }
 
-    /// Reads the next record, of which so much is kept, and notes what to do next.
+    /// Reads the next record, keeps the parts that `keeping` names, and notes what to do next.
     #[inline(always)]
     fn read_kept(&mut self, into: &mut Record, keeping: Keeping) -> Result<bool, WalkFault>
         ensures gives { IfOk result (λ given. MatchBool given

@@ -1,4 +1,4 @@
-// Bytes of a file from a reader. That it has no more is a damage of the file.
+// Bytes of a file from a reader. If the reader ends too early, the file is damaged.
 ghost use Rattle.std.specs.Prelude.{◌+◌, ◌≡◌, ◌<◌, length, OnOk, OnErr, IfOk, IfErr};
 ghost use Rattle.cdb_form.specs.Views.Feed.{Consumes};
 ghost use Rattle.cdb_form.specs.Format.{head_size, pair_size, AreBytes, KeyValue};
@@ -20,10 +20,10 @@ use crate::width::Width;
 
 /// The number of requests that a reader may get for the bytes of one vector: each request gives a
 /// byte or is one of at most 1000 in a row that signals interrupt, so no vector that memory can
-/// hold takes as many.
+/// hold uses them up.
 const ASKS: u64 = u64::MAX;
 
-/// How many bytes of a value that is passed over are requested at a time.
+/// The number of bytes that are requested at a time to pass over a value.
 const PASSED: usize = 512;
 
 /// Fills all of `into`, or answers `early` if the reader ends before that.
