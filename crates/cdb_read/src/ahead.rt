@@ -11,12 +11,12 @@ use crate::window::WINDOW;
 use cdb_form::Width;
 use cdb_store::Store;
 
-/// The number of bytes that can be at hand at once.
+/// The greatest number of bytes that can be at hand at a time.
 pub const AT_HAND: usize = WINDOW;
 
 impl<S: Store, L: Width> Reader<S, L> {
-    /// Has so many bytes from a place on at hand, which lie inside the file. The store is read only
-    /// if they are not, and then for `AT_HAND` bytes.
+    /// Brings the `n` bytes at a place, which lie inside the file, to hand. The store is read only
+    /// if they are not at hand yet, and then for `AT_HAND` bytes.
     #[inline(always)]
     pub fn read_ahead(&mut self, place: u64, n: usize) -> Result<(), ReadFault>
         requires short { n ≤ 4096 }
@@ -28,7 +28,7 @@ impl<S: Store, L: Width> Reader<S, L> {
         self.window.cover(&mut self.store, place, n, WINDOW)
     }
 
-    /// So many bytes from a place on, which are at hand.
+    /// Returns the `n` bytes at a place, which are at hand.
     #[inline(always)]
     pub fn at_hand(&self, place: u64, n: usize) -> &[u8]
         requires at_hand { IsAtHand self.now place n }

@@ -1,4 +1,4 @@
-// Whether the tables of a database and its records agree.
+// The check that the tables of a database and its records agree.
 pub(crate) mod collected;
 pub(crate) mod directory;
 pub(crate) mod filled_table;

@@ -1,4 +1,4 @@
-//! What changed between two databases, as an amending text.
+//! The difference of two databases, as an amending text.
 
 mod differing_values;
 mod guide;

@@ -1,4 +1,4 @@
-// Why a database was not read.
+// The reason why a database was not read.
 ghost use Rattle.std.specs.Prelude.{◌≡◌};
 ghost use Rattle.cdb_read.specs.Views.Reads.{read_number, read_message};
 
@@ -8,7 +8,7 @@ use std::alloc::{AllocError, AllocFailed};
 use std::error::Error;
 use std::fmt;
 
-/// Why a database was not read. A place is counted in bytes from the file's start.
+/// The reason why a database was not read. A place is counted in bytes from the file's start.
 #[derive(Clone, Copy, Debug, PartialEq, Eq)]
 pub enum ReadFault {
     /// The file is shorter than its head.
@@ -17,7 +17,7 @@ pub enum ReadFault {
     Table(u64),
     /// No whole record is at this place.
     Record(u64),
-    /// Of the table of the first number the slot of the second, from 0 on, is wrong.
+    /// In the table of the first number, the slot of the second, counted from 0, is wrong.
     Slot(u64, u64),
     /// The record at this place is in two slots.
     Twice(u64),
@@ -25,14 +25,14 @@ pub enum ReadFault {
     Unindexed(u64),
     /// The store failed.
     Device,
-    /// Memory ran out.
+    /// An allocation failed.
     NoMemory,
     /// The writer failed.
     Output,
 }
 
 impl ReadFault {
-    /// The number of the fault, from 1 on in the order of the variants.
+    /// Returns the number of the fault, counted from 1 in the order of the variants.
     pub fn number(&self) -> u8
         ensures { result ≡ read_number self.now }
     {
@@ -49,7 +49,7 @@ impl ReadFault {
         }
     }
 
-    /// What the fault is, in words that follow the part of the file, if it names one.
+    /// Returns the fault in words, which follow the part of the file if the fault names one.
     pub fn message(&self) -> &'static str
         ensures { result.now ≡ read_message self.now }
     {

@@ -29,16 +29,17 @@ pub fn sound_lookup<L: Width>(_bytes: &[u8], _key: &[u8])
     ensures { IsSound L.WORD _bytes.now → FindsWalked L.WORD _bytes.now _key.now }
 {}
 
-/// A search as the author of the format describes it, by which other readers go, finds the values
-/// that a look-up gives, in their order, unless that meets a damage, which it does in no sound file.
+/// A search as the author of the format describes it, and other readers do it, finds the values
+/// that a look-up gives, in their order, if the look-up meets no damage. In a sound file it meets
+/// none.
 pub fn search_is_lookup<L: Width>(_bytes: &[u8], _key: &[u8])
     ensures undamaged { (lookup_of L.WORD _bytes.now _key.now).damage ≡ None
         → FindsSearched L.WORD _bytes.now _key.now }
     ensures sound { IsSound L.WORD _bytes.now → FindsSearched L.WORD _bytes.now _key.now }
 {}
 
-/// Such a search in the file of some records, if its size fits, finds the values of the key, in the
-/// order of the records.
+/// A search as the author of the format describes it, in the file of some records, if its size
+/// fits, finds the values of the key, in the order of the records.
 pub fn search_of_file<L: Width>(_records: &[Record], _key: &[u8])
     ensures { file_size L.WORD (key_values _records.now) ≤ L.GREATEST →
         search_of L.WORD (file_bytes L.WORD (key_values _records.now)) _key.now
@@ -57,19 +58,20 @@ pub fn file_finds_in_order<L: Width>(_records: &[Record])
         FindsInOrder L.WORD (file_bytes L.WORD (key_values _records.now)) }
 {}
 
-/// The records that are left after the difference of two lists was done to the first give every key
-/// the values that it has in the second.
+/// The first of two lists, once their difference is applied to it, gives every key the values that
+/// it has in the second.
 pub fn difference_brings_up(_old: &[Record], _new: &[Record], _key: &[u8])
     ensures { values_of _key.now (brought_up (key_values _old.now) (key_values _new.now))
         ≡ values_of _key.now (key_values _new.now) }
 {}
 
-/// Nothing differs exactly if every key has the same values in both.
+/// The difference of two lists is empty exactly if every key has the same values in both.
 pub fn difference_is_empty(_old: &[Record], _new: &[Record])
     ensures { EmptyIsSame (key_values _old.now) (key_values _new.now) }
 {}
 
-/// The file of these records, if its size fits, answers each key as the second list does.
+/// The file of the first of two lists, once their difference is applied to it and if its size fits,
+/// answers each key as the second list does.
 pub fn lookup_of_brought_up<L: Width>(_old: &[Record], _new: &[Record], _key: &[u8])
     ensures { file_size L.WORD (brought_up (key_values _old.now) (key_values _new.now)) ≤ L.GREATEST →
         FindsAsIn L.WORD
@@ -77,14 +79,14 @@ pub fn lookup_of_brought_up<L: Width>(_old: &[Record], _new: &[Record], _key: &[
         _key.now (key_values _new.now) }
 {}
 
-/// And nothing differs any more.
+/// The first of two lists, once their difference is applied to it, has no difference to the second.
 pub fn brought_up_does_not_differ(_old: &[Record], _new: &[Record])
     ensures { difference (brought_up (key_values _old.now) (key_values _new.now))
         (key_values _new.now) ≡ [] }
 {}
 
-/// Whatever records the difference of two lists is done to, each key whose values differ has those
-/// of the second then, and each other key what it had. Done again it leaves the same records.
+/// Applied to any records, the difference of two lists gives each key whose values differ its
+/// values in the second, and leaves each other key its values. Applied again, it changes nothing.
 pub fn difference_again(_old: &[Record], _new: &[Record], _other: &[Record], _key: &[u8])
     ensures changed { is_changed (key_values _new.now) (key_values _old.now) _key.now ≡ true
         → values_of _key.now (amended (key_values _other.now)

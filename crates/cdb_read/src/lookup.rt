@@ -1,4 +1,4 @@
-// A key is looked up.
+// Look-ups of keys.
 pub(crate) mod bytes_at;
 pub(crate) mod finder;
 pub(crate) mod first_value;

@@ -13,7 +13,7 @@ use crate::span::Span;
 use cdb_form::{Sink, write_whole};
 use cdb_store::Store;
 
-/// Fills `into` with the bytes from a place on.
+/// Fills `into` with the bytes at a place.
 pub(crate) fn read_part<S: Store>(
     store: &mut S,
     place: u64,
@@ -30,7 +30,7 @@ pub(crate) fn read_part<S: Store>(
     }
 }
 
-/// Writes the bytes of a span, as many at once as a piece has.
+/// Writes the bytes of a span, a piece at a time.
 pub(crate) fn copy_span<S: Store, W: Sink>(
     store: &mut S,
     span: Span,

@@ -21,7 +21,7 @@ use cdb_store::Store;
 use std::alloc::Global;
 use std::marker::PhantomData;
 
-/// A store in which no database was opened, and why.
+/// A store and the reason why no database was opened in it.
 #[derive(Drop)]
 pub struct Unread<S> {
     /// The store.
@@ -33,7 +33,7 @@ pub struct Unread<S> {
 impl<S: Drop> From<Unread<S>> for ReadFault {
     ghost from_gives = { λ u f. f ≡ u.fault };
 
-    /// Lets the store go.
+    /// Drops the store.
     fn from(unread: Unread<S>) -> ReadFault {
         unread.fault
     }
@@ -42,15 +42,15 @@ impl<S: Drop> From<Unread<S>> for ReadFault {
 /// A database in a store.
 #[derive(Drop)]
 pub struct Reader<S: Store, L: Width> {
-    /// Where the database is.
+    /// The store that holds the database.
     pub(crate) store: S,
     /// The pointers to the tables.
     pub(crate) head: Head,
-    /// Through which records are read, their values, and the slots of a whole table.
+    /// The window for records, their values, and the slots of a whole table.
     pub(crate) window: Window,
-    /// Through which the slots of a search are read.
+    /// The window for the slots of a search.
     pub(crate) slots: Window,
-    /// How wide a word is.
+    /// The width of a word.
     pub(crate) width: PhantomData<L>,
     ghost fits: { S.size store < 2 ^ 64 },
     ghost long: { head_size L.WORD ≤ S.size store },
@@ -62,8 +62,9 @@ pub struct Reader<S: Store, L: Width> {
 impl<S: Store, L: Width> Reader<S, L> {
     ghost use Rattle.cdb_read.specs.Views.Reader.{Opens};
 
-    /// A reader of the database in a store, of which it reads the head. The store is returned if
-    /// that failed: it is `Short`, or a `Device` failed.
+    /// Reads the head of the database in a store, and returns a reader of it. If that failed, it
+    /// returns the store, with `Short` if the store is shorter than a head and `Device` if it
+    /// failed.
     pub fn open(store: S) -> Result<Reader<S, L>, Unread<S>>
         ensures reads { IfOk result (λ r. Opens store r) }
         ensures fails { IfErr result (λ u. OpeningFails L.WORD S.Store store u.store u.fault) }
@@ -74,7 +75,7 @@ impl<S: Store, L: Width> Reader<S, L> {
             let fault = ReadFault::Short;
             return Err(Unread { store, fault });
         }
-        // The longest head, that of words of 8 bytes, is as long as a window.
+        // The longest head, with words of 8 bytes, is as long as a window.
         let mut bytes = [0u8; WINDOW];
         match read_part(&mut store, 0, &mut bytes[..size]) {
             Ok(()) => {}
@@ -90,8 +91,8 @@ impl<S: Store, L: Width> Reader<S, L> {
         })
     }
 
-    /// Writes the bytes of a span, which lies inside the file. What was read ahead is not read
-    /// again. After a fault the writer holds a prefix of them.
+    /// Writes the bytes of a span, which lies inside the file. Bytes that were read ahead are not
+    /// read again. After a fault the writer holds a prefix of the span's bytes.
     #[inline(always)]
     pub fn copy<W: Sink>(&mut self, span: Span, w: &mut W) -> Result<(), ReadFault>
         requires inside { span.place + span.len ≤ S.size self.old.store }
@@ -109,7 +110,8 @@ impl<S: Store, L: Width> Reader<S, L> {
         copy_span(&mut self.store, span, &mut self.window.bytes, w)
     }
 
-    /// The bytes of a span, which lies inside the file. Memory is taken as they come.
+    /// Returns the bytes of a span, which lies inside the file. Memory is allocated as they are
+    /// read.
     pub fn value(&mut self, alloc: Global, span: Span) -> Result<Vec<u8>, ReadFault>
         requires inside { span.place + span.len ≤ S.size self.old.store }
         ensures reads { OnlyReads S.Store self.old.store self.new.store }
@@ -122,8 +124,8 @@ impl<S: Store, L: Width> Reader<S, L> {
         Ok(taken)
     }
 
-    /// Reads the bytes of a span, which lies inside the file, over a vector, whose memory it takes.
-    /// The vector grows as they come; after a fault it holds anything.
+    /// Replaces what a vector holds with the bytes of a span, which lies inside the file. The
+    /// vector keeps its memory and grows as they are read; after a fault it holds anything.
     pub(crate) fn take_into(&mut self, span: Span, into: &mut Vec<u8>) -> Result<(), ReadFault>
         requires inside { span.place + span.len ≤ S.size self.old.store }
         ensures reads { OnlyReads S.Store self.old.store self.new.store }
@@ -142,8 +144,8 @@ impl<S: Store, L: Width> Reader<S, L> {
         self.store.len()
     }
 
-    /// Returns true if no table of its file has slots, though bytes follow the head: so a file with
-    /// words of the other width looks. An empty one of this width ends after its head.
+    /// Returns true if no table of its file has slots, though bytes follow the head, as in a file
+    /// with words of the other width. An empty file of this width ends after its head.
     pub fn lacks_tables(&self) -> bool
         ensures { (b : List ℕ) → S.image self.now.store b → result ≡ lacks_tables L.WORD b }
     {
@@ -151,15 +153,15 @@ impl<S: Store, L: Width> Reader<S, L> {
         is_longer && !any_slots(&self.head.pointers)
     }
 
-    /// The number of the first table with slots that doesn't lie after the head and inside the
-    /// file.
+    /// Returns the number of the first table with slots that doesn't lie after the head and inside
+    /// the file.
     pub fn outside_table(&self) -> Option<u64>
         ensures { (b : List ℕ) → S.image self.now.store b → result ≡ outside_table L.WORD b }
     {
         first_outside::<L>(&self.head.pointers, self.store.len())
     }
 
-    /// Its store, as it is.
+    /// Returns its store, unchanged.
     pub fn into_store(self) -> S
         ensures { result ≡ self.store }
     {

@@ -1,4 +1,4 @@
-// Where keys and values lie in a file.
+// The places of keys and values in a file.
 ghost use Rattle.std.specs.Prelude.{◌≡◌, ◌+◌, ◌<◌, ◌≤◌, MatchOption};
 ghost use Rattle.std.specs.Bool.{Decides};
 ghost use Rattle.cdb_form.specs.Format.{pair_size};
@@ -9,24 +9,24 @@ use cdb_form::{Header, Width, pair_size};
 /// Some bytes of a file.
 #[derive(Clone, Copy, Debug, PartialEq, Eq)]
 pub struct Span {
-    /// The place of the first of them, in bytes from the file's start.
+    /// The place of the first byte, in bytes from the file's start.
     pub place: u64,
-    /// Their number.
+    /// The number of bytes.
     pub len: u64,
 }
 
-/// Where a record of a file lies.
+/// The place of a record of a file, and the spans of its key and its value.
 #[derive(Clone, Copy, Debug, PartialEq, Eq)]
 pub struct Pair {
     /// The place of the record.
     pub place: u64,
-    /// Its key.
+    /// The span of the key.
     pub key: Span,
-    /// Its value.
+    /// The span of the value.
     pub value: Span,
 }
 
-/// Returns true if a file of so many bytes has `len` bytes from a place on.
+/// Returns true if a file of `size` bytes has `len` bytes at a place.
 #[inline(always)]
 pub fn has_bytes(size: u64, place: u64, len: u64) -> bool
     ensures { Decides result (place + len ≤ size) }
@@ -34,8 +34,8 @@ pub fn has_bytes(size: u64, place: u64, len: u64) -> bool
     place <= size && len <= size - place
 }
 
-/// Where the key and the value of the record with this header lie. The record is at a place before
-/// a limit. If it passes the limit, the answer is `None`.
+/// Returns the spans of the record at a place that has this header, or `None` if the record passes
+/// the limit. The header does not pass it.
 #[inline(always)]
 pub fn spans<L: Width>(place: u64, header: Header, limit: u64) -> Option<Pair>
     requires { place + pair_size L.WORD ≤ limit }

@@ -1,4 +1,4 @@
-// What a database holds, counted.
+// Counts of what a database holds.
 pub(crate) mod count;
 pub(crate) mod distances;
 pub(crate) mod lengths;

@@ -19,8 +19,8 @@ use crate::window::{WINDOW, Window};
 use cdb_form::{Pointer, Slot, Width, home_slot, pair_size, read_slot};
 use cdb_store::Store;
 
-/// The number of the first table with slots that doesn't lie after the head and inside a file of
-/// so many bytes.
+/// Returns the number of the first table with slots that doesn't lie after the head and inside a
+/// file of `size` bytes.
 pub(crate) fn first_outside<L: Width>(tables: &[Pointer], size: u64) -> Option<u64>
     ensures first { (b : List ℕ) → length b ≡ size
         → result ≡ position (is_outside L.WORD b) (map pointer_pair tables.now) }
@@ -42,7 +42,7 @@ pub(crate) fn any_slots(tables: &[Pointer]) -> bool
     tables.iter().any(|table| table.slots != 0)
 }
 
-/// Returns the number of slots that the tables have that have some.
+/// Returns the spread of the numbers of slots of the tables that have slots.
 pub(crate) fn sizes_of(tables: &[Pointer]) -> Spread
     ensures { Spreads result (table_sizes (map pointer_pair tables.now)) }
 {
@@ -56,7 +56,7 @@ pub(crate) fn sizes_of(tables: &[Pointer]) -> Spread
     sizes
 }
 
-/// How far a slot lies after the one at which the search for a hash begins.
+/// Returns how far slot `n` lies after the slot at which the search for a hash begins.
 pub(crate) fn distance_of(slots: u64, hash: u64, n: u64) -> u64
     requires { n < slots }
     ensures distance { result ≡ distance (home_slot hash slots) slots n }
@@ -70,7 +70,7 @@ pub(crate) fn distance_of(slots: u64, hash: u64, n: u64) -> u64
     }
 }
 
-/// A slot of a table. If the window lacks it, the store is read, for `ahead` bytes.
+/// Returns slot `n` of a table. If the window lacks it, the store is read, for `ahead` bytes.
 #[inline(always)]
 pub(crate) fn slot_at<S: Store, L: Width>(
     store: &mut S,
@@ -95,7 +95,7 @@ pub(crate) fn slot_at<S: Store, L: Width>(
     Ok(read_slot::<L>(window.shown(place, slot_size)))
 }
 
-/// Counts the used slots of a table. Many are read at a time.
+/// Counts the used slots of a table in `distances`. Many slots are read at a time.
 fn count_table<S: Store, L: Width>(
     store: &mut S,
     table: Pointer,

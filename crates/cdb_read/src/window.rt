@@ -17,23 +17,23 @@ pub(crate) const WINDOW: usize = 4096;
 /// Bytes of a store that were read, and their place.
 #[derive(Drop)]
 pub(crate) struct Window {
-    /// The bytes, and after them others.
+    /// The bytes that were read, and after them others.
     pub(crate) bytes: [u8; WINDOW],
-    /// The place of the first of them.
+    /// The place of the first byte that was read.
     pub(crate) place: u64,
-    /// Their number.
+    /// The number of bytes that were read.
     pub(crate) len: usize,
 }
 
 impl Window {
-    /// A window that shows nothing.
+    /// Returns a window that shows nothing.
     pub(crate) fn new() -> Window
         ensures { result.len ≡ 0 }
     {
         Window::over([0; WINDOW])
     }
 
-    /// A window over these bytes, which shows nothing.
+    /// Returns a window over these bytes, which shows nothing.
     pub(crate) fn over(bytes: [u8; WINDOW]) -> Window
         ensures { result.len ≡ 0 }
     {
@@ -44,14 +44,14 @@ impl Window {
         }
     }
 
-    /// Returns true if so many bytes from a place on are among its own.
+    /// Returns true if the window has the `n` bytes at a place.
     pub(crate) fn covers(&self, place: u64, n: u64) -> bool
         ensures { OnTrue result (Covers self.now place n) }
     {
         self.place <= place && has_bytes(self.len as u64, place - self.place, n)
     }
 
-    /// So many of its bytes, from a place on.
+    /// Returns the `n` bytes at a place, which the window has.
     pub(crate) fn shown(&self, place: u64, n: usize) -> &[u8]
         requires short { self.now.len ≤ 4096 }
         requires covers { Covers self.now place n }
@@ -62,7 +62,7 @@ impl Window {
         &self.bytes[at..at + n]
     }
 
-    /// Reads `most` bytes from a place on, or as many as there are, or as it has room for.
+    /// Reads `most` bytes at a place, or fewer if the store or the window ends before.
     fn fill<S: Store>(&mut self, store: &mut S, place: u64, most: usize) -> Result<(), ReadFault>
         requires inside { place ≤ S.size store.old }
         ensures place { OnOk result (self.new.place ≡ place) }
@@ -79,8 +79,8 @@ impl Window {
         Ok(())
     }
 
-    /// Covers so many bytes from a place on. If the window lacks them, the store is read, for
-    /// `ahead` bytes.
+    /// Covers the `n` bytes at a place. If the window lacks them, the store is read, for `ahead`
+    /// bytes or `n` if that is more.
     #[inline(always)]
     pub(crate) fn cover<S: Store>(
         &mut self,
@@ -103,8 +103,8 @@ impl Window {
         self.fill(store, place, n.max(ahead))
     }
 
-    /// Covers so many bytes from a place on. If the window lacks them, the store is read up to
-    /// their end: as many bytes before them as the window has room for, from `least` on.
+    /// Covers the `n` bytes at a place. If the window lacks them, it is filled with the bytes that
+    /// end with them; if these would begin before `least`, with bytes that begin at `least`.
     pub(crate) fn cover_back<S: Store>(
         &mut self,
         store: &mut S,

@@ -12,7 +12,8 @@ use cdb_form::Width;
 use cdb_store::Store;
 use std::alloc::Global;
 
-/// The place of each record, and the hash of its key, in the list of its table. None is marked.
+/// Returns the place of each record, and the hash of its key, in the list of its table. None is
+/// marked.
 pub(crate) fn walk_entries<S: Store, L: Width>(
     alloc: Global,
     reader: &mut Reader<S, L>,

@@ -1,30 +1,31 @@
-// Where among rising places a place may be.
+// A directory of rising places, which shortens the search for a place.
 ghost use Rattle.std.specs.Prelude.{◌≡◌, ℕ, ◌<◌, ◌≤◌, length, get_or, true};
 ghost use Rattle.std.specs.List.Sorted.{IsStrictlyIncreasing};
 
 use std::alloc::{AllocError, Global};
 
-/// The numbers from `from` on and below `to`.
+/// The numbers that are at least `from` and less than `to`.
 #[derive(Clone, Copy)]
 pub(crate) struct Between {
     pub(crate) from: usize,
     pub(crate) to: usize,
 }
 
-/// The number of the first place in each bucket of as many bytes, for places that rise.
+/// The number of the first place in each bucket, for places that rise. All buckets have the same
+/// number of bytes.
 ///
-/// It shortens a search and decides nothing: what it says is compared with the places.
+/// It shortens a search and decides nothing: its answers are compared with the places.
 #[derive(Drop)]
 pub(crate) struct Directory {
-    /// The number of the first place that lies in the bucket or after it, and at the end that of
-    /// all.
+    /// For each bucket the number of the first place in it or after it, and last the number of
+    /// places.
     firsts: Vec<usize>,
-    /// A bucket has 2 to the power of this many bytes.
+    /// A bucket has 2 to the power of `shift` bytes.
     shift: u32,
     ghost short: { shift < 64 },
 }
 
-/// The first place of each bucket. Without places there are no buckets.
+/// Returns the number of the first place of each bucket. Without places there are no buckets.
 fn firsts_of(alloc: Global, places: &[u64], shift: u32) -> Result<Vec<usize>, AllocError>
     requires { shift < 64 }
 {
@@ -44,9 +45,9 @@ fn firsts_of(alloc: Global, places: &[u64], shift: u32) -> Result<Vec<usize>, Al
 }
 
 impl Directory {
-    /// The directory of some places: 4 bytes a place. If they are spread evenly, a bucket has two
-    /// to four of them. If an allocation fails the directory is empty, and a search goes through
-    /// all places.
+    /// Returns the directory of some places: 4 bytes a place. If they are spread evenly, a bucket
+    /// has two to four of them. If an allocation fails the directory is empty, and a search goes
+    /// through all places.
     pub(crate) fn of(alloc: Global, places: &[u64]) -> Directory {
         let most = places.last().copied().unwrap_or(0);
         let bytes = most / (places.len() as u64 / 4 + 1);
@@ -58,7 +59,7 @@ impl Directory {
         Directory { firsts, shift }
     }
 
-    /// Between which numbers a place is, if it is one of these places.
+    /// Returns a range that holds the number of a place, if it is one of these places.
     pub(crate) fn between(&self, places: &[u64], place: u64) -> Between
         ensures within { (result.from ≤ result.to) × (result.to ≤ length places.now) }
         ensures holds { IsStrictlyIncreasing places.now → (k : ℕ) → k < length places.now
@@ -79,7 +80,7 @@ impl Directory {
     }
 }
 
-/// Returns true if the places before this number are below a place.
+/// Returns true if the places before number `n` are below a place.
 fn is_below(places: &[u64], n: usize, place: u64) -> bool
     ensures { result ≡ true → IsStrictlyIncreasing places.now → (k : ℕ) → k < n
         → get_or places.now k 0 ≡ place → ⊥ }
@@ -87,7 +88,7 @@ fn is_below(places: &[u64], n: usize, place: u64) -> bool
     n == 0 || (n <= places.len() && places[n - 1] < place)
 }
 
-/// Returns true if the places from this number on are above a place.
+/// Returns true if place number `n` and those after it are above a place.
 fn is_above(places: &[u64], n: usize, place: u64) -> bool
     ensures within { result ≡ true → n ≤ length places.now }
     ensures above { result ≡ true → IsStrictlyIncreasing places.now → (k : ℕ) → n ≤ k

@@ -17,7 +17,7 @@ use cdb_form::{Pointer, Width, pair_size, put_entry};
 use cdb_store::Store;
 use std::alloc::{AllocError, Global};
 
-/// Leaves the slots of the table of some records, put in their order, in bytes that are zeros.
+/// Fills bytes that are zeros with the slots of the table of some records, put in their order.
 fn put_all<L: Width>(bytes: &mut [u8], runs: &mut [u32], entries: &TableRecords)
     requires fits { (k : ℕ) → k < length entries.now.places.items
         → get_or entries.now.places.items k 0 ≤ L.TOP }
@@ -31,7 +31,8 @@ fn put_all<L: Width>(bytes: &mut [u8], runs: &mut [u32], entries: &TableRecords)
     }
 }
 
-/// The bytes of the table of some records, put in their order. It has two slots for each.
+/// Returns the bytes of the table of some records, put in their order. It has two slots for each
+/// record.
 fn fill_table<L: Width>(
     alloc: Global,
     entries: &TableRecords,
@@ -52,7 +53,7 @@ fn fill_table<L: Width>(
 }
 
 /// Returns true if table `n` is what its records make of it, put in their order, and no slot points
-/// to one of them yet. It counts as another one if memory for it is refused.
+/// to one of them yet. Returns false also if an allocation fails.
 pub(crate) fn is_filled<S: Store, L: Width>(
     alloc: Global,
     store: &mut S,

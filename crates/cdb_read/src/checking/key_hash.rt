@@ -14,7 +14,7 @@ use crate::window::{WINDOW, Window};
 use cdb_form::{Width, hash, hash_more};
 use cdb_store::Store;
 
-/// The hash of the bytes of a span, which are read in pieces. No memory is taken.
+/// Returns the hash of the bytes of a span, which are read in pieces. No memory is allocated.
 #[inline(always)]
 fn span_hash<S: Store>(store: &mut S, window: &mut Window, span: Span) -> Result<u32, ReadFault>
     requires inside { span.place + span.len ≤ S.size store.old }
@@ -38,7 +38,8 @@ fn span_hash<S: Store>(store: &mut S, window: &mut Window, span: Span) -> Result
 }
 
 impl<S: Store, L: Width> Reader<S, L> {
-    /// The hash of the bytes of a span, which lies inside the file. They are read in pieces.
+    /// Returns the hash of the bytes of a span, which lies inside the file. They are read in
+    /// pieces.
     #[inline(always)]
     pub fn hash(&mut self, span: Span) -> Result<u32, ReadFault>
         requires inside { span.place + span.len ≤ S.size self.old.store }
@@ -53,7 +54,8 @@ impl<S: Store, L: Width> Reader<S, L> {
 }
 
 impl<'a, S: Store, L: Width> Walk<'a, S, L> {
-    /// The hash of the bytes of a span, which lies inside the file. What is left of the walk stays.
+    /// Returns the hash of the bytes of a span, which lies inside the file. The walk stays where it
+    /// is.
     pub(crate) fn hash(&mut self, span: Span) -> Result<u32, ReadFault>
         requires inside { span.place + span.len ≤ S.size self.old.reader.now.store }
         ensures same_reader { self.new.reader.ghost_name ≡ self.old.reader.ghost_name }

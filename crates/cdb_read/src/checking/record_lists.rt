@@ -9,7 +9,7 @@ use crate::checking::table_records::TableRecords;
 use cdb_form::table_number;
 use std::alloc::{AllocError, Global};
 
-/// 256 lists without records, one for each table.
+/// Returns 256 lists without records, one for each table.
 pub(crate) fn no_lists(alloc: Global) -> Result<Vec<TableRecords>, AllocError>
     ensures { IfOk result (λ lists. ListsMark lists.items [] []) }
 {
@@ -20,7 +20,7 @@ pub(crate) fn no_lists(alloc: Global) -> Result<Vec<TableRecords>, AllocError>
     Ok(lists)
 }
 
-/// One more record in the list of its table, to which no slot points.
+/// Adds a record to the list of its table. No slot points to it yet.
 pub(crate) fn add_entry(
     lists: &mut Vec<TableRecords>,
     place: u64,
@@ -34,7 +34,7 @@ pub(crate) fn add_entry(
     lists[table_number(u64::from(hash))].push(place, hash)
 }
 
-/// The lesser of two places, if there are any.
+/// Returns the lesser of two places, if there are any.
 fn earlier(first: Option<u64>, other: Option<u64>) -> Option<u64>
     ensures { result ≡ earlier_of first other }
 {
@@ -45,7 +45,7 @@ fn earlier(first: Option<u64>, other: Option<u64>) -> Option<u64>
     }
 }
 
-/// The place of the first record to which no slot points.
+/// Returns the place of the first record that no slot points to.
 pub(crate) fn first_unmarked(lists: &[TableRecords]) -> Option<u64>
     ensures { (entries slots : List WordPair) → ListsMark lists.now entries slots
         → option_map (λ place. Unindexed place) result ≡ first_of (lost_fault slots) entries }

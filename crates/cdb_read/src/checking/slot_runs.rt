@@ -15,7 +15,7 @@ use crate::window::{WINDOW, Window};
 use cdb_form::{Pointer, Slot, Width, pair_size};
 use cdb_store::Store;
 
-/// How many used slots in a row end some slots, if so many end those before the last.
+/// Returns the length of the run of used slots that ends with `slot`, after a run of length `run`.
 pub(crate) fn run_with(run: u64, slot: Slot) -> u64
     requires { run < 2 ^ 63 }
     ensures run { (slots : List WordPair) → run ≡ run_of slots
@@ -25,8 +25,8 @@ pub(crate) fn run_with(run: u64, slot: Slot) -> u64
     if slot.place == 0 { 0 } else { run + 1 }
 }
 
-/// How many used slots in a row end a table. The last are looked at first, and many are read at a
-/// time.
+/// Returns the length of the run of used slots that ends a table. It is counted from the last slot
+/// back, and many slots are read at a time.
 pub(crate) fn last_run<S: Store, L: Width>(
     store: &mut S,
     table: Pointer,

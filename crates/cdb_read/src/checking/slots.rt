@@ -18,8 +18,8 @@ use cdb_form::{Pointer, Slot, Width, table_number};
 use cdb_store::Store;
 use std::alloc::Global;
 
-/// Checks used slot `i` of table `n`, of which is known whether a search comes to it. Its record is
-/// marked if the slot is right.
+/// Checks used slot `i` of table `n`, and marks its record if the slot is right. `is_reached` is
+/// true if a search comes to the slot.
 fn check_slot(
     entries: &mut TableRecords,
     directory: &Directory,
@@ -46,9 +46,9 @@ fn check_slot(
     Ok(())
 }
 
-/// Checks table `n` against the records of its list, and marks these: at once if the table is what
-/// they make of it, else slot by slot. The run of used slots before each slot is known as the slots
-/// pass, so no way to a slot is gone twice.
+/// Checks table `n` against the records of its list, and marks these: all in one step if the table
+/// is what they make of it, else slot by slot. The run of used slots before each slot is known as
+/// the slots pass, so no way to a slot is gone twice.
 fn check_table<S: Store, L: Width>(
     alloc: Global,
     store: &mut S,
@@ -84,7 +84,7 @@ fn check_table<S: Store, L: Width>(
     Ok(())
 }
 
-/// Checks the slots of all tables, each against the records of its list alone, and marks these.
+/// Checks the slots of all tables, each against the records of its list only, and marks these.
 pub(crate) fn check_tables<S: Store, L: Width>(
     alloc: Global,
     store: &mut S,

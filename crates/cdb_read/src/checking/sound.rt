@@ -1,4 +1,4 @@
-// Whether a file is sound.
+// The check whether a file is sound.
 ghost use Rattle.std.specs.Prelude.{◌≡◌, ℕ, List, All, map, length, OnOk, IfErr};
 ghost use Rattle.cdb_form.specs.Views.Pairs.{pointer_pair};
 ghost use Rattle.cdb_read.specs.Sound.{IsSound};
@@ -40,23 +40,23 @@ impl<S: Store, L: Width> Reader<S, L> {
     }
 }
 
-/// Checks whether a file is sound: its tables and its records lie where they should, and the slots
-/// that are used are those of the records, one each, where a search for the hash comes to it.
+/// Checks whether a file is sound: its tables and its records lie where they should, and used slots
+/// and records match one to one, each slot where a search for its hash comes to it.
 ///
-/// It answers the first fault that there is, in this order: `Table`, the first table by its number
-/// that has slots and doesn't lie after the head and inside the file; `Record` if no whole
-/// record is there; at the first used slot that is wrong `Slot`, if no record has its hash and its
-/// place, its hash is of another table, or an empty slot lies on the way from where its search
-/// begins, and else `Twice`, if an earlier slot has its record; and `Unindexed`, the first
-/// record that no slot has. `NoMemory` and `Device` come if memory ran out or the store failed.
+/// It returns the first fault, in this order. `Table`: the first table by its number with slots
+/// that doesn't lie after the head and inside the file. `Record`: no whole record is there. `Slot`:
+/// the first wrong used slot, if no record has its hash and its place, its hash belongs to another
+/// table, or an empty slot lies on the way from where its search begins. Else `Twice`: an earlier
+/// slot has its record. `Unindexed`: the first record that no slot has. `NoMemory` and `Device`: an
+/// allocation or the store failed.
 ///
-/// The walk, and then the slots, are read through the window, 4096 bytes at once. A table that is
+/// The walk, and then the slots, are read through the window, 4096 bytes at a time. A table that is
 /// what its records make of it, put in their order, is right as a whole; another is checked slot by
 /// slot.
 ///
-/// It takes 13 bytes of memory a record. For those of one table it takes 24 more, or 40 if words
-/// are wide, and does without if they are refused. Its time is in order n log n. Whatever it
-/// answers, the reader stays as usable as it was.
+/// It takes 13 bytes of memory a record. For one table's records it takes 24 more a record, or 40
+/// if words are wide, and does without if that allocation fails. Its time is in order n log n.
+/// Whatever it returns, the reader stays as usable as it was.
 pub fn check<L: Width, S: Store>(alloc: Global, reader: &mut Reader<S, L>) -> Result<(), ReadFault>
     ensures reads { OnlyReads S.Store reader.old.store reader.new.store }
     ensures sound { (b : List ℕ) → S.image reader.new.store b

@@ -10,11 +10,11 @@ use std::alloc::{AllocError, Global};
 /// Places, hashes and marks are kept apart, so a search for a place reads little else.
 #[derive(Drop)]
 pub(crate) struct TableRecords {
-    /// Where each record lies, in bytes from the file's start.
+    /// The place of each record, in bytes from the file's start.
     places: Vec<u64>,
     /// The hash of each record's key.
     hashes: Vec<u32>,
-    /// True if a slot points to the record.
+    /// For each record, true if a slot points to it.
     marks: Vec<bool>,
     ghost paired: { length hashes.items ≡ length places.items },
     ghost marked: { length marks.items ≡ length places.items },
@@ -30,7 +30,7 @@ impl TableRecords {
     ghost use Rattle.cdb_read.specs.Views.TableRecords.{entry_pairs, HasEntry, HasMore, Marks};
     ghost use Rattle.cdb_read.specs.Views.Check.{AreFresh};
 
-    /// No records.
+    /// Returns a list without records.
     pub(crate) fn new(alloc: Global) -> TableRecords
         ensures entries { entry_pairs result ≡ [] }
         ensures marks { result.marks.items ≡ [] }
@@ -42,7 +42,7 @@ impl TableRecords {
         }
     }
 
-    /// One more record after the others, to which no slot points. If memory is refused, the
+    /// Adds a record after the others. No slot points to it yet. If an allocation fails, the
     /// records stay.
     pub(crate) fn push(&mut self, place: u64, hash: u32) -> Result<(), AllocError>
         ensures { OnOk result (HasMore self.old self.new place hash) }
@@ -56,14 +56,14 @@ impl TableRecords {
         Ok(())
     }
 
-    /// Returns their number.
+    /// Returns the number of records.
     pub(crate) fn len(&self) -> usize
         ensures { result ≡ length self.now.places.items }
     {
         self.places.len()
     }
 
-    /// The slot that points to a record.
+    /// Returns the slot that points to record `k`.
     #[inline(always)]
     pub(crate) fn slot(&self, k: usize) -> Slot
         requires { k < length self.now.places.items }
@@ -77,7 +77,7 @@ impl TableRecords {
         }
     }
 
-    /// Returns true if all of them have table `n` and places of at most `top`, and no slot points
+    /// Returns true if all records have table `n` and places of at most `top`, and no slot points
     /// to one.
     pub(crate) fn are_fresh(&self, n: u64, top: u64) -> bool
         ensures { result ≡ true → AreFresh n top self.now }
@@ -91,7 +91,7 @@ impl TableRecords {
         true
     }
 
-    /// Notes that a slot points to each of them.
+    /// Notes that a slot points to each record.
     pub(crate) fn mark_all(&mut self)
         ensures places { self.new.places ≡ self.old.places }
         ensures hashes { self.new.hashes ≡ self.old.hashes }
@@ -100,12 +100,12 @@ impl TableRecords {
         self.marks.fill(true);
     }
 
-    /// A directory of the places.
+    /// Returns a directory of the places.
     pub(crate) fn directory(&self, alloc: Global) -> Directory {
         Directory::of(alloc, &self.places)
     }
 
-    /// The number of the record that has the place and the hash of a slot.
+    /// Returns the number of the record that has the place and the hash of a slot.
     pub(crate) fn number_of(&self, directory: &Directory, slot: Slot) -> Option<usize>
         ensures within { IfSome result (λ k. k < length self.now.places.items) }
         ensures finds { IsStrictlyIncreasing self.now.places.items → MatchOption result
@@ -126,7 +126,7 @@ impl TableRecords {
         }
     }
 
-    /// Returns true if a slot points to a record.
+    /// Returns true if a slot points to record `k`.
     pub(crate) fn is_marked(&self, k: usize) -> bool
         requires { k < length self.now.places.items }
         ensures { result ≡ get_or self.now.marks.items k false }
@@ -134,7 +134,7 @@ impl TableRecords {
         self.marks[k]
     }
 
-    /// Notes that a slot points to a record.
+    /// Notes that a slot points to record `k`.
     pub(crate) fn mark(&mut self, k: usize)
         requires { k < length self.old.places.items }
         ensures places { self.new.places ≡ self.old.places }
@@ -144,7 +144,7 @@ impl TableRecords {
         self.marks[k] = true;
     }
 
-    /// The place of the first record to which no slot points.
+    /// Returns the place of the first record that no slot points to.
     pub(crate) fn first_unmarked(&self) -> Option<u64>
         ensures { (entries slots : List WordPair) → Marks self.now entries slots
             → option_map (λ place. Unindexed place) result

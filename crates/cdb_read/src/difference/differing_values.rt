@@ -1,4 +1,4 @@
-// Whether a key has other values in another database.
+// The comparison of a key's values in two databases.
 ghost use Rattle.std.specs.Prelude.{◌≡◌, ◌+◌, ◌<◌, ◌≤◌, ◌∷◌, ℕ, List, [], IfOk, IfErr, MatchOption, length, map};
 ghost use Rattle.std.specs.Bool.{Decides};
 ghost use Rattle.cdb_read.specs.Difference.{values_eq};
@@ -13,7 +13,7 @@ use cdb_form::Width;
 use cdb_store::Store;
 
 /// Returns true if two values have the same bytes. They are read piece by piece, up to the first
-/// that differs.
+/// piece that differs.
 fn same_bytes<L: Width, S: Store, T: Store>(
     own: &mut Finder<'_, S, L>,
     value: Span,
@@ -55,7 +55,7 @@ fn same_bytes<L: Width, S: Store, T: Store>(
     Ok(true)
 }
 
-/// The next value of the other finder.
+/// Returns the next value of the other finder.
 fn next_other<L: Width, T: Store>(other: &mut Finder<'_, T, L>) -> Result<Option<Span>, Stop>
     ensures looks { LooksOn other.old other.new }
     ensures gives { IfOk result (λ found. MatchOption found
@@ -83,8 +83,8 @@ fn ends<L: Width, T: Store>(other: &mut Finder<'_, T, L>) -> Result<bool, Stop>
     }
 }
 
-/// Returns true if a value and those that its finder has left are, one by one, those that another
-/// finder has left. The first that differs ends it.
+/// Returns true if a value and the values that its finder has left equal, one by one, the values
+/// that another finder has left. The first that differs ends the comparison.
 fn same_values<L: Width, S: Store, T: Store>(
     own: &mut Finder<'_, S, L>,
     first: Span,

@@ -1,4 +1,4 @@
-// Which of two walks goes on if their records differ.
+// The choice of the walk that goes on if the records of two walks differ.
 ghost use Rattle.std.specs.Prelude.{◌≡◌, ◌≢◌, ◌+◌, ◌≤◌, IfErr, IfOk};
 ghost use Rattle.cdb_read.specs.Views.Walking.{record_in};
 ghost use Rattle.cdb_read.specs.Differing.{InBoth, BytesStop, ahead_of, bytes_between, IsInside, ReadBoth};
@@ -10,23 +10,24 @@ use crate::{AT_HAND, Pair, ReadFault, Reader, Span};
 use cdb_form::Width;
 use cdb_store::Store;
 
-/// How far ahead, in bytes, a key may be at first if one walk alone is to go on to it.
+/// The greatest distance, in bytes, at which a key may be at first if one walk alone is to go on to
+/// it.
 const REACH: u64 = 4096;
 
 /// The number of equal records that pay for a look.
 const PRICE: u64 = 4;
 
-/// What is paid at first, and at most: 1024 looks.
+/// The credit at first, and at most: it pays for 1024 looks.
 const CREDIT: u64 = 4096;
 
-/// Which of two walks goes on.
+/// The walk that goes on.
 #[derive(Clone, Copy)]
 pub(crate) enum Advance {
     /// Both: they have the same record.
     Same,
     /// The own walk, past a record that the other one does not have here.
     Own,
-    /// The other walk.
+    /// The other walk, past a record that the own one does not have here.
     Other,
     /// Both, past different records.
     Each,
@@ -36,28 +37,30 @@ pub(crate) enum Advance {
 /// the choice.
 #[derive(Clone, Copy)]
 pub(crate) struct Guide {
-    /// The place of the value up to which the own walk goes on alone.
+    /// The own walk goes on alone until its value is at this place.
     own_to: u64,
-    /// The same of the other walk.
+    /// The other walk goes on alone until its value is at this place.
     other_to: u64,
-    /// How far ahead a key may be. It doubles at each look that finds none so near.
+    /// The greatest distance, in bytes, at which a key may be. It doubles at each look that finds
+    /// none so near.
     reach: u64,
-    /// What equal records have paid for looks. So files in quite other orders are not looked up
-    /// once more.
+    /// The credit that equal records have paid for looks. It bounds the looks if the orders of the
+    /// files differ much.
     credit: u64,
 }
 
-/// Returns the number of bytes that a place is after another. One that is before it is the
-/// farthest.
+/// Returns the number of bytes from one place to another after it, or the greatest number if the
+/// other is before it.
 fn bytes_between(from: u64, to: u64) -> u64
     ensures { result ≡ bytes_between from to }
 {
     if from <= to { to - from } else { u64::MAX }
 }
 
-/// How far ahead of a value the first value of a key is, in bytes. One that is before it or nowhere
-/// is the farthest, and so is that of a long key. The key is one of the other database. A damage of
-/// the look-up is left to the pass that writes, a failed read is not.
+/// Returns the number of bytes from a value to the first value of a key of the other database. It
+/// is the greatest number if that value is before this one, if there is none, if the key is long,
+/// or if the look-up meets a damage, as the pass that writes reports damages. A failed read is a
+/// fault.
 fn ahead<L: Width, S: Store, T: Store>(
     own: &mut Reader<S, L>,
     from: Span,
@@ -87,7 +90,7 @@ fn ahead<L: Width, S: Store, T: Store>(
 }
 
 impl Guide {
-    /// A guide at the start of two walks.
+    /// Returns a guide at the start of two walks.
     pub(crate) fn new() -> Guide {
         Guide {
             own_to: 0,
@@ -97,7 +100,7 @@ impl Guide {
         }
     }
 
-    /// Both walks have the same record.
+    /// Notes that both walks have the same record.
     fn meet(&mut self) {
         self.reach = REACH;
         self.credit = self.credit.saturating_add(1).min(CREDIT);
@@ -136,7 +139,7 @@ impl Guide {
         Ok(Advance::Other)
     }
 
-    /// Which walk goes on from two records.
+    /// Chooses the walk that goes on from two records.
     #[inline(always)]
     pub(crate) fn advance<L: Width, S: Store, T: Store>(
         &mut self,

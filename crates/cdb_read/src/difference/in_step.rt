@@ -15,16 +15,16 @@ use crate::{Bookmark, Pair, ReadFault, Reader, Span, walk};
 use cdb_form::Width;
 use cdb_store::Store;
 
-/// Where two walks are.
+/// The bookmarks of two walks.
 #[derive(Clone, Copy)]
 struct Places {
-    /// The own one.
+    /// The bookmark of the own walk.
     own: Bookmark,
-    /// The other one.
+    /// The bookmark of the other walk.
     other: Bookmark,
 }
 
-/// Where the next record of the other walk lies.
+/// Returns the next record of the other walk, and moves the bookmark after it.
 fn next_other<L: Width, T: Store>(
     other: &mut Reader<T, L>,
     bookmark: &mut Bookmark,
@@ -102,7 +102,7 @@ fn mark_left<L: Width, S: Store>(
 }
 
 /// Goes on in one walk or in both. Unless both have the same record, each that goes on sets the
-/// mark of its key. Answers whether both had a record.
+/// mark of its key. Returns true if both had a record.
 fn step<L: Width, S: Store, T: Store>(
     own: &mut Reader<S, L>,
     other: &mut Reader<T, L>,

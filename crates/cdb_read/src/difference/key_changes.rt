@@ -1,4 +1,4 @@
-// What the difference says of a key.
+// The changes of one key in a difference.
 ghost use Rattle.std.specs.Prelude.{◌≡◌, ◌+◌, ◌≤◌, ◌++◌, ℕ, List, IfErr, OnErr, codes, decimal, length};
 ghost use Rattle.cdb_form.specs.Format.{record_of};
 ghost use Rattle.cdb_form.specs.Text.Native.{spelling_of};
@@ -55,8 +55,8 @@ pub fn write_put<L: Width, S: Store, W: Sink>(
     Ok(())
 }
 
-/// Writes a put for each value of a key, in the order in which a look-up gives them. After a fault
-/// the writer holds a prefix of that.
+/// Writes a put for each value of a key, in the order of a look-up. After a fault the writer holds
+/// a prefix of the puts.
 fn write_puts<L: Width, S: Store, W: Sink>(
     reader: &mut Reader<S, L>,
     key: &[u8],
@@ -100,10 +100,9 @@ fn write_removal_of_new<L: Width, T: Store, W: Sink>(
     Ok(())
 }
 
-/// Writes what the difference says of a key whose values in the other database are others: that it
-/// is removed; or its puts, after its removal if the other database lacks it. So the text may be
-/// done again, and to a database that has the key. After a `Stop` the writer holds a prefix of
-/// that.
+/// Writes the changes of a key that has other values in the other database: its removal; or its
+/// puts, after its removal if the other database lacks it. So the text can be applied again, and to
+/// a database that has the key. After a `Stop` the writer holds a prefix of the changes.
 pub(crate) fn write_changes<L: Width, S: Store, T: Store, W: Sink>(
     own: &mut Reader<S, L>,
     other: &mut Reader<T, L>,

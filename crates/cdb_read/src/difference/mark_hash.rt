@@ -1,4 +1,4 @@
-// The hash by which a key is marked.
+// The hash that marks a key.
 ghost use Rattle.std.specs.Prelude.{◌≡◌, ℕ, ◌+◌, ◌≤◌, List, IfErr, IfOk, fold};
 ghost use Rattle.cdb_store.specs.Reads.{OnlyReads};
 ghost use Rattle.cdb_read.specs.Lookup.{bytes_of};
@@ -9,13 +9,13 @@ use crate::{AT_HAND, ReadFault, Reader, Span};
 use cdb_form::Width;
 use cdb_store::Store;
 
-/// From what a hash starts, and by what each byte multiplies it. The format multiplies by 33, and
-/// keys that it gives one hash have different ones here.
+/// The start of a hash. Each byte multiplies the hash by `FACTOR`. The format multiplies by 33, so
+/// keys that share a hash of the format need not share one here.
 const START: u32 = 2166136261;
 
 const FACTOR: u32 = 2654435761;
 
-/// The hash so far with each of these bytes.
+/// Returns the hash so far, continued with these bytes.
 #[inline(always)]
 fn hash_each(hash: u32, bytes: &[u8]) -> u32
     ensures { result ≡ fold mark_step hash bytes.now }
@@ -27,7 +27,7 @@ fn hash_each(hash: u32, bytes: &[u8]) -> u32
     hash
 }
 
-/// The hash by which a key is marked, which is read piece by piece.
+/// Returns the hash that marks a key. The key is read piece by piece.
 #[inline(always)]
 pub(crate) fn mark_hash<L: Width, S: Store>(
     reader: &mut Reader<S, L>,

@@ -4,7 +4,7 @@ ghost use Rattle.cdb_read.specs.Differing.{mark_at, Grows, KeepsOthers};
 
 use std::alloc::{AllocError, Global};
 
-/// The number of marks there are, 512 KiB of them.
+/// The number of marks, which take 512 KiB.
 const MARKS: usize = 1 << 22;
 
 /// The number of marks that a word has.
@@ -19,7 +19,7 @@ pub(crate) struct Marks {
 }
 
 impl Marks {
-    /// Marks of which none is set.
+    /// Returns marks, none of them set.
     pub(crate) fn new(alloc: Global) -> Result<Marks, AllocError>
         ensures { IfOk result (λ marks. (hash : ℕ) → mark_at marks.words.items hash ≡ false) }
     {

@@ -50,10 +50,9 @@ fn is_change<L: Width, S: Store, T: Store>(
     is_first_changed(own, other, key, pair.value.place, mine, theirs)
 }
 
-/// Writes what the difference says of each key of a database whose values in the other one are
-/// others: removals or puts. It does so at the first record of the key. A key whose mark is not set
-/// has the same values in both walks, and is not looked up. After a `Stop` the writer holds a
-/// prefix of that.
+/// Writes the changes of each key of a database that has other values in the other one: removals or
+/// puts. It does so at the first record of the key. A key whose mark is not set has the same values
+/// in both walks, and is not looked up. After a `Stop` the writer holds a prefix of the changes.
 pub(crate) fn write_pass<L: Width, S: Store, T: Store, W: Sink>(
     alloc: Global,
     own: &mut Reader<S, L>,

@@ -7,7 +7,7 @@ use crate::{Bookmark, Pair, ReadFault, Reader, walk_on};
 use cdb_form::Width;
 use cdb_store::Store;
 
-/// Where the next record of a walk lies. The bookmark is then after it.
+/// Returns the next record of a walk, and moves the bookmark after it.
 #[inline(always)]
 pub(crate) fn next_record<L: Width, S: Store>(
     reader: &mut Reader<S, L>,

@@ -1,4 +1,4 @@
-// Whether bytes of two databases are the same.
+// The comparison of bytes of two databases.
 ghost use Rattle.std.specs.Prelude.{◌≡◌, ◌+◌, ◌≤◌, ℕ, List, IfErr, IfOk};
 ghost use Rattle.std.specs.Bool.{Decides};
 ghost use Rattle.cdb_read.specs.Lookup.{bytes_of};

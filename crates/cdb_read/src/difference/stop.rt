@@ -1,4 +1,4 @@
-// Why a difference of two databases was not written.
+// The reason why a difference of two databases was not written.
 ghost use Rattle.std.specs.Prelude.{◌≡◌};
 ghost use Rattle.cdb_read.specs.Differing.{flipped};
 
@@ -6,18 +6,18 @@ use crate::ReadFault;
 use cdb_form::OutFault;
 use std::alloc::AllocError;
 
-/// Why a walk or a pass over a database beside another stopped. Of a whole difference the own
-/// database is the old one.
+/// The reason why a walk or a pass over a database beside another stopped. In a whole difference
+/// the own database is the old one.
 #[derive(Clone, Copy, Debug, PartialEq, Eq)]
 pub enum Stop {
-    /// The database that is walked was not read, an allocation failed or a writer.
+    /// The database that is walked was not read, an allocation failed, or the writer failed.
     Own(ReadFault),
-    /// The other one was not read.
+    /// The other database was not read.
     Other(ReadFault),
 }
 
 impl Stop {
-    /// The same stop, if the other database was walked.
+    /// Returns the same stop, with the two databases exchanged.
     pub(crate) fn flipped(self) -> Stop
         ensures { result ≡ flipped self }
     {

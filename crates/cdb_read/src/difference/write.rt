@@ -1,4 +1,4 @@
-// What changed between two databases, as an amending text.
+// The difference of two databases, as an amending text.
 ghost use Rattle.std.specs.Prelude.{◌≡◌};
 ghost use Rattle.cdb_read.specs.Differing.{SaysDifference};
 
@@ -15,15 +15,15 @@ use std::alloc::Global;
 ///
 /// Each key of the old database that has other values in the new one, or none, is removed, in the
 /// order of the first records of these keys. Then each key of the new one that has other values in
-/// the old one is put with all its values, and one that the old one lacks is removed before that.
-/// So the text may be done again, and to other databases: each key that it names has its new values
-/// then. If no key differs, the text is a newline.
+/// the old one, or none, is put with all its values. If the old one lacks the key, its removal
+/// comes first. So the text can be applied again, and to other databases: each key that it names
+/// has its new values then. If no key differs, the text is a newline.
 ///
-/// The text is that of the difference of the two walks if the look-ups of both files give each key
-/// its records in the order of the walk, as they do in every file that a maker of this format made.
-/// Of other files the text is still an amending one. Both are first walked in step, so a key is
-/// looked up only where the walks differ. Values are compared in pieces, and the only memory is 512
-/// KiB and that of the longest key.
+/// The text is the difference of the two walks if the look-ups of both files give each key its
+/// records in the order of the walk. They do in every file that a maker of this format made. For
+/// other files the text is still an amending text. Both are first walked in step, so a key is
+/// looked up only where the walks differ. Values are compared in pieces. The only memory is 512 KiB
+/// and room for the longest key.
 ///
 /// After a `Stop`, whose own database is the old one, a prefix of the text was written.
 pub fn write_difference<L: Width, S: Store, T: Store, W: Sink>(

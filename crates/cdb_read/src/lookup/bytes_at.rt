@@ -1,4 +1,4 @@
-// Bytes of the file in which a finder searches.
+// Bytes of the file that a finder searches.
 ghost use Rattle.std.specs.Prelude.{◌≡◌, ℕ, ◌+◌, ◌≤◌, List, length, IfErr, OnOk};
 ghost use Rattle.cdb_store.specs.Images.{part};
 ghost use Rattle.cdb_store.specs.Reads.{OnlyReads};
@@ -13,8 +13,8 @@ use cdb_form::Width;
 use cdb_store::Store;
 
 impl<S: Store, L: Width> Reader<S, L> {
-    /// Reads the bytes from a place on over `into`. The store is read only if the window lacks
-    /// them, and then for as many as the window has room for.
+    /// Fills `into` with the bytes at a place. If they fit in the window, the store is read only if
+    /// the window lacks them, and then for a whole window.
     fn read_at(&mut self, place: u64, into: &mut [u8]) -> Result<(), ReadFault>
         requires inside { place + length into.old ≤ S.size self.old.store }
         ensures reads { OnlyReads S.Store self.old.store self.new.store }
@@ -33,7 +33,7 @@ impl<S: Store, L: Width> Reader<S, L> {
 }
 
 impl<'a, S: Store, L: Width> Finder<'a, S, L> {
-    /// Reads the bytes of the file from a place on over `into`. What is left of the look-up stays.
+    /// Fills `into` with the bytes of the file at a place. The look-up stays where it is.
     ///
     /// `Device`: the store failed, and `into` holds anything.
     pub fn read_at(&mut self, place: u64, into: &mut [u8]) -> Result<(), ReadFault>

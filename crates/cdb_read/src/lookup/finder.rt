@@ -17,22 +17,21 @@ use crate::window::WINDOW;
 use cdb_form::{Sink, Width, hash, table_number};
 use cdb_store::Store;
 
-/// The number of bytes that are read at a time up to the first value: of most records the key and
-/// the value.
+/// The number of bytes that are read at a time up to the first value. Most records are shorter.
 const SHORT_RECORD: usize = 256;
 
 /// Finds the values of a key.
 #[derive(Drop)]
 pub struct Finder<'a, S: Store, L: Width> {
-    /// Where the key is looked up.
+    /// The reader that looks up the key.
     pub(crate) reader: &'a mut Reader<S, L>,
     /// The key.
     pub(crate) key: &'a [u8],
-    /// Its hash.
+    /// The hash of the key.
     pub(crate) hash: u64,
-    /// Where the search is.
+    /// The state of the search.
     pub(crate) searching: Searching,
-    /// True if it gave a value. The next ones are mostly near, so more is read at a time.
+    /// True if the finder gave a value. The next values are mostly near, so more is read at a time.
     pub(crate) has_given: bool,
     ghost inside: { IsSearchInside L.WORD (S.size reader.now.store) searching },
     ghost hashed: { hash ≡ key_hash key.now },
@@ -41,7 +40,7 @@ pub struct Finder<'a, S: Store, L: Width> {
 impl<S: Store, L: Width> Reader<S, L> {
     ghost use Rattle.cdb_read.specs.Views.Finder.{left_in};
 
-    /// Where the search of a key with this hash begins.
+    /// Returns the state at which the search of a key with this hash begins.
     fn first_probe(&self, key: &[u8], hash: u64) -> Searching
         requires hash { hash ≡ key_hash key.now }
         ensures inside { IsSearchInside L.WORD (S.size self.now.store) result }
@@ -52,8 +51,8 @@ impl<S: Store, L: Width> Reader<S, L> {
         first_probe::<L>(table, hash, self.store.len())
     }
 
-    /// The search of a key, which has this hash, from a probe on, up to its next value. So many
-    /// bytes are read at a time.
+    /// Searches a key, which has this hash, starting at a probe, up to its next value. `ahead`
+    /// bytes are read at a time, or more if more are needed.
     #[inline(always)]
     fn next_met(
         &mut self,
@@ -81,9 +80,9 @@ impl<S: Store, L: Width> Reader<S, L> {
         )
     }
 
-    /// The same. More bytes are read than are needed: up to a first value as many as a short record
-    /// has, and then as a window has room for. If that failed, what is needed is read alone, so a
-    /// bad place among the others spoils nothing.
+    /// Searches as `next_met` does, and reads ahead: `SHORT_RECORD` bytes up to a first value, and
+    /// then a whole window. If that failed, only what is needed is read, so a bad place among the
+    /// other bytes spoils nothing.
     #[inline(always)]
     fn met_from(
         &mut self,
@@ -107,7 +106,7 @@ impl<S: Store, L: Width> Reader<S, L> {
         }
     }
 
-    /// A finder of the values of a key. Nothing is read yet.
+    /// Returns a finder of the values of a key. Nothing is read yet.
     pub fn find<'a>(&'a mut self, key: &'a [u8]) -> Finder<'a, S, L>
         ensures same_reader { result.reader.ghost_name ≡ self.entry.ghost_name }
         ensures reader { result.reader.now ≡ self.old }
@@ -131,7 +130,8 @@ impl<'a, S: Store, L: Width> Finder<'a, S, L> {
     ghost use Rattle.cdb_read.specs.Views.Finder.{GivesSpan, GivesNone, FindingFails, HasEnded, HasNoTable, HasNoRecord};
     ghost use Rattle.cdb_read.specs.declared.fault.ReadFault.TheVariants.{Table, Record};
 
-    /// The next value. From the second on more bytes are read at a time than it needs.
+    /// Returns the next value. After the first value, more bytes are read at a time than are
+    /// needed.
     #[inline(always)]
     pub fn next(&mut self) -> Result<Option<Span>, ReadFault>
         ensures same_reader { self.new.reader.ghost_name ≡ self.old.reader.ghost_name }
@@ -174,7 +174,7 @@ impl<'a, S: Store, L: Width> Finder<'a, S, L> {
         }
     }
 
-    /// Writes the bytes of a span, as `Reader::copy` does. What is left of the look-up stays.
+    /// Writes the bytes of a span, as `Reader::copy` does. The look-up stays where it is.
     pub fn copy<W: Sink>(&mut self, span: Span, w: &mut W) -> Result<(), ReadFault>
         requires inside { span.place + span.len ≤ S.size self.old.reader.now.store }
         ensures same_reader { self.new.reader.ghost_name ≡ self.old.reader.ghost_name }

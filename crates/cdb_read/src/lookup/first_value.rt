@@ -13,7 +13,7 @@ use cdb_store::Store;
 use std::alloc::Global;
 
 impl<S: Store, L: Width> Reader<S, L> {
-    /// Where the first value of a key lies.
+    /// Returns the span of the first value of a key.
     fn first_span(&mut self, key: &[u8]) -> Result<Option<Span>, ReadFault>
         ensures reads { OnlyReads S.Store self.old.store self.new.store }
         ensures first { (b : List ℕ) → S.image self.new.store b → IfOk result (λ found.
@@ -29,10 +29,11 @@ impl<S: Store, L: Width> Reader<S, L> {
         finder.next()
     }
 
-    /// The first value of a key, and `None` if no record has it.
+    /// Returns the first value of a key, and `None` if no record has it.
     ///
     /// `Table`, `Record`: the file is damaged at a slot or record that was read. `Device`: the
-    /// store failed. `NoMemory`: there is none for the value. It can be made again after each.
+    /// store failed. `NoMemory`: an allocation for the value failed. The call can be made again
+    /// after each.
     pub fn get(&mut self, alloc: Global, key: &[u8]) -> Result<Option<Vec<u8>>, ReadFault>
         ensures reads { OnlyReads S.Store self.old.store self.new.store }
         ensures first { (b : List ℕ) → S.image self.new.store b → IfOk result (λ found.

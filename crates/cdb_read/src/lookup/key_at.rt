@@ -12,18 +12,18 @@ use crate::window::{WINDOW, Window};
 use cdb_form::{Width, head_size, pair_size, read_header};
 use cdb_store::Store;
 
-/// What is at a place.
+/// The result of a look for a key at a place.
 #[derive(Clone, Copy)]
 pub enum Look {
     /// No whole record.
     Broken,
     /// A record with another key.
     Other,
-    /// A record with the key, and where its value lies.
+    /// A record with the key, and the span of its value.
     Value(Span),
 }
 
-/// Returns true if these bytes are at a place. As many are read at a time as a window has room for.
+/// Returns true if these bytes are at a place. At most a window is read at a time.
 #[inline(always)]
 pub(crate) fn bytes_are_at<S: Store>(
     store: &mut S,
@@ -51,8 +51,8 @@ pub(crate) fn bytes_are_at<S: Store>(
     Ok(true)
 }
 
-/// The record at a place, and whether it has a key. Bytes that the window lacks are read with so
-/// many after the place, or, if those are fewer, with the header and as many as the key has.
+/// Looks whether the record at a place has a key. If the window lacks the header, `ahead` bytes are
+/// read at the place, or the header and the key's length if that is more.
 pub(crate) fn look_at<S: Store, L: Width>(
     store: &mut S,
     place: u64,

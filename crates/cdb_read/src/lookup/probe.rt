@@ -1,4 +1,4 @@
-// How far a search is.
+// The state of a search.
 ghost use Rattle.std.specs.Prelude.{◌≡◌, ◌<◌, ℕ, List, length};
 ghost use Rattle.std.specs.Bool.{Decides};
 ghost use Rattle.cdb_form.specs.Format.{key_hash};
@@ -9,23 +9,23 @@ ghost use Rattle.cdb_read.specs.Views.Search.{next_probe, IsSearchInside, found_
 
 use cdb_form::{Pointer, Width, head_size, home_slot, pair_size, table_number};
 
-/// What a search does next.
+/// The next step of a search.
 #[derive(Clone, Copy)]
 pub enum Searching {
     /// It looks at a slot.
     At(Probe),
     /// Nothing is left.
     AtEnd,
-    /// The table of this number isn't inside the file.
+    /// The table of this number doesn't lie after the head and inside the file.
     NoTable(u64),
     /// No whole record is at this place.
     NoRecord(u64),
 }
 
-/// A slot that a search looks at, of a table.
+/// A slot of a table that a search looks at.
 #[derive(Clone, Copy)]
 pub struct Probe {
-    /// Where the table lies.
+    /// The pointer to the table.
     pub table: Pointer,
     /// The number of the slot.
     pub slot: u64,
@@ -34,7 +34,7 @@ pub struct Probe {
 }
 
 impl Probe {
-    /// The probe after this one. After the last slot comes the first.
+    /// Returns the probe after this one. After the last slot comes the first.
     pub fn next(self) -> Probe
         requires slot { self.slot < self.table.slots }
         requires left { 0 < self.left }
@@ -50,7 +50,7 @@ impl Probe {
     }
 }
 
-/// Returns true if a table lies after the head and inside a file of so many bytes.
+/// Returns true if a table lies after the head and inside a file of `size` bytes.
 pub fn lies_inside<L: Width>(table: Pointer, size: u64) -> bool
     ensures { Decides result (LiesInside L.WORD size (pointer_pair table)) }
 {
@@ -60,8 +60,8 @@ pub fn lies_inside<L: Width>(table: Pointer, size: u64) -> bool
         && table.slots <= (size - table.place) / slot_size
 }
 
-/// Where the search of a key with this hash begins in its table. The file has so many bytes and has
-/// this table.
+/// Returns the state at which the search of a key with this hash begins in its table, in a file of
+/// `size` bytes that has this table.
 pub fn first_probe<L: Width>(table: Pointer, hash: u64, size: u64) -> Searching
     ensures inside { IsSearchInside L.WORD size result }
     ensures finds { (b key : List ℕ) → size ≡ length b → hash ≡ key_hash key

@@ -16,23 +16,23 @@ use crate::window::Window;
 use cdb_form::{Slot, Width};
 use cdb_store::Store;
 
-/// How many bytes of slots are read at a time, if no more are to be read ahead.
+/// The number of bytes of slots that are read at a time, if no more are to be read ahead.
 const SLOTS_AHEAD: usize = 64;
 
-/// What one probe of a search comes to.
+/// The result of one probe of a search.
 #[derive(Clone, Copy)]
 pub enum Probed {
     /// The slot is empty, and ends the search.
     Empty,
-    /// Its record has another key.
+    /// The slot's record has another key.
     Passed,
-    /// Its record has the key, and this value.
+    /// The slot's record has the key, and this value.
     Value(Span),
-    /// At its place, this one, is no whole record.
+    /// The slot points to this place, where no whole record is.
     Broken(u64),
 }
 
-/// What some probes of a search come to.
+/// The result of some probes of a search.
 #[derive(Clone, Copy)]
 pub enum Met {
     /// No slot is left.
@@ -43,7 +43,7 @@ pub enum Met {
     Broken(u64),
 }
 
-/// The slot of a probe.
+/// Returns the slot of a probe.
 fn read_probe<S: Store, L: Width>(
     store: &mut S,
     probe: Probe,
@@ -68,7 +68,7 @@ fn read_probe<S: Store, L: Width>(
     )
 }
 
-/// One probe of the search of a key, which has this hash.
+/// Makes one probe of the search of a key, which has this hash.
 fn make_probe<S: Store, L: Width>(
     store: &mut S,
     probe: Probe,
@@ -105,9 +105,8 @@ fn make_probe<S: Store, L: Width>(
     }
 }
 
-/// The search of a key, which has this hash, from a probe on, up to its next value. Slots are read
-/// through one window and records through the other, `ahead` bytes at once if what is needed has
-/// fewer.
+/// Searches a key, which has this hash, starting at a probe, up to its next value. Slots are read
+/// through `slots` and records through `window`, `ahead` bytes at a time if fewer are needed.
 #[inline(always)]
 pub(crate) fn next_met<S: Store, L: Width>(
     store: &mut S,

@@ -7,7 +7,7 @@ ghost use Rattle.cdb_read.specs.Views.Search.{probe_slot, ProbedFrom, ProbedWith
 use crate::{Look, Met, Probe, Probed, has_bytes, spans};
 use cdb_form::{Slot, Width, head_size, pair_size, read_header, read_slot};
 
-/// The record at a place, as far as a search of a key needs it.
+/// Returns the record at a place, as far as a search of a key needs it.
 fn look_at<L: Width>(file: &[u8], place: u64, key: &[u8]) -> Look
     ensures looks { LooksAt L.WORD key.now place result (λ b. b ≡ file.now) }
     ensures within { LookWithin (length file.now) result }
@@ -32,7 +32,7 @@ fn look_at<L: Width>(file: &[u8], place: u64, key: &[u8]) -> Look
     Look::Value(record.value)
 }
 
-/// The slot of a probe.
+/// Returns the slot of a probe.
 fn slot_at<L: Width>(file: &[u8], probe: Probe) -> Slot
     requires { ProbeInside L.WORD (length file.now) probe }
     ensures { slot_pair result ≡ probe_slot L.WORD file.now probe }
@@ -42,7 +42,7 @@ fn slot_at<L: Width>(file: &[u8], probe: Probe) -> Slot
     read_slot::<L>(&file[at..at + slot_size])
 }
 
-/// One probe of the search of a key by a hash.
+/// Makes one probe of the search of a key by a hash.
 fn make_probe<L: Width>(file: &[u8], probe: Probe, key: &[u8], hash: u64) -> Probed
     requires inside { ProbeInside L.WORD (length file.now) probe }
     requires left { 0 < probe.left }
@@ -64,7 +64,7 @@ fn make_probe<L: Width>(file: &[u8], probe: Probe, key: &[u8], hash: u64) -> Pro
     }
 }
 
-/// The search of a key by a hash, from a probe up to the next value.
+/// Searches a key by a hash, from a probe up to the next value.
 pub(crate) fn meet<L: Width>(file: &[u8], from: Probe, key: &[u8], hash: u64) -> Met
     requires inside { ProbeInside L.WORD (length file.now) from }
     ensures meets { hash ≡ key_hash key.now

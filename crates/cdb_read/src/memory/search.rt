@@ -11,7 +11,7 @@ use crate::memory::meeting::meet;
 use crate::{Met, Probe, Searching, Span, first_probe, lies_inside};
 use cdb_form::{Damage, Pointer, Width, hash, pair_size, read_pointer, table_number};
 
-/// Where the search of a key is: the next slot of a table, and how many slots are left.
+/// The state of the search of a key: the next slot of a table, and the number of slots left.
 #[derive(Clone, Copy, Debug, PartialEq, Eq)]
 pub struct Search {
     /// The hash of the key.
@@ -20,14 +20,15 @@ pub struct Search {
     pub table: u64,
     /// The number of slots that the table has.
     pub slots: u64,
-    /// The number of the next slot, from 0 on.
+    /// The number of the next slot, counted from 0.
     pub slot: u64,
-    /// The number of slots that are left, that one among them. A search with none left has ended.
+    /// The number of slots that are left, the next one among them. A search with none left has
+    /// ended.
     pub left: u64,
 }
 
 impl Search {
-    /// The search that is at a probe.
+    /// Returns the search that is at a probe.
     fn at(hash: u64, probe: Probe) -> Search
         ensures hash { result.hash ≡ hash }
         ensures probe { probe_of result ≡ probe }
@@ -41,7 +42,7 @@ impl Search {
         }
     }
 
-    /// The probe at which it is.
+    /// Returns the probe at which the search is.
     fn probe(&self) -> Probe
         ensures { result ≡ probe_of self.now }
     {
@@ -56,7 +57,7 @@ impl Search {
     }
 }
 
-/// Returns true if a probe's table and slot lie inside a file of so many bytes.
+/// Returns true if a probe's table and slot lie inside a file of `size` bytes.
 fn is_inside<L: Width>(probe: Probe, size: u64) -> bool
     ensures { Decides result (ProbeInside L.WORD size probe) }
 {
@@ -65,7 +66,7 @@ fn is_inside<L: Width>(probe: Probe, size: u64) -> bool
         && probe.left <= probe.table.slots
 }
 
-/// Where the search of a key with this hash begins.
+/// Returns the state at which the search of a key with this hash begins.
 fn first_of<L: Width>(file: &[u8], hash: u64) -> Searching
     requires { head_size L.WORD ≤ length file.now }
     ensures inside { IsSearchInside L.WORD (length file.now) result }
@@ -100,8 +101,8 @@ pub fn begin<L: Width>(file: &[u8], key: &[u8]) -> Result<Search, Damage>
     }
 }
 
-/// The next value of a key, whose search in this file is at a state. After a damage the state
-/// stays, so the next call answers the same.
+/// Returns the next value of a key, whose search in this file is at a state. After a damage the
+/// state stays, so the next call answers the same.
 ///
 /// A state that `begin` or `next` of this file and key didn't leave is safe to pass: its answer
 /// lies inside the file, is none, or is a damage.
@@ -141,7 +142,7 @@ pub fn next<L: Width>(file: &[u8], key: &[u8], search: &mut Search) -> Result<Op
     }
 }
 
-/// The first value of a key in a file, which has at least a head.
+/// Returns the first value of a key in a file, which has at least a head.
 pub fn find<L: Width>(file: &[u8], key: &[u8]) -> Result<Option<Span>, Damage>
     requires { head_size L.WORD ≤ length file.now }
     ensures finds { IfOk result (λ found. MatchOption found

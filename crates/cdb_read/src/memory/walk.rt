@@ -7,7 +7,7 @@ ghost use Rattle.cdb_read.specs.Memory.{rest_of, WalkBegins, StandsRecord, WalkG
 use crate::{Pair, has_bytes, spans};
 use cdb_form::{Damage, Width, head_size, pair_size, read_head, read_header};
 
-/// Where the records lie that a walk has left.
+/// The area of the records that a walk has left.
 #[derive(Clone, Copy, Debug, PartialEq, Eq)]
 pub struct RecordArea {
     /// The place of the next record, in bytes from the file's start.
@@ -16,8 +16,8 @@ pub struct RecordArea {
     pub end: u64,
 }
 
-/// Where the key and the value of the record at a place lie, if it is whole before the record end
-/// and inside the file.
+/// Returns the spans of the record at a place, if it is whole before the record end and inside the
+/// file.
 fn record_at<L: Width>(file: &[u8], place: u64, end: u64) -> Option<Pair>
     requires { place < end }
     ensures { MatchOption result
@@ -54,8 +54,8 @@ pub fn first_record<L: Width>(file: &[u8]) -> Result<RecordArea, Damage>
     })
 }
 
-/// The next record of a walk, or none at the record end. After a damage the walk stays where it is,
-/// so the next call answers the same.
+/// Returns the next record of a walk, or none at the record end. After a damage the walk stays
+/// where it is, so the next call answers the same.
 ///
 /// A state that `first_record` or `next_record` didn't leave is safe to pass: the record lies
 /// inside the file. One that has passed its record end has ended.

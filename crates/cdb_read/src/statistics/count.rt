@@ -32,7 +32,7 @@ impl<S: Store, L: Width> Reader<S, L> {
 }
 
 /// Counts what a database holds. Records and the slots of each table are read through the window,
-/// and no memory is taken.
+/// and no memory is allocated.
 ///
 /// It answers `Table` if a table with slots doesn't lie after the head and inside the file,
 /// the first one by its number; else `Record` if there is no whole record; and `Device` if the

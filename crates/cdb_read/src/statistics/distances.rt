@@ -1,24 +1,24 @@
-// How far the used slots of tables are from where their searches begin.
+// The distances of used slots from the slots where their searches begin.
 ghost use Rattle.std.specs.Prelude.{ℕ, ◌≡◌, ◌++◌, [], ◌∷◌, List};
 
 /// The number of distances that are counted apart: 0 to 9, and 10 or more.
 pub(crate) const DISTANCES: usize = 11;
 
-/// Counts of used slots, each of which stops at the greatest number.
+/// Counts of used slots. Each count stops at the greatest number.
 #[derive(Clone, Copy)]
 pub(crate) struct Distances {
-    /// Their number.
+    /// The number of used slots.
     pub(crate) entries: u64,
-    /// How many lie elsewhere than where their searches begin.
+    /// The number of used slots that lie elsewhere than where their searches begin.
     pub(crate) collisions: u64,
-    /// How many lie at each distance; the last count is that of all greater ones too.
+    /// The number of used slots at each distance. The last one includes all greater distances.
     pub(crate) counts: [u64; DISTANCES],
 }
 
 impl Distances {
     ghost use Rattle.cdb_read.specs.Views.Stats.{Counts};
 
-    /// That of no slots.
+    /// Returns the counts of no slots.
     pub(crate) fn new() -> Distances
         ensures { Counts result [] }
     {
@@ -29,7 +29,7 @@ impl Distances {
         }
     }
 
-    /// Takes one more slot, at this distance.
+    /// Counts one more used slot, at this distance.
     pub(crate) fn count(&mut self, distance: u64)
         ensures { (ds : List ℕ) → Counts self.old ds → Counts self.new (ds ++ distance ∷ []) }
     {

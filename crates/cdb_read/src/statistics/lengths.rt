@@ -1,4 +1,4 @@
-// How long the keys and the values of a database are.
+// The lengths of the keys and the values of a database.
 ghost use Rattle.std.specs.Prelude.{◌≡◌, ℕ, List, IfOk, IfErr};
 ghost use Rattle.cdb_read.specs.Views.Reads.{HasLengths, LengthsFail};
 ghost use Rattle.cdb_store.specs.Reads.{OnlyReads};
@@ -10,7 +10,7 @@ use crate::walking::start::walk;
 use cdb_form::Width;
 use cdb_store::Store;
 
-/// How long keys and values are.
+/// The lengths of keys and values.
 #[derive(Clone, Copy)]
 pub(crate) struct Lengths {
     /// The lengths of the keys.
@@ -19,7 +19,7 @@ pub(crate) struct Lengths {
     pub(crate) values: Spread,
 }
 
-/// How long the keys and the values of all records are. No memory is taken.
+/// Returns the lengths of the keys and the values of all records. No memory is allocated.
 pub(crate) fn walk_lengths<S: Store, L: Width>(
     reader: &mut Reader<S, L>,
 ) -> Result<Lengths, ReadFault>

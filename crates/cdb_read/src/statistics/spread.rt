@@ -1,16 +1,16 @@
 // How numbers lie: the least, the average and the greatest of them.
 ghost use Rattle.std.specs.Prelude.{ℕ, ◌+◌, ◌*◌, ◌<◌, ◌≤◌, ◌≡◌, ◌++◌, [], ◌∷◌, List};
 
-/// What is reported of some numbers. Of none all is 0.
+/// The count, the least, the greatest and the sum of some numbers. Without numbers all are 0.
 #[derive(Clone, Copy)]
 pub(crate) struct Spread {
-    /// Their number.
+    /// The count of the numbers.
     pub(crate) count: u64,
-    /// The least of them.
+    /// The least number.
     pub(crate) least: u64,
-    /// The greatest of them.
+    /// The greatest number.
     pub(crate) greatest: u64,
-    /// Their sum.
+    /// The sum of the numbers.
     pub(crate) sum: u128,
     pub(crate) ghost bounded: { sum ≤ 18446744073709551615 * count },
 }
@@ -19,7 +19,7 @@ impl Spread {
     ghost use Rattle.cdb_read.specs.Statistics.{average_of};
     ghost use Rattle.cdb_read.specs.Views.Stats.{Spreads};
 
-    /// That of no numbers.
+    /// Returns the spread of no numbers.
     pub(crate) fn new() -> Spread
         ensures spreads { Spreads result [] }
         ensures count { result.count ≡ 0 }
@@ -32,7 +32,7 @@ impl Spread {
         }
     }
 
-    /// Takes one more number.
+    /// Counts one more number.
     pub(crate) fn count(&mut self, n: u64)
         requires room { self.old.count < 18446744073709551615 }
         ensures spreads { (ns : List ℕ) → Spreads self.old ns → Spreads self.new (ns ++ n ∷ []) }
@@ -51,7 +51,7 @@ impl Spread {
         };
     }
 
-    /// The average, rounded down.
+    /// Returns the average, rounded down, or 0 without numbers.
     pub(crate) fn average(&self) -> u64
         ensures { (ns : List ℕ) → Spreads self.now ns → result ≡ average_of ns }
     {

@@ -1,4 +1,4 @@
-// What is counted of a database.
+// The counts of a database.
 ghost use Rattle.std.specs.Prelude.{◌≡◌, ℕ, List};
 
 use crate::statistics::distances::Distances;
@@ -9,7 +9,7 @@ use crate::statistics::spread::Spread;
 /// average and the greatest of nothing are 0, and an average is rounded down.
 #[derive(Clone, Copy, Debug, PartialEq, Eq)]
 pub struct Stats {
-    /// The number of records it has.
+    /// The number of records.
     pub records: u64,
     /// The length of the shortest key.
     pub key_least: u64,
@@ -31,7 +31,7 @@ pub struct Stats {
     pub collisions: u64,
     /// The fewest slots of a table that has some.
     pub size_least: u64,
-    /// The average number of slots of such a table.
+    /// The average number of slots of a table that has some.
     pub size_average: u64,
     /// The most slots of a table.
     pub size_greatest: u64,
@@ -44,7 +44,7 @@ impl Stats {
     ghost use Rattle.cdb_read.specs.Statistics.{stats_of};
     ghost use Rattle.cdb_read.specs.Views.Stats.{Counts, Spreads};
 
-    /// What the lengths of records, the sizes of tables and the slots of them come to.
+    /// Returns the counts for these lengths of records, sizes of tables and distances of slots.
     pub(crate) fn from_counts(lengths: &Lengths, sizes: &Spread, distances: &Distances) -> Stats
         ensures { (keys values slots ds : List ℕ) → Spreads lengths.now.keys keys
             → Spreads lengths.now.values values → Spreads sizes.now slots

@@ -12,8 +12,8 @@ use crate::window::{WINDOW, Window};
 use cdb_form::{Width, pair_size, read_header};
 use cdb_store::Store;
 
-/// Where the key and the value of the next record lie, if it is whole before the record end and
-/// before the end of the file.
+/// Returns the spans of the next record, if it is whole before the record end and before the end of
+/// the file.
 pub(crate) fn record_at<S: Store, L: Width>(
     store: &mut S,
     window: &mut Window,

@@ -15,9 +15,9 @@ use std::alloc::Global;
 /// Gives the records of a database, one after the other. Many are read at a time.
 #[derive(Drop)]
 pub struct Walk<'a, S: Store, L: Width> {
-    /// The database.
+    /// The reader of the database.
     pub(crate) reader: &'a mut Reader<S, L>,
-    /// Where the walk is.
+    /// The state of the walk.
     pub(crate) walking: Walking,
 }
 
@@ -25,7 +25,7 @@ impl<'a, S: Store, L: Width> Walk<'a, S, L> {
     ghost use Rattle.cdb_read.specs.Views.Walking.{GivesRecord, GivesNoRecord, WalkingFails, HasWalked, HasNoTable, HasNoRecord, GivesRecords};
     ghost use Rattle.cdb_read.specs.declared.fault.ReadFault.TheVariants.{Table, Record, Device};
 
-    /// Where the next record lies, or `None` at the record end.
+    /// Returns the spans of the next record, or `None` at the record end.
     #[inline(always)]
     pub fn next(&mut self) -> Result<Option<Pair>, ReadFault>
         ensures same_reader { self.new.reader.ghost_name ≡ self.old.reader.ghost_name }
@@ -66,8 +66,8 @@ impl<'a, S: Store, L: Width> Walk<'a, S, L> {
         }
     }
 
-    /// Reads the next records over the start of `into`, as many as are whole there, and answers how
-    /// many bytes they have. The walk is then after them, and the bytes of `into` that follow them
+    /// Reads the next records over the start of `into`, all that are whole there, and returns the
+    /// number of their bytes. The walk is then after them, and the bytes of `into` that follow them
     /// hold anything.
     ///
     /// `Ok(0)` means that no record was read and the walk is where it was: it is at its end or at a
@@ -94,7 +94,7 @@ impl<'a, S: Store, L: Width> Walk<'a, S, L> {
         Ok(n)
     }
 
-    /// The bytes of a span, as `Reader::value` gives them. What is left of the walk stays.
+    /// Returns the bytes of a span, as `Reader::value` does. The walk stays where it is.
     pub fn value(&mut self, alloc: Global, span: Span) -> Result<Vec<u8>, ReadFault>
         requires inside { span.place + span.len ≤ S.size self.old.reader.now.store }
         ensures same_reader { self.new.reader.ghost_name ≡ self.old.reader.ghost_name }
@@ -110,9 +110,9 @@ impl<'a, S: Store, L: Width> Walk<'a, S, L> {
         Ok(taken)
     }
 
-    /// Reads the bytes of a span over a vector, whose memory it takes, so that a walk over many
-    /// records takes none for each. After a fault the vector holds anything. What is left of the
-    /// walk stays.
+    /// Replaces what a vector holds with the bytes of a span. The vector keeps its memory, so a
+    /// walk over many records needs none for each. After a fault the vector holds anything. The
+    /// walk stays where it is.
     pub fn value_into(&mut self, span: Span, into: &mut Vec<u8>) -> Result<(), ReadFault>
         requires inside { span.place + span.len ≤ S.size self.old.reader.now.store }
         ensures same_reader { self.new.reader.ghost_name ≡ self.old.reader.ghost_name }

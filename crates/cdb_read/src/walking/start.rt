@@ -1,4 +1,4 @@
-// A walk is begun, or goes on.
+// The start of a walk, and its next records.
 ghost use Rattle.std.specs.Prelude.{◌≡◌, ℕ, ◌+◌, ◌<◌, ◌≤◌, List, IfOk, IfErr, OnOk};
 ghost use Rattle.cdb_form.specs.Format.{walk_of, head_size};
 ghost use Rattle.cdb_read.specs.Lookup.{bytes_of};
@@ -16,7 +16,7 @@ use cdb_form::{Width, head_size};
 use cdb_store::Store;
 
 impl<S: Store, L: Width> Reader<S, L> {
-    /// Where a walk begins.
+    /// Returns the state at which a walk begins.
     fn first_walking(&self) -> Walking
         ensures walks { (b : List ℕ) → S.image self.now.store b
             → walk_ahead L.WORD b result ≡ walk_of L.WORD b }
@@ -30,7 +30,7 @@ impl<S: Store, L: Width> Reader<S, L> {
         Walking::At(RecordArea { place, end })
     }
 
-    /// Where the next record of a walk lies, if it is whole.
+    /// Returns the spans of the next record of a walk, if it is whole.
     pub(crate) fn next_record(&mut self, rest: RecordArea) -> Result<Option<Pair>, ReadFault>
         requires before { rest.place < rest.end }
         ensures stands { IfOk result (λ found.
@@ -43,8 +43,9 @@ impl<S: Store, L: Width> Reader<S, L> {
         record_at::<S, L>(&mut self.store, &mut self.window, rest)
     }
 
-    /// Reads the bytes of a span, which lies inside the file, over a vector, whose memory it takes.
-    /// What was read ahead is not read again. After a fault the vector holds anything.
+    /// Replaces what a vector holds with the bytes of a span, which lies inside the file. The
+    /// vector keeps its memory. Bytes that were read ahead are not read again. After a fault the
+    /// vector holds anything.
     pub fn value_into(&mut self, span: Span, into: &mut Vec<u8>) -> Result<(), ReadFault>
         requires inside { span.place + span.len ≤ S.size self.old.store }
         ensures reads { OnlyReads S.Store self.old.store self.new.store }
@@ -61,7 +62,7 @@ impl<S: Store, L: Width> Reader<S, L> {
     }
 }
 
-/// A walk over the records of a database. Nothing is read yet.
+/// Returns a walk over the records of a database. Nothing is read yet.
 pub fn walk<L: Width, S: Store>(reader: &mut Reader<S, L>) -> Walk<'_, S, L>
     ensures same_reader { result.reader.ghost_name ≡ reader.entry.ghost_name }
     ensures reader { result.reader.now ≡ reader.old }

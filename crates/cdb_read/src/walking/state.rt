@@ -1,7 +1,7 @@
-// How far a walk is.
+// The state of a walk.
 ghost use Rattle.std.specs.Prelude.{◌≤◌};
 
-/// Where the records lie that a walk has left: from the next place to the record end.
+/// The area of the records that a walk has left: from the next place to the record end.
 #[derive(Clone, Copy)]
 pub(crate) struct RecordArea {
     /// The place of the next record, in bytes from the file's start.
@@ -11,7 +11,7 @@ pub(crate) struct RecordArea {
     pub(crate) ghost ordered: { place ≤ end },
 }
 
-/// What a walk does next.
+/// The next step of a walk.
 #[derive(Clone, Copy)]
 pub(crate) enum Walking {
     /// It looks at the next place.

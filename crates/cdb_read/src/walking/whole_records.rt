@@ -26,8 +26,8 @@ fn whole_len<L: Width>(bytes: &[u8]) -> usize
 }
 
 impl<S: Store, L: Width> Reader<S, L> {
-    /// Reads the next whole records of a walk over the start of `into`, and answers how many bytes
-    /// they have. The store is not read if no byte is left before the record end.
+    /// Reads the next whole records of a walk over the start of `into`, and returns the number of
+    /// their bytes. The store is not read if no byte is left before the record end.
     pub(crate) fn read_records(
         &mut self,
         rest: RecordArea,
