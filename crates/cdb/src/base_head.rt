@@ -1,4 +1,4 @@
-// What the head of a base says, before anything is made.
+// The head of a base, which is read before anything is made.
 ghost use Rattle.cdb_show.specs.Views.Output.{OutputSays};
 ghost use Rattle.cdb.specs.Creating.{SeesBase, SeesHead};
 ghost use Rattle.cdb.specs.Reasons.{HasReason, store_reasons};
@@ -11,7 +11,7 @@ use cdb_store::Store;
 use cdb_tool::Fault;
 
 /// Reads the head of a base, and returns the base.
-// In line it leaves the room of a reader on the stack of the whole create.
+// Inlined, it leaves the room of a reader on the stack of the whole create.
 #[inline(never)]
 fn see_head<L: Width, F: Store>(base: F) -> (F, Result<(), Fault>)
     ensures sees { SeesHead L.WORD F.Store base result.0 result.1 }

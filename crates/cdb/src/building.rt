@@ -1,4 +1,4 @@
-// What builds the database of what was opened.
+// The builder of a database from a base and inputs that were opened.
 ghost use Rattle.std.specs.Prelude.{◌≡◌, ◌<◌, OnOk, IfErr, ⊤};
 ghost use Rattle.cdb_show.specs.Views.Noted.{AreInPlace};
 ghost use Rattle.cdb_show.specs.Views.Output.{OutputSays};
@@ -16,7 +16,7 @@ use cdb_tool::{Fault, make_run_from};
 use std::alloc::Global;
 use std::marker::PhantomData;
 
-/// Makes it in a store, which is returned, and what was read too.
+/// Makes a database in a store. Returns the store, and what was read.
 pub(crate) fn make_in<L, S, Y, E>(
     alloc: Global,
     store: S,
@@ -52,14 +52,14 @@ where
     (store, Sources { base, inputs }, made)
 }
 
-/// Builds the database in a file that is empty, through a buffer. What was read is returned, also
-/// if there is no file to build in.
+/// Builds the database in an empty file, through a buffer. Returns what was read, also if there is
+/// no file to build in.
 #[derive(Drop)]
 pub(crate) struct Building<'a, L: Width, Y: System, E> {
     pub(crate) alloc: Global,
-    /// What was opened.
+    /// The opened base and inputs, and the options.
     pub(crate) contents: ContentsOf<'a, L, Y>,
-    /// What the lines of duplicates are written to.
+    /// The type of the output for the lines of duplicates.
     pub(crate) errors: PhantomData<E>,
 }
 

@@ -1,4 +1,4 @@
-// What a create reads, once it is opened.
+// The base and the inputs of a create, once they are opened.
 ghost use Rattle.std.specs.Prelude.{◌≡◌, ◌≤◌};
 ghost use Rattle.cdb_form.specs.Format.{head_size};
 
@@ -17,7 +17,7 @@ pub(crate) struct Sources<F, J, I> {
     pub(crate) inputs: Inputs<J, I>,
 }
 
-/// Those of a create on a system.
+/// The files and streams that a create on this system reads.
 pub(crate) type SourcesOf<Y> = Sources<
     <Y as System>::File,
     <Y as System>::Stream,
@@ -27,7 +27,7 @@ pub(crate) type SourcesOf<Y> = Sources<
 impl<F: Drop, J: Drop, I: Drop> Sources<F, J, I> {
     ghost use Rattle.cdb.specs.Contents.{sources_left};
 
-    /// What a create returns of them, and of a file that was made in place.
+    /// Returns the files that a create leaves: these, and one that was made in place.
     pub(crate) fn into_left<M: Drop>(self, made: Option<M>) -> Left<F, M, J, I>
         ensures { result ≡ sources_left self made }
     {
@@ -44,20 +44,21 @@ impl<F: Drop, J: Drop, I: Drop> Sources<F, J, I> {
     }
 }
 
-/// What a database is made of, with its files opened. Its limit is one of its width.
+/// The opened base and inputs of a database, and its options. The limit is at least a head, and at
+/// most `L::GREATEST`.
 #[derive(Drop)]
 pub(crate) struct Contents<'a, L: Width, F, J, I> {
-    /// What is read.
+    /// The files and streams that are read.
     pub(crate) sources: Sources<F, J, I>,
-    /// How it is made, and the lines of the inputs.
+    /// The options, and the lines of the inputs.
     pub(crate) run: RunContext<'a>,
-    /// The width of its words.
+    /// The width of the words.
     pub(crate) width: PhantomData<L>,
     ghost head: { head_size L.WORD ≤ run.options.make.limit },
     ghost words: { run.options.make.limit ≤ L.GREATEST },
 }
 
-/// What is made on a system.
+/// The contents of a database that is made on this system.
 pub(crate) type ContentsOf<'a, L, Y> = Contents<
     'a,
     L,
@@ -67,7 +68,7 @@ pub(crate) type ContentsOf<'a, L, Y> = Contents<
 >;
 
 impl<'a, L: Width, F: Drop, J: Drop, I: Drop> Contents<'a, L, F, J, I> {
-    /// What is read, of which nothing was.
+    /// Returns the files and streams to be read, unread.
     pub(crate) fn into_sources(self) -> Sources<F, J, I>
         ensures { result ≡ self.entry.sources }
     {

@@ -23,18 +23,19 @@ use cdb_tool::{Fault, RunContext, flushed};
 use std::alloc::{AllocError, Global};
 use std::marker::PhantomData;
 
-/// What is to be made.
+/// A database to be made.
 #[derive(Clone, Copy)]
 pub(crate) struct Creation<'a> {
-    /// The database. The one of the name `-` is made on standard output.
+    /// The name of the database. The database `-` is made on standard output.
     pub(crate) name: &'a str,
     /// The database whose records come first, if one is amended.
     pub(crate) base: &'a Option<String>,
     /// The inputs. Without any, standard input is read.
     pub(crate) inputs: &'a [String],
-    /// The file in which the database is made; `None` is its name with `.tmp` after it.
+    /// The name of the file to make the database in. `None` is the database's name with `.tmp`
+    /// after it.
     pub(crate) temporary: &'a Option<String>,
-    /// How it is made, and the lines of its inputs.
+    /// The options, and the lines of the inputs.
     pub(crate) run: RunContext<'a>,
 }
 
@@ -106,7 +107,7 @@ where
     (sources.into_left(None), made)
 }
 
-/// Why what is read was not opened.
+/// The reason why the base or an input was not opened, or the base was refused.
 #[derive(Drop)]
 struct Unopened<F> {
     /// The base, if it was opened: its head refuses it, or an input was not opened.
@@ -114,7 +115,7 @@ struct Unopened<F> {
     fault: Fault,
 }
 
-/// Opens what is read: the base, whose head is looked at, and then all inputs.
+/// Opens the base, reads its head, and then opens all inputs.
 fn open_all<'a, L, Y>(
     alloc: Global,
     system: &mut Y,
@@ -158,7 +159,7 @@ where
     }
 }
 
-/// Makes it in memory and writes it. What was read is returned.
+/// Makes a database in memory and writes it. Returns what was read.
 #[inline(never)]
 fn make_on_output<L, Y, O, E>(
     alloc: Global,
@@ -203,7 +204,7 @@ fn write_bytes<O: Sink>(bytes: &[u8], output: &mut O) -> Result<(), Fault>
     flushed(output, written.map_err(Fault::from))
 }
 
-/// The name of the temporary file.
+/// Returns the name of the temporary file.
 fn temporary_name(
     alloc: Global,
     name: &str,

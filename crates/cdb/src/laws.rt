@@ -5,8 +5,8 @@ ghost use Rattle.cdb.specs.Created.{create_of};
 ghost use Rattle.cdb_command.specs.declared.options.MakeOptions.{MakeOptions};
 ghost use Rattle.cdb_system.specs.Oracle.{Disk};
 
-/// Two creates of the same words over the same base, inputs and standard input come to the same, on
-/// whatever disks, and make the same file: no byte of it is of a time, a user or a machine.
+/// Two creates of the same words over the same base, inputs and standard input end alike, on
+/// whatever disks, and make the same file: no byte of it depends on a time, a user or a machine.
 pub fn creates_are_reproducible()
     ensures { (w g : ℕ) (one two : Disk) (input name : List ℕ) (base : Option (List ℕ))
         (inputs : List (List ℕ)) (temporary : Option (List ℕ)) (o : MakeOptions)

@@ -24,14 +24,14 @@ use std::io::{ErrorKind, Stderr, Stdout};
 use std::os::fd::AsRawFd;
 use std::process::ExitCode;
 
-/// How many bytes of lines on standard error are held before they are written. A line that finds
-/// room there is part of one write, so that no other program's line comes between.
+/// The number of bytes of lines on standard error that are held before they are written. A line
+/// that finds room there is part of one write, so that no other program's line comes between.
 const LINES: usize = 4096;
 
 /// The device that takes all and gives nothing.
 const NULL: &str = "/dev/null";
 
-/// Passes the words and the streams on, and answers the status.
+/// Passes the words and the streams to `steps::run`, and returns the exit status.
 fn main(rt: HostRuntime) -> ExitCode {
     let held = all_held(&rt);
     let seen = Seen::new();
@@ -60,7 +60,7 @@ fn main(rt: HostRuntime) -> ExitCode {
     ExitCode::from(status)
 }
 
-/// What a command begins with.
+/// The words and the streams that a command begins with.
 struct Beginning<'a> {
     /// The words of the command line.
     words: Vec<String>,
@@ -68,7 +68,7 @@ struct Beginning<'a> {
     streams: Streams<Output<SeenWriter<'a, Stdout>>, Output<SeenWriter<'a, Stderr>>>,
 }
 
-/// The words of the command line, and the standard streams that are written, with their buffers.
+/// Returns the words of the command line, and the standard streams to write, with their buffers.
 fn begun<'a>(rt: &HostRuntime, seen: &'a Seen) -> Result<Beginning<'a>, Usage> {
     let alloc = rt.alloc();
     Ok(Beginning {
@@ -80,8 +80,8 @@ fn begun<'a>(rt: &HostRuntime, seen: &'a Seen) -> Result<Beginning<'a>, Usage> {
     })
 }
 
-/// What holds the places of the standard streams that are closed. If the first file that is opened
-/// gets none of their numbers, all are open.
+/// Returns the files that hold the places of closed standard streams. If the first file that is
+/// opened gets no number of a standard stream, all streams are open.
 fn all_held(rt: &HostRuntime) -> [Option<File>; 3] {
     match held(rt) {
         None => [None, None, None],
@@ -94,10 +94,10 @@ fn is_input_held(held: &[Option<File>; 3]) -> bool {
     matches!(&held[0], Some(first) if first.as_raw_fd() == 0)
 }
 
-/// What holds the place of a standard stream that is closed, if one is. Otherwise a file of the
-/// program would get its number, and what is meant for the stream would be written into a database.
-/// A folder is neither read nor written, as the stream itself. If no folder can be opened, the null
-/// device takes its place, opened so that it cannot do what the stream would do.
+/// Returns a file that holds the place of a closed standard stream, if one is closed. Otherwise a
+/// file of the program would get its number, and what is meant for the stream would be written into
+/// a database. A folder is neither read nor written, like the closed stream. If no folder can be
+/// opened, the null device takes its place, opened so that it cannot do what the stream would do.
 fn held(rt: &HostRuntime) -> Option<File> {
     for folder in ["/", "."] {
         if let Ok(folder) = File::open(rt, folder) {
@@ -114,7 +114,7 @@ fn held(rt: &HostRuntime) -> Option<File> {
     }
 }
 
-/// A file, if it has the number of a standard stream.
+/// Returns the file, if it has the number of a standard stream.
 fn standard(file: File) -> Option<File> {
     if file.as_raw_fd() <= LAST_STANDARD {
         Some(file)

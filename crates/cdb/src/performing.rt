@@ -24,7 +24,7 @@ use cdb_tool::{
 };
 use std::alloc::Global;
 
-/// Flushes an output to which a text was written, or a prefix of it.
+/// Flushes an output after a text, or a prefix of it, was written.
 fn told<O: Sink>(output: &mut O, written: Result<(), OutFault>) -> Result<(), Fault>
     ensures tells { (text : List ℕ) → (start : Option (List ℕ))
         → Writes written start (O.contents output.old) text
@@ -34,7 +34,7 @@ fn told<O: Sink>(output: &mut O, written: Result<(), OutFault>) -> Result<(), Fa
     flushed(output, written.map_err(Fault::from))
 }
 
-/// Writes how the program is called.
+/// Writes the usage text.
 fn help<O: Sink>(output: &mut O) -> Result<(), Fault>
     ensures tells { Tells usage_text (O.contents output.old) (O.contents output.new) result }
     ensures output { OutputSays (O.failed output.new) result }
@@ -43,7 +43,7 @@ fn help<O: Sink>(output: &mut O) -> Result<(), Fault>
     told(output, written)
 }
 
-/// Writes which version the program is.
+/// Writes the version of the program.
 fn version<O: Sink>(output: &mut O) -> Result<(), Fault>
     ensures tells { Tells version_text (O.contents output.old) (O.contents output.new) result }
     ensures output { OutputSays (O.failed output.new) result }

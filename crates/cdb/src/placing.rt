@@ -26,8 +26,8 @@ use cdb_tool::Fault;
 use std::alloc::Global;
 use std::marker::PhantomData;
 
-/// Returns true if a file that is read may be the one of this name, which is not followed as a
-/// link: it is, or the system did not say.
+/// Returns true if `file`, which is read, may be the file of `name`: it is, or the system did not
+/// say. `name` is not followed as a link.
 fn may_be_one<N: Names>(names: &mut N, name: &str, file: &str) -> bool
     ensures other { result ≡ false
         → N.calls names.new ≡ (Same No, name.now, file.now, []) ∷ N.calls names.old }
@@ -40,7 +40,7 @@ fn may_be_one<N: Names>(names: &mut N, name: &str, file: &str) -> bool
     }
 }
 
-/// Returns true if the file of standard input may be: it is, or the system did not say.
+/// Returns true if standard input may be the file of `name`: it is, or the system did not say.
 fn may_be_standard<N: Names>(names: &mut N, name: &str) -> bool
     ensures other { result ≡ false
         → N.calls names.new ≡ (Input No, name.now, [], []) ∷ N.calls names.old }
@@ -52,7 +52,7 @@ fn may_be_standard<N: Names>(names: &mut N, name: &str) -> bool
     }
 }
 
-/// Returns true if an input may be.
+/// Returns true if an input may be the file of `name`.
 fn may_be_input<N: Names>(names: &mut N, name: &str, input: &str) -> bool
     ensures other { result ≡ false → AsksOne name.now input.now
         (N.calls names.old) (N.calls names.new) }
@@ -65,7 +65,7 @@ fn may_be_input<N: Names>(names: &mut N, name: &str, input: &str) -> bool
     may_be_one(names, name, input)
 }
 
-/// Returns true if one of the inputs may be.
+/// Returns true if one of the inputs may be the file of `name`.
 fn may_be_one_of_inputs<N: Names>(names: &mut N, name: &str, inputs: &[String]) -> bool
     ensures others { result ≡ false → AsksEach name.now (map string_bytes inputs.now)
         (N.calls names.old) (N.calls names.new) }
@@ -80,7 +80,7 @@ fn may_be_one_of_inputs<N: Names>(names: &mut N, name: &str, inputs: &[String]) 
     false
 }
 
-/// Returns true if an input may be; if there are no inputs, whether standard input may be.
+/// Returns true if an input, or without inputs standard input, may be the file of `name`.
 #[tactic(auto, using(crate::proofs::Asks::asks_standard, crate::proofs::Asks::finds_standard, crate::proofs::Asks::asks_named, crate::proofs::Asks::finds_named))]
 fn may_be_one_read<N: Names>(names: &mut N, name: &str, inputs: &[String]) -> bool
     ensures others { result ≡ false → AsksEach name.now (inputs_read (map string_bytes inputs.now))
@@ -94,7 +94,7 @@ fn may_be_one_read<N: Names>(names: &mut N, name: &str, inputs: &[String]) -> bo
     may_be_one_of_inputs(names, name, inputs)
 }
 
-/// Returns true if the base may be.
+/// Returns true if the base may be the file of `name`.
 fn may_be_base<N: Names>(names: &mut N, name: &str, base: &Option<String>) -> bool
     ensures other { result ≡ false → AsksBase name.now (option_map string_bytes base.now)
         (N.calls names.old) (N.calls names.new) }
@@ -124,8 +124,8 @@ fn may_be_read<N: Names>(names: &mut N, name: &str, creation: Creation<'_>) -> b
 }
 
 /// Empties the file of a name, or makes one, once its lock is held. `Open`: another process holds
-/// it, or the file cannot be opened or emptied, or the name is that of a link. `Rename`: the name
-/// lost the file by then, or the system did not say whether it did.
+/// it, or the file cannot be opened or emptied, or the name is a link. `Rename`: the name lost the
+/// file by then, or the system did not say whether it did.
 fn emptied<Y>(system: &mut Y, name: &str) -> Result<Y::Made, Fault>
 where
     Y: System,
@@ -145,7 +145,7 @@ where
     }
 }
 
-/// What it comes to whether a name has the file in which its database is made.
+/// Returns Ok if a name has the file of its database, or else `Rename`.
 fn named(has_file: Answer) -> Result<(), Fault>
     ensures says { result ≡ named_as has_file }
     ensures yes { OnOk result (has_file ≡ Yes) }
@@ -157,14 +157,14 @@ fn named(has_file: Answer) -> Result<(), Fault>
     }
 }
 
-/// Makes it in the file of its name, which is emptied first, once its lock is held.
+/// Makes a database in the file of its name. The file is emptied first, once its lock is held.
 ///
 /// `Open`: the base or an input is that file, and would be lost, or the system did not say whether
-/// it is; or another process holds it; or the name is that of a link, or the file cannot be opened.
-/// `Rename`: another file has the name before the file is emptied or once it is whole, or none has,
-/// or the system did not say.
+/// it is; or another process holds it; or the name is a link; or the file cannot be opened or
+/// emptied. `Rename`: another file has the name before the file is emptied or once it is whole, or
+/// none has, or the system did not say.
 ///
-/// What was read is returned, and the file if it was opened.
+/// Returns what was read, and the file if it was emptied.
 #[inline(never)]
 pub(crate) fn make_in_place<L, Y, E>(
     alloc: Global,
@@ -212,7 +212,7 @@ where
     (sources.into_left(Some(store)), answer)
 }
 
-/// What building a database in a store comes to once the store is flushed, unless it failed.
+/// Flushes the store of a database, unless building it failed. `Make(Writing)`: the flush failed.
 fn synced<S: Store>(store: &mut S, built: Result<(), Fault>) -> Result<(), Fault>
     ensures { Syncs S.Store store.old store.new built result }
 {
@@ -223,8 +223,8 @@ fn synced<S: Store>(store: &mut S, built: Result<(), Fault>) -> Result<(), Fault
     }
 }
 
-/// What a database that was made in place comes to, unless it failed: its name has the file to the
-/// end.
+/// Returns `Rename` if a database was made in place and its name does not have the file in the end.
+/// An earlier fault stays.
 fn kept<Y>(
     system: &mut Y,
     name: &str,
@@ -239,11 +239,10 @@ where
     named(system.has_made(name, store))
 }
 
-/// Makes it in a temporary file, which replaces the database once it is whole.
+/// Makes a database in a temporary file, which gets the database's name once it is whole.
 ///
 /// If the temporary name refers to the base or to an input, or the system did not say whether it
-/// does, nothing is removed and the call fails. What was read is returned, also if nothing was
-/// built.
+/// does, nothing is removed and the call fails. Returns what was read, also if nothing was built.
 #[inline(never)]
 pub(crate) fn replace_database<L, Y, E>(
     alloc: Global,
@@ -292,7 +291,7 @@ where
     (sources, answer_to_program(answer))
 }
 
-/// What the answer of a replacement is to the program.
+/// Returns the program's answer for the answer of a replacement.
 fn answer_to_program(answer: Result<(), ReplaceFault<Fault>>) -> Result<(), Fault>
     ensures { result ≡ answer_of answer }
 {

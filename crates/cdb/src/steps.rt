@@ -1,4 +1,4 @@
-// What the program does: the command of its words, and its exit status.
+// The program: the command of its words, and its exit status.
 ghost use Rattle.std.specs.Prelude.{◌≡◌, ◌⊎◌, Err, map, string_bytes, true};
 ghost use Rattle.cdb_show.specs.Command.{asked_in, has_wide_words, IsInRange};
 ghost use Rattle.cdb_show.specs.Views.Output.{output_bytes, HasHandedOn, OutputFailed, OutputSays, writer_bytes};
@@ -17,8 +17,8 @@ use cdb_tool::{Command, DONE, Fault, Lines, Output, explains, plan_explained, st
 use std::alloc::Global;
 use std::io::Write;
 
-/// Does what the words request, of which the first is the program's name, returns what it leaves
-/// open, and answers the exit status. A fault has its line on `errors`, unless that fails.
+/// Does what the words request; the first word is the program's name. Returns what it leaves open,
+/// and the exit status. A fault has its line on `errors`, unless that fails.
 pub(crate) fn run<Y, O, E>(
     alloc: Global,
     system: &mut Y,
@@ -43,8 +43,8 @@ where
     (left, status)
 }
 
-/// Does what the words request, and answers the exit status. What is said stays where `errors`
-/// holds it.
+/// Does what the words request. Returns what it leaves open, and the exit status. The lines about a
+/// fault stay in the buffer of `errors`.
 fn answer<Y, O, E>(
     alloc: Global,
     system: &mut Y,
@@ -91,8 +91,8 @@ where
     }
 }
 
-/// What a fault is of and why, if that is requested and known. `unwritten` says that standard
-/// output failed.
+/// Returns the file of a fault and the reason, if they are requested and known. `unwritten` says
+/// that standard output failed.
 #[cold]
 #[inline(never)]
 fn cause_of<'a, Y>(
@@ -155,7 +155,8 @@ where
 }
 
 /// Forwards what the output of a command still holds, after a fault too. A flush that fails is
-/// `Output` if no other fault came than `Missing`, after which all that was found is to be written.
+/// `Output` after Ok, and after `Missing` too, since all values that were found are to be written
+/// then.
 fn handed_on<O: Write>(output: &mut Output<O>, answer: Result<(), Fault>) -> Result<(), Fault>
     ensures hands { HandsOn (output_bytes output.old) (writer_bytes output.new)
         (OutputFailed output.new) answer result }
