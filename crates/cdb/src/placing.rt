@@ -223,8 +223,8 @@ fn synced<S: Store>(store: &mut S, built: Result<(), Fault>) -> Result<(), Fault
     }
 }
 
-/// Returns `Rename` if a database was made in place and its name does not have the file in the end.
-/// An earlier fault stays.
+/// Returns `Rename` if the name of a database that was made in place does not have the file in the
+/// end, or the system did not say. An earlier fault stays.
 fn kept<Y>(
     system: &mut Y,
     name: &str,
