@@ -1,5 +1,6 @@
 //! Callers of the library crates, as a newcomer would write them. Each is proved from the public
-//! contracts of what it calls, and from lemmas of those crates on what the clauses' words mean.
+//! contracts of the functions that it calls, and from these crates' lemmas about the words of the
+//! clauses.
 
 mod ask;
 mod edits;

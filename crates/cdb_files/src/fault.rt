@@ -1,4 +1,4 @@
-// Why a database was not made under its name, or not opened.
+// The faults of a database that is made under its name, or opened.
 ghost use Rattle.std.specs.Prelude.{◌≡◌, Some};
 ghost use Rattle.cdb_files.specs.FileFault.{file_display, of_replace};
 
@@ -9,7 +9,7 @@ use std::alloc::AllocFailed;
 use std::error::Error;
 use std::fmt;
 
-/// Why a database was not made under its name, or not opened.
+/// The reason why a database was not made under its name, or not opened.
 #[derive(Clone, Copy, Debug, PartialEq, Eq)]
 pub enum FileFault {
     /// The file cannot be opened, or none can be made beside it.
@@ -22,7 +22,7 @@ pub enum FileFault {
     Rename,
     /// The database was not made.
     Make(MakeFault),
-    /// It was not read.
+    /// The database was not read.
     Read(ReadFault),
 }
 

@@ -1,4 +1,4 @@
-//! Databases under their names: made, replaced at once or not at all, and opened.
+//! Databases under their names: made, replaced in one step or not at all, and opened.
 #![tactic(auto)]
 
 pub mod examples;

@@ -11,7 +11,7 @@ use cdb_store::{FileStore, Store, StoreFault};
 use std::fs::File;
 use std::rt::Files;
 
-/// A reader of the database in a store that was opened, or was not, of which the head is read.
+/// Returns a reader of the database in a store, whose head it reads, if the store was opened.
 fn read_opened<S: Store + Drop, L: Width>(
     opened: Result<S, StoreFault>,
 ) -> Result<Reader<S, L>, FileFault>
@@ -25,10 +25,10 @@ fn read_opened<S: Store + Drop, L: Width>(
     }
 }
 
-/// A reader of the database of this name, of which the head is read.
+/// Opens the database of a name, reads its head, and returns its reader.
 ///
-/// `Open`: the file cannot be opened. `NoMemory`: the system had none for it. `Read(Short)`: it is
-/// shorter than a head. `Read(Device)`: it cannot be read.
+/// `Open`: the file cannot be opened. `NoMemory`: the system had no memory for it. `Read(Short)`:
+/// the file is shorter than a head. `Read(Device)`: it cannot be read.
 pub fn open_file<L: Width, R: Files<File = File>>(
     rt: &R,
     name: &str,

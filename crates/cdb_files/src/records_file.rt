@@ -30,7 +30,7 @@ pub struct Records<'a, L: Width> {
 }
 
 impl<'a, L: Width> Records<'a, L> {
-    /// What builds the database of these records.
+    /// Returns the builder of a database of these records.
     pub fn new(alloc: Global, records: &'a [Record]) -> Records<'a, L>
         ensures { result.records.now ≡ records.now }
     {
@@ -124,8 +124,8 @@ impl<'a, S: Store, L: Width> Builder<S> for Records<'a, L> {
 /// Makes the database of some records under a name, through a temporary name, in place of what has
 /// the name. Several records may have one key.
 ///
-/// What had the name keeps it until the new file is whole and synced, and after a fault, unless a
-/// rename that answered a fault happened all the same.
+/// The name keeps what it had until the new file is whole and synced, and after a fault too.
+/// Exception: a rename that happened although it answered a fault.
 pub fn make_file_in<L: Width, N: Names>(
     names: &mut N,
     alloc: Global,
@@ -166,11 +166,12 @@ pub fn make_file_in<L: Width, N: Names>(
 /// Makes the database of some records under a name, through the name with `.tmp` after it.
 ///
 /// `Open`: the name is empty or ends in a slash, or no file can be made of that temporary name.
-/// `Rename`: the file cannot be given the name, which may be that of a folder. `NoMemory`: there
-/// was none for the temporary name. `Make`: the database was not made.
+/// `Rename`: the file cannot be given the name, which may be a folder's. `Write`: the file cannot
+/// be synced. `NoMemory`: an allocation failed, or the system had no memory. `Make`: the database
+/// was not made.
 ///
-/// What had the name has it still after each fault, unless a rename that answered a fault happened
-/// all the same.
+/// The name keeps what it had after each fault. Exception: a rename that happened although it
+/// answered a fault.
 pub fn make_file<L: Width, N: Names>(
     names: &mut N,
     alloc: Global,

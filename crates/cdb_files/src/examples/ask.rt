@@ -1,12 +1,12 @@
-// Why a database that was built has no answer.
+// The faults of a database that is built and read.
 use cdb_make::MakeFault;
 use cdb_read::ReadFault;
 
-/// Why the values of a key were not written.
+/// The reason why the values of a key were not written.
 #[derive(Clone, Copy, Debug, PartialEq, Eq)]
 pub enum AskFault {
     /// The database was not finished.
     Make(MakeFault),
-    /// It was not read, or its values were not written.
+    /// The database was not read, or the values were not written.
     Read(ReadFault),
 }

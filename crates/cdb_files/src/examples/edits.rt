@@ -1,4 +1,4 @@
-// A caller of cdb_make: a record is put, or those of a key are taken out.
+// A caller of cdb_make: a record is put, or every record of a key is taken out.
 ghost use Rattle.std.specs.Prelude.{◌≡◌, false, List};
 ghost use Rattle.cdb_form.specs.Format.{KeyValue};
 ghost use Rattle.cdb_make.specs.Views.Maker.{is_lazy};
@@ -17,8 +17,8 @@ pub enum Edit {
     Remove(Vec<u8>),
 }
 
-/// Makes a change to a maker that takes records out at once, and answers why it was refused, if it
-/// was.
+/// Makes a change to a maker that takes records out immediately. Returns the fault, if the change
+/// was refused.
 pub(crate) fn make_edit<S: Store, L: Width>(
     maker: &mut Maker<S, L>,
     change: &Edit,

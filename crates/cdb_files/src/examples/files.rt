@@ -6,8 +6,8 @@ use std::rt::Files;
 
 /// Makes the database of some records under a name, and gives the first value of a key in it.
 ///
-/// What had the name keeps it until the database is whole, and after a fault, unless a rename that
-/// answered a fault happened all the same.
+/// The name keeps what it had until the database is whole, and after a fault too. Exception: a
+/// rename that happened although it answered a fault.
 pub fn make_and_get<R: Files<File = File> + AllocGlobal>(
     rt: &R,
     name: &str,

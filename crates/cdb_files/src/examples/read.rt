@@ -15,8 +15,8 @@ use cdb_store::Store;
 
 /// Writes the values of a key in a database, one after the other.
 ///
-/// Of a file that was made nothing is damaged: it fails by `Device` if the store did, and by
-/// `Output` if the writer did. Either way the writer then holds a prefix of the values.
+/// A file that was made has no damage: the call fails with `Device` if the store failed, and with
+/// `Output` if the writer failed. Either way the writer then holds a prefix of the values.
 pub fn write_values<L: Width, S: Store, W: Sink>(
     reader: &mut Reader<S, L>,
     key: &[u8],

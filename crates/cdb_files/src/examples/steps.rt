@@ -14,7 +14,7 @@ use cdb_read::{Reader, Unread};
 use cdb_store::Store;
 use std::alloc::Global;
 
-/// A step in which a database is built.
+/// A step of building a database.
 #[derive(Debug, Drop)]
 pub enum Step {
     /// Its records are changed.
@@ -26,34 +26,35 @@ pub enum Step {
 /// A database that was built.
 #[derive(Drop)]
 pub struct Built<S> {
-    /// What holds it.
+    /// The store that holds the database.
     pub store: S,
-    /// Why each step that was made was refused, if it was, but for the finish that was taken.
+    /// The fault of each step that was made, if it was refused. A finish that succeeded has no
+    /// entry.
     pub faults: Vec<Option<MakeFault>>,
 }
 
-/// A database that was not built, or in which a key was not looked up.
+/// A database that was not built, or whose values of a key were not written.
 #[derive(Drop)]
 pub struct Unbuilt<S> {
-    /// What holds what there is of it.
+    /// The store, with the part of the database that was made.
     pub store: S,
-    /// Why each step that was made was refused, if it was. The last one may be left out if memory
-    /// was refused.
+    /// The fault of each step that was made, if it was refused. The last step may be left out if
+    /// memory was refused.
     pub faults: Vec<Option<MakeFault>>,
-    /// Why.
+    /// The reason why it was not built, or its values were not written.
     pub fault: AskFault,
 }
 
-/// What a step leaves of a maker.
+/// A maker after a step, or its store.
 #[derive(Drop)]
 enum Stepped<S: Store, L: Width> {
-    /// It goes on. The step was refused so, if it was.
+    /// The maker goes on, with the fault of the step, if it was refused.
     GoesOn(Maker<S, L>, Option<MakeFault>),
-    /// Its finished store.
+    /// The store with the finished file.
     Finished(S),
 }
 
-/// Makes a step of a maker that takes records out at once.
+/// Makes a step with a maker that takes records out immediately.
 fn make_step<S: Store, L: Width>(maker: Maker<S, L>, step: &Step) -> Stepped<S, L>
     requires { is_lazy maker ≡ false }
     ensures { (rs : List KeyValue) → HoldsWhole maker rs → LeavesOf maker rs step.now result }
@@ -141,8 +142,8 @@ pub fn build<S: Store + Drop, L: Width>(
 /// those that the key has among them, in their order. Each step has one answer, and each answer its
 /// cause.
 ///
-/// By `Make` it fails as `build` does, and nothing was written. By `Read` it fails if the store
-/// failed while it was read, or the writer did; then a prefix of the values was written.
+/// It fails with `Make` as `build` does, and then nothing was written. It fails with `Read` if the
+/// store failed while it was read, or the writer failed; then a prefix of the values was written.
 pub fn build_and_ask<S: Store + Drop, L: Width, W: Sink>(
     alloc: Global,
     store: S,
