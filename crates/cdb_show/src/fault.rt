@@ -182,7 +182,7 @@ impl<T: Drop> From<AllocFailed<T>> for Fault {
 
     ghost from_gives = { λ _ f. f ≡ NoMemory };
 
-    /// Lets go of what was not stored.
+    /// Drops the value that was not stored.
     fn from(_: AllocFailed<T>) -> Fault {
         Fault::NoMemory
     }

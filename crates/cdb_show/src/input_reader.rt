@@ -5,6 +5,7 @@
 pub enum InputReader<R> {
     /// The input has a reader of its own.
     Own(R),
-    /// It has the reader that several inputs share: it begins where the last of these stopped.
+    /// The input has the reader that several inputs share. It begins where the last of these inputs
+    /// stopped.
     Shared,
 }

@@ -55,7 +55,7 @@ pub fn known_inputs_are_given<P: InputParser, R: Read, S: Read>(
         → IsGiven 1 read stop (given_from (P.parsing _parser.now).parse 1 inputs shared) }
 {}
 
-/// How a loop over the inputs of a run says what it read.
+/// A loop over the inputs of a run adds up what it read.
 ///
 /// The items of the first inputs, and then the items of the inputs after them, are the items of
 /// all. From `_between` to `_after` only the readers after the first ones may change: the first

@@ -21,7 +21,7 @@ pub(crate) struct LineCount {
 }
 
 impl LineCount {
-    /// Nothing was taken yet.
+    /// Returns the count when nothing was taken yet.
     pub(crate) fn new() -> LineCount
         ensures counts { Counts 0 [] result }
         ensures shared { shared_newlines result ≡ 0 }
@@ -35,8 +35,8 @@ impl LineCount {
         }
     }
 
-    /// An input begins: with a reader of its own, or where the one before it stopped that shares
-    /// its reader.
+    /// Returns the count as an input begins: at the start of its own reader, or where the last
+    /// input that shares its reader stopped.
     pub(crate) fn begun(self, is_shared: bool) -> LineCount
         ensures counts { Counts (if is_shared then shared_newlines self else 0) [] result }
         ensures shared { shared_newlines result ≡ shared_newlines self }
@@ -56,7 +56,7 @@ impl LineCount {
         }
     }
 
-    /// Bytes are taken.
+    /// Returns the count after `bytes` were taken too.
     pub(crate) fn more(self, bytes: &[u8]) -> LineCount
         ensures counts { (before : ℕ) → (taken : List ℕ) → Counts before taken self
             → Counts before (taken ++ bytes.now) result }

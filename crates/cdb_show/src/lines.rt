@@ -19,7 +19,7 @@ pub struct Lines {
 }
 
 impl Lines {
-    /// Nothing was taken yet.
+    /// Returns the lines before anything was taken.
     pub fn new(counts: bool) -> Lines
         ensures { result.counts ≡ counts }
     {
@@ -29,8 +29,8 @@ impl Lines {
         }
     }
 
-    /// An input begins: with a reader of its own, or where the one before it stopped that shares
-    /// its reader.
+    /// Begins an input: at the start of its own reader, or where the last input that shares its
+    /// reader stopped.
     pub fn begin(&self, is_shared: bool) {
         self.count.set(self.count.get().begun(is_shared));
     }

@@ -1,8 +1,8 @@
 // A parser of an input, as clauses see it.
 ghost use Rattle.cdb_show.specs.Feed.{Parsing};
 
-/// A parser of one input, as clauses see it: the function that it computes of bytes, and how the
-/// clauses of its calls say so.
+/// A parser of one input, as clauses see it: the function that it computes of bytes, and the
+/// relations that the clauses of its calls use.
 pub trait InputParser {
     /// The type of the items that it reads.
     type Item;

@@ -103,7 +103,7 @@ impl<F: Feeds, L: Width> ItemReader<F, L> {
         }
     }
 
-    /// Its reader, which goes on after what was taken.
+    /// Returns the reader, which goes on after the bytes that were taken.
     pub fn into_reader(self) -> F
         ensures { result ≡ reader_of self }
     {

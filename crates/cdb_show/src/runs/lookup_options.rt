@@ -6,6 +6,6 @@ use cdb_command::Style;
 pub struct LookupOptions {
     /// Only the value of each key with this number, counted from 1.
     pub number: Option<u64>,
-    /// How records are written, and how the inputs give their keys.
+    /// The form of the records that are written, and of the inputs that give the keys.
     pub style: Style,
 }

@@ -1,7 +1,7 @@
-// How a value that a look-up gave is written.
+// The form of the values that a look-up writes.
 use cdb_command::Style;
 
-/// How each value is written.
+/// The form of each value that is written.
 #[derive(Clone, Copy)]
 pub enum Shown<'a> {
     /// Alone, with a newline after it in lines.
