@@ -24,7 +24,7 @@ use cdb_show::{Fault, ItemReader, Lines, write_duplicates};
 use cdb_store::Store;
 use std::alloc::Global;
 
-/// How each record is put.
+/// Returns the mode of each put.
 fn put_mode(options: &MakeOptions) -> Mode
     ensures { result ≡ mode_of options.now }
 {
@@ -68,7 +68,7 @@ pub(crate) struct Turn<'a> {
 struct Met<'a> {
     /// The options of the run.
     options: &'a RunOptions<'a>,
-    /// How its records are put.
+    /// The mode of the input's puts.
     mode: Mode,
     /// The number of the input, counted from 1.
     input: u64,

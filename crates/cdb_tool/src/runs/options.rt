@@ -4,7 +4,7 @@ use cdb_command::MakeOptions;
 /// The options of a make: how the database is made, and how its duplicates are explained.
 #[derive(Clone, Copy, Debug, PartialEq, Eq)]
 pub struct RunOptions<'a> {
-    /// How it is made.
+    /// The options of the database.
     pub make: MakeOptions,
     /// The names of the inputs, if duplicates are to be explained: after the line of one comes
     /// another with the name of its input, the line at which its record begins there, and its key.
