@@ -62,7 +62,7 @@ impl<T: Drop> From<AllocFailed<T>> for FileFault {
 
     ghost from_gives = { λ _ f. f ≡ NoMemory };
 
-    /// Lets go of what was not stored.
+    /// Drops the value that was not stored.
     fn from(_: AllocFailed<T>) -> FileFault {
         FileFault::NoMemory
     }
@@ -93,7 +93,7 @@ impl<S: Drop> From<Unread<S>> for FileFault {
 
     ghost from_gives = { λ u f. f ≡ Read u.fault };
 
-    /// Lets the store go.
+    /// Drops the store.
     fn from(unread: Unread<S>) -> FileFault {
         FileFault::Read(unread.fault)
     }

@@ -17,9 +17,9 @@ use std::alloc::Global;
 /// A step of building a database.
 #[derive(Debug, Drop)]
 pub enum Step {
-    /// Its records are changed.
+    /// The records of the database are changed.
     Edit(Edit),
-    /// It is finished. If that succeeds, the steps after it are not made.
+    /// The database is finished. If this succeeds, the steps after it are not made.
     Finish,
 }
 
